@@ -1,0 +1,4 @@
+pub mod Digits
+pub mod Dates
+pub mod Windows
+pub mod Times

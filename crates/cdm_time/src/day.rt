@@ -1,0 +1,171 @@
+//! The airport's day, and what texts and minutes mean on it.
+ghost use Rattle.std.specs.Prelude.{◌≡◌, ◌+◌, if◌then◌else◌, pos, ◌+ℤ◌, ◌-ℤ◌, ◌*ℤ◌};
+
+use crate::bound::Bound;
+use crate::calendar::CalendarDate;
+use crate::digits::{digit_pair, number_of};
+use crate::minute::Minute;
+use std::marker::Model;
+
+/// Why a text names no day, no minute or no bound.
+#[derive(Clone, Copy, PartialEq, Eq, Debug)]
+pub enum TimeFault {
+    /// The text hasn't the form, or names a date or a time of the day that doesn't exist.
+    Text = 1,
+    /// The text names a day or a time that is out of range.
+    Range = 2,
+}
+
+/// The airport's day, a date of the years 2000 to 2099. The horizon begins at its 00:00 UTC and ends
+/// 48 hours later.
+#[derive(Clone, Copy, PartialEq, Eq, Hash, Debug)]
+pub struct Day {
+    date: CalendarDate,
+}
+
+impl Model for Day {
+    ghost use Rattle.cdm_time.specs.declared.calendar.CalendarDate.{CalendarDate};
+    ghost use Rattle.cdm_time.specs.Dates.{IsFirstDay};
+
+    ghost Value = { CalendarDate };
+
+    ghost view = { λ d. d.date };
+
+    ghost inverse = { λ date. record { date = date } };
+
+    ghost invariant = { λ d. IsFirstDay d.date };
+}
+
+// The minutes from the start of the first day to a minute of another day, both by day number.
+fn minutes_apart(first: i32, day: i32, minute: u16) -> i64
+    ensures { result ≡ (pos 1440 *ℤ (day -ℤ first)) +ℤ pos minute }
+{
+    let days = i64::from(day) - i64::from(first);
+    1440 * days + i64::from(minute)
+}
+
+impl Day {
+    ghost use Rattle.std.specs.Prelude.{◌<◌, ◌/◌, Some, None, IsTrue};
+    ghost use Rattle.std.specs.Str.{IsAscii};
+    ghost use Rattle.cdm_time.specs.Dates.{day_number};
+    ghost use Rattle.cdm_time.specs.Times.{bound_of, date_at, date_text, day_of, is_time_text, minute_of, minutes_between, stamp};
+
+    /// The day that a text of the form YYYY-MM-DD names.
+    ///
+    /// `Text` where the text has another form or the calendar has no such date, `Range` where its
+    /// year isn't one of 2000 to 2099.
+    #[tactic(auto, unfolding(crate::specs::Times::day_of))]
+    pub fn of_text(text: &[u8]) -> Result<Day, TimeFault>
+        ensures { result ≡ day_of text.now }
+    {
+        let Some(date) = CalendarDate::of_text(text) else {
+            return Err(TimeFault::Text);
+        };
+        if date.year < 2000 || date.year > 2099 {
+            return Err(TimeFault::Range);
+        }
+        Ok(Day { date })
+    }
+
+    // The minutes from the day's start to the time that a text of the form YYYY-MM-DDTHH:MMZ names.
+    #[tactic(auto, unfolding(crate::specs::Times::is_time_text, crate::specs::Times::minutes_between))]
+    fn minutes_to(self, text: &[u8]) -> Option<i64>
+        ensures { result ≡ (if is_time_text text.now then Some (minutes_between self text.now) else None) }
+    {
+        if text.len() != 17 || text[10] != b'T' || text[13] != b':' || text[16] != b'Z' {
+            return None;
+        }
+        let date = CalendarDate::of_text(&text[0..10])?;
+        let hour = number_of(&text[11..13])?;
+        let minute = number_of(&text[14..16])?;
+        if hour >= 24 || minute >= 60 {
+            return None;
+        }
+        Some(minutes_apart(self.date.number(), date.number(), 60 * hour + minute))
+    }
+
+    /// The minute that a text of the form YYYY-MM-DDTHH:MMZ, a time in UTC, names.
+    ///
+    /// `Text` where the text has another form, the calendar has no such date or the day no such time,
+    /// `Range` where the time is before the horizon or after its last minute.
+    #[tactic(auto, unfolding(crate::specs::Times::minute_of))]
+    pub fn minute_of(self, text: &[u8]) -> Result<Minute, TimeFault>
+        ensures { result ≡ minute_of self text.now }
+    {
+        let Some(minutes) = self.minutes_to(text) else {
+            return Err(TimeFault::Text);
+        };
+        if minutes < 0 || minutes > 2879 {
+            return Err(TimeFault::Range);
+        }
+        Minute::new(minutes as u16).ok_or(TimeFault::Range)
+    }
+
+    /// The end of a window that a text of the form YYYY-MM-DDTHH:MMZ names: as [`Day::minute_of`],
+    /// and the time at which the horizon ends is bound 2880.
+    #[tactic(auto, unfolding(crate::specs::Times::bound_of))]
+    pub fn bound_of(self, text: &[u8]) -> Result<Bound, TimeFault>
+        ensures { result ≡ bound_of self text.now }
+    {
+        let Some(minutes) = self.minutes_to(text) else {
+            return Err(TimeFault::Text);
+        };
+        if minutes < 0 || minutes > 2880 {
+            return Err(TimeFault::Range);
+        }
+        Bound::new(minutes as u16).ok_or(TimeFault::Range)
+    }
+
+    /// A minute as DDHHMM: the day of the month, the hour and the minute, two digits each.
+    #[tactic(auto, unfolding(crate::specs::Times::stamp))]
+    pub fn print(self, minute: Minute) -> [u8; 6]
+        ensures text { result ≡ stamp self minute }
+        ensures day { day_number (date_at self minute) ≡ day_number self +ℤ pos (minute / 1440) }
+        ensures ascii { IsAscii result }
+    {
+        let minute = minute.get();
+        let day = if minute < 1440 {
+            self.date.day
+        } else if self.date.is_last_of_month() {
+            1
+        } else {
+            self.date.day + 1
+        };
+        let [day_tens, day_ones] = digit_pair(u16::from(day));
+        let [hour_tens, hour_ones] = digit_pair(minute % 1440 / 60);
+        let [minute_tens, minute_ones] = digit_pair(minute % 60);
+        [
+            day_tens,
+            day_ones,
+            hour_tens,
+            hour_ones,
+            minute_tens,
+            minute_ones,
+        ]
+    }
+
+    /// The date as YYYY-MM-DD.
+    #[tactic(auto, unfolding(crate::specs::Times::date_text))]
+    pub fn date_text(self) -> [u8; 10]
+        ensures text { result ≡ date_text self }
+        ensures ascii { IsAscii result }
+    {
+        let CalendarDate { year, month, day } = self.date;
+        let [century_tens, century_ones] = digit_pair(year / 100);
+        let [year_tens, year_ones] = digit_pair(year % 100);
+        let [month_tens, month_ones] = digit_pair(u16::from(month));
+        let [day_tens, day_ones] = digit_pair(u16::from(day));
+        [
+            century_tens,
+            century_ones,
+            year_tens,
+            year_ones,
+            b'-',
+            month_tens,
+            month_ones,
+            b'-',
+            day_tens,
+            day_ones,
+        ]
+    }
+}

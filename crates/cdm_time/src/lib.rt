@@ -1,0 +1,22 @@
+//! Minutes, windows and days of the horizon.
+//!
+//! The horizon is the 48 hours from 00:00 UTC of the airport's day. Each time of the airport is one
+//! of its 2,880 whole minutes, as the local profile has it.
+#![tactic(auto)]
+
+mod bound;
+mod calendar;
+mod day;
+mod digits;
+mod minute;
+mod window;
+
+pub use bound::Bound;
+pub use calendar::CalendarDate;
+pub use day::{Day, TimeFault};
+pub use digits::number_of;
+pub use minute::Minute;
+pub use window::{TOLERANCE_AFTER, TOLERANCE_BEFORE, Window, ctot_window};
+
+#[cfg(test)]
+mod tests;

@@ -1,0 +1,87 @@
+//! Windows of minutes.
+ghost use Rattle.std.specs.Prelude.{◌≡◌, ℕ, ◌+◌, ◌-◌, ◌≤◌, ◌<◌, nat_lt, min, Some, None, if◌then◌else◌};
+ghost use Rattle.cdm_time.specs.Windows.{has_minute, is_in_tolerance};
+
+use crate::bound::Bound;
+use crate::minute::Minute;
+use std::marker::Model;
+
+/// How many minutes before its CTOT a flight may take off: the lower end of the CTOT tolerance
+/// (local profile, after the usual slot tolerance of 5 minutes before).
+pub const TOLERANCE_BEFORE: u16 = 5;
+
+/// How many minutes after its CTOT a flight may take off: the upper end of the CTOT tolerance
+/// (local profile, after the usual slot tolerance of 10 minutes after).
+pub const TOLERANCE_AFTER: u16 = 10;
+
+/// The minutes from one up to a bound, which is not among them. No window is empty.
+#[derive(Clone, Copy, PartialEq, Eq, Hash, Debug)]
+pub struct Window {
+    from: Minute,
+    to: Bound,
+}
+
+impl Model for Window {
+    ghost use Rattle.std.specs.Prelude.{◌<◌};
+    ghost use Rattle.cdm_time.specs.Windows.{Interval};
+
+    ghost Value = { Interval };
+
+    ghost view = { λ w. record { from = w.from; to = w.to } };
+
+    ghost inverse = { λ i. record { from = i.from; to = i.to } };
+
+    ghost invariant = { λ w. w.from < w.to };
+}
+
+impl Window {
+    /// The window from a minute up to a bound, or `None` where it would have no minute.
+    pub fn new(from: Minute, to: Bound) -> Option<Window>
+        ensures { result ≡ (if nat_lt from to then Some (record { from = from; to = to }) else None) }
+    {
+        if from.get() < to.get() {
+            Some(Window { from, to })
+        } else {
+            None
+        }
+    }
+
+    /// The window's first minute.
+    pub fn from(self) -> Minute
+        ensures value { result ≡ self.from }
+        ensures ordered { self.from < self.to }
+    {
+        self.from
+    }
+
+    /// The bound at which the window ends.
+    pub fn to(self) -> Bound
+        ensures value { result ≡ self.to }
+        ensures ordered { self.from < self.to }
+        ensures in_horizon { self.to ≤ 2880 }
+    {
+        self.to
+    }
+
+    /// Whether a minute is one of the window's.
+    pub fn contains(self, minute: Minute) -> bool
+        ensures { result ≡ has_minute self minute }
+    {
+        self.from.get() <= minute.get() && minute.get() < self.to.get()
+    }
+}
+
+/// The minutes at which a flight with this CTOT may take off: those of the horizon within the CTOT
+/// tolerance.
+pub fn ctot_window(ctot: Minute) -> Window
+    ensures from { result.from ≡ ctot - TOLERANCE_BEFORE }
+    ensures to { result.to ≡ min 2880 (ctot + TOLERANCE_AFTER + 1) }
+    ensures minutes { (m : ℕ) → m < 2880 → has_minute result m ≡ is_in_tolerance ctot m }
+{
+    let from = ctot.get().saturating_sub(TOLERANCE_BEFORE);
+    let to = (ctot.get() + TOLERANCE_AFTER + 1).min(Bound::END.get());
+    Window {
+        from: Minute { number: from },
+        to: Bound { number: to },
+    }
+}
