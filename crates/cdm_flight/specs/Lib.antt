@@ -1,0 +1,10 @@
+pub mod Names
+pub mod Cells
+pub mod Words
+pub mod Authority
+pub mod Record
+pub mod Order
+pub mod Step
+pub mod Taxi
+pub mod Journal
+pub mod Accepted

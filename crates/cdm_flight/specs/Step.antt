@@ -1,0 +1,93 @@
+-- One update of one flight.
+use Rattle.std.specs.Prelude.{ℕ, ◌+◌, Bool, true, false, not, ◌&&◌, ◌||◌, nat_lt, if◌then◌else◌, List, Option, None, Some, Result, Ok, Err, is_none}
+use Rattle.std.specs.Option.{option_map_or}
+use Rattle.cdm_flight.specs.declared.flight.Status.{Status}
+use Rattle.cdm_flight.specs.declared.flight.Status.TheVariants.{Planned, OffBlock, Airborne, Cancelled}
+use Rattle.cdm_flight.specs.declared.update.Update.{Update}
+use Rattle.cdm_flight.specs.declared.update.Update.TheVariants.{Flt, Tobt, Stand, Rwy, Ctot, Ice, Prio, Off, Air, Cnl}
+use Rattle.cdm_flight.specs.declared.word.RefusalWord.{RefusalWord}
+use Rattle.cdm_flight.specs.declared.word.RefusalWord.TheVariants.{Ended, OffBlock as OffBlockWord, Order, NotReady}
+use Rattle.cdm_flight.specs.Record.{Record}
+
+-- the flight that an update is of
+abbrev pub flight_of_update : Update → Option (List ℕ)
+flight_of_update (Flt f p) = Some f
+flight_of_update (Tobt f t) = Some f
+flight_of_update (Stand f s) = Some f
+flight_of_update (Rwy f r) = Some f
+flight_of_update (Ctot f c) = Some f
+flight_of_update (Ice f i) = Some f
+flight_of_update (Prio f p) = Some f
+flight_of_update (Off f m) = Some f
+flight_of_update (Air f m) = Some f
+flight_of_update (Cnl f) = Some f
+flight_of_update _ = None
+
+-- it makes a flight known
+abbrev pub is_fresh : Update → Bool
+is_fresh (Flt f p) = true
+is_fresh _ = false
+
+abbrev pub is_air : Update → Bool
+is_air (Air f m) = true
+is_air _ = false
+
+abbrev pub is_ended : Status → Bool
+is_ended (Airborne aobt atot) = true
+is_ended Cancelled = true
+is_ended _ = false
+
+abbrev pub is_off_block : Status → Bool
+is_off_block (OffBlock aobt exot) = true
+is_off_block _ = false
+
+-- a take-off of a flight that has not left, or before it left
+abbrev pub airborne_out_of_order : Status → ℕ → Bool
+airborne_out_of_order (OffBlock aobt exot) atot = nat_lt atot aobt
+airborne_out_of_order _ atot = true
+
+abbrev pub is_out_of_order : Status → Update → Bool
+is_out_of_order status (Air f atot) = airborne_out_of_order status atot
+is_out_of_order status _ = false
+
+-- it leaves without a runway or a taxi time, or takes off past the horizon
+abbrev pub is_not_ready : Option (List ℕ) → Update → Option ℕ → Bool
+is_not_ready runway (Off f aobt) exot = is_none runway || option_map_or (λ minutes. nat_lt 2879 (aobt + minutes)) exot true
+is_not_ready runway _ exot = false
+
+-- the first word that holds
+abbrev pub step_refusal : Record → Update → Option ℕ → Option RefusalWord
+step_refusal r u exot =
+    if is_ended r.status then Some Ended
+    else if is_off_block r.status && not (is_air u) then Some OffBlockWord
+    else if is_out_of_order r.status u then Some Order
+    else if is_not_ready r.runway u exot then Some NotReady
+    else None
+
+abbrev pub off_block_from : ℕ → Option ℕ → Status
+off_block_from aobt (Some exot) = OffBlock aobt exot
+off_block_from aobt None = Planned
+
+abbrev pub airborne_at : Status → ℕ → Status
+airborne_at (OffBlock aobt exot) atot = Airborne aobt atot
+airborne_at status atot = status
+
+-- the record with the update's value
+abbrev pub stepped : Record → Update → Option ℕ → Record
+stepped r (Tobt f t) exot = record r { tobt = Some t }
+stepped r (Stand f s) exot = record r { stand = Some s }
+stepped r (Rwy f runway) exot = record r { runway = Some runway }
+stepped r (Ctot f c) exot = record r { ctot = c }
+stepped r (Ice f i) exot = record r { ice = i }
+stepped r (Prio f p) exot = record r { priority = p }
+stepped r (Off f aobt) exot = record r { status = off_block_from aobt exot }
+stepped r (Air f atot) exot = record r { status = airborne_at r.status atot }
+stepped r (Cnl f) exot = record r { status = Cancelled }
+stepped r _ exot = r
+
+abbrev pub or_refused : Record → Option RefusalWord → Result Record RefusalWord
+or_refused r None = Ok r
+or_refused r (Some word) = Err word
+
+abbrev pub step_of : Record → Update → Option ℕ → Result Record RefusalWord
+step_of r u exot = or_refused (stepped r u exot) (step_refusal r u exot)

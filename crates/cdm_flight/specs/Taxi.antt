@@ -1,0 +1,43 @@
+-- Variable taxi times: the minutes from each place to each runway.
+use Rattle.std.specs.Prelude.{ℕ, ◌+◌, List, Option, None, Some}
+use Rattle.std.specs.declared.cmp.Ordering.{Ordering}
+use Rattle.std.specs.Ordering.{ordering_then}
+use Rattle.std.specs.Option.{option_cmp, option_map, option_or}
+use Rattle.std.specs.List.{filter_map}
+use Rattle.std.specs.FinMap.{FinMap, keys}
+use Rattle.cdm_flight.specs.declared.ice.Ice.{Ice}
+use Rattle.cdm_flight.specs.declared.ice.Ice.TheVariants.{Remote}
+use Rattle.cdm_flight.specs.declared.place.Place.{Place}
+use Rattle.cdm_flight.specs.declared.place.Place.TheVariants as place
+use Rattle.cdm_flight.specs.Names.{name_cmp}
+
+-- the stand of a place, unless it is the default
+abbrev pub stand_of_place : Place → Option (List ℕ)
+stand_of_place place.Default = None
+stand_of_place (place.Stand stand) = Some stand
+
+-- taxi rows in order: the default first, then stand by stand, and runway by runway
+abbrev pub taxi_cmp : Place × List ℕ → Place × List ℕ → Ordering
+taxi_cmp a b = ordering_then (option_cmp name_cmp (stand_of_place a.0) (stand_of_place b.0)) (name_cmp a.1 b.1)
+
+-- minutes for each place and runway that has a row
+abbrev pub TaxiRows : Type 0
+TaxiRows = FinMap taxi_cmp ℕ
+
+-- the stands that have rows, once for each row
+abbrev pub stands_in : TaxiRows → List (List ℕ)
+stands_in rows = filter_map (λ key. stand_of_place key.0) (keys rows)
+
+-- the taxi time from the stand that the flight has, else the default
+abbrev pub taxi_time : (Place → Option ℕ) → Option (List ℕ) → Option ℕ
+taxi_time minutes None = minutes place.Default
+taxi_time minutes (Some stand) = option_or (minutes (place.Stand stand)) (minutes place.Default)
+
+-- the minutes of remote de-icing
+abbrev pub remote_minutes : Ice → ℕ
+remote_minutes (Remote minutes) = minutes
+remote_minutes _ = 0
+
+-- the taxi-out time: from the stand, with remote de-icing
+abbrev pub taxi_out : (Place → Option ℕ) → Option (List ℕ) → Ice → Option ℕ
+taxi_out minutes stand ice = option_map (λ taxi. taxi + remote_minutes ice) (taxi_time minutes stand)

@@ -1,0 +1,35 @@
+//! Flights, the updates that change them, who may make them, and the order of sequence.
+#![tactic(auto)]
+
+mod airport;
+mod flight;
+mod ice;
+mod key;
+mod list;
+mod name;
+mod place;
+mod role;
+mod units;
+mod update;
+mod word;
+
+pub use airport::RunwayRow;
+pub use flight::{Flight, Status};
+pub use ice::Ice;
+pub use key::{Key, before};
+pub use list::Listed;
+pub use name::Name;
+pub use place::Place;
+pub use role::{Role, allows};
+pub use units::{Cap, CellLength, IceMinutes, Priority, TaxiMinutes};
+pub use update::Update;
+pub use word::RefusalWord;
+
+/// The name of a flight, its aircraft identification: 1 to 7 letters and digits.
+pub type FlightName = Name<7>;
+
+/// The name of a runway: 1 to 3 letters and digits.
+pub type RunwayName = Name<3>;
+
+/// The name of a stand: 1 to 5 letters and digits.
+pub type StandName = Name<5>;

@@ -1,0 +1,115 @@
+//! Updates of the day.
+ghost use Rattle.std.specs.Prelude.{◌≡◌};
+ghost use Rattle.cdm_flight.specs.Step.{flight_of_update};
+
+use crate::{Cap, FlightName, Ice, Place, Priority, RunwayName, StandName, TaxiMinutes};
+use cdm_time::{Bound, Minute};
+
+/// An update that a partner makes, one variant for each kind of feed record. Windows run from a
+/// minute up to a bound, which is not among them.
+#[derive(Clone, Copy, Debug, PartialEq, Eq, Hash)]
+pub enum Update {
+    /// FLT: a flight becomes known, planned, with this priority.
+    Flt {
+        flight: FlightName,
+        priority: Priority,
+    },
+    /// TOBT: its target off-block time.
+    Tobt {
+        flight: FlightName,
+        tobt: Minute,
+    },
+    /// STAND: where it is parked.
+    Stand {
+        flight: FlightName,
+        stand: StandName,
+    },
+    /// RWY: its runway.
+    Rwy {
+        flight: FlightName,
+        runway: RunwayName,
+    },
+    /// CTOT: its calculated take-off time, or none any more.
+    Ctot {
+        flight: FlightName,
+        ctot: Option<Minute>,
+    },
+    /// ICE: its de-icing.
+    Ice {
+        flight: FlightName,
+        ice: Ice,
+    },
+    /// PRIO: its priority.
+    Prio {
+        flight: FlightName,
+        priority: Priority,
+    },
+    /// OFF: its actual off-block time.
+    Off {
+        flight: FlightName,
+        aobt: Minute,
+    },
+    /// AIR: its actual take-off time.
+    Air {
+        flight: FlightName,
+        atot: Minute,
+    },
+    /// CNL: it is cancelled.
+    Cnl {
+        flight: FlightName,
+    },
+    /// RATE: the capacity of a runway's cells in a window.
+    Rate {
+        runway: RunwayName,
+        from: Minute,
+        to: Bound,
+        cap: Cap,
+    },
+    /// CLOSE: a runway is closed in a window.
+    Close {
+        runway: RunwayName,
+        from: Minute,
+        to: Bound,
+    },
+    /// OPEN: it is open in a window.
+    Reopen {
+        runway: RunwayName,
+        from: Minute,
+        to: Bound,
+    },
+    /// TAXI: the taxi time from a place to a runway.
+    Taxi {
+        place: Place,
+        runway: RunwayName,
+        minutes: TaxiMinutes,
+    },
+    /// CLOCK: the time is now this minute.
+    Clock {
+        now: Minute,
+    },
+}
+
+impl Update {
+    /// The flight that the update is of, if it is of one.
+    pub fn flight(&self) -> Option<FlightName>
+        ensures { result ≡ flight_of_update self.now }
+    {
+        match *self {
+            Update::Flt { flight, .. }
+            | Update::Tobt { flight, .. }
+            | Update::Stand { flight, .. }
+            | Update::Rwy { flight, .. }
+            | Update::Ctot { flight, .. }
+            | Update::Ice { flight, .. }
+            | Update::Prio { flight, .. }
+            | Update::Off { flight, .. }
+            | Update::Air { flight, .. }
+            | Update::Cnl { flight } => Some(flight),
+            Update::Rate { .. }
+            | Update::Close { .. }
+            | Update::Reopen { .. }
+            | Update::Taxi { .. }
+            | Update::Clock { .. } => None,
+        }
+    }
+}
