@@ -1,5 +1,6 @@
 -- Dates of the Gregorian calendar, taken back without end.
-use Rattle.std.specs.Prelude.{◌≡◌, ℕ, ◌+◌, ◌≤◌, Bool, true, ◌&&◌, ◌==◌, nat_lt, List, length, slice_index, slice_range, ℤ, pos}
+use Rattle.std.specs.Prelude.{◌≡◌, ℕ, ◌≤◌, Bool, true, ◌&&◌, ◌==◌, nat_le, List, length, slice_index, slice_range, ℤ, pos}
+use Rattle.std.specs.Str.{byte}
 use Rattle.jiff.specs.Words.{days_in_month}
 use Rattle.jiff_core.specs.Calendar.{days_from_civil}
 use Rattle.cdm_time.specs.Digits.{are_digits, number_in}
@@ -7,7 +8,7 @@ use Rattle.cdm_time.specs.declared.calendar.CalendarDate.{CalendarDate}
 
 -- the calendar has this date
 abbrev pub is_date : CalendarDate → Bool
-is_date d = nat_lt 0 d.month && nat_lt d.month 13 && nat_lt 0 d.day && nat_lt d.day (days_in_month (pos d.year) d.month + 1)
+is_date d = nat_le 1 d.month && nat_le d.month 12 && nat_le 1 d.day && nat_le d.day (days_in_month (pos d.year) d.month)
 
 -- the day number of a date, 0 for 1 January 1970
 abbrev pub day_number : CalendarDate → ℤ
@@ -17,10 +18,10 @@ day_number d = days_from_civil (pos d.year) d.month d.day
 abbrev pub date_in : List ℕ → CalendarDate
 date_in text = record { year = number_in (slice_range text 0 4); month = number_in (slice_range text 5 7); day = number_in (slice_range text 8 10) }
 
--- the form YYYY-MM-DD, with any digits
+-- the text has the form YYYY-MM-DD, with any digits
 abbrev pub has_date_form : List ℕ → Bool
-has_date_form text = (length text == 10) && are_digits (slice_range text 0 4) && (slice_index text 4 == 45)
-    && are_digits (slice_range text 5 7) && (slice_index text 7 == 45) && are_digits (slice_range text 8 10)
+has_date_form text = (length text == 10) && are_digits (slice_range text 0 4) && (slice_index text 4 == byte "-")
+    && are_digits (slice_range text 5 7) && (slice_index text 7 == byte "-") && are_digits (slice_range text 8 10)
 
 -- a text of the form YYYY-MM-DD with a date of the calendar
 unfoldable pub is_date_text : List ℕ → Bool

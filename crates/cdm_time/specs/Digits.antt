@@ -1,19 +1,17 @@
 -- Numbers in texts.
-use Rattle.std.specs.Prelude.{ℕ, ◌+◌, ◌-◌, ◌*◌, ◌/◌, ◌%◌, Bool, true, ◌&&◌, nat_lt, List, [], ◌∷◌, ◌++◌}
-
--- a byte of 0-9
-abbrev pub is_digit : ℕ → Bool
-is_digit b = nat_lt 47 b && nat_lt b 58
+use Rattle.std.specs.Prelude.{ℕ, ◌+◌, ◌-◌, ◌*◌, ◌/◌, ◌%◌, Bool, true, ◌&&◌, List, [], ◌∷◌, ◌++◌}
+use Rattle.std.specs.Char.{is_ascii_digit}
+use Rattle.std.specs.Str.{byte}
 
 -- all bytes are digits
 unfoldable pub are_digits : List ℕ → Bool
 are_digits [] = true
-are_digits (b ∷ bs) = is_digit b && are_digits bs
+are_digits (b ∷ bs) = is_ascii_digit b && are_digits bs
 
 -- the number that digits spell after others that spell n
 unfoldable pub number_after : ℕ → List ℕ → ℕ
 number_after n [] = n
-number_after n (b ∷ bs) = number_after (10 * n + (b - 48)) bs
+number_after n (b ∷ bs) = number_after (10 * n + (b - byte "0")) bs
 
 -- the number that digits spell
 abbrev pub number_in : List ℕ → ℕ
@@ -21,7 +19,7 @@ number_in text = number_after 0 text
 
 -- a number below 100 in two digits
 abbrev pub two_digits : ℕ → List ℕ
-two_digits n = (48 + n / 10) ∷ (48 + n % 10) ∷ []
+two_digits n = (byte "0" + n / 10) ∷ (byte "0" + n % 10) ∷ []
 
 -- a number below 10000 in four digits
 abbrev pub four_digits : ℕ → List ℕ

@@ -1,5 +1,6 @@
 -- Minutes of the horizon, which begins on a day at 00:00.
-use Rattle.std.specs.Prelude.{ℕ, ◌+◌, ◌*◌, ◌/◌, ◌%◌, Bool, ◌&&◌, ◌==◌, nat_lt, List, ◌∷◌, ◌++◌, length, slice_index, slice_range, ℤ, pos, negsuc, ◌+ℤ◌, ◌-ℤ◌, ◌*ℤ◌, Result, Ok, Err, if◌then◌else◌}
+use Rattle.std.specs.Prelude.{ℕ, ◌+◌, ◌*◌, ◌/◌, ◌%◌, Bool, ◌&&◌, ◌==◌, nat_le, nat_lt, List, ◌∷◌, ◌++◌, length, slice_index, slice_range, ℤ, pos, negsuc, ◌+ℤ◌, ◌-ℤ◌, ◌*ℤ◌, Result, Ok, Err, if◌then◌else◌}
+use Rattle.std.specs.Str.{byte}
 use Rattle.jiff.specs.Words.{days_in_month}
 use Rattle.cdm_time.specs.Dates.{date_in, day_number, is_date_text}
 use Rattle.cdm_time.specs.Digits.{are_digits, number_in, two_digits, four_digits}
@@ -10,7 +11,7 @@ use Rattle.cdm_time.specs.declared.day.TimeFault.TheVariants as fault
 -- the day that a text names
 unfoldable pub day_of : List ℕ → Result CalendarDate TimeFault
 day_of text =
-    if is_date_text text then (if nat_lt 1999 (date_in text).year && nat_lt (date_in text).year 2100 then Ok (date_in text) else Err fault.Range)
+    if is_date_text text then (if nat_le 2000 (date_in text).year && nat_le (date_in text).year 2099 then Ok (date_in text) else Err fault.Range)
     else Err fault.Text
 
 -- the parts of a text of the form YYYY-MM-DDTHH:MMZ
@@ -23,10 +24,10 @@ hour_in text = number_in (slice_range text 11 13)
 abbrev pub minute_in : List ℕ → ℕ
 minute_in text = number_in (slice_range text 14 16)
 
--- the form YYYY-MM-DDTHH:MMZ, with any date and digits
+-- the text has the form YYYY-MM-DDTHH:MMZ, with any date and digits
 abbrev pub has_time_form : List ℕ → Bool
-has_time_form text = (length text == 17) && (slice_index text 10 == 84) && are_digits (slice_range text 11 13)
-    && (slice_index text 13 == 58) && are_digits (slice_range text 14 16) && (slice_index text 16 == 90)
+has_time_form text = (length text == 17) && (slice_index text 10 == byte "T") && are_digits (slice_range text 11 13)
+    && (slice_index text 13 == byte ":") && are_digits (slice_range text 14 16) && (slice_index text 16 == byte "Z")
 
 -- a text of the form YYYY-MM-DDTHH:MMZ with a date of the calendar and a time of the day
 unfoldable pub is_time_text : List ℕ → Bool
@@ -38,7 +39,7 @@ minutes_between day text = (pos 1440 *ℤ (day_number (date_in (date_part text))
 
 -- a number of minutes from 0 to the last
 abbrev pub up_to : ℕ → ℤ → Result ℕ TimeFault
-up_to last (pos m) = if nat_lt last m then Err fault.Range else Ok m
+up_to last (pos m) = if nat_le m last then Ok m else Err fault.Range
 up_to last (negsuc m) = Err fault.Range
 
 -- the minute of the horizon that a text names
@@ -66,4 +67,4 @@ stamp day minute = two_digits (date_at day minute).day ++ two_digits (minute % 1
 
 -- a date as YYYY-MM-DD
 unfoldable pub date_text : CalendarDate → List ℕ
-date_text d = four_digits d.year ++ 45 ∷ two_digits d.month ++ 45 ∷ two_digits d.day
+date_text d = four_digits d.year ++ byte "-" ∷ two_digits d.month ++ byte "-" ∷ two_digits d.day

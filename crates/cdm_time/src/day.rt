@@ -45,9 +45,9 @@ fn minutes_apart(first: i32, day: i32, minute: u16) -> i64
 }
 
 impl Day {
-    ghost use Rattle.std.specs.Prelude.{◌<◌, ◌/◌, Some, None, IsTrue};
+    ghost use Rattle.std.specs.Prelude.{◌<◌, ◌/◌, Some, None, true};
     ghost use Rattle.std.specs.Str.{IsAscii};
-    ghost use Rattle.cdm_time.specs.Dates.{day_number};
+    ghost use Rattle.cdm_time.specs.Dates.{day_number, is_date};
     ghost use Rattle.cdm_time.specs.Times.{bound_of, date_at, date_text, day_of, is_time_text, minute_of, minutes_between, stamp};
 
     /// The day that a text of the form YYYY-MM-DD names.
@@ -58,9 +58,7 @@ impl Day {
     pub fn of_text(text: &[u8]) -> Result<Day, TimeFault>
         ensures { result ≡ day_of text.now }
     {
-        let Some(date) = CalendarDate::of_text(text) else {
-            return Err(TimeFault::Text);
-        };
+        let date = CalendarDate::of_text(text).ok_or(TimeFault::Text)?;
         if date.year < 2000 || date.year > 2099 {
             return Err(TimeFault::Range);
         }
@@ -92,13 +90,9 @@ impl Day {
     pub fn minute_of(self, text: &[u8]) -> Result<Minute, TimeFault>
         ensures { result ≡ minute_of self text.now }
     {
-        let Some(minutes) = self.minutes_to(text) else {
-            return Err(TimeFault::Text);
-        };
-        if minutes < 0 || minutes > 2879 {
-            return Err(TimeFault::Range);
-        }
-        Minute::new(minutes as u16).ok_or(TimeFault::Range)
+        let minutes = self.minutes_to(text).ok_or(TimeFault::Text)?;
+        let number = u16::try_from(minutes).map_err(|_| TimeFault::Range)?;
+        Minute::new(number).ok_or(TimeFault::Range)
     }
 
     /// The end of a window that a text of the form YYYY-MM-DDTHH:MMZ names: as [`Day::minute_of`],
@@ -107,19 +101,16 @@ impl Day {
     pub fn bound_of(self, text: &[u8]) -> Result<Bound, TimeFault>
         ensures { result ≡ bound_of self text.now }
     {
-        let Some(minutes) = self.minutes_to(text) else {
-            return Err(TimeFault::Text);
-        };
-        if minutes < 0 || minutes > 2880 {
-            return Err(TimeFault::Range);
-        }
-        Bound::new(minutes as u16).ok_or(TimeFault::Range)
+        let minutes = self.minutes_to(text).ok_or(TimeFault::Text)?;
+        let number = u16::try_from(minutes).map_err(|_| TimeFault::Range)?;
+        Bound::new(number).ok_or(TimeFault::Range)
     }
 
     /// A minute as DDHHMM: the day of the month, the hour and the minute, two digits each.
     #[tactic(auto, unfolding(crate::specs::Times::stamp))]
     pub fn print(self, minute: Minute) -> [u8; 6]
         ensures text { result ≡ stamp self minute }
+        ensures date { is_date (date_at self minute) ≡ true }
         ensures day { day_number (date_at self minute) ≡ day_number self +ℤ pos (minute / 1440) }
         ensures ascii { IsAscii result }
     {

@@ -1,4 +1,5 @@
-use crate::{Bound, Day, Minute, TimeFault, Window, ctot_window, number_of};
+use crate::{Bound, Day, Minute, Stamp, TimeFault, Window, ctot_window, number_of};
+use std::fmt::Write;
 use std::test::Fail;
 
 fn day_of(text: &[u8]) -> Result<Day, Fail> {
@@ -68,6 +69,19 @@ fn minutes_are_printed(rt: HostRuntime) -> Result<(), Fail> {
     assert!(rt; day_of(b"2025-03-31")?.print(next_day) == *b"010000");
     assert!(rt; day_of(b"2024-02-28")?.print(next_day) == *b"290000");
     assert!(rt; day_of(b"2099-12-31")?.print(Minute::LAST) == *b"012359");
+    Ok(())
+}
+
+#[test]
+fn days_and_minutes_show_themselves(rt: HostRuntime) -> Result<(), Fail> {
+    let day = day_of(b"2025-03-31")?;
+    let stamp = Stamp {
+        day,
+        minute: Minute::LAST,
+    };
+    let mut text = String::new(rt.alloc());
+    write!(text, "{day} {stamp}")?;
+    assert!(rt; text.as_str() == "2025-03-31 012359");
     Ok(())
 }
 

@@ -6,5 +6,5 @@ use Rattle.cdm_time.proofs.day.Day.minutes_to.Goals as goal
 pub returns : goal.returns
 unfolding is_time_text minutes_between
 returns c =
-    let f : FitsSigned w64 c.minutes_apart.result = search rules in
+    let fits : FitsSigned w64 c.minutes_apart.result = search rules in
     simp to_z-of_z (rw c.minutes_apart.ensures (search rules))
