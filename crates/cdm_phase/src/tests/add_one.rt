@@ -1,0 +1,48 @@
+//! Pieces that are put together.
+ghost use Rattle.std.specs.Prelude.{◌≡◌, ◌+◌, [], ◌∷◌, IfOk};
+ghost use Rattle.cdm_phase.specs.declared.job.PhaseName.TheVariants.{Targets};
+
+use crate::{Job, PhaseName, Piece, assemble};
+use std::alloc::{AllocError, Global};
+use std::test::Fail;
+
+/// One more than the item.
+pub struct AddOne;
+
+impl Job for AddOne {
+    type Item = u32;
+
+    type Out = u64;
+
+    ghost gives = { λ _ item out. out ≡ item + 1 };
+
+    ghost phase_name = { Targets };
+
+    fn run(&self, _alloc: Global, item: &u32) -> Result<u64, AllocError> {
+        Ok(u64::from(*item) + 1)
+    }
+
+    fn phase(&self) -> PhaseName {
+        PhaseName::Targets
+    }
+}
+
+fn piece_of_one(alloc: Global, number: usize, out: u64) -> Result<Piece<u64>, AllocError>
+    ensures { IfOk result (λ piece. (piece.number ≡ number) × (piece.outs.items ≡ out ∷ [])) }
+{
+    let mut outs = Vec::new(alloc);
+    outs.push(out)?;
+    Ok(Piece { number, outs })
+}
+
+#[test]
+fn a_double_and_a_gap_make_the_list(rt: HostRuntime) -> Result<(), Fail> {
+    let alloc = rt.alloc();
+    let mut pieces = Vec::new(alloc);
+    pieces.push(piece_of_one(alloc, 2, 31)?)?;
+    pieces.push(piece_of_one(alloc, 0, 11)?)?;
+    pieces.push(piece_of_one(alloc, 0, 11)?)?;
+    let outs = assemble(alloc, &AddOne, &[10, 20, 30], 1, pieces)?;
+    assert_eq!(rt; outs.as_slice(), [11, 21, 31].as_slice());
+    Ok(())
+}

@@ -1,0 +1,107 @@
+//! What the gate sees, and when.
+ghost use Rattle.std.specs.Prelude.{◌≡◌, ◌+◌};
+ghost use Rattle.cdm_phase.specs.declared.job.PhaseName.TheVariants.{Scenarios};
+
+use super::add_one::AddOne;
+use super::{WORKERS, numbers};
+use crate::{Gate, Job, PhaseName, Workers, run_phase};
+use std::alloc::{AllocError, Global};
+use std::sync::atomic::{AtomicUsize, Ordering};
+use std::test::Fail;
+
+/// A job and its gate, which count the passes of each piece and the items that are run. A pass in
+/// another phase, of no piece, or after which an item still ran too early is a fault.
+#[derive(Drop)]
+struct Watch {
+    grain: usize,
+    passes: Vec<AtomicUsize>,
+    runs: AtomicUsize,
+    faults: AtomicUsize,
+}
+
+impl Watch {
+    fn new(alloc: Global, grain: usize, pieces: usize) -> Result<Watch, AllocError> {
+        let mut passes = Vec::new(alloc);
+        for _ in 0..pieces {
+            passes.push(AtomicUsize::new(0))?;
+        }
+        Ok(Watch {
+            grain,
+            passes,
+            runs: AtomicUsize::new(0),
+            faults: AtomicUsize::new(0),
+        })
+    }
+
+    fn passes_of(&self, item: u32) -> usize {
+        let piece = (item as usize).checked_div(self.grain);
+        match piece.and_then(|piece| self.passes.get(piece)) {
+            Some(passes) => passes.load(Ordering::SeqCst),
+            None => 0,
+        }
+    }
+}
+
+impl Gate for Watch {
+    fn pass(&self, phase: PhaseName, piece: usize) {
+        let counter = match self.passes.get(piece) {
+            Some(passes) if phase == PhaseName::Scenarios => passes,
+            _ => &self.faults,
+        };
+        counter.fetch_add(1, Ordering::SeqCst);
+    }
+}
+
+impl Job for Watch {
+    type Item = u32;
+
+    type Out = u64;
+
+    ghost gives = { λ _ item out. out ≡ item + 1 };
+
+    ghost phase_name = { Scenarios };
+
+    fn run(&self, alloc: Global, item: &u32) -> Result<u64, AllocError> {
+        self.runs.fetch_add(1, Ordering::SeqCst);
+        if self.passes_of(*item) != 1 {
+            self.faults.fetch_add(1, Ordering::SeqCst);
+        }
+        AddOne.run(alloc, item)
+    }
+
+    fn phase(&self) -> PhaseName {
+        PhaseName::Scenarios
+    }
+}
+
+#[test]
+fn each_piece_passes_once_before_its_items_run(rt: HostRuntime) -> Result<(), Fail> {
+    let alloc = rt.alloc();
+    let items = numbers(alloc, 1000)?;
+    for count in WORKERS {
+        let workers = Workers::new(count).ok_or("workers")?;
+        for (grain, pieces) in [(1, 1000), (64, 16), (2000, 1)] {
+            let watch = Watch::new(alloc, grain, pieces)?;
+            let outs = run_phase(&rt, alloc, workers, grain, &watch, items.as_slice(), &watch)?;
+            assert!(rt;
+                outs.iter().copied().eq(1..=1000),
+                "{count} workers, grain {grain}"
+            );
+            assert!(rt; watch.passes.iter().all(|n| n.load(Ordering::SeqCst) == 1));
+            assert_eq!(rt; watch.runs.load(Ordering::SeqCst), 1000);
+            assert_eq!(rt; watch.faults.load(Ordering::SeqCst), 0);
+        }
+    }
+    Ok(())
+}
+
+#[test]
+fn without_items_no_gate_is_passed(rt: HostRuntime) -> Result<(), Fail> {
+    let alloc = rt.alloc();
+    let workers = Workers::new(7).ok_or("workers")?;
+    let watch = Watch::new(alloc, 1, 0)?;
+    let outs = run_phase(&rt, alloc, workers, 1, &watch, &[], &watch)?;
+    assert!(rt; outs.is_empty());
+    assert_eq!(rt; watch.faults.load(Ordering::SeqCst), 0);
+    Ok(())
+}
