@@ -10,3 +10,6 @@ pub use counts::{Counts, indicators};
 pub use delta::delta_text;
 pub use line::line_has_47_bytes;
 pub use text::report_text;
+
+#[cfg(test)]
+mod tests;
