@@ -1,0 +1,47 @@
+-- How the indicators grow by one more slot or runway.
+use Rattle.std.proofs.Common.{ℕ, suc, ◌≡◌, ◌+◌, ◌<◌, List, [], ◌∷◌, ◌++◌, length, get_or, take, Option, ap, sym, ◌∙◌, arith, fold, max, cond, add-zero, zero-add, ◌≤◌}
+use Rattle.std.specs.List.{cons_option, flat_map}
+use Rattle.std.proofs.lemmas.List.{take_more, take_all}
+use Rattle.std.proofs.lemmas.List.Elements.{filter_map-append}
+use Rattle.std.proofs.lemmas.List.Sums.{fold-append}
+use Rattle.cdm_sequence.specs.Slots.{SlotRecord, RunwayPlanRecord, PlanRecord}
+use Rattle.cdm_report.specs.declared.counts.Counts.{Counts}
+use Rattle.cdm_report.specs.Counts.{counts_of, delays_in, delays_of, is_late, only_blocked, with_delay}
+
+-- one more slot
+pub fold-delays_in_more : (counts : Counts) (slots : List SlotRecord) (i : ℕ) (slot : SlotRecord) (delay : Option ℕ) → i < length slots → slot ≡ get_or slots i slot → slot.delay ≡ delay
+    → fold with_delay counts (delays_in (take (i + 1) slots)) ≡ fold with_delay (fold with_delay counts (delays_in (take i slots))) (cons_option delay [])
+fold-delays_in_more counts slots i slot delay h at is =
+    ap (λ xs. fold with_delay counts (delays_in xs)) (take_more slots i slot h ∙ ap (λ s. take i slots ++ s ∷ []) (sym at))
+    ∙ ap (fold with_delay counts) (filter_map-append (λ s. s.delay) (take i slots) (slot ∷ []) ∙ ap (λ d. delays_in (take i slots) ++ cons_option d []) is)
+    ∙ fold-append with_delay counts (delays_in (take i slots)) (cons_option delay [])
+
+-- what counting in a list of delays gives
+pub fold-with_delay : (c : Counts) (ds : List ℕ) → fold with_delay c ds ≡ record c {
+  placed = c.placed + length ds;
+  delay = fold (λ a x. a + x) c.delay ds;
+  greatest = fold max c.greatest ds;
+  late = fold (λ a x. a + cond (is_late x) 1 0) c.late ds;
+}
+fold-with_delay c [] = λ i. record c { placed = sym (add-zero c.placed) i }
+fold-with_delay c (d ∷ ds) = fold-with_delay (with_delay c d) ds ∙ (λ i. record (with_delay c d) {
+  placed = one_more c.placed (length ds) i;
+  delay = fold (λ a x. a + x) (c.delay + d) ds;
+  greatest = fold max (max c.greatest d) ds;
+  late = fold (λ a x. a + cond (is_late x) 1 0) (c.late + cond (is_late d) 1 0) ds;
+})
+  where
+    one_more : (a n : ℕ) → a + 1 + n ≡ a + suc n
+    one_more a n = omega arith
+
+-- all delays counted in, after the blocked flights, give the indicators
+pub counted-is-counts_of : (plan : PlanRecord) (counts start : Counts) (runways : List RunwayPlanRecord) (i : ℕ)
+    → start ≡ only_blocked plan.blocked → runways ≡ plan.runways → length runways ≤ i
+    → counts ≡ fold with_delay start (flat_map (λ r. delays_in r.slots) (take i runways)) → counts ≡ counts_of plan
+unfolding counts_of
+counted-is-counts_of plan counts start runways i blocked same all counted =
+    counted
+    ∙ ap (λ c. fold with_delay c (flat_map (λ (r : RunwayPlanRecord). delays_in r.slots) (take i runways))) blocked
+    ∙ ap (λ rs. fold with_delay (only_blocked plan.blocked) (flat_map (λ (r : RunwayPlanRecord). delays_in r.slots) rs)) (take_all i runways all ∙ same)
+    ∙ fold-with_delay (only_blocked plan.blocked) (delays_of plan)
+    ∙ (λ i. record (counts_of plan) { placed = zero-add (length (delays_of plan)) i })

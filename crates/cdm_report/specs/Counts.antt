@@ -1,0 +1,80 @@
+-- The indicators of a plan.
+use Rattle.std.specs.Prelude.{ℕ, ◌+◌, ◌==◌, Bool, List, length, max, sum, fold, count_by, flat_map, nat_lt, if◌then◌else◌}
+use Rattle.std.specs.List.{filter_map}
+use Rattle.cdm_sequence.specs.declared.rule.Rule.{Rule}
+use Rattle.cdm_sequence.specs.declared.rule.Rule.TheVariants as rules
+use Rattle.cdm_sequence.specs.declared.slot.BlockedFlight.{BlockedFlight}
+use Rattle.cdm_sequence.specs.Slots.{SlotRecord, PlanRecord}
+use Rattle.cdm_report.specs.declared.counts.Counts.{Counts}
+
+-- the count of a rule
+abbrev pub count_of : Counts → Rule → ℕ
+count_of counts rules.Tobt = counts.tobt
+count_of counts rules.Runway = counts.runway
+count_of counts rules.Exot = counts.exot
+count_of counts rules.Horizon = counts.horizon
+count_of counts rules.Ctot = counts.ctot
+count_of counts rules.Closure = counts.closure
+count_of counts rules.Rate = counts.rate
+
+-- the delays of the planned flights among the slots
+abbrev pub delays_in : List SlotRecord → List ℕ
+delays_in slots = filter_map (λ slot. slot.delay) slots
+
+-- the delays of all planned flights that get a minute
+abbrev pub delays_of : PlanRecord → List ℕ
+delays_of plan = flat_map (λ runway. delays_in runway.slots) plan.runways
+
+-- more than 15 minutes
+abbrev pub is_late : ℕ → Bool
+is_late delay = nat_lt 15 delay
+
+-- the place of a rule in the order of rules
+abbrev pub rule_number : Rule → ℕ
+rule_number rules.Tobt = 0
+rule_number rules.Runway = 1
+rule_number rules.Exot = 2
+rule_number rules.Horizon = 3
+rule_number rules.Ctot = 4
+rule_number rules.Closure = 5
+rule_number rules.Rate = 6
+
+-- how many of the flights the rule blocks
+abbrev pub blocked_by : Rule → List BlockedFlight → ℕ
+blocked_by rule blocked = count_by (λ flight. rule_number flight.rule == rule_number rule) blocked
+
+-- the indicators where these flights are blocked and no other is planned
+abbrev pub only_blocked : List BlockedFlight → Counts
+only_blocked blocked = record {
+  placed = 0;
+  delay = 0;
+  greatest = 0;
+  late = 0;
+  blocked = length blocked;
+  tobt = blocked_by rules.Tobt blocked;
+  runway = blocked_by rules.Runway blocked;
+  exot = blocked_by rules.Exot blocked;
+  horizon = blocked_by rules.Horizon blocked;
+  ctot = blocked_by rules.Ctot blocked;
+  closure = blocked_by rules.Closure blocked;
+  rate = blocked_by rules.Rate blocked;
+}
+
+-- a delay counted in
+abbrev pub with_delay : Counts → ℕ → Counts
+with_delay counts delay = record counts {
+  placed = counts.placed + 1;
+  delay = counts.delay + delay;
+  greatest = max counts.greatest delay;
+  late = counts.late + (if is_late delay then 1 else 0);
+}
+
+-- the indicators: how many delays there are, their sum, the greatest, those of late flights, and the blocked
+-- flights, also by rule
+unfoldable pub counts_of : PlanRecord → Counts
+counts_of plan = record (only_blocked plan.blocked) {
+  placed = length (delays_of plan);
+  delay = sum (delays_of plan);
+  greatest = fold max 0 (delays_of plan);
+  late = count_by is_late (delays_of plan);
+}

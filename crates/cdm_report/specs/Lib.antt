@@ -1,0 +1,4 @@
+pub mod Columns
+pub mod Counts
+pub mod Report
+pub mod Delta

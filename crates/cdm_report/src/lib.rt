@@ -1,0 +1,15 @@
+//! The report of a plan: its indicators, and the bytes of its texts.
+#![tactic(auto)]
+
+mod counts;
+mod delta;
+mod line;
+mod text;
+
+pub use counts::{Counts, indicators};
+pub use delta::delta_text;
+pub use line::line_has_47_bytes;
+pub use text::report_text;
+
+#[cfg(test)]
+mod tests;

@@ -1,0 +1,156 @@
+//! The text of a report.
+ghost use Rattle.std.specs.Prelude.{◌≡◌, ◌++◌, IfOk, OnOk, flat_map};
+ghost use Rattle.std.specs.String.{string_bytes};
+ghost use Rattle.cdm_report.specs.Report.{blocked_line, day_line, refused_line, report_bytes, rule_count, runway_lines, total_head, total_line};
+
+use crate::counts::{Counts, indicators};
+use crate::line::{FlightLine, TimeColumn};
+use cdm_flight::RefusalWord;
+use cdm_sequence::{BlockedFlight, Plan, Rule, RunwayPlan};
+use cdm_time::{Day, Minute};
+use std::alloc::{AllocError, Global};
+use std::fmt::Write;
+use std::str;
+
+/// The report of a day's plan and of the feed's refused records, which are numbered from 1
+/// (local profile).
+///
+/// Its lines, each ended by LF, are the day and the minute that it is now, each runway with its
+/// flights, the blocked flights, the indicators and the refused records. Only want of memory makes
+/// it fail.
+#[tactic(auto, unfolding(crate::specs::Report::report_bytes))]
+pub fn report_text(
+    alloc: Global,
+    day: &Day,
+    plan: &Plan,
+    refused: &[(u32, RefusalWord)],
+) -> Result<Vec<u8>, AllocError>
+    ensures { IfOk result (λ text. text.items ≡ report_bytes day.now plan.entry.now refused.now) }
+{
+    let mut text = String::new(alloc);
+    push_day(&mut text, *day, plan.now)?;
+    push_runways(&mut text, *day, plan.runways.as_slice())?;
+    push_blocked(&mut text, plan.blocked.as_slice())?;
+    push_total(&mut text, &indicators(plan))?;
+    push_refused(&mut text, refused)?;
+    Ok(text.into_bytes())
+}
+
+#[tactic(auto, unfolding(crate::specs::Report::day_line, crate::specs::Columns::time_column))]
+fn push_day(text: &mut String, day: Day, now: Minute) -> Result<(), AllocError>
+    ensures { OnOk result (string_bytes text.new ≡ string_bytes text.old ++ day_line day now) }
+{
+    let date = day.date_text();
+    let date = str::from_utf8(&date).unwrap();
+    let now = TimeColumn {
+        day,
+        minute: Some(now),
+    };
+    writeln!(text, "DAY {date} NOW {now}")
+}
+
+fn push_runways(text: &mut String, day: Day, runways: &[RunwayPlan]) -> Result<(), AllocError>
+    ensures { OnOk result (string_bytes text.new ≡ string_bytes text.old ++ flat_map (runway_lines day) runways.now) }
+{
+    for runway in runways {
+        push_runway(text, day, runway)?;
+    }
+    Ok(())
+}
+
+// A runway's heading and the lines of its flights.
+#[tactic(auto, unfolding(crate::specs::Report::runway_lines))]
+fn push_runway(text: &mut String, day: Day, runway: &RunwayPlan) -> Result<(), AllocError>
+    ensures { OnOk result (string_bytes text.new ≡ string_bytes text.old ++ runway_lines day runway.now) }
+{
+    let name = runway.runway.text();
+    writeln!(text, "RUNWAY {name}")?;
+    for slot in runway.slots.as_slice() {
+        let line = FlightLine { day, slot };
+        writeln!(text, "{line}")?;
+    }
+    Ok(())
+}
+
+fn push_blocked(text: &mut String, flights: &[BlockedFlight]) -> Result<(), AllocError>
+    ensures { OnOk result (string_bytes text.new ≡ string_bytes text.old ++ flat_map blocked_line flights.now) }
+{
+    for flight in flights {
+        push_blocked_flight(text, flight)?;
+    }
+    Ok(())
+}
+
+#[tactic(auto, unfolding(crate::specs::Report::blocked_line))]
+fn push_blocked_flight(text: &mut String, flight: &BlockedFlight) -> Result<(), AllocError>
+    ensures { OnOk result (string_bytes text.new ≡ string_bytes text.old ++ blocked_line flight.now) }
+{
+    let name = flight.name.text();
+    let rule = flight.rule;
+    writeln!(text, "BLOCKED {name:<7} {rule}")
+}
+
+// The indicators, with each rule that blocks a flight.
+#[tactic(auto, unfolding(crate::specs::Report::total_line))]
+fn push_total(text: &mut String, counts: &Counts) -> Result<(), AllocError>
+    ensures { OnOk result (string_bytes text.new ≡ string_bytes text.old ++ total_line counts.now) }
+{
+    push_total_head(text, counts)?;
+    push_rule_counts(text, counts, &Rule::ALL)?;
+    writeln!(text)
+}
+
+#[tactic(auto, unfolding(crate::specs::Report::total_head))]
+fn push_total_head(text: &mut String, counts: &Counts) -> Result<(), AllocError>
+    ensures { OnOk result (string_bytes text.new ≡ string_bytes text.old ++ total_head counts.now) }
+{
+    let Counts {
+        placed,
+        delay,
+        greatest,
+        late,
+        blocked,
+        ..
+    } = *counts;
+    write!(
+        text,
+        "TOTAL PLACED {placed} DELAY {delay} MAX {greatest} LATE {late} BLOCKED {blocked}"
+    )
+}
+
+fn push_rule_counts(text: &mut String, counts: &Counts, rules: &[Rule]) -> Result<(), AllocError>
+    ensures { OnOk result (string_bytes text.new ≡ string_bytes text.old ++ flat_map (rule_count counts.now) rules.now) }
+{
+    for rule in rules {
+        push_rule_count(text, counts, *rule)?;
+    }
+    Ok(())
+}
+
+#[tactic(auto, unfolding(crate::specs::Report::rule_count))]
+fn push_rule_count(text: &mut String, counts: &Counts, rule: Rule) -> Result<(), AllocError>
+    ensures { OnOk result (string_bytes text.new ≡ string_bytes text.old ++ rule_count counts.now rule) }
+{
+    let count = counts.of(rule);
+    if count == 0 {
+        return Ok(());
+    }
+    write!(text, " {rule} {count}")
+}
+
+fn push_refused(text: &mut String, refused: &[(u32, RefusalWord)]) -> Result<(), AllocError>
+    ensures { OnOk result (string_bytes text.new ≡ string_bytes text.old ++ flat_map refused_line refused.now) }
+{
+    for refusal in refused {
+        push_refusal(text, refusal)?;
+    }
+    Ok(())
+}
+
+#[tactic(auto, unfolding(crate::specs::Report::refused_line))]
+fn push_refusal(text: &mut String, refusal: &(u32, RefusalWord)) -> Result<(), AllocError>
+    ensures { OnOk result (string_bytes text.new ≡ string_bytes text.old ++ refused_line refusal.now) }
+{
+    let (number, word) = refusal;
+    writeln!(text, "REFUSED {number} {word}")
+}
