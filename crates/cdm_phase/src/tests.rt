@@ -18,6 +18,6 @@ fn numbers(alloc: Global, count: u32) -> Result<Vec<u32>, AllocError> {
 fn workers_are_one_to_sixty_four(rt: HostRuntime) {
     for (count, is_valid) in [(0, false), (1, true), (64, true), (65, false)] {
         let workers = Workers::new(count);
-        assert_eq!(rt; workers.map(|w| w.get()), is_valid.then_some(count));
+        assert_eq!(rt; workers.map(Workers::get), is_valid.then_some(count));
     }
 }

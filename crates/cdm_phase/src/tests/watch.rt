@@ -9,8 +9,9 @@ use std::alloc::{AllocError, Global};
 use std::sync::atomic::{AtomicUsize, Ordering};
 use std::test::Fail;
 
-/// A job and its gate, which count the passes of each piece and the items that are run. A pass in
-/// another phase, of no piece, or after which an item still ran too early is a fault.
+/// A job that is its own gate. It counts how often each piece passes and how many items are run. A
+/// pass in another phase or of no piece is a fault, and so is an item that is run before its piece
+/// has passed.
 #[derive(Drop)]
 struct Watch {
     grain: usize,
