@@ -1,7 +1,8 @@
 -- Whole cells fill the horizon.
-use Rattle.std.proofs.Common.{◌≡◌, ℕ, ◌*◌, ◌/◌, ◌%◌, ◌<◌, ◌≤◌, IsTrue, sym, ap, ◌∙◌, arith}
+use Rattle.std.proofs.Common.{◌≡◌, ℕ, ◌*◌, ◌/◌, ◌%◌, ◌<◌, ◌≤◌, nat_le, nat_lt, IsTrue, ◌⊎◌, inl, inr, sym, ap, ◌∙◌, arith}
 use Rattle.std.proofs.lemmas.Bool.Decides.{nat_tests}
-use Rattle.std.proofs.lemmas.Nat.{div-add-mod', div_below}
+use Rattle.std.proofs.lemmas.Bool.{cases_lt}
+use Rattle.std.proofs.lemmas.Nat.{div-add-mod', div_below, le-div}
 use Rattle.std.proofs.Math.Nat.{mul-div_cancel, mul_assoc}
 use Rattle.cdm_flight.specs.Cells.{is_cell_length}
 
@@ -17,6 +18,36 @@ cells-fill c h =
     let horizon : 48 * (60 / c) * c ≡ 2880 = mul_assoc 48 (60 / c) c ∙ ap (λ n. 48 * n) hour in
     let cells : 2880 / c ≡ 48 * (60 / c) = ap (λ n. n / c) (sym horizon) ∙ mul-div_cancel (48 * (60 / c)) (omega (arith, parts.0)) in
     ap (λ n. n * c) cells ∙ horizon
+
+-- cells begin at the same minutes as the windows that cut none
+module _ (c : ℕ) (positive : 1 ≤ c) where
+  on_grid : (n : ℕ) → n % c ≡ 0 → n / c * c ≡ n
+  on_grid n grid = omega (arith, div-add-mod' n c, grid)
+
+  pub cell_from : (from m : ℕ) → from % c ≡ 0 → nat_le (from / c) (m / c) ≡ nat_le from m
+  cell_from from m grid = by (cases_lt m from)
+    where
+      by : (m < from) ⊎ (from ≤ m) → nat_le (from / c) (m / c) ≡ nat_le from m
+      by (inl below) =
+          let cell : m / c < from / c = div_below m c (from / c) positive (omega (arith, on_grid from grid)) in
+          grind (arith, nat_tests)
+      by (inr above) =
+          let cell : from / c ≤ m / c = le-div (from / c) m c positive (omega (arith, on_grid from grid)) in
+          grind (arith, nat_tests)
+
+  pub cell_to : (to m : ℕ) → to % c ≡ 0 → nat_lt (m / c) (to / c) ≡ nat_lt m to
+  cell_to to m grid = by (cases_lt m to)
+    where
+      by : (m < to) ⊎ (to ≤ m) → nat_lt (m / c) (to / c) ≡ nat_lt m to
+      by (inl below) =
+          let cell : m / c < to / c = div_below m c (to / c) positive (omega (arith, on_grid to grid)) in
+          grind (arith, nat_tests)
+      by (inr above) =
+          let cell : to / c ≤ m / c = le-div (to / c) m c positive (omega (arith, on_grid to grid)) in
+          grind (arith, nat_tests)
+
+  pub cells_in_order : (n m : ℕ) → n ≤ m → n / c ≤ m / c
+  cells_in_order n m below = le-div (n / c) m c positive (omega (arith, div-add-mod' n c))
 
 -- each minute of the horizon is in one of its cells
 pub cell_below : (c m : ℕ) → IsTrue (is_cell_length c) → m < 2880 → m / c < 2880 / c

@@ -1,10 +1,13 @@
 -- What the rules of a runway say of its minutes.
-use Rattle.std.proofs.Common.{◌≡◌, ℕ, ◌<◌, ◌/◌, false, IsTrue, List}
-use Rattle.std.proofs.lemmas.List.{get_or-replicate}
+use Rattle.std.proofs.Common.{◌≡◌, ℕ, ◌<◌, ◌≤◌, ◌/◌, ◌%◌, Bool, true, false, IsTrue, List, length, get_or, arith, ◌∙◌}
+use Rattle.std.specs.Prelude.{if◌then◌else◌, not, ◌||◌, ◌==◌, nat_le}
+use Rattle.std.proofs.lemmas.Bool.Decides.{nat_tests}
+use Rattle.std.proofs.lemmas.List.{get_or-replicate, places}
 use Rattle.cdm_flight.specs.Cells.{is_cell_length}
-use Rattle.cdm_runway.specs.Rules.{plain_rules}
+use Rattle.cdm_flight.specs.Journal.{window_has}
+use Rattle.cdm_runway.specs.Rules.{RunwayRules, AreRules, is_rate_window, plain_rules, with_range, with_rate, with_closed}
 use Rattle.cdm_runway.specs.Room.{cap_at, is_closed}
-use Rattle.cdm_runway.proofs.CellLemmas.{cell_below}
+use Rattle.cdm_runway.proofs.CellLemmas.{cell_length-divides, cell_below, cell_from, cell_to, cells_in_order}
 
 -- a new runway has its one capacity at each minute
 pub cap_at-plain_rules : (name : List ℕ) (cell cap m : ℕ) → IsTrue (is_cell_length cell) → m < 2880 → cap_at (plain_rules name cell cap) m ≡ cap
@@ -15,3 +18,33 @@ cap_at-plain_rules name cell cap m h below = get_or-replicate (2880 / cell) (m /
 pub is_closed-plain_rules : (name : List ℕ) (cell cap m : ℕ) → m < 2880 → is_closed (plain_rules name cell cap) m ≡ false
 unfolding plain_rules
 is_closed-plain_rules name cell cap m below = get_or-replicate 2880 m false false below
+
+-- what a list has at a place after a range of it was given one value
+get_or-with_range : {X : Type 0} (xs : List X) (from to : ℕ) (x d : X) (k : ℕ) → from ≤ to → to ≤ length xs
+    → get_or (with_range xs from to x) k d ≡ (if window_has from to k then x else get_or xs k d)
+get_or-with_range xs from to x d k order within = grind (arith, places, nat_tests, get_or-replicate)
+
+-- a rate's window has a minute and begins and ends with a cell
+pub rate_window-says : (cell from to : ℕ) → is_rate_window cell from to ≡ true → (from < to) × (from % cell ≡ 0) × (to % cell ≡ 0)
+rate_window-says cell from to h = grind (arith, nat_tests)
+
+-- it is what no word refuses
+pub rate_window-in_order : (cell from to : ℕ) → not (is_rate_window cell from to) ≡ (nat_le to from || not (from % cell == 0) || not (to % cell == 0))
+rate_window-in_order cell from to = grind (arith, nat_tests)
+
+-- after a RATE the minutes of its window have its capacity, and the others theirs
+pub cap_at-with_rate : (r : RunwayRules) (from to cap m : ℕ) → AreRules r.cell r.caps r.closed → is_rate_window r.cell from to ≡ true → to ≤ 2880
+    → cap_at (with_rate r from to cap) m ≡ (if window_has from to m then cap else cap_at r m)
+cap_at-with_rate r from to cap m rules window within =
+    let parts = cell_length-divides r.cell rules.cell_length in
+    let says = rate_window-says r.cell from to window in
+    let order : from ≤ to = omega (arith, says.0) in
+    let end : to / r.cell ≤ length r.caps = omega (arith, cells_in_order r.cell parts.0 to 2880 within, rules.cells) in
+    get_or-with_range r.caps (from / r.cell) (to / r.cell) cap 0 (m / r.cell) (cells_in_order r.cell parts.0 from to order) end
+    ∙ rw (cell_from r.cell parts.0 from m says.1, cell_to r.cell parts.0 to m says.2)
+
+-- after a CLOSE or OPEN the minutes of its window are closed or open, and the others as they were
+pub is_closed-with_closed : (r : RunwayRules) (from to : ℕ) (closed : Bool) (m : ℕ) → AreRules r.cell r.caps r.closed → from ≤ to → to ≤ 2880
+    → is_closed (with_closed r from to closed) m ≡ (if window_has from to m then closed else is_closed r m)
+is_closed-with_closed r from to closed m rules order within =
+    get_or-with_range r.closed from to closed false m order (omega (arith, rules.minutes))

@@ -1,5 +1,6 @@
 -- What a runway allows.
-use Rattle.std.specs.Prelude.{◌≡◌, ℕ, ◌/◌, Bool, false, List, length, replicate, IsTrue}
+use Rattle.std.specs.Prelude.{◌≡◌, ℕ, ◌-◌, ◌/◌, ◌%◌, ◌==◌, Bool, false, ◌&&◌, nat_lt, List, length, replicate, IsTrue}
+use Rattle.std.specs.List.{splice}
 use Rattle.cdm_flight.specs.Cells.{is_cell_length}
 
 -- what a runway allows: the capacity of each cell, by its number, and at which minutes of the
@@ -24,3 +25,19 @@ plain_rules name cell cap = record {
   caps = replicate (2880 / cell) cap;
   closed = replicate 2880 false;
 }
+
+-- a window that has a minute and cuts no cell
+abbrev pub is_rate_window : ℕ → ℕ → ℕ → Bool
+is_rate_window cell from to = nat_lt from to && (from % cell == 0) && (to % cell == 0)
+
+-- a value in place of those from one place up to another
+abbrev pub with_range : {X : Type 0} → List X → ℕ → ℕ → X → List X
+with_range xs from to x = splice xs from to (replicate (to - from) x)
+
+-- a capacity in place of those of the window's cells
+abbrev pub with_rate : RunwayRules → ℕ → ℕ → ℕ → RunwayRules
+with_rate r from to cap = record r { caps = with_range r.caps (from / r.cell) (to / r.cell) cap }
+
+-- closed, or open again, at the minutes of the window
+abbrev pub with_closed : RunwayRules → ℕ → ℕ → Bool → RunwayRules
+with_closed r from to closed = record r { closed = with_range r.closed from to closed }

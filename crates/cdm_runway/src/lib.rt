@@ -9,3 +9,6 @@ mod runway;
 
 pub use load::{Blocked, MOST_FLIGHTS, RunwayLoad};
 pub use runway::{Runway, RunwayFault};
+
+#[cfg(test)]
+mod tests;

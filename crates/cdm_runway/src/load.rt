@@ -9,6 +9,9 @@ use std::marker::Model;
 /// How many flights a day has at most (local profile).
 pub const MOST_FLIGHTS: usize = 2000;
 
+// A runway has at most this many cells: one for each minute of the horizon.
+const MOST_CELLS: usize = 2880;
+
 /// Why a window has no minute for a flight.
 #[derive(Clone, Copy, PartialEq, Eq, Debug)]
 pub enum Blocked {
@@ -22,9 +25,9 @@ pub enum Blocked {
 #[derive(Debug, Drop)]
 pub struct RunwayLoad {
     cell: CellLength,
-    minutes: [Minute; 2000],
+    minutes: [Minute; MOST_FLIGHTS],
     len: usize,
-    counts: [u16; 2880],
+    counts: [u16; MOST_CELLS],
 }
 
 impl Model for RunwayLoad {
@@ -48,10 +51,10 @@ fn minute_at(number: u16) -> Minute
 }
 
 // No flight in any cell.
-fn no_counts() -> [u16; 2880]
+fn no_counts() -> [u16; MOST_CELLS]
     ensures { (k : ℕ) → k < 2880 → slice_index result k ≡ 0 }
 {
-    [0; 2880]
+    [0; MOST_CELLS]
 }
 
 impl RunwayLoad {
@@ -64,7 +67,7 @@ impl RunwayLoad {
         let counts = no_counts();
         RunwayLoad {
             cell: runway.cell(),
-            minutes: [Minute::FIRST; 2000],
+            minutes: [Minute::FIRST; MOST_FLIGHTS],
             len: 0,
             counts,
         }

@@ -1,5 +1,6 @@
 //! Rates and closures of a runway.
-ghost use Rattle.std.specs.Prelude.{◌≡◌, ℕ, IfOk};
+ghost use Rattle.std.specs.Prelude.{◌≡◌, ℕ, true, false, nat_lt, Ok, Err, IfOk, OnOk, OnErr, if◌then◌else◌};
+ghost use Rattle.cdm_flight.specs.Journal.{window_has};
 
 use cdm_flight::{Cap, CellLength, RunwayName};
 use cdm_time::{Bound, Minute};
@@ -30,13 +31,18 @@ impl Model for Runway {
 
     ghost Value = { RunwayRules };
 
-    ghost view = { λ r. record { name = r.name; cell = r.cell; caps = r.caps.items; closed = r.closed.items } };
+    ghost view = { λ r. record {
+      name = r.name;
+      cell = r.cell;
+      caps = r.caps.items;
+      closed = r.closed.items;
+    } };
 
     ghost invariant = { λ r. AreRules r.cell r.caps.items r.closed.items };
 }
 
 impl Runway {
-    ghost use Rattle.cdm_runway.specs.Rules.{plain_rules};
+    ghost use Rattle.cdm_runway.specs.Rules.{plain_rules, is_rate_window, with_rate, with_closed};
     ghost use Rattle.cdm_runway.specs.Room.{cap_at, is_closed};
 
     /// A runway with one capacity everywhere and no closure.
@@ -86,5 +92,89 @@ impl Runway {
         ensures { result ≡ is_closed self.now minute }
     {
         self.closed[minute.get() as usize]
+    }
+
+    /// Whether the window has a minute and cuts no cell, so that a rate may be set for it.
+    pub fn ordered_rate(&self, from: Minute, to: Bound) -> bool
+        ensures { result ≡ is_rate_window self.now.cell from to }
+    {
+        let cell = self.cell.get();
+        from.get() < to.get() && from.get() % cell == 0 && to.get() % cell == 0
+    }
+
+    /// Sets how many flights each cell of the window takes, from a minute up to a bound.
+    ///
+    /// `Order` where the window has no minute or cuts a cell.
+    pub fn rate(&mut self, from: Minute, to: Bound, cap: Cap) -> Result<(), RunwayFault>
+        ensures answer { result ≡
+            (if is_rate_window self.old.cell from to then Ok tt else Err RunwayFault.Order) }
+        ensures ok { OnOk result (self.new ≡ with_rate self.old from to cap) }
+        ensures err { OnErr result (self.new ≡ self.old) }
+        ensures minutes { OnOk result ((m : ℕ) →
+            cap_at self.new m ≡ (if window_has from to m then cap else cap_at self.old m)) }
+    {
+        if !self.ordered_rate(from, to) {
+            return Err(RunwayFault::Order);
+        }
+        let cell = self.cell.get();
+        let first = (from.get() / cell) as usize;
+        let end = (to.get() / cell) as usize;
+        self.caps[first..end].fill(cap);
+        Ok(())
+    }
+
+    // Closes or opens the window.
+    fn set_closed(&mut self, from: Minute, to: Bound, closed: bool) -> Result<(), RunwayFault>
+        ensures answer { result ≡ (if nat_lt from to then Ok tt else Err RunwayFault.Order) }
+        ensures ok { OnOk result (self.new ≡ with_closed self.old from to closed) }
+        ensures err { OnErr result (self.new ≡ self.old) }
+        ensures minutes { OnOk result ((m : ℕ) →
+            is_closed self.new m ≡ (if window_has from to m then closed else is_closed self.old m)) }
+    {
+        if from.get() >= to.get() {
+            return Err(RunwayFault::Order);
+        }
+        self.closed[from.get() as usize..to.get() as usize].fill(closed);
+        Ok(())
+    }
+
+    /// Closes the runway at the minutes of the window, from a minute up to a bound.
+    ///
+    /// `Order` where the window has no minute.
+    pub fn close(&mut self, from: Minute, to: Bound) -> Result<(), RunwayFault>
+        ensures answer { result ≡ (if nat_lt from to then Ok tt else Err RunwayFault.Order) }
+        ensures ok { OnOk result (self.new ≡ with_closed self.old from to true) }
+        ensures err { OnErr result (self.new ≡ self.old) }
+        ensures minutes { OnOk result ((m : ℕ) →
+            is_closed self.new m ≡ (if window_has from to m then true else is_closed self.old m)) }
+    {
+        self.set_closed(from, to, true)
+    }
+
+    /// Opens the runway again at the minutes of the window, from a minute up to a bound.
+    ///
+    /// `Order` where the window has no minute.
+    pub fn reopen(&mut self, from: Minute, to: Bound) -> Result<(), RunwayFault>
+        ensures answer { result ≡ (if nat_lt from to then Ok tt else Err RunwayFault.Order) }
+        ensures ok { OnOk result (self.new ≡ with_closed self.old from to false) }
+        ensures err { OnErr result (self.new ≡ self.old) }
+        ensures minutes { OnOk result ((m : ℕ) →
+            is_closed self.new m ≡ (if window_has from to m then false else is_closed self.old m)) }
+    {
+        self.set_closed(from, to, false)
+    }
+
+    /// A copy of the runway.
+    pub fn copy(&self, alloc: Global) -> Result<Runway, AllocError>
+        ensures { IfOk result (λ r. r ≡ self.now) }
+    {
+        let caps = Vec::from_slice(alloc, &self.caps)?;
+        let closed = Vec::from_slice(alloc, &self.closed)?;
+        Ok(Runway {
+            name: self.name,
+            cell: self.cell,
+            caps,
+            closed,
+        })
     }
 }
