@@ -1,0 +1,3 @@
+pub mod TaxiLemmas
+pub mod StandLemmas
+pub mod RowLemmas

@@ -1,0 +1,61 @@
+-- Rows in a `BTreeMap`, seen as a finite map.
+use Rattle.std.proofs.Common.{◌≡◌, ℕ, cond, List, [], ◌∷◌, Some, refl, sym, ap, subst, ◌∙◌}
+use Rattle.std.specs.declared.cmp.Ordering.{Ordering}
+use Rattle.std.specs.Ordering.{ordering_then, is_eq, eq_by_cmp}
+use Rattle.std.specs.Option.{option_cmp}
+use Rattle.std.specs.Cmp.{IsEquivalence, eq_by_cmp_equiv}
+use Rattle.std.specs.BTreeMap as tree
+use Rattle.std.specs.BTreeMap.{BTreeMap, is_at}
+use Rattle.std.specs.Map.{lookup, keys_of}
+use Rattle.std.specs.FinMap as map
+use Rattle.std.specs.FinMap.{find, get-insert, get-from_entries, same_map}
+use Rattle.std.proofs.lemmas.Map.Keys.{IsDistinct-from_sorted}
+use Rattle.std.proofs.lemmas.Map.Made.{update_all_none}
+use Rattle.cdm_flight.specs.contracts.place.PlaceOrd.TheImpl as place_ord
+use Rattle.cdm_flight.specs.declared.place.Place.{Place}
+use Rattle.cdm_flight.specs.declared.place.Place.TheVariants as place
+use Rattle.cdm_flight.specs.Names.{name_cmp}
+use Rattle.cdm_flight.specs.Taxi.{TaxiRows, stand_of_place, taxi_cmp}
+use Rattle.cdm_taxi.proofs.TaxiLemmas.{taxi_cmp_total, taxi_cmp_same}
+
+abbrev pub Key : Type 0
+Key = Place × List ℕ
+
+-- the order of keys as `Ord` is derived for a place and a name
+abbrev pub key_cmp : Key → Key → Ordering
+key_cmp a b = ordering_then ((place_ord.ghosts).cmp a.0 b.0) (name_cmp a.1 b.1)
+
+same_place_cmp : (p q : Place) → (place_ord.ghosts).cmp p q ≡ option_cmp name_cmp (stand_of_place p) (stand_of_place q)
+same_place_cmp place.Default place.Default = refl
+same_place_cmp place.Default (place.Stand t) = refl
+same_place_cmp (place.Stand s) place.Default = refl
+same_place_cmp (place.Stand s) (place.Stand t) = refl
+
+-- it is the order of taxi rows
+pub same_key_cmp : key_cmp ≡ taxi_cmp
+same_key_cmp = λ i a b. ordering_then (same_place_cmp a.0 b.0 i) (name_cmp a.1 b.1)
+
+-- what contracts see of the rows
+abbrev pub rows_of : BTreeMap Key ℕ → TaxiRows
+rows_of m = map.from_entries m.entries
+
+find-lookup : (es : List (Key × ℕ)) (q : Key) → lookup (is_at (key_cmp q)) es ≡ find taxi_cmp q es
+find-lookup [] q = refl
+find-lookup (e ∷ es) q = λ i. cond (is_eq (same_key_cmp i q e.0)) (Some e.1) (find-lookup es q i)
+
+pub get-rows_of : (m : BTreeMap Key ℕ) (q : Key) → tree.get key_cmp m q ≡ map.get (rows_of m) q
+get-rows_of m q = find-lookup m.entries q ∙ sym (get-from_entries taxi_cmp_total m.entries q)
+
+-- an entry that is written is a row that is set
+pub rows_of-insert : (m n : BTreeMap Key ℕ) (k : Key) (v : ℕ) → ((q : Key) → tree.get key_cmp n q ≡ cond (is_at (key_cmp k) q) (Some v) (tree.get key_cmp m q)) → rows_of n ≡ map.insert (rows_of m) k v
+rows_of-insert m n k v written = same_map taxi_cmp_total taxi_cmp_same (rows_of n) (map.insert (rows_of m) k v) (λ q.
+    let tied : is_eq (key_cmp k q) ≡ eq_by_cmp taxi_cmp q k = ap (λ (R : Key → Key → Ordering). is_eq (R k q)) same_key_cmp ∙ (eq_by_cmp_equiv taxi_cmp_total).symm k q in
+    sym (get-rows_of n q) ∙ written q ∙ (λ i. cond (tied i) (Some v) (get-rows_of m q i)) ∙ sym (get-insert taxi_cmp_total (rows_of m) k v q))
+
+-- the entries of a map, collected again, are the same rows
+pub rows_of-collect : (m n : BTreeMap Key ℕ) → tree.IsOrdered key_cmp m → tree.IsFromIterResult key_cmp m.entries n → rows_of n ≡ rows_of m
+rows_of-collect m n ordered collected =
+    let laws = subst (λ (R : Key → Key → Ordering). IsEquivalence (eq_by_cmp R)) (sym same_key_cmp) (eq_by_cmp_equiv taxi_cmp_total) in
+    let apart = IsDistinct-from_sorted key_cmp (keys_of m.entries) ordered in
+    same_map taxi_cmp_total taxi_cmp_same (rows_of n) (rows_of m) (λ q.
+    sym (get-rows_of n q) ∙ collected.0 q ∙ update_all_none laws (eq_by_cmp key_cmp) (λ x y. refl) m.entries q apart ∙ get-rows_of m q)

@@ -1,0 +1,10 @@
+//! Variable taxi times: the taxi-out minutes from each place to each runway.
+#![tactic(auto)]
+
+mod rows;
+mod table;
+
+pub use table::{MOST_STANDS, TaxiFault, TaxiTable};
+
+#[cfg(test)]
+mod tests;

@@ -1,0 +1,146 @@
+//! Taxi times by place and runway.
+ghost use Rattle.std.specs.Prelude.{◌≡◌, ℕ, ◌≤◌, ◌↔◌, ◌&&◌, List, not, Ok, Err, None, Some, IfOk, IfSome, OnOk, OnErr, IsTrue, if◌then◌else◌};
+ghost use Rattle.std.specs.FinMap as map;
+ghost use Rattle.cdm_flight.specs.Names.{same_name};
+ghost use Rattle.cdm_flight.specs.Taxi.{taxi_out};
+ghost use Rattle.cdm_flight.specs.Journal.{same_place};
+ghost use Rattle.cdm_taxi.specs.Stands.{is_one_stand_too_many};
+
+use crate::rows::Rows;
+use cdm_flight::{Ice, Place, RunwayName, StandName, TaxiMinutes};
+use std::alloc::{AllocError, Global};
+use std::marker::Model;
+
+/// How many stands may have taxi times (local profile).
+pub const MOST_STANDS: usize = 400;
+
+/// Why a taxi time was not set.
+#[derive(Clone, Copy, PartialEq, Eq, Debug)]
+pub enum TaxiFault {
+    /// The stand has no taxi time, and 400 others have.
+    Full = 1,
+    /// There was no memory for the row.
+    Memory = 2,
+}
+
+impl From<AllocError> for TaxiFault {
+    ghost use Rattle.cdm_taxi.specs.declared.table.TaxiFault.{TaxiFault};
+
+    ghost from_gives = { λ _ fault. fault ≡ TaxiFault.Memory };
+
+    fn from(_: AllocError) -> TaxiFault {
+        TaxiFault::Memory
+    }
+}
+
+/// The taxi times from places to runways, one at most for each place and runway (the manual's
+/// variable taxi times).
+#[derive(Debug, Drop)]
+pub struct TaxiTable {
+    rows: Rows,
+    stands: usize,
+}
+
+impl Model for TaxiTable {
+    ghost use Rattle.std.specs.Prelude.{◌≡◌};
+    ghost use Rattle.std.specs.FinMap as map;
+    ghost use Rattle.std.specs.Coded.{coded_ℕ};
+    ghost use Rattle.cdm_flight.specs.Taxi.{TaxiRows};
+    ghost use Rattle.cdm_taxi.specs.Stands.{key_code, stands_with_rows};
+
+    ghost Value = { TaxiRows };
+
+    ghost coded = { map.code key_code coded_ℕ };
+
+    ghost view = { λ t. t.rows };
+
+    ghost invariant = { λ t. t.stands ≡ stands_with_rows t.rows };
+}
+
+impl TaxiTable {
+    /// A table without taxi times.
+    pub fn empty(alloc: Global) -> TaxiTable
+        ensures { result ≡ map.empty }
+    {
+        TaxiTable {
+            rows: Rows::empty(alloc),
+            stands: 0,
+        }
+    }
+
+    /// The taxi time from the place to the runway, if there is a row of these two.
+    pub fn minutes(&self, place: Place, runway: RunwayName) -> Option<TaxiMinutes>
+        ensures { result ≡ map.get self.now (place, runway) }
+    {
+        self.rows.get(place, runway)
+    }
+
+    /// Whether a taxi time from the place may be set: not from a stand without one where 400 stands
+    /// have one.
+    pub fn fits(&self, place: Place) -> bool
+        ensures { result ≡ not (is_one_stand_too_many self.now place) }
+    {
+        self.stands < MOST_STANDS || !self.rows.is_new_stand(&place)
+    }
+
+    /// Sets the taxi time from the place to the runway, in place of an older one.
+    ///
+    /// `Full` where the place is a stand without a taxi time and 400 stands have one, `Memory` where
+    /// there is none for a new row.
+    pub fn set(
+        &mut self,
+        place: Place,
+        runway: RunwayName,
+        minutes: TaxiMinutes,
+    ) -> Result<(), TaxiFault>
+        ensures ok { OnOk result (self.new ≡ map.insert self.old (place, runway) minutes) }
+        ensures full { (result ≡ Err TaxiFault.Full) ↔ IsTrue (is_one_stand_too_many self.old place) }
+        ensures memory { result ≡ Err TaxiFault.Memory → map.get self.old (place, runway) ≡ None }
+        ensures err { OnErr result (self.new ≡ self.old) }
+        ensures rows { OnOk result ((p : Place) (r : List ℕ) → map.get self.new (p, r) ≡
+            (if same_place place p && same_name runway r then Some minutes else map.get self.old (p, r))) }
+    {
+        let is_new = self.rows.is_new_stand(&place);
+        if is_new && self.stands >= MOST_STANDS {
+            return Err(TaxiFault::Full);
+        }
+        self.rows.put(place, runway, minutes)?;
+        if is_new {
+            self.stands += 1;
+        }
+        Ok(())
+    }
+
+    /// The estimated taxi-out time (EXOT) to the runway: the taxi time from the stand, or the
+    /// runway's default where the flight has no stand or its stand has no row, and the minutes of
+    /// remote de-icing. None where there is neither row.
+    pub fn exot(&self, stand: Option<StandName>, runway: RunwayName, ice: Ice) -> Option<u16>
+        ensures value { result ≡ taxi_out (λ place. map.get self.now (place, runway)) stand ice }
+        ensures range { IfSome result (λ minutes. minutes ≤ 180) }
+    {
+        let own = match stand {
+            Some(stand) => self.minutes(Place::Stand(stand), runway),
+            None => None,
+        };
+        let taxi = match own {
+            Some(minutes) => minutes,
+            None => self.minutes(Place::Default, runway)?,
+        };
+        let remote = match ice {
+            Ice::Remote(minutes) => minutes.get(),
+            _ => 0,
+        };
+        Some(taxi.get() + remote)
+    }
+
+    /// A copy of the table.
+    pub fn copy(&self, alloc: Global) -> Result<TaxiTable, AllocError>
+        ensures { IfOk result (λ t. t ≡ self.now) }
+    {
+        let rows = self.rows.copy(alloc)?;
+        Ok(TaxiTable {
+            rows,
+            stands: self.stands,
+        })
+    }
+}

@@ -1,0 +1,82 @@
+use crate::{TaxiFault, TaxiTable};
+use cdm_flight::{Ice, IceMinutes, Place, RunwayName, StandName, TaxiMinutes};
+use std::alloc::Global;
+use std::test::Fail;
+
+fn runway(text: &[u8]) -> Result<RunwayName, Fail> {
+    Ok(RunwayName::new(text).ok_or("no runway name")?)
+}
+
+fn stand(text: &[u8]) -> Result<StandName, Fail> {
+    Ok(StandName::new(text).ok_or("no stand name")?)
+}
+
+fn taxi(number: u16) -> Result<TaxiMinutes, Fail> {
+    Ok(TaxiMinutes::new(number).ok_or("no taxi time")?)
+}
+
+// From every stand to 27L 15 minutes, but from stand A1 10.
+fn two_rows(alloc: Global) -> Result<TaxiTable, Fail> {
+    let mut table = TaxiTable::empty(alloc);
+    table.set(Place::Default, runway(b"27L")?, taxi(15)?)?;
+    table.set(Place::Stand(stand(b"A1")?), runway(b"27L")?, taxi(10)?)?;
+    Ok(table)
+}
+
+#[test]
+fn taxi_out_times(rt: HostRuntime) -> Result<(), Fail> {
+    let table = two_rows(rt.alloc())?;
+    let (own, other) = (Some(stand(b"A1")?), Some(stand(b"A2")?));
+    let (west, east) = (runway(b"27L")?, runway(b"09")?);
+    let minutes = IceMinutes::new(12).ok_or("no de-icing time")?;
+    assert!(rt; table.exot(own, west, Ice::NoIce) == Some(10));
+    assert!(rt; table.exot(own, west, Ice::Remote(minutes)) == Some(22));
+    assert!(rt; table.exot(own, west, Ice::AtStand(minutes)) == Some(10));
+    assert!(rt; table.exot(other, west, Ice::NoIce) == Some(15));
+    assert!(rt; table.exot(None, west, Ice::NoIce) == Some(15));
+    assert!(rt; table.exot(own, east, Ice::NoIce) == None);
+    Ok(())
+}
+
+#[test]
+fn the_last_row_stands(rt: HostRuntime) -> Result<(), Fail> {
+    let mut table = two_rows(rt.alloc())?;
+    let place = Place::Stand(stand(b"A1")?);
+    table.set(place, runway(b"09")?, taxi(7)?)?;
+    table.set(place, runway(b"27L")?, taxi(120)?)?;
+    assert!(rt; table.minutes(place, runway(b"27L")?) == Some(taxi(120)?));
+    assert!(rt; table.minutes(place, runway(b"09")?) == Some(taxi(7)?));
+    assert!(rt; table.minutes(Place::Default, runway(b"27L")?) == Some(taxi(15)?));
+    let copy = table.copy(rt.alloc())?;
+    for place in [Place::Default, place] {
+        for name in [runway(b"27L")?, runway(b"09")?] {
+            assert!(rt; copy.minutes(place, name) == table.minutes(place, name));
+        }
+    }
+    Ok(())
+}
+
+// The last digit of a number.
+fn digit(number: u16) -> u8 {
+    b'0' + (number % 10) as u8
+}
+
+#[test]
+fn at_most_400_stands_have_rows(rt: HostRuntime) -> Result<(), Fail> {
+    let mut table = TaxiTable::empty(rt.alloc());
+    let name = runway(b"27L")?;
+    for number in 0..400 {
+        let text = [b'S', digit(number / 100), digit(number / 10), digit(number)];
+        let place = Place::Stand(stand(&text)?);
+        assert!(rt; table.fits(place));
+        table.set(place, name, taxi(10)?)?;
+    }
+    let (first, another) = (Place::Stand(stand(b"S000")?), Place::Stand(stand(b"S400")?));
+    assert!(rt; !table.fits(another));
+    assert!(rt; table.set(another, name, taxi(10)?) == Err(TaxiFault::Full));
+    assert!(rt; table.minutes(another, name) == None);
+    assert!(rt; table.fits(first) && table.fits(Place::Default));
+    table.set(first, runway(b"09")?, taxi(10)?)?;
+    table.set(Place::Default, name, taxi(15)?)?;
+    Ok(())
+}
