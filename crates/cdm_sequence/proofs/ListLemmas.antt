@@ -55,6 +55,20 @@ contains_given {X} {Y} h (z ∷ zs) x y i e = elim (contains_cases z zs x i) [
   go None k = k
   go (Some w) k = contains_tail w (filter_map h zs) y k
 
+-- and what the list gives comes from an element
+pub contains_from_given : {X Y : Type 0} (h : X → Option Y) (xs : List X) (y : Y) → Contains (filter_map h xs) y → (x : X) × Contains xs x × (h x ≡ Some y)
+contains_from_given h [] y i = absurd (omega (arith, i.1))
+contains_from_given {X} {Y} h (x ∷ xs) y i = go (h x) refl i (contains_from_given h xs y) where
+  later : (x : X) × Contains xs x × (h x ≡ Some y) → (z : X) × Contains (x ∷ xs) z × (h z ≡ Some y)
+  later w = (w.0, contains_tail x xs w.0 w.1, w.2)
+
+  go : (o : Option Y) → h x ≡ o → Contains (cons_option o (filter_map h xs)) y → (Contains (filter_map h xs) y → (x : X) × Contains xs x × (h x ≡ Some y)) → (z : X) × Contains (x ∷ xs) z × (h z ≡ Some y)
+  go None e k rest = later (rest k)
+  go (Some z) e k rest = elim (contains_cases z (filter_map h xs) y k) [
+    | inl same ↦ (x, contains_head x xs, e ∙ ap Some same)
+    | inr j ↦ later (rest j)
+  ]
+
 -- what each element gives has a property, where it gives something
 pub All-given : {X Y : Type 0} (h : X → Option Y) (P : Y → Type 0) (xs : List X) → ((x : X) → Contains xs x → IfSome (h x) P) → All P (filter_map h xs)
 All-given {X} {Y} h P xs each = All-from_recursion P (filter_map h xs) (by xs each) where
@@ -299,3 +313,36 @@ distinct_filter {X} {K} e key test (x ∷ xs) h = go (test x) (distinct_filter e
   go : (b : Bool) → IsDistinct e (map key (filter test xs)) → IsDistinct e (map key (cond b (x ∷ filter test xs) (filter test xs)))
   go true r = IsDistinct-cons e (key x) (map key (filter test xs)) (kept xs (IsDistinct-head e (key x) (map key xs) h)) r
   go false r = r
+
+-- two elements of the same key are one
+pub one_of_key : {X K : Type 0} (e : K → K → Bool) (flips : (x y : K) → e x y ≡ e y x) (key : X → K) (xs : List X) (x y : X) → IsDistinct e (map key xs) → Contains xs x → Contains xs y → e (key x) (key y) ≡ true → x ≡ y
+one_of_key e flips key [] x y own i j h = absurd (omega (arith, i.1))
+one_of_key {X} {K} e flips key (z ∷ zs) x y own i j h = go (contains_cases z zs x i) (contains_cases z zs y j) (one_of_key e flips key zs x y (IsDistinct-tail e (key z) (map key zs) own)) where
+  apart : (w : X) → Contains zs w → e (key z) (key w) ≡ false
+  apart w k = apart_from_head e (key z) (map key zs) (key w) own (contains_map key zs w k)
+
+  go : (z ≡ x) ⊎ Contains zs x → (z ≡ y) ⊎ Contains zs y → (Contains zs x → Contains zs y → e (key x) (key y) ≡ true → x ≡ y) → x ≡ y
+  go (inl a) (inl b) rest = sym a ∙ b
+  go (inl a) (inr k) rest = absurd (false≢true (sym (apart y k) ∙ ap (λ (w : X). e (key w) (key y)) a ∙ h))
+  go (inr k) (inl b) rest = absurd (false≢true (sym (apart x k) ∙ flips (key z) (key x) ∙ ap (λ (w : X). e (key x) (key w)) b ∙ h))
+  go (inr k) (inr l) rest = rest k l h
+
+-- Filters.
+
+pub contains_kept : {X : Type 0} (t : X → Bool) (xs : List X) (x : X) → Contains xs x → t x ≡ true → Contains (filter t xs) x
+contains_kept t [] x i h = absurd (omega (arith, i.1))
+contains_kept {X} t (y ∷ ys) x i h = elim (contains_cases y ys x i) [
+  | inl e ↦ subst (λ (zs : List X). Contains zs x) (sym (ap (λ (b : Bool). cond b (y ∷ filter t ys) (filter t ys)) (ap t e ∙ h)))
+      (subst (λ (z : X). Contains (z ∷ filter t ys) x) (sym e) (contains_head x (filter t ys)))
+  | inr j ↦ go (t y) (contains_kept t ys x j h)
+] where
+  go : (b : Bool) → Contains (filter t ys) x → Contains (cond b (y ∷ filter t ys) (filter t ys)) x
+  go true k = contains_tail y (filter t ys) x k
+  go false k = k
+
+pub contains_all : {X : Type 0} (t : X → Bool) (xs : List X) (x : X) → Contains (filter t xs) x → Contains xs x
+contains_all t [] x i = i
+contains_all {X} t (y ∷ ys) x i = go (t y) i (contains_all t ys x) where
+  go : (b : Bool) → Contains (cond b (y ∷ filter t ys) (filter t ys)) x → (Contains (filter t ys) x → Contains ys x) → Contains (y ∷ ys) x
+  go true k rec = elim (contains_cases y (filter t ys) x k) [ inl e ↦ subst (λ (z : X). Contains (y ∷ ys) z) e (contains_head y ys) | inr j ↦ contains_tail y ys x (rec j) ]
+  go false k rec = contains_tail y ys x (rec k)

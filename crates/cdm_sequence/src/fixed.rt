@@ -70,3 +70,30 @@ impl Fixed {
         }
     }
 }
+
+ghost use Rattle.cdm_sequence.specs.Fixed.{fixed_flight};
+
+/// The flight as the sequence takes it once it has left its stand, or None where it is planned or
+/// cancelled.
+#[tactic(auto, unfolding(crate::specs::Fixed::fixed_flight))]
+pub fn fixed_of(flight: &Flight) -> Option<Fixed>
+    ensures { result ≡ fixed_flight flight.now }
+{
+    let (exot, off, takeoff, mark) = match flight.status {
+        Status::OffBlock { aobt, exot } => {
+            let takeoff = Minute::new(aobt.get() + exot).unwrap();
+            (exot, aobt, takeoff, Mark::OffBlock)
+        }
+        Status::Airborne { aobt, atot } => (atot.get() - aobt.get(), aobt, atot, Mark::Airborne),
+        Status::Planned | Status::Cancelled => return None,
+    };
+    Some(Fixed {
+        name: flight.name,
+        tobt: flight.tobt,
+        ctot: flight.ctot,
+        exot,
+        off,
+        takeoff,
+        mark,
+    })
+}
