@@ -1,2 +1,9 @@
 pub mod Words
 pub mod Slots
+pub mod Targets
+pub mod Fixed
+pub mod Plan
+pub mod Aims
+pub mod Sequence
+pub mod Day
+pub mod Turns

@@ -1,5 +1,5 @@
 -- What contracts see of slots and plans, and their orders.
-use Rattle.std.specs.Prelude.{◌≡◌, ℕ, ◌+◌, ◌<◌, ◌≤◌, ⊤, List, length, Option, Some, None, sum_by, IsSorted}
+use Rattle.std.specs.Prelude.{◌≡◌, ℕ, ◌+◌, ◌<◌, ◌≤◌, Bool, true, false, IsTrue, List, length, Option, Some, None, sum_by, IsSorted}
 use Rattle.std.specs.declared.cmp.Ordering.{Ordering}
 use Rattle.std.specs.Ordering.{nat_cmp, ordering_then}
 use Rattle.std.specs.Option.{ForSome}
@@ -19,18 +19,22 @@ pub record SlotRecord : Type 0 where
   pub mark : Mark
   pub delay : Option ℕ
 
--- a planned flight's delay, from its TOBT to its TSAT; other flights have none
-abbrev pub IsDelay : Mark → Option ℕ → ℕ → Option ℕ → Type 0
-IsDelay Planned (Some tobt) tsat (Some delay) = tsat ≡ tobt + delay
-IsDelay Planned tobt tsat delay = ⊥
-IsDelay mark tobt tsat None = ⊤
-IsDelay mark tobt tsat (Some delay) = ⊥
+-- off-block or airborne
+abbrev pub has_left : Mark → Bool
+has_left Planned = false
+has_left mark = true
+
+-- a planned flight's delay, from its TOBT to its TSAT; flights that have left have none
+abbrev pub IsDelay : Option ℕ → Mark → Option ℕ → ℕ → Type 0
+IsDelay None mark tobt tsat = IsTrue (has_left mark)
+IsDelay (Some delay) Planned (Some tobt) tsat = tsat ≡ tobt + delay
+IsDelay (Some delay) mark tobt tsat = ⊥
 
 -- what each slot keeps: the take-off is the taxi-out time after the start-up
 pub record KeepsTimes (tobt : Option ℕ) (exot tsat ttot : ℕ) (mark : Mark) (delay : Option ℕ) : Type 0 where
   pub taxi : ttot ≡ tsat + exot
   pub taxi_range : exot < 2880
-  pub delayed : IsDelay mark tobt tsat delay
+  pub delayed : IsDelay delay mark tobt tsat
   pub delay_range : ForSome delay (λ d. d < 2880)
 
 -- one runway's plan

@@ -2,10 +2,27 @@
 //! a flight is left without a minute.
 #![tactic(auto)]
 
+mod aims;
+mod decision;
+mod fixed;
+mod laws;
+mod list;
 mod plan;
 mod rule;
+mod sequencing;
 mod slot;
+mod target;
+mod turns;
 
+pub use aims::{AimResult, aim};
+pub use fixed::{Fixed, fixed_of};
+pub use laws::{
+    aims_are_right, any_order, none_is_earlier, none_is_earlier_in_a_day, one_is_earlier, one_plan,
+    one_plan_of_a_day, one_sequence, plans_are_allowed, plans_of_a_day_are_allowed,
+    runways_make_the_day,
+};
 pub use plan::{Plan, RunwayPlan};
 pub use rule::Rule;
+pub use sequencing::sequence;
 pub use slot::{BlockedFlight, Mark, Slot};
+pub use target::Target;

@@ -1,7 +1,8 @@
 //! Why a flight gets no minute.
 ghost use Rattle.std.specs.Prelude.{◌≡◌, Some};
-ghost use Rattle.cdm_sequence.specs.Words.{rule_text};
+ghost use Rattle.cdm_sequence.specs.Words.{rule_text, rule_for};
 
+use cdm_runway::Blocked;
 use std::fmt;
 
 /// Why a planned flight gets no take-off minute, in the order in which the reasons are tested
@@ -48,6 +49,17 @@ impl Rule {
             Rule::Ctot => "CTOT",
             Rule::Closure => "CLOSURE",
             Rule::Rate => "RATE",
+        }
+    }
+}
+
+impl From<Blocked> for Rule {
+    ghost from_gives = { λ reason rule. rule ≡ rule_for reason };
+
+    fn from(reason: Blocked) -> Rule {
+        match reason {
+            Blocked::Closure => Rule::Closure,
+            Blocked::Rate => Rule::Rate,
         }
     }
 }

@@ -1,0 +1,83 @@
+//! Whether a planned flight can be sequenced.
+ghost use Rattle.std.specs.Prelude.{◌≡◌, ◌+◌, ◌<◌, ◌≤◌, true, nat_lt, max, Some, None, if◌then◌else◌};
+ghost use Rattle.std.specs.FinMap as map;
+ghost use Rattle.cdm_flight.specs.Record.{is_planned};
+
+use crate::{Rule, Target};
+use cdm_flight::{Flight, Ice};
+use cdm_taxi::TaxiTable;
+use cdm_time::{Bound, Minute, Window, ctot_window};
+
+/// What a planned flight could have before the traffic of its runway is asked.
+#[derive(Clone, Copy, Debug, PartialEq, Eq)]
+pub enum AimResult {
+    /// It can be sequenced.
+    Ready(Target),
+    /// It is blocked by one of the first five rules: Tobt, Runway, Exot, Horizon or Ctot.
+    Early(Rule),
+}
+
+ghost use Rattle.cdm_sequence.specs.Aims.{stand_minutes, window_from, window_to, aim_of, IsAim};
+
+// The minutes of de-icing on the stand.
+fn minutes_on_stand(ice: Ice) -> u16
+    ensures value { result ≡ stand_minutes ice }
+    ensures range { result ≤ 60 }
+{
+    match ice {
+        Ice::AtStand(minutes) => minutes.get(),
+        Ice::NoIce | Ice::Remote(_) => 0,
+    }
+}
+
+// The minutes of the horizon from the earliest on that keep the CTOT tolerance, if there are any.
+fn candidates(earliest: Minute, ctot: Option<Minute>) -> Option<Window>
+    ensures { result ≡ (if nat_lt (window_from earliest ctot) (window_to ctot)
+        then Some (record { from = window_from earliest ctot; to = window_to ctot }) else None) }
+{
+    let (from, to) = match ctot {
+        Some(ctot) => {
+            let tolerance = ctot_window(ctot);
+            (earliest.max(tolerance.from()), tolerance.to())
+        }
+        None => (earliest, Bound::END),
+    };
+    Window::new(from, to)
+}
+
+/// When a planned flight may take off: its target, or the first of these rules that leaves it
+/// none. Tobt, Runway, Exot: it has no TOBT, no runway, or no taxi-out time to it. Horizon: no
+/// minute of the horizon is at or after its readiness and EXOT. Ctot: none of those is within the
+/// CTOT tolerance. It is ready after its TOBT and de-icing on the stand, and not before `now`
+/// (local profile).
+#[tactic(auto, unfolding(crate::specs::Aims::aim_of))]
+pub fn aim(flight: &Flight, taxi: &TaxiTable, now: Minute) -> AimResult
+    requires { is_planned flight.now.status ≡ true }
+    ensures value { result ≡ aim_of flight.now (λ place runway. map.get taxi.now (place, runway)) now }
+    ensures meaning { IsAim flight.now (λ place runway. map.get taxi.now (place, runway)) now result }
+{
+    let Some(key) = flight.key() else {
+        return AimResult::Early(Rule::Tobt);
+    };
+    let Some(runway) = flight.runway else {
+        return AimResult::Early(Rule::Runway);
+    };
+    let Some(exot) = taxi.exot(flight.stand, runway, flight.ice) else {
+        return AimResult::Early(Rule::Exot);
+    };
+    let ready = (key.tobt.get() + minutes_on_stand(flight.ice)).max(now.get());
+    let Some(earliest) = Minute::new(ready + exot) else {
+        return AimResult::Early(Rule::Horizon);
+    };
+    let Some(window) = candidates(earliest, flight.ctot) else {
+        return AimResult::Early(Rule::Ctot);
+    };
+    AimResult::Ready(Target {
+        key,
+        runway,
+        ctot: flight.ctot,
+        exot,
+        ready: Minute::new(ready).unwrap(),
+        window,
+    })
+}

@@ -1,0 +1,87 @@
+//! Laws of the sequence: there is one, it is allowed, and none that is allowed is earlier.
+ghost use Rattle.std.specs.Prelude.{◌≡◌, ◌⊎◌, ℕ, List, map, Contains, IsPermutation};
+ghost use Rattle.std.specs.List.{IsDistinct};
+ghost use Rattle.cdm_flight.specs.Names.{same_name};
+ghost use Rattle.cdm_flight.specs.Record.{Record};
+ghost use Rattle.cdm_runway.specs.Rules.{RunwayRules};
+ghost use Rattle.cdm_sequence.specs.Aims.{TaxiTimes, aim_of, IsAim};
+ghost use Rattle.cdm_sequence.specs.Day.{targets_on, IsDayPlan, IsDayAllowed};
+ghost use Rattle.cdm_sequence.specs.Fixed.{FixedRecord};
+ghost use Rattle.cdm_sequence.specs.Plan.{Placing, IsPlan, IsAllowed, IsEarlier};
+ghost use Rattle.cdm_sequence.specs.Sequence.{IsSequence, flight_names};
+ghost use Rattle.cdm_sequence.specs.Slots.{RunwayPlanRecord};
+ghost use Rattle.cdm_sequence.specs.Targets.{TargetRecord};
+
+/// An aim is the flight's target, with the minutes at which it may take off, or the first rule
+/// that leaves it none.
+pub fn aims_are_right()
+    ensures { (f : Record) (times : TaxiTimes) (now : ℕ) → IsAim f times now (aim_of f times now) }
+{}
+
+/// Two plans of the same flights give each flight the same.
+pub fn one_plan()
+    ensures { (r : RunwayRules) (fixed : List ℕ) (targets : List TargetRecord) (p q : Placing) →
+        IsPlan r fixed targets p → IsPlan r fixed targets q →
+        (f : TargetRecord) → Contains targets f → p f ≡ q f }
+{}
+
+/// A plan of flights with names of their own is allowed.
+pub fn plans_are_allowed()
+    ensures { (r : RunwayRules) (fixed : List ℕ) (targets : List TargetRecord) (p : Placing) →
+        IsDistinct same_name (map (λ f. f.key.name) targets) →
+        IsPlan r fixed targets p → IsAllowed r fixed targets p }
+{}
+
+/// No allowed placing is earlier than the plan.
+pub fn none_is_earlier()
+    ensures { (r : RunwayRules) (fixed : List ℕ) (targets : List TargetRecord) (p q : Placing) →
+        IsPlan r fixed targets p → IsAllowed r fixed targets q → IsEarlier targets q p → ⊥ }
+{}
+
+/// Of two placings that differ one is earlier.
+pub fn one_is_earlier()
+    ensures { (targets : List TargetRecord) (p q : Placing) →
+        ((f : TargetRecord) → Contains targets f → p f ≡ q f) ⊎ (IsEarlier targets p q ⊎ IsEarlier targets q p) }
+{}
+
+/// A runway has one sequence, in whatever order its flights are given.
+pub fn one_sequence()
+    ensures { (r : RunwayRules) (fixed others : List FixedRecord) (targets reordered : List TargetRecord) (x y : RunwayPlanRecord) →
+        IsDistinct same_name (flight_names fixed targets) →
+        IsPermutation fixed others → IsPermutation targets reordered →
+        IsSequence r fixed targets x → IsSequence r others reordered y → x ≡ y }
+{}
+
+/// The sequence of flights is that of the same flights in another order.
+pub fn any_order()
+    ensures { (r : RunwayRules) (fixed others : List FixedRecord) (targets reordered : List TargetRecord) (plan : RunwayPlanRecord) →
+        IsPermutation fixed others → IsPermutation targets reordered →
+        IsSequence r fixed targets plan → IsSequence r others reordered plan }
+{}
+
+/// Plans that were made runway by runway are one plan of the day.
+pub fn runways_make_the_day()
+    ensures { (rules : List ℕ → RunwayRules) (fixed : List ℕ → List ℕ) (targets : List TargetRecord) (each : List ℕ → Placing) →
+        ((runway : List ℕ) → IsPlan (rules runway) (fixed runway) (targets_on runway targets) (each runway)) →
+        IsDayPlan rules fixed targets (λ f. each f.runway f) }
+{}
+
+/// Two plans of one day give each flight the same.
+pub fn one_plan_of_a_day()
+    ensures { (rules : List ℕ → RunwayRules) (fixed : List ℕ → List ℕ) (targets : List TargetRecord) (p q : Placing) →
+        IsDayPlan rules fixed targets p → IsDayPlan rules fixed targets q →
+        (f : TargetRecord) → Contains targets f → p f ≡ q f }
+{}
+
+/// A day's plan of flights with names of their own is allowed.
+pub fn plans_of_a_day_are_allowed()
+    ensures { (rules : List ℕ → RunwayRules) (fixed : List ℕ → List ℕ) (targets : List TargetRecord) (p : Placing) →
+        IsDistinct same_name (map (λ f. f.key.name) targets) →
+        IsDayPlan rules fixed targets p → IsDayAllowed rules fixed targets p }
+{}
+
+/// No allowed placing of a day is earlier than its plan.
+pub fn none_is_earlier_in_a_day()
+    ensures { (rules : List ℕ → RunwayRules) (fixed : List ℕ → List ℕ) (targets : List TargetRecord) (p q : Placing) →
+        IsDayPlan rules fixed targets p → IsDayAllowed rules fixed targets q → IsEarlier targets q p → ⊥ }
+{}
