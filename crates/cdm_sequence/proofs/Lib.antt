@@ -1,0 +1,9 @@
+pub mod ListLemmas
+pub mod OrderLemmas
+pub mod CountLemmas
+pub mod PlanLemmas
+pub mod DifferenceLemmas
+pub mod TurnLemmas
+pub mod MadeLemmas
+pub mod AllowedLemmas
+pub mod SequenceLemmas

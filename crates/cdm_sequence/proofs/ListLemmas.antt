@@ -1,0 +1,301 @@
+-- Lists: their elements, their sums, and their permutations.
+use Rattle.std.proofs.Common.{◌≡◌, ℕ, zero, suc, ◌+◌, ◌<◌, ◌≤◌, Bool, true, false, cond, List, [], ◌∷◌, ◌++◌, Option, Some, None, IfSome, sym, ◌∙◌, ap, subst, refl, arith, inl, inr, ◌⊎◌, sum_by, filter, map, set, get_or, length, append_assoc}
+use Rattle.std.specs.Cmp.{IsStrictWeakOrder}
+use Rattle.std.specs.List.{filter_map, All, Contains, cons_option, swap, AllByRecursion, IsDistinct}
+use Rattle.std.specs.List.Sorted.{IsPermutation, IsSortedBy}
+use Rattle.std.specs.Option.{option_to_list}
+use Rattle.std.proofs.lemmas.Bool.{false≢true}
+use Rattle.std.proofs.lemmas.List.Edits.{swap_is}
+use Rattle.std.proofs.lemmas.List.Elements.{Contains-append_right, All-from_recursion, All-contains}
+use Rattle.std.proofs.lemmas.List.Sorted.{IsPermutation-refl, IsPermutation-trans, IsPermutation-append_left, IsPermutation-append_right, IsPermutation-append_comm, IsPermutation-keeps, sorted_far}
+use Rattle.std.proofs.lemmas.List.Sums.{sum_by-cons}
+use Rattle.std.proofs.lemmas.Map.Keys.{IsDistinct-cons, IsDistinct-head, IsDistinct-tail}
+
+-- Elements.
+
+pub contains_cases : {X : Type 0} (x : X) (xs : List X) (y : X) → Contains (x ∷ xs) y → (x ≡ y) ⊎ Contains xs y
+contains_cases x xs y (zero, l, e) = inl e
+contains_cases x xs y (suc k, l, e) = inr (k, omega arith, e)
+
+pub contains_head : {X : Type 0} (x : X) (xs : List X) → Contains (x ∷ xs) x
+contains_head x xs = (0, omega arith, refl)
+
+pub contains_tail : {X : Type 0} (x : X) (xs : List X) (y : X) → Contains xs y → Contains (x ∷ xs) y
+contains_tail x xs y (k, l, e) = (suc k, omega arith, e)
+
+pub contains_map : {X Y : Type 0} (f : X → Y) (xs : List X) (x : X) → Contains xs x → Contains (map f xs) (f x)
+contains_map f [] x i = absurd (omega (arith, i.1))
+contains_map {X} f (y ∷ ys) x i = elim (contains_cases y ys x i) [
+  | inl e ↦ subst (λ (z : X). Contains (map f (y ∷ ys)) (f z)) e (contains_head (f y) (map f ys))
+  | inr j ↦ contains_tail (f y) (map f ys) (f x) (contains_map f ys x j)
+]
+
+-- an element of a map comes from an element
+pub contains_from_map : {X Y : Type 0} (f : X → Y) (xs : List X) (y : Y) → Contains (map f xs) y → (x : X) × Contains xs x × (f x ≡ y)
+contains_from_map f [] y (k, l, e) = absurd (omega arith)
+contains_from_map f (x ∷ xs) y i = elim (contains_cases (f x) (map f xs) y i) [
+  | inl e ↦ (x, contains_head x xs, e)
+  | inr j ↦ let w = contains_from_map f xs y j in (w.0, contains_tail x xs w.0 w.1, w.2)
+]
+
+pub filter_map_cons : {X Y : Type 0} (h : X → Option Y) (x : X) (xs : List X) → filter_map h (x ∷ xs) ≡ option_to_list (h x) ++ filter_map h xs
+filter_map_cons {X} {Y} h x xs = go (h x) where
+  go : (o : Option Y) → cons_option o (filter_map h xs) ≡ option_to_list o ++ filter_map h xs
+  go None = refl
+  go (Some y) = refl
+
+-- what an element gives is among what the list gives
+pub contains_given : {X Y : Type 0} (h : X → Option Y) (xs : List X) (x : X) (y : Y) → Contains xs x → h x ≡ Some y → Contains (filter_map h xs) y
+contains_given h [] x y i e = absurd (omega (arith, i.1))
+contains_given {X} {Y} h (z ∷ zs) x y i e = elim (contains_cases z zs x i) [
+  | inl same ↦ subst (λ (ys : List Y). Contains ys y) (sym (ap (λ (o : Option Y). cons_option o (filter_map h zs)) (ap h same ∙ e))) (contains_head y (filter_map h zs))
+  | inr j ↦ go (h z) (contains_given h zs x y j e)
+] where
+  go : (o : Option Y) → Contains (filter_map h zs) y → Contains (cons_option o (filter_map h zs)) y
+  go None k = k
+  go (Some w) k = contains_tail w (filter_map h zs) y k
+
+-- what each element gives has a property, where it gives something
+pub All-given : {X Y : Type 0} (h : X → Option Y) (P : Y → Type 0) (xs : List X) → ((x : X) → Contains xs x → IfSome (h x) P) → All P (filter_map h xs)
+All-given {X} {Y} h P xs each = All-from_recursion P (filter_map h xs) (by xs each) where
+  given : (o : Option Y) (zs : List Y) → IfSome o P → AllByRecursion P zs → AllByRecursion P (cons_option o zs)
+  given None zs k rest = rest
+  given (Some z) zs k rest = (k, rest)
+
+  by : (ys : List X) → ((x : X) → Contains ys x → IfSome (h x) P) → AllByRecursion P (filter_map h ys)
+  by [] all = tt
+  by (y ∷ ys) all = given (h y) (filter_map h ys) (all y (contains_head y ys)) (by ys (λ x i. all x (contains_tail y ys x i)))
+
+-- two functions that agree on a list's elements
+pub filter_map_same : {X Y : Type 0} (h k : X → Option Y) (xs : List X) → ((x : X) → Contains xs x → h x ≡ k x) → filter_map h xs ≡ filter_map k xs
+filter_map_same h k [] same = refl
+filter_map_same {X} {Y} h k (x ∷ xs) same =
+    ap (λ (o : Option Y). cons_option o (filter_map h xs)) (same x (contains_head x xs))
+    ∙ ap (cons_option (k x)) (filter_map_same h k xs (λ y i. same y (contains_tail x xs y i)))
+
+pub filter_same : {X : Type 0} (p q : X → Bool) (xs : List X) → ((x : X) → Contains xs x → p x ≡ q x) → filter p xs ≡ filter q xs
+filter_same p q [] same = refl
+filter_same {X} p q (x ∷ xs) same =
+    ap (λ (b : Bool). cond b (x ∷ filter p xs) (filter p xs)) (same x (contains_head x xs))
+    ∙ ap (λ (ys : List X). cond (q x) (x ∷ ys) ys) (filter_same p q xs (λ y i. same y (contains_tail x xs y i)))
+
+-- Sums.
+
+-- sums of two functions that agree on the list
+pub sum_same : {X : Type 0} (f g : X → ℕ) (xs : List X) → ((y : X) → Contains xs y → f y ≡ g y) → sum_by f xs ≡ sum_by g xs
+sum_same f g [] h = refl
+sum_same f g (x ∷ xs) h =
+    let a = sum_by-cons f x xs in
+    let b = sum_by-cons g x xs in
+    let c = h x (contains_head x xs) in
+    let d = sum_same f g xs (λ y k. h y (contains_tail x xs y k)) in
+    omega arith
+
+pub sum_none : {X : Type 0} (f : X → ℕ) (xs : List X) → ((y : X) → Contains xs y → f y ≡ 0) → sum_by f xs ≡ 0
+sum_none f [] h = refl
+sum_none f (x ∷ xs) h =
+    let a = sum_by-cons f x xs in
+    let c = h x (contains_head x xs) in
+    let d = sum_none f xs (λ y k. h y (contains_tail x xs y k)) in
+    omega arith
+
+pub sum_le : {X : Type 0} (f g : X → ℕ) (xs : List X) → ((y : X) → f y ≤ g y) → sum_by f xs ≤ sum_by g xs
+sum_le f g [] h = omega arith
+sum_le f g (x ∷ xs) h =
+    let a = sum_by-cons f x xs in
+    let b = sum_by-cons g x xs in
+    let c = h x in
+    let d = sum_le f g xs h in
+    omega arith
+
+-- and of two of which one is less at some element
+pub sum_less : {X : Type 0} (f g : X → ℕ) (xs : List X) (x : X) → Contains xs x → ((y : X) → f y ≤ g y) → f x < g x → sum_by f xs < sum_by g xs
+sum_less f g [] x (k, l, e) h s = absurd (omega arith)
+sum_less {X} f g (y ∷ ys) x i h s =
+    let a = sum_by-cons f y ys in
+    let b = sum_by-cons g y ys in
+    let c = h y in
+    let d = sum_le f g ys h in
+    elim (contains_cases y ys x i) [
+      | inl e ↦ let e1 : f y ≡ f x = ap f e in let e2 : g y ≡ g x = ap g e in omega arith
+      | inr j ↦ let m = sum_less f g ys x j h s in omega arith
+    ]
+
+pub sum_map : {X Y : Type 0} (g : Y → ℕ) (f : X → Y) (xs : List X) → sum_by g (map f xs) ≡ sum_by (λ x. g (f x)) xs
+sum_map g f [] = refl
+sum_map g f (x ∷ xs) = sum_by-cons g (f x) (map f xs) ∙ ap (λ (n : ℕ). g (f x) + n) (sum_map g f xs) ∙ sym (sum_by-cons (λ x. g (f x)) x xs)
+
+-- Permutations.
+
+exchange : {X : Type 0} (us vs ws : List X) → IsPermutation (us ++ (vs ++ ws)) (vs ++ (us ++ ws))
+exchange {X} us vs ws =
+    subst (λ (xs : List X). IsPermutation xs (vs ++ (us ++ ws))) (append_assoc us vs ws)
+    (subst (λ (ys : List X). IsPermutation ((us ++ vs) ++ ws) ys) (append_assoc vs us ws)
+    (IsPermutation-append_left ws (us ++ vs) (vs ++ us) (IsPermutation-append_comm us vs)))
+
+-- an element that changes places with another
+taken_out : {X Y : Type 0} (h : X → Option Y) (x : X) (xs : List X) (j : ℕ) (d : X) → j < length xs → IsPermutation (option_to_list (h x) ++ filter_map h xs) (option_to_list (h (get_or xs j d)) ++ filter_map h (set xs j x))
+taken_out h x [] j d l = absurd (omega arith)
+taken_out {X} {Y} h x (y ∷ ys) zero d l =
+    let a = option_to_list (h x) in
+    let b = option_to_list (h y) in
+    subst (λ (zs : List Y). IsPermutation (a ++ zs) (b ++ filter_map h (x ∷ ys))) (sym (filter_map_cons h y ys))
+    (subst (λ (zs : List Y). IsPermutation (a ++ (b ++ filter_map h ys)) (b ++ zs)) (sym (filter_map_cons h x ys))
+    (exchange a b (filter_map h ys)))
+taken_out {X} {Y} h x (y ∷ ys) (suc j) d l =
+    let a = option_to_list (h x) in
+    let b = option_to_list (h y) in
+    let g = option_to_list (h (get_or ys j d)) in
+    let us = filter_map h ys in
+    let vs = filter_map h (set ys j x) in
+    subst (λ (zs : List Y). IsPermutation (a ++ zs) (g ++ filter_map h (y ∷ set ys j x))) (sym (filter_map_cons h y ys))
+    (subst (λ (zs : List Y). IsPermutation (a ++ (b ++ us)) (g ++ zs)) (sym (filter_map_cons h y (set ys j x)))
+    (IsPermutation-trans (a ++ (b ++ us)) (b ++ (a ++ us)) (g ++ (b ++ vs)) (exchange a b us)
+    (IsPermutation-trans (b ++ (a ++ us)) (b ++ (g ++ vs)) (g ++ (b ++ vs))
+    (IsPermutation-append_right b (a ++ us) (g ++ vs) (taken_out h x ys j d (omega arith))) (exchange b g vs))))
+
+swapped : {X Y : Type 0} (h : X → Option Y) (xs : List X) (i j : ℕ) (d : X) → i < length xs → j < length xs → IsPermutation (filter_map h xs) (filter_map h (set (set xs i (get_or xs j d)) j (get_or xs i d)))
+swapped h [] i j d k l = absurd (omega arith)
+swapped h (x ∷ xs) zero zero d k l = IsPermutation-refl (filter_map h (x ∷ xs))
+swapped {X} {Y} h (x ∷ xs) zero (suc j) d k l =
+    subst (λ (zs : List Y). IsPermutation zs (filter_map h (get_or xs j d ∷ set xs j x))) (sym (filter_map_cons h x xs))
+    (subst (IsPermutation (option_to_list (h x) ++ filter_map h xs)) (sym (filter_map_cons h (get_or xs j d) (set xs j x)))
+    (taken_out h x xs j d (omega arith)))
+swapped {X} {Y} h (x ∷ xs) (suc i) zero d k l =
+    subst (λ (zs : List Y). IsPermutation zs (filter_map h (get_or xs i d ∷ set xs i x))) (sym (filter_map_cons h x xs))
+    (subst (IsPermutation (option_to_list (h x) ++ filter_map h xs)) (sym (filter_map_cons h (get_or xs i d) (set xs i x)))
+    (taken_out h x xs i d (omega arith)))
+swapped {X} {Y} h (x ∷ xs) (suc i) (suc j) d k l =
+    let ys = set (set xs i (get_or xs j d)) j (get_or xs i d) in
+    subst (λ (zs : List Y). IsPermutation zs (filter_map h (x ∷ ys))) (sym (filter_map_cons h x xs))
+    (subst (IsPermutation (option_to_list (h x) ++ filter_map h xs)) (sym (filter_map_cons h x ys))
+    (IsPermutation-append_right (option_to_list (h x)) (filter_map h xs) (filter_map h ys) (swapped h xs i j d (omega arith) (omega arith))))
+
+pub IsPermutation-filter_map : {X Y : Type 0} (h : X → Option Y) (xs ys : List X) → IsPermutation xs ys → IsPermutation (filter_map h xs) (filter_map h ys)
+IsPermutation-filter_map {X} {Y} h xs ys same =
+    IsPermutation-keeps xs (λ (l : List X). IsPermutation (filter_map h xs) (filter_map h l)) (IsPermutation-refl (filter_map h xs)) step ys same where
+      step : (l : List X) (i j : ℕ) → i < length l → j < length l → IsPermutation (filter_map h xs) (filter_map h l) → IsPermutation (filter_map h xs) (filter_map h (swap l i j))
+      step [] i j a b p = p
+      step (d ∷ l) i j a b p = IsPermutation-trans (filter_map h xs) (filter_map h (d ∷ l)) (filter_map h (swap (d ∷ l) i j)) p
+          (subst (λ (zs : List X). IsPermutation (filter_map h (d ∷ l)) (filter_map h zs)) (swap_is (d ∷ l) i j d a b) (swapped h (d ∷ l) i j d a b))
+
+abbrev only : {X : Type 0} → (X → Bool) → X → Option X
+only p x = cond (p x) (Some x) None
+
+filter_is : {X : Type 0} (p : X → Bool) (xs : List X) → filter_map (only p) xs ≡ filter p xs
+filter_is p [] = refl
+filter_is {X} p (x ∷ xs) = go (p x) (filter_is p xs) where
+  go : (b : Bool) → filter_map (only p) xs ≡ filter p xs → cons_option (cond b (Some x) None) (filter_map (only p) xs) ≡ cond b (x ∷ filter p xs) (filter p xs)
+  go true e = ap (λ (ys : List X). x ∷ ys) e
+  go false e = e
+
+pub IsPermutation-filter : {X : Type 0} (p : X → Bool) (xs ys : List X) → IsPermutation xs ys → IsPermutation (filter p xs) (filter p ys)
+IsPermutation-filter {X} p xs ys same =
+    subst (λ (zs : List X). IsPermutation zs (filter p ys)) (filter_is p xs)
+    (subst (IsPermutation (filter_map (only p) xs)) (filter_is p ys) (IsPermutation-filter_map (only p) xs ys same))
+
+-- Sorted lists.
+
+sorted_rest : {X : Type 0} (lt : X → X → Bool) (x : X) (xs : List X) → IsSortedBy lt (x ∷ xs) → IsSortedBy lt xs
+sorted_rest {X} lt x xs up = λ k d a b.
+    let next : suc k + 1 ≡ suc (k + 1) = omega arith in
+    subst (λ (n : ℕ). lt (get_or (x ∷ xs) n d) (get_or xs k d) ≡ false) next (up (suc k) d (omega arith) (omega arith))
+
+-- the first of a sorted list is no greater than any of it
+none_below : {X K : Type 0} (lt : K → K → Bool) → IsStrictWeakOrder lt → (key : X → K) (x : X) (xs : List X) → IsSortedBy (λ a b. lt (key a) (key b)) (x ∷ xs) → (y : X) → Contains (x ∷ xs) y → lt (key y) (key x) ≡ false
+none_below {X} lt weak key x xs up y (k, l, e) =
+    let o : IsStrictWeakOrder (λ (a b : X). lt (key a) (key b)) = record { one_way = λ a b. weak.one_way (key a) (key b); chain = λ a b c. weak.chain (key a) (key b) (key c) } in
+    subst (λ (z : X). lt (key z) (key x) ≡ false) e (sorted_far (λ a b. lt (key a) (key b)) o (x ∷ xs) up 0 k y (omega arith) l)
+
+-- 1 for a key that x isn't below
+abbrev not_below : {K : Type 0} → (K → K → Bool) → K → K → ℕ
+not_below lt x k = cond (lt x k) 0 1
+
+-- a list whose first is below the first of another has other keys
+heads_tie : {X K : Type 0} (lt : K → K → Bool) → IsStrictWeakOrder lt → (key : X → K) (x y : X) (xs ys : List X) → IsSortedBy (λ a b. lt (key a) (key b)) (y ∷ ys)
+    → sum_by (λ a. not_below lt (key x) (key a)) (x ∷ xs) ≡ sum_by (λ a. not_below lt (key x) (key a)) (y ∷ ys) → lt (key x) (key y) ≡ false
+heads_tie {X} {K} lt weak key x y xs ys up sums = go (lt (key x) (key y)) refl where
+  go : (v : Bool) → lt (key x) (key y) ≡ v → v ≡ false
+  go false e = refl
+  go true e =
+      let n : X → ℕ = λ a. not_below lt (key x) (key a) in
+      let itself : lt (key x) (key x) ≡ false = irreflexive (lt (key x) (key x)) refl in
+      let one : n x ≡ 1 = ap (λ (b : Bool). cond b 0 1) itself in
+      let first = sum_by-cons n x xs in
+      let none : sum_by n (y ∷ ys) ≡ 0 = sum_none n (y ∷ ys) (λ b i. ap (λ (v : Bool). cond v 0 1) (above b i (lt (key x) (key b)) refl)) in
+      absurd (omega arith) where
+        irreflexive : (v : Bool) → lt (key x) (key x) ≡ v → v ≡ false
+        irreflexive false h = refl
+        irreflexive true h = sym h ∙ weak.one_way (key x) (key x) h
+
+        above : (b : X) → Contains (y ∷ ys) b → (v : Bool) → lt (key x) (key b) ≡ v → v ≡ true
+        above b i true h = refl
+        above b i false h = absurd (false≢true (sym (weak.chain (key x) (key b) (key y) h (none_below lt weak key y ys up b i)) ∙ e))
+
+-- two sorted lists with the same keys are the same list, where elements that tie are the same
+pub sorted_one : {X K : Type 0} (lt : K → K → Bool) → IsStrictWeakOrder lt → (key : X → K) (xs ys : List X)
+    → ((a b : X) → Contains xs a → Contains ys b → lt (key a) (key b) ≡ false → lt (key b) (key a) ≡ false → a ≡ b)
+    → IsSortedBy (λ a b. lt (key a) (key b)) xs → IsSortedBy (λ a b. lt (key a) (key b)) ys
+    → ((g : K → ℕ) → sum_by (λ a. g (key a)) xs ≡ sum_by (λ a. g (key a)) ys) → xs ≡ ys
+sorted_one lt weak key [] [] agree up vp sums = refl
+sorted_one lt weak key [] (y ∷ ys) agree up vp sums = absurd (let a = sums (λ _. 1) in let b = sum_by-cons (λ _. 1) y ys in omega arith)
+sorted_one lt weak key (x ∷ xs) [] agree up vp sums = absurd (let a = sums (λ _. 1) in let b = sum_by-cons (λ _. 1) x xs in omega arith)
+sorted_one {X} {K} lt weak key (x ∷ xs) (y ∷ ys) agree up vp sums =
+    let down = heads_tie lt weak key x y xs ys vp (sums (not_below lt (key x))) in
+    let back = heads_tie lt weak key y x ys xs up (sym (sums (not_below lt (key y)))) in
+    let same : x ≡ y = agree x y (contains_head x xs) (contains_head y ys) down back in
+    let rest : xs ≡ ys = sorted_one lt weak key xs ys (λ a b i j. agree a b (contains_tail x xs a i) (contains_tail y ys b j))
+    (sorted_rest (λ a b. lt (key a) (key b)) x xs up) (sorted_rest (λ a b. lt (key a) (key b)) y ys vp)
+    (λ g. let a = sums g in let b = sum_by-cons (λ a. g (key a)) x xs in let c = sum_by-cons (λ a. g (key a)) y ys in let d : g (key x) ≡ g (key y) = ap (λ (z : X). g (key z)) same in omega arith) in
+    ap (λ (z : X). z ∷ xs) same ∙ ap (λ (zs : List X). y ∷ zs) rest
+
+-- Lists without doubles.
+
+pub distinct_left : {K : Type 0} (e : K → K → Bool) (xs ys : List K) → IsDistinct e (xs ++ ys) → IsDistinct e xs
+unfolding IsDistinct
+distinct_left e [] ys h = tt
+distinct_left e (x ∷ xs) ys h = IsDistinct-cons e x xs (front (λ y. e x y ≡ false) xs ys (IsDistinct-head e x (xs ++ ys) h)) (distinct_left e xs ys (IsDistinct-tail e x (xs ++ ys) h)) where
+  front : {K : Type 0} (P : K → Type 0) (xs ys : List K) → AllByRecursion P (xs ++ ys) → AllByRecursion P xs
+  front P [] ys a = tt
+  front P (x ∷ xs) ys a = (a.0, front P xs ys a.1)
+
+pub distinct_right : {K : Type 0} (e : K → K → Bool) (xs ys : List K) → IsDistinct e (xs ++ ys) → IsDistinct e ys
+distinct_right e [] ys h = h
+distinct_right e (x ∷ xs) ys h = distinct_right e xs ys (IsDistinct-tail e x (xs ++ ys) h)
+
+-- by what a key reads
+pub distinct_by : {X K : Type 0} (e : K → K → Bool) (key : X → K) (xs : List X) → IsDistinct e (map key xs) → IsDistinct (λ a b. e (key a) (key b)) xs
+unfolding IsDistinct
+distinct_by e key [] h = tt
+distinct_by {X} {K} e key (x ∷ xs) h = IsDistinct-cons (λ a b. e (key a) (key b)) x xs (unmapped xs (IsDistinct-head e (key x) (map key xs) h)) (distinct_by e key xs (IsDistinct-tail e (key x) (map key xs) h)) where
+  unmapped : (ys : List X) → AllByRecursion (λ k. e (key x) k ≡ false) (map key ys) → AllByRecursion (λ y. e (key x) (key y) ≡ false) ys
+  unmapped [] a = tt
+  unmapped (y ∷ ys) a = (a.0, unmapped ys a.1)
+
+-- what stands after the first differs from it
+pub apart_from_head : {K : Type 0} (e : K → K → Bool) (k : K) (ks : List K) (x : K) → IsDistinct e (k ∷ ks) → Contains ks x → e k x ≡ false
+apart_from_head e k ks x h i = All-contains (λ y. e k y ≡ false) ks x (All-from_recursion (λ y. e k y ≡ false) ks (IsDistinct-head e k ks h)) i
+
+-- nor do two lists of which one follows the other share an element
+pub apart_from_rest : {K : Type 0} (e : K → K → Bool) (xs ys : List K) (x y : K) → IsDistinct e (xs ++ ys) → Contains xs x → Contains ys y → e x y ≡ false
+apart_from_rest e [] ys x y h i j = absurd (omega (arith, i.1))
+apart_from_rest {K} e (z ∷ zs) ys x y h i j = elim (contains_cases z zs x i) [
+  | inl same ↦ subst (λ (k : K). e k y ≡ false) same (apart_from_head e z (zs ++ ys) y h (Contains-append_right zs ys y j))
+  | inr k ↦ apart_from_rest e zs ys x y (IsDistinct-tail e z (zs ++ ys) h) k j
+]
+
+-- what passes a test has no doubles either
+pub distinct_filter : {X K : Type 0} (e : K → K → Bool) (key : X → K) (test : X → Bool) (xs : List X) → IsDistinct e (map key xs) → IsDistinct e (map key (filter test xs))
+unfolding IsDistinct
+distinct_filter e key test [] h = tt
+distinct_filter {X} {K} e key test (x ∷ xs) h = go (test x) (distinct_filter e key test xs (IsDistinct-tail e (key x) (map key xs) h)) where
+  kept : (ys : List X) → AllByRecursion (λ k. e (key x) k ≡ false) (map key ys) → AllByRecursion (λ k. e (key x) k ≡ false) (map key (filter test ys))
+  kept [] a = tt
+  kept (y ∷ ys) a = by (test y) (kept ys a.1) where
+    by : (b : Bool) → AllByRecursion (λ k. e (key x) k ≡ false) (map key (filter test ys)) → AllByRecursion (λ k. e (key x) k ≡ false) (map key (cond b (y ∷ filter test ys) (filter test ys)))
+    by true r = (a.0, r)
+    by false r = r
+
+  go : (b : Bool) → IsDistinct e (map key (filter test xs)) → IsDistinct e (map key (cond b (x ∷ filter test xs) (filter test xs)))
+  go true r = IsDistinct-cons e (key x) (map key (filter test xs)) (kept xs (IsDistinct-head e (key x) (map key xs) h)) r
+  go false r = r

@@ -1,0 +1,79 @@
+-- The order of sequence is a strict order, total on different names.
+use Rattle.std.proofs.Common.{◌≡◌, ℕ, Bool, true, false, List, sym, ◌∙◌, ap, refl}
+use Rattle.std.specs.Bool.{Decides}
+use Rattle.std.specs.declared.cmp.Ordering.{Ordering}
+use Rattle.std.specs.declared.cmp.Ordering.TheVariants.{Less, Equal, Greater}
+use Rattle.std.specs.Ordering.{is_lt, is_eq, ordering_reverse, ordering_then, nat_cmp}
+use Rattle.std.specs.Cmp.{IsTotalOrder, IsStrictWeakOrder}
+use Rattle.std.specs.Cmp.Lexicographic.{texts_ties}
+use Rattle.std.proofs.lemmas.List.Sorted.{ranks_by}
+use Rattle.std.proofs.lemmas.Cmp.{nat_cmp_total, nat_list_cmp_total, nat_list_eq_equiv, on_total, then_total, tied_itself}
+use Rattle.std.proofs.lemmas.Bool.{false≢true}
+use Rattle.std.proofs.lemmas.Bool.Decides.{Decides-eqb}
+use Rattle.std.proofs.lemmas.Slice.Eq.{slice_eq-Decides}
+use Rattle.cdm_flight.specs.declared.key.Key.{Key}
+use Rattle.cdm_flight.specs.Names.{name_cmp, same_name}
+use Rattle.cdm_flight.specs.Order.{key_cmp, is_before}
+use Rattle.cdm_sequence.specs.Targets.{TargetRecord}
+
+names_decide : (m n : List ℕ) → Decides (same_name m n) (m ≡ n)
+names_decide m n = slice_eq-Decides Decides-eqb m n (same_name m n) refl
+
+-- names that are the same are equal
+pub same_is : (m n : List ℕ) → same_name m n ≡ true → m ≡ n
+same_is m n h = (names_decide m n).0 h
+
+pub is_same : (m n : List ℕ) → m ≡ n → same_name m n ≡ true
+is_same m n e = (names_decide m n).1 e
+
+pub same_itself : (n : List ℕ) → same_name n n ≡ true
+same_itself n = is_same n n refl
+
+pub same_flips : (m n : List ℕ) → same_name m n ≡ same_name n m
+same_flips = nat_list_eq_equiv.symm
+
+less_from : (o : Ordering) → is_lt o ≡ true → o ≡ Less
+less_from Less h = refl
+less_from Equal h = absurd (false≢true h)
+less_from Greater h = absurd (false≢true h)
+
+-- names that tie in their order are equal
+pub tied_names : (m n : List ℕ) → name_cmp m n ≡ Equal → m ≡ n
+tied_names m n e = same_is m n (texts_ties m n ∙ ap is_eq e)
+
+pub key_total : IsTotalOrder key_cmp
+key_total = then_total (on_total (λ k. k.priority) nat_cmp_total) (then_total (on_total (λ k. k.tobt) nat_cmp_total) (on_total (λ k. k.name) nat_list_cmp_total))
+
+pub before_itself : (k : Key) → is_before k k ≡ false
+unfolding is_before
+before_itself k = ap is_lt (tied_itself key_total k)
+
+pub before_trans : (a b c : Key) → is_before a b ≡ true → is_before b c ≡ true → is_before a c ≡ true
+unfolding is_before
+before_trans a b c p q = ap is_lt (key_total.trans a b c (less_from _ p) (less_from _ q))
+
+-- where two orders tie one after the other, the last ties
+pub last_ties : (o u : Ordering) → ordering_then o u ≡ Equal → u ≡ Equal
+last_ties Less u h = cc
+last_ties Equal u h = h
+last_ties Greater u h = cc
+
+-- of two flights with different names one comes before the other
+pub before_or_after : (a b : Key) → is_before b a ≡ false → same_name a.name b.name ≡ false → is_before a b ≡ true
+unfolding is_before
+before_or_after a b h n = go (key_cmp a b) refl where
+  go : (o : Ordering) → key_cmp a b ≡ o → is_lt o ≡ true
+  go Less e = refl
+  go Equal e =
+      let tied = tied_names a.name b.name (last_ties (nat_cmp a.tobt b.tobt) _ (last_ties (nat_cmp a.priority b.priority) _ e)) in
+      absurd (false≢true (sym n ∙ is_same a.name b.name tied))
+  go Greater e = absurd (false≢true (sym h ∙ ap is_lt (key_total.antisymm b a ∙ ap ordering_reverse e)))
+
+pub not_back : (a b : Key) → is_before a b ≡ true → is_before b a ≡ false
+not_back a b h = go (is_before b a) refl where
+  go : (v : Bool) → is_before b a ≡ v → v ≡ false
+  go false e = refl
+  go true e = absurd (false≢true (sym (before_itself a) ∙ before_trans a b a h e))
+
+pub keys_weak : IsStrictWeakOrder (λ (x y : TargetRecord). is_lt (key_cmp x.key y.key))
+keys_weak = ranks_by key_total (λ t. t.key)

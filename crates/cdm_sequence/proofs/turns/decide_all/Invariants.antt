@@ -1,0 +1,13 @@
+use Rattle.std.proofs.Common.{◌≡◌, ◌≤◌, ◌+◌, ◌++◌, take, map, length}
+use Rattle.std.specs.List.{filter_map}
+use Rattle.cdm_sequence.specs.Turns.{placed_at, AreDecided}
+use Rattle.cdm_sequence.proofs.turns.decide_all.Given as goal
+
+abbrev pub invariant-loop-target : goal.invariant-loop-target
+invariant-loop-target l = record {
+  cell : l.load.cell ≡ l.runway.cell;
+  room : length l.load.taken ≤ length l.fn.load.taken + l.target-index;
+  targets : map (λ d. d.target) l.decisions.items ≡ take l.target-index l.targets;
+  taken : l.load.taken ≡ l.fn.load.taken ++ filter_map (λ d. placed_at d.outcome) l.decisions.items;
+  decided : AreDecided l.runway l.fn.load.taken l.decisions.items;
+}

@@ -1,0 +1,6 @@
+use Rattle.std.proofs.Common.{rules}
+use Rattle.std.proofs.lemmas.List.Sorted.{answers_always}
+use Rattle.cdm_sequence.proofs.turns.in_order.Goals as goal
+
+pub returns-clause-sorted : goal.returns-clause-sorted
+returns-clause-sorted c = c.sort_unstable_by_key.ensures.sorted (λ t. t.key) (answers_always _ _ _ (λ f a r q k. search rules))

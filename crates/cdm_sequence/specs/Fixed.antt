@@ -1,0 +1,54 @@
+-- Flights that have left their stands.
+use Rattle.std.specs.Prelude.{◌≡◌, ℕ, ◌+◌, ◌-◌, ◌<◌, List, Option, Some, None, map, IsTrue}
+use Rattle.cdm_flight.specs.Record.{Record}
+use Rattle.cdm_flight.specs.declared.flight.Status.{Status}
+use Rattle.cdm_flight.specs.declared.flight.Status.TheVariants as status
+use Rattle.cdm_sequence.specs.Slots.{has_left}
+use Rattle.cdm_sequence.specs.declared.slot.Mark.{Mark}
+use Rattle.cdm_sequence.specs.declared.slot.Mark.TheVariants.{OffBlock, Airborne}
+
+-- a flight whose take-off is fixed
+pub record FixedRecord : Type 0 where
+  pub name : List ℕ
+  pub tobt : Option ℕ
+  pub ctot : Option ℕ
+  pub exot : ℕ
+  pub off : ℕ
+  pub takeoff : ℕ
+  pub mark : Mark
+
+-- what each fixed flight keeps: it has left, and takes off its taxi-out time later
+pub record KeepsTakeoff (exot off takeoff : ℕ) (mark : Mark) : Type 0 where
+  pub taxi : takeoff ≡ off + exot
+  pub taxi_range : exot < 2880
+  pub left : IsTrue (has_left mark)
+
+-- off-block it takes off its fixed taxi-out time after the AOBT; airborne it took off at the ATOT
+abbrev pub fixed_by : Record → Status → Option FixedRecord
+fixed_by f (status.OffBlock aobt exot) = Some (record {
+  name = f.name;
+  tobt = f.tobt;
+  ctot = f.ctot;
+  exot = exot;
+  off = aobt;
+  takeoff = aobt + exot;
+  mark = OffBlock;
+})
+fixed_by f (status.Airborne aobt atot) = Some (record {
+  name = f.name;
+  tobt = f.tobt;
+  ctot = f.ctot;
+  exot = atot - aobt;
+  off = aobt;
+  takeoff = atot;
+  mark = Airborne;
+})
+fixed_by f _ = None
+
+-- a flight that has left its stand, as the sequence takes it
+unfoldable pub fixed_flight : Record → Option FixedRecord
+fixed_flight f = fixed_by f f.status
+
+-- the minutes at which fixed flights take off
+abbrev pub takeoffs : List FixedRecord → List ℕ
+takeoffs fixed = map (λ x. x.takeoff) fixed

@@ -1,0 +1,82 @@
+-- One runway's sequence: its plan with all that is shown of each flight.
+use Rattle.std.specs.Prelude.{◌≡◌, ℕ, ◌-◌, [], ◌∷◌, ◌++◌, List, Some, None, is_none, All, Contains, IsPermutation, IsSorted, filter, map, if◌then◌else◌}
+use Rattle.std.specs.List.{filter_map}
+use Rattle.std.specs.Option.{option_map}
+use Rattle.cdm_flight.specs.Names.{same_name}
+use Rattle.cdm_runway.specs.Rules.{RunwayRules}
+use Rattle.cdm_runway.specs.Room.{AllClosed, AllFull}
+use Rattle.cdm_sequence.specs.Fixed.{FixedRecord, takeoffs}
+use Rattle.cdm_sequence.specs.Plan.{Placing, taken_before, IsPlan}
+use Rattle.cdm_sequence.specs.Slots.{SlotRecord, RunwayPlanRecord, slot_cmp, blocked_cmp}
+use Rattle.cdm_sequence.specs.Targets.{TargetRecord}
+use Rattle.cdm_sequence.specs.declared.rule.Rule.{Rule}
+use Rattle.cdm_sequence.specs.declared.rule.Rule.TheVariants.{Closure, Rate}
+use Rattle.cdm_sequence.specs.declared.slot.BlockedFlight.{BlockedFlight}
+use Rattle.cdm_sequence.specs.declared.slot.Mark.TheVariants.{Planned}
+
+-- a planned flight's slot at its take-off
+abbrev pub planned_slot : TargetRecord → ℕ → SlotRecord
+planned_slot f ttot = record {
+  name = f.key.name;
+  tobt = Some f.key.tobt;
+  exot = f.exot;
+  ctot = f.ctot;
+  tsat = ttot - f.exot;
+  ttot = ttot;
+  mark = Planned;
+  delay = Some (ttot - f.exot - f.key.tobt);
+}
+
+-- a fixed flight's slot
+abbrev pub fixed_slot : FixedRecord → SlotRecord
+fixed_slot x = record {
+  name = x.name;
+  tobt = x.tobt;
+  exot = x.exot;
+  ctot = x.ctot;
+  tsat = x.off;
+  ttot = x.takeoff;
+  mark = x.mark;
+  delay = None;
+}
+
+-- the minute that slots give a flight
+abbrev pub minute_in : List SlotRecord → Placing
+minute_in [] f = None
+minute_in (s ∷ ss) f = if same_name s.name f.key.name then Some s.ttot else minute_in ss f
+
+-- the slots of the fixed flights, and of the targets that have a minute
+abbrev pub slots_by : Placing → List FixedRecord → List TargetRecord → List SlotRecord
+slots_by placing fixed targets = map fixed_slot fixed ++ filter_map (λ f. option_map (planned_slot f) (placing f)) targets
+
+-- the names of the targets that have no minute
+abbrev pub names_left : Placing → List TargetRecord → List (List ℕ)
+names_left placing targets = map (λ f. f.key.name) (filter (λ f. is_none (placing f)) targets)
+
+-- the names of all flights
+abbrev pub flight_names : List FixedRecord → List TargetRecord → List (List ℕ)
+flight_names fixed targets = map (λ x. x.name) fixed ++ map (λ f. f.key.name) targets
+
+-- the first rule that leaves the flight no minute: the runway is closed at all minutes of its
+-- window, or it is open at some, and all of those lie in full cells
+abbrev pub Blocks : RunwayRules → List ℕ → TargetRecord → Rule → Type 0
+Blocks r taken f Closure = AllClosed r f.window.from f.window.to
+Blocks r taken f Rate = AllFull r taken f.window.from f.window.to
+Blocks r taken f rule = ⊥
+
+-- the blocked flight is one of the targets, and has the rule that blocks it
+abbrev pub IsRightlyBlocked : RunwayRules → List ℕ → List TargetRecord → Placing → BlockedFlight → Type 0
+IsRightlyBlocked r fixed targets placing b =
+    (f : TargetRecord) × Contains targets f × (b.name ≡ f.key.name) × Blocks r (taken_before fixed targets placing f) f b.rule
+
+-- the sequence of a runway: each target has the earliest minute that the fixed flights and the
+-- targets before it leave; it shows the fixed flights and the targets with a minute by take-off and
+-- name, and the other targets with the rules that block them by name
+pub record IsSequence (r : RunwayRules) (fixed : List FixedRecord) (targets : List TargetRecord) (plan : RunwayPlanRecord) : Type 0 where
+  pub runway : plan.runway ≡ r.name
+  pub minutes : IsPlan r (takeoffs fixed) targets (minute_in plan.slots)
+  pub slots : IsPermutation (slots_by (minute_in plan.slots) fixed targets) plan.slots
+  pub slot_order : IsSorted slot_cmp plan.slots
+  pub blocked : IsPermutation (names_left (minute_in plan.slots) targets) (map (λ b. b.name) plan.blocked)
+  pub rules : All (IsRightlyBlocked r (takeoffs fixed) targets (minute_in plan.slots)) plan.blocked
+  pub blocked_order : IsSorted blocked_cmp plan.blocked

@@ -1,0 +1,74 @@
+-- What contracts see of slots and plans, and their orders.
+use Rattle.std.specs.Prelude.{◌≡◌, ℕ, ◌+◌, ◌<◌, ◌≤◌, Bool, true, false, IsTrue, List, length, Option, Some, None, sum_by, IsSorted}
+use Rattle.std.specs.declared.cmp.Ordering.{Ordering}
+use Rattle.std.specs.Ordering.{nat_cmp, ordering_then}
+use Rattle.std.specs.Option.{ForSome}
+use Rattle.cdm_flight.specs.Names.{name_cmp}
+use Rattle.cdm_sequence.specs.declared.slot.BlockedFlight.{BlockedFlight}
+use Rattle.cdm_sequence.specs.declared.slot.Mark.{Mark}
+use Rattle.cdm_sequence.specs.declared.slot.Mark.TheVariants.{Planned}
+
+-- the columns of a flight's line
+pub record SlotRecord : Type 0 where
+  pub name : List ℕ
+  pub tobt : Option ℕ
+  pub exot : ℕ
+  pub ctot : Option ℕ
+  pub tsat : ℕ
+  pub ttot : ℕ
+  pub mark : Mark
+  pub delay : Option ℕ
+
+-- off-block or airborne
+abbrev pub has_left : Mark → Bool
+has_left Planned = false
+has_left mark = true
+
+-- a planned flight's delay, from its TOBT to its TSAT; flights that have left have none
+abbrev pub IsDelay : Option ℕ → Mark → Option ℕ → ℕ → Type 0
+IsDelay None mark tobt tsat = IsTrue (has_left mark)
+IsDelay (Some delay) Planned (Some tobt) tsat = tsat ≡ tobt + delay
+IsDelay (Some delay) mark tobt tsat = ⊥
+
+-- what each slot keeps: the take-off is the taxi-out time after the start-up
+pub record KeepsTimes (tobt : Option ℕ) (exot tsat ttot : ℕ) (mark : Mark) (delay : Option ℕ) : Type 0 where
+  pub taxi : ttot ≡ tsat + exot
+  pub taxi_range : exot < 2880
+  pub delayed : IsDelay delay mark tobt tsat
+  pub delay_range : ForSome delay (λ d. d < 2880)
+
+-- one runway's plan
+pub record RunwayPlanRecord : Type 0 where
+  pub runway : List ℕ
+  pub slots : List SlotRecord
+  pub blocked : List BlockedFlight
+
+-- the plan of all runways, and the minute that it is now
+pub record PlanRecord : Type 0 where
+  pub clock : ℕ
+  pub runways : List RunwayPlanRecord
+  pub blocked : List BlockedFlight
+
+-- by take-off, then by name
+abbrev pub slot_cmp : SlotRecord → SlotRecord → Ordering
+slot_cmp a b = ordering_then (nat_cmp a.ttot b.ttot) (name_cmp a.name b.name)
+
+-- by name
+abbrev pub blocked_cmp : BlockedFlight → BlockedFlight → Ordering
+blocked_cmp a b = name_cmp a.name b.name
+
+-- by name
+abbrev pub runway_cmp : RunwayPlanRecord → RunwayPlanRecord → Ordering
+runway_cmp a b = name_cmp a.runway b.runway
+
+-- what each plan of a runway keeps: its orders, and at most 2,000 flights
+pub record KeepsRunwayOrder (slots : List SlotRecord) (blocked : List BlockedFlight) : Type 0 where
+  pub slot_order : IsSorted slot_cmp slots
+  pub blocked_order : IsSorted blocked_cmp blocked
+  pub few : length slots + length blocked ≤ 2000
+
+-- what each plan of a day keeps: its orders, and at most 2,000 flights
+pub record KeepsPlanOrder (runways : List RunwayPlanRecord) (blocked : List BlockedFlight) : Type 0 where
+  pub runway_order : IsSorted runway_cmp runways
+  pub blocked_order : IsSorted blocked_cmp blocked
+  pub few : sum_by (λ r. length r.slots) runways + length blocked ≤ 2000

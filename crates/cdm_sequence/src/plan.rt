@@ -1,0 +1,87 @@
+//! The plans of a runway and of a day.
+ghost use Rattle.std.specs.Prelude.{◌≡◌, IfOk};
+
+use crate::{BlockedFlight, Slot};
+use cdm_flight::{Listed, RunwayName};
+use cdm_time::Minute;
+use std::alloc::{AllocError, Global};
+use std::marker::Model;
+
+/// The plan of one runway: its slots by TTOT and then by name, and its blocked flights by name. It
+/// has at most 2,000 flights.
+#[derive(Debug, Drop)]
+pub struct RunwayPlan {
+    pub runway: RunwayName,
+    pub slots: Listed<Slot>,
+    pub blocked: Listed<BlockedFlight>,
+}
+
+impl Model for RunwayPlan {
+    ghost use Rattle.cdm_sequence.specs.Slots.{RunwayPlanRecord, KeepsRunwayOrder};
+
+    ghost Value = { RunwayPlanRecord };
+
+    ghost view = { λ p. record { runway = p.runway; slots = p.slots; blocked = p.blocked } };
+
+    ghost invariant = { λ p. KeepsRunwayOrder p.slots p.blocked };
+}
+
+impl RunwayPlan {
+    /// The same plan once more.
+    pub fn copy(&self, alloc: Global) -> Result<RunwayPlan, AllocError>
+        ensures { IfOk result (λ p. p ≡ self.now) }
+    {
+        let slots = Vec::from_slice(alloc, self.slots.as_slice())?;
+        let blocked = Vec::from_slice(alloc, self.blocked.as_slice())?;
+        Ok(RunwayPlan {
+            runway: self.runway,
+            slots: Listed::new(slots),
+            blocked: Listed::new(blocked),
+        })
+    }
+}
+
+/// The plan of a day: the minute that it is now, the plans of its runways by their names, and all
+/// blocked flights by name. It has at most 2,000 flights.
+#[derive(Debug, Drop)]
+pub struct Plan {
+    pub now: Minute,
+    pub runways: Listed<RunwayPlan>,
+    pub blocked: Listed<BlockedFlight>,
+}
+
+impl Model for Plan {
+    ghost use Rattle.cdm_sequence.specs.Slots.{PlanRecord, KeepsPlanOrder};
+
+    ghost Value = { PlanRecord };
+
+    ghost view = { λ p. record { clock = p.now; runways = p.runways; blocked = p.blocked } };
+
+    ghost invariant = { λ p. KeepsPlanOrder p.runways p.blocked };
+}
+
+impl Plan {
+    /// The same plan once more.
+    pub fn copy(&self, alloc: Global) -> Result<Plan, AllocError>
+        ensures { IfOk result (λ p. p ≡ self.entry.now) }
+    {
+        let runways = copies(alloc, self.runways.as_slice())?;
+        let blocked = Vec::from_slice(alloc, self.blocked.as_slice())?;
+        Ok(Plan {
+            now: self.now,
+            runways: Listed::new(runways),
+            blocked: Listed::new(blocked),
+        })
+    }
+}
+
+// The same plans once more.
+fn copies(alloc: Global, plans: &[RunwayPlan]) -> Result<Vec<RunwayPlan>, AllocError>
+    ensures { IfOk result (λ v. v.items ≡ plans.now) }
+{
+    let mut copies = Vec::new(alloc);
+    for plan in plans {
+        copies.push(plan.copy(alloc)?)?;
+    }
+    Ok(copies)
+}

@@ -1,0 +1,115 @@
+//! One runway's sequence.
+ghost use Rattle.std.specs.Prelude.{◌≡◌, ℕ, ◌+◌, ◌≤◌, ◌++◌, length, map, All, IfOk, IsPermutation, IsSorted};
+ghost use Rattle.std.specs.List.{filter_map, IsDistinct};
+ghost use Rattle.cdm_flight.specs.Names.{same_name};
+ghost use Rattle.cdm_sequence.specs.Fixed.{takeoffs};
+ghost use Rattle.cdm_sequence.specs.Plan.{Placing, IsAllowed, IsEarlier};
+ghost use Rattle.cdm_sequence.specs.Sequence.{IsSequence, fixed_slot, flight_names, minute_in};
+ghost use Rattle.cdm_sequence.specs.Slots.{slot_cmp, blocked_cmp};
+ghost use Rattle.cdm_sequence.specs.Turns.{slot_from, blocked_from};
+
+use crate::decision::Decision;
+use crate::list::push_last;
+use crate::turns::{decide_all, in_order, load_of};
+use crate::{BlockedFlight, Fixed, RunwayPlan, Slot, Target};
+use cdm_flight::{Listed, RunwayName};
+use cdm_runway::Runway;
+use std::alloc::{AllocError, Global};
+
+// The slots of the fixed flights.
+fn fixed_slots(alloc: Global, fixed: &[Fixed]) -> Result<Vec<Slot>, AllocError>
+    ensures { IfOk result (λ v. v.items ≡ map fixed_slot fixed.now) }
+{
+    fixed.iter().map(|flight| flight.slot()).collect(alloc)
+}
+
+// The slots of the fixed flights and of the decisions that gave a minute.
+fn slots_of(alloc: Global, fixed: &[Fixed], decisions: &[Decision]) -> Result<Vec<Slot>, AllocError>
+    ensures same { IfOk result (λ v. IsPermutation
+        (map fixed_slot fixed.now ++ filter_map (λ d. slot_from d.target d.outcome) decisions.now) v.items) }
+    ensures sorted { IfOk result (λ v. IsSorted slot_cmp v.items) }
+{
+    let mut slots = fixed_slots(alloc, fixed)?;
+    for decision in decisions {
+        if let Ok(minute) = decision.outcome {
+            push_last(&mut slots, decision.target.slot(minute))?;
+        }
+    }
+    slots.sort_unstable_by_key(|slot| (slot.ttot, slot.name));
+    Ok(slots)
+}
+
+// The flights of the decisions that gave no minute.
+fn blocked_of(alloc: Global, decisions: &[Decision]) -> Result<Vec<BlockedFlight>, AllocError>
+    ensures same { IfOk result (λ v. IsPermutation (filter_map (λ d. blocked_from d.target d.outcome) decisions.now) v.items) }
+    ensures sorted { IfOk result (λ v. IsSorted blocked_cmp v.items) }
+{
+    let mut blocked = Vec::new(alloc);
+    for decision in decisions {
+        if let Err(reason) = decision.outcome {
+            let flight = BlockedFlight {
+                name: decision.target.key.name,
+                rule: reason.into(),
+            };
+            push_last(&mut blocked, flight)?;
+        }
+    }
+    blocked.sort_unstable_by_key(|flight| flight.name);
+    Ok(blocked)
+}
+
+// What is shown of the fixed flights and the decisions.
+fn shown(
+    alloc: Global,
+    runway: RunwayName,
+    fixed: &[Fixed],
+    decisions: &[Decision],
+) -> Result<RunwayPlan, AllocError>
+    requires { length fixed.now + length decisions.now ≤ 2000 }
+    ensures runway { IfOk result (λ plan. plan.runway ≡ runway) }
+    ensures slots { IfOk result (λ plan. IsPermutation
+        (map fixed_slot fixed.now ++ filter_map (λ d. slot_from d.target d.outcome) decisions.now) plan.slots) }
+    ensures slot_order { IfOk result (λ plan. IsSorted slot_cmp plan.slots) }
+    ensures blocked { IfOk result (λ plan. IsPermutation
+        (filter_map (λ d. blocked_from d.target d.outcome) decisions.now) plan.blocked) }
+    ensures blocked_order { IfOk result (λ plan. IsSorted blocked_cmp plan.blocked) }
+{
+    let slots = slots_of(alloc, fixed, decisions)?;
+    let blocked = blocked_of(alloc, decisions)?;
+    Ok(RunwayPlan {
+        runway,
+        slots: Listed::new(slots),
+        blocked: Listed::new(blocked),
+    })
+}
+
+/// The sequence of one runway: each planned flight, in the order of priority, TOBT and name, gets
+/// the earliest minute of its window at which the runway is open and whose cell has room, after
+/// the fixed flights and the flights before it. The others are blocked. The targets may come in
+/// any order.
+pub fn sequence(
+    alloc: Global,
+    runway: &Runway,
+    fixed: &[Fixed],
+    targets: &[Target],
+) -> Result<RunwayPlan, AllocError>
+    requires runway { All (λ f. f.runway ≡ runway.now.name) targets.now }
+    requires names { IsDistinct same_name (flight_names fixed.now targets.now) }
+    requires few { length fixed.now + length targets.now ≤ 2000 }
+    ensures sequence { IfOk result (λ plan. IsSequence runway.now fixed.now targets.now plan) }
+
+    // Each flight stands once, among the slots or among the blocked flights.
+    ensures each_once { IfOk result (λ plan. IsPermutation (flight_names fixed.now targets.now)
+        (map (λ s. s.name) plan.slots ++ map (λ b. b.name) plan.blocked)) }
+
+    // The plan is allowed, and no allowed placing is earlier.
+    ensures allowed { IfOk result (λ plan. IsAllowed runway.now (takeoffs fixed.now) targets.now (minute_in plan.slots)) }
+    ensures first { IfOk result (λ plan. (other : Placing) → IsAllowed runway.now (takeoffs fixed.now) targets.now other →
+        IsEarlier targets.now other (minute_in plan.slots) → ⊥) }
+{
+    let ordered = in_order(alloc, targets)?;
+    let load = load_of(runway, fixed);
+    let decisions = decide_all(alloc, runway, load, &ordered)?;
+    let plan = shown(alloc, runway.name(), fixed, &decisions)?;
+    Ok(plan)
+}

@@ -1,0 +1,72 @@
+//! The targets one by one, in the order of sequence.
+ghost use Rattle.std.specs.Prelude.{◌≡◌, ◌+◌, ◌<◌, ◌≤◌, ◌++◌, length, map, IfOk, IsPermutation, IsSortedByKey};
+ghost use Rattle.std.specs.Option.{option_to_list};
+ghost use Rattle.cdm_flight.specs.Order.{key_cmp};
+ghost use Rattle.cdm_sequence.specs.Fixed.{takeoffs};
+ghost use Rattle.cdm_sequence.specs.Turns.{placed_at, IsDecided, AreDecided};
+
+use crate::decision::Decision;
+use crate::list::push_last;
+use crate::{Fixed, Target};
+use cdm_runway::{Runway, RunwayLoad};
+use std::alloc::{AllocError, Global};
+
+/// The targets in the order of sequence.
+pub(crate) fn in_order(alloc: Global, targets: &[Target]) -> Result<Vec<Target>, AllocError>
+    ensures same { IfOk result (λ v. IsPermutation targets.now v.items) }
+    ensures sorted { IfOk result (λ v. IsSortedByKey (λ t. t.key) key_cmp v.items) }
+{
+    let mut sorted = Vec::from_slice(alloc, targets)?;
+    sorted.sort_unstable_by_key(|target| target.key);
+    Ok(sorted)
+}
+
+/// A load of the runway that has taken the minutes of the fixed flights.
+pub(crate) fn load_of(runway: &Runway, fixed: &[Fixed]) -> RunwayLoad
+    requires { length fixed.now ≤ 2000 }
+    ensures { result ≡ record { cell = runway.now.cell; taken = takeoffs fixed.now } }
+{
+    let mut load = RunwayLoad::empty(runway);
+    for flight in fixed {
+        load.take(runway, flight.takeoff);
+    }
+    load
+}
+
+// One flight's turn.
+fn decide(runway: &Runway, load: &mut RunwayLoad, target: &Target) -> Decision
+    requires cell { load.old.cell ≡ runway.now.cell }
+    requires room { length load.old.taken < 2000 }
+    ensures target { result.target ≡ target.now }
+    ensures decided { IsDecided runway.now load.old.taken result }
+    ensures taken { load.new ≡ record load.old { taken = load.old.taken ++ option_to_list (placed_at result.outcome) } }
+{
+    let outcome = load.earliest(runway, target.window);
+    if let Ok(minute) = outcome {
+        load.take(runway, minute);
+    }
+    Decision {
+        target: *target,
+        outcome,
+    }
+}
+
+/// Each flight's turn, in the order of the list.
+pub(crate) fn decide_all(
+    alloc: Global,
+    runway: &Runway,
+    mut load: RunwayLoad,
+    targets: &[Target],
+) -> Result<Vec<Decision>, AllocError>
+    requires cell { load.cell ≡ runway.now.cell }
+    requires room { length load.taken + length targets.now ≤ 2000 }
+    ensures targets { IfOk result (λ ds. map (λ d. d.target) ds.items ≡ targets.now) }
+    ensures decided { IfOk result (λ ds. AreDecided runway.now load.taken ds.items) }
+{
+    let mut decisions = Vec::new(alloc);
+    for target in targets {
+        let decision = decide(runway, &mut load, target);
+        push_last(&mut decisions, decision)?;
+    }
+    Ok(decisions)
+}
