@@ -1,0 +1,19 @@
+use Rattle.std.proofs.Common.{◌≡◌, ◌+◌, ◌∷◌, drop, sym, ◌∙◌, subst, add-one, drop-cons}
+use Rattle.std.proofs.Math.ListN.{drop_of_length-le}
+use Rattle.cdm_day.proofs.BatchLemmas.{SoFar, so_far_more, so_far_day, so_far_replies}
+use Rattle.cdm_day.proofs.tables.Tables.apply.Goals as goal
+
+pub loop-role-preserved : goal.loop-role-preserved
+loop-role-preserved c =
+    let batch = c.args.batch.now in
+    let k = c.loop-role.role-index in
+    let p = c.loop-role-item.result in
+    let rest : drop k batch ≡ p ∷ drop (k + 1) batch = drop-cons batch k p c.loop-role-test.true ∙ (λ i. sym c.loop-role-item.is i ∷ drop (sym (add-one k) i) batch) in
+    let so_far : SoFar c.args.self batch c.loop-role.tables c.loop-role.replies.items (p ∷ drop (k + 1) batch) = subst (SoFar c.args.self batch c.loop-role.tables c.loop-role.replies.items) rest c.loop-role.invariant in
+    rw c.in_ok-push.ensures.items (so_far_more c.args.self batch c.loop-role.tables c.in_ok-next.next c.loop-role.replies.items p (drop (k + 1) batch) c.in_ok-next.reply so_far c.in_ok-next.ensures.tables c.in_ok-next.ensures.reply)
+
+pub returns-clause-tables : goal.returns-clause-tables
+returns-clause-tables c = so_far_day c.args.self c.args.batch.now c.loop-role.tables c.loop-role.replies.items _ c.loop-role.invariant (drop_of_length-le c.args.batch.now c.loop-role-test.false)
+
+pub returns-clause-replies : goal.returns-clause-replies
+returns-clause-replies c = so_far_replies c.args.self c.args.batch.now c.loop-role.tables c.loop-role.replies.items _ c.loop-role.invariant (drop_of_length-le c.args.batch.now c.loop-role-test.false)
