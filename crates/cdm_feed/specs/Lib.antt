@@ -1,3 +1,11 @@
 pub mod Device
 pub mod Input
 pub mod Records
+pub mod Roles
+pub mod Kinds
+pub mod Fields
+pub mod Parsing
+pub mod AirportRecords
+pub mod FileFaults
+pub mod Files
+pub mod AirportFile

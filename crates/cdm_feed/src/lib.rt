@@ -1,12 +1,24 @@
-//! Reads and writes bytes: whole inputs, whole texts, and the records of an input.
+//! Reads and writes bytes: whole inputs and texts, the records of a feed and of an airport file, and
+//! what their fields spell.
 #![tactic(auto)]
 
+mod airport;
+mod airport_file;
 mod device;
+mod feed;
+mod field;
+mod file;
 mod input;
+mod kind;
 mod output;
+mod parsing;
 mod records;
+mod role;
 
+pub use airport_file::read_airport;
 pub use device::Device;
+pub use feed::read_feed;
+pub use file::FileFault;
 pub use input::{INPUT_LIMIT, InputFault, read_input};
 pub use output::{WriteFault, write_text};
 

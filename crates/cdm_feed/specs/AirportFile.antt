@@ -1,0 +1,50 @@
+-- The airport that a file says.
+use Rattle.std.specs.Prelude.{ℕ, List, [], Option, None, Some, Result, Ok, Err}
+use Rattle.std.specs.FinMap as map
+use Rattle.cdm_flight.specs.declared.word.RefusalWord.{RefusalWord}
+use Rattle.cdm_flight.specs.declared.word.RefusalWord.TheVariants as word
+use Rattle.cdm_flight.specs.Journal.{AirportRows}
+use Rattle.cdm_day.specs.Airport.{runway_fault, taxi_fault, with_runway, with_taxi}
+use Rattle.cdm_day.specs.declared.airport.AirportFault.{AirportFault}
+use Rattle.cdm_day.specs.declared.airport.AirportFault.TheVariants as fault
+use Rattle.cdm_feed.specs.AirportRecords.{airport_record_of}
+use Rattle.cdm_feed.specs.Files.{after_records}
+use Rattle.cdm_feed.specs.Records.{records_of}
+use Rattle.cdm_feed.specs.declared.airport.AirportRecord.{AirportRecord}
+use Rattle.cdm_feed.specs.declared.airport.AirportRecord.TheVariants.{Day, Runway, Taxi}
+
+-- a row that can't be added to the airport is refused by the word of its fault
+abbrev pub unless : Option AirportFault → AirportRows → Result (Option AirportRows) RefusalWord
+unless None g = Ok (Some g)
+unless (Some fault.Unknown) g = Err word.Unknown
+unless (Some fault.Exists) g = Err word.Exists
+unless (Some fault.Full) g = Err word.Full
+unless (Some fault.Memory) g = Err word.Full
+
+-- the airport after one more record, where there is none before the first; or the word that refuses
+-- the record: UNKNOWN, EXISTS, ORDER or FULL, the first that holds
+unfoldable pub with_record : Option AirportRows → AirportRecord → Result (Option AirportRows) RefusalWord
+with_record None (Day day) = Ok (Some (record { day = day; runways = []; taxi = map.empty }))
+with_record None (Runway r cell cap) = Err word.Order
+with_record None (Taxi place r minutes) = Err word.Unknown
+with_record (Some g) (Day day) = Err word.Order
+with_record (Some g) (Runway r cell cap) = unless (runway_fault g r) (with_runway g r cell cap)
+with_record (Some g) (Taxi place r minutes) = unless (taxi_fault g place r) (with_taxi g place r minutes)
+
+-- the airport after one more record of the file, as its fields spell it
+unfoldable pub airport_after : Option AirportRows → List (List ℕ) → Result (Option AirportRows) RefusalWord
+airport_after g fields = by (airport_record_of fields)
+  where
+    by : Result AirportRecord RefusalWord → Result (Option AirportRows) RefusalWord
+    by (Ok said) = with_record g said
+    by (Err word) = Err word
+
+-- a file without records has no DAY
+abbrev pub begun : Result (Option AirportRows) (ℕ × RefusalWord) → Result AirportRows (ℕ × RefusalWord)
+begun (Ok (Some g)) = Ok g
+begun (Ok None) = Err (1, word.Order)
+begun (Err fault) = Err fault
+
+-- the airport that a file says, or the number and the word of its first faulty record
+unfoldable pub airport_in : List ℕ → Result AirportRows (ℕ × RefusalWord)
+airport_in text = begun (after_records airport_after None 1 (records_of text))

@@ -1,0 +1,21 @@
+-- Faults of records and of files.
+use Rattle.std.specs.Prelude.{ℕ}
+use Rattle.cdm_day.specs.declared.airport.AirportFault.{AirportFault}
+use Rattle.cdm_day.specs.declared.airport.AirportFault.TheVariants as airport
+use Rattle.cdm_flight.specs.declared.word.RefusalWord.TheVariants as word
+use Rattle.cdm_feed.specs.declared.file.FileFault.{FileFault}
+use Rattle.cdm_feed.specs.declared.file.FileFault.TheVariants as file
+use Rattle.cdm_feed.specs.declared.file.RecordFault.{RecordFault}
+use Rattle.cdm_feed.specs.declared.file.RecordFault.TheVariants as row
+
+-- the fault of a file whose first faulty record has this number
+abbrev pub fault_at : RecordFault → ℕ → FileFault
+fault_at (row.Refused word) number = file.Refused number word
+fault_at row.Memory number = file.Memory
+
+-- the fault of a record whose row can't be added to the airport
+abbrev pub row_fault : AirportFault → RecordFault
+row_fault airport.Unknown = row.Refused word.Unknown
+row_fault airport.Exists = row.Refused word.Exists
+row_fault airport.Full = row.Refused word.Full
+row_fault airport.Memory = row.Memory

@@ -1,0 +1,196 @@
+//! The fields of a record. Each has a form, else it is refused by Text, and may have a range, else it
+//! is refused by Range.
+ghost use Rattle.std.specs.Prelude.{◌≡◌, Ok, Err, if◌then◌else◌};
+ghost use Rattle.csv.specs.Records.{fields_of};
+ghost use Rattle.cdm_time.specs.Digits.{number_in};
+ghost use Rattle.cdm_flight.specs.declared.word.RefusalWord.TheVariants as word;
+ghost use Rattle.cdm_feed.specs.Fields.{all_four, all_three, both, bound_field, cap_field, cell_field, ctot_field, day_field, field, first_word, ice_field, ice_minutes, is_number, name_field, place_field, priority_field, taxi_field, time_field, word_of};
+
+use cdm_flight::{
+    Cap, CellLength, Ice, IceMinutes, Name, Place, Priority, RefusalWord, TaxiMinutes,
+};
+use cdm_time::{Bound, Day, Minute, TimeFault, number_of};
+use csv::ByteRecord;
+
+/// The field at a place, counted from 0. A field that the record hasn't is empty.
+pub(crate) fn field(row: &ByteRecord, place: usize) -> &[u8]
+    ensures { result.now ≡ field (fields_of row.now) place }
+{
+    row.get(place).unwrap_or(b"")
+}
+
+/// The name of a flight, a runway or a stand: 1 to `MOST` bytes of `A-Z0-9`.
+pub(crate) fn name_field<const MOST: usize>(text: &[u8]) -> Result<Name<MOST>, RefusalWord>
+    ensures { result ≡ name_field MOST text.now }
+{
+    Name::new(text).ok_or(RefusalWord::Text)
+}
+
+/// The place of a taxi time: the name of a stand, or `*` for the runway's default.
+pub(crate) fn place_field(text: &[u8]) -> Result<Place, RefusalWord>
+    ensures { result ≡ place_field text.now }
+{
+    if text == b"*".as_slice() {
+        return Ok(Place::Default);
+    }
+    Ok(Place::Stand(name_field(text)?))
+}
+
+// A number of 1 to 4 digits, with leading zeros or without.
+fn number_field(text: &[u8]) -> Result<u16, RefusalWord>
+    ensures { result ≡ (if is_number text.now then Ok (number_in text.now) else Err word.Text) }
+{
+    if text.is_empty() || text.len() > 4 {
+        return Err(RefusalWord::Text);
+    }
+    number_of(text).ok_or(RefusalWord::Text)
+}
+
+/// A priority, 0 to 9.
+pub(crate) fn priority_field(text: &[u8]) -> Result<Priority, RefusalWord>
+    ensures { result ≡ priority_field text.now }
+{
+    Priority::new(number_field(text)?).ok_or(RefusalWord::Range)
+}
+
+/// A capacity, 0 to 60.
+pub(crate) fn cap_field(text: &[u8]) -> Result<Cap, RefusalWord>
+    ensures { result ≡ cap_field text.now }
+{
+    Cap::new(number_field(text)?).ok_or(RefusalWord::Range)
+}
+
+/// The length of a runway's cells, a divisor of the hour.
+pub(crate) fn cell_field(text: &[u8]) -> Result<CellLength, RefusalWord>
+    ensures { result ≡ cell_field text.now }
+{
+    CellLength::new(number_field(text)?).ok_or(RefusalWord::Range)
+}
+
+/// A taxi time, 1 to 120 minutes.
+pub(crate) fn taxi_field(text: &[u8]) -> Result<TaxiMinutes, RefusalWord>
+    ensures { result ≡ taxi_field text.now }
+{
+    TaxiMinutes::new(number_field(text)?).ok_or(RefusalWord::Range)
+}
+
+// How long de-icing takes, 1 to 60 minutes.
+fn ice_minutes(text: &[u8]) -> Result<IceMinutes, RefusalWord>
+    ensures { result ≡ ice_minutes text.now }
+{
+    IceMinutes::new(number_field(text)?).ok_or(RefusalWord::Range)
+}
+
+/// A de-icing: NONE with 0 minutes, STAND or REMOTE with 1 to 60.
+#[tactic(auto, unfolding(crate::specs::Fields::ice_field))]
+pub(crate) fn ice_field(kind: &[u8], minutes: &[u8]) -> Result<Ice, RefusalWord>
+    ensures { result ≡ ice_field kind.now minutes.now }
+{
+    if kind == b"NONE".as_slice() {
+        if number_field(minutes)? == 0 {
+            Ok(Ice::NoIce)
+        } else {
+            Err(RefusalWord::Range)
+        }
+    } else if kind == b"STAND".as_slice() {
+        Ok(Ice::AtStand(ice_minutes(minutes)?))
+    } else if kind == b"REMOTE".as_slice() {
+        Ok(Ice::Remote(ice_minutes(minutes)?))
+    } else {
+        Err(RefusalWord::Text)
+    }
+}
+
+// The word that refuses a field whose time or date has this fault.
+fn word_of(fault: TimeFault) -> RefusalWord
+    ensures { result ≡ word_of fault }
+{
+    match fault {
+        TimeFault::Text => RefusalWord::Text,
+        TimeFault::Range => RefusalWord::Range,
+    }
+}
+
+/// A date of the form YYYY-MM-DD, of the years 2000 to 2099.
+pub(crate) fn day_field(text: &[u8]) -> Result<Day, RefusalWord>
+    ensures { result ≡ day_field text.now }
+{
+    Day::of_text(text).map_err(word_of)
+}
+
+/// A time of the form YYYY-MM-DDTHH:MMZ, a minute of the horizon.
+pub(crate) fn time_field(day: Day, text: &[u8]) -> Result<Minute, RefusalWord>
+    ensures { result ≡ time_field day text.now }
+{
+    day.minute_of(text).map_err(word_of)
+}
+
+/// The end of a window: as a time, and the end of the horizon too.
+pub(crate) fn bound_field(day: Day, text: &[u8]) -> Result<Bound, RefusalWord>
+    ensures { result ≡ bound_field day text.now }
+{
+    day.bound_of(text).map_err(word_of)
+}
+
+/// A CTOT: a time, or `-` for none any more.
+pub(crate) fn ctot_field(day: Day, text: &[u8]) -> Result<Option<Minute>, RefusalWord>
+    ensures { result ≡ ctot_field day text.now }
+{
+    if text == b"-".as_slice() {
+        return Ok(None);
+    }
+    Ok(Some(time_field(day, text)?))
+}
+
+// Of two words that refuse a record the one that is tested first.
+fn first_word(one: RefusalWord, other: RefusalWord) -> RefusalWord
+    ensures { result ≡ first_word one other }
+{
+    if one.number() <= other.number() {
+        one
+    } else {
+        other
+    }
+}
+
+/// Two values, or the first word that refuses one of them.
+#[tactic(auto, unfolding(crate::specs::Fields::both))]
+pub(crate) fn both<A: Drop, B: Drop>(
+    one: Result<A, RefusalWord>,
+    other: Result<B, RefusalWord>,
+) -> Result<(A, B), RefusalWord>
+    ensures { result ≡ both one other }
+{
+    match (one, other) {
+        (Ok(one), Ok(other)) => Ok((one, other)),
+        (Ok(_), Err(word)) | (Err(word), Ok(_)) => Err(word),
+        (Err(one), Err(other)) => Err(first_word(one, other)),
+    }
+}
+
+/// Three values, or the first word that refuses one of them.
+#[tactic(auto, unfolding(crate::specs::Fields::all_three))]
+pub(crate) fn all_three<A: Drop, B: Drop, C: Drop>(
+    one: Result<A, RefusalWord>,
+    two: Result<B, RefusalWord>,
+    three: Result<C, RefusalWord>,
+) -> Result<(A, B, C), RefusalWord>
+    ensures { result ≡ all_three one two three }
+{
+    let (one, (two, three)) = both(one, both(two, three))?;
+    Ok((one, two, three))
+}
+
+/// Four values, or the first word that refuses one of them.
+#[tactic(auto, unfolding(crate::specs::Fields::all_four))]
+pub(crate) fn all_four<A: Drop, B: Drop, C: Drop, D: Drop>(
+    one: Result<A, RefusalWord>,
+    two: Result<B, RefusalWord>,
+    three: Result<C, RefusalWord>,
+    four: Result<D, RefusalWord>,
+) -> Result<(A, B, C, D), RefusalWord>
+    ensures { result ≡ all_four one two three four }
+{
+    let (one, (two, three, four)) = both(one, all_three(two, three, four))?;
+    Ok((one, two, three, four))
+}
