@@ -1,6 +1,5 @@
 -- Windows of minutes.
 use Rattle.std.specs.Prelude.{ℕ, ◌+◌, Bool, ◌&&◌, nat_le, nat_lt}
-use Rattle.cdm_time.specs.declared.window.TheConstants.{TOLERANCE_AFTER, TOLERANCE_BEFORE}
 
 -- the minutes from one up to another, which is not among them
 pub record Interval : Type 0 where
@@ -13,4 +12,4 @@ has_minute i m = nat_le i.from m && nat_lt m i.to
 
 -- a take-off at this minute is within the CTOT tolerance, 5 minutes before the CTOT to 10 after it
 abbrev pub is_in_tolerance : ℕ → ℕ → Bool
-is_in_tolerance ctot m = nat_le ctot (m + TOLERANCE_BEFORE) && nat_le m (ctot + TOLERANCE_AFTER)
+is_in_tolerance ctot m = nat_le ctot (m + 5) && nat_le m (ctot + 10)
