@@ -41,7 +41,14 @@ fn add(alloc: Global, airport: Option<Airport>, said: AirportRecord) -> Result<A
             airport.add_runway(runway, cell, cap).map_err(row_fault)?;
             Ok(airport)
         }
-        (Some(mut airport), AirportRecord::Taxi { place, runway, minutes }) => {
+        (
+            Some(mut airport),
+            AirportRecord::Taxi {
+                place,
+                runway,
+                minutes,
+            },
+        ) => {
             airport.add_taxi(place, runway, minutes).map_err(row_fault)?;
             Ok(airport)
         }
