@@ -6,3 +6,5 @@ pub mod FlightLemmas
 pub mod TableLemmas
 pub mod WordLemmas
 pub mod BatchLemmas
+pub mod PlanningLemmas
+pub mod DayPlanLemmas

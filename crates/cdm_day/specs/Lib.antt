@@ -5,3 +5,6 @@ pub mod Replies
 pub mod Runways
 pub mod TaxiRows
 pub mod Tables
+pub mod Planning
+pub mod Aimed
+pub mod DayPlan

@@ -7,14 +7,17 @@ use crate::airport::Airport;
 use crate::reply::Reply;
 use crate::tables::Tables;
 use cdm_flight::{Role, Update};
+use cdm_sequence::Plan;
 use cdm_time::Day;
 use std::alloc::{AllocError, Global};
 use std::marker::Model;
 
-/// The state of a day: an airport and the accepted updates, in tables that tell what they say.
+/// The state of a day: an airport and the accepted updates, in tables that tell what they say, and the
+/// plan that follows from them. A contract sees the airport and the journal alone.
 #[derive(Drop)]
 pub struct DayState {
     tables: Tables,
+    plan: Plan,
 }
 
 impl Model for DayState {
@@ -26,10 +29,16 @@ impl Model for DayState {
 
     ghost coded = { Prim.hlevel (codes, airport_code) };
 
+    ghost use Rattle.cdm_day.specs.DayPlan.{IsDayPlan};
+
     ghost view = { λ s. s.tables };
+
+    ghost invariant = { λ s. IsDayPlan s.tables s.plan };
 }
 
 impl DayState {
+    ghost use Rattle.cdm_day.specs.DayPlan.{IsDayPlan};
+
     /// The day of an airport before its first update. Where there is no memory the airport comes
     /// back.
     pub fn new(alloc: Global, airport: Airport) -> Result<DayState, Airport>
@@ -37,11 +46,14 @@ impl DayState {
         ensures err { IfErr result (λ back. back ≡ airport) }
     {
         let tables = Tables::new(alloc, airport)?;
-        Ok(DayState { tables })
+        match tables.plan(alloc) {
+            Ok(plan) => Ok(DayState { tables, plan }),
+            Err(_) => Err(tables.into_airport()),
+        }
     }
 
     /// Judges each update of the batch in turn, and takes into the journal those that are not
-    /// refused. Where there is no memory nothing changes.
+    /// refused; then the plan is made anew. Where there is no memory nothing changes.
     pub fn apply(
         &mut self,
         alloc: Global,
@@ -55,8 +67,17 @@ impl DayState {
     {
         let tables = self.tables.copy(alloc)?;
         let (tables, replies) = tables.apply(alloc, batch)?;
-        self.tables = tables;
+        let plan = tables.plan(alloc)?;
+        *self = DayState { tables, plan };
         Ok(replies)
+    }
+
+    /// The plan of the day: each planned flight's slot or the rule that blocks it, after the flights
+    /// that have left their stands, as the journal says them.
+    pub fn plan(&self) -> &Plan
+        ensures { IsDayPlan self.now result.now }
+    {
+        &self.plan
     }
 
     /// The horizon's first day.
@@ -85,6 +106,7 @@ impl DayState {
         ensures { IfOk result (λ copy. copy ≡ self.now) }
     {
         let tables = self.tables.copy(alloc)?;
-        Ok(DayState { tables })
+        let plan = self.plan.copy(alloc)?;
+        Ok(DayState { tables, plan })
     }
 }

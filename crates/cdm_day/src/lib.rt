@@ -1,8 +1,10 @@
-//! The day of an airport: which updates are accepted, and what follows from them.
+//! The day of an airport: which updates are accepted, and the plan that follows from them.
 #![tactic(auto)]
 
+mod aimed;
 mod airport;
 mod day;
+mod planning;
 mod reply;
 mod tables;
 

@@ -4,6 +4,7 @@ ghost use Rattle.std.specs.Prelude.{◌≡◌, [], IfOk, IfErr};
 mod accept;
 mod batch;
 mod judge;
+mod plan;
 mod runways;
 
 use crate::airport::Airport;
@@ -71,6 +72,13 @@ impl Tables {
         ensures { result.now ≡ self.now.airport }
     {
         &self.airport
+    }
+
+    /// The airport, without the tables.
+    pub fn into_airport(self) -> Airport
+        ensures { result ≡ self.airport }
+    {
+        self.airport
     }
 
     /// The accepted updates, the oldest first.

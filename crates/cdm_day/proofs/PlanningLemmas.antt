@@ -1,0 +1,446 @@
+-- Each flight of a day stands once: as a fixed flight or a target of one runway, or blocked early.
+use Rattle.std.proofs.Common.{◌≡◌, ℕ, ◌+◌, ◌≤◌, ◌<◌, Bool, true, false, cond, not, ◌&&◌, ◌||◌, List, [], ◌∷◌, ◌++◌, Option, None, Some, refl, sym, ◌∙◌, ap, subst, arith, map, filter, length, sum_by}
+use Rattle.std.specs.Prelude.{is_some, if◌then◌else◌}
+use Rattle.std.specs.Option.{option_map, option_map_or}
+use Rattle.std.specs.List.{All, cons_option, filter_map, IsDistinct, AllByRecursion}
+use Rattle.std.specs.List.Sorted.{IsPermutation}
+use Rattle.std.proofs.lemmas.Bool.{false≢true}
+use Rattle.std.proofs.lemmas.List.Sorted.{IsPermutation-refl, IsPermutation-trans, IsPermutation-append_right, IsPermutation-middle, IsPermutation-map, IsPermutation-sym}
+use Rattle.std.proofs.lemmas.List.Sums.{sum_by-cons}
+use Rattle.std.proofs.lemmas.Map.Keys.{IsDistinct-IsPermutation, IsDistinct-cons, IsDistinct-head, IsDistinct-tail}
+use Rattle.cdm_flight.specs.Names.{same_name}
+use Rattle.cdm_flight.specs.Record.{Record, is_planned}
+use Rattle.cdm_flight.specs.declared.flight.Status.{Status}
+use Rattle.cdm_flight.specs.declared.flight.Status.TheVariants as status
+use Rattle.cdm_sequence.specs.Aims.{TaxiTimes, aim_of, IsAim}
+use Rattle.cdm_sequence.proofs.AimLemmas.{aim_means}
+use Rattle.cdm_sequence.proofs.OrderLemmas.{same_flips, same_is}
+use Rattle.std.proofs.lemmas.List.{length-map, map-append}
+use Rattle.cdm_flight.specs.declared.key.Key.{Key}
+use Rattle.cdm_sequence.specs.Day.{targets_on}
+use Rattle.cdm_sequence.specs.Fixed.{FixedRecord, fixed_flight, fixed_by}
+use Rattle.cdm_sequence.specs.Sequence.{flight_names, IsSequence}
+use Rattle.cdm_sequence.specs.Targets.{TargetRecord}
+use Rattle.cdm_sequence.specs.declared.aims.AimResult.{AimResult}
+use Rattle.cdm_sequence.specs.declared.aims.AimResult.TheVariants.{Ready, Early}
+use Rattle.cdm_sequence.specs.declared.slot.BlockedFlight.{BlockedFlight}
+use Rattle.cdm_sequence.proofs.ListLemmas.{All-given, distinct_filter}
+use Rattle.cdm_sequence.specs.Slots.{SlotRecord}
+use Rattle.std.proofs.Common.{IfSome, length-append}
+use Rattle.std.proofs.lemmas.List.Sorted.{length_permutation}
+use Rattle.cdm_day.specs.Planning.{planned_of, target_in, blocked_in, targets_of, blocked_early, is_on, fixed_on}
+use Rattle.cdm_day.specs.Aimed.{aimed, if_on, target_for, CanSequence, IsRunwayPlan}
+use Rattle.cdm_runway.specs.Rules.{RunwayRules}
+use Rattle.cdm_sequence.specs.Slots.{RunwayPlanRecord}
+use Rattle.std.specs.List.{AllZip, flat_map}
+use Rattle.std.proofs.lemmas.List.Concat.{length-flat_map}
+use Rattle.std.proofs.lemmas.List.Elements.{filter_passes}
+use Rattle.std.proofs.lemmas.List.Sorted.{sum_by-IsPermutation}
+use Rattle.cdm_day.specs.declared.aimed.Aimed.{Aimed}
+
+-- Lists.
+
+filter_map-map : {X Y Z : Type 0} (h : Y → Option Z) (g : X → Y) (xs : List X) → filter_map h (map g xs) ≡ filter_map (λ x. h (g x)) xs
+filter_map-map h g [] = refl
+filter_map-map {X} {Y} {Z} h g (x ∷ xs) = ap (λ (ys : List Z). cons_option (h (g x)) ys) (filter_map-map h g xs)
+
+abbrev if_so : {Y : Type 0} → Bool → Option Y → Option Y
+if_so b o = cond b o None
+
+filter_map-filter : {X Y : Type 0} (h : X → Option Y) (p : X → Bool) (xs : List X) → filter_map h (filter p xs) ≡ filter_map (λ x. if_so (p x) (h x)) xs
+filter_map-filter h p [] = refl
+filter_map-filter {X} {Y} h p (x ∷ xs) = go (p x) (filter_map-filter h p xs) where
+  go : (b : Bool) → filter_map h (filter p xs) ≡ filter_map (λ x. if_so (p x) (h x)) xs → filter_map h (cond b (x ∷ filter p xs) (filter p xs)) ≡ cons_option (if_so b (h x)) (filter_map (λ x. if_so (p x) (h x)) xs)
+  go true e = ap (λ (ys : List Y). cons_option (h x) ys) e
+  go false e = e
+
+-- what is left of targets on a runway
+filter-filter_map : (r : List ℕ) (h : Record → Option TargetRecord) (fs : List Record) → filter (λ t. same_name t.runway r) (filter_map h fs) ≡ filter_map (λ f. if_on r (h f)) fs
+filter-filter_map r h [] = refl
+filter-filter_map r h (f ∷ fs) = go (h f) (filter-filter_map r h fs) where
+  by : (b : Bool) (t : TargetRecord) → filter (λ t. same_name t.runway r) (filter_map h fs) ≡ filter_map (λ f. if_on r (h f)) fs
+      → cond b (t ∷ filter (λ t. same_name t.runway r) (filter_map h fs)) (filter (λ t. same_name t.runway r) (filter_map h fs)) ≡ cons_option (cond b (Some t) None) (filter_map (λ f. if_on r (h f)) fs)
+  by true t e = ap (λ (ts : List TargetRecord). t ∷ ts) e
+  by false t e = e
+
+  go : (o : Option TargetRecord) → filter (λ t. same_name t.runway r) (filter_map h fs) ≡ filter_map (λ f. if_on r (h f)) fs
+      → filter (λ t. same_name t.runway r) (cons_option o (filter_map h fs)) ≡ cons_option (if_on r o) (filter_map (λ f. if_on r (h f)) fs)
+  go None e = e
+  go (Some t) e = by (same_name t.runway r) t e
+
+-- the names of what flights give are those of the flights that give something
+names_given : {Y : Type 0} (name : Y → List ℕ) (h : Record → Option Y) → ((f : Record) (y : Y) → h f ≡ Some y → name y ≡ f.name) → (fs : List Record) → map name (filter_map h fs) ≡ map (λ f. f.name) (filter (λ f. is_some (h f)) fs)
+names_given name h own [] = refl
+names_given {Y} name h own (f ∷ fs) = go (h f) refl (names_given name h own fs) where
+  go : (o : Option Y) → h f ≡ o → map name (filter_map h fs) ≡ map (λ f. f.name) (filter (λ f. is_some (h f)) fs)
+      → map name (cons_option o (filter_map h fs)) ≡ map (λ f. f.name) (cond (is_some o) (f ∷ filter (λ f. is_some (h f)) fs) (filter (λ f. is_some (h f)) fs))
+  go None e rest = rest
+  go (Some y) e rest = ap (λ (n : List ℕ). n ∷ map name (filter_map h fs)) (own f y e) ∙ ap (λ (ns : List (List ℕ)). f.name ∷ ns) rest
+
+-- two tests of which at most one holds part what passes either
+parted : {X : Type 0} (a b : X → Bool) → ((x : X) → a x ≡ true → b x ≡ false) → (xs : List X) → IsPermutation (filter (λ x. a x || b x) xs) (filter a xs ++ filter b xs)
+parted a b apart [] = IsPermutation-refl []
+parted {X} a b apart (x ∷ xs) = go (a x) (b x) refl refl (parted a b apart xs) where
+  go : (u v : Bool) → a x ≡ u → b x ≡ v → IsPermutation (filter (λ x. a x || b x) xs) (filter a xs ++ filter b xs)
+      → IsPermutation (cond (u || v) (x ∷ filter (λ x. a x || b x) xs) (filter (λ x. a x || b x) xs)) (cond u (x ∷ filter a xs) (filter a xs) ++ cond v (x ∷ filter b xs) (filter b xs))
+  go true true e f rest = absurd (false≢true (sym (apart x e) ∙ f))
+  go true false e f rest = IsPermutation-append_right (x ∷ []) _ _ rest
+  go false true e f rest = IsPermutation-trans _ (x ∷ (filter a xs ++ filter b xs)) _ (IsPermutation-append_right (x ∷ []) _ _ rest) (IsPermutation-sym _ _ (IsPermutation-middle (filter a xs) x (filter b xs)))
+  go false false e f rest = rest
+
+-- Flights.
+
+-- a target has its flight's name
+key_name : (f : Record) (times : TaxiTimes) (now : ℕ) (t : TargetRecord) → aim_of f times now ≡ Ready t → t.key.name ≡ f.name
+key_name f times now t e = by f.tobt refl (subst (IsAim f times now) e (aim_means f times now)).key
+  where
+    by : (o : Option ℕ) → f.tobt ≡ o → option_map (λ tobt. record { priority = f.priority; tobt = tobt; name = f.name }) o ≡ Some t.key → t.key.name ≡ f.name
+    by None g k = cc
+    by (Some tobt) g k = sym (ap (λ (x : Option Key). option_map_or (λ y. y.name) x []) k)
+
+target_name : (r : List ℕ) (f : Record) (times : TaxiTimes) (now : ℕ) (t : TargetRecord) → if_so (is_planned f.status) (if_on r (target_in (aim_of f times now))) ≡ Some t → t.key.name ≡ f.name
+target_name r f times now t e = go (is_planned f.status) (aim_of f times now) refl e
+  where
+    on : (b : Bool) (s : TargetRecord) → aim_of f times now ≡ Ready s → cond b (Some s) None ≡ Some t → t.key.name ≡ f.name
+    on true s is k = let same : s ≡ t = cc in key_name f times now t (is ∙ ap Ready same)
+    on false s is k = cc
+
+    go : (p : Bool) (a : AimResult) → aim_of f times now ≡ a → if_so p (if_on r (target_in a)) ≡ Some t → t.key.name ≡ f.name
+    go true (Ready s) is k = on (same_name s.runway r) s is k
+    go true (Early rule) is k = cc
+    go false a is k = cc
+
+-- a fixed flight has its flight's name, and has left
+fixed_name : (f : Record) (x : FixedRecord) → fixed_flight f ≡ Some x → x.name ≡ f.name
+unfolding fixed_flight
+fixed_name f x e = go f.status e
+  where
+    go : (s : Status) → fixed_by f s ≡ Some x → x.name ≡ f.name
+    go status.Planned k = cc
+    go (status.OffBlock aobt exot) k = sym (ap (λ (o : Option FixedRecord). option_map_or (λ y. y.name) o []) k)
+    go (status.Airborne aobt atot) k = sym (ap (λ (o : Option FixedRecord). option_map_or (λ y. y.name) o []) k)
+    go status.Cancelled k = cc
+
+fixed_left : (f : Record) → is_some (fixed_flight f) ≡ true → is_planned f.status ≡ false
+unfolding fixed_flight
+fixed_left f e = go f.status e
+  where
+    go : (s : Status) → is_some (fixed_by f s) ≡ true → is_planned s ≡ false
+    go status.Planned k = absurd (false≢true k)
+    go (status.OffBlock aobt exot) k = refl
+    go (status.Airborne aobt atot) k = refl
+    go status.Cancelled k = absurd (false≢true k)
+
+-- What a flight gives to a runway.
+
+abbrev fixed_at : List ℕ → Record → Option FixedRecord
+fixed_at r f = if_so (is_on r f) (fixed_flight f)
+
+abbrev target_at : List ℕ → TaxiTimes → ℕ → Record → Option TargetRecord
+target_at r times now f = if_so (is_planned f.status) (if_on r (target_in (aim_of f times now)))
+
+abbrev early_at : TaxiTimes → ℕ → Record → Option BlockedFlight
+early_at times now f = if_so (is_planned f.status) (blocked_in f.name (aim_of f times now))
+
+fixed_on-given : (r : List ℕ) (fs : List Record) → fixed_on r fs ≡ filter_map (fixed_at r) fs
+unfolding fixed_on
+fixed_on-given r fs = filter_map-filter fixed_flight (is_on r) fs
+
+targets_on-given : (r : List ℕ) (times : TaxiTimes) (now : ℕ) (fs : List Record) → targets_on r (targets_of fs times now) ≡ filter_map (target_at r times now) fs
+unfolding targets_of
+targets_on-given r times now fs =
+    filter-filter_map r (λ f. target_in (aim_of f times now)) (planned_of fs)
+    ∙ filter_map-filter (λ f. if_on r (target_in (aim_of f times now))) (λ f. is_planned f.status) fs
+
+early-given : (times : TaxiTimes) (now : ℕ) (fs : List Record) → blocked_early fs times now ≡ filter_map (early_at times now) fs
+unfolding blocked_early
+early-given times now fs = filter_map-filter (λ f. blocked_in f.name (aim_of f times now)) (λ f. is_planned f.status) fs
+
+-- the targets and the blocked flights among the aims of the planned flights
+pub targets-among : (r : List ℕ) (times : TaxiTimes) (now : ℕ) (fs : List Record) → filter_map (target_for r) (map (aimed times now) (planned_of fs)) ≡ targets_on r (targets_of fs times now)
+unfolding targets_of aimed
+targets-among r times now fs =
+    filter_map-map (target_for r) (aimed times now) (planned_of fs)
+    ∙ sym (filter-filter_map r (λ f. target_in (aim_of f times now)) (planned_of fs))
+
+pub blocked-among : (times : TaxiTimes) (now : ℕ) (fs : List Record) → filter_map (λ (a : Aimed). blocked_in a.name a.aim) (map (aimed times now) (planned_of fs)) ≡ blocked_early fs times now
+unfolding blocked_early aimed
+blocked-among times now fs = filter_map-map (λ (a : Aimed). blocked_in a.name a.aim) (aimed times now) (planned_of fs)
+
+-- a flight is a fixed flight or a target
+some_inside : {Y : Type 0} (b : Bool) (o : Option Y) → is_some (if_so b o) ≡ true → is_some o ≡ true
+some_inside true o h = h
+some_inside false o h = absurd (false≢true h)
+
+apart : (r : List ℕ) (times : TaxiTimes) (now : ℕ) (f : Record) → is_some (fixed_at r f) ≡ true → is_some (target_at r times now f) ≡ false
+apart r times now f h =
+    let left = fixed_left f (some_inside (is_on r f) (fixed_flight f) h) in
+    ap (λ (b : Bool). is_some (if_so b (if_on r (target_in (aim_of f times now))))) left
+
+fixed_at_name : (r : List ℕ) (f : Record) (x : FixedRecord) → fixed_at r f ≡ Some x → x.name ≡ f.name
+fixed_at_name r f x e = go (is_on r f) e
+  where
+    go : (b : Bool) → if_so b (fixed_flight f) ≡ Some x → x.name ≡ f.name
+    go true k = fixed_name f x k
+    go false k = cc
+
+-- the flights of a runway have names of their own
+pub names_on : (r : List ℕ) (times : TaxiTimes) (now : ℕ) (fs : List Record) → IsDistinct same_name (map (λ f. f.name) fs) → IsDistinct same_name (flight_names (fixed_on r fs) (targets_on r (targets_of fs times now)))
+names_on r times now fs own =
+    let a : Record → Bool = λ f. is_some (fixed_at r f) in
+    let b : Record → Bool = λ f. is_some (target_at r times now f) in
+    let name : Record → List ℕ = λ f. f.name in
+    let fixed = ap (map (λ (x : FixedRecord). x.name)) (fixed_on-given r fs) ∙ names_given (λ x. x.name) (fixed_at r) (fixed_at_name r) fs in
+    let targets = ap (map (λ (t : TargetRecord). t.key.name)) (targets_on-given r times now fs) ∙ names_given (λ t. t.key.name) (target_at r times now) (λ f t e. target_name r f times now t e) fs in
+    let parts = IsPermutation-map name (filter (λ f. a f || b f) fs) (filter a fs ++ filter b fs) (parted a b (apart r times now) fs) in
+    let whole = distinct_filter same_name name (λ f. a f || b f) fs own in
+    let split = IsDistinct-IsPermutation same_name same_flips (map name (filter (λ f. a f || b f) fs)) (map name (filter a fs ++ filter b fs)) parts whole in
+    subst (λ (ns : List (List ℕ)). IsDistinct same_name ns) (map-append name (filter a fs) (filter b fs) ∙ (ap (λ (ns : List (List ℕ)). ns ++ map name (filter b fs)) (sym fixed) ∙ ap (λ (ns : List (List ℕ)). map (λ (x : FixedRecord). x.name) (fixed_on r fs) ++ ns) (sym targets))) split
+
+-- How many flights a day's plan has.
+
+abbrev one_if : Bool → ℕ
+one_if b = cond b 1 0
+
+count_given : {Y : Type 0} (h : Record → Option Y) (fs : List Record) → length (filter_map h fs) ≡ sum_by (λ f. one_if (is_some (h f))) fs
+count_given h [] = refl
+count_given {Y} h (f ∷ fs) = go (h f) (count_given h fs) ∙ sym (sum_by-cons (λ f. one_if (is_some (h f))) f fs) where
+  go : (o : Option Y) → length (filter_map h fs) ≡ sum_by (λ f. one_if (is_some (h f))) fs → length (cons_option o (filter_map h fs)) ≡ one_if (is_some o) + sum_by (λ f. one_if (is_some (h f))) fs
+  go None e = omega arith
+  go (Some y) e = omega arith
+
+sum_by-add : {X : Type 0} (g h : X → ℕ) (xs : List X) → sum_by (λ x. g x + h x) xs ≡ sum_by g xs + sum_by h xs
+sum_by-add g h [] = refl
+sum_by-add g h (x ∷ xs) =
+    let a = sum_by-cons (λ x. g x + h x) x xs in
+    let b = sum_by-cons g x xs in
+    let c = sum_by-cons h x xs in
+    let d = sum_by-add g h xs in
+    omega arith
+
+sum_by-le : {X : Type 0} (g h : X → ℕ) → ((x : X) → g x ≤ h x) → (xs : List X) → sum_by g xs ≤ sum_by h xs
+sum_by-le g h le [] = omega arith
+sum_by-le g h le (x ∷ xs) =
+    let a = sum_by-cons g x xs in
+    let b = sum_by-cons h x xs in
+    let c = le x in
+    let d = sum_by-le g h le xs in
+    omega arith
+
+sum_by-zero : {X : Type 0} (xs : List X) → sum_by (λ (x : X). 0) xs ≡ 0
+sum_by-zero [] = refl
+sum_by-zero {X} (x ∷ xs) = let a = sum_by-cons (λ (x : X). 0) x xs in let b = sum_by-zero xs in omega arith
+
+-- one runway has a name, at the most
+none_named : (s r : List ℕ) (rs : List (List ℕ)) → same_name s r ≡ true → AllByRecursion (λ q. same_name r q ≡ false) rs → sum_by (λ q. one_if (same_name s q)) rs ≡ 0
+none_named s r [] e all = refl
+none_named s r (q ∷ rs) e all =
+    let same : s ≡ r = same_is s r e in
+    let not : one_if (same_name s q) ≡ 0 = ap (λ (n : List ℕ). one_if (same_name n q)) same ∙ ap one_if all.0 in
+    let a = sum_by-cons (λ q. one_if (same_name s q)) q rs in
+    let b = none_named s r rs e all.1 in
+    omega arith
+
+one_named : (s : List ℕ) (rs : List (List ℕ)) → IsDistinct same_name rs → sum_by (λ q. one_if (same_name s q)) rs ≤ 1
+one_named s [] own = omega arith
+one_named s (r ∷ rs) own = go (same_name s r) refl (one_named s rs (IsDistinct-tail same_name r rs own))
+  where
+    go : (b : Bool) → same_name s r ≡ b → sum_by (λ q. one_if (same_name s q)) rs ≤ 1 → sum_by (λ q. one_if (same_name s q)) (r ∷ rs) ≤ 1
+    go true e rest =
+        let a = sum_by-cons (λ q. one_if (same_name s q)) r rs in
+        let one : one_if (same_name s r) ≡ 1 = ap one_if e in
+        let none = none_named s r rs e (IsDistinct-head same_name r rs own) in
+        omega arith
+    go false e rest =
+        let a = sum_by-cons (λ q. one_if (same_name s q)) r rs in
+        let zero : one_if (same_name s r) ≡ 0 = ap one_if e in
+        omega arith
+
+-- what a flight counts on a runway: as a fixed flight or as a target
+abbrev counted : TaxiTimes → ℕ → Record → List ℕ → ℕ
+counted times now f r = one_if (is_some (fixed_at r f)) + one_if (is_some (target_at r times now f))
+
+-- a flight that has left counts on its own runway alone
+left_once : (f : Record) (rs : List (List ℕ)) (o : Option FixedRecord) → IsDistinct same_name rs → sum_by (λ r. one_if (is_some (if_so (is_on r f) o))) rs ≤ 1
+left_once f rs o own = by f.runway
+  where
+    le : (b : Bool) → one_if (is_some (if_so b o)) ≤ one_if b
+    le true = at_most o
+      where
+        at_most : (p : Option FixedRecord) → one_if (is_some p) ≤ 1
+        at_most None = omega arith
+        at_most (Some x) = omega arith
+    le false = omega arith
+
+    by : (s : Option (List ℕ)) → sum_by (λ r. one_if (is_some (if_so (option_map_or (λ runway. same_name runway r) s false) o))) rs ≤ 1
+    by None = let z = sum_by-zero rs in let all = sum_by-le (λ r. one_if (is_some (if_so false o))) (λ r. 0) (λ r. le false) rs in omega arith
+    by (Some s) = let a = sum_by-le (λ r. one_if (is_some (if_so (same_name s r) o))) (λ r. one_if (same_name s r)) (λ r. le (same_name s r)) rs in let b = one_named s rs own in omega arith
+
+-- a planned flight counts on its target's runway alone, or is blocked early
+planned_once : (f : Record) (rs : List (List ℕ)) (a : AimResult) → IsDistinct same_name rs → sum_by (λ r. one_if (is_some (if_on r (target_in a)))) rs + one_if (is_some (blocked_in f.name a)) ≤ 1
+planned_once f rs (Early rule) own = let z = sum_by-zero rs in omega arith
+planned_once f rs (Ready t) own =
+    let le : (r : List ℕ) → one_if (is_some (if_on r (Some t))) ≤ one_if (same_name t.runway r) = λ r. at_most (same_name t.runway r) in
+    let a = sum_by-le (λ r. one_if (is_some (if_on r (Some t)))) (λ r. one_if (same_name t.runway r)) le rs in
+    let b = one_named t.runway rs own in
+    omega arith
+  where
+    at_most : (b : Bool) → one_if (is_some (cond b (Some t) None)) ≤ one_if b
+    at_most true = omega arith
+    at_most false = omega arith
+
+abbrev no_fixed : Option FixedRecord
+no_fixed = None
+
+once_with : (f : Record) (rs : List (List ℕ)) (p : Bool) (o : Option FixedRecord) (a : AimResult) → IsDistinct same_name rs → (is_some o ≡ true → p ≡ false)
+    → sum_by (λ r. one_if (is_some (if_so (is_on r f) o)) + one_if (is_some (if_so p (if_on r (target_in a))))) rs + one_if (is_some (if_so p (blocked_in f.name a))) ≤ 1
+once_with f rs true None a own left =
+    let split = sum_by-add (λ r. one_if (is_some (if_so (is_on r f) no_fixed))) (λ r. one_if (is_some (if_on r (target_in a)))) rs in
+    let none = sum_by-le (λ r. one_if (is_some (if_so (is_on r f) no_fixed))) (λ r. 0) (λ r. nothing (is_on r f)) rs in
+    let z = sum_by-zero rs in
+    let rest = planned_once f rs a own in
+    omega arith
+  where
+    nothing : (b : Bool) → one_if (is_some (if_so b no_fixed)) ≤ 0
+    nothing true = omega arith
+    nothing false = omega arith
+once_with f rs true (Some x) a own left = absurd (false≢true (sym (left refl)))
+once_with f rs false o a own left =
+    let split = sum_by-add (λ r. one_if (is_some (if_so (is_on r f) o))) (λ r. 0) rs in
+    let z = sum_by-zero rs in
+    let rest = left_once f rs o own in
+    omega arith
+
+-- each flight counts once at the most
+each_once : (times : TaxiTimes) (now : ℕ) (f : Record) (rs : List (List ℕ)) → IsDistinct same_name rs → sum_by (counted times now f) rs + one_if (is_some (early_at times now f)) ≤ 1
+each_once times now f rs own = once_with f rs (is_planned f.status) (fixed_flight f) (aim_of f times now) own (fixed_left f)
+
+all_once : (times : TaxiTimes) (now : ℕ) (rs : List (List ℕ)) → IsDistinct same_name rs → (fs : List Record)
+    → sum_by (λ r. sum_by (λ f. counted times now f r) fs) rs + sum_by (λ f. one_if (is_some (early_at times now f))) fs ≤ length fs
+all_once times now rs own [] = let z = sum_by-zero rs in omega arith
+all_once times now rs own (f ∷ fs) =
+    let more = sum_by-le (λ r. sum_by (λ g. counted times now g r) (f ∷ fs)) (λ r. counted times now f r + sum_by (λ g. counted times now g r) fs)
+    (λ r. let a = sum_by-cons (λ g. counted times now g r) f fs in omega arith) rs in
+    let split = sum_by-add (counted times now f) (λ r. sum_by (λ g. counted times now g r) fs) rs in
+    let early = sum_by-cons (λ g. one_if (is_some (early_at times now g))) f fs in
+    let one = each_once times now f rs own in
+    let rest = all_once times now rs own fs in
+    omega arith
+
+-- how many flights a runway has
+on_runway : (r : List ℕ) (times : TaxiTimes) (now : ℕ) (fs : List Record) → length (fixed_on r fs) + length (targets_on r (targets_of fs times now)) ≡ sum_by (λ f. counted times now f r) fs
+on_runway r times now fs =
+    let fixed = ap length (fixed_on-given r fs) ∙ count_given (fixed_at r) fs in
+    let targets = ap length (targets_on-given r times now fs) ∙ count_given (target_at r times now) fs in
+    let split = sum_by-add (λ f. one_if (is_some (fixed_at r f))) (λ f. one_if (is_some (target_at r times now f))) fs in
+    omega arith
+
+-- the runways and the flights that are blocked early have no more flights than there are
+pub few_flights : (rs : List (List ℕ)) (times : TaxiTimes) (now : ℕ) (fs : List Record) → IsDistinct same_name rs
+    → sum_by (λ r. length (fixed_on r fs) + length (targets_on r (targets_of fs times now))) rs + length (blocked_early fs times now) ≤ length fs
+few_flights rs times now fs own =
+    let each = sum_by-le (λ r. length (fixed_on r fs) + length (targets_on r (targets_of fs times now))) (λ r. sum_by (λ f. counted times now f r) fs)
+    (λ r. let a = on_runway r times now fs in omega arith) rs in
+    let early = ap length (early-given times now fs) ∙ count_given (early_at times now) fs in
+    let all = all_once times now rs own fs in
+    omega arith
+
+IsDistinct-none : (e : List ℕ → List ℕ → Bool) → IsDistinct e []
+unfolding IsDistinct
+IsDistinct-none e = tt
+
+-- and so has each runway
+pub few_on : (r : List ℕ) (times : TaxiTimes) (now : ℕ) (fs : List Record) → length (fixed_on r fs) + length (targets_on r (targets_of fs times now)) ≤ length fs
+few_on r times now fs =
+    let all = few_flights (r ∷ []) times now fs (IsDistinct-cons same_name r [] tt (IsDistinct-none same_name)) in
+    let a = sum_by-cons (λ r. length (fixed_on r fs) + length (targets_on r (targets_of fs times now))) r [] in
+    omega arith
+
+-- Runway by runway.
+
+-- the targets of a runway have its name
+pub on_it : (r : List ℕ) (aims : List Aimed) → All (λ t. t.runway ≡ r) (filter_map (target_for r) aims)
+on_it r aims = All-given (target_for r) (λ t. t.runway ≡ r) aims (λ a i. given (target_in a.aim))
+  where
+    by : (b : Bool) (t : TargetRecord) → same_name t.runway r ≡ b → IfSome (cond b (Some t) None) (λ t. t.runway ≡ r)
+    by true t e = same_is t.runway r e
+    by false t e = tt
+
+    given : (o : Option TargetRecord) → IfSome (if_on r o) (λ t. t.runway ≡ r)
+    given None = tt
+    given (Some t) = by (same_name t.runway r) t refl
+
+-- a plan that shows each flight once shows them all
+pub all_shown : (fixed : List FixedRecord) (targets : List TargetRecord) (slots : List SlotRecord) (blocked : List BlockedFlight)
+    → IsPermutation (flight_names fixed targets) (map (λ s. s.name) slots ++ map (λ b. b.name) blocked) → length slots + length blocked ≡ length fixed + length targets
+all_shown fixed targets slots blocked same =
+    let sizes = length_permutation (flight_names fixed targets) (map (λ s. s.name) slots ++ map (λ b. b.name) blocked) same in
+    let a = length-append (map (λ (s : SlotRecord). s.name) slots) (map (λ (b : BlockedFlight). b.name) blocked) in
+    let b = length-append (map (λ (x : FixedRecord). x.name) fixed) (map (λ (t : TargetRecord). t.key.name) targets) in
+    let c = length-map slots (λ (s : SlotRecord). s.name) in
+    let d = length-map blocked (λ (b : BlockedFlight). b.name) in
+    let e = length-map fixed (λ (x : FixedRecord). x.name) in
+    let f = length-map targets (λ (t : TargetRecord). t.key.name) in
+    omega arith
+
+-- The whole day.
+
+zipped_sizes : (fixed : List ℕ → List FixedRecord) (targets : List ℕ → List TargetRecord) (runways : List RunwayRules) (plans : List RunwayPlanRecord)
+    → AllZip (λ r p. IsRunwayPlan r (fixed r.name) (targets r.name) p) runways plans
+    → sum_by (λ p. length p.slots + length p.blocked) plans ≡ sum_by (λ r. length (fixed r) + length (targets r)) (map (λ (r : RunwayRules). r.name) runways)
+zipped_sizes fixed targets [] [] all = refl
+zipped_sizes fixed targets [] (p ∷ ps) all = absurd all
+zipped_sizes fixed targets (r ∷ rs) [] all = absurd all
+zipped_sizes fixed targets (r ∷ rs) (p ∷ ps) all =
+    let a = sum_by-cons (λ p. length p.slots + length p.blocked) p ps in
+    let b = sum_by-cons (λ r. length (fixed r) + length (targets r)) r.name (map (λ (r : RunwayRules). r.name) rs) in
+    let size = all.0.size in
+    let rest = zipped_sizes fixed targets rs ps all.1 in
+    omega arith
+
+-- a day's plan has at most as many flights as there are
+pub few_in_plan : (times : TaxiTimes) (now : ℕ) (fs : List Record) (runways : List RunwayRules) (made ordered : List RunwayPlanRecord) (blocked : List BlockedFlight)
+    → IsDistinct same_name (map (λ r. r.name) runways)
+    → AllZip (λ r p. IsRunwayPlan r (fixed_on r.name fs) (targets_on r.name (targets_of fs times now)) p) runways made
+    → IsPermutation made ordered → IsPermutation (blocked_early fs times now ++ flat_map (λ p. p.blocked) ordered) blocked
+    → sum_by (λ p. length p.slots) ordered + length blocked ≤ length fs
+few_in_plan times now fs runways made ordered blocked own all same others =
+    let sizes = zipped_sizes (λ r. fixed_on r fs) (λ r. targets_on r (targets_of fs times now)) runways made all in
+    let few = few_flights (map (λ r. r.name) runways) times now fs own in
+    let moved = sum_by-IsPermutation (λ (p : RunwayPlanRecord). length p.slots + length p.blocked) made ordered same in
+    let split = sum_by-add (λ (p : RunwayPlanRecord). length p.slots) (λ p. length p.blocked) ordered in
+    let count = length_permutation (blocked_early fs times now ++ flat_map (λ p. p.blocked) ordered) blocked others in
+    let parts = length-append (blocked_early fs times now) (flat_map (λ p. p.blocked) ordered) in
+    let flat = length-flat_map (λ (p : RunwayPlanRecord). p.blocked) ordered in
+    omega arith
+
+-- each runway can be sequenced
+pub can_sequence : (times : TaxiTimes) (now : ℕ) (fs : List Record) → IsDistinct same_name (map (λ f. f.name) fs) → length fs ≤ 2000 → (r : List ℕ)
+    → CanSequence (fixed_on r fs) (targets_on r (targets_of fs times now))
+can_sequence times now fs own few r = record {
+  names = names_on r times now fs own;
+  few = let a = few_on r times now fs in omega arith;
+}
+
+-- all the planned flights are planned
+pub planned_are : (fs : List Record) → All (λ f. is_planned f.status ≡ true) (planned_of fs)
+planned_are fs = filter_passes (λ f. is_planned f.status) fs
+
+-- the sequences without their sizes
+pub zipped_sequences : (fixed : List ℕ → List FixedRecord) (targets : List ℕ → List TargetRecord) (runways : List RunwayRules) (plans : List RunwayPlanRecord)
+    → AllZip (λ r p. IsRunwayPlan r (fixed r.name) (targets r.name) p) runways plans
+    → AllZip (λ r p. IsSequence r (fixed r.name) (targets r.name) p) runways plans
+zipped_sequences fixed targets [] [] all = tt
+zipped_sequences fixed targets [] (p ∷ ps) all = absurd all
+zipped_sequences fixed targets (r ∷ rs) [] all = absurd all
+zipped_sequences fixed targets (r ∷ rs) (p ∷ ps) all = (all.0.sequence, zipped_sequences fixed targets rs ps all.1)
+
+-- the plans of the runways, whose targets are those among the aims
+pub zipped_targets : (times : TaxiTimes) (now : ℕ) (fs : List Record) (runways : List RunwayRules) (plans : List RunwayPlanRecord)
+    → AllZip (λ r p. IsRunwayPlan r (fixed_on r.name fs) (filter_map (target_for r.name) (map (aimed times now) (planned_of fs))) p) runways plans
+    → AllZip (λ r p. IsRunwayPlan r (fixed_on r.name fs) (targets_on r.name (targets_of fs times now)) p) runways plans
+zipped_targets times now fs [] [] all = tt
+zipped_targets times now fs [] (p ∷ ps) all = absurd all
+zipped_targets times now fs (r ∷ rs) [] all = absurd all
+zipped_targets times now fs (r ∷ rs) (p ∷ ps) all =
+    (subst (λ (ts : List TargetRecord). IsRunwayPlan r (fixed_on r.name fs) ts p) (targets-among r.name times now fs) all.0, zipped_targets times now fs rs ps all.1)

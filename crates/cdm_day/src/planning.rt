@@ -1,0 +1,126 @@
+//! The plan of a day.
+ghost use Rattle.std.specs.Prelude.{◌≡◌, ◌+◌, ◌≤◌, ◌++◌, ℕ, List, length, map, All, IfOk, IsPermutation, IsSorted, sum_by};
+ghost use Rattle.std.specs.List.{AllZip, filter_map, flat_map, IsDistinct};
+ghost use Rattle.std.specs.FinMap as finite;
+ghost use Rattle.cdm_flight.specs.Names.{same_name};
+ghost use Rattle.cdm_sequence.specs.Slots.{runway_cmp, blocked_cmp};
+ghost use Rattle.cdm_day.specs.Planning.{IsPlanOf, fixed_on, is_on};
+ghost use Rattle.cdm_day.specs.Aimed.{CanSequence, IsRunwayPlan, target_for};
+
+use crate::aimed::{Aimed, aims, blocked, planned, targets};
+use cdm_flight::{Flight, Listed, RunwayName};
+use cdm_runway::Runway;
+use cdm_sequence::{BlockedFlight, Fixed, Plan, RunwayPlan, fixed_of, sequence};
+use cdm_taxi::TaxiTable;
+use cdm_time::Minute;
+use std::alloc::{AllocError, Global};
+
+// Whether the flight has this runway.
+fn has_runway(flight: &Flight, runway: RunwayName) -> bool
+    ensures { result ≡ is_on runway flight.now }
+{
+    match flight.runway {
+        Some(name) => name == runway,
+        None => false,
+    }
+}
+
+// The flights that have left their stands for a runway, in order.
+#[tactic(auto, unfolding(crate::specs::Planning::fixed_on))]
+fn fixed(alloc: Global, runway: RunwayName, flights: &[Flight]) -> Result<Vec<Fixed>, AllocError>
+    ensures { IfOk result (λ v. v.items ≡ fixed_on runway flights.now) }
+{
+    flights
+        .iter()
+        .filter(|flight| has_runway(flight, runway))
+        .filter_map(|flight| fixed_of(flight))
+        .collect(alloc)
+}
+
+// The plan of one runway, which chooses its own flights.
+fn runway_plan(
+    alloc: Global,
+    runway: &Runway,
+    flights: &[Flight],
+    aims: &[Aimed],
+) -> Result<RunwayPlan, AllocError>
+    requires { CanSequence (fixed_on runway.now.name flights.now) (filter_map (target_for runway.now.name) aims.now) }
+    ensures { IfOk result (λ p. IsRunwayPlan runway.now (fixed_on runway.now.name flights.now)
+        (filter_map (target_for runway.now.name) aims.now) p) }
+{
+    let fixed = fixed(alloc, runway.name(), flights)?;
+    let targets = targets(alloc, runway.name(), aims)?;
+    let plan = sequence(alloc, runway, &fixed, &targets)?;
+    Ok(plan)
+}
+
+// The plans of the runways, in order.
+fn runway_plans(
+    alloc: Global,
+    runways: &[Runway],
+    flights: &[Flight],
+    aims: &[Aimed],
+) -> Result<Vec<RunwayPlan>, AllocError>
+    requires { All (λ r. CanSequence (fixed_on r.name flights.now) (filter_map (target_for r.name) aims.now)) runways.now }
+    ensures { IfOk result (λ plans. AllZip (λ r p. IsRunwayPlan r (fixed_on r.name flights.now)
+        (filter_map (target_for r.name) aims.now) p) runways.now plans.items) }
+{
+    let mut plans = Vec::new(alloc);
+    for runway in runways {
+        let plan = runway_plan(alloc, runway, flights, aims)?;
+        plans.push(plan)?;
+    }
+    Ok(plans)
+}
+
+// All blocked flights by name: those that were blocked early, and those of the runways.
+fn all_blocked(
+    early: Vec<BlockedFlight>,
+    plans: &[RunwayPlan],
+) -> Result<Vec<BlockedFlight>, AllocError>
+    ensures same { IfOk result (λ v. IsPermutation (early.items ++ flat_map (λ p. p.blocked) plans.now) v.items) }
+    ensures sorted { IfOk result (λ v. IsSorted blocked_cmp v.items) }
+{
+    let mut all = early;
+    for plan in plans {
+        all.extend_from_slice(plan.blocked.as_slice())?;
+    }
+    all.sort_unstable_by_key(|flight| flight.name);
+    Ok(all)
+}
+
+// The plans of the runways by name.
+fn by_name(plans: Vec<RunwayPlan>) -> Vec<RunwayPlan>
+    ensures same { IsPermutation plans.items result.items }
+    ensures sorted { IsSorted runway_cmp result.items }
+{
+    let mut ordered = plans;
+    ordered.sort_unstable_by_key(|plan| plan.runway);
+    ordered
+}
+
+/// The plan of a day, from its flights in the order of first appearance, its runways, the taxi times
+/// and the minute that it is now.
+pub(crate) fn plan_of(
+    alloc: Global,
+    flights: &[Flight],
+    runways: &[Runway],
+    taxi: &TaxiTable,
+    now: Minute,
+) -> Result<Plan, AllocError>
+    requires names { IsDistinct same_name (map (λ f. f.name) flights.now) }
+    requires few { length flights.now ≤ 2000 }
+    requires runways { IsDistinct same_name (map (λ r. r.name) runways.now) }
+    ensures { IfOk result (λ plan. IsPlanOf flights.now (λ place runway. finite.get taxi.now (place, runway)) now runways.now plan) }
+{
+    let planned = planned(alloc, flights)?;
+    let aims = aims(alloc, &planned, taxi, now)?;
+    let early = blocked(alloc, &aims)?;
+    let plans = by_name(runway_plans(alloc, runways, flights, &aims)?);
+    let blocked = all_blocked(early, &plans)?;
+    Ok(Plan {
+        now,
+        runways: Listed::new(plans),
+        blocked: Listed::new(blocked),
+    })
+}
