@@ -1,1 +1,2 @@
 pub mod RecordFacts
+pub mod RefusedLemmas

@@ -1,0 +1,83 @@
+//! Why a run of the program ends without its whole text.
+ghost use Rattle.std.specs.Prelude.{◌≡◌};
+ghost use Rattle.cdm_feed.specs.declared.run_error.RunError.TheVariants as error;
+
+use crate::file::FileFault;
+use cdm_flight::RefusalWord;
+use std::alloc::AllocError;
+use thiserror::Error;
+
+/// The inputs of a run, by the names that its faults give them.
+#[derive(Clone, Copy, PartialEq, Eq, Hash, Debug, Error)]
+pub enum Input {
+    /// The airport file.
+    #[error("AIRPORT")]
+    Airport,
+    /// The feed.
+    #[error("FEED")]
+    Feed,
+    /// The scenario file.
+    #[error("SCENARIOS")]
+    Scenarios,
+    /// The feed of the first desk of a live run.
+    #[error("FEED1")]
+    Feed1,
+    /// The feed of the second desk of a live run.
+    #[error("FEED2")]
+    Feed2,
+}
+
+/// Why a run ends without its whole text. Records are numbered from 1.
+#[derive(Clone, Copy, PartialEq, Eq, Hash, Debug, Error)]
+pub enum RunError {
+    /// A read of this input failed.
+    #[error("cannot read {0}")]
+    Read(Input),
+    /// This input has more than 8,388,608 bytes.
+    #[error("{0} is longer than 8388608 bytes")]
+    TooLong(Input),
+    /// The first faulty record of the airport file, and the word that refuses it.
+    #[error("AIRPORT record {0}: {1}")]
+    Airport(usize, RefusalWord),
+    /// The first faulty record of the scenario file, and the word that refuses it.
+    #[error("SCENARIOS record {0}: {1}")]
+    Scenario(usize, RefusalWord),
+    /// Want of memory.
+    #[error("out of memory")]
+    Memory,
+    /// A write or the flush at the end failed.
+    #[error("cannot write")]
+    Write,
+}
+
+impl From<AllocError> for RunError {
+    ghost from_gives = { λ _ e. e ≡ error.Memory };
+
+    fn from(_error: AllocError) -> RunError {
+        RunError::Memory
+    }
+}
+
+impl RunError {
+    /// Why an airport file ends a run.
+    pub(crate) fn of_airport(fault: FileFault) -> RunError
+        ensures { result ≡ of_airport fault }
+    {
+        match fault {
+            FileFault::Refused(number, word) => RunError::Airport(number, word),
+            FileFault::Memory => RunError::Memory,
+        }
+    }
+
+    /// Why a scenario file ends a run.
+    pub(crate) fn of_scenarios(fault: FileFault) -> RunError
+        ensures { result ≡ of_scenarios fault }
+    {
+        match fault {
+            FileFault::Refused(number, word) => RunError::Scenario(number, word),
+            FileFault::Memory => RunError::Memory,
+        }
+    }
+}
+
+ghost use Rattle.cdm_feed.specs.RunFaults.{of_airport, of_scenarios};
