@@ -1,5 +1,5 @@
 -- What each fault of a run says.
-use Rattle.std.specs.Prelude.{◌≡◌, ◌≤◌, ⊤, ⊥, ℕ, ◌+◌, Bool, true, false, List, [], Option, IfSome, Result, Ok, Err}
+use Rattle.std.specs.Prelude.{◌≡◌, ◌≤◌, ⊤, ℕ, ◌+◌, Bool, true, false, List, [], Option, IfSome, Result, Ok, Err}
 use Rattle.std.specs.Io.KnownBytes.{IsAtEnd}
 use Rattle.cdm_flight.specs.Journal.{AirportRows}
 use Rattle.cdm_flight.specs.declared.word.RefusalWord.{RefusalWord}
