@@ -14,6 +14,7 @@ mod output;
 mod parsing;
 mod records;
 mod role;
+mod run_error;
 
 pub use airport_file::read_airport;
 pub use device::Device;
@@ -21,6 +22,7 @@ pub use feed::read_feed;
 pub use file::FileFault;
 pub use input::{INPUT_LIMIT, InputFault, read_input};
 pub use output::{WriteFault, write_text};
+pub use run_error::{Input, RunCounts, RunError};
 
 #[cfg(test)]
 mod tests;
