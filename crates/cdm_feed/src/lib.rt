@@ -26,8 +26,8 @@ pub use feed::read_feed;
 pub use file::FileFault;
 pub use input::{INPUT_LIMIT, InputFault, read_input};
 pub use output::{WriteFault, write_text};
-pub use runs::{RunCounts, run};
 pub use run_error::{Input, RunError};
+pub use runs::{RunCounts, run};
 
 #[cfg(test)]
 mod tests;

@@ -3,28 +3,37 @@ ghost use Rattle.std.specs.Prelude.{◌≡◌};
 ghost use Rattle.cdm_feed.specs.declared.run_error.RunError.TheVariants as error;
 
 use crate::file::FileFault;
+use crate::input::INPUT_LIMIT;
 use cdm_flight::RefusalWord;
 use std::alloc::AllocError;
+use std::fmt;
 use thiserror::Error;
 
 /// The inputs of a run, by the names that its faults give them.
-#[derive(Clone, Copy, PartialEq, Eq, Hash, Debug, Error)]
+#[derive(Clone, Copy, PartialEq, Eq, Hash, Debug)]
 pub enum Input {
     /// The airport file.
-    #[error("AIRPORT")]
     Airport,
     /// The feed.
-    #[error("FEED")]
     Feed,
     /// The scenario file.
-    #[error("SCENARIOS")]
     Scenarios,
     /// The feed of the first desk of a live run.
-    #[error("FEED1")]
     Feed1,
     /// The feed of the second desk of a live run.
-    #[error("FEED2")]
     Feed2,
+}
+
+impl fmt::Display for Input {
+    fn fmt<W: fmt::Write>(&self, f: &mut fmt::Formatter<W>) -> fmt::Result {
+        f.write_str(match self {
+            Input::Airport => "AIRPORT",
+            Input::Feed => "FEED",
+            Input::Scenarios => "SCENARIOS",
+            Input::Feed1 => "FEED1",
+            Input::Feed2 => "FEED2",
+        })
+    }
 }
 
 /// Why a run ends without its whole text. Records are numbered from 1.
@@ -33,8 +42,8 @@ pub enum RunError {
     /// A read of this input failed.
     #[error("cannot read {0}")]
     Read(Input),
-    /// This input has more than 8,388,608 bytes.
-    #[error("{0} is longer than 8388608 bytes")]
+    /// This input has more than [`INPUT_LIMIT`] bytes.
+    #[error("{0} is longer than {INPUT_LIMIT} bytes")]
     TooLong(Input),
     /// The first faulty record of the airport file, and the word that refuses it.
     #[error("AIRPORT record {0}: {1}")]
