@@ -8,8 +8,6 @@ use Rattle.cdm_feed.specs.AirportFile.{airport_in}
 use Rattle.cdm_feed.specs.Input.{GivesBytes}
 use Rattle.cdm_feed.specs.Records.{records_of}
 use Rattle.cdm_feed.specs.declared.input.TheConstants.{INPUT_LIMIT}
-use Rattle.cdm_feed.specs.declared.file.FileFault.{FileFault}
-use Rattle.cdm_feed.specs.declared.file.FileFault.TheVariants as file
 use Rattle.cdm_feed.specs.declared.run_error.Input.{Input}
 use Rattle.cdm_feed.specs.declared.run_error.Input.TheVariants.{Airport, Feed, Scenarios, Feed1, Feed2}
 use Rattle.cdm_feed.specs.declared.run_error.RunError.{RunError}
@@ -71,11 +69,23 @@ IsFirstFault a f s (error.Scenario number refusal) =
 IsFirstFault a f s error.Memory = ⊤
 IsFirstFault a f s error.Write = AreRead a f s
 
+-- why an airport file makes no airport
+abbrev pub IsAirportFault : List ℕ → RunError → Type 0
+IsAirportFault airport (error.Airport number refusal) = airport_in airport ≡ Err (number, refusal)
+IsAirportFault airport error.Memory = ⊤
+IsAirportFault airport fault = ⊥
+
+-- why a scenario file is refused as long as no scenario is known
+abbrev pub IsScenarioFault : List ℕ → RunError → Type 0
+IsScenarioFault scenarios (error.Scenario number refusal) = IsNoScenarioFile scenarios × (number ≡ 1) × (refusal ≡ word.Kind)
+IsScenarioFault scenarios error.Memory = ⊤
+IsScenarioFault scenarios fault = ⊥
+
 -- why the records of whole inputs make no text
 abbrev pub IsRecordFault : List ℕ → List ℕ → RunError → Type 0
 IsRecordFault airport scenarios (error.Airport number refusal) = airport_in airport ≡ Err (number, refusal)
 IsRecordFault airport scenarios (error.Scenario number refusal) =
-    IsAirportFile airport × IsNoScenarioFile scenarios × (number ≡ 1) × (refusal ≡ word.Kind)
+    IsAirportFile airport × IsScenarioFault scenarios (error.Scenario number refusal)
 IsRecordFault airport scenarios error.Memory = ⊤
 IsRecordFault airport scenarios fault = ⊥
 
@@ -88,18 +98,3 @@ IsBeforeWriting fault = ⊤
 abbrev pub is_write_fault : {T : Type 0} → Result T RunError → Bool
 is_write_fault (Err error.Write) = true
 is_write_fault r = false
-
--- why an airport file ends a run
-abbrev pub of_airport : FileFault → RunError
-of_airport (file.Refused number refusal) = error.Airport number refusal
-of_airport file.Memory = error.Memory
-
--- why a scenario file ends a run
-abbrev pub of_scenarios : FileFault → RunError
-of_scenarios (file.Refused number refusal) = error.Scenario number refusal
-of_scenarios file.Memory = error.Memory
-
--- why a scenario file is refused as long as no scenario is known: it has a record
-abbrev pub IsScenarioFault : List ℕ → FileFault → Type 0
-IsScenarioFault scenarios (file.Refused number refusal) = IsNoScenarioFile scenarios × (number ≡ 1) × (refusal ≡ word.Kind)
-IsScenarioFault scenarios file.Memory = ⊤

@@ -1,7 +1,7 @@
 //! The inputs of a run, read whole and in order.
 ghost use Rattle.std.specs.Prelude.{◌≡◌, ◌≤◌, false, vec_len, IfOk, IfErr, OnOk, IfSome};
 ghost use Rattle.cdm_feed.specs.declared.input.TheConstants.{INPUT_LIMIT};
-ghost use Rattle.cdm_feed.specs.RunFaults.{AreRead, IsFirstFault, IsInputFault, IsRead};
+ghost use Rattle.cdm_feed.specs.RunFaults.{AreRead, IsBeforeWriting, IsFirstFault, IsInputFault, IsRead};
 
 use crate::device::Device;
 use crate::input::{InputFault, read_input};
@@ -60,6 +60,7 @@ pub(crate) fn read_inputs<A: Read, F: Read, S: Read>(
         (record { before = A.remaining airport.old.inner; after = A.remaining airport.new.inner; failed = airport.new.failed })
         (record { before = F.remaining feed.old.inner; after = F.remaining feed.new.inner; failed = feed.new.failed })
         (record { before = S.remaining scenarios.old.inner; after = S.remaining scenarios.new.inner; failed = scenarios.new.failed })) }
+    ensures before_writing { IfErr result IsBeforeWriting }
 {
     let airport = read_whole(alloc, Input::Airport, airport)?;
     let feed = read_whole(alloc, Input::Feed, feed)?;

@@ -2,7 +2,6 @@
 ghost use Rattle.std.specs.Prelude.{◌≡◌};
 ghost use Rattle.cdm_feed.specs.declared.run_error.RunError.TheVariants as error;
 
-use crate::file::FileFault;
 use crate::input::INPUT_LIMIT;
 use cdm_flight::RefusalWord;
 use std::alloc::AllocError;
@@ -66,27 +65,3 @@ impl From<AllocError> for RunError {
         RunError::Memory
     }
 }
-
-impl RunError {
-    /// Why an airport file ends a run.
-    pub(crate) fn of_airport(fault: FileFault) -> RunError
-        ensures { result ≡ of_airport fault }
-    {
-        match fault {
-            FileFault::Refused(number, word) => RunError::Airport(number, word),
-            FileFault::Memory => RunError::Memory,
-        }
-    }
-
-    /// Why a scenario file ends a run.
-    pub(crate) fn of_scenarios(fault: FileFault) -> RunError
-        ensures { result ≡ of_scenarios fault }
-    {
-        match fault {
-            FileFault::Refused(number, word) => RunError::Scenario(number, word),
-            FileFault::Memory => RunError::Memory,
-        }
-    }
-}
-
-ghost use Rattle.cdm_feed.specs.RunFaults.{of_airport, of_scenarios};

@@ -1,11 +1,12 @@
 //! A whole run, from the bytes of its inputs to the bytes of its text.
-ghost use Rattle.std.specs.Prelude.{◌≡◌, ◌≤◌, ℕ, [], List, length, take, false, IfOk, IfErr, OnOk, IfSome, IsErrOf};
+ghost use Rattle.std.specs.Prelude.{◌≡◌, ◌≤◌, ℕ, [], List, Ok, length, take, false, IfOk, IfErr, OnOk, IfSome, IsErrOf};
 ghost use Rattle.std.specs.Io.KnownBytes.{Appends};
 ghost use Rattle.cdm_feed.specs.declared.input.TheConstants.{INPUT_LIMIT};
 ghost use Rattle.cdm_feed.specs.declared.run_error.RunError.TheVariants as error;
-ghost use Rattle.cdm_feed.specs.Output.{AreCounts, IsOutput, IsReport, counts_in};
+ghost use Rattle.cdm_feed.specs.Output.{AreCounts, IsOutput, IsReport, accepted_in, counts_in, refusals_in};
+ghost use Rattle.cdm_feed.specs.AirportFile.{airport_in};
 ghost use Rattle.cdm_feed.specs.Records.{records_of};
-ghost use Rattle.cdm_feed.specs.RunFaults.{IsBeforeWriting, IsFirstFault, IsRecordFault, IsScenarioFault, is_write_fault};
+ghost use Rattle.cdm_feed.specs.RunFaults.{IsAirportFault, IsBeforeWriting, IsFirstFault, IsRecordFault, IsScenarioFault, is_write_fault};
 
 use crate::airport_file::read_airport;
 use crate::device::Device;
@@ -43,18 +44,44 @@ struct Report {
     counts: RunCounts,
 }
 
+// The day of an airport before its first update.
+fn day_of(alloc: Global, airport: Airport) -> Result<DayState, AllocError>
+    ensures { IfOk result (λ s. s ≡ record { airport = airport; journal = [] }) }
+{
+    match DayState::new(alloc, airport) {
+        Ok(state) => Ok(state),
+        Err(_) => Err(AllocError),
+    }
+}
+
+// A day after a feed, and the feed's refused records.
+#[derive(Drop)]
+struct Judged {
+    state: DayState,
+    refused: Vec<(u32, RefusalWord)>,
+}
+
+// The day of an airport after a feed.
+fn judge(alloc: Global, airport: Airport, feed: &[u8]) -> Result<Judged, AllocError>
+    requires { length feed.now ≤ INPUT_LIMIT }
+    ensures state { IfOk result (λ judged. judged.state ≡ record { airport = airport; journal = accepted_in airport feed.now }) }
+    ensures refused { IfOk result (λ judged. judged.refused.items ≡ refusals_in airport feed.now) }
+{
+    let parsed = read_feed(alloc, airport.day(), feed)?;
+    let updates = updates_of(alloc, &parsed)?;
+    let mut state = day_of(alloc, airport)?;
+    let replies = state.apply(alloc, &updates)?;
+    let refused = refusals_of(alloc, &parsed, &replies)?;
+    Ok(Judged { state, refused })
+}
+
 // The report of a feed at an airport.
-#[tactic(auto, unfolding(crate::specs::Output::accepted_in, crate::specs::Output::refusals_in))]
 fn report_of(alloc: Global, airport: Airport, feed: &[u8]) -> Result<Report, AllocError>
     requires { length feed.now ≤ INPUT_LIMIT }
     ensures text { IfOk result (λ report. IsReport airport feed.now report.text.items) }
     ensures counts { IfOk result (λ report. report.counts ≡ counts_in airport feed.now) }
 {
-    let parsed = read_feed(alloc, airport.day(), feed)?;
-    let updates = updates_of(alloc, &parsed)?;
-    let mut state = DayState::new(alloc, airport).map_err(|_| AllocError)?;
-    let replies = state.apply(alloc, &updates)?;
-    let refused = refusals_of(alloc, &parsed, &replies)?;
+    let Judged { state, refused } = judge(alloc, airport, feed)?;
     let text = report_text(alloc, state.day(), state.plan(), &refused)?;
     let counts = RunCounts {
         accepted: state.journal().len(),
@@ -64,15 +91,27 @@ fn report_of(alloc: Global, airport: Airport, feed: &[u8]) -> Result<Report, All
     Ok(Report { text, counts })
 }
 
-// Refuses a scenario file with a record: no scenario is known yet.
-fn no_scenarios(alloc: Global, text: &[u8]) -> Result<(), FileFault>
+// The airport of an airport file.
+fn airport_of(alloc: Global, text: &[u8]) -> Result<Airport, RunError>
+    ensures said { IfOk result (λ g. airport_in text.now ≡ Ok g) }
+    ensures fault { IfErr result (IsAirportFault text.now) }
+{
+    match read_airport(alloc, text) {
+        Ok(airport) => Ok(airport),
+        Err(FileFault::Refused(number, word)) => Err(RunError::Airport(number, word)),
+        Err(FileFault::Memory) => Err(RunError::Memory),
+    }
+}
+
+// Refuses a scenario file that has a record: no scenario is known yet.
+fn no_scenarios(alloc: Global, text: &[u8]) -> Result<(), RunError>
     ensures none { OnOk result (records_of text.now ≡ []) }
-    ensures refused { IfErr result (λ e. IsScenarioFault text.now e) }
+    ensures fault { IfErr result (IsScenarioFault text.now) }
 {
     let mut reader = RecordReader::new(alloc, text);
     let mut row = ByteRecord::new(alloc);
     if reader.read(&mut row)? {
-        return Err(FileFault::Refused(1, RefusalWord::Kind));
+        return Err(RunError::Scenario(1, RefusalWord::Kind));
     }
     Ok(())
 }
@@ -82,10 +121,11 @@ fn answer(alloc: Global, inputs: &Inputs) -> Result<Report, RunError>
     requires { length inputs.now.feed.items ≤ INPUT_LIMIT }
     ensures text { IfOk result (λ report. IsOutput inputs.now.airport.items inputs.now.feed.items report.text.items) }
     ensures counts { IfOk result (λ report. AreCounts inputs.now.airport.items inputs.now.feed.items report.counts) }
+    ensures no_scenarios { OnOk result (records_of inputs.now.scenarios.items ≡ []) }
     ensures fault { IfErr result (IsRecordFault inputs.now.airport.items inputs.now.scenarios.items) }
 {
-    let airport = read_airport(alloc, &inputs.airport).map_err(RunError::of_airport)?;
-    no_scenarios(alloc, &inputs.scenarios).map_err(RunError::of_scenarios)?;
+    let airport = airport_of(alloc, &inputs.airport)?;
+    no_scenarios(alloc, &inputs.scenarios)?;
     let report = report_of(alloc, airport, &inputs.feed)?;
     Ok(report)
 }
