@@ -1,11 +1,13 @@
 -- Faults of a run.
-use Rattle.std.proofs.Common.{◌≡◌, ℕ, suc, List, [], ◌∷◌, IfSome, Ok, Err, false, refl, sym, ap, subst, ◌∙◌, length, map}
+use Rattle.std.proofs.Common.{◌≡◌, ℕ, suc, List, [], ◌∷◌, Option, IfSome, Ok, Err, false, refl, sym, ap, subst, ◌∙◌, length, map}
 use Rattle.cdm_flight.specs.Accepted.{after_one, replies_to}
 use Rattle.cdm_flight.specs.Journal.{AirportRows}
 use Rattle.cdm_flight.specs.declared.role.Role.{Role}
 use Rattle.cdm_flight.specs.declared.update.Update.{Update}
 use Rattle.std.proofs.lemmas.Option.{IfSome_then}
 use Rattle.cdm_feed.specs.AirportFile.{airport_in}
+use Rattle.cdm_feed.specs.Output.{AreCounts}
+use Rattle.cdm_feed.specs.declared.runs.RunCounts.{RunCounts}
 use Rattle.cdm_feed.specs.RunFaults.{AreRead, IsAirportFile, IsBeforeWriting, IsFirstFault, IsNoScenarioFile, IsRecordFault, IsScenarioFault, Reading, is_write_fault}
 use Rattle.cdm_feed.specs.declared.run_error.RunError.{RunError}
 use Rattle.cdm_feed.specs.declared.run_error.RunError.TheVariants as error
@@ -56,3 +58,11 @@ scenario_fault-record airport scenarios (error.Airport number word) file fault =
 scenario_fault-record airport scenarios (error.Scenario number word) file fault = (file, fault)
 scenario_fault-record airport scenarios error.Memory file fault = cc
 scenario_fault-record airport scenarios error.Write file fault = absurd fault
+
+-- what is counted in the bytes that were read is counted in the inputs
+pub counts-of_inputs : (a f : Option (List ℕ)) (airport feed : List ℕ) (counts : RunCounts)
+    → IfSome a (λ bytes. airport ≡ bytes) → IfSome f (λ bytes. feed ≡ bytes) → AreCounts airport feed counts
+    → IfSome a (λ airport_file. IfSome f (λ feed_file. AreCounts airport_file feed_file counts))
+counts-of_inputs a f airport feed counts as_airport as_feed are =
+    IfSome_then a as_airport (λ x is. IfSome_then f as_feed (λ y is_feed.
+        subst (λ (bytes : List ℕ). AreCounts bytes y counts) is (subst (λ (bytes : List ℕ). AreCounts airport bytes counts) is_feed are)))
