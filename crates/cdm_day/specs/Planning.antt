@@ -56,3 +56,11 @@ pub record IsPlanOf (flights : List Record) (times : TaxiTimes) (now : ℕ) (run
   pub runway_order : IsSorted runway_cmp plan.runways
   pub blocked : IsPermutation (blocked_early flights times now ++ flat_map (λ p. p.blocked) plan.runways) plan.blocked
   pub blocked_order : IsSorted blocked_cmp plan.blocked
+
+-- the plan has these plans of runways by name, and by name the blocked flights of them all with those
+-- that were blocked early
+pub record HasParts (early : List BlockedFlight) (made : List RunwayPlanRecord) (plan : PlanRecord) : Type 0 where
+  pub runways : IsPermutation made plan.runways
+  pub runway_order : IsSorted runway_cmp plan.runways
+  pub blocked : IsPermutation (early ++ flat_map (λ p. p.blocked) plan.runways) plan.blocked
+  pub blocked_order : IsSorted blocked_cmp plan.blocked
