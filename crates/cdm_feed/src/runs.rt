@@ -62,7 +62,13 @@ struct Judged {
 }
 
 // The day of an airport after a feed.
-fn judge(alloc: Global, airport: Airport, feed: &[u8]) -> Result<Judged, AllocError>
+fn judge<R: Threads + Sync, G: Gate>(
+    rt: &R,
+    alloc: Global,
+    airport: Airport,
+    feed: &[u8],
+    crew: (Workers, &G),
+) -> Result<Judged, AllocError>
     requires { length feed.now ≤ INPUT_LIMIT }
     ensures state { IfOk result (λ judged. judged.state ≡ record { airport = airport; journal = accepted_in airport feed.now }) }
     ensures refused { IfOk result (λ judged. judged.refused.items ≡ refusals_in airport feed.now) }

@@ -1,6 +1,6 @@
 //! Texts and indicators of plans that are made by hand.
-ghost use Rattle.std.specs.Prelude.{IsTrue, IsSorted};
-ghost use Rattle.cdm_sequence.specs.Slots.{slot_cmp};
+ghost use Rattle.std.specs.Prelude.{◌≡◌, IsTrue, IsSorted, vec_len};
+ghost use Rattle.cdm_sequence.specs.Slots.{blocked_cmp, slot_cmp};
 
 use super::*;
 use cdm_flight::{FlightName, Listed, RefusalWord, RunwayName};
@@ -41,32 +41,38 @@ fn planned(name: &[u8], ctot: Option<Minute>, tsat: u16) -> Option<Slot> {
     })
 }
 
-// A flight with TOBT and AOBT 06:00, which takes 15 minutes to its runway.
-fn off_block(name: &[u8]) -> Option<Slot> {
+// A flight that has left its stand.
+fn left(
+    name: &[u8],
+    mark: Mark,
+    tobt: Option<Minute>,
+    ctot: Option<Minute>,
+    aobt: u16,
+    exot: u16,
+) -> Option<Slot> {
+    if mark == Mark::Planned || aobt > 1440 || exot > 1439 {
+        return None;
+    }
     Some(Slot {
         name: FlightName::new(name)?,
-        tobt: Minute::new(360),
-        exot: 15,
-        ctot: None,
-        tsat: Minute::new(360)?,
-        ttot: Minute::new(375)?,
-        mark: Mark::OffBlock,
+        tobt,
+        exot,
+        ctot,
+        tsat: Minute::new(aobt)?,
+        ttot: Minute::new(aobt + exot)?,
+        mark,
         delay: None,
     })
 }
 
+// A flight with TOBT and AOBT 06:00, which takes 15 minutes to its runway.
+fn off_block(name: &[u8]) -> Option<Slot> {
+    left(name, Mark::OffBlock, Minute::new(360), None, 360, 15)
+}
+
 // A flight without TOBT, with AOBT 06:00 and ATOT 06:20.
 fn airborne(name: &[u8]) -> Option<Slot> {
-    Some(Slot {
-        name: FlightName::new(name)?,
-        tobt: None,
-        exot: 20,
-        ctot: None,
-        tsat: Minute::new(360)?,
-        ttot: Minute::new(380)?,
-        mark: Mark::Airborne,
-        delay: None,
-    })
+    left(name, Mark::Airborne, None, None, 360, 20)
 }
 
 fn blocked(name: &[u8], rule: Rule) -> Option<BlockedFlight> {
@@ -84,7 +90,17 @@ fn all<T: Copy + Drop>(alloc: Global, items: &[Option<T>]) -> Result<Vec<T>, Fai
     Ok(list)
 }
 
-// A plan of runway 27L alone, with at most one blocked flight.
+// The blocked flights by name.
+fn by_name(flights: Vec<BlockedFlight>) -> Vec<BlockedFlight>
+    ensures sorted { IsSorted blocked_cmp result.items }
+    ensures same { vec_len result ≡ vec_len flights }
+{
+    let mut ordered = flights;
+    ordered.sort_unstable_by_key(|flight| flight.name);
+    ordered
+}
+
+// A plan of runway 27L alone.
 fn plan(
     alloc: Global,
     now: u16,
@@ -92,15 +108,15 @@ fn plan(
     blocked: &[Option<BlockedFlight>],
 ) -> Result<Plan, Fail> {
     let slots = all(alloc, slots)?;
-    let blocked = all(alloc, blocked)?;
-    if slots.len() > 1000 || blocked.len() > 1 || !are_in_order(&slots) {
+    let blocked = by_name(all(alloc, blocked)?);
+    if slots.len() > 1000 || blocked.len() > 1000 || !are_in_order(&slots) {
         return Err("no plan".into());
     }
     let mut runways = Vec::new(alloc);
     runways.push(RunwayPlan {
         runway: RunwayName::new(b"27L").ok_or("runway")?,
         slots: Listed::new(slots),
-        blocked: Listed::new(blocked.clone()?),
+        blocked: Listed::new(Vec::new(alloc)),
     })?;
     Ok(Plan {
         now: Minute::new(now).ok_or("now")?,
@@ -240,6 +256,83 @@ REFUSED 3 TEXT
 }
 
 #[test]
+fn blocked_flights_by_name_and_counts_by_rule(rt: HostRuntime) -> Result<(), Fail> {
+    let alloc = rt.alloc();
+    let flights = [
+        blocked(b"G7", Rule::Tobt),
+        blocked(b"ABCDEFG", Rule::Closure),
+        blocked(b"A", Rule::Rate),
+        blocked(b"F6", Rule::Rate),
+        blocked(b"B2", Rule::Runway),
+        blocked(b"E5", Rule::Ctot),
+        blocked(b"AB1", Rule::Tobt),
+        blocked(b"D4", Rule::Horizon),
+        blocked(b"C3", Rule::Exot),
+    ];
+    let plan = plan(alloc, 0, &[], &flights)?;
+    let expected = b"DAY 2025-03-10 NOW 100000
+RUNWAY 27L
+BLOCKED A       RATE
+BLOCKED AB1     TOBT
+BLOCKED ABCDEFG CLOSURE
+BLOCKED B2      RUNWAY
+BLOCKED C3      EXOT
+BLOCKED D4      HORIZON
+BLOCKED E5      CTOT
+BLOCKED F6      RATE
+BLOCKED G7      TOBT
+TOTAL PLACED 0 DELAY 0 MAX 0 LATE 0 BLOCKED 9 TOBT 2 RUNWAY 1 EXOT 1 HORIZON 1 CTOT 1 CLOSURE 1 RATE 2
+";
+    assert_report(&rt, alloc, &plan, &[], expected.as_slice())
+}
+
+#[test]
+fn columns_of_every_width(rt: HostRuntime) -> Result<(), Fail> {
+    let alloc = rt.alloc();
+    let slots = [
+        left(b"B", Mark::OffBlock, None, Minute::new(400), 0, 180),
+        planned(b"ABCDEFG", Minute::new(1460), 1440),
+        left(b"C3", Mark::Airborne, Minute::new(2879), None, 1440, 1439),
+    ];
+    let plan = plan(alloc, 2879, &slots, &[])?;
+    let expected = b"DAY 2025-03-10 NOW 112359
+RUNWAY 27L
+B       ------  180 100640 100000 100300 O ----
+ABCDEFG 100600   15 110020 110000 110015 P 1080
+C3      112359 1439 ------ 110000 112359 A ----
+TOTAL PLACED 1 DELAY 1080 MAX 1080 LATE 1 BLOCKED 0
+";
+    assert_report(&rt, alloc, &plan, &[], expected.as_slice())
+}
+
+#[test]
+fn a_report_with_every_kind_of_line(rt: HostRuntime) -> Result<(), Fail> {
+    let alloc = rt.alloc();
+    let slots = [
+        off_block(b"OFF1"),
+        planned(b"AB1", None, 365),
+        airborne(b"AIR1"),
+        planned(b"CD2", Minute::new(400), 380),
+    ];
+    let flights = [blocked(b"EF3", Rule::Ctot), blocked(b"GH4", Rule::Runway)];
+    let plan = plan(alloc, 370, &slots, &flights)?;
+    let refused = [(7, RefusalWord::Exists), (1000, RefusalWord::Full)];
+    let expected = b"DAY 2025-03-10 NOW 100610
+RUNWAY 27L
+OFF1    100600   15 ------ 100600 100615 O ----
+AB1     100600   15 ------ 100605 100620 P    5
+AIR1    ------   20 ------ 100600 100620 A ----
+CD2     100600   15 100640 100620 100635 P   20
+BLOCKED EF3     CTOT
+BLOCKED GH4     RUNWAY
+TOTAL PLACED 2 DELAY 25 MAX 20 LATE 1 BLOCKED 2 RUNWAY 1 CTOT 1
+REFUSED 7 EXISTS
+REFUSED 1000 FULL
+";
+    assert_report(&rt, alloc, &plan, &refused, expected.as_slice())
+}
+
+#[test]
 fn refused_records(rt: HostRuntime) -> Result<(), Fail> {
     let alloc = rt.alloc();
     let plan = plan(alloc, 300, &[planned(b"AB1", None, 360)], &[])?;
@@ -319,5 +412,7 @@ fn changes_of_delays(rt: HostRuntime) -> Result<(), Fail> {
         ..Counts::default()
     };
     let expected = b"DELTA PLACED +0 DELAY +50 MAX +20 LATE +1 BLOCKED +0\n";
-    assert_delta(&rt, rt.alloc(), &base, &closed, expected.as_slice())
+    assert_delta(&rt, rt.alloc(), &base, &closed, expected.as_slice())?;
+    let expected = b"DELTA PLACED +0 DELAY -50 MAX -20 LATE -1 BLOCKED +0\n";
+    assert_delta(&rt, rt.alloc(), &closed, &base, expected.as_slice())
 }

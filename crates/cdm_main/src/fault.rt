@@ -1,0 +1,43 @@
+//! What stops the program, and how it is told.
+ghost use Rattle.std.specs.Prelude.{◌≡◌};
+ghost use Rattle.cdm_main.specs.Statuses.{status_of_error, status_of_fault};
+
+use cdm_feed::{Device, Input, RunError};
+use std::io::Write;
+use thiserror::Error;
+
+/// What stops the program.
+#[derive(Clone, Copy, PartialEq, Eq, Hash, Debug, Error)]
+pub enum Fault {
+    /// This file can't be opened.
+    #[error("cannot read {0}")]
+    CannotOpen(Input),
+    /// Want of memory before the run.
+    #[error("out of memory")]
+    NoMemory,
+    /// The run has not written its whole text.
+    #[error(transparent)]
+    Run(#[from] RunError),
+}
+
+impl Fault {
+    /// The exit status: 3 where an input is refused, and 1 where a device fails or memory is short.
+    pub fn status(&self) -> u8
+        ensures { result ≡ status_of_fault self.now }
+    {
+        match self {
+            Fault::Run(RunError::TooLong(_) | RunError::Airport(..) | RunError::Scenario(..)) => 3,
+            Fault::CannotOpen(_)
+            | Fault::NoMemory
+            | Fault::Run(RunError::Read(_) | RunError::Memory | RunError::Write) => 1,
+        }
+    }
+}
+
+/// Writes the fault's line, and answers its exit status, also where the line can't be written.
+pub fn report_fault<W: Write>(fault: &Fault, device: &mut Device<W>) -> u8
+    ensures { result ≡ status_of_fault fault.now }
+{
+    let _ = writeln!(device, "cdmseq: {fault}");
+    fault.status()
+}

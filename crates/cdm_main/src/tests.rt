@@ -1,0 +1,359 @@
+//! What no clause says: the command line, and the lines of faults.
+use super::*;
+use cdm_feed::RunError;
+use cdm_flight::RefusalWord;
+use std::alloc::Global;
+use std::io::Error;
+use std::process::Abort;
+use std::test::Fail;
+
+const AIRPORT: &[u8] = b"DAY,2025-03-10
+RUNWAY,27L,10,2
+TAXI,*,27L,15
+TAXI,A1,27L,10
+";
+
+const FEED: &[u8] = b"AP,FLT,AB1,5
+ATC,RWY,AB1,27L
+AO,TOBT,AB1,2025-03-10T06:00Z
+";
+
+const REPORT: &[u8] = b"DAY 2025-03-10 NOW 100000
+RUNWAY 27L
+AB1     100600   15 ------ 100600 100615 P    0
+TOTAL PLACED 1 DELAY 0 MAX 0 LATE 0 BLOCKED 0
+";
+
+// A writer that takes no byte.
+#[derive(Drop)]
+struct Full;
+
+impl Write for Full {
+    fn write(&mut self, _buf: &[u8]) -> io::Result<usize> {
+        Err(Error::from(ErrorKind::StorageFull))
+    }
+
+    fn flush(&mut self) -> io::Result<()> {
+        Err(Error::from(ErrorKind::StorageFull))
+    }
+}
+
+// The text of a usage fault.
+fn usage_of(alloc: Global, words: &[&str]) -> Result<String, Fail> {
+    match command_of(alloc, words) {
+        Err(CommandFault::Usage(text)) => Ok(text),
+        Err(CommandFault::Memory) => Err("out of memory".into()),
+        Ok(_) => Err("no usage fault".into()),
+    }
+}
+
+// The line of a fault and the status that it ends with, where the line can be written.
+fn told(rt: &impl Abort, alloc: Global, fault: &Fault) -> Result<(String, u8), Fail> {
+    let mut device = Device::new(Vec::new(alloc));
+    let status = report_fault(fault, &mut device);
+    assert!(rt; !device.failed());
+    let line = String::from_utf8(device.into_inner()).map_err(|_| "no text")?;
+    Ok((line, status))
+}
+
+#[test]
+fn plans_with_one_worker_or_as_many_as_asked_for(rt: HostRuntime) -> Result<(), Fail> {
+    let cases: [(&[&str], usize); 7] = [
+        (&["plan", "a.csv", "f.csv"], 1),
+        (&["plan", "a.csv", "f.csv", "--workers", "1"], 1),
+        (&["plan", "a.csv", "f.csv", "--workers", "64"], 64),
+        (&["plan", "a.csv", "f.csv", "--workers", "007"], 7),
+        (&["plan", "a.csv", "f.csv", "--workers=4"], 4),
+        (&["plan", "--workers", "2", "a.csv", "f.csv"], 2),
+        (&["plan", "a.csv", "--workers", "3", "--", "f.csv"], 3),
+    ];
+    for (words, count) in cases {
+        let command = command_of(rt.alloc(), words).map_err(|_| "no command")?;
+        let expected = Command::Plan {
+            airport: "a.csv",
+            feed: "f.csv",
+            scenarios: None,
+            workers: Workers::new(count).ok_or("workers")?,
+        };
+        assert_eq!(rt; command, expected, "{count} workers");
+    }
+    Ok(())
+}
+
+#[test]
+fn wrong_words_are_told(rt: HostRuntime) -> Result<(), Fail> {
+    let cases: [(&[&str], &str); 15] = [
+        (&["fly"], "unrecognized subcommand 'fly'"),
+        (&["Plan", "a", "f"], "unrecognized subcommand 'Plan'"),
+        (&["live", "a", "f", "g"], "unrecognized subcommand 'live'"),
+        (&["plan"], "<AIRPORT>"),
+        (&["plan", "a"], "<FEED>"),
+        (&["plan", "a", "f", "g"], "unexpected argument 'g'"),
+        (
+            &["plan", "a", "f", "--worker", "2"],
+            "unexpected argument '--worker'",
+        ),
+        (
+            &["plan", "a", "f", "--scenarios", "s"],
+            "unexpected argument '--scenarios'",
+        ),
+        (
+            &["plan", "a", "f", "--workers"],
+            "a value is required for '--workers <N>'",
+        ),
+        (&["plan", "a", "f", "--workers", "0"], "0 is not in 1..=64"),
+        (
+            &["plan", "a", "f", "--workers", "65"],
+            "65 is not in 1..=64",
+        ),
+        (
+            &["plan", "a", "f", "--workers", "two"],
+            "invalid value 'two' for '--workers <N>'",
+        ),
+        (
+            &["plan", "a", "f", "--workers", "2.0"],
+            "invalid value '2.0' for '--workers <N>'",
+        ),
+        (
+            &["plan", "a", "f", "--workers=-1"],
+            "invalid value '-1' for '--workers <N>'",
+        ),
+        (
+            &["plan", "a", "f", "--workers", "2", "--workers", "2"],
+            "'--workers <N>' cannot be used multiple times",
+        ),
+    ];
+    for (words, cause) in cases {
+        let text = usage_of(rt.alloc(), words)?;
+        assert!(rt; text.starts_with("error: "), "{text}");
+        assert!(rt; text.contains(cause), "{text}");
+        assert!(rt;
+            text.ends_with("For more information, try '--help'.\n"),
+            "{text}"
+        );
+    }
+    Ok(())
+}
+
+#[test]
+fn help_is_complete(rt: HostRuntime) -> Result<(), Fail> {
+    let asked: [(&[&str], &str); 5] = [
+        (&[], "Usage: cdmseq <COMMAND>"),
+        (&["--help"], "Usage: cdmseq <COMMAND>"),
+        (&["-h"], "Usage: cdmseq <COMMAND>"),
+        (
+            &["plan", "--help"],
+            "Usage: cdmseq plan [OPTIONS] <AIRPORT> <FEED>",
+        ),
+        (
+            &["plan", "a", "-h"],
+            "Usage: cdmseq plan [OPTIONS] <AIRPORT> <FEED>",
+        ),
+    ];
+    let told = [
+        "TOBT   target",
+        "EXOT   estimated",
+        "CTOT   calculated",
+        "TSAT   target",
+        "TTOT   target",
+        "DAY,2025-03-10",
+        "RUNWAY,27L,10,2",
+        "TAXI,*,27L,15",
+        "TAXI,A1,27L,10",
+        "AP,FLT,",
+        "AO,TOBT,",
+        "AP,STAND,",
+        "ATC,RWY,",
+        "NM,CTOT,",
+        "GH,ICE,",
+        "ATC,PRIO,",
+        "ATC,OFF,",
+        "ATC,AIR,",
+        "AO,CNL,",
+        "ATC,RATE,",
+        "ATC,CLOSE,",
+        "ATC,OPEN,",
+        "ATC,TAXI,",
+        "ATC,CLOCK,",
+        "P  planned",
+        "O  off-block",
+        "A  airborne",
+        "PLACED",
+        "DELAY",
+        "MAX",
+        "LATE",
+        "BLOCKED",
+        "FIELDS ",
+        "ROLE ",
+        "KIND ",
+        "TEXT ",
+        "RANGE ",
+        "AUTHORITY ",
+        "UNKNOWN ",
+        "EXISTS ",
+        "ENDED ",
+        "OFFBLOCK ",
+        "ORDER ",
+        "NOTREADY ",
+        "FULL ",
+        "TOBT     it",
+        "RUNWAY   it",
+        "EXOT     no",
+        "HORIZON  it",
+        "CTOT     no",
+        "CLOSURE  all",
+        "RATE     those",
+        "0  done",
+        "1  a file",
+        "2  the words",
+        "3  a file",
+    ];
+    for (words, usage) in asked {
+        let text = usage_of(rt.alloc(), words)?;
+        assert!(rt; text.contains(usage), "{text}");
+        for part in told {
+            assert!(rt; text.contains(part), "{part}");
+        }
+    }
+    Ok(())
+}
+
+#[test]
+fn faults_have_lines_and_statuses(rt: HostRuntime) -> Result<(), Fail> {
+    let cases = [
+        (
+            Fault::CannotOpen(Input::Airport),
+            "cdmseq: cannot read AIRPORT\n",
+            1,
+        ),
+        (
+            Fault::CannotOpen(Input::Feed),
+            "cdmseq: cannot read FEED\n",
+            1,
+        ),
+        (
+            Fault::CannotOpen(Input::Scenarios),
+            "cdmseq: cannot read SCENARIOS\n",
+            1,
+        ),
+        (Fault::NoMemory, "cdmseq: out of memory\n", 1),
+        (
+            Fault::Run(RunError::Read(Input::Feed)),
+            "cdmseq: cannot read FEED\n",
+            1,
+        ),
+        (
+            Fault::Run(RunError::Read(Input::Feed1)),
+            "cdmseq: cannot read FEED1\n",
+            1,
+        ),
+        (
+            Fault::Run(RunError::Read(Input::Feed2)),
+            "cdmseq: cannot read FEED2\n",
+            1,
+        ),
+        (
+            Fault::Run(RunError::TooLong(Input::Feed)),
+            "cdmseq: FEED is longer than 8388608 bytes\n",
+            3,
+        ),
+        (
+            Fault::Run(RunError::Airport(5, RefusalWord::Unknown)),
+            "cdmseq: AIRPORT record 5: UNKNOWN\n",
+            3,
+        ),
+        (
+            Fault::Run(RunError::Scenario(1, RefusalWord::Order)),
+            "cdmseq: SCENARIOS record 1: ORDER\n",
+            3,
+        ),
+        (Fault::Run(RunError::Memory), "cdmseq: out of memory\n", 1),
+        (Fault::Run(RunError::Write), "cdmseq: cannot write\n", 1),
+    ];
+    for (fault, line, status) in cases {
+        let (text, answer) = told(&rt, rt.alloc(), &fault)?;
+        assert_eq!(rt; text.as_str(), line);
+        assert_eq!(rt; answer, status, "{line}");
+        let mut full = Device::new(Full);
+        assert_eq!(rt; report_fault(&fault, &mut full), status, "{line}");
+        assert!(rt; full.failed());
+    }
+    Ok(())
+}
+
+#[test]
+fn usage_and_want_of_memory_have_statuses(rt: HostRuntime) -> Result<(), Fail> {
+    let usage = CommandFault::Usage(String::from_str(rt.alloc(), "error: so and so\n")?);
+    let cases = [
+        (usage, "error: so and so\n", 2),
+        (CommandFault::Memory, "cdmseq: out of memory\n", 1),
+    ];
+    for (fault, expected, status) in cases {
+        let mut device = Device::new(Vec::new(rt.alloc()));
+        assert_eq!(rt; report_command_fault(&fault, &mut device), status);
+        assert_eq!(rt; device.into_inner().as_slice(), expected.as_bytes());
+        assert_eq!(rt;
+            report_command_fault(&fault, &mut Device::new(Full)),
+            status
+        );
+    }
+    Ok(())
+}
+
+#[test]
+fn files_are_opened_before_the_first_is_read(rt: HostRuntime) -> Result<(), Fail> {
+    // A file that is missing, one that is empty, one without end, and a folder.
+    let cases = [
+        ("no/airport", "no/feed", "cdmseq: cannot read AIRPORT\n", 1),
+        ("/dev/zero", "no/feed", "cdmseq: cannot read FEED\n", 1),
+        ("/", "/dev/null", "cdmseq: cannot read AIRPORT\n", 1),
+        ("/dev/null", "/", "cdmseq: cannot read FEED\n", 1),
+        (
+            "/dev/zero",
+            "/",
+            "cdmseq: AIRPORT is longer than 8388608 bytes\n",
+            3,
+        ),
+        (
+            "/dev/null",
+            "/dev/zero",
+            "cdmseq: FEED is longer than 8388608 bytes\n",
+            3,
+        ),
+        (
+            "/dev/null",
+            "/dev/null",
+            "cdmseq: AIRPORT record 1: ORDER\n",
+            3,
+        ),
+    ];
+    for (airport, feed, line, status) in cases {
+        let command = Command::Plan {
+            airport,
+            feed,
+            scenarios: None,
+            workers: Workers::new(1).ok_or("workers")?,
+        };
+        let mut out = Device::new(Vec::new(rt.alloc()));
+        let fault = run_command(&rt, &command, &mut out)
+            .err()
+            .ok_or("no fault")?;
+        let (text, answer) = told(&rt, rt.alloc(), &fault)?;
+        assert_eq!(rt; text.as_str(), line, "{airport} {feed}");
+        assert_eq!(rt; answer, status, "{line}");
+        assert!(rt; out.into_inner().is_empty());
+    }
+    Ok(())
+}
+
+#[test]
+fn a_plan_is_written_or_not(rt: HostRuntime) -> Result<(), Fail> {
+    let workers = Workers::new(2).ok_or("workers")?;
+    let mut out = Device::new(Vec::new(rt.alloc()));
+    plan(&rt, AIRPORT, FEED, &[][..], workers, &mut out).map_err(|_| "no plan")?;
+    assert_eq!(rt; out.into_inner().as_slice(), REPORT);
+
+    let fault = plan(&rt, AIRPORT, FEED, &[][..], workers, &mut Device::new(Full)).err();
+    assert_eq!(rt; fault, Some(Fault::Run(RunError::Write)));
+    Ok(())
+}
