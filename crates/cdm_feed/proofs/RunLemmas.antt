@@ -44,9 +44,13 @@ record_fault-first a f s airport scenarios (error.Read input) read as_airport as
 record_fault-first a f s airport scenarios (error.TooLong input) read as_airport as_scenarios fault = absurd fault
 record_fault-first a f s airport scenarios (error.Airport number word) read as_airport as_scenarios fault =
     (read, IfSome_then a.before as_airport (λ bytes is. sym (ap airport_in is) ∙ fault))
-record_fault-first a f s airport scenarios (error.Scenario number word) read as_airport as_scenarios fault =
-    (read, IfSome_then a.before as_airport (λ bytes is. subst IsAirportFile is fault.0),
-    IfSome_then s.before as_scenarios (λ bytes is. subst IsNoScenarioFile is fault.1.0), fault.1.1, fault.1.2)
+record_fault-first a f s airport scenarios (error.Scenario number word) read as_airport as_scenarios fault = (
+  read,
+  IfSome_then a.before as_airport (λ bytes is. subst IsAirportFile is fault.0),
+  IfSome_then s.before as_scenarios (λ bytes is. subst IsNoScenarioFile is fault.1.0),
+  fault.1.1,
+  fault.1.2,
+)
 record_fault-first a f s airport scenarios error.Memory read as_airport as_scenarios fault = cc
 record_fault-first a f s airport scenarios error.Write read as_airport as_scenarios fault = absurd fault
 
@@ -65,4 +69,4 @@ pub counts-of_inputs : (a f : Option (List ℕ)) (airport feed : List ℕ) (coun
     → IfSome a (λ airport_file. IfSome f (λ feed_file. AreCounts airport_file feed_file counts))
 counts-of_inputs a f airport feed counts as_airport as_feed are =
     IfSome_then a as_airport (λ x is. IfSome_then f as_feed (λ y is_feed.
-        subst (λ (bytes : List ℕ). AreCounts bytes y counts) is (subst (λ (bytes : List ℕ). AreCounts airport bytes counts) is_feed are)))
+    subst (λ (bytes : List ℕ). AreCounts bytes y counts) is (subst (λ (bytes : List ℕ). AreCounts airport bytes counts) is_feed are)))

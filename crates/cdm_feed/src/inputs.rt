@@ -19,9 +19,15 @@ fn read_whole<R: Read>(
     ensures whole { IfOk result (λ bytes. IfSome (R.remaining device.old.inner) (λ all. bytes.items ≡ all)) }
     ensures limit { IfOk result (λ bytes. vec_len bytes ≤ INPUT_LIMIT) }
     ensures read { OnOk result (IsRead (record {
-        before = R.remaining device.old.inner; after = R.remaining device.new.inner; failed = device.new.failed })) }
+      before = R.remaining device.old.inner;
+      after = R.remaining device.new.inner;
+      failed = device.new.failed;
+    })) }
     ensures fault { IfErr result (IsInputFault (record {
-        before = R.remaining device.old.inner; after = R.remaining device.new.inner; failed = device.new.failed }) input) }
+      before = R.remaining device.old.inner;
+      after = R.remaining device.new.inner;
+      failed = device.new.failed;
+    }) input) }
 {
     read_input(alloc, device).map_err(|fault| match fault {
         InputFault::Failed => RunError::Read(input),

@@ -12,11 +12,11 @@ use crate::airport_file::read_airport;
 use crate::device::Device;
 use crate::feed::read_feed;
 use crate::file::FileFault;
+use crate::inputs::{Inputs, read_inputs};
 use crate::output::write_text;
 use crate::records::RecordReader;
 use crate::refused::{refusals_of, updates_of};
 use crate::run_error::RunError;
-use crate::inputs::{Inputs, read_inputs};
 use cdm_day::{Airport, DayState};
 use cdm_flight::RefusalWord;
 use cdm_phase::{Gate, Workers};
@@ -67,7 +67,8 @@ fn judge<R: Threads + Sync, G: Gate>(
     alloc: Global,
     airport: Airport,
     feed: &[u8],
-    crew: (Workers, &G),
+    workers: Workers,
+    gate: &G,
 ) -> Result<Judged, AllocError>
     requires { length feed.now ≤ INPUT_LIMIT }
     ensures state { IfOk result (λ judged. judged.state ≡ record { airport = airport; journal = accepted_in airport feed.now }) }
@@ -76,18 +77,25 @@ fn judge<R: Threads + Sync, G: Gate>(
     let parsed = read_feed(alloc, airport.day(), feed)?;
     let updates = updates_of(alloc, &parsed)?;
     let mut state = day_of(alloc, airport)?;
-    let replies = state.apply(alloc, &updates)?;
+    let replies = state.apply_all(rt, alloc, &updates, workers, gate)?;
     let refused = refusals_of(alloc, &parsed, &replies)?;
     Ok(Judged { state, refused })
 }
 
 // The report of a feed at an airport.
-fn report_of(alloc: Global, airport: Airport, feed: &[u8]) -> Result<Report, AllocError>
+fn report_of<R: Threads + Sync, G: Gate>(
+    rt: &R,
+    alloc: Global,
+    airport: Airport,
+    feed: &[u8],
+    workers: Workers,
+    gate: &G,
+) -> Result<Report, AllocError>
     requires { length feed.now ≤ INPUT_LIMIT }
     ensures text { IfOk result (λ report. IsReport airport feed.now report.text.items) }
     ensures counts { IfOk result (λ report. report.counts ≡ counts_in airport feed.now) }
 {
-    let Judged { state, refused } = judge(alloc, airport, feed)?;
+    let Judged { state, refused } = judge(rt, alloc, airport, feed, workers, gate)?;
     let text = report_text(alloc, state.day(), state.plan(), &refused)?;
     let counts = RunCounts {
         accepted: state.journal().len(),
@@ -123,7 +131,13 @@ fn no_scenarios(alloc: Global, text: &[u8]) -> Result<(), RunError>
 }
 
 // The text that the inputs make, and its counts.
-fn answer(alloc: Global, inputs: &Inputs) -> Result<Report, RunError>
+fn answer<R: Threads + Sync, G: Gate>(
+    rt: &R,
+    alloc: Global,
+    inputs: &Inputs,
+    workers: Workers,
+    gate: &G,
+) -> Result<Report, RunError>
     requires { length inputs.now.feed.items ≤ INPUT_LIMIT }
     ensures text { IfOk result (λ report. IsOutput inputs.now.airport.items inputs.now.feed.items report.text.items) }
     ensures counts { IfOk result (λ report. AreCounts inputs.now.airport.items inputs.now.feed.items report.counts) }
@@ -132,12 +146,13 @@ fn answer(alloc: Global, inputs: &Inputs) -> Result<Report, RunError>
 {
     let airport = airport_of(alloc, &inputs.airport)?;
     no_scenarios(alloc, &inputs.scenarios)?;
-    let report = report_of(alloc, airport, &inputs.feed)?;
+    let report = report_of(rt, alloc, airport, &inputs.feed, workers, gate)?;
     Ok(report)
 }
 
 /// Runs a day: reads the airport file, the feed and the scenario file, judges the feed's updates in
-/// order, plans the day and writes its report, with the feed's refused records.
+/// order, plans the day with so many workers and writes its report, with the feed's refused records.
+/// The text depends on the bytes of the inputs alone, whatever the workers and the gate do.
 ///
 /// `Ok` counts the accepted updates and the refused records, and has written the whole text and
 /// flushed it. Faults in their order: `Read` and `TooLong` of the airport file, of the feed and of
@@ -145,11 +160,14 @@ fn answer(alloc: Global, inputs: &Inputs) -> Result<Report, RunError>
 /// `Memory`, wherever memory was first refused; `Write`. Before `Write` nothing was written, and at
 /// `Write` a prefix of the text was. Scenarios can't be answered yet: any record of the scenario file
 /// is refused as `Scenario` with number 1 and the word Kind.
-pub fn run<A: Read, F: Read, S: Read, W: Write>(
+pub fn run<R: Threads + Sync, A: Read, F: Read, S: Read, G: Gate, W: Write>(
+    rt: &R,
     alloc: Global,
     airport: &mut Device<A>,
     feed: &mut Device<F>,
     scenarios: &mut Device<S>,
+    workers: Workers,
+    gate: &G,
     out: &mut Device<W>,
 ) -> Result<RunCounts, RunError>
     requires airport { airport.old.failed ≡ false }
@@ -175,7 +193,7 @@ pub fn run<A: Read, F: Read, S: Read, W: Write>(
         (text : List ℕ) × IsOutput airport_file feed_file text × (n : ℕ) × Appends (W.contents out.old.inner) (W.contents out.new.inner) (take n text))) }
 {
     let inputs = read_inputs(alloc, airport, feed, scenarios)?;
-    let report = answer(alloc, &inputs)?;
+    let report = answer(rt, alloc, &inputs, workers, gate)?;
     write_text(out, &report.text).map_err(|_| RunError::Write)?;
     Ok(report.counts)
 }

@@ -43,8 +43,8 @@ loop-spelled-preserved c =
           let at : a + 1 - 1 ≡ a = omega arith in
           let within : a < length rs = omega arith in
           let first : drop a rs ≡ reply ∷ drop (a + 1) rs =
-              drop-cons rs a Accepted within
-              ∙ (λ i. sym (w.reply-is ∙ ap (λ (j : ℕ). get_or rs j Accepted) at) i ∷ drop (sym (add-one a) i) rs) in
+          drop-cons rs a Accepted within
+          ∙ (λ i. sym (w.reply-is ∙ ap (λ (j : ℕ). get_or rs j Accepted) at) i ∷ drop (sym (add-one a) i) rs) in
           record {
             left = omega arith;
             all = step-ok n (drop k xs) (drop (k + 1) xs) x w.in-Ok.field-0 (drop a rs) (drop (a + 1) rs) reply rest w.in-Ok.is first
@@ -89,7 +89,7 @@ returns c = λ g is.
     let items = c.loop-spelled.refused.items in
     let ended = drop_of_length-le xs c.loop-spelled-test.false in
     let all : refused_by 1 xs rs ≡ items ++ [] =
-        c.loop-spelled.invariant.all ∙ ap (λ (ys : List Spelled). items ++ refused_by n ys (drop a rs)) ended in
+    c.loop-spelled.invariant.all ∙ ap (λ (ys : List Spelled). items ++ refused_by n ys (drop a rs)) ended in
     sym (all ∙ append-nil items)
     ∙ ap (refused_by 1 xs) is
     ∙ refused_by-replies g [] 1 xs
