@@ -60,7 +60,7 @@ flight_names_differ g a m told unique =
     (sym (names-keys m.entries (λ e i. record_name g a e.0 e.1 (sym (told.each e.0) ∙ (hash_map_get_iff nat_list_eq_equiv same_is m unique e.0 e.1).1 i))))
     unique
 
-runway-names : (g : AirportRows) (a : List Update) (rows : List RunwayRow) → map (λ (r : RunwayRules). r.name) (map (rules_of g a) rows) ≡ map (λ row. row.name) rows
+pub runway-names : (g : AirportRows) (a : List Update) (rows : List RunwayRow) → map (λ (r : RunwayRules). r.name) (map (rules_of g a) rows) ≡ map (λ row. row.name) rows
 unfolding rules_of
 runway-names g a [] = refl
 runway-names g a (row ∷ rows) = ap (λ (ns : List (List ℕ)). row.name ∷ ns) (runway-names g a rows)

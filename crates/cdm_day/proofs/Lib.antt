@@ -9,3 +9,4 @@ pub mod BatchLemmas
 pub mod PlanningLemmas
 pub mod PartLemmas
 pub mod DayPlanLemmas
+pub mod OnePlanLemmas

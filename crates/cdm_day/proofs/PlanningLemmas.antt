@@ -89,7 +89,7 @@ parted {X} a b apart (x ∷ xs) = go (a x) (b x) refl refl (parted a b apart xs)
 -- Flights.
 
 -- a target has its flight's name
-key_name : (f : Record) (times : TaxiTimes) (now : ℕ) (t : TargetRecord) → aim_of f times now ≡ Ready t → t.key.name ≡ f.name
+pub key_name : (f : Record) (times : TaxiTimes) (now : ℕ) (t : TargetRecord) → aim_of f times now ≡ Ready t → t.key.name ≡ f.name
 key_name f times now t e = by f.tobt refl (subst (IsAim f times now) e (aim_means f times now)).key
   where
     by : (o : Option ℕ) → f.tobt ≡ o → option_map (λ tobt. record { priority = f.priority; tobt = tobt; name = f.name }) o ≡ Some t.key → t.key.name ≡ f.name

@@ -1,0 +1,271 @@
+-- A day has one plan.
+use Rattle.std.proofs.Common.{◌≡◌, ℕ, Bool, true, false, List, [], ◌∷◌, ◌++◌, Option, None, Some, is_none, refl, sym, ◌∙◌, ap, subst, inl, inr, ◌⊎◌, map, filter, arith}
+use Rattle.std.specs.Prelude.{is_some, if◌then◌else◌}
+use Rattle.std.specs.declared.cmp.Ordering.{Ordering}
+use Rattle.std.specs.declared.cmp.Ordering.TheVariants.{Less, Equal, Greater}
+use Rattle.std.specs.Ordering.{is_lt, ordering_reverse}
+use Rattle.std.specs.Cmp.{IsStrictWeakOrder}
+use Rattle.std.specs.List.{AllZip, Contains, IsDistinct, cons_option, filter_map, flat_map}
+use Rattle.std.specs.List.Sorted.{IsPermutation, IsSortedBy}
+use Rattle.std.proofs.lemmas.Bool.{false≢true}
+use Rattle.std.proofs.lemmas.Cmp.{nat_list_cmp_total}
+use Rattle.std.proofs.lemmas.List.Elements.{All-contains, Contains-append_cases, filter_passes}
+use Rattle.std.proofs.lemmas.List.Sorted.{Contains-permutation, IsPermutation-map, IsPermutation-refl, IsPermutation-sym, ranks_by, sum_by-IsPermutation}
+use Rattle.std.proofs.lemmas.Map.Keys.{IsDistinct-IsPermutation}
+use Rattle.cdm_flight.specs.Names.{name_cmp, same_name}
+use Rattle.cdm_flight.specs.Record.{Record, is_planned}
+use Rattle.cdm_runway.specs.Rules.{RunwayRules}
+use Rattle.cdm_sequence.specs.Aims.{TaxiTimes, aim_of}
+use Rattle.cdm_sequence.specs.Day.{targets_on}
+use Rattle.cdm_sequence.specs.Fixed.{FixedRecord, takeoffs}
+use Rattle.cdm_sequence.specs.Sequence.{IsRightlyBlocked, IsSequence, flight_names, minute_in, names_left}
+use Rattle.cdm_sequence.specs.Slots.{PlanRecord, RunwayPlanRecord}
+use Rattle.cdm_sequence.specs.Targets.{TargetRecord}
+use Rattle.cdm_sequence.specs.declared.aims.AimResult.{AimResult}
+use Rattle.cdm_sequence.specs.declared.aims.AimResult.TheVariants.{Early, Ready}
+use Rattle.cdm_sequence.specs.declared.slot.BlockedFlight.{BlockedFlight}
+use Rattle.cdm_sequence.proofs.ListLemmas.{contains_all, contains_from_given, contains_head, contains_tail, contains_cases, distinct_filter, distinct_right, one_of_key, sorted_one}
+use Rattle.cdm_sequence.proofs.OneLemmas.{sequence_one}
+use Rattle.cdm_sequence.proofs.OrderLemmas.{is_same, same_flips, same_is, tied_names}
+use Rattle.cdm_day.specs.Airport.{runway_names}
+use Rattle.cdm_day.specs.Day.{Day, flights_in, rules_of}
+use Rattle.cdm_day.specs.DayPlan.{IsDayPlan, records_in}
+use Rattle.cdm_flight.specs.Journal.{flight_of, now_of, taxi_of}
+use Rattle.cdm_day.specs.Planning.{IsPlanOf, blocked_early, blocked_in, fixed_on, planned_of, target_in, targets_of}
+use Rattle.cdm_day.proofs.DayPlanLemmas.{record_name, runway-names}
+use Rattle.cdm_day.proofs.PlanningLemmas.{key_name, names_on}
+
+-- Lists by name.
+
+names_weak : IsStrictWeakOrder (λ (m n : List ℕ). is_lt (name_cmp m n))
+names_weak = ranks_by nat_list_cmp_total (λ (n : List ℕ). n)
+
+-- names of which neither is first are the same
+tied : (m n : List ℕ) → is_lt (name_cmp m n) ≡ false → is_lt (name_cmp n m) ≡ false → m ≡ n
+tied m n h k = tied_names m n (go (name_cmp m n) refl)
+  where
+    go : (v : Ordering) → name_cmp m n ≡ v → name_cmp m n ≡ Equal
+    go Less e = absurd (false≢true (sym h ∙ ap is_lt e))
+    go Equal e = e
+    go Greater e = absurd (false≢true (sym k ∙ ap is_lt (nat_list_cmp_total.antisymm n m ∙ ap ordering_reverse e)))
+
+-- a list whose elements differ by name has one order by name
+one_order : {X : Type 0} (name : X → List ℕ) (all xs ys : List X) → ((a b : X) → Contains all a → Contains all b → name a ≡ name b → a ≡ b)
+    → IsPermutation all xs → IsPermutation all ys
+    → IsSortedBy (λ a b. is_lt (name_cmp (name a) (name b))) xs → IsSortedBy (λ a b. is_lt (name_cmp (name a) (name b))) ys → xs ≡ ys
+one_order name all xs ys agree same other up vp =
+    sorted_one (λ m n. is_lt (name_cmp m n)) names_weak name xs ys
+    (λ a b i j h k. agree a b (Contains-permutation xs all a (IsPermutation-sym all xs same) i) (Contains-permutation ys all b (IsPermutation-sym all ys other) j) (tied (name a) (name b) h k))
+    up vp
+    (λ g. sum_by-IsPermutation (λ a. g (name a)) all xs same ∙ sym (sum_by-IsPermutation (λ a. g (name a)) all ys other))
+
+-- an element of lists put together is one of the lists'
+contains_from_lists : {X Y : Type 0} (f : X → List Y) (xs : List X) (y : Y) → Contains (flat_map f xs) y → (x : X) × Contains xs x × Contains (f x) y
+contains_from_lists f [] y i = absurd (omega (arith, i.1))
+contains_from_lists f (x ∷ xs) y i = elim (Contains-append_cases (f x) (flat_map f xs) y i) [
+  | inl j ↦ (x, contains_head x xs, j)
+  | inr j ↦ let w = contains_from_lists f xs y j in (w.0, contains_tail x xs w.0 w.1, w.2)
+]
+
+-- an element goes with one of the other list
+partner : {X Y : Type 0} (R : X → Y → Type 0) (xs : List X) (ys : List Y) (y : Y) → AllZip R xs ys → Contains ys y → (x : X) × R x y
+partner R [] [] y all i = absurd (omega (arith, i.1))
+partner R [] (v ∷ ys) y all i = absurd all
+partner R (u ∷ xs) [] y all i = absurd all
+partner {X} {Y} R (u ∷ xs) (v ∷ ys) y all i = elim (contains_cases v ys y i) [
+  | inl e ↦ (u, subst (λ (z : Y). R u z) e all.0)
+  | inr j ↦ partner R xs ys y all.1 j
+]
+
+-- Aims.
+
+ready_from : (a : AimResult) (t : TargetRecord) → target_in a ≡ Some t → a ≡ Ready t
+ready_from (Ready s) t e = let same : s ≡ t = cc in ap Ready same
+ready_from (Early rule) t e = cc
+
+blocked_name : (n : List ℕ) (a : AimResult) (b : BlockedFlight) → blocked_in n a ≡ Some b → b.name ≡ n
+blocked_name n (Ready t) b e = cc
+blocked_name n (Early rule) b e = cc
+
+-- a flight that is blocked early is no target
+not_both : (n : List ℕ) (a : AimResult) (b : BlockedFlight) (t : TargetRecord) → blocked_in n a ≡ Some b → target_in a ≡ Some t → ⊥
+not_both n (Ready s) b t h k = cc
+not_both n (Early rule) b t h k = cc
+
+some_same : {X : Type 0} (x y : X) → Some x ≡ Some y → x ≡ y
+some_same x y e = cc
+
+module _ (times : TaxiTimes) (now : ℕ) (fs : List Record) (own : IsDistinct same_name (map (λ f. f.name) fs)) where
+  abbrev aim_at : Record → AimResult
+  aim_at f = aim_of f times now
+
+  abbrev targets_at : List ℕ → List TargetRecord
+  targets_at r = targets_on r (targets_of fs times now)
+
+  abbrev IsMade : RunwayRules → RunwayPlanRecord → Type 0
+  IsMade r p = IsSequence r (fixed_on r.name fs) (targets_at r.name) p
+
+  -- the plans of the runways are determined
+  made_one : (rs : List RunwayRules) (xs ys : List RunwayPlanRecord) → AllZip IsMade rs xs → AllZip IsMade rs ys → xs ≡ ys
+  made_one [] [] [] a b = refl
+  made_one [] [] (y ∷ ys) a b = absurd b
+  made_one [] (x ∷ xs) ys a b = absurd a
+  made_one (r ∷ rs) [] ys a b = absurd a
+  made_one (r ∷ rs) (x ∷ xs) [] a b = absurd b
+  made_one (r ∷ rs) (x ∷ xs) (y ∷ ys) a b =
+      let fixed = fixed_on r.name fs in
+      let targets = targets_at r.name in
+      let same : x ≡ y = sequence_one r fixed fixed targets targets x y (names_on r.name times now fs own) (IsPermutation-refl fixed) (IsPermutation-refl targets) a.0 b.0 in
+      let rest = made_one rs xs ys a.1 b.1 in
+      λ i. same i ∷ rest i
+
+  -- and have the runways' names
+  made_named : (rs : List RunwayRules) (ps : List RunwayPlanRecord) → AllZip IsMade rs ps → map (λ p. p.runway) ps ≡ map (λ r. r.name) rs
+  made_named [] [] all = refl
+  made_named [] (p ∷ ps) all = absurd all
+  made_named (r ∷ rs) [] all = absurd all
+  made_named (r ∷ rs) (p ∷ ps) all =
+      let here = all.0.runway in
+      let rest = made_named rs ps all.1 in
+      λ i. here i ∷ rest i
+
+  -- a flight that a runway blocks is the flight of a target on it
+  record OnRunway (f : Record) (ps : List RunwayPlanRecord) (b : BlockedFlight) : Type 0 where
+    plan : RunwayPlanRecord
+    among : Contains ps plan
+    shown : Contains plan.blocked b
+    target : TargetRecord
+    aimed : target_in (aim_at f) ≡ Some target
+    here : target.runway ≡ plan.runway
+
+  -- where a blocked flight comes from
+  record Origin (ps : List RunwayPlanRecord) (b : BlockedFlight) : Type 0 where
+    flight : Record
+    known : Contains fs flight
+    named : b.name ≡ flight.name
+    fate : (blocked_in flight.name (aim_at flight) ≡ Some b) ⊎ OnRunway flight ps b
+
+  early_origin : (ps : List RunwayPlanRecord) (b : BlockedFlight) → Contains (blocked_early fs times now) b → Origin ps b
+  unfolding blocked_early
+  early_origin ps b i =
+      let w = contains_from_given (λ f. blocked_in f.name (aim_at f)) (planned_of fs) b i in
+      record {
+        flight = w.0;
+        known = contains_all (λ f. is_planned f.status) fs w.0 w.1;
+        named = blocked_name w.0.name (aim_at w.0) b w.2;
+        fate = inl w.2;
+      }
+
+  target_origin : (t : TargetRecord) → Contains (targets_of fs times now) t → (f : Record) × Contains fs f × (target_in (aim_at f) ≡ Some t)
+  unfolding targets_of
+  target_origin t i =
+      let w = contains_from_given (λ f. target_in (aim_at f)) (planned_of fs) t i in
+      (w.0, contains_all (λ f. is_planned f.status) fs w.0 w.1, w.2)
+
+  runway_origin : (rs : List RunwayRules) (made ps : List RunwayPlanRecord) → AllZip IsMade rs made → IsPermutation made ps → (b : BlockedFlight) → Contains (flat_map (λ p. p.blocked) ps) b → Origin ps b
+  runway_origin rs made ps all same b i =
+      let w = contains_from_lists (λ (p : RunwayPlanRecord). p.blocked) ps b i in
+      let p = w.0 in
+      let x = partner IsMade rs made p all (Contains-permutation ps made p (IsPermutation-sym made ps same) w.1) in
+      let r = x.0 in
+      let rule : IsRightlyBlocked r (takeoffs (fixed_on r.name fs)) (targets_at r.name) (minute_in p.slots) b = All-contains (IsRightlyBlocked r (takeoffs (fixed_on r.name fs)) (targets_at r.name) (minute_in p.slots)) p.blocked b x.1.rules w.2 in
+      let t = rule.0 in
+      let on : same_name t.runway r.name ≡ true = All-contains (λ f. same_name f.runway r.name ≡ true) (targets_at r.name) t (filter_passes (λ f. same_name f.runway r.name) (targets_of fs times now)) rule.1 in
+      let f = target_origin t (contains_all (λ f. same_name f.runway r.name) (targets_of fs times now) t rule.1) in
+      record {
+        flight = f.0;
+        known = f.1;
+        named = rule.2 ∙ key_name f.0 times now t (ready_from (aim_at f.0) t f.2);
+        fate = inr (record { plan = p; among = w.1; shown = w.2; target = t; aimed = f.2; here = same_is t.runway r.name on ∙ sym x.1.runway });
+      }
+
+  -- the flights that one runway blocks have names of their own
+  blocked_differ : (r : RunwayRules) (p : RunwayPlanRecord) → IsMade r p → IsDistinct same_name (map (λ b. b.name) p.blocked)
+  blocked_differ r p made =
+      let targets = targets_at r.name in
+      let all = distinct_right same_name (map (λ (x : FixedRecord). x.name) (fixed_on r.name fs)) (map (λ (t : TargetRecord). t.key.name) targets) (names_on r.name times now fs own) in
+      let left = distinct_filter same_name (λ (t : TargetRecord). t.key.name) (λ t. is_none (minute_in p.slots t)) targets all in
+      IsDistinct-IsPermutation same_name same_flips (names_left (minute_in p.slots) targets) (map (λ (b : BlockedFlight). b.name) p.blocked) made.blocked left
+
+  module _ (rs : List RunwayRules) (rs_own : IsDistinct same_name (map (λ r. r.name) rs)) (made ps : List RunwayPlanRecord) (all : AllZip IsMade rs made) (same : IsPermutation made ps) where
+    made_own : IsDistinct same_name (map (λ p. p.runway) made)
+    made_own = subst (λ (ns : List (List ℕ)). IsDistinct same_name ns) (sym (made_named rs made all)) rs_own
+
+    in_made : (p : RunwayPlanRecord) → Contains ps p → Contains made p
+    in_made p i = Contains-permutation ps made p (IsPermutation-sym made ps same) i
+
+    -- two plans of one runway are one
+    plan_same : (p q : RunwayPlanRecord) → Contains made p → Contains made q → p.runway ≡ q.runway → p ≡ q
+    plan_same p q i j e = one_of_key same_name same_flips (λ (p : RunwayPlanRecord). p.runway) made p q made_own i j (is_same p.runway q.runway e)
+
+    origin : (b : BlockedFlight) → Contains (blocked_early fs times now ++ flat_map (λ p. p.blocked) ps) b → Origin ps b
+    origin b i = elim (Contains-append_cases (blocked_early fs times now) (flat_map (λ p. p.blocked) ps) b i) [
+      | inl j ↦ early_origin ps b j
+      | inr j ↦ runway_origin rs made ps all same b j
+    ]
+
+    -- two blocked flights of one name are one
+    blocked_same : (a b : BlockedFlight) → Contains (blocked_early fs times now ++ flat_map (λ p. p.blocked) ps) a → Contains (blocked_early fs times now ++ flat_map (λ p. p.blocked) ps) b → a.name ≡ b.name → a ≡ b
+    blocked_same a b i j e = by x.fate y.fate
+      where
+        x : Origin ps a
+        x = origin a i
+
+        y : Origin ps b
+        y = origin b j
+
+        one : x.flight ≡ y.flight
+        one = one_of_key same_name same_flips (λ (f : Record). f.name) fs x.flight y.flight own x.known y.known (is_same x.flight.name y.flight.name (sym x.named ∙ e ∙ y.named))
+
+        by : (blocked_in x.flight.name (aim_at x.flight) ≡ Some a) ⊎ OnRunway x.flight ps a → (blocked_in y.flight.name (aim_at y.flight) ≡ Some b) ⊎ OnRunway y.flight ps b → a ≡ b
+        by (inl h) (inl k) = some_same a b (sym h ∙ ap (λ (f : Record). blocked_in f.name (aim_at f)) one ∙ k)
+        by (inl h) (inr k) = absurd (not_both x.flight.name (aim_at x.flight) a k.target h (ap (λ (f : Record). target_in (aim_at f)) one ∙ k.aimed))
+        by (inr h) (inl k) = absurd (not_both y.flight.name (aim_at y.flight) b h.target k (sym (ap (λ (f : Record). target_in (aim_at f)) one) ∙ h.aimed))
+        by (inr h) (inr k) =
+            let target : h.target ≡ k.target = some_same h.target k.target (sym h.aimed ∙ ap (λ (f : Record). target_in (aim_at f)) one ∙ k.aimed) in
+            let runway : h.plan.runway ≡ k.plan.runway = sym h.here ∙ ap (λ (t : TargetRecord). t.runway) target ∙ k.here in
+            let plan : k.plan ≡ h.plan = plan_same k.plan h.plan (in_made k.plan k.among) (in_made h.plan h.among) (sym runway) in
+            let shown : Contains h.plan.blocked b = subst (λ (p : RunwayPlanRecord). Contains p.blocked b) plan k.shown in
+            let found = partner IsMade rs made h.plan all (in_made h.plan h.among) in
+            one_of_key same_name same_flips (λ (b : BlockedFlight). b.name) h.plan.blocked a b (blocked_differ found.0 h.plan found.1) h.shown shown (is_same a.name b.name e)
+
+  -- there is one plan
+  pub one_plan : (rs : List RunwayRules) → IsDistinct same_name (map (λ r. r.name) rs) → (p q : PlanRecord) → IsPlanOf fs times now rs p → IsPlanOf fs times now rs q → p ≡ q
+  one_plan rs rs_own p q a b =
+      let made = a.sequences.0 in
+      let all = a.sequences.1 in
+      let equal : b.sequences.0 ≡ made = made_one rs b.sequences.0 made b.sequences.1 all in
+      let other : IsPermutation made q.runways = subst (λ (ms : List RunwayPlanRecord). IsPermutation ms q.runways) equal b.sequences.2 in
+      let clock : p.clock ≡ q.clock = a.clock ∙ sym b.clock in
+      let runways : p.runways ≡ q.runways = one_order (λ (p : RunwayPlanRecord). p.runway) made p.runways q.runways (plan_same rs rs_own made p.runways all a.sequences.2) a.sequences.2 other a.runway_order b.runway_order in
+      let left = blocked_early fs times now ++ flat_map (λ p. p.blocked) p.runways in
+      let others : IsPermutation left q.blocked = subst (λ (ps : List RunwayPlanRecord). IsPermutation (blocked_early fs times now ++ flat_map (λ p. p.blocked) ps) q.blocked) (sym runways) b.blocked in
+      let blocked : p.blocked ≡ q.blocked = one_order (λ (b : BlockedFlight). b.name) left p.blocked q.blocked (blocked_same rs rs_own made p.runways all a.sequences.2) a.blocked others a.blocked_order b.blocked_order in
+      λ i. record { clock = clock i; runways = runways i; blocked = blocked i }
+
+-- Days.
+
+-- records that names give have those names
+given_names : (h : List ℕ → Option Record) → ((k : List ℕ) (r : Record) → h k ≡ Some r → r.name ≡ k) → (ks : List (List ℕ)) → map (λ r. r.name) (filter_map h ks) ≡ map (λ k. k) (filter (λ k. is_some (h k)) ks)
+given_names h own [] = refl
+given_names h own (k ∷ ks) = go (h k) refl (given_names h own ks)
+  where
+    go : (o : Option Record) → h k ≡ o → map (λ r. r.name) (filter_map h ks) ≡ map (λ k. k) (filter (λ k. is_some (h k)) ks)
+        → map (λ r. r.name) (cons_option o (filter_map h ks)) ≡ map (λ k. k) (if is_some o then k ∷ filter (λ k. is_some (h k)) ks else filter (λ k. is_some (h k)) ks)
+    go None e rest = rest
+    go (Some r) e rest = let here = own k r e in λ i. here i ∷ rest i
+
+map_same : (ks : List (List ℕ)) → map (λ (k : List ℕ). k) ks ≡ ks
+map_same [] = refl
+map_same (k ∷ ks) = let rest = map_same ks in λ i. k ∷ rest i
+
+pub one_day_plan : (d : Day) (p q : PlanRecord) → IsDistinct same_name (runway_names d.airport) → IsDistinct same_name (flights_in d.journal) → IsDayPlan d p → IsDayPlan d q → p ≡ q
+unfolding IsDayPlan
+one_day_plan d p q runways flights a b =
+    let g = d.airport in
+    let j = d.journal in
+    let names : IsDistinct same_name (map (λ (r : Record). r.name) (records_in g j)) =
+    subst (λ (ns : List (List ℕ)). IsDistinct same_name ns) (sym (given_names (flight_of g j) (record_name g j) (flights_in j)))
+    (distinct_filter same_name (λ (k : List ℕ). k) (λ k. is_some (flight_of g j k)) (flights_in j) (subst (λ (ns : List (List ℕ)). IsDistinct same_name ns) (sym (map_same (flights_in j))) flights)) in
+    one_plan (taxi_of g j) (now_of j) (records_in g j) names (map (rules_of g j) g.runways)
+    (subst (λ (ns : List (List ℕ)). IsDistinct same_name ns) (sym (runway-names g j g.runways)) runways) p q a b
