@@ -1,5 +1,5 @@
 -- The tables of a day give the plan of its journal.
-use Rattle.std.proofs.Common.{◌≡◌, ℕ, Bool, true, false, cond, List, [], ◌∷◌, Option, None, Some, refl, sym, ◌∙◌, ap, subst, map}
+use Rattle.std.proofs.Common.{◌≡◌, ℕ, Bool, cond, List, [], ◌∷◌, Some, refl, sym, ◌∙◌, ap, subst, map}
 use Rattle.std.specs.List.{filter_map, cons_option, Contains, IsDistinct}
 use Rattle.std.specs.Map.{lookup, keys_of, values_of}
 use Rattle.std.proofs.lemmas.Map.Keys.{IsDistinct-tail}

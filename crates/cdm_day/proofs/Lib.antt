@@ -7,4 +7,5 @@ pub mod TableLemmas
 pub mod WordLemmas
 pub mod BatchLemmas
 pub mod PlanningLemmas
+pub mod PartLemmas
 pub mod DayPlanLemmas

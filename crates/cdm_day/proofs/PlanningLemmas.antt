@@ -1,6 +1,6 @@
 -- Each flight of a day stands once: as a fixed flight or a target of one runway, or blocked early.
-use Rattle.std.proofs.Common.{◌≡◌, ℕ, ◌+◌, ◌≤◌, ◌<◌, Bool, true, false, cond, not, ◌&&◌, ◌||◌, List, [], ◌∷◌, ◌++◌, Option, None, Some, refl, sym, ◌∙◌, ap, subst, arith, map, filter, length, sum_by}
-use Rattle.std.specs.Prelude.{is_some, if◌then◌else◌}
+use Rattle.std.proofs.Common.{◌≡◌, ℕ, ◌+◌, ◌≤◌, Bool, true, false, cond, ◌||◌, List, [], ◌∷◌, ◌++◌, Option, None, Some, refl, sym, ◌∙◌, ap, subst, arith, map, filter, length, sum_by}
+use Rattle.std.specs.Prelude.{is_some}
 use Rattle.std.specs.Option.{option_map, option_map_or}
 use Rattle.std.specs.List.{All, cons_option, filter_map, IsDistinct, AllByRecursion}
 use Rattle.std.specs.List.Sorted.{IsPermutation}
@@ -32,10 +32,8 @@ use Rattle.cdm_day.specs.Planning.{planned_of, target_in, blocked_in, targets_of
 use Rattle.cdm_day.specs.Aimed.{aimed, if_on, target_for, CanSequence, IsRunwayPlan}
 use Rattle.cdm_runway.specs.Rules.{RunwayRules}
 use Rattle.cdm_sequence.specs.Slots.{RunwayPlanRecord}
-use Rattle.std.specs.List.{AllZip, flat_map}
-use Rattle.std.proofs.lemmas.List.Concat.{length-flat_map}
+use Rattle.std.specs.List.{AllZip}
 use Rattle.std.proofs.lemmas.List.Elements.{filter_passes}
-use Rattle.std.proofs.lemmas.List.Sorted.{sum_by-IsPermutation}
 use Rattle.cdm_day.specs.declared.aimed.Aimed.{Aimed}
 
 -- Lists.
@@ -209,7 +207,7 @@ count_given {Y} h (f ∷ fs) = go (h f) (count_given h fs) ∙ sym (sum_by-cons 
   go None e = omega arith
   go (Some y) e = omega arith
 
-sum_by-add : {X : Type 0} (g h : X → ℕ) (xs : List X) → sum_by (λ x. g x + h x) xs ≡ sum_by g xs + sum_by h xs
+pub sum_by-add : {X : Type 0} (g h : X → ℕ) (xs : List X) → sum_by (λ x. g x + h x) xs ≡ sum_by g xs + sum_by h xs
 sum_by-add g h [] = refl
 sum_by-add g h (x ∷ xs) =
     let a = sum_by-cons (λ x. g x + h x) x xs in
@@ -385,7 +383,7 @@ all_shown fixed targets slots blocked same =
 
 -- The whole day.
 
-zipped_sizes : (fixed : List ℕ → List FixedRecord) (targets : List ℕ → List TargetRecord) (runways : List RunwayRules) (plans : List RunwayPlanRecord)
+pub zipped_sizes : (fixed : List ℕ → List FixedRecord) (targets : List ℕ → List TargetRecord) (runways : List RunwayRules) (plans : List RunwayPlanRecord)
     → AllZip (λ r p. IsRunwayPlan r (fixed r.name) (targets r.name) p) runways plans
     → sum_by (λ p. length p.slots + length p.blocked) plans ≡ sum_by (λ r. length (fixed r) + length (targets r)) (map (λ (r : RunwayRules). r.name) runways)
 zipped_sizes fixed targets [] [] all = refl
@@ -396,22 +394,6 @@ zipped_sizes fixed targets (r ∷ rs) (p ∷ ps) all =
     let b = sum_by-cons (λ r. length (fixed r) + length (targets r)) r.name (map (λ (r : RunwayRules). r.name) rs) in
     let size = all.0.size in
     let rest = zipped_sizes fixed targets rs ps all.1 in
-    omega arith
-
--- a day's plan has at most as many flights as there are
-pub few_in_plan : (times : TaxiTimes) (now : ℕ) (fs : List Record) (runways : List RunwayRules) (made ordered : List RunwayPlanRecord) (blocked : List BlockedFlight)
-    → IsDistinct same_name (map (λ r. r.name) runways)
-    → AllZip (λ r p. IsRunwayPlan r (fixed_on r.name fs) (targets_on r.name (targets_of fs times now)) p) runways made
-    → IsPermutation made ordered → IsPermutation (blocked_early fs times now ++ flat_map (λ p. p.blocked) ordered) blocked
-    → sum_by (λ p. length p.slots) ordered + length blocked ≤ length fs
-few_in_plan times now fs runways made ordered blocked own all same others =
-    let sizes = zipped_sizes (λ r. fixed_on r fs) (λ r. targets_on r (targets_of fs times now)) runways made all in
-    let few = few_flights (map (λ r. r.name) runways) times now fs own in
-    let moved = sum_by-IsPermutation (λ (p : RunwayPlanRecord). length p.slots + length p.blocked) made ordered same in
-    let split = sum_by-add (λ (p : RunwayPlanRecord). length p.slots) (λ p. length p.blocked) ordered in
-    let count = length_permutation (blocked_early fs times now ++ flat_map (λ p. p.blocked) ordered) blocked others in
-    let parts = length-append (blocked_early fs times now) (flat_map (λ p. p.blocked) ordered) in
-    let flat = length-flat_map (λ (p : RunwayPlanRecord). p.blocked) ordered in
     omega arith
 
 -- each runway can be sequenced

@@ -5,7 +5,7 @@ ghost use Rattle.std.specs.Option.{option_to_list};
 ghost use Rattle.std.specs.FinMap as finite;
 ghost use Rattle.cdm_flight.specs.Record.{is_planned};
 ghost use Rattle.cdm_day.specs.Planning.{blocked_in, planned_of};
-ghost use Rattle.cdm_day.specs.Aimed.{aimed, target_for};
+ghost use Rattle.cdm_day.specs.Aimed.{aimed, early_among, target_for};
 
 use cdm_flight::{Flight, FlightName, RunwayName, Status};
 use cdm_sequence::{AimResult, BlockedFlight, Target, aim};
@@ -41,9 +41,9 @@ pub(crate) fn planned(alloc: Global, flights: &[Flight]) -> Result<Vec<Flight>, 
     Ok(planned)
 }
 
-// A planned flight with what it could have.
+/// A planned flight with what it could have.
 #[tactic(auto, unfolding(crate::specs::Aimed::aimed))]
-fn aimed_of(flight: &Flight, taxi: &TaxiTable, now: Minute) -> Aimed
+pub(crate) fn aimed_of(flight: &Flight, taxi: &TaxiTable, now: Minute) -> Aimed
     requires { is_planned flight.now.status ≡ true }
     ensures { result ≡ aimed (λ place runway. finite.get taxi.now (place, runway)) now flight.now }
 {
@@ -108,7 +108,7 @@ fn blocked_by(aimed: &Aimed) -> Option<BlockedFlight>
 
 /// The flights that are blocked before the traffic of their runway is asked, in order.
 pub(crate) fn blocked(alloc: Global, aims: &[Aimed]) -> Result<Vec<BlockedFlight>, AllocError>
-    ensures { IfOk result (λ v. v.items ≡ filter_map (λ a. blocked_in a.name a.aim) aims.now) }
+    ensures { IfOk result (λ v. v.items ≡ early_among aims.now) }
 {
     aims.iter().filter_map(blocked_by).collect(alloc)
 }

@@ -3,6 +3,8 @@ ghost use Rattle.std.specs.Prelude.{◌≡◌, [], map, IfOk, IfErr, OnOk, OnErr
 ghost use Rattle.cdm_flight.specs.Accepted.{accepted, replies_to};
 ghost use Rattle.cdm_day.specs.Replies.{reply_of};
 
+mod parallel;
+
 use crate::airport::Airport;
 use crate::reply::Reply;
 use crate::tables::Tables;

@@ -3,7 +3,9 @@
 
 mod aimed;
 mod airport;
+mod crew;
 mod day;
+mod jobs;
 mod planning;
 mod reply;
 mod tables;

@@ -4,8 +4,8 @@ ghost use Rattle.std.specs.List.{AllZip, filter_map, flat_map, IsDistinct};
 ghost use Rattle.std.specs.FinMap as finite;
 ghost use Rattle.cdm_flight.specs.Names.{same_name};
 ghost use Rattle.cdm_sequence.specs.Slots.{runway_cmp, blocked_cmp};
-ghost use Rattle.cdm_day.specs.Planning.{IsPlanOf, fixed_on, is_on};
-ghost use Rattle.cdm_day.specs.Aimed.{CanSequence, IsRunwayPlan, target_for};
+ghost use Rattle.cdm_day.specs.Planning.{HasParts, IsPlanOf, fixed_on, is_on};
+ghost use Rattle.cdm_day.specs.Aimed.{CanSequence, IsRunwayPlan, early_among, target_for};
 
 use crate::aimed::{Aimed, aims, blocked, planned, targets};
 use cdm_flight::{Flight, Listed, RunwayName};
@@ -37,8 +37,8 @@ fn fixed(alloc: Global, runway: RunwayName, flights: &[Flight]) -> Result<Vec<Fi
         .collect(alloc)
 }
 
-// The plan of one runway, which chooses its own flights.
-fn runway_plan(
+/// The plan of one runway, which chooses its own flights.
+pub(crate) fn runway_plan(
     alloc: Global,
     runway: &Runway,
     flights: &[Flight],
@@ -99,6 +99,27 @@ fn by_name(plans: Vec<RunwayPlan>) -> Vec<RunwayPlan>
     ordered
 }
 
+// The plan of a day, from what its planned flights could have and from the plans of its runways.
+pub(crate) fn joined(
+    alloc: Global,
+    aims: &[Aimed],
+    plans: Vec<RunwayPlan>,
+    now: Minute,
+) -> Result<Plan, AllocError>
+    requires { sum_by (λ p. length p.slots + length p.blocked) plans.items + length (early_among aims.now) ≤ 2000 }
+    ensures clock { IfOk result (λ plan. plan.clock ≡ now) }
+    ensures parts { IfOk result (λ plan. HasParts (early_among aims.now) plans.items plan) }
+{
+    let early = blocked(alloc, aims)?;
+    let plans = by_name(plans);
+    let blocked = all_blocked(early, &plans)?;
+    Ok(Plan {
+        now,
+        runways: Listed::new(plans),
+        blocked: Listed::new(blocked),
+    })
+}
+
 /// The plan of a day, from its flights in the order of first appearance, its runways, the taxi times
 /// and the minute that it is now.
 pub(crate) fn plan_of(
@@ -115,12 +136,7 @@ pub(crate) fn plan_of(
 {
     let planned = planned(alloc, flights)?;
     let aims = aims(alloc, &planned, taxi, now)?;
-    let early = blocked(alloc, &aims)?;
-    let plans = by_name(runway_plans(alloc, runways, flights, &aims)?);
-    let blocked = all_blocked(early, &plans)?;
-    Ok(Plan {
-        now,
-        runways: Listed::new(plans),
-        blocked: Listed::new(blocked),
-    })
+    let plans = runway_plans(alloc, runways, flights, &aims)?;
+    let plan = joined(alloc, &aims, plans, now)?;
+    Ok(plan)
 }

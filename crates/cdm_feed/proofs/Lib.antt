@@ -1,1 +1,3 @@
 pub mod RecordFacts
+pub mod RefusedLemmas
+pub mod RunLemmas

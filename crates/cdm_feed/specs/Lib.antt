@@ -9,3 +9,6 @@ pub mod AirportRecords
 pub mod FileFaults
 pub mod Files
 pub mod AirportFile
+pub mod Refused
+pub mod Output
+pub mod RunFaults

@@ -1,22 +1,15 @@
 //! Feeds.
-ghost use Rattle.std.specs.Prelude.{◌≡◌, [], ◌∷◌, ◌++◌, IfOk, OnOk, map};
+ghost use Rattle.std.specs.Prelude.{◌≡◌, ◌≤◌, IfOk, length, map};
 ghost use Rattle.cdm_feed.specs.Parsing.{parse_of};
 ghost use Rattle.cdm_feed.specs.Records.{records_of};
 
+use crate::list::push_last;
 use crate::parsing::parse_record;
 use crate::records::RecordReader;
 use cdm_flight::{RefusalWord, Role, Update};
 use cdm_time::Day;
 use csv::ByteRecord;
 use std::alloc::{AllocError, Global};
-
-// Adds an item at the end of a list.
-fn push_last<T: Copy>(list: &mut Vec<T>, item: T) -> Result<(), AllocError>
-    ensures { OnOk result (list.new.items ≡ list.old.items ++ item ∷ []) }
-{
-    list.push(item)?;
-    Ok(())
-}
 
 /// What each record of a feed spells, in the feed's order: the role and the update, or the word that
 /// refuses it, the first that holds of Fields, Role, Kind, Text and Range, which are seen in the
@@ -26,7 +19,8 @@ pub fn read_feed(
     day: &Day,
     text: &[u8],
 ) -> Result<Vec<Result<(Role, Update), RefusalWord>>, AllocError>
-    ensures { IfOk result (λ parsed. parsed.items ≡ map (parse_of day.now) (records_of text.now)) }
+    ensures spelled { IfOk result (λ parsed. parsed.items ≡ map (parse_of day.now) (records_of text.now)) }
+    ensures count { IfOk result (λ parsed. length parsed.items ≤ length text.now) }
 {
     let mut reader = RecordReader::new(alloc, text);
     let mut row = ByteRecord::new(alloc);

@@ -9,12 +9,16 @@ mod feed;
 mod field;
 mod file;
 mod input;
+mod inputs;
 mod kind;
+mod list;
 mod output;
 mod parsing;
 mod records;
+mod refused;
 mod role;
 mod run_error;
+mod runs;
 
 pub use airport_file::read_airport;
 pub use device::Device;
@@ -22,7 +26,8 @@ pub use feed::read_feed;
 pub use file::FileFault;
 pub use input::{INPUT_LIMIT, InputFault, read_input};
 pub use output::{WriteFault, write_text};
-pub use run_error::{Input, RunCounts, RunError};
+pub use run_error::{Input, RunError};
+pub use runs::{RunCounts, run};
 
 #[cfg(test)]
 mod tests;

@@ -1,6 +1,6 @@
-//! What a whole run answers: its counts, or why it has no whole text.
+//! Why a run of the program ends without its whole text.
 ghost use Rattle.std.specs.Prelude.{◌≡◌};
-ghost use Rattle.cdm_feed.specs.declared.run_error.RunError.TheVariants as run;
+ghost use Rattle.cdm_feed.specs.declared.run_error.RunError.TheVariants as error;
 
 use crate::input::INPUT_LIMIT;
 use cdm_flight::RefusalWord;
@@ -8,18 +8,18 @@ use std::alloc::AllocError;
 use std::fmt;
 use thiserror::Error;
 
-/// One of the files that a run reads.
+/// The inputs of a run, by the names that its faults give them.
 #[derive(Clone, Copy, PartialEq, Eq, Hash, Debug)]
 pub enum Input {
     /// The airport file.
     Airport,
-    /// The feed of updates.
+    /// The feed.
     Feed,
-    /// The what-if scenarios.
+    /// The scenario file.
     Scenarios,
-    /// The feed of the first desk.
+    /// The feed of the first desk of a live run.
     Feed1,
-    /// The feed of the second desk.
+    /// The feed of the second desk of a live run.
     Feed2,
 }
 
@@ -35,43 +35,31 @@ impl fmt::Display for Input {
     }
 }
 
-/// What a whole run counts.
-#[derive(Clone, Copy, PartialEq, Eq, Hash, Debug)]
-pub struct RunCounts {
-    /// The updates of the feed that were accepted.
-    pub accepted: u32,
-    /// The records of the feed that were refused.
-    pub refused: u32,
-    /// The scenarios that were answered.
-    pub scenarios: u32,
-}
-
-/// Why a run has not written its whole text. Nothing of it was written, but for `Write`, where a
-/// prefix of it was.
+/// Why a run ends without its whole text. Records are numbered from 1.
 #[derive(Clone, Copy, PartialEq, Eq, Hash, Debug, Error)]
 pub enum RunError {
-    /// A read of this file failed.
+    /// A read of this input failed.
     #[error("cannot read {0}")]
     Read(Input),
-    /// This file has more than [`INPUT_LIMIT`] bytes.
+    /// This input has more than [`INPUT_LIMIT`] bytes.
     #[error("{0} is longer than {INPUT_LIMIT} bytes")]
     TooLong(Input),
-    /// The number of the airport file's first faulty record, from 1, and the word that refuses it.
+    /// The first faulty record of the airport file, and the word that refuses it.
     #[error("AIRPORT record {0}: {1}")]
-    Airport(u32, RefusalWord),
-    /// The number of the scenario file's first faulty record, from 1, and the word that refuses it.
+    Airport(usize, RefusalWord),
+    /// The first faulty record of the scenario file, and the word that refuses it.
     #[error("SCENARIOS record {0}: {1}")]
-    Scenario(u32, RefusalWord),
+    Scenario(usize, RefusalWord),
     /// Want of memory.
     #[error("out of memory")]
     Memory,
-    /// The text, or the flush after it, could not be written.
+    /// A write or the flush at the end failed.
     #[error("cannot write")]
     Write,
 }
 
 impl From<AllocError> for RunError {
-    ghost from_gives = { λ _ e. e ≡ run.Memory };
+    ghost from_gives = { λ _ e. e ≡ error.Memory };
 
     fn from(_error: AllocError) -> RunError {
         RunError::Memory

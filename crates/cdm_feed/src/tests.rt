@@ -1,3 +1,5 @@
+mod runs;
+
 use crate::{Device, InputFault, WriteFault, read_input, write_text};
 use std::alloc::Global;
 use std::io;

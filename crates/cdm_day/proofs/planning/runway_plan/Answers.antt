@@ -1,8 +1,7 @@
-use Rattle.std.proofs.Common.{◌≡◌, List, map, sym, ◌∙◌, ap, subst, refl, length}
+use Rattle.std.proofs.Common.{◌≡◌, List, sym, subst, refl}
 use Rattle.std.specs.List.{All, filter_map}
 use Rattle.cdm_sequence.specs.Targets.{TargetRecord}
 use Rattle.cdm_sequence.specs.Fixed.{FixedRecord}
-use Rattle.cdm_sequence.specs.Sequence.{IsSequence, flight_names}
 use Rattle.cdm_day.specs.Planning.{fixed_on}
 use Rattle.cdm_day.specs.Aimed.{target_for, IsRunwayPlan}
 use Rattle.cdm_day.proofs.PlanningLemmas.{on_it, all_shown}

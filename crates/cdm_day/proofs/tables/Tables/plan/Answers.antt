@@ -1,4 +1,4 @@
-use Rattle.std.proofs.Common.{◌≡◌, List, ℕ, map, sym, ◌∙◌, ap, subst}
+use Rattle.std.proofs.Common.{◌≡◌, List, map, sym, ◌∙◌, subst}
 use Rattle.std.specs.List.{IsDistinct}
 use Rattle.cdm_flight.specs.Names.{same_name}
 use Rattle.cdm_flight.specs.Record.{Record}

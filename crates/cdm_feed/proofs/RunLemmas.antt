@@ -1,0 +1,72 @@
+-- Faults of a run.
+use Rattle.std.proofs.Common.{◌≡◌, ℕ, suc, List, [], ◌∷◌, Option, IfSome, Ok, Err, false, refl, sym, ap, subst, ◌∙◌, length, map}
+use Rattle.cdm_flight.specs.Accepted.{after_one, replies_to}
+use Rattle.cdm_flight.specs.Journal.{AirportRows}
+use Rattle.cdm_flight.specs.declared.role.Role.{Role}
+use Rattle.cdm_flight.specs.declared.update.Update.{Update}
+use Rattle.std.proofs.lemmas.Option.{IfSome_then}
+use Rattle.cdm_feed.specs.AirportFile.{airport_in}
+use Rattle.cdm_feed.specs.Output.{AreCounts}
+use Rattle.cdm_feed.specs.declared.runs.RunCounts.{RunCounts}
+use Rattle.cdm_feed.specs.RunFaults.{AreRead, IsAirportFile, IsBeforeWriting, IsFirstFault, IsNoScenarioFile, IsRecordFault, IsScenarioFault, Reading, is_write_fault}
+use Rattle.cdm_feed.specs.declared.run_error.RunError.{RunError}
+use Rattle.cdm_feed.specs.declared.run_error.RunError.TheVariants as error
+
+-- there is a reply to each update
+pub replies_to-length : (g : AirportRows) (a : List Update) (batch : List (Role × Update)) → length (replies_to g a batch) ≡ length batch
+unfolding replies_to
+replies_to-length g a [] = refl
+replies_to-length g a (p ∷ later) = ap suc (replies_to-length g (after_one g a p) later)
+
+-- a fault of the records comes before the writing
+pub record_fault-before : (airport scenarios : List ℕ) (e : RunError) → IsRecordFault airport scenarios e → IsBeforeWriting e
+record_fault-before airport scenarios (error.Read input) f = cc
+record_fault-before airport scenarios (error.TooLong input) f = cc
+record_fault-before airport scenarios (error.Airport number word) f = cc
+record_fault-before airport scenarios (error.Scenario number word) f = cc
+record_fault-before airport scenarios error.Memory f = cc
+record_fault-before airport scenarios error.Write f = absurd f
+
+-- a fault that comes before the writing is none of it
+pub before-no_write_fault : (T : Type 0) (e : RunError) → IsBeforeWriting e → is_write_fault {T = T} (Err e) ≡ false
+before-no_write_fault T (error.Read input) b = refl
+before-no_write_fault T (error.TooLong input) b = refl
+before-no_write_fault T (error.Airport number word) b = refl
+before-no_write_fault T (error.Scenario number word) b = refl
+before-no_write_fault T error.Memory b = refl
+before-no_write_fault T error.Write b = absurd b
+
+-- a fault of the records of whole inputs is the first
+pub record_fault-first : (a f s : Reading) (airport scenarios : List ℕ) (e : RunError) → AreRead a f s
+    → IfSome a.before (λ bytes. airport ≡ bytes) → IfSome s.before (λ bytes. scenarios ≡ bytes)
+    → IsRecordFault airport scenarios e → IsFirstFault a f s e
+record_fault-first a f s airport scenarios (error.Read input) read as_airport as_scenarios fault = absurd fault
+record_fault-first a f s airport scenarios (error.TooLong input) read as_airport as_scenarios fault = absurd fault
+record_fault-first a f s airport scenarios (error.Airport number word) read as_airport as_scenarios fault =
+    (read, IfSome_then a.before as_airport (λ bytes is. sym (ap airport_in is) ∙ fault))
+record_fault-first a f s airport scenarios (error.Scenario number word) read as_airport as_scenarios fault = (
+  read,
+  IfSome_then a.before as_airport (λ bytes is. subst IsAirportFile is fault.0),
+  IfSome_then s.before as_scenarios (λ bytes is. subst IsNoScenarioFile is fault.1.0),
+  fault.1.1,
+  fault.1.2,
+)
+record_fault-first a f s airport scenarios error.Memory read as_airport as_scenarios fault = cc
+record_fault-first a f s airport scenarios error.Write read as_airport as_scenarios fault = absurd fault
+
+-- a fault of the scenario file is one of the records, where there is an airport
+pub scenario_fault-record : (airport scenarios : List ℕ) (e : RunError) → IsAirportFile airport → IsScenarioFault scenarios e → IsRecordFault airport scenarios e
+scenario_fault-record airport scenarios (error.Read input) file fault = absurd fault
+scenario_fault-record airport scenarios (error.TooLong input) file fault = absurd fault
+scenario_fault-record airport scenarios (error.Airport number word) file fault = absurd fault
+scenario_fault-record airport scenarios (error.Scenario number word) file fault = (file, fault)
+scenario_fault-record airport scenarios error.Memory file fault = cc
+scenario_fault-record airport scenarios error.Write file fault = absurd fault
+
+-- what is counted in the bytes that were read is counted in the inputs
+pub counts-of_inputs : (a f : Option (List ℕ)) (airport feed : List ℕ) (counts : RunCounts)
+    → IfSome a (λ bytes. airport ≡ bytes) → IfSome f (λ bytes. feed ≡ bytes) → AreCounts airport feed counts
+    → IfSome a (λ airport_file. IfSome f (λ feed_file. AreCounts airport_file feed_file counts))
+counts-of_inputs a f airport feed counts as_airport as_feed are =
+    IfSome_then a as_airport (λ x is. IfSome_then f as_feed (λ y is_feed.
+    subst (λ (bytes : List ℕ). AreCounts bytes y counts) is (subst (λ (bytes : List ℕ). AreCounts airport bytes counts) is_feed are)))

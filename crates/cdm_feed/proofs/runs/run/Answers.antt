@@ -1,0 +1,20 @@
+use Rattle.std.proofs.lemmas.Result.{err_from_is_err_and}
+use Rattle.cdm_feed.proofs.RunLemmas.{counts-of_inputs, record_fault-first}
+use Rattle.cdm_feed.proofs.runs.run.Goals as goal
+
+pub returns-in_err-report-clause-fault : goal.returns-in_err-report-clause-fault
+returns-in_err-report-clause-fault g c =
+    let inputs = c.in_ok-inputs.ensures in
+    let p = err_from_is_err_and c.from_residual-in_err-report.result c.from_residual-in_err-report.ensures.1 in
+    rw (p.1, p.2) (record_fault-first _ _ _ _ _ c.in_err-report.field-0.0 inputs.read inputs.airport inputs.scenarios c.in_err-report.ensures.fault)
+
+pub returns-clause-counts : goal.returns-clause-counts
+returns-clause-counts g c = counts-of_inputs
+    (g.A.Read.remaining c.args.airport.now.inner)
+    (g.F.Read.remaining c.args.feed.now.inner)
+    c.in_ok-inputs.inputs.airport.items
+    c.in_ok-inputs.inputs.feed.items
+    c.in_ok-report.report.counts
+    c.in_ok-inputs.ensures.airport
+    c.in_ok-inputs.ensures.feed
+    c.in_ok-report.ensures.counts

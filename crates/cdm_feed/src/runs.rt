@@ -1,0 +1,199 @@
+//! A whole run, from the bytes of its inputs to the bytes of its text.
+ghost use Rattle.std.specs.Prelude.{◌≡◌, ◌≤◌, ℕ, [], List, Ok, length, take, false, IfOk, IfErr, OnOk, IfSome, IsErrOf};
+ghost use Rattle.std.specs.Io.KnownBytes.{Appends};
+ghost use Rattle.cdm_feed.specs.declared.input.TheConstants.{INPUT_LIMIT};
+ghost use Rattle.cdm_feed.specs.declared.run_error.RunError.TheVariants as error;
+ghost use Rattle.cdm_feed.specs.Output.{AreCounts, IsOutput, IsReport, accepted_in, counts_in, refusals_in};
+ghost use Rattle.cdm_feed.specs.AirportFile.{airport_in};
+ghost use Rattle.cdm_feed.specs.Records.{records_of};
+ghost use Rattle.cdm_feed.specs.RunFaults.{IsAirportFault, IsBeforeWriting, IsFirstFault, IsRecordFault, IsScenarioFault, is_write_fault};
+
+use crate::airport_file::read_airport;
+use crate::device::Device;
+use crate::feed::read_feed;
+use crate::file::FileFault;
+use crate::inputs::{Inputs, read_inputs};
+use crate::output::write_text;
+use crate::records::RecordReader;
+use crate::refused::{refusals_of, updates_of};
+use crate::run_error::RunError;
+use cdm_day::{Airport, DayState};
+use cdm_flight::RefusalWord;
+use cdm_phase::{Gate, Workers};
+use cdm_report::report_text;
+use csv::ByteRecord;
+use std::alloc::{AllocError, Global};
+use std::io::{Read, Write};
+use std::thread::Threads;
+
+/// What a run counts.
+#[derive(Clone, Copy, PartialEq, Eq, Hash, Debug, Default)]
+pub struct RunCounts {
+    /// The accepted updates of the feed.
+    pub accepted: usize,
+    /// The refused records of the feed.
+    pub refused: usize,
+    /// The scenarios of the scenario file.
+    pub scenarios: usize,
+}
+
+// The text of a run and what it counts.
+#[derive(Drop)]
+struct Report {
+    text: Vec<u8>,
+    counts: RunCounts,
+}
+
+// The day of an airport before its first update.
+fn day_of(alloc: Global, airport: Airport) -> Result<DayState, AllocError>
+    ensures { IfOk result (λ s. s ≡ record { airport = airport; journal = [] }) }
+{
+    match DayState::new(alloc, airport) {
+        Ok(state) => Ok(state),
+        Err(_) => Err(AllocError),
+    }
+}
+
+// A day after a feed, and the feed's refused records.
+#[derive(Drop)]
+struct Judged {
+    state: DayState,
+    refused: Vec<(u32, RefusalWord)>,
+}
+
+// The day of an airport after a feed.
+fn judge<R: Threads + Sync, G: Gate>(
+    rt: &R,
+    alloc: Global,
+    airport: Airport,
+    feed: &[u8],
+    workers: Workers,
+    gate: &G,
+) -> Result<Judged, AllocError>
+    requires { length feed.now ≤ INPUT_LIMIT }
+    ensures state { IfOk result (λ judged. judged.state ≡ record { airport = airport; journal = accepted_in airport feed.now }) }
+    ensures refused { IfOk result (λ judged. judged.refused.items ≡ refusals_in airport feed.now) }
+{
+    let parsed = read_feed(alloc, airport.day(), feed)?;
+    let updates = updates_of(alloc, &parsed)?;
+    let mut state = day_of(alloc, airport)?;
+    let replies = state.apply_all(rt, alloc, &updates, workers, gate)?;
+    let refused = refusals_of(alloc, &parsed, &replies)?;
+    Ok(Judged { state, refused })
+}
+
+// The report of a feed at an airport.
+fn report_of<R: Threads + Sync, G: Gate>(
+    rt: &R,
+    alloc: Global,
+    airport: Airport,
+    feed: &[u8],
+    workers: Workers,
+    gate: &G,
+) -> Result<Report, AllocError>
+    requires { length feed.now ≤ INPUT_LIMIT }
+    ensures text { IfOk result (λ report. IsReport airport feed.now report.text.items) }
+    ensures counts { IfOk result (λ report. report.counts ≡ counts_in airport feed.now) }
+{
+    let Judged { state, refused } = judge(rt, alloc, airport, feed, workers, gate)?;
+    let text = report_text(alloc, state.day(), state.plan(), &refused)?;
+    let counts = RunCounts {
+        accepted: state.journal().len(),
+        refused: refused.len(),
+        scenarios: 0,
+    };
+    Ok(Report { text, counts })
+}
+
+// The airport of an airport file.
+fn airport_of(alloc: Global, text: &[u8]) -> Result<Airport, RunError>
+    ensures said { IfOk result (λ g. airport_in text.now ≡ Ok g) }
+    ensures fault { IfErr result (IsAirportFault text.now) }
+{
+    match read_airport(alloc, text) {
+        Ok(airport) => Ok(airport),
+        Err(FileFault::Refused(number, word)) => Err(RunError::Airport(number, word)),
+        Err(FileFault::Memory) => Err(RunError::Memory),
+    }
+}
+
+// Refuses a scenario file that has a record: no scenario is known yet.
+fn no_scenarios(alloc: Global, text: &[u8]) -> Result<(), RunError>
+    ensures none { OnOk result (records_of text.now ≡ []) }
+    ensures fault { IfErr result (IsScenarioFault text.now) }
+{
+    let mut reader = RecordReader::new(alloc, text);
+    let mut row = ByteRecord::new(alloc);
+    if reader.read(&mut row)? {
+        return Err(RunError::Scenario(1, RefusalWord::Kind));
+    }
+    Ok(())
+}
+
+// The text that the inputs make, and its counts.
+fn answer<R: Threads + Sync, G: Gate>(
+    rt: &R,
+    alloc: Global,
+    inputs: &Inputs,
+    workers: Workers,
+    gate: &G,
+) -> Result<Report, RunError>
+    requires { length inputs.now.feed.items ≤ INPUT_LIMIT }
+    ensures text { IfOk result (λ report. IsOutput inputs.now.airport.items inputs.now.feed.items report.text.items) }
+    ensures counts { IfOk result (λ report. AreCounts inputs.now.airport.items inputs.now.feed.items report.counts) }
+    ensures no_scenarios { OnOk result (records_of inputs.now.scenarios.items ≡ []) }
+    ensures fault { IfErr result (IsRecordFault inputs.now.airport.items inputs.now.scenarios.items) }
+{
+    let airport = airport_of(alloc, &inputs.airport)?;
+    no_scenarios(alloc, &inputs.scenarios)?;
+    let report = report_of(rt, alloc, airport, &inputs.feed, workers, gate)?;
+    Ok(report)
+}
+
+/// Runs a day: reads the airport file, the feed and the scenario file, judges the feed's updates in
+/// order, plans the day with so many workers and writes its report, with the feed's refused records.
+/// The text depends on the bytes of the inputs alone, whatever the workers and the gate do.
+///
+/// `Ok` counts the accepted updates and the refused records, and has written the whole text and
+/// flushed it. Faults in their order: `Read` and `TooLong` of the airport file, of the feed and of
+/// the scenario file; `Airport` and `Scenario`, the first faulty record of that file and its word;
+/// `Memory`, wherever memory was first refused; `Write`. Before `Write` nothing was written, and at
+/// `Write` a prefix of the text was. Scenarios can't be answered yet: any record of the scenario file
+/// is refused as `Scenario` with number 1 and the word Kind.
+pub fn run<R: Threads + Sync, A: Read, F: Read, S: Read, G: Gate, W: Write>(
+    rt: &R,
+    alloc: Global,
+    airport: &mut Device<A>,
+    feed: &mut Device<F>,
+    scenarios: &mut Device<S>,
+    workers: Workers,
+    gate: &G,
+    out: &mut Device<W>,
+) -> Result<RunCounts, RunError>
+    requires airport { airport.old.failed ≡ false }
+    requires feed { feed.old.failed ≡ false }
+    requires scenarios { scenarios.old.failed ≡ false }
+    requires out { out.old.failed ≡ false }
+
+    // The text of the airport file and the feed was written, and its counts are the answer.
+    ensures written { OnOk result (IfSome (A.remaining airport.old.inner) (λ airport_file. IfSome (F.remaining feed.old.inner) (λ feed_file.
+        (text : List ℕ) × IsOutput airport_file feed_file text × Appends (W.contents out.old.inner) (W.contents out.new.inner) text))) }
+    ensures counts { IfOk result (λ counts. IfSome (A.remaining airport.old.inner) (λ airport_file. IfSome (F.remaining feed.old.inner) (λ feed_file.
+        AreCounts airport_file feed_file counts))) }
+    ensures no_scenarios { OnOk result (IfSome (S.remaining scenarios.old.inner) (λ scenario_file. records_of scenario_file ≡ [])) }
+
+    // The first fault is the answer.
+    ensures fault { IfErr result (IsFirstFault
+        (record { before = A.remaining airport.old.inner; after = A.remaining airport.new.inner; failed = airport.new.failed })
+        (record { before = F.remaining feed.old.inner; after = F.remaining feed.new.inner; failed = feed.new.failed })
+        (record { before = S.remaining scenarios.old.inner; after = S.remaining scenarios.new.inner; failed = scenarios.new.failed })) }
+    ensures nothing { IfErr result (λ e. IsBeforeWriting e → out.new ≡ out.old) }
+    ensures failed { out.new.failed ≡ is_write_fault result }
+    ensures prefix { IsErrOf result RunError.Write → IfSome (A.remaining airport.old.inner) (λ airport_file. IfSome (F.remaining feed.old.inner) (λ feed_file.
+        (text : List ℕ) × IsOutput airport_file feed_file text × (n : ℕ) × Appends (W.contents out.old.inner) (W.contents out.new.inner) (take n text))) }
+{
+    let inputs = read_inputs(alloc, airport, feed, scenarios)?;
+    let report = answer(rt, alloc, &inputs, workers, gate)?;
+    write_text(out, &report.text).map_err(|_| RunError::Write)?;
+    Ok(report.counts)
+}
