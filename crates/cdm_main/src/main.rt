@@ -64,7 +64,7 @@ fn words_of<R: AllocGlobal + Env>(rt: &R) -> Result<Vec<String>, CommandFault> {
 fn report_command_fault<W: Write>(fault: &CommandFault, device: &mut Device<W>) -> u8 {
     match fault {
         CommandFault::Usage(text) => {
-            let _ = write!(device, "{text}");
+            let _ = device.write_all(text.as_bytes());
             USAGE_STATUS
         }
         CommandFault::Memory => report_fault(&Fault::NoMemory, device),

@@ -68,7 +68,9 @@ fn plans_with_one_worker_or_as_many_as_asked_for(rt: HostRuntime) -> Result<(), 
         (&["plan", "a.csv", "--workers", "3", "--", "f.csv"], 3),
     ];
     for (words, count) in cases {
-        let command = command_of(rt.alloc(), words).map_err(|_| "no command")?;
+        let Ok(command) = command_of(rt.alloc(), words) else {
+            return Err("no command".into());
+        };
         let expected = Command::Plan {
             airport: "a.csv",
             feed: "f.csv",
