@@ -1,3 +1,4 @@
 pub mod RecordFacts
 pub mod RefusedLemmas
 pub mod RunLemmas
+pub mod OutputLemmas

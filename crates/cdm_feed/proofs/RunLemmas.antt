@@ -1,5 +1,5 @@
 -- Faults of a run.
-use Rattle.std.proofs.Common.{◌≡◌, ℕ, suc, List, [], ◌∷◌, Option, IfSome, Ok, Err, false, refl, sym, ap, subst, ◌∙◌, length, map}
+use Rattle.std.proofs.Common.{◌≡◌, ℕ, suc, List, [], ◌∷◌, Option, None, Some, IfSome, Ok, Err, false, refl, sym, ap, subst, ◌∙◌, length, map}
 use Rattle.cdm_flight.specs.Accepted.{after_one, replies_to}
 use Rattle.cdm_flight.specs.Journal.{AirportRows}
 use Rattle.cdm_flight.specs.declared.role.Role.{Role}
@@ -70,3 +70,8 @@ pub counts-of_inputs : (a f : Option (List ℕ)) (airport feed : List ℕ) (coun
 counts-of_inputs a f airport feed counts as_airport as_feed are =
     IfSome_then a as_airport (λ x is. IfSome_then f as_feed (λ y is_feed.
     subst (λ (bytes : List ℕ). AreCounts bytes y counts) is (subst (λ (bytes : List ℕ). AreCounts airport bytes counts) is_feed are)))
+
+-- what holds of all bytes holds of those that a reader has left
+pub of_known : {P : List ℕ → Type 0} (o : Option (List ℕ)) → ((bytes : List ℕ) → P bytes) → IfSome o P
+of_known None p = tt
+of_known (Some bytes) p = p bytes

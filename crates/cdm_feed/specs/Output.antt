@@ -49,3 +49,7 @@ counts_in g feed = record {
 -- what the bytes of an airport file and of a feed make a run count
 abbrev pub AreCounts : List ℕ → List ℕ → RunCounts → Type 0
 AreCounts airport feed counts = (g : AirportRows) × (airport_in airport ≡ Ok g) × (counts ≡ counts_in g feed)
+
+-- the bytes of an airport file and of a feed have one text at most
+abbrev pub HaveOneText : List ℕ → List ℕ → Type 0
+HaveOneText airport feed = (text other : List ℕ) → IsOutput airport feed text → IsOutput airport feed other → text ≡ other

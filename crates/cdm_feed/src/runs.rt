@@ -3,7 +3,7 @@ ghost use Rattle.std.specs.Prelude.{◌≡◌, ◌≤◌, ℕ, [], List, Ok, len
 ghost use Rattle.std.specs.Io.KnownBytes.{Appends};
 ghost use Rattle.cdm_feed.specs.declared.input.TheConstants.{INPUT_LIMIT};
 ghost use Rattle.cdm_feed.specs.declared.run_error.RunError.TheVariants as error;
-ghost use Rattle.cdm_feed.specs.Output.{AreCounts, IsOutput, IsReport, accepted_in, counts_in, refusals_in};
+ghost use Rattle.cdm_feed.specs.Output.{AreCounts, HaveOneText, IsOutput, IsReport, accepted_in, counts_in, refusals_in};
 ghost use Rattle.cdm_feed.specs.AirportFile.{airport_in};
 ghost use Rattle.cdm_feed.specs.Records.{records_of};
 ghost use Rattle.cdm_feed.specs.RunFaults.{IsAirportFault, IsBeforeWriting, IsFirstFault, IsRecordFault, IsScenarioFault, is_write_fault};
@@ -175,9 +175,11 @@ pub fn run<R: Threads + Sync, A: Read, F: Read, S: Read, G: Gate, W: Write>(
     requires scenarios { scenarios.old.failed ≡ false }
     requires out { out.old.failed ≡ false }
 
-    // The text of the airport file and the feed was written, and its counts are the answer.
+    // The one text of the airport file and the feed was written, and its counts are the answer.
     ensures written { OnOk result (IfSome (A.remaining airport.old.inner) (λ airport_file. IfSome (F.remaining feed.old.inner) (λ feed_file.
         (text : List ℕ) × IsOutput airport_file feed_file text × Appends (W.contents out.old.inner) (W.contents out.new.inner) text))) }
+    ensures one { OnOk result (IfSome (A.remaining airport.old.inner) (λ airport_file. IfSome (F.remaining feed.old.inner) (λ feed_file.
+        HaveOneText airport_file feed_file))) }
     ensures counts { IfOk result (λ counts. IfSome (A.remaining airport.old.inner) (λ airport_file. IfSome (F.remaining feed.old.inner) (λ feed_file.
         AreCounts airport_file feed_file counts))) }
     ensures no_scenarios { OnOk result (IfSome (S.remaining scenarios.old.inner) (λ scenario_file. records_of scenario_file ≡ [])) }

@@ -1,5 +1,6 @@
 use Rattle.std.proofs.lemmas.Result.{err_from_is_err_and}
-use Rattle.cdm_feed.proofs.RunLemmas.{counts-of_inputs, record_fault-first}
+use Rattle.cdm_feed.proofs.OutputLemmas.{one-output}
+use Rattle.cdm_feed.proofs.RunLemmas.{counts-of_inputs, of_known, record_fault-first}
 use Rattle.cdm_feed.proofs.runs.run.Goals as goal
 
 pub returns-in_err-report-clause-fault : goal.returns-in_err-report-clause-fault
@@ -18,3 +19,7 @@ returns-clause-counts g c = counts-of_inputs
     c.in_ok-inputs.ensures.airport
     c.in_ok-inputs.ensures.feed
     c.in_ok-report.ensures.counts
+
+pub returns-clause-one : goal.returns-clause-one
+returns-clause-one g c = of_known (g.A.Read.remaining c.args.airport.now.inner) (λ airport.
+    of_known (g.F.Read.remaining c.args.feed.now.inner) (λ feed. one-output airport feed))

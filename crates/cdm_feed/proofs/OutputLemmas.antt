@@ -1,0 +1,162 @@
+-- A run has one text.
+use Rattle.std.proofs.Common.{◌≡◌, ◌++◌, ◌∙◌, ◌||◌, ℕ, ◌+◌, Bool, true, false, List, [], ◌∷◌, length, Option, None, Some, Result, Ok, Err, IfOk, refl, sym, ap, subst}
+use Rattle.std.specs.Prelude.{⊤, if◌then◌else◌, is_none, unwrap_or}
+use Rattle.std.specs.Result.{result_ok}
+use Rattle.std.specs.List.{cons_option, list_any, IsDistinct}
+use Rattle.std.specs.Option.{option_map_or}
+use Rattle.std.proofs.lemmas.Cmp.{nat_list_eq_equiv}
+use Rattle.std.proofs.lemmas.List.{append-nil}
+use Rattle.std.proofs.lemmas.Map.Keys.{IsDistinct-push}
+use Rattle.cdm_flight.specs.Accepted.{accepted, after_one, refusal, refusal_of}
+use Rattle.cdm_flight.specs.Authority.{may_make}
+use Rattle.cdm_flight.specs.Journal.{AirportRows, is_known, makes_known}
+use Rattle.cdm_flight.specs.Names.{same_name}
+use Rattle.cdm_flight.specs.declared.role.Role.{Role}
+use Rattle.cdm_flight.specs.declared.update.Update.{Update}
+use Rattle.cdm_flight.specs.declared.update.Update.TheVariants.{Flt}
+use Rattle.cdm_flight.specs.declared.word.RefusalWord.{RefusalWord}
+use Rattle.cdm_flight.specs.declared.word.RefusalWord.TheVariants as word
+use Rattle.cdm_sequence.proofs.OrderLemmas.{same_flips}
+use Rattle.cdm_day.specs.Airport.{IsAirport, runway_fault, runway_names, taxi_fault, with_runway, with_taxi}
+use Rattle.cdm_day.specs.declared.airport.AirportFault.{AirportFault}
+use Rattle.cdm_day.specs.declared.airport.AirportFault.TheVariants as airport
+use Rattle.cdm_day.specs.Day.{Day as JournalOfDay, flights_in, new_flight}
+use Rattle.cdm_day.proofs.OnePlanLemmas.{one_day_plan}
+use Rattle.cdm_day.proofs.AirportLemmas.{airport_after_runway, airport_after_taxi, airport_without_rows}
+use Rattle.cdm_day.proofs.JournalFacts.{flights_in-push}
+use Rattle.cdm_feed.specs.AirportFile.{airport_after, airport_in, begun, unless, with_record}
+use Rattle.cdm_feed.specs.AirportRecords.{airport_record_of}
+use Rattle.cdm_feed.specs.Files.{after_records, go_on}
+use Rattle.cdm_feed.specs.Output.{IsOutput, IsReport, accepted_in, refusals_in, spelled_in}
+use Rattle.cdm_feed.specs.Records.{records_of}
+use Rattle.cdm_feed.specs.Refused.{updates_in}
+use Rattle.cdm_report.specs.Report.{report_bytes}
+use Rattle.cdm_sequence.specs.Slots.{PlanRecord}
+use Rattle.cdm_feed.specs.declared.airport.AirportRecord.{AirportRecord}
+use Rattle.cdm_feed.specs.declared.airport.AirportRecord.TheVariants.{Day, Runway, Taxi}
+
+-- Each flight becomes known once.
+
+known-by : (f : List ℕ) (u : Update) → makes_known f u ≡ option_map_or (same_name f) (new_flight u) false
+known-by f (Flt g p) = same_flips g f
+known-by f _ = refl
+
+any-cons : (p : List ℕ → Bool) (o : Option (List ℕ)) (xs : List (List ℕ)) → list_any p (cons_option o xs) ≡ (option_map_or p o false || list_any p xs)
+any-cons p None xs = refl
+any-cons p (Some x) xs = refl
+
+known-names : (f : List ℕ) (a : List Update) → is_known a f ≡ list_any (same_name f) (flights_in a)
+known-names f [] = refl
+known-names f (u ∷ a) =
+    ap (λ (b : Bool). b || is_known a f) (known-by f u)
+    ∙ ap (λ (b : Bool). option_map_or (same_name f) (new_flight u) false || b) (known-names f a)
+    ∙ sym (any-cons (same_name f) (new_flight u) (flights_in a))
+
+fresh-accepted : (g : AirportRows) (a : List Update) (role : Role) (f : List ℕ) (p : ℕ) → refusal g a role (Flt f p) ≡ None → is_known a f ≡ false
+unfolding refusal refusal_of
+fresh-accepted g a role f p h = by (may_make role (Flt f p)) (is_known a f) _ h
+  where
+    by : (may known : Bool) (rest : Option RefusalWord) → (if may then (if known then Some word.Exists else rest) else Some word.Authority) ≡ None → known ≡ false
+    by true true rest h = cc
+    by true false rest h = refl
+    by false known rest h = cc
+
+taken : (g : AirportRows) (a : List Update) (role : Role) (u : Update) → refusal g a role u ≡ None
+    → IsDistinct same_name (flights_in a) → IsDistinct same_name (flights_in (a ++ u ∷ []))
+taken g a role u h own = subst (IsDistinct same_name) (sym (flights_in-push a u)) (by u h)
+  where
+    by : (v : Update) → refusal g a role v ≡ None → IsDistinct same_name (flights_in a ++ cons_option (new_flight v) [])
+    by (Flt f p) h = IsDistinct-push nat_list_eq_equiv (flights_in a) f own (sym (known-names f a) ∙ fresh-accepted g a role f p h)
+    by _ h = subst (IsDistinct same_name) (sym (append-nil (flights_in a))) own
+
+taken-or_not : (g : AirportRows) (a : List Update) (p : Role × Update) → IsDistinct same_name (flights_in a) → IsDistinct same_name (flights_in (after_one g a p))
+taken-or_not g a p own = by (refusal g a p.0 p.1) refl
+  where
+    by : (o : Option RefusalWord) → refusal g a p.0 p.1 ≡ o → IsDistinct same_name (flights_in (if is_none o then a ++ p.1 ∷ [] else a))
+    by None h = taken g a p.0 p.1 h own
+    by (Some word) h = own
+
+pub own_flights : (g : AirportRows) (a : List Update) (batch : List (Role × Update)) → IsDistinct same_name (flights_in a)
+    → IsDistinct same_name (flights_in (accepted g a batch))
+unfolding accepted
+own_flights g a [] own = own
+own_flights g a (p ∷ later) own = own_flights g (after_one g a p) later (taken-or_not g a p own)
+
+-- An airport file gives its runways names of their own.
+
+abbrev pub Keeps : Option AirportRows → Type 0
+Keeps None = ⊤
+Keeps (Some g) = IsAirport g
+
+unless-kept : (fault : Option AirportFault) (g : AirportRows) → (fault ≡ None → IsAirport g) → IfOk (unless fault g) Keeps
+unless-kept None g k = k refl
+unless-kept (Some airport.Unknown) g k = tt
+unless-kept (Some airport.Exists) g k = tt
+unless-kept (Some airport.Full) g k = tt
+unless-kept (Some airport.Memory) g k = tt
+
+record-kept : (s : Option AirportRows) (said : AirportRecord) → Keeps s → IfOk (with_record s said) Keeps
+unfolding with_record
+record-kept None (Day day) k = airport_without_rows _ refl refl
+record-kept None (Runway r cell cap) k = tt
+record-kept None (Taxi place r minutes) k = tt
+record-kept (Some g) (Day day) k = tt
+record-kept (Some g) (Runway r cell cap) k = unless-kept (runway_fault g r) (with_runway g r cell cap) (airport_after_runway g r cell cap k)
+record-kept (Some g) (Taxi place r minutes) k = unless-kept (taxi_fault g place r) (with_taxi g place r minutes) (airport_after_taxi g place r minutes k)
+
+fields-kept : (s : Option AirportRows) (fields : List (List ℕ)) → Keeps s → IfOk (airport_after s fields) Keeps
+unfolding airport_after
+fields-kept s fields k = by (airport_record_of fields) refl
+  where
+    by : (r : Result AirportRecord RefusalWord) → airport_record_of fields ≡ r → IfOk (airport_after s fields) Keeps
+    by (Ok said) e = rw e (record-kept s said k)
+    by (Err word) e = rw e tt
+
+records-kept : (s : Option AirportRows) (number : ℕ) (records : List (List (List ℕ))) → Keeps s → IfOk (after_records airport_after s number records) Keeps
+unfolding after_records
+records-kept s number [] k = k
+records-kept s number (fields ∷ later) k = by (λ next. records-kept next (number + 1) later) (airport_after s fields) (fields-kept s fields k)
+  where
+    by : ((next : Option AirportRows) → Keeps next → IfOk (after_records airport_after next (number + 1) later) Keeps)
+        → (r : Result (Option AirportRows) RefusalWord) → IfOk r Keeps
+        → IfOk (go_on number r (λ next. after_records airport_after next (number + 1) later)) Keeps
+    by more (Ok next) h = more next h
+    by more (Err word) h = tt
+
+begun-kept : (r : Result (Option AirportRows) (ℕ × RefusalWord)) → IfOk r Keeps → IfOk (begun r) IsAirport
+begun-kept (Ok (Some g)) h = h
+begun-kept (Ok None) h = tt
+begun-kept (Err fault) h = tt
+
+pub own_runways : (text : List ℕ) (g : AirportRows) → airport_in text ≡ Ok g → IsDistinct same_name (runway_names g)
+unfolding airport_in
+own_runways text g h =
+    let kept = begun-kept (after_records airport_after None 1 (records_of text)) (records-kept None 1 (records_of text) tt) in
+    let airport : IsAirport g = subst (λ (r : Result AirportRows (ℕ × RefusalWord)). IfOk r IsAirport) h kept in
+    airport.names
+
+-- One text.
+
+none_distinct : IsDistinct same_name []
+unfolding IsDistinct
+none_distinct = tt
+
+same-airport : (r : Result AirportRows (ℕ × RefusalWord)) (x y : AirportRows) → r ≡ Ok x → r ≡ Ok y → x ≡ y
+same-airport r x y a b =
+    let said : Result AirportRows (ℕ × RefusalWord) → AirportRows = λ q. unwrap_or (result_ok q) x in
+    sym (ap said a) ∙ ap said b
+
+own_journal : (g : AirportRows) (feed : List ℕ) → IsDistinct same_name (flights_in (accepted_in g feed))
+unfolding accepted_in
+own_journal g feed = own_flights g [] (updates_in (spelled_in g feed)) none_distinct
+
+one-report : (airport : List ℕ) (g : AirportRows) (feed x y : List ℕ) → airport_in airport ≡ Ok g → IsReport g feed x → IsReport g feed y → x ≡ y
+one-report airport g feed x y is a b =
+    let day : JournalOfDay = record { airport = g; journal = accepted_in g feed } in
+    let plans : a.plan ≡ b.plan = one_day_plan day a.plan b.plan (own_runways airport g is) (own_journal g feed) a.of_day b.of_day in
+    a.bytes ∙ ap (λ (p : PlanRecord). report_bytes g.day p (refusals_in g feed)) plans ∙ sym b.bytes
+
+pub one-output : (airport feed x y : List ℕ) → IsOutput airport feed x → IsOutput airport feed y → x ≡ y
+one-output airport feed x y a b =
+    let same : b.rows ≡ a.rows = same-airport (airport_in airport) b.rows a.rows b.airport_file a.airport_file in
+    one-report airport a.rows feed x y a.airport_file a.report (subst (λ (g : AirportRows). IsReport g feed y) same b.report)
