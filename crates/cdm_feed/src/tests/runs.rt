@@ -33,7 +33,10 @@ TOTAL PLACED 1 DELAY 0 MAX 0 LATE 0 BLOCKED 0
 
 /// A text with times of the airport's day in full: `[06:00]` is one of the first day, `[+06:00]` of
 /// the second, and `[END]` is the horizon's end.
-pub(crate) fn in_full(rt: &(impl AllocGlobal + Threads + Sync), text: &str) -> Result<String, Fail> {
+pub(crate) fn in_full(
+    rt: &(impl AllocGlobal + Threads + Sync),
+    text: &str,
+) -> Result<String, Fail> {
     let alloc = rt.alloc();
     let text = text.replace(alloc, "[END]", "2025-03-12T00:00Z")?;
     let text = text.replace(alloc, "[+", "2025-03-11T")?;

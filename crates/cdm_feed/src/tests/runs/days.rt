@@ -33,10 +33,12 @@ fn report_with(rt: &(impl AllocGlobal + Threads + Sync), records: &str) -> Resul
 }
 
 // The same report with another line for its flight, and another for its indicators.
-fn with_lines(rt: &(impl AllocGlobal + Threads + Sync), flight: &str, total: &str) -> Result<String, Fail> {
-    Ok(format!(in rt.alloc();
-        "DAY 2025-03-10 NOW 100000\nRUNWAY 27L\n{flight}\nTOTAL {total}\n"
-    )?)
+fn with_lines(
+    rt: &(impl AllocGlobal + Threads + Sync),
+    flight: &str,
+    total: &str,
+) -> Result<String, Fail> {
+    Ok(format!(in rt.alloc(); "DAY 2025-03-10 NOW 100000\nRUNWAY 27L\n{flight}\nTOTAL {total}\n")?)
 }
 
 #[test]
@@ -62,14 +64,18 @@ fn full_cell_whoever_plans_it(rt: HostRuntime) -> Result<(), Fail> {
 
 #[test]
 fn smaller_priority_goes_first(rt: HostRuntime) -> Result<(), Fail> {
-    let feed = format!(in rt.alloc(); "{THREE_FLIGHTS}\
+    let feed = format!(in rt.alloc();
+        "{THREE_FLIGHTS}\
 ATC,PRIO,AB3,1
 AP,FLT,ZZ9,5
 ATC,RWY,ZZ9,27L
 AO,TOBT,ZZ9,[05:30]
 ATC,PRIO,ZZ9,9
-")?;
-    assert_eq!(rt; report(&rt, &feed)?.as_str(), "\
+"
+    )?;
+    assert_eq!(rt;
+        report(&rt, &feed)?.as_str(),
+        "\
 DAY 2025-03-10 NOW 100000
 RUNWAY 27L
 ZZ9     100530   15 ------ 100530 100545 P    0
@@ -77,7 +83,8 @@ AB1     100600   15 ------ 100600 100615 P    0
 AB3     100600   15 ------ 100600 100615 P    0
 AB2     100600   15 ------ 100605 100620 P    5
 TOTAL PLACED 4 DELAY 5 MAX 5 LATE 0 BLOCKED 0
-");
+"
+    );
     Ok(())
 }
 
@@ -208,15 +215,19 @@ fn end_of_the_horizon(rt: HostRuntime) -> Result<(), Fail> {
 
 #[test]
 fn flights_off_block_keep_their_minutes(rt: HostRuntime) -> Result<(), Fail> {
-    let feed = format!(in rt.alloc(); "{THREE_FLIGHTS}\
+    let feed = format!(in rt.alloc();
+        "{THREE_FLIGHTS}\
 ATC,OFF,AB1,[06:00]
 ATC,OFF,AB2,[06:00]
 ATC,OFF,AB3,[06:00]
 AP,FLT,AB4,5
 ATC,RWY,AB4,27L
 AO,TOBT,AB4,[06:00]
-")?;
-    assert_eq!(rt; report(&rt, &feed)?.as_str(), "\
+"
+    )?;
+    assert_eq!(rt;
+        report(&rt, &feed)?.as_str(),
+        "\
 DAY 2025-03-10 NOW 100000
 RUNWAY 27L
 AB1     100600   15 ------ 100600 100615 O ----
@@ -224,9 +235,12 @@ AB2     100600   15 ------ 100600 100615 O ----
 AB3     100600   15 ------ 100600 100615 O ----
 AB4     100600   15 ------ 100605 100620 P    5
 TOTAL PLACED 1 DELAY 5 MAX 5 LATE 0 BLOCKED 0
-");
+"
+    );
     let feed = format!(in rt.alloc(); "{feed}ATC,TAXI,*,27L,40\n")?;
-    assert_eq!(rt; report(&rt, &feed)?.as_str(), "\
+    assert_eq!(rt;
+        report(&rt, &feed)?.as_str(),
+        "\
 DAY 2025-03-10 NOW 100000
 RUNWAY 27L
 AB1     100600   15 ------ 100600 100615 O ----
@@ -234,33 +248,40 @@ AB2     100600   15 ------ 100600 100615 O ----
 AB3     100600   15 ------ 100600 100615 O ----
 AB4     100600   40 ------ 100600 100640 P    0
 TOTAL PLACED 1 DELAY 0 MAX 0 LATE 0 BLOCKED 0
-");
+"
+    );
     Ok(())
 }
 
 #[test]
 fn earlier_tobt_has_the_cell(rt: HostRuntime) -> Result<(), Fail> {
-    let feed = format!(in rt.alloc(); "\
+    let feed = format!(in rt.alloc();
+        "\
 ATC,RATE,27L,[06:00],[07:00],1
 {ONE_FLIGHT}\
 AP,FLT,CD2,5
 ATC,RWY,CD2,27L
 AO,TOBT,CD2,[06:01]
 AP,STAND,CD2,A1
-")?;
-    assert_eq!(rt; report(&rt, &feed)?.as_str(), "\
+"
+    )?;
+    assert_eq!(rt;
+        report(&rt, &feed)?.as_str(),
+        "\
 DAY 2025-03-10 NOW 100000
 RUNWAY 27L
 AB1     100600   15 ------ 100600 100615 P    0
 CD2     100601   10 ------ 100610 100620 P    9
 TOTAL PLACED 2 DELAY 9 MAX 9 LATE 0 BLOCKED 0
-");
+"
+    );
     Ok(())
 }
 
 #[test]
 fn refused_records(rt: HostRuntime) -> Result<(), Fail> {
-    let feed = format!(in rt.alloc(); "{ONE_FLIGHT}\
+    let feed = format!(in rt.alloc();
+        "{ONE_FLIGHT}\
 AO,CTOT,AB1,[06:40]
 AO,CTOT,AB1
 XX,CTOT,AB1
@@ -272,7 +293,8 @@ ATC,CLOCK,[04:59]
 AO,TOBT,AB1,[END]
 AO,TOBT,ab1,[06:00]
 AO,TOBT,XY9,[06:00]
-")?;
+"
+    )?;
     let (answer, text) = run_of(&rt, AIRPORT, &feed, 1)?;
     let counts = RunCounts {
         accepted: 4,
@@ -280,7 +302,9 @@ AO,TOBT,XY9,[06:00]
         scenarios: 0,
     };
     assert_eq!(rt; answer, Ok(counts));
-    assert_eq!(rt; text.as_str(), "\
+    assert_eq!(rt;
+        text.as_str(),
+        "\
 DAY 2025-03-10 NOW 100500
 RUNWAY 27L
 AB1     100600   15 ------ 100600 100615 P    0
@@ -295,7 +319,8 @@ REFUSED 11 ORDER
 REFUSED 12 RANGE
 REFUSED 13 TEXT
 REFUSED 14 UNKNOWN
-");
+"
+    );
     Ok(())
 }
 
@@ -316,7 +341,9 @@ AO,CNL,CD2
 AO,TOBT,CD2,[06:00]
 AP,FLT,CD2,5
 ";
-    assert_eq!(rt; report(&rt, feed)?.as_str(), "\
+    assert_eq!(rt;
+        report(&rt, feed)?.as_str(),
+        "\
 DAY 2025-03-10 NOW 100000
 RUNWAY 27L
 AB1     ------   20 ------ 100600 100620 A ----
@@ -328,37 +355,47 @@ REFUSED 7 ORDER
 REFUSED 9 ENDED
 REFUSED 12 ENDED
 REFUSED 13 EXISTS
-");
+"
+    );
     Ok(())
 }
 
 #[test]
 fn clock(rt: HostRuntime) -> Result<(), Fail> {
-    assert_eq!(rt; report_with(&rt, "ATC,CLOCK,[06:10]\n")?.as_str(), "\
+    assert_eq!(rt;
+        report_with(&rt, "ATC,CLOCK,[06:10]\n")?.as_str(),
+        "\
 DAY 2025-03-10 NOW 100610
 RUNWAY 27L
 AB1     100600   15 ------ 100610 100625 P   10
 TOTAL PLACED 1 DELAY 10 MAX 10 LATE 0 BLOCKED 0
-");
+"
+    );
     let records = "ATC,CLOCK,[06:10]\nATC,OFF,AB1,[+23:45]\nATC,OFF,AB1,[+23:44]\n";
-    assert_eq!(rt; report_with(&rt, records)?.as_str(), "\
+    assert_eq!(rt;
+        report_with(&rt, records)?.as_str(),
+        "\
 DAY 2025-03-10 NOW 100610
 RUNWAY 27L
 AB1     100600   15 ------ 112344 112359 O ----
 TOTAL PLACED 0 DELAY 0 MAX 0 LATE 0 BLOCKED 0
 REFUSED 5 NOTREADY
-");
+"
+    );
     Ok(())
 }
 
 #[test]
 fn odd_bytes(rt: HostRuntime) -> Result<(), Fail> {
     for feed in ["", "\n\r\n\n"] {
-        assert_eq!(rt; report(&rt, feed)?.as_str(), "\
+        assert_eq!(rt;
+            report(&rt, feed)?.as_str(),
+            "\
 DAY 2025-03-10 NOW 100000
 RUNWAY 27L
 TOTAL PLACED 0 DELAY 0 MAX 0 LATE 0 BLOCKED 0
-");
+"
+        );
     }
     let quoted = "\"AP\",\"FLT\",\"AB1\",\"5\"\r\n\"ATC\",\"RWY\",\"AB1\",\"27L\"\r\n\
 \"AO\",\"TOBT\",\"AB1\",\"[06:00]\"\r\n";
@@ -366,7 +403,9 @@ TOTAL PLACED 0 DELAY 0 MAX 0 LATE 0 BLOCKED 0
     let cut = [("2025-03-10T06", "TEXT"), ("", "FIELDS")];
     for (time, word) in cut {
         let comma = if time.is_empty() { "" } else { "," };
-        let feed = format!(in rt.alloc(); "AP,FLT,AB1,5\nATC,RWY,AB1,27L\nAO,TOBT,AB1{comma}{time}")?;
+        let feed = format!(in rt.alloc();
+            "AP,FLT,AB1,5\nATC,RWY,AB1,27L\nAO,TOBT,AB1{comma}{time}"
+        )?;
         let lines = with_lines(
             &rt,
             "BLOCKED AB1     TOBT",
@@ -381,25 +420,33 @@ TOTAL PLACED 0 DELAY 0 MAX 0 LATE 0 BLOCKED 0
 #[test]
 fn two_runways(rt: HostRuntime) -> Result<(), Fail> {
     let airport = format!(in rt.alloc(); "{AIRPORT}RUNWAY,09,10,2\nTAXI,*,09,15\n")?;
-    let feed = format!(in rt.alloc(); "{ONE_FLIGHT}AP,FLT,AB2,5\nATC,RWY,AB2,09\nAO,TOBT,AB2,[06:00]\n")?;
+    let feed = format!(in rt.alloc();
+        "{ONE_FLIGHT}AP,FLT,AB2,5\nATC,RWY,AB2,09\nAO,TOBT,AB2,[06:00]\n"
+    )?;
     let (_, text) = run_of(&rt, &airport, &feed, 2)?;
-    assert_eq!(rt; text.as_str(), "\
+    assert_eq!(rt;
+        text.as_str(),
+        "\
 DAY 2025-03-10 NOW 100000
 RUNWAY 09
 AB2     100600   15 ------ 100600 100615 P    0
 RUNWAY 27L
 AB1     100600   15 ------ 100600 100615 P    0
 TOTAL PLACED 2 DELAY 0 MAX 0 LATE 0 BLOCKED 0
-");
+"
+    );
     let moved = format!(in rt.alloc(); "{feed}ATC,RWY,AB2,27L\n")?;
     let (_, text) = run_of(&rt, &airport, &moved, 2)?;
-    assert_eq!(rt; text.as_str(), "\
+    assert_eq!(rt;
+        text.as_str(),
+        "\
 DAY 2025-03-10 NOW 100000
 RUNWAY 09
 RUNWAY 27L
 AB1     100600   15 ------ 100600 100615 P    0
 AB2     100600   15 ------ 100600 100615 P    0
 TOTAL PLACED 2 DELAY 0 MAX 0 LATE 0 BLOCKED 0
-");
+"
+    );
     Ok(())
 }

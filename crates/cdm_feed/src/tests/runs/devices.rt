@@ -59,7 +59,10 @@ fn failing_reads(rt: HostRuntime) -> Result<(), Fail> {
 }
 
 // What a run writes to this writer before it fails.
-fn written_to(rt: &(impl AllocGlobal + Threads + Sync), sink: Sink) -> Result<(Option<RunError>, bool, Vec<u8>), Fail> {
+fn written_to(
+    rt: &(impl AllocGlobal + Threads + Sync),
+    sink: Sink,
+) -> Result<(Option<RunError>, bool, Vec<u8>), Fail> {
     let feed = in_full(rt, ONE_FLIGHT)?;
     let mut out = Device::new(sink);
     let answer = run(

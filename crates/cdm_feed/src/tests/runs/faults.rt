@@ -57,7 +57,10 @@ fn with_scenarios(
 #[test]
 fn scenario_file(rt: HostRuntime) -> Result<(), Fail> {
     let fault = RunError::Scenario(1, RefusalWord::Kind);
-    assert_eq!(rt; with_scenarios(&rt, AIRPORT, "CNL,AB1\n")?, (Some(fault), false));
+    assert_eq!(rt;
+        with_scenarios(&rt, AIRPORT, "CNL,AB1\n")?,
+        (Some(fault), false)
+    );
     let fault = RunError::Airport(1, RefusalWord::Order);
     assert_eq!(rt; with_scenarios(&rt, "", "CNL,AB1\n")?, (Some(fault), false));
     assert_eq!(rt; with_scenarios(&rt, AIRPORT, "\r\n\n")?, (None, true));
