@@ -10,3 +10,4 @@ pub mod SequenceLemmas
 pub mod DayLemmas
 pub mod OneLemmas
 pub mod AimLemmas
+pub mod NameLemmas

@@ -47,7 +47,16 @@ fn the_last_row_stands(rt: HostRuntime) -> Result<(), Fail> {
     assert!(rt; table.minutes(place, runway(b"27L")?) == Some(taxi(120)?));
     assert!(rt; table.minutes(place, runway(b"09")?) == Some(taxi(7)?));
     assert!(rt; table.minutes(Place::Default, runway(b"27L")?) == Some(taxi(15)?));
+    Ok(())
+}
+
+#[test]
+fn a_copy_answers_alike(rt: HostRuntime) -> Result<(), Fail> {
+    let mut table = two_rows(rt.alloc())?;
+    let place = Place::Stand(stand(b"A1")?);
+    table.set(place, runway(b"09")?, taxi(7)?)?;
     let copy = table.copy(rt.alloc())?;
+    assert!(rt; copy.minutes(place, runway(b"09")?) == Some(taxi(7)?));
     for place in [Place::Default, place] {
         for name in [runway(b"27L")?, runway(b"09")?] {
             assert!(rt; copy.minutes(place, name) == table.minutes(place, name));
@@ -75,6 +84,7 @@ fn at_most_400_stands_have_rows(rt: HostRuntime) -> Result<(), Fail> {
     assert!(rt; !table.fits(another));
     assert!(rt; table.set(another, name, taxi(10)?) == Err(TaxiFault::Full));
     assert!(rt; table.minutes(another, name) == None);
+    assert!(rt; !table.copy(rt.alloc())?.fits(another));
     assert!(rt; table.fits(first) && table.fits(Place::Default));
     table.set(first, runway(b"09")?, taxi(10)?)?;
     table.set(Place::Default, name, taxi(15)?)?;
