@@ -6,6 +6,7 @@ mod faults;
 use crate::{Device, RunCounts, RunError, run};
 use cdm_phase::{OpenGate, Workers};
 use std::test::Fail;
+use std::thread::Threads;
 
 /// An airport with one runway, on which two flights take off in ten minutes.
 pub(crate) const AIRPORT: &str = "\
@@ -32,7 +33,7 @@ TOTAL PLACED 1 DELAY 0 MAX 0 LATE 0 BLOCKED 0
 
 /// A text with times of the airport's day in full: `[06:00]` is one of the first day, `[+06:00]` of
 /// the second, and `[END]` is the horizon's end.
-pub(crate) fn in_full(rt: &HostRuntime, text: &str) -> Result<String, Fail> {
+pub(crate) fn in_full(rt: &(impl AllocGlobal + Threads + Sync), text: &str) -> Result<String, Fail> {
     let alloc = rt.alloc();
     let text = text.replace(alloc, "[END]", "2025-03-12T00:00Z")?;
     let text = text.replace(alloc, "[+", "2025-03-11T")?;
@@ -42,7 +43,7 @@ pub(crate) fn in_full(rt: &HostRuntime, text: &str) -> Result<String, Fail> {
 
 /// What a run with so many workers answers and writes.
 pub(crate) fn run_of(
-    rt: &HostRuntime,
+    rt: &(impl AllocGlobal + Threads + Sync),
     airport: &str,
     feed: &str,
     workers: usize,
@@ -65,7 +66,7 @@ pub(crate) fn run_of(
 }
 
 /// The report of a feed at the airport.
-pub(crate) fn report(rt: &HostRuntime, feed: &str) -> Result<String, Fail> {
+pub(crate) fn report(rt: &(impl AllocGlobal + Threads + Sync), feed: &str) -> Result<String, Fail> {
     let (answer, text) = run_of(rt, AIRPORT, feed, 1)?;
     answer.map_err(|_| "a fault")?;
     Ok(text)

@@ -2,6 +2,7 @@
 use super::{AIRPORT, ONE_FLIGHT, ONE_LINE, report, run_of};
 use crate::RunCounts;
 use std::test::Fail;
+use std::thread::Threads;
 
 // Three flights that are ready at 06:00.
 const THREE_FLIGHTS: &str = "\
@@ -26,13 +27,13 @@ TOTAL PLACED 3 DELAY 5 MAX 5 LATE 0 BLOCKED 0
 ";
 
 // The report of the one flight and these records.
-fn report_with(rt: &HostRuntime, records: &str) -> Result<String, Fail> {
+fn report_with(rt: &(impl AllocGlobal + Threads + Sync), records: &str) -> Result<String, Fail> {
     let feed = format!(in rt.alloc(); "{ONE_FLIGHT}{records}")?;
     report(rt, &feed)
 }
 
 // The same report with another line for its flight, and another for its indicators.
-fn with_lines(rt: &HostRuntime, flight: &str, total: &str) -> Result<String, Fail> {
+fn with_lines(rt: &(impl AllocGlobal + Threads + Sync), flight: &str, total: &str) -> Result<String, Fail> {
     Ok(format!(in rt.alloc();
         "DAY 2025-03-10 NOW 100000\nRUNWAY 27L\n{flight}\nTOTAL {total}\n"
     )?)

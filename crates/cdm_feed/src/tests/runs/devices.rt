@@ -4,6 +4,7 @@ use super::{AIRPORT, ONE_FLIGHT, ONE_LINE, in_full};
 use crate::{Device, Input, RunError, run};
 use cdm_phase::{OpenGate, Workers};
 use std::test::Fail;
+use std::thread::Threads;
 
 #[test]
 fn one_byte_at_a_time(rt: HostRuntime) -> Result<(), Fail> {
@@ -38,7 +39,7 @@ fn failing_reads(rt: HostRuntime) -> Result<(), Fail> {
             };
             let mut airport = Device::new(source(AIRPORT.as_bytes(), Input::Airport));
             let mut feed = Device::new(source(feed.as_bytes(), Input::Feed));
-            let mut scenarios = Device::new(source(b"\n".repeat(rt.alloc(), 50)?.as_slice(), Input::Scenarios));
+            let mut scenarios = Device::new(source(&[b'\n'; 50], Input::Scenarios));
             let mut out = Device::new(Vec::new(rt.alloc()));
             let answer = run(
                 &rt,
@@ -58,7 +59,7 @@ fn failing_reads(rt: HostRuntime) -> Result<(), Fail> {
 }
 
 // What a run writes to this writer before it fails.
-fn written_to(rt: &HostRuntime, sink: Sink) -> Result<(Option<RunError>, bool, Vec<u8>), Fail> {
+fn written_to(rt: &(impl AllocGlobal + Threads + Sync), sink: Sink) -> Result<(Option<RunError>, bool, Vec<u8>), Fail> {
     let feed = in_full(rt, ONE_FLIGHT)?;
     let mut out = Device::new(sink);
     let answer = run(

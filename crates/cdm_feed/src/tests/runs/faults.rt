@@ -6,6 +6,7 @@ use cdm_phase::{OpenGate, Workers};
 use std::io;
 use std::io::Read;
 use std::test::Fail;
+use std::thread::Threads;
 
 #[test]
 fn airport_file(rt: HostRuntime) -> Result<(), Fail> {
@@ -34,7 +35,7 @@ fn airport_file(rt: HostRuntime) -> Result<(), Fail> {
 
 // What a run with this scenario file answers, and whether it has written a byte.
 fn with_scenarios(
-    rt: &HostRuntime,
+    rt: &(impl AllocGlobal + Threads + Sync),
     airport: &str,
     scenarios: &str,
 ) -> Result<(Option<RunError>, bool), Fail> {
