@@ -11,3 +11,6 @@ mod tables;
 pub use airport::{Airport, AirportFault};
 pub use day::DayState;
 pub use reply::Reply;
+
+#[cfg(test)]
+mod tests;
