@@ -15,3 +15,6 @@ pub use airport::{Airport, AirportFault};
 pub use day::DayState;
 pub use laws::one_plan_of_a_day;
 pub use reply::Reply;
+
+#[cfg(test)]
+mod tests;

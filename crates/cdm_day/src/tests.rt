@@ -1,0 +1,2 @@
+//! What no clause says of a day.
+mod parallel;
