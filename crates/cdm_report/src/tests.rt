@@ -266,7 +266,7 @@ fn blocked_flights_by_name_and_counts_by_rule(rt: HostRuntime) -> Result<(), Fai
         blocked(b"B2", Rule::Runway),
         blocked(b"E5", Rule::Ctot),
         blocked(b"AB1", Rule::Tobt),
-        blocked(b"D4", Rule::Horizon),
+        blocked(b"DE", Rule::Horizon),
         blocked(b"C3", Rule::Exot),
     ];
     let plan = plan(alloc, 0, &[], &flights)?;
@@ -277,7 +277,7 @@ BLOCKED AB1     TOBT
 BLOCKED ABCDEFG CLOSURE
 BLOCKED B2      RUNWAY
 BLOCKED C3      EXOT
-BLOCKED D4      HORIZON
+BLOCKED DE      HORIZON
 BLOCKED E5      CTOT
 BLOCKED F6      RATE
 BLOCKED G7      TOBT
