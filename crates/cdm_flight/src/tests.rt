@@ -50,127 +50,84 @@ fn numbers_at_their_edges(rt: HostRuntime) {
     }
 }
 
+// Who may make an update: AO, GH, AP, ATC and NM.
+type Makers = [bool; 5];
+
+const OPERATOR: Makers = [true, false, false, false, false];
+
+const HANDLER: Makers = [false, true, false, false, false];
+
+const AIRPORT: Makers = [false, false, true, false, false];
+
+const TOWER: Makers = [false, false, false, true, false];
+
+const NETWORK: Makers = [false, false, false, false, true];
+
+// Whether these roles and no others may make the update.
+fn is_made_by(update: &Update, makers: Makers) -> bool {
+    let [ao, gh, ap, atc, nm] = makers;
+    allows(Role::AircraftOperator, update) == ao
+        && allows(Role::GroundHandler, update) == gh
+        && allows(Role::AirportOperator, update) == ap
+        && allows(Role::AirTrafficControl, update) == atc
+        && allows(Role::NetworkManager, update) == nm
+}
+
 #[test]
-fn authority_of_each_role(rt: HostRuntime) -> Result<(), Fail> {
-    let name = flight(b"AB1")?;
-    let runway = RunwayName::new(b"27L").ok_or("27L")?;
+fn authority_over_a_flight(rt: HostRuntime) -> Result<(), Fail> {
+    let flight = flight(b"AB1")?;
+    let tobt = minute(360)?;
     let stand = StandName::new(b"A1").ok_or("A1")?;
     let priority = Priority::new(5).ok_or("5")?;
+    let (ctot, ice) = (None, Ice::NoIce);
+    let flt = Update::Flt { flight, priority };
+    assert!(rt; is_made_by(&flt, AIRPORT));
+    assert!(rt; is_made_by(&Update::Stand { flight, stand }, AIRPORT));
+    let either = [true, true, false, false, false];
+    assert!(rt; is_made_by(&Update::Tobt { flight, tobt }, either));
+    assert!(rt; is_made_by(&Update::Ice { flight, ice }, HANDLER));
+    assert!(rt; is_made_by(&Update::Ctot { flight, ctot }, NETWORK));
+    assert!(rt; is_made_by(&Update::Cnl { flight }, OPERATOR));
+    Ok(())
+}
+
+#[test]
+fn authority_of_the_tower_over_a_flight(rt: HostRuntime) -> Result<(), Fail> {
+    let flight = flight(b"AB1")?;
+    let runway = RunwayName::new(b"27L").ok_or("27L")?;
+    let priority = Priority::new(5).ok_or("5")?;
     let now = minute(360)?;
+    let (aobt, atot) = (now, now);
+    assert!(rt; is_made_by(&Update::Rwy { flight, runway }, TOWER));
+    assert!(rt; is_made_by(&Update::Prio { flight, priority }, TOWER));
+    assert!(rt; is_made_by(&Update::Off { flight, aobt }, TOWER));
+    assert!(rt; is_made_by(&Update::Air { flight, atot }, TOWER));
+    Ok(())
+}
+
+#[test]
+fn authority_over_runways_and_the_clock(rt: HostRuntime) -> Result<(), Fail> {
+    let runway = RunwayName::new(b"27L").ok_or("27L")?;
+    let from = minute(360)?;
     let to = Bound::new(370).ok_or("370")?;
     let cap = Cap::new(2).ok_or("2")?;
     let minutes = TaxiMinutes::new(15).ok_or("15")?;
-    // The roles that may make each: AO, GH, AP, ATC, NM.
-    let table = [
-        (
-            Update::Flt {
-                flight: name,
-                priority,
-            },
-            [false, false, true, false, false],
-        ),
-        (
-            Update::Stand {
-                flight: name,
-                stand,
-            },
-            [false, false, true, false, false],
-        ),
-        (
-            Update::Tobt {
-                flight: name,
-                tobt: now,
-            },
-            [true, true, false, false, false],
-        ),
-        (
-            Update::Ice {
-                flight: name,
-                ice: Ice::NoIce,
-            },
-            [false, true, false, false, false],
-        ),
-        (
-            Update::Ctot {
-                flight: name,
-                ctot: None,
-            },
-            [false, false, false, false, true],
-        ),
-        (
-            Update::Cnl { flight: name },
-            [true, false, false, false, false],
-        ),
-        (
-            Update::Rwy {
-                flight: name,
-                runway,
-            },
-            [false, false, false, true, false],
-        ),
-        (
-            Update::Prio {
-                flight: name,
-                priority,
-            },
-            [false, false, false, true, false],
-        ),
-        (
-            Update::Off {
-                flight: name,
-                aobt: now,
-            },
-            [false, false, false, true, false],
-        ),
-        (
-            Update::Air {
-                flight: name,
-                atot: now,
-            },
-            [false, false, false, true, false],
-        ),
-        (
-            Update::Rate {
-                runway,
-                from: now,
-                to,
-                cap,
-            },
-            [false, false, false, true, false],
-        ),
-        (
-            Update::Close {
-                runway,
-                from: now,
-                to,
-            },
-            [false, false, false, true, false],
-        ),
-        (
-            Update::Reopen {
-                runway,
-                from: now,
-                to,
-            },
-            [false, false, false, true, false],
-        ),
-        (
-            Update::Taxi {
-                place: Place::Default,
-                runway,
-                minutes,
-            },
-            [false, false, false, true, false],
-        ),
-        (Update::Clock { now }, [false, false, false, true, false]),
-    ];
-    for (update, [ao, gh, ap, atc, nm]) in &table {
-        assert_eq!(rt; allows(Role::AircraftOperator, update), *ao, "{update:?}");
-        assert_eq!(rt; allows(Role::GroundHandler, update), *gh, "{update:?}");
-        assert_eq!(rt; allows(Role::AirportOperator, update), *ap, "{update:?}");
-        assert_eq!(rt; allows(Role::AirTrafficControl, update), *atc, "{update:?}");
-        assert_eq!(rt; allows(Role::NetworkManager, update), *nm, "{update:?}");
-    }
+    let rate = Update::Rate {
+        runway,
+        from,
+        to,
+        cap,
+    };
+    let taxi = Update::Taxi {
+        place: Place::Default,
+        runway,
+        minutes,
+    };
+    assert!(rt; is_made_by(&rate, TOWER));
+    assert!(rt; is_made_by(&Update::Close { runway, from, to }, TOWER));
+    assert!(rt; is_made_by(&Update::Reopen { runway, from, to }, TOWER));
+    assert!(rt; is_made_by(&taxi, TOWER));
+    assert!(rt; is_made_by(&Update::Clock { now: from }, TOWER));
     Ok(())
 }
 
