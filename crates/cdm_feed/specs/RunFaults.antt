@@ -1,5 +1,5 @@
 -- What each fault of a run says.
-use Rattle.std.specs.Prelude.{◌≡◌, ◌≤◌, ⊤, ℕ, ◌+◌, Bool, true, false, List, [], Option, IfSome, Result, Ok, Err}
+use Rattle.std.specs.Prelude.{◌≡◌, ◌≤◌, ⊤, ℕ, ◌+◌, Bool, true, false, List, [], length, Option, IfSome, Result, Ok, Err}
 use Rattle.std.specs.Io.KnownBytes.{IsAtEnd}
 use Rattle.cdm_flight.specs.Journal.{AirportRows}
 use Rattle.cdm_flight.specs.declared.word.RefusalWord.{RefusalWord}
@@ -19,10 +19,11 @@ pub record Reading : Type 0 where
   pub after : Option (List ℕ)
   pub failed : Bool
 
--- the input was read to its end
+-- the input was read to its end, and is not too long
 pub record IsRead (r : Reading) : Type 0 where
   pub sound : r.failed ≡ false
   pub ended : IsAtEnd r.after
+  pub short : IfSome r.before (λ bytes. length bytes ≤ INPUT_LIMIT)
 
 -- the input has given one byte past the limit
 abbrev pub IsTooLong : Reading → Type 0

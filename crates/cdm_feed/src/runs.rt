@@ -6,7 +6,7 @@ ghost use Rattle.cdm_feed.specs.declared.run_error.RunError.TheVariants as error
 ghost use Rattle.cdm_feed.specs.Output.{AreCounts, HaveOneText, IsOutput, IsReport, accepted_in, counts_in, refusals_in};
 ghost use Rattle.cdm_feed.specs.AirportFile.{airport_in};
 ghost use Rattle.cdm_feed.specs.Records.{records_of};
-ghost use Rattle.cdm_feed.specs.RunFaults.{IsAirportFault, IsBeforeWriting, IsFirstFault, IsRecordFault, IsScenarioFault, is_write_fault};
+ghost use Rattle.cdm_feed.specs.RunFaults.{AreRead, IsAirportFault, IsBeforeWriting, IsFirstFault, IsRecordFault, IsScenarioFault, is_write_fault};
 
 use crate::airport_file::read_airport;
 use crate::device::Device;
@@ -154,12 +154,12 @@ fn answer<R: Threads + Sync, G: Gate>(
 /// order, plans the day with so many workers and writes its report, with the feed's refused records.
 /// The text depends on the bytes of the inputs alone, whatever the workers and the gate do.
 ///
-/// `Ok` counts the accepted updates and the refused records, and has written the whole text and
-/// flushed it. Faults in their order: `Read` and `TooLong` of the airport file, of the feed and of
-/// the scenario file; `Airport` and `Scenario`, the first faulty record of that file and its word;
-/// `Memory`, wherever memory was first refused; `Write`. Before `Write` nothing was written, and at
-/// `Write` a prefix of the text was. Scenarios can't be answered yet: any record of the scenario file
-/// is refused as `Scenario` with number 1 and the word Kind.
+/// `Ok` has read the three inputs to their ends, counts the accepted updates and the refused records,
+/// and has written the whole text and flushed it. Faults in their order: `Read` and `TooLong` of the
+/// airport file, of the feed and of the scenario file; `Airport` and `Scenario`, the first faulty
+/// record of that file and its word; `Memory`, wherever memory was first refused; `Write`. Before
+/// `Write` nothing was written, and at `Write` a prefix of the text was. Scenarios can't be answered
+/// yet: any record of the scenario file is refused as `Scenario` with number 1 and the word Kind.
 pub fn run<R: Threads + Sync, A: Read, F: Read, S: Read, G: Gate, W: Write>(
     rt: &R,
     alloc: Global,
@@ -184,7 +184,11 @@ pub fn run<R: Threads + Sync, A: Read, F: Read, S: Read, G: Gate, W: Write>(
         AreCounts airport_file feed_file counts))) }
     ensures no_scenarios { OnOk result (IfSome (S.remaining scenarios.old.inner) (λ scenario_file. records_of scenario_file ≡ [])) }
 
-    // The first fault is the answer.
+    // The first fault is the answer, and Ok where there was none.
+    ensures read { OnOk result (AreRead
+        (record { before = A.remaining airport.old.inner; after = A.remaining airport.new.inner; failed = airport.new.failed })
+        (record { before = F.remaining feed.old.inner; after = F.remaining feed.new.inner; failed = feed.new.failed })
+        (record { before = S.remaining scenarios.old.inner; after = S.remaining scenarios.new.inner; failed = scenarios.new.failed })) }
     ensures fault { IfErr result (IsFirstFault
         (record { before = A.remaining airport.old.inner; after = A.remaining airport.new.inner; failed = airport.new.failed })
         (record { before = F.remaining feed.old.inner; after = F.remaining feed.new.inner; failed = feed.new.failed })
