@@ -1,5 +1,5 @@
 -- A day has one plan.
-use Rattle.std.proofs.Common.{◌≡◌, ℕ, Bool, true, false, List, [], ◌∷◌, ◌++◌, Option, None, Some, is_none, refl, sym, ◌∙◌, ap, subst, inl, inr, ◌⊎◌, map, filter, arith}
+use Rattle.std.proofs.Common.{◌≡◌, ℕ, true, false, List, [], ◌∷◌, ◌++◌, Option, None, Some, is_none, refl, sym, ◌∙◌, ap, subst, inl, inr, ◌⊎◌, map, filter, arith}
 use Rattle.std.specs.Prelude.{is_some, if◌then◌else◌}
 use Rattle.std.specs.declared.cmp.Ordering.{Ordering}
 use Rattle.std.specs.declared.cmp.Ordering.TheVariants.{Less, Equal, Greater}
@@ -10,7 +10,7 @@ use Rattle.std.specs.List.Sorted.{IsPermutation, IsSortedBy}
 use Rattle.std.proofs.lemmas.Bool.{false≢true}
 use Rattle.std.proofs.lemmas.Cmp.{nat_list_cmp_total}
 use Rattle.std.proofs.lemmas.List.Elements.{All-contains, Contains-append_cases, filter_passes}
-use Rattle.std.proofs.lemmas.List.Sorted.{Contains-permutation, IsPermutation-map, IsPermutation-refl, IsPermutation-sym, ranks_by, sum_by-IsPermutation}
+use Rattle.std.proofs.lemmas.List.Sorted.{Contains-permutation, IsPermutation-refl, IsPermutation-sym, ranks_by, sum_by-IsPermutation}
 use Rattle.std.proofs.lemmas.Map.Keys.{IsDistinct-IsPermutation}
 use Rattle.cdm_flight.specs.Names.{name_cmp, same_name}
 use Rattle.cdm_flight.specs.Record.{Record, is_planned}
@@ -18,7 +18,7 @@ use Rattle.cdm_runway.specs.Rules.{RunwayRules}
 use Rattle.cdm_sequence.specs.Aims.{TaxiTimes, aim_of}
 use Rattle.cdm_sequence.specs.Day.{targets_on}
 use Rattle.cdm_sequence.specs.Fixed.{FixedRecord, takeoffs}
-use Rattle.cdm_sequence.specs.Sequence.{IsRightlyBlocked, IsSequence, flight_names, minute_in, names_left}
+use Rattle.cdm_sequence.specs.Sequence.{IsRightlyBlocked, IsSequence, minute_in, names_left}
 use Rattle.cdm_sequence.specs.Slots.{PlanRecord, RunwayPlanRecord}
 use Rattle.cdm_sequence.specs.Targets.{TargetRecord}
 use Rattle.cdm_sequence.specs.declared.aims.AimResult.{AimResult}

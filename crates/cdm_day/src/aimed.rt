@@ -1,12 +1,12 @@
 //! What planned flights could have.
-ghost use Rattle.std.specs.Prelude.{◌≡◌, ◌++◌, [], ◌∷◌, true, All, IfOk, OnOk, filter, map};
+ghost use Rattle.std.specs.Prelude.{◌≡◌, true, All, IfOk, map};
 ghost use Rattle.std.specs.List.{filter_map};
-ghost use Rattle.std.specs.Option.{option_to_list};
 ghost use Rattle.std.specs.FinMap as finite;
 ghost use Rattle.cdm_flight.specs.Record.{is_planned};
 ghost use Rattle.cdm_day.specs.Planning.{blocked_in, planned_of};
 ghost use Rattle.cdm_day.specs.Aimed.{aimed, early_among, target_for};
 
+use crate::list::push_last;
 use cdm_flight::{Flight, FlightName, RunwayName, Status};
 use cdm_sequence::{AimResult, BlockedFlight, Target, aim};
 use cdm_taxi::TaxiTable;
@@ -18,14 +18,6 @@ use std::alloc::{AllocError, Global};
 pub(crate) struct Aimed {
     pub(crate) name: FlightName,
     pub(crate) aim: AimResult,
-}
-
-// Puts a value last.
-fn push_last<T: Copy>(values: &mut Vec<T>, value: T) -> Result<(), AllocError>
-    ensures { OnOk result (values.new.items ≡ values.old.items ++ value ∷ []) }
-{
-    values.push(value)?;
-    Ok(())
 }
 
 /// The flights on their stands, in order.

@@ -1,5 +1,5 @@
 //! The plan of a day.
-ghost use Rattle.std.specs.Prelude.{◌≡◌, ◌+◌, ◌≤◌, ◌++◌, ℕ, List, length, map, All, IfOk, IsPermutation, IsSorted, sum_by};
+ghost use Rattle.std.specs.Prelude.{◌≡◌, ◌+◌, ◌≤◌, ◌++◌, length, map, All, IfOk, IsPermutation, IsSorted, sum_by};
 ghost use Rattle.std.specs.List.{AllZip, filter_map, flat_map, IsDistinct};
 ghost use Rattle.std.specs.FinMap as finite;
 ghost use Rattle.cdm_flight.specs.Names.{same_name};

@@ -1,5 +1,5 @@
 //! Records of the airport file.
-ghost use Rattle.std.specs.Prelude.{◌≡◌, ◌==◌, Ok, Err, if◌then◌else◌};
+ghost use Rattle.std.specs.Prelude.{◌≡◌, ◌==◌, Ok, Err};
 ghost use Rattle.csv.specs.Records.{fields_of};
 
 use crate::field::{

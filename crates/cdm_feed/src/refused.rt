@@ -1,5 +1,5 @@
 //! The updates of a feed, and its refused records.
-ghost use Rattle.std.specs.Prelude.{◌≡◌, ◌<◌, ◌^◌, [], ◌∷◌, ◌++◌, length, map, IfOk, OnOk};
+ghost use Rattle.std.specs.Prelude.{◌≡◌, ◌<◌, ◌^◌, [], length, map, IfOk};
 ghost use Rattle.cdm_day.specs.Replies.{reply_of};
 ghost use Rattle.cdm_flight.specs.Accepted.{replies_to};
 ghost use Rattle.cdm_flight.specs.Journal.{AirportRows};

@@ -1,5 +1,5 @@
 //! What an update changes in the tables.
-ghost use Rattle.std.specs.Prelude.{◌≡◌, ◌≤◌, [], ◌∷◌, ◌++◌, true, false, None, Some, IfOk, OnOk};
+ghost use Rattle.std.specs.Prelude.{◌≡◌, ◌≤◌, true, false, None, Some, IfOk, OnOk};
 ghost use Rattle.cdm_flight.specs.declared.update.Update.TheVariants as kind;
 ghost use Rattle.cdm_flight.specs.Step.{flight_of_update, is_fresh};
 ghost use Rattle.cdm_flight.specs.Accepted.{refusal_of};
@@ -10,18 +10,11 @@ ghost use Rattle.cdm_day.specs.TaxiRows.{is_taxi, row_fits, with_row};
 use super::Tables;
 use super::judge::exot_to_runway;
 use super::runways::change_each;
+use crate::list::push_last;
 use cdm_flight::{Flight, FlightName, Priority, Update};
 use cdm_taxi::{TaxiFault, TaxiTable};
 use cdm_time::Minute;
 use std::alloc::AllocError;
-
-// Puts a value last.
-fn push_last<T: Copy>(values: &mut Vec<T>, value: T) -> Result<(), AllocError>
-    ensures { OnOk result (values.new.items ≡ values.old.items ++ value ∷ []) }
-{
-    values.push(value)?;
-    Ok(())
-}
 
 // Sets the row that a TAXI names.
 fn set_taxi(taxi: &mut TaxiTable, update: &Update) -> Result<(), AllocError>

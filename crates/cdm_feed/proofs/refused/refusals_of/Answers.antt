@@ -1,12 +1,10 @@
-use Rattle.std.proofs.Common.{◌≡◌, ◌<◌, ◌∷◌, ◌++◌, ◌+◌, ◌-◌, ◌∙◌, ℕ, List, [], length, drop, get_or, ap, sym, refl, arith, add-one, append_assoc, append-nil, map, Vec, Global}
+use Rattle.std.proofs.Common.{◌≡◌, ◌<◌, ◌∷◌, ◌++◌, ◌+◌, ◌-◌, ◌∙◌, ℕ, List, [], length, drop, get_or, ap, sym, arith, add-one, append_assoc, append-nil, Vec, Global}
 use Rattle.std.proofs.Math.Seq.{drop-cons}
 use Rattle.std.proofs.Math.ListN.{drop_of_length-le}
 use Rattle.cdm_flight.specs.declared.word.RefusalWord.{RefusalWord}
-use Rattle.cdm_flight.specs.Accepted.{replies_to}
-use Rattle.cdm_day.specs.Replies.{reply_of}
 use Rattle.cdm_day.specs.declared.reply.Reply.{Reply}
 use Rattle.cdm_day.specs.declared.reply.Reply.TheVariants.{Accepted}
-use Rattle.cdm_feed.specs.Refused.{Spelled, updates_in}
+use Rattle.cdm_feed.specs.Refused.{Spelled}
 use Rattle.cdm_feed.proofs.RefusedLemmas.{Step, refused_by, refused_by-replies, if_replied, left-ok, left-err, step-ok, step-err}
 use Rattle.cdm_feed.proofs.refused.refusals_of.Goals as goal
 use Rattle.cdm_feed.proofs.refused.refusals_of.Goals.{in-Ok, in-Err, in-Accepted, in-Refused+in_ok-push_last-in-Refused}

@@ -1,7 +1,7 @@
-use Rattle.std.proofs.Common.{◌≡◌, ◌∙◌, List, ℕ, Ok, ap, sym, subst}
+use Rattle.std.proofs.Common.{◌∙◌, List, ℕ, ap, sym, subst}
 use Rattle.std.proofs.lemmas.Result.{err_from_is_err_and}
 use Rattle.cdm_feed.specs.AirportFile.{airport_in}
-use Rattle.cdm_feed.specs.Output.{IsReport, IsOutput, AreCounts, counts_in}
+use Rattle.cdm_feed.specs.Output.{IsReport, counts_in}
 use Rattle.cdm_feed.specs.RunFaults.{IsAirportFile, IsScenarioFault}
 use Rattle.cdm_feed.proofs.RunLemmas.{scenario_fault-record}
 use Rattle.cdm_feed.proofs.runs.answer.Goals as goal
