@@ -3,6 +3,7 @@ ghost use Rattle.std.specs.Prelude.{◌≡◌};
 ghost use Rattle.cdm_feed.specs.declared.run_error.RunError.TheVariants as error;
 
 use crate::input::INPUT_LIMIT;
+use crate::output::WriteFault;
 use cdm_flight::RefusalWord;
 use std::alloc::AllocError;
 use std::fmt;
@@ -63,5 +64,13 @@ impl From<AllocError> for RunError {
 
     fn from(_error: AllocError) -> RunError {
         RunError::Memory
+    }
+}
+
+impl From<WriteFault> for RunError {
+    ghost from_gives = { λ _ e. e ≡ error.Write };
+
+    fn from(_fault: WriteFault) -> RunError {
+        RunError::Write
     }
 }
