@@ -22,7 +22,7 @@ use Rattle.cdm_day.specs.DayPlan.{IsDayPlan, records_in}
 use Rattle.cdm_day.specs.Planning.{IsPlanOf}
 use Rattle.cdm_day.specs.Tables.{Flights, TellFlights, TellJournal}
 use Rattle.cdm_flight.proofs.JournalLemmas.{status_of-record}
-use Rattle.cdm_sequence.proofs.ListLemmas.{apart_from_head, contains_head, contains_tail, filter_map_same}
+use Rattle.cdm_flight.proofs.Lists.{apart_from_head, contains_head, contains_tail, filter_map_same}
 use Rattle.cdm_sequence.proofs.OrderLemmas.{same_flips, same_is, same_itself}
 
 -- the record that the journal says of a flight has its name

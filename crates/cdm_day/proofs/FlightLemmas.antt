@@ -20,7 +20,8 @@ use Rattle.cdm_flight.specs.Step.{flight_of_update, is_fresh, stepped, step_refu
 use Rattle.cdm_flight.specs.Taxi.{TaxiRows, taxi_out}
 use Rattle.cdm_flight.specs.Journal.{AirportRows, touches, makes_known, sets_runway, is_known, is_cancelled, runway_of, aobt_of, atot_of, exot_now, exot_of, record_with, flight_of, taxi_of}
 use Rattle.cdm_flight.specs.Accepted.{has_runway}
-use Rattle.cdm_flight.proofs.JournalLemmas.{last_value-push, list_any-push, flight_of-untouched, flight_of-step, flight_of-fresh, known-untouched, runway-untouched, same_name-refl, before_off-all, status_of-record, planned_says}
+use Rattle.cdm_flight.proofs.Lists.{list_any-push}
+use Rattle.cdm_flight.proofs.JournalLemmas.{last_value-push, flight_of-untouched, flight_of-step, flight_of-fresh, known-untouched, runway-untouched, same_name-refl, before_off-all, status_of-record, planned_says}
 use Rattle.cdm_day.specs.Day.{flights_in}
 use Rattle.cdm_day.specs.Tables.{Flights, TellFlights}
 use Rattle.cdm_day.proofs.JournalFacts.{new_flight-old, flights_in-push}

@@ -24,7 +24,7 @@ use Rattle.cdm_sequence.specs.Targets.{TargetRecord}
 use Rattle.cdm_sequence.specs.declared.aims.AimResult.{AimResult}
 use Rattle.cdm_sequence.specs.declared.aims.AimResult.TheVariants.{Early, Ready}
 use Rattle.cdm_sequence.specs.declared.slot.BlockedFlight.{BlockedFlight}
-use Rattle.cdm_sequence.proofs.ListLemmas.{contains_all, contains_from_given, contains_head, contains_tail, contains_cases, distinct_filter, distinct_right, one_of_key, sorted_one}
+use Rattle.cdm_flight.proofs.Lists.{contains_all, contains_from_given, contains_head, contains_tail, contains_cases, distinct_filter, distinct_right, one_of_key, sorted_one}
 use Rattle.cdm_sequence.proofs.OneLemmas.{sequence_one}
 use Rattle.cdm_sequence.proofs.OrderLemmas.{is_same, same_flips, same_is, tied_names}
 use Rattle.cdm_day.specs.Airport.{runway_names}

@@ -6,7 +6,7 @@ use Rattle.std.specs.List.{All, cons_option, filter_map, IsDistinct, AllByRecurs
 use Rattle.std.specs.List.Sorted.{IsPermutation}
 use Rattle.std.proofs.lemmas.Bool.{false≢true}
 use Rattle.std.proofs.lemmas.List.Sorted.{IsPermutation-refl, IsPermutation-trans, IsPermutation-append_right, IsPermutation-middle, IsPermutation-map, IsPermutation-sym}
-use Rattle.std.proofs.lemmas.List.Sums.{sum_by-cons}
+use Rattle.std.proofs.lemmas.List.Sums.{sum_by-cons, sum_by-le-sum_by}
 use Rattle.std.proofs.lemmas.Map.Keys.{IsDistinct-IsPermutation, IsDistinct-cons, IsDistinct-head, IsDistinct-tail}
 use Rattle.cdm_flight.specs.Names.{same_name}
 use Rattle.cdm_flight.specs.Record.{Record, is_planned}
@@ -24,7 +24,7 @@ use Rattle.cdm_sequence.specs.Targets.{TargetRecord}
 use Rattle.cdm_sequence.specs.declared.aims.AimResult.{AimResult}
 use Rattle.cdm_sequence.specs.declared.aims.AimResult.TheVariants.{Ready, Early}
 use Rattle.cdm_sequence.specs.declared.slot.BlockedFlight.{BlockedFlight}
-use Rattle.cdm_sequence.proofs.ListLemmas.{All-given, distinct_filter}
+use Rattle.cdm_flight.proofs.Lists.{All-given, distinct_filter, filter_map-map, filter_map-filter, if_so, sum_by-add, sum_by-zero}
 use Rattle.cdm_sequence.specs.Slots.{SlotRecord}
 use Rattle.std.proofs.Common.{IfSome, length-append}
 use Rattle.std.proofs.lemmas.List.Sorted.{length_permutation}
@@ -35,22 +35,6 @@ use Rattle.cdm_sequence.specs.Slots.{RunwayPlanRecord}
 use Rattle.std.specs.List.{AllZip}
 use Rattle.std.proofs.lemmas.List.Elements.{filter_passes}
 use Rattle.cdm_day.specs.declared.aimed.Aimed.{Aimed}
-
--- Lists.
-
-filter_map-map : {X Y Z : Type 0} (h : Y → Option Z) (g : X → Y) (xs : List X) → filter_map h (map g xs) ≡ filter_map (λ x. h (g x)) xs
-filter_map-map h g [] = refl
-filter_map-map {X} {Y} {Z} h g (x ∷ xs) = ap (λ (ys : List Z). cons_option (h (g x)) ys) (filter_map-map h g xs)
-
-abbrev if_so : {Y : Type 0} → Bool → Option Y → Option Y
-if_so b o = cond b o None
-
-filter_map-filter : {X Y : Type 0} (h : X → Option Y) (p : X → Bool) (xs : List X) → filter_map h (filter p xs) ≡ filter_map (λ x. if_so (p x) (h x)) xs
-filter_map-filter h p [] = refl
-filter_map-filter {X} {Y} h p (x ∷ xs) = go (p x) (filter_map-filter h p xs) where
-  go : (b : Bool) → filter_map h (filter p xs) ≡ filter_map (λ x. if_so (p x) (h x)) xs → filter_map h (cond b (x ∷ filter p xs) (filter p xs)) ≡ cons_option (if_so b (h x)) (filter_map (λ x. if_so (p x) (h x)) xs)
-  go true e = ap (λ (ys : List Y). cons_option (h x) ys) e
-  go false e = e
 
 -- what is left of targets on a runway
 filter-filter_map : (r : List ℕ) (h : Record → Option TargetRecord) (fs : List Record) → filter (λ t. same_name t.runway r) (filter_map h fs) ≡ filter_map (λ f. if_on r (h f)) fs
@@ -207,28 +191,6 @@ count_given {Y} h (f ∷ fs) = go (h f) (count_given h fs) ∙ sym (sum_by-cons 
   go None e = omega arith
   go (Some y) e = omega arith
 
-pub sum_by-add : {X : Type 0} (g h : X → ℕ) (xs : List X) → sum_by (λ x. g x + h x) xs ≡ sum_by g xs + sum_by h xs
-sum_by-add g h [] = refl
-sum_by-add g h (x ∷ xs) =
-    let a = sum_by-cons (λ x. g x + h x) x xs in
-    let b = sum_by-cons g x xs in
-    let c = sum_by-cons h x xs in
-    let d = sum_by-add g h xs in
-    omega arith
-
-sum_by-le : {X : Type 0} (g h : X → ℕ) → ((x : X) → g x ≤ h x) → (xs : List X) → sum_by g xs ≤ sum_by h xs
-sum_by-le g h le [] = omega arith
-sum_by-le g h le (x ∷ xs) =
-    let a = sum_by-cons g x xs in
-    let b = sum_by-cons h x xs in
-    let c = le x in
-    let d = sum_by-le g h le xs in
-    omega arith
-
-sum_by-zero : {X : Type 0} (xs : List X) → sum_by (λ (x : X). 0) xs ≡ 0
-sum_by-zero [] = refl
-sum_by-zero {X} (x ∷ xs) = let a = sum_by-cons (λ (x : X). 0) x xs in let b = sum_by-zero xs in omega arith
-
 -- one runway has a name, at the most
 none_named : (s r : List ℕ) (rs : List (List ℕ)) → same_name s r ≡ true → AllByRecursion (λ q. same_name r q ≡ false) rs → sum_by (λ q. one_if (same_name s q)) rs ≡ 0
 none_named s r [] e all = refl
@@ -271,15 +233,15 @@ left_once f rs o own = by f.runway
     le false = omega arith
 
     by : (s : Option (List ℕ)) → sum_by (λ r. one_if (is_some (if_so (option_map_or (λ runway. same_name runway r) s false) o))) rs ≤ 1
-    by None = let z = sum_by-zero rs in let all = sum_by-le (λ r. one_if (is_some (if_so false o))) (λ r. 0) (λ r. le false) rs in omega arith
-    by (Some s) = let a = sum_by-le (λ r. one_if (is_some (if_so (same_name s r) o))) (λ r. one_if (same_name s r)) (λ r. le (same_name s r)) rs in let b = one_named s rs own in omega arith
+    by None = let z = sum_by-zero rs in let all = sum_by-le-sum_by (λ r. one_if (is_some (if_so false o))) (λ r. 0) rs (λ r. le false) in omega arith
+    by (Some s) = let a = sum_by-le-sum_by (λ r. one_if (is_some (if_so (same_name s r) o))) (λ r. one_if (same_name s r)) rs (λ r. le (same_name s r)) in let b = one_named s rs own in omega arith
 
 -- a planned flight counts on its target's runway alone, or is blocked early
 planned_once : (f : Record) (rs : List (List ℕ)) (a : AimResult) → IsDistinct same_name rs → sum_by (λ r. one_if (is_some (if_on r (target_in a)))) rs + one_if (is_some (blocked_in f.name a)) ≤ 1
 planned_once f rs (Early rule) own = let z = sum_by-zero rs in omega arith
 planned_once f rs (Ready t) own =
     let le : (r : List ℕ) → one_if (is_some (if_on r (Some t))) ≤ one_if (same_name t.runway r) = λ r. at_most (same_name t.runway r) in
-    let a = sum_by-le (λ r. one_if (is_some (if_on r (Some t)))) (λ r. one_if (same_name t.runway r)) le rs in
+    let a = sum_by-le-sum_by (λ r. one_if (is_some (if_on r (Some t)))) (λ r. one_if (same_name t.runway r)) rs le in
     let b = one_named t.runway rs own in
     omega arith
   where
@@ -294,7 +256,7 @@ once_with : (f : Record) (rs : List (List ℕ)) (p : Bool) (o : Option FixedReco
     → sum_by (λ r. one_if (is_some (if_so (is_on r f) o)) + one_if (is_some (if_so p (if_on r (target_in a))))) rs + one_if (is_some (if_so p (blocked_in f.name a))) ≤ 1
 once_with f rs true None a own left =
     let split = sum_by-add (λ r. one_if (is_some (if_so (is_on r f) no_fixed))) (λ r. one_if (is_some (if_on r (target_in a)))) rs in
-    let none = sum_by-le (λ r. one_if (is_some (if_so (is_on r f) no_fixed))) (λ r. 0) (λ r. nothing (is_on r f)) rs in
+    let none = sum_by-le-sum_by (λ r. one_if (is_some (if_so (is_on r f) no_fixed))) (λ r. 0) rs (λ r. nothing (is_on r f)) in
     let z = sum_by-zero rs in
     let rest = planned_once f rs a own in
     omega arith
@@ -317,8 +279,7 @@ all_once : (times : TaxiTimes) (now : ℕ) (rs : List (List ℕ)) → IsDistinct
     → sum_by (λ r. sum_by (λ f. counted times now f r) fs) rs + sum_by (λ f. one_if (is_some (early_at times now f))) fs ≤ length fs
 all_once times now rs own [] = let z = sum_by-zero rs in omega arith
 all_once times now rs own (f ∷ fs) =
-    let more = sum_by-le (λ r. sum_by (λ g. counted times now g r) (f ∷ fs)) (λ r. counted times now f r + sum_by (λ g. counted times now g r) fs)
-    (λ r. let a = sum_by-cons (λ g. counted times now g r) f fs in omega arith) rs in
+    let more = sum_by-le-sum_by (λ r. sum_by (λ g. counted times now g r) (f ∷ fs)) (λ r. counted times now f r + sum_by (λ g. counted times now g r) fs) rs (λ r. let a = sum_by-cons (λ g. counted times now g r) f fs in omega arith) in
     let split = sum_by-add (counted times now f) (λ r. sum_by (λ g. counted times now g r) fs) rs in
     let early = sum_by-cons (λ g. one_if (is_some (early_at times now g))) f fs in
     let one = each_once times now f rs own in
@@ -337,8 +298,7 @@ on_runway r times now fs =
 pub few_flights : (rs : List (List ℕ)) (times : TaxiTimes) (now : ℕ) (fs : List Record) → IsDistinct same_name rs
     → sum_by (λ r. length (fixed_on r fs) + length (targets_on r (targets_of fs times now))) rs + length (blocked_early fs times now) ≤ length fs
 few_flights rs times now fs own =
-    let each = sum_by-le (λ r. length (fixed_on r fs) + length (targets_on r (targets_of fs times now))) (λ r. sum_by (λ f. counted times now f r) fs)
-    (λ r. let a = on_runway r times now fs in omega arith) rs in
+    let each = sum_by-le-sum_by (λ r. length (fixed_on r fs) + length (targets_on r (targets_of fs times now))) (λ r. sum_by (λ f. counted times now f r) fs) rs (λ r. let a = on_runway r times now fs in omega arith) in
     let early = ap length (early-given times now fs) ∙ count_given (early_at times now) fs in
     let all = all_once times now rs own fs in
     omega arith

@@ -6,8 +6,7 @@ ghost use Rattle.cdm_flight.specs.Record.{is_planned};
 ghost use Rattle.cdm_day.specs.Planning.{blocked_in, planned_of};
 ghost use Rattle.cdm_day.specs.Aimed.{aimed, early_among, target_for};
 
-use crate::list::push_last;
-use cdm_flight::{Flight, FlightName, RunwayName, Status};
+use cdm_flight::{Flight, FlightName, RunwayName, Status, push_last};
 use cdm_sequence::{AimResult, BlockedFlight, Target, aim};
 use cdm_taxi::TaxiTable;
 use cdm_time::Minute;

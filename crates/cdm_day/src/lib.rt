@@ -7,7 +7,6 @@ mod crew;
 mod day;
 mod jobs;
 mod laws;
-mod list;
 mod planning;
 mod reply;
 mod tables;

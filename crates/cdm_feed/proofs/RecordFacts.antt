@@ -1,7 +1,7 @@
 -- What a read of one record does to the records that a reader has still to give.
 use Rattle.std.proofs.Common.{◌≡◌, ◌≤◌, ◌<◌, ◌+◌, ◌∷◌, ◌++◌, ◌∙◌, ℕ, zero, suc, Bool, true, false, not, List, [], length, Option, Some, None, refl, sym, ap, arith, if◌then◌else◌, ◌==◌, ◌||◌, Bor, add-one, inl}
 use Rattle.csv.specs.Machine.{Read, after_end, ends_at_end, field_after, fields_after, in_field, is_end, next_record, start_field, start_record, step}
-use Rattle.csv.specs.Reading.{NextIs, ReadRecord, ReadsNext, default_config, pending_of, records_from, records_next, took_first, strip_bom, is_bom}
+use Rattle.csv.specs.Reading.{NextIs, ReadRecord, ReadsNext, default_config, is_flexible, pending_of, records_from, records_next, took_first, strip_bom, is_bom}
 use Rattle.csv.specs.declared.reader.Reader.{Reader}
 use Rattle.csv.specs.declared.parser.Action.{Action}
 use Rattle.csv.specs.declared.parser.Action.TheVariants as act
@@ -165,8 +165,8 @@ pub record ReadOne (a b : Reader (Bor (List ℕ))) (found : Bool) (fields : List
   pub left : records_left a ≡ (if found then (fields ∷ (if not found then [] else records_left b)) else [])
 
 pub records_left-read : (a b : Reader (Bor (List ℕ))) (found : Bool) (fields : List (List ℕ)) → IsBetweenRecords a → took_first b ≡ true
-    → ReadRecord slice_remaining a b found fields → ReadOne a b found fields
-records_left-read a b true fields h first r =
+    → is_flexible b ≡ is_flexible a → ReadRecord slice_remaining a b found fields → ReadOne a b found fields
+records_left-read a b true fields h first flexible r =
     let known = h.known in
     let n = rw (h.config, known.1) at r.0 in
     let t = records_at-found a.state b.state known.0 (pending_of (slice_remaining b.rdr) b) fields h.state n in
@@ -175,13 +175,14 @@ records_left-read a b true fields h first r =
       between = λ _. record {
         config = r.2 ∙ h.config;
         trim = r.3 ∙ h.trim;
+        flexible = flexible ∙ h.flexible;
         ready = inl first;
         state = t.state;
         known = (t.known.0, sym source ∙ t.known.1);
       };
       left = rw (known.1, ← source) t.left;
     }
-records_left-read a b false fields h first r =
+records_left-read a b false fields h first flexible r =
     let known = h.known in
     let n = rw (h.config, known.1) at r.0 in
     record {

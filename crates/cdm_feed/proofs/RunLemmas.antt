@@ -1,14 +1,17 @@
 -- Faults of a run.
-use Rattle.std.proofs.Common.{◌≡◌, ℕ, suc, List, [], ◌∷◌, Option, None, Some, IfSome, Err, false, refl, sym, ap, subst, ◌∙◌, length}
+use Rattle.std.proofs.Common.{◌≡◌, ℕ, suc, Bool, arith, List, [], ◌∷◌, Option, None, Some, IfSome, Err, false, refl, sym, ap, subst, ◌∙◌, length}
 use Rattle.cdm_flight.specs.Accepted.{after_one, replies_to}
 use Rattle.cdm_flight.specs.Journal.{AirportRows}
 use Rattle.cdm_flight.specs.declared.role.Role.{Role}
 use Rattle.cdm_flight.specs.declared.update.Update.{Update}
 use Rattle.std.proofs.lemmas.Option.{IfSome_then}
+use Rattle.std.specs.Io.KnownBytes.{Consumes}
 use Rattle.cdm_feed.specs.AirportFile.{airport_in}
 use Rattle.cdm_feed.specs.Output.{AreCounts}
 use Rattle.cdm_feed.specs.declared.runs.RunCounts.{RunCounts}
-use Rattle.cdm_feed.specs.RunFaults.{AreRead, IsAirportFile, IsBeforeWriting, IsFirstFault, IsNoScenarioFile, IsRecordFault, IsScenarioFault, Reading, is_write_fault}
+use Rattle.cdm_feed.specs.RunFaults.{AreRead, HasNoScenario, IsAirportFile, IsBeforeWriting, IsFirstFault, IsInputFault, IsNoScenarioFile, IsRead, IsRecordFault, IsScenarioFault, IsUnfailed, Reading, is_write_fault}
+use Rattle.cdm_feed.specs.declared.run_error.Input.{Input}
+use Rattle.cdm_feed.specs.declared.run_error.Input.TheVariants.{Airport, Feed, Scenarios}
 use Rattle.cdm_feed.specs.declared.run_error.RunError.{RunError}
 use Rattle.cdm_feed.specs.declared.run_error.RunError.TheVariants as error
 
@@ -51,8 +54,51 @@ record_fault-first a f s airport scenarios (error.Scenario number word) read as_
   fault.1.1,
   fault.1.2,
 )
-record_fault-first a f s airport scenarios error.Memory read as_airport as_scenarios fault = cc
+record_fault-first a f s airport scenarios error.Memory read as_airport as_scenarios fault =
+    (read.airport_read.unfailed, read.feed_read.unfailed, read.scenarios_read.unfailed)
 record_fault-first a f s airport scenarios error.Write read as_airport as_scenarios fault = absurd fault
+
+-- an input that isn't read yet is unfailed
+pub unread-unfailed : (left : Option (List ℕ)) (failed : Bool) → failed ≡ false → IsUnfailed (record { before = left; after = left; failed = failed })
+unread-unfailed left failed sound = record { sound = sound; within = (0, ([], kept left, refl), omega arith) } where
+  kept : (o : Option (List ℕ)) → Consumes o o []
+  kept None = tt
+  kept (Some bytes) = refl
+
+-- a fault of an input is the first, where those before it were read and those after it not yet
+pub airport_fault-first : (a f s : Reading) (e : RunError) → IsInputFault a Airport e → IsUnfailed f → IsUnfailed s → IsFirstFault a f s e
+airport_fault-first a f s (error.Read input) fault rest last = subst (λ (i : Input). IsFirstFault a f s (error.Read i)) (sym fault.0) fault.1
+airport_fault-first a f s (error.TooLong input) fault rest last = subst (λ (i : Input). IsFirstFault a f s (error.TooLong i)) (sym fault.0) fault.1
+airport_fault-first a f s (error.Airport number word) fault rest last = absurd fault
+airport_fault-first a f s (error.Scenario number word) fault rest last = absurd fault
+airport_fault-first a f s error.Memory fault rest last = (fault, rest, last)
+airport_fault-first a f s error.Write fault rest last = absurd fault
+
+pub feed_fault-first : (a f s : Reading) (e : RunError) → IsRead a → IsInputFault f Feed e → IsUnfailed s → IsFirstFault a f s e
+feed_fault-first a f s (error.Read input) read fault rest = subst (λ (i : Input). IsFirstFault a f s (error.Read i)) (sym fault.0) (read, fault.1)
+feed_fault-first a f s (error.TooLong input) read fault rest = subst (λ (i : Input). IsFirstFault a f s (error.TooLong i)) (sym fault.0) (read, fault.1)
+feed_fault-first a f s (error.Airport number word) read fault rest = absurd fault
+feed_fault-first a f s (error.Scenario number word) read fault rest = absurd fault
+feed_fault-first a f s error.Memory read fault rest = (read.unfailed, fault, rest)
+feed_fault-first a f s error.Write read fault rest = absurd fault
+
+pub scenarios_fault-first : (a f s : Reading) (e : RunError) → IsRead a → IsRead f → IsInputFault s Scenarios e → IsFirstFault a f s e
+scenarios_fault-first a f s (error.Read input) read feed_read fault = subst (λ (i : Input). IsFirstFault a f s (error.Read i)) (sym fault.0) (read, feed_read, fault.1)
+scenarios_fault-first a f s (error.TooLong input) read feed_read fault = subst (λ (i : Input). IsFirstFault a f s (error.TooLong i)) (sym fault.0) (read, feed_read, fault.1)
+scenarios_fault-first a f s (error.Airport number word) read feed_read fault = absurd fault
+scenarios_fault-first a f s (error.Scenario number word) read feed_read fault = absurd fault
+scenarios_fault-first a f s error.Memory read feed_read fault = (read.unfailed, feed_read.unfailed, fault)
+scenarios_fault-first a f s error.Write read feed_read fault = absurd fault
+
+-- where the inputs were read and have good records, a failed write is the first fault
+pub write_fault-first : (a f s : Reading) (airport scenarios : List ℕ) → AreRead a f s
+    → IfSome a.before (λ bytes. airport ≡ bytes) → IfSome s.before (λ bytes. scenarios ≡ bytes)
+    → IsAirportFile airport → HasNoScenario scenarios → IsFirstFault a f s error.Write
+write_fault-first a f s airport scenarios read as_airport as_scenarios file none = (
+  read,
+  IfSome_then a.before as_airport (λ bytes is. subst IsAirportFile is file),
+  IfSome_then s.before as_scenarios (λ bytes is. subst HasNoScenario is none),
+)
 
 -- a fault of the scenario file is one of the records, where there is an airport
 pub scenario_fault-record : (airport scenarios : List ℕ) (e : RunError) → IsAirportFile airport → IsScenarioFault scenarios e → IsRecordFault airport scenarios e

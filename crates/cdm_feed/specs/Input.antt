@@ -4,6 +4,10 @@ use Rattle.std.specs.Io.KnownBytes.{Consumes}
 use Rattle.cdm_feed.specs.declared.input.InputFault.{InputFault}
 use Rattle.cdm_feed.specs.declared.input.InputFault.TheVariants as fault
 
+-- the most bytes that an input may have
+abbrev pub input_limit : ℕ
+input_limit = 8388608
+
 -- the input's reader failed
 abbrev pub is_failed_input : {T : Type 0} → Result T InputFault → Bool
 is_failed_input (Ok input) = false

@@ -12,3 +12,4 @@ pub mod AirportFile
 pub mod Refused
 pub mod Output
 pub mod RunFaults
+pub mod InputNames

@@ -1,12 +1,11 @@
 -- What each fault of a run says.
-use Rattle.std.specs.Prelude.{◌≡◌, ◌≤◌, ⊤, ℕ, Bool, true, false, List, [], length, Option, IfSome, Result, Ok, Err}
+use Rattle.std.specs.Prelude.{◌≡◌, ◌≤◌, ◌+◌, ⊤, ℕ, Bool, true, false, List, [], length, Option, IfSome, Result, Ok, Err}
 use Rattle.std.specs.Io.KnownBytes.{IsAtEnd}
 use Rattle.cdm_flight.specs.Journal.{AirportRows}
 use Rattle.cdm_flight.specs.declared.word.RefusalWord.TheVariants as word
 use Rattle.cdm_feed.specs.AirportFile.{airport_in}
-use Rattle.cdm_feed.specs.Input.{GivesBytes}
+use Rattle.cdm_feed.specs.Input.{GivesBytes, input_limit}
 use Rattle.cdm_feed.specs.Records.{records_of}
-use Rattle.cdm_feed.specs.declared.input.TheConstants.{INPUT_LIMIT}
 use Rattle.cdm_feed.specs.declared.run_error.Input.{Input}
 use Rattle.cdm_feed.specs.declared.run_error.Input.TheVariants.{Airport, Feed, Scenarios, Feed1, Feed2}
 use Rattle.cdm_feed.specs.declared.run_error.RunError.{RunError}
@@ -18,26 +17,44 @@ pub record Reading : Type 0 where
   pub after : Option (List ℕ)
   pub failed : Bool
 
--- the input was read to its end, and is not too long
-pub record IsRead (r : Reading) : Type 0 where
-  pub sound : r.failed ≡ false
-  pub ended : IsAtEnd r.after
-  pub short : IfSome r.before (λ bytes. length bytes ≤ INPUT_LIMIT)
+-- the reader has given no byte past the limit
+abbrev pub IsWithinLimit : Reading → Type 0
+IsWithinLimit r = (n : ℕ) × GivesBytes r.before r.after n × (n ≤ input_limit)
 
--- the input has given one byte past the limit
-abbrev pub IsTooLong : Reading → Type 0
-IsTooLong r = GivesBytes r.before r.after 8388609
+-- no read of the input failed, and it isn't too long as far as it was read
+pub record IsUnfailed (r : Reading) : Type 0 where
+  pub sound : r.failed ≡ false
+  pub within : IsWithinLimit r
+
+-- the input was read to its end
+pub record IsRead (r : Reading) : Type 0 where
+  pub unfailed : IsUnfailed r
+  pub ended : IsAtEnd r.after
+
+-- a read of the input failed, and before it the input wasn't too long
+pub record IsFailed (r : Reading) : Type 0 where
+  pub failed : r.failed ≡ true
+  pub within : IsWithinLimit r
+
+-- no read of the input failed, and it has given the first byte past the limit
+pub record IsTooLong (r : Reading) : Type 0 where
+  pub sound : r.failed ≡ false
+  pub longer : GivesBytes r.before r.after (input_limit + 1)
 
 -- why an input is not read to its end
 abbrev pub IsInputFault : Reading → Input → RunError → Type 0
-IsInputFault r which (error.Read input) = (input ≡ which) × (r.failed ≡ true)
+IsInputFault r which (error.Read input) = (input ≡ which) × IsFailed r
 IsInputFault r which (error.TooLong input) = (input ≡ which) × IsTooLong r
-IsInputFault r which error.Memory = ⊤
+IsInputFault r which error.Memory = IsUnfailed r
 IsInputFault r which fault = ⊥
 
--- the input begins with a faulty record; no scenario is known
+-- the scenario file has no record
+abbrev pub HasNoScenario : List ℕ → Type 0
+HasNoScenario scenarios = records_of scenarios ≡ []
+
+-- the scenario file begins with a faulty record; no scenario is known
 abbrev pub IsNoScenarioFile : List ℕ → Type 0
-IsNoScenarioFile scenarios = records_of scenarios ≡ [] → ⊥
+IsNoScenarioFile scenarios = HasNoScenario scenarios → ⊥
 
 -- the airport file is accepted
 abbrev pub IsAirportFile : List ℕ → Type 0
@@ -50,11 +67,12 @@ pub record AreRead (airport feed scenarios : Reading) : Type 0 where
   pub scenarios_read : IsRead scenarios
 
 -- the first fault of a run: the inputs are read in this order, then their records are asked, then
--- the text is made, and then it is written
+-- the text is made, and then it is written. Want of memory may come anywhere before the writing, but
+-- not in place of a failed read or of an input that is too long.
 abbrev pub IsFirstFault : Reading → Reading → Reading → RunError → Type 0
-IsFirstFault a f s (error.Read Airport) = a.failed ≡ true
-IsFirstFault a f s (error.Read Feed) = IsRead a × (f.failed ≡ true)
-IsFirstFault a f s (error.Read Scenarios) = IsRead a × IsRead f × (s.failed ≡ true)
+IsFirstFault a f s (error.Read Airport) = IsFailed a
+IsFirstFault a f s (error.Read Feed) = IsRead a × IsFailed f
+IsFirstFault a f s (error.Read Scenarios) = IsRead a × IsRead f × IsFailed s
 IsFirstFault a f s (error.Read Feed1) = ⊥
 IsFirstFault a f s (error.Read Feed2) = ⊥
 IsFirstFault a f s (error.TooLong Airport) = IsTooLong a
@@ -66,8 +84,8 @@ IsFirstFault a f s (error.Airport number refusal) =
     AreRead a f s × IfSome a.before (λ bytes. airport_in bytes ≡ Err (number, refusal))
 IsFirstFault a f s (error.Scenario number refusal) =
     AreRead a f s × IfSome a.before IsAirportFile × IfSome s.before IsNoScenarioFile × (number ≡ 1) × (refusal ≡ word.Kind)
-IsFirstFault a f s error.Memory = ⊤
-IsFirstFault a f s error.Write = AreRead a f s
+IsFirstFault a f s error.Memory = IsUnfailed a × IsUnfailed f × IsUnfailed s
+IsFirstFault a f s error.Write = AreRead a f s × IfSome a.before IsAirportFile × IfSome s.before HasNoScenario
 
 -- why an airport file makes no airport
 abbrev pub IsAirportFault : List ℕ → RunError → Type 0

@@ -3,10 +3,9 @@ ghost use Rattle.std.specs.Prelude.{◌≡◌, ◌≤◌, IfOk, length, map};
 ghost use Rattle.cdm_feed.specs.Parsing.{parse_of};
 ghost use Rattle.cdm_feed.specs.Records.{records_of};
 
-use crate::list::push_last;
 use crate::parsing::parse_record;
 use crate::records::RecordReader;
-use cdm_flight::{RefusalWord, Role, Update};
+use cdm_flight::{RefusalWord, Role, Update, push_last};
 use cdm_time::Day;
 use csv::ByteRecord;
 use std::alloc::{AllocError, Global};

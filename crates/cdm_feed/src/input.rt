@@ -1,7 +1,7 @@
 //! Whole inputs.
 ghost use Rattle.std.specs.Prelude.{◌≡◌, ◌≤◌, ◌+◌, ℕ, false, vec_len, IfOk, OnOk, IfSome, IsErrOf};
 ghost use Rattle.std.specs.Io.KnownBytes.{IsAtEnd};
-ghost use Rattle.cdm_feed.specs.Input.{GivesBytes, is_failed_input};
+ghost use Rattle.cdm_feed.specs.Input.{GivesBytes, input_limit, is_failed_input};
 ghost use Rattle.cdm_feed.specs.declared.input.InputFault.TheVariants as fault;
 
 use crate::device::Device;
@@ -48,15 +48,15 @@ pub fn read_input<R: Read>(alloc: Global, device: &mut Device<R>) -> Result<Vec<
     ensures whole { IfOk result (λ input.
         IfSome (R.remaining device.old.inner) (λ bytes. input.items ≡ bytes)) }
     ensures end { OnOk result (IsAtEnd (R.remaining device.new.inner)) }
-    ensures limit { IfOk result (λ input. vec_len input ≤ INPUT_LIMIT) }
+    ensures limit { IfOk result (λ input. vec_len input ≤ input_limit) }
     ensures failed { device.new.failed ≡ is_failed_input result }
 
     // One byte past the limit was given, or else no byte past it.
     ensures too_long { IsErrOf result InputFault.TooLong →
-        GivesBytes (R.remaining device.old.inner) (R.remaining device.new.inner) (INPUT_LIMIT + 1) }
+        GivesBytes (R.remaining device.old.inner) (R.remaining device.new.inner) (input_limit + 1) }
     ensures within { ¬ IsErrOf result InputFault.TooLong →
         (n : ℕ) × GivesBytes (R.remaining device.old.inner) (R.remaining device.new.inner) n
-        × (n ≤ INPUT_LIMIT) }
+        × (n ≤ input_limit) }
 {
     let mut input = Vec::new(alloc);
     let mut chunk = [0u8; CHUNK];

@@ -1,6 +1,6 @@
 //! The inputs of a run, read whole and in order.
 ghost use Rattle.std.specs.Prelude.{◌≡◌, ◌≤◌, false, vec_len, IfOk, IfErr, OnOk, IfSome};
-ghost use Rattle.cdm_feed.specs.declared.input.TheConstants.{INPUT_LIMIT};
+ghost use Rattle.cdm_feed.specs.Input.{input_limit};
 ghost use Rattle.cdm_feed.specs.RunFaults.{AreRead, IsBeforeWriting, IsFirstFault, IsInputFault, IsRead};
 
 use crate::device::Device;
@@ -17,7 +17,7 @@ fn read_whole<R: Read>(
 ) -> Result<Vec<u8>, RunError>
     requires { device.old.failed ≡ false }
     ensures whole { IfOk result (λ bytes. IfSome (R.remaining device.old.inner) (λ all. bytes.items ≡ all)) }
-    ensures limit { IfOk result (λ bytes. vec_len bytes ≤ INPUT_LIMIT) }
+    ensures limit { IfOk result (λ bytes. vec_len bytes ≤ input_limit) }
     ensures read { OnOk result (IsRead (record {
       before = R.remaining device.old.inner;
       after = R.remaining device.new.inner;
@@ -29,11 +29,12 @@ fn read_whole<R: Read>(
       failed = device.new.failed;
     }) input) }
 {
-    read_input(alloc, device).map_err(|fault| match fault {
-        InputFault::Failed => RunError::Read(input),
-        InputFault::TooLong => RunError::TooLong(input),
-        InputFault::Memory => RunError::Memory,
-    })
+    match read_input(alloc, device) {
+        Ok(bytes) => Ok(bytes),
+        Err(InputFault::Failed) => Err(RunError::Read(input)),
+        Err(InputFault::TooLong) => Err(RunError::TooLong(input)),
+        Err(InputFault::Memory) => Err(RunError::Memory),
+    }
 }
 
 /// The bytes of all inputs.
@@ -57,7 +58,7 @@ pub(crate) fn read_inputs<A: Read, F: Read, S: Read>(
     ensures airport { IfOk result (λ inputs. IfSome (A.remaining airport.old.inner) (λ all. inputs.airport.items ≡ all)) }
     ensures feed { IfOk result (λ inputs. IfSome (F.remaining feed.old.inner) (λ all. inputs.feed.items ≡ all)) }
     ensures scenarios { IfOk result (λ inputs. IfSome (S.remaining scenarios.old.inner) (λ all. inputs.scenarios.items ≡ all)) }
-    ensures limit { IfOk result (λ inputs. vec_len inputs.feed ≤ INPUT_LIMIT) }
+    ensures limit { IfOk result (λ inputs. vec_len inputs.feed ≤ input_limit) }
     ensures read { OnOk result (AreRead
         (record { before = A.remaining airport.old.inner; after = A.remaining airport.new.inner; failed = airport.new.failed })
         (record { before = F.remaining feed.old.inner; after = F.remaining feed.new.inner; failed = feed.new.failed })

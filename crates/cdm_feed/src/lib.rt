@@ -12,7 +12,6 @@ mod input;
 mod inputs;
 mod kind;
 mod laws;
-mod list;
 mod output;
 mod parsing;
 mod records;

@@ -3,7 +3,7 @@ ghost use Rattle.std.specs.Prelude.{◌≡◌, ◌≤◌, ◌∷◌, [], length,
 ghost use Rattle.csv.specs.Records.{fields_of};
 ghost use Rattle.cdm_feed.specs.Records.{records_of};
 
-use csv::{ByteRecord, Reader, ReaderBuilder};
+use csv::{ByteRecord, ErrorKind, Reader, ReaderBuilder};
 use std::alloc::{AllocError, Global};
 use std::marker::Model;
 
@@ -52,12 +52,21 @@ impl<'a> RecordReader<'a> {
         if self.ended {
             return Ok(false);
         }
-        let Ok(found) = self.reader.read_byte_record(row) else {
-            self.ended = true;
-            return Err(AllocError);
-        };
-        self.ended = !found;
-        Ok(found)
+        match self.reader.read_byte_record(row) {
+            Ok(found) => {
+                self.ended = !found;
+                Ok(found)
+            }
+            Err(error) => {
+                self.ended = true;
+                match error.into_kind() {
+                    // A read of memory fails for want of it alone.
+                    ErrorKind::Io(_) | ErrorKind::OutOfMemory => Err(AllocError),
+                    // The reader takes records of any length, and asks for no text.
+                    _ => unreachable!(),
+                }
+            }
+        }
     }
 }
 

@@ -5,9 +5,8 @@ ghost use Rattle.cdm_flight.specs.Accepted.{replies_to};
 ghost use Rattle.cdm_flight.specs.Journal.{AirportRows};
 ghost use Rattle.cdm_feed.specs.Refused.{refused_in, updates_in};
 
-use crate::list::push_last;
 use cdm_day::Reply;
-use cdm_flight::{RefusalWord, Role, Update};
+use cdm_flight::{RefusalWord, Role, Update, push_last};
 use std::alloc::{AllocError, Global};
 
 /// The updates that the records of a feed spell, in order.

@@ -1,8 +1,9 @@
 //! Why a run of the program ends without its whole text.
-ghost use Rattle.std.specs.Prelude.{◌≡◌};
+ghost use Rattle.std.specs.Prelude.{◌≡◌, Some};
 ghost use Rattle.cdm_feed.specs.declared.run_error.RunError.TheVariants as error;
 
 use crate::input::INPUT_LIMIT;
+use crate::output::WriteFault;
 use cdm_flight::RefusalWord;
 use std::alloc::AllocError;
 use std::fmt;
@@ -24,6 +25,10 @@ pub enum Input {
 }
 
 impl fmt::Display for Input {
+    ghost use Rattle.cdm_feed.specs.InputNames.{input_name};
+
+    ghost output = { λ input. Some (input_name input) };
+
     fn fmt<W: fmt::Write>(&self, f: &mut fmt::Formatter<W>) -> fmt::Result {
         f.write_str(match self {
             Input::Airport => "AIRPORT",
@@ -63,5 +68,13 @@ impl From<AllocError> for RunError {
 
     fn from(_error: AllocError) -> RunError {
         RunError::Memory
+    }
+}
+
+impl From<WriteFault> for RunError {
+    ghost from_gives = { λ _ e. e ≡ error.Write };
+
+    fn from(_fault: WriteFault) -> RunError {
+        RunError::Write
     }
 }

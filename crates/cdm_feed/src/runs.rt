@@ -1,7 +1,7 @@
 //! A whole run, from the bytes of its inputs to the bytes of its text.
 ghost use Rattle.std.specs.Prelude.{◌≡◌, ◌≤◌, ℕ, [], List, Ok, length, take, false, IfOk, IfErr, OnOk, IfSome, IsErrOf};
 ghost use Rattle.std.specs.Io.KnownBytes.{Appends};
-ghost use Rattle.cdm_feed.specs.declared.input.TheConstants.{INPUT_LIMIT};
+ghost use Rattle.cdm_feed.specs.Input.{input_limit};
 ghost use Rattle.cdm_feed.specs.Output.{AreCounts, HaveOneText, IsOutput, IsReport, accepted_in, counts_in, refusals_in};
 ghost use Rattle.cdm_feed.specs.AirportFile.{airport_in};
 ghost use Rattle.cdm_feed.specs.Records.{records_of};
@@ -69,7 +69,7 @@ fn judge<R: Threads + Sync, G: Gate>(
     workers: Workers,
     gate: &G,
 ) -> Result<Judged, AllocError>
-    requires { length feed.now ≤ INPUT_LIMIT }
+    requires { length feed.now ≤ input_limit }
     ensures state { IfOk result (λ judged. judged.state ≡ record { airport = airport; journal = accepted_in airport feed.now }) }
     ensures refused { IfOk result (λ judged. judged.refused.items ≡ refusals_in airport feed.now) }
 {
@@ -90,7 +90,7 @@ fn report_of<R: Threads + Sync, G: Gate>(
     workers: Workers,
     gate: &G,
 ) -> Result<Report, AllocError>
-    requires { length feed.now ≤ INPUT_LIMIT }
+    requires { length feed.now ≤ input_limit }
     ensures text { IfOk result (λ report. IsReport airport feed.now report.text.items) }
     ensures counts { IfOk result (λ report. report.counts ≡ counts_in airport feed.now) }
 {
@@ -137,7 +137,7 @@ fn answer<R: Threads + Sync, G: Gate>(
     workers: Workers,
     gate: &G,
 ) -> Result<Report, RunError>
-    requires { length inputs.now.feed.items ≤ INPUT_LIMIT }
+    requires { length inputs.now.feed.items ≤ input_limit }
     ensures text { IfOk result (λ report. IsOutput inputs.now.airport.items inputs.now.feed.items report.text.items) }
     ensures counts { IfOk result (λ report. AreCounts inputs.now.airport.items inputs.now.feed.items report.counts) }
     ensures no_scenarios { OnOk result (records_of inputs.now.scenarios.items ≡ []) }
@@ -199,6 +199,6 @@ pub fn run<R: Threads + Sync, A: Read, F: Read, S: Read, G: Gate, W: Write>(
 {
     let inputs = read_inputs(alloc, airport, feed, scenarios)?;
     let report = answer(rt, alloc, &inputs, workers, gate)?;
-    write_text(out, &report.text).map_err(|_| RunError::Write)?;
+    write_text(out, &report.text)?;
     Ok(report.counts)
 }

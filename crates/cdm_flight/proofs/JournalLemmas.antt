@@ -4,6 +4,7 @@ use Rattle.std.specs.Prelude.{nat_lt, is_none, unwrap_or, if◌then◌else◌}
 use Rattle.std.specs.Option.{option_map, option_map_or, option_or}
 use Rattle.std.specs.List.{list_any}
 use Rattle.std.proofs.lemmas.Grind.{common_steps}
+use Rattle.cdm_flight.proofs.Lists.{option_or-none, option_or-assoc, list_any-push}
 use Rattle.cdm_flight.specs.declared.flight.Status.{Status}
 use Rattle.cdm_flight.specs.declared.flight.Status.TheVariants.{Planned, OffBlock, Airborne, Cancelled}
 use Rattle.cdm_flight.specs.declared.ice.Ice.TheVariants.{NoIce}
@@ -15,36 +16,10 @@ use Rattle.cdm_flight.specs.declared.word.RefusalWord.TheVariants.{Ended, OffBlo
 use Rattle.cdm_flight.specs.Step.{flight_of_update, is_fresh, stepped, step_refusal, is_ended, is_off_block, airborne_out_of_order}
 use Rattle.cdm_flight.specs.Journal.{AirportRows, last_value, touches, sets_tobt, sets_stand, sets_runway, sets_ctot, sets_ice, sets_priority, sets_aobt, sets_atot, makes_known, cancels, tobt_of, stand_of, runway_of, aobt_of, atot_of, is_known, is_cancelled, exot_now, before_off, exot_of, status_from, status_of, record_with, flight_of}
 
-option_or-none : {X : Type 0} (o : Option X) → option_or o None ≡ o
-option_or-none None = refl
-option_or-none (Some x) = refl
-
-option_or-assoc : {X : Type 0} (o p q : Option X) → option_or (option_or o p) q ≡ option_or o (option_or p q)
-option_or-assoc None p q = refl
-option_or-assoc (Some x) p q = refl
-
 -- one more update sets the value, or leaves it
 pub last_value-push : {U X : Type 0} (sets : U → Option X) (a : List U) (u : U) → last_value sets (a ++ u ∷ []) ≡ option_or (sets u) (last_value sets a)
 last_value-push sets [] u = sym (option_or-none (sets u))
 last_value-push sets (v ∷ a) u = ap (λ o. option_or o (sets v)) (last_value-push sets a u) ∙ option_or-assoc (sets u) (last_value sets a) (sets v)
-
-or-false : (b : Bool) → (b || false) ≡ b
-or-false true = refl
-or-false false = refl
-
-or-assoc : (a b c : Bool) → (a || b || c) ≡ (a || (b || c))
-or-assoc true b c = refl
-or-assoc false b c = refl
-
-or-comm : (a b : Bool) → (a || b) ≡ (b || a)
-or-comm true true = refl
-or-comm true false = refl
-or-comm false true = refl
-or-comm false false = refl
-
-pub list_any-push : {U : Type 0} (p : U → Bool) (a : List U) (u : U) → list_any p (a ++ u ∷ []) ≡ (p u || list_any p a)
-list_any-push p [] u = refl
-list_any-push p (v ∷ a) u = ap (λ b. p v || b) (list_any-push p a u) ∙ (sym (or-assoc (p v) (p u) (list_any p a)) ∙ (ap (λ b. b || list_any p a) (or-comm (p v) (p u)) ∙ or-assoc (p u) (p v) (list_any p a)))
 
 -- a name is the same as itself
 pub same_name-refl : (f : List ℕ) → same_name f f ≡ true

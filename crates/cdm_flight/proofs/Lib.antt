@@ -1,3 +1,4 @@
+pub mod Lists
 pub mod NameLemmas
 pub mod JournalLemmas
 pub mod RefusalLemmas

@@ -1,6 +1,7 @@
 //! Lists as contracts see them.
-ghost use Rattle.std.specs.Prelude.{◌≡◌, ◌==◌, List, length};
+ghost use Rattle.std.specs.Prelude.{◌≡◌, ◌==◌, ◌++◌, [], ◌∷◌, List, OnOk, length};
 
+use std::alloc::AllocError;
 use std::marker::Model;
 
 /// A list that contracts see as its items alone, whatever room is spare behind them. It is made from
@@ -52,4 +53,12 @@ impl<T: Drop> Listed<T> {
         let Listed { items } = self;
         items
     }
+}
+
+/// Puts one more item behind the others.
+pub fn push_last<T: Copy>(items: &mut Vec<T>, item: T) -> Result<(), AllocError>
+    ensures { OnOk result (items.new.items ≡ items.old.items ++ item ∷ []) }
+{
+    items.push(item)?;
+    Ok(())
 }

@@ -1,6 +1,5 @@
 // How many workers a phase has.
 ghost use Rattle.std.specs.Prelude.{◌≡◌, ℕ, ◌≤◌, ◌↔◌, IsSome, IfSome};
-ghost use Rattle.cdm_phase.specs.declared.workers.TheConstants.{MOST_WORKERS};
 
 use std::marker::Model;
 
@@ -18,7 +17,7 @@ impl Model for Workers {
 
     ghost view = { λ w. w.count };
 
-    ghost invariant = { λ w. (1 ≤ w.count) × (w.count ≤ MOST_WORKERS) };
+    ghost invariant = { λ w. (1 ≤ w.count) × (w.count ≤ 64) };
 
     ghost inverse = { λ n. record { count = n } };
 }
@@ -26,7 +25,7 @@ impl Model for Workers {
 impl Workers {
     /// So many workers, or `None` where the number isn't one of 1 to 64.
     pub fn new(count: usize) -> Option<Workers>
-        ensures valid { IsSome result ↔ ((1 ≤ count) × (count ≤ MOST_WORKERS)) }
+        ensures valid { IsSome result ↔ ((1 ≤ count) × (count ≤ 64)) }
         ensures value { IfSome result (λ workers. workers ≡ count) }
     {
         if count == 0 || count > MOST_WORKERS {
@@ -38,7 +37,7 @@ impl Workers {
     /// The number of workers.
     pub fn get(self) -> usize
         ensures value { result ≡ self }
-        ensures range { (1 ≤ result) × (result ≤ MOST_WORKERS) }
+        ensures range { (1 ≤ result) × (result ≤ 64) }
     {
         self.count
     }

@@ -3,10 +3,10 @@ use Rattle.std.specs.Prelude.{ℕ, ◌-◌, List, [], ◌∷◌, ◌++◌, ◌==
 use Rattle.std.specs.Fmt.{decimal}
 use Rattle.std.specs.List.{concat}
 use Rattle.cdm_sequence.specs.declared.rule.Rule.{Rule}
-use Rattle.cdm_sequence.specs.Words.{rule_text}
+use Rattle.cdm_sequence.specs.Words.{all_rules, rule_text}
 use Rattle.cdm_report.specs.declared.counts.Counts.{Counts}
 use Rattle.cdm_report.specs.Counts.{count_of}
-use Rattle.cdm_report.specs.Report.{all_rules, line_end}
+use Rattle.cdm_report.specs.Report.{line_end}
 
 -- by how much a number grew, with its sign
 unfoldable pub change : ℕ → ℕ → List ℕ

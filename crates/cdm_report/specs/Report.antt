@@ -7,10 +7,9 @@ use Rattle.cdm_time.specs.Times.{date_text, stamp}
 use Rattle.cdm_flight.specs.declared.word.RefusalWord.{RefusalWord}
 use Rattle.cdm_flight.specs.Words.{text_of}
 use Rattle.cdm_sequence.specs.declared.rule.Rule.{Rule}
-use Rattle.cdm_sequence.specs.declared.rule.Rule.TheVariants as rules
 use Rattle.cdm_sequence.specs.declared.slot.BlockedFlight.{BlockedFlight}
 use Rattle.cdm_sequence.specs.Slots.{SlotRecord, RunwayPlanRecord, PlanRecord}
-use Rattle.cdm_sequence.specs.Words.{rule_text}
+use Rattle.cdm_sequence.specs.Words.{all_rules, rule_text}
 use Rattle.cdm_report.specs.declared.counts.Counts.{Counts}
 use Rattle.cdm_report.specs.Columns.{left_in, flight_line}
 use Rattle.cdm_report.specs.Counts.{count_of, counts_of}
@@ -18,10 +17,6 @@ use Rattle.cdm_report.specs.Counts.{count_of, counts_of}
 -- a line's end
 abbrev pub line_end : List ℕ
 line_end = 10 ∷ []
-
--- the rules in their order
-abbrev pub all_rules : List Rule
-all_rules = rules.Tobt ∷ rules.Runway ∷ rules.Exot ∷ rules.Horizon ∷ rules.Ctot ∷ rules.Closure ∷ rules.Rate ∷ []
 
 -- the day, and the minute that it is now
 unfoldable pub day_line : CalendarDate → ℕ → List ℕ

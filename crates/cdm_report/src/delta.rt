@@ -61,7 +61,7 @@ pub fn delta_text(alloc: Global, base: &Counts, scenario: &Counts) -> Result<Vec
         text,
         "DELTA PLACED {placed} DELAY {delay} MAX {greatest} LATE {late} BLOCKED {blocked}"
     )?;
-    push_rule_changes(&mut text, base, scenario, &Rule::ALL)?;
+    push_rule_changes(&mut text, base, scenario, &Rule::all())?;
     writeln!(text)?;
     Ok(text.into_bytes())
 }

@@ -96,7 +96,7 @@ fn push_total(text: &mut String, counts: &Counts) -> Result<(), AllocError>
     ensures { OnOk result (string_bytes text.new ≡ string_bytes text.old ++ total_line counts.now) }
 {
     push_total_head(text, counts)?;
-    push_rule_counts(text, counts, &Rule::ALL)?;
+    push_rule_counts(text, counts, &Rule::all())?;
     writeln!(text)
 }
 

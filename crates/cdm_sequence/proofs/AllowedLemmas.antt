@@ -13,7 +13,7 @@ use Rattle.cdm_runway.specs.Room.{cap_at, held_in_cell, IsEarliest}
 use Rattle.cdm_sequence.specs.Plan.{Placing, taken_before, IsLeast, IsPlan, MayHave, IsAllowed}
 use Rattle.cdm_sequence.specs.Targets.{TargetRecord}
 use Rattle.cdm_sequence.proofs.CountLemmas.{weight}
-use Rattle.cdm_sequence.proofs.ListLemmas.{contains_cases, contains_head, contains_tail, contains_map, sum_same, apart_from_head}
+use Rattle.cdm_flight.proofs.Lists.{contains_cases, contains_head, contains_tail, contains_map, sum_same, apart_from_head}
 use Rattle.cdm_sequence.proofs.OrderLemmas.{before_itself, before_trans, before_or_after, same_flips}
 use Rattle.cdm_sequence.proofs.PlanLemmas.{in_cell, load_of, held_before, held_all}
 

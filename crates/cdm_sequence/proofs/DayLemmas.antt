@@ -8,7 +8,7 @@ use Rattle.cdm_sequence.specs.Day.{targets_on, IsDayPlan, IsDayAllowed}
 use Rattle.cdm_sequence.specs.Plan.{Placing, taken_before, IsLeast, IsPlan, IsEarlier}
 use Rattle.cdm_sequence.specs.Targets.{TargetRecord}
 use Rattle.cdm_sequence.proofs.AllowedLemmas.{plan_allowed}
-use Rattle.cdm_sequence.proofs.ListLemmas.{contains_kept, contains_all, distinct_filter}
+use Rattle.cdm_flight.proofs.Lists.{contains_kept, contains_all, distinct_filter}
 use Rattle.cdm_sequence.proofs.OrderLemmas.{same_is, same_itself}
 use Rattle.cdm_sequence.proofs.PlanLemmas.{plan_one, none_earlier, least_same, held_agree}
 

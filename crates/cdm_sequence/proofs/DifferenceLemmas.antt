@@ -6,7 +6,7 @@ use Rattle.cdm_sequence.specs.Targets.{TargetRecord}
 use Rattle.cdm_flight.specs.Order.{is_before}
 use Rattle.cdm_sequence.specs.Plan.{Placing, IsSooner, IsEarlier}
 use Rattle.cdm_sequence.proofs.OrderLemmas.{before_itself, before_trans}
-use Rattle.cdm_sequence.proofs.ListLemmas.{contains_cases, contains_head, contains_tail}
+use Rattle.cdm_flight.proofs.Lists.{contains_cases, contains_head, contains_tail}
 
 abbrev Agree : List TargetRecord → Placing → Placing → Type 0
 Agree fs p q = (f : TargetRecord) → Contains fs f → p f ≡ q f

@@ -1,4 +1,3 @@
-pub mod ListLemmas
 pub mod OrderLemmas
 pub mod CountLemmas
 pub mod PlanLemmas

@@ -21,7 +21,7 @@ use Rattle.cdm_flight.specs.Order.{key_cmp, is_before}
 use Rattle.cdm_sequence.specs.Plan.{Placing, taken_before, IsLeast, IsPlan}
 use Rattle.cdm_sequence.specs.Turns.{placed_at, IsDecided, AreDecided}
 use Rattle.cdm_sequence.proofs.OrderLemmas.{before_itself, before_or_after, not_back, keys_weak}
-use Rattle.cdm_sequence.proofs.ListLemmas.{contains_cases, contains_head, contains_tail}
+use Rattle.cdm_flight.proofs.Lists.{contains_cases, contains_head, contains_tail}
 use Rattle.cdm_sequence.proofs.PlanLemmas.{load_of, held_before}
 use Rattle.cdm_sequence.proofs.TurnLemmas.{minutes_of, minutes_push}
 

@@ -22,7 +22,7 @@ use Rattle.cdm_sequence.specs.Targets.{TargetRecord}
 use Rattle.cdm_sequence.specs.declared.rule.Rule.{Rule}
 use Rattle.cdm_sequence.specs.declared.rule.Rule.TheVariants.{Closure, Rate}
 use Rattle.cdm_sequence.specs.declared.slot.BlockedFlight.{BlockedFlight}
-use Rattle.cdm_sequence.proofs.ListLemmas.{contains_map, contains_from_map, contains_from_given, filter_map_same, filter_same, sum_map, sorted_one, IsPermutation-filter_map, IsPermutation-filter, distinct_left, distinct_right, apart_from_rest, one_of_key}
+use Rattle.cdm_flight.proofs.Lists.{contains_map, contains_from_map, contains_from_given, filter_map_same, filter_same, sum_map, sorted_one, IsPermutation-filter_map, IsPermutation-filter, distinct_left, distinct_right, apart_from_rest, one_of_key}
 use Rattle.cdm_sequence.proofs.OrderLemmas.{same_flips, is_same, tied_names, last_ties}
 use Rattle.cdm_sequence.proofs.PlanLemmas.{in_cell, load_of, held_before, held_agree, least_same, plan_one}
 

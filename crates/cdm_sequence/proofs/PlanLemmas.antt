@@ -12,7 +12,7 @@ use Rattle.cdm_flight.specs.Order.{is_before}
 use Rattle.cdm_sequence.specs.Plan.{Placing, taken_before, IsLeast, IsPlan, MayHave, IsAllowed, IsSooner, IsEarlier}
 use Rattle.cdm_sequence.proofs.OrderLemmas.{before_itself, before_trans}
 use Rattle.cdm_sequence.proofs.CountLemmas.{weight, count_placed, count_all}
-use Rattle.cdm_sequence.proofs.ListLemmas.{sum_same, sum_less}
+use Rattle.cdm_flight.proofs.Lists.{sum_same, sum_less}
 
 -- lies in the cell of m
 abbrev pub in_cell : ℕ → ℕ → ℕ → Bool

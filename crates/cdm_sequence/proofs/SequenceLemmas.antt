@@ -22,7 +22,7 @@ use Rattle.cdm_sequence.specs.Turns.{placed_at, slot_from, blocked_from, AreDeci
 use Rattle.cdm_sequence.specs.Words.{rule_for}
 use Rattle.cdm_sequence.specs.declared.decision.Decision.{Decision}
 use Rattle.cdm_sequence.specs.declared.slot.BlockedFlight.{BlockedFlight}
-use Rattle.cdm_sequence.proofs.ListLemmas.{contains_cases, contains_head, contains_tail, contains_map, contains_given, All-given, IsPermutation-filter_map, IsPermutation-filter, distinct_left, distinct_right, distinct_by, apart_from_head, apart_from_rest}
+use Rattle.cdm_flight.proofs.Lists.{contains_cases, contains_head, contains_tail, contains_map, contains_given, All-given, IsPermutation-filter_map, IsPermutation-filter, distinct_left, distinct_right, distinct_by, apart_from_head, apart_from_rest}
 use Rattle.cdm_sequence.proofs.MadeLemmas.{Rising, rising_from_sorted, decided_among, plan_made}
 use Rattle.cdm_sequence.proofs.OrderLemmas.{is_same, same_flips}
 

@@ -1,7 +1,6 @@
 -- Whether a planned flight can be sequenced, and when it may take off.
 use Rattle.std.specs.Prelude.{◌≡◌, ℕ, ◌+◌, ◌-◌, ◌<◌, max, min, Bool, true, false, ◌&&◌, nat_le, nat_lt, List, Option, Some, None, if◌then◌else◌}
-use Rattle.cdm_time.specs.Windows.{has_minute, is_in_tolerance}
-use Rattle.cdm_time.specs.declared.window.TheConstants.{TOLERANCE_AFTER, TOLERANCE_BEFORE}
+use Rattle.cdm_time.specs.Windows.{has_minute, is_in_tolerance, tolerance_after, tolerance_before}
 use Rattle.cdm_flight.specs.declared.ice.Ice.{Ice}
 use Rattle.cdm_flight.specs.declared.ice.Ice.TheVariants.{AtStand}
 use Rattle.cdm_flight.specs.declared.place.Place.{Place}
@@ -45,11 +44,11 @@ is_candidate earliest ctot m = is_in_reach earliest m && keeps_ctot ctot m
 -- the first of the candidates, and the end of them
 abbrev pub window_from : ℕ → Option ℕ → ℕ
 window_from earliest None = earliest
-window_from earliest (Some ctot) = max earliest (ctot - TOLERANCE_BEFORE)
+window_from earliest (Some ctot) = max earliest (ctot - tolerance_before)
 
 abbrev pub window_to : Option ℕ → ℕ
 window_to None = 2880
-window_to (Some ctot) = min 2880 (ctot + TOLERANCE_AFTER + 1)
+window_to (Some ctot) = min 2880 (ctot + tolerance_after + 1)
 
 -- the target of a flight that has all three
 abbrev pub target_of : Record → ℕ → ℕ → List ℕ → ℕ → TargetRecord

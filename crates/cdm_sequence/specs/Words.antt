@@ -1,9 +1,13 @@
 -- The rules and their words.
-use Rattle.std.specs.Prelude.{ℕ, List, codes}
+use Rattle.std.specs.Prelude.{ℕ, List, [], ◌∷◌, codes}
 use Rattle.cdm_runway.specs.declared.load.Blocked.{Blocked}
 use Rattle.cdm_runway.specs.declared.load.Blocked.TheVariants as blocked
 use Rattle.cdm_sequence.specs.declared.rule.Rule.{Rule}
 use Rattle.cdm_sequence.specs.declared.rule.Rule.TheVariants.{Tobt, Runway, Exot, Horizon, Ctot, Closure, Rate}
+
+-- the rules in their order
+abbrev pub all_rules : List Rule
+all_rules = Tobt ∷ Runway ∷ Exot ∷ Horizon ∷ Ctot ∷ Closure ∷ Rate ∷ []
 
 -- the text of a rule
 abbrev pub rule_text : Rule → List ℕ

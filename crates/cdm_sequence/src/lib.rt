@@ -6,7 +6,6 @@ mod aims;
 mod decision;
 mod fixed;
 mod laws;
-mod list;
 mod plan;
 mod rule;
 mod sequencing;

@@ -9,10 +9,9 @@ ghost use Rattle.cdm_sequence.specs.Slots.{slot_cmp, blocked_cmp};
 ghost use Rattle.cdm_sequence.specs.Turns.{slot_from, blocked_from};
 
 use crate::decision::Decision;
-use crate::list::push_last;
 use crate::turns::{decide_all, in_order, load_of};
 use crate::{BlockedFlight, Fixed, RunwayPlan, Slot, Target};
-use cdm_flight::{Listed, RunwayName};
+use cdm_flight::{Listed, RunwayName, push_last};
 use cdm_runway::Runway;
 use std::alloc::{AllocError, Global};
 

@@ -6,8 +6,8 @@ ghost use Rattle.cdm_sequence.specs.Fixed.{takeoffs};
 ghost use Rattle.cdm_sequence.specs.Turns.{placed_at, IsDecided, AreDecided};
 
 use crate::decision::Decision;
-use crate::list::push_last;
 use crate::{Fixed, Target};
+use cdm_flight::push_last;
 use cdm_runway::{Runway, RunwayLoad};
 use std::alloc::{AllocError, Global};
 

@@ -10,6 +10,13 @@ pub record Interval : Type 0 where
 abbrev pub has_minute : Interval → ℕ → Bool
 has_minute i m = nat_le i.from m && nat_lt m i.to
 
--- a take-off at this minute is within the CTOT tolerance, 5 minutes before the CTOT to 10 after it
+-- the CTOT tolerance, in minutes before the CTOT and after it
+abbrev pub tolerance_before : ℕ
+tolerance_before = 5
+
+abbrev pub tolerance_after : ℕ
+tolerance_after = 10
+
+-- a take-off at this minute is within the tolerance of the CTOT
 abbrev pub is_in_tolerance : ℕ → ℕ → Bool
-is_in_tolerance ctot m = nat_le ctot (m + 5) && nat_le m (ctot + 10)
+is_in_tolerance ctot m = nat_le ctot (m + tolerance_before) && nat_le m (ctot + tolerance_after)

@@ -30,7 +30,7 @@ impl Minute {
     pub fn new(number: u16) -> Option<Minute>
         ensures { result ≡ (if nat_lt number 2880 then Some number else None) }
     {
-        if number < 2880 {
+        if number <= Minute::LAST.number {
             Some(Minute { number })
         } else {
             None

@@ -1,6 +1,6 @@
 //! Windows of minutes.
 ghost use Rattle.std.specs.Prelude.{◌≡◌, ℕ, ◌+◌, ◌-◌, ◌≤◌, ◌<◌, nat_lt, min, Some, None, if◌then◌else◌};
-ghost use Rattle.cdm_time.specs.Windows.{has_minute, is_in_tolerance};
+ghost use Rattle.cdm_time.specs.Windows.{has_minute, is_in_tolerance, tolerance_after, tolerance_before};
 
 use crate::bound::Bound;
 use crate::minute::Minute;
@@ -74,8 +74,8 @@ impl Window {
 /// The minutes at which a flight with this CTOT may take off: those of the horizon within the CTOT
 /// tolerance.
 pub fn ctot_window(ctot: Minute) -> Window
-    ensures from { result.from ≡ ctot - TOLERANCE_BEFORE }
-    ensures to { result.to ≡ min 2880 (ctot + TOLERANCE_AFTER + 1) }
+    ensures from { result.from ≡ ctot - tolerance_before }
+    ensures to { result.to ≡ min 2880 (ctot + tolerance_after + 1) }
     ensures minutes { (m : ℕ) → m < 2880 → has_minute result m ≡ is_in_tolerance ctot m }
 {
     let from = ctot.get().saturating_sub(TOLERANCE_BEFORE);

@@ -11,7 +11,7 @@ use Rattle.cdm_sequence.specs.Sequence.{fixed_slot, minute_in}
 use Rattle.cdm_sequence.specs.Targets.{TargetRecord}
 use Rattle.cdm_sequence.specs.Turns.{AreDecided}
 use Rattle.cdm_sequence.proofs.AllowedLemmas.{plan_allowed}
-use Rattle.cdm_sequence.proofs.ListLemmas.{distinct_right}
+use Rattle.cdm_flight.proofs.Lists.{distinct_right}
 use Rattle.cdm_sequence.proofs.PlanLemmas.{none_earlier}
 use Rattle.cdm_sequence.proofs.SequenceLemmas.{IsMade, slots_given, blocked_given, names_once, sequence_made}
 use Rattle.cdm_sequence.proofs.sequencing.sequence.Goals as goal

@@ -1,14 +1,17 @@
 -- Lists: their elements, their sums, and their permutations.
-use Rattle.std.proofs.Common.{◌≡◌, ℕ, zero, suc, ◌+◌, ◌<◌, ◌≤◌, Bool, true, false, cond, List, [], ◌∷◌, ◌++◌, Option, Some, None, IfSome, sym, ◌∙◌, ap, subst, refl, arith, inl, inr, ◌⊎◌, sum_by, filter, map, set, get_or, length, append_assoc}
+use Rattle.std.proofs.Common.{◌≡◌, ℕ, zero, suc, ◌+◌, ◌<◌, ◌≤◌, Bool, true, false, cond, List, [], ◌∷◌, ◌++◌, Option, Some, None, IfSome, sym, ◌∙◌, ap, subst, refl, arith, inl, inr, ◌⊎◌, ◌||◌, sum_by, filter, map, set, get_or, length, append_assoc}
 use Rattle.std.specs.Cmp.{IsStrictWeakOrder}
-use Rattle.std.specs.List.{filter_map, All, Contains, cons_option, swap, AllByRecursion, IsDistinct}
+use Rattle.std.specs.Prelude.{is_some, if◌then◌else◌}
+use Rattle.std.specs.List.{filter_map, find, list_any, All, Contains, cons_option, swap, AllByRecursion, IsDistinct}
 use Rattle.std.specs.List.Sorted.{IsPermutation, IsSortedBy}
-use Rattle.std.specs.Option.{option_to_list}
+use Rattle.std.specs.Option.{option_or, option_to_list}
+use Rattle.std.proofs.Math.Bool.{or-false, or_comm}
 use Rattle.std.proofs.lemmas.Bool.{false≢true}
 use Rattle.std.proofs.lemmas.List.Edits.{swap_is}
 use Rattle.std.proofs.lemmas.List.Elements.{Contains-append_right, All-from_recursion, All-contains}
+use Rattle.std.proofs.lemmas.List.Folds.{fold-map, list_any-append}
 use Rattle.std.proofs.lemmas.List.Sorted.{IsPermutation-refl, IsPermutation-trans, IsPermutation-append_left, IsPermutation-append_right, IsPermutation-append_comm, IsPermutation-keeps, sorted_far}
-use Rattle.std.proofs.lemmas.List.Sums.{sum_by-cons}
+use Rattle.std.proofs.lemmas.List.Sums.{sum_by-cons, sum_by-le-sum_by}
 use Rattle.std.proofs.lemmas.Map.Keys.{IsDistinct-cons, IsDistinct-head, IsDistinct-tail}
 
 -- Elements.
@@ -80,6 +83,20 @@ All-given {X} {Y} h P xs each = All-from_recursion P (filter_map h xs) (by xs ea
   by [] all = tt
   by (y ∷ ys) all = given (h y) (filter_map h ys) (all y (contains_head y ys)) (by ys (λ x i. all x (contains_tail y ys x i)))
 
+pub filter_map-map : {X Y Z : Type 0} (h : Y → Option Z) (g : X → Y) (xs : List X) → filter_map h (map g xs) ≡ filter_map (λ x. h (g x)) xs
+filter_map-map h g [] = refl
+filter_map-map {X} {Y} {Z} h g (x ∷ xs) = ap (λ (ys : List Z). cons_option (h (g x)) ys) (filter_map-map h g xs)
+
+abbrev pub if_so : {Y : Type 0} → Bool → Option Y → Option Y
+if_so b o = cond b o None
+
+pub filter_map-filter : {X Y : Type 0} (h : X → Option Y) (p : X → Bool) (xs : List X) → filter_map h (filter p xs) ≡ filter_map (λ x. if_so (p x) (h x)) xs
+filter_map-filter h p [] = refl
+filter_map-filter {X} {Y} h p (x ∷ xs) = go (p x) (filter_map-filter h p xs) where
+  go : (b : Bool) → filter_map h (filter p xs) ≡ filter_map (λ x. if_so (p x) (h x)) xs → filter_map h (cond b (x ∷ filter p xs) (filter p xs)) ≡ cons_option (if_so b (h x)) (filter_map (λ x. if_so (p x) (h x)) xs)
+  go true e = ap (λ (ys : List Y). cons_option (h x) ys) e
+  go false e = e
+
 -- two functions that agree on a list's elements
 pub filter_map_same : {X Y : Type 0} (h k : X → Option Y) (xs : List X) → ((x : X) → Contains xs x → h x ≡ k x) → filter_map h xs ≡ filter_map k xs
 filter_map_same h k [] same = refl
@@ -92,6 +109,37 @@ filter_same p q [] same = refl
 filter_same {X} p q (x ∷ xs) same =
     ap (λ (b : Bool). cond b (x ∷ filter p xs) (filter p xs)) (same x (contains_head x xs))
     ∙ ap (λ (ys : List X). cond (q x) (x ∷ ys) ys) (filter_same p q xs (λ y i. same y (contains_tail x xs y i)))
+
+-- Choices.
+
+pub option_or-none : {X : Type 0} (o : Option X) → option_or o None ≡ o
+option_or-none None = refl
+option_or-none (Some x) = refl
+
+pub option_or-assoc : {X : Type 0} (o p q : Option X) → option_or (option_or o p) q ≡ option_or o (option_or p q)
+option_or-assoc None p q = refl
+option_or-assoc (Some x) p q = refl
+
+-- Tests of any element.
+
+pub list_any-push : {X : Type 0} (p : X → Bool) (xs : List X) (x : X) → list_any p (xs ++ x ∷ []) ≡ (p x || list_any p xs)
+list_any-push p xs x = list_any-append p xs (x ∷ []) ∙ (ap (λ b. list_any p xs || b) (or-false (p x)) ∙ or_comm (list_any p xs) (p x))
+
+pub list_any-find : {X : Type 0} (p : X → Bool) (xs : List X) → list_any p xs ≡ is_some (find p xs)
+list_any-find p [] = refl
+list_any-find p (x ∷ xs) = by (p x) (list_any-find p xs)
+  where
+    by : (b : Bool) → list_any p xs ≡ is_some (find p xs) → (b || list_any p xs) ≡ is_some (if b then Some x else find p xs)
+    by true h = refl
+    by false h = h
+
+pub list_any-map : {X Y : Type 0} (p : Y → Bool) (f : X → Y) (xs : List X) → list_any p (map f xs) ≡ list_any (λ x. p (f x)) xs
+list_any-map p f [] = refl
+list_any-map p f (x ∷ xs) = ap (λ b. p (f x) || b) (list_any-map p f xs)
+
+pub list_any-same : {X : Type 0} (p q : X → Bool) → ((x : X) → p x ≡ q x) → (xs : List X) → list_any p xs ≡ list_any q xs
+list_any-same p q same [] = refl
+list_any-same p q same (x ∷ xs) = λ i. same x i || list_any-same p q same xs i
 
 -- Sums.
 
@@ -113,31 +161,34 @@ sum_none f (x ∷ xs) h =
     let d = sum_none f xs (λ y k. h y (contains_tail x xs y k)) in
     omega arith
 
-pub sum_le : {X : Type 0} (f g : X → ℕ) (xs : List X) → ((y : X) → f y ≤ g y) → sum_by f xs ≤ sum_by g xs
-sum_le f g [] h = omega arith
-sum_le f g (x ∷ xs) h =
-    let a = sum_by-cons f x xs in
-    let b = sum_by-cons g x xs in
-    let c = h x in
-    let d = sum_le f g xs h in
-    omega arith
-
--- and of two of which one is less at some element
+-- and of two that are no greater, of which one is less at some element
 pub sum_less : {X : Type 0} (f g : X → ℕ) (xs : List X) (x : X) → Contains xs x → ((y : X) → f y ≤ g y) → f x < g x → sum_by f xs < sum_by g xs
 sum_less f g [] x (k, l, e) h s = absurd (omega arith)
 sum_less {X} f g (y ∷ ys) x i h s =
     let a = sum_by-cons f y ys in
     let b = sum_by-cons g y ys in
     let c = h y in
-    let d = sum_le f g ys h in
+    let d = sum_by-le-sum_by f g ys h in
     elim (contains_cases y ys x i) [
       | inl e ↦ let e1 : f y ≡ f x = ap f e in let e2 : g y ≡ g x = ap g e in omega arith
       | inr j ↦ let m = sum_less f g ys x j h s in omega arith
     ]
 
 pub sum_map : {X Y : Type 0} (g : Y → ℕ) (f : X → Y) (xs : List X) → sum_by g (map f xs) ≡ sum_by (λ x. g (f x)) xs
-sum_map g f [] = refl
-sum_map g f (x ∷ xs) = sum_by-cons g (f x) (map f xs) ∙ ap (λ (n : ℕ). g (f x) + n) (sum_map g f xs) ∙ sym (sum_by-cons (λ x. g (f x)) x xs)
+sum_map g f xs = fold-map (λ a y. a + g y) f 0 xs
+
+pub sum_by-add : {X : Type 0} (g h : X → ℕ) (xs : List X) → sum_by (λ x. g x + h x) xs ≡ sum_by g xs + sum_by h xs
+sum_by-add g h [] = refl
+sum_by-add g h (x ∷ xs) =
+    let a = sum_by-cons (λ x. g x + h x) x xs in
+    let b = sum_by-cons g x xs in
+    let c = sum_by-cons h x xs in
+    let d = sum_by-add g h xs in
+    omega arith
+
+pub sum_by-zero : {X : Type 0} (xs : List X) → sum_by (λ (x : X). 0) xs ≡ 0
+sum_by-zero [] = refl
+sum_by-zero {X} (x ∷ xs) = let a = sum_by-cons (λ (x : X). 0) x xs in let b = sum_by-zero xs in omega arith
 
 -- Permutations.
 
