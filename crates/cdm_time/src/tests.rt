@@ -1,99 +1,107 @@
-use crate::{Bound, Day, Minute, Stamp, TimeFault, Window, ctot_window, number_of};
-use std::fmt::Write;
+use crate::{Day, Minute, Stamp, TimeFault, Window, ctot_window, number_of};
 use std::test::Fail;
-
-fn day_of(text: &[u8]) -> Result<Day, Fail> {
-    Ok(Day::of_text(text)?)
-}
-
-fn minute(number: u16) -> Result<Minute, Fail> {
-    Ok(Minute::new(number).ok_or("no minute")?)
-}
-
-#[test]
-fn numbers_have_their_ranges(rt: HostRuntime) -> Result<(), Fail> {
-    assert!(rt; Minute::new(0) == Some(Minute::FIRST));
-    assert!(rt; Minute::new(2879) == Some(Minute::LAST));
-    assert!(rt; Minute::new(2880) == None);
-    assert!(rt; Bound::new(2880) == Some(Bound::END));
-    assert!(rt; Bound::new(2881) == None);
-    assert!(rt; number_of(b"0090") == Some(90));
-    assert!(rt; number_of(b"9999") == Some(9999));
-    assert!(rt; number_of(b"1 0") == None);
-    Ok(())
-}
 
 #[test]
 fn days_of_texts(rt: HostRuntime) -> Result<(), Fail> {
-    assert!(rt; Day::of_text(b"2000-01-01").is_ok());
-    assert!(rt; Day::of_text(b"2099-12-31").is_ok());
-    assert!(rt; Day::of_text(b"1999-12-31") == Err(TimeFault::Range));
-    assert!(rt; Day::of_text(b"2100-01-01") == Err(TimeFault::Range));
-    assert!(rt; Day::of_text(b"2100-02-29") == Err(TimeFault::Text));
-    assert!(rt; Day::of_text(b"2025-3-101") == Err(TimeFault::Text));
-    assert!(rt; day_of(b"2025-03-31")?.date_text() == *b"2025-03-31");
+    let table = [
+        ("2000-01-01", None),
+        ("2099-12-31", None),
+        ("2024-02-29", None),
+        ("1999-12-31", Some(TimeFault::Range)),
+        ("2100-01-01", Some(TimeFault::Range)),
+        ("2100-02-29", Some(TimeFault::Text)),
+        ("2025-3-101", Some(TimeFault::Text)),
+        ("2025-03-1", Some(TimeFault::Text)),
+    ];
+    for (text, fault) in table {
+        let day = Day::of_text(text.as_bytes());
+        assert_eq!(rt; day.err(), fault, "{text}");
+    }
     Ok(())
 }
 
+// As a time and as the end of a window.
 #[test]
 fn minutes_of_texts(rt: HostRuntime) -> Result<(), Fail> {
-    let day = &day_of(b"2025-03-10")?;
-    let text = Err(TimeFault::Text);
-    let range = Err(TimeFault::Range);
-    assert!(rt; day.minute_of(b"2025-03-10T24:00Z") == text);
-    assert!(rt; day.minute_of(b"2025-03-10T23:60Z") == text);
-    assert!(rt; day.minute_of(b"2025-02-29T06:00Z") == text);
-    assert!(rt; day.minute_of(b"2100-02-29T06:00Z") == text);
-    assert!(rt; day.minute_of(b"2025-03-10T06:00z") == text);
-    assert!(rt; day.minute_of(b"2024-02-29T06:00Z") == range);
-    assert!(rt; day.minute_of(b"2025-03-09T23:59Z") == range);
-    assert!(rt; day.minute_of(b"0000-02-29T00:00Z") == range);
-    assert!(rt; day.minute_of(b"2025-03-12T00:00Z") == range);
-    assert!(rt; day.bound_of(b"2025-03-12T00:00Z") == Ok(Bound::END));
-    assert!(rt; day.bound_of(b"2025-03-12T00:01Z") == Err(TimeFault::Range));
-    assert!(rt; day.minute_of(b"2025-03-11T06:01Z").ok() == Minute::new(1801));
-    let leap_day = day_of(b"2024-02-28")?;
-    assert!(rt; leap_day.minute_of(b"2024-03-01T00:00Z") == range);
-    assert!(rt; leap_day.bound_of(b"2024-03-01T00:00Z") == Ok(Bound::END));
-    let last_day = day_of(b"2099-12-31")?;
-    assert!(rt; last_day.minute_of(b"2100-01-01T23:59Z") == Ok(Minute::LAST));
+    let no_text = Err(TimeFault::Text);
+    let out_of_range = Err(TimeFault::Range);
+    let table = [
+        ("2025-03-10", "2025-03-10T06:00Z", Ok(360), Ok(360)),
+        ("2025-03-10", "2025-03-11T06:01Z", Ok(1801), Ok(1801)),
+        ("2025-03-10", "2025-03-10T24:00Z", no_text, no_text),
+        ("2025-03-10", "2025-03-10T23:60Z", no_text, no_text),
+        ("2025-03-10", "2025-02-29T06:00Z", no_text, no_text),
+        ("2025-03-10", "2100-02-29T06:00Z", no_text, no_text),
+        ("2025-03-10", "2025-03-10T06:00z", no_text, no_text),
+        (
+            "2025-03-10",
+            "2024-02-29T06:00Z",
+            out_of_range,
+            out_of_range,
+        ),
+        (
+            "2025-03-10",
+            "2025-03-09T23:59Z",
+            out_of_range,
+            out_of_range,
+        ),
+        (
+            "2025-03-10",
+            "0000-02-29T00:00Z",
+            out_of_range,
+            out_of_range,
+        ),
+        ("2025-03-10", "2025-03-12T00:00Z", out_of_range, Ok(2880)),
+        (
+            "2025-03-10",
+            "2025-03-12T00:01Z",
+            out_of_range,
+            out_of_range,
+        ),
+        ("2024-02-28", "2024-03-01T00:00Z", out_of_range, Ok(2880)),
+        ("2099-12-31", "2100-01-01T23:59Z", Ok(2879), Ok(2879)),
+    ];
+    for (day, text, minute, bound) in table {
+        let day = Day::of_text(day.as_bytes())?;
+        let as_time = day.minute_of(text.as_bytes()).map(|minute| minute.get());
+        let as_end = day.bound_of(text.as_bytes()).map(|bound| bound.get());
+        assert_eq!(rt; as_time, minute, "{text}");
+        assert_eq!(rt; as_end, bound, "{text}");
+    }
     Ok(())
 }
 
 #[test]
 fn minutes_are_printed(rt: HostRuntime) -> Result<(), Fail> {
-    let next_day = minute(1440)?;
-    let day = day_of(b"2025-03-10")?;
-    assert!(rt; day.print(Minute::FIRST) == *b"100000");
-    assert!(rt; day.print(Minute::LAST) == *b"112359");
-    assert!(rt; day_of(b"2025-03-31")?.print(next_day) == *b"010000");
-    assert!(rt; day_of(b"2024-02-28")?.print(next_day) == *b"290000");
-    assert!(rt; day_of(b"2099-12-31")?.print(Minute::LAST) == *b"012359");
-    Ok(())
-}
-
-#[test]
-fn days_and_minutes_show_themselves(rt: HostRuntime) -> Result<(), Fail> {
-    let day = day_of(b"2025-03-31")?;
-    let stamp = Stamp {
-        day,
-        minute: Minute::LAST,
-    };
-    let mut text = String::new(rt.alloc());
-    write!(text, "{day} {stamp}")?;
-    assert!(rt; text.as_str() == "2025-03-31 012359");
-    Ok(())
-}
-
-#[test]
-fn windows_keep_to_the_horizon(rt: HostRuntime) -> Result<(), Fail> {
-    for (ctot, from, to) in [(3, 0, 14), (600, 595, 611), (2875, 2870, 2880)] {
-        let window = ctot_window(minute(ctot)?);
-        assert_eq!(rt; window.from().get(), from);
-        assert_eq!(rt; window.to().get(), to);
+    let table = [
+        ("2025-03-10", 0, "100000"),
+        ("2025-03-10", 2879, "112359"),
+        ("2025-03-31", 1440, "010000"),
+        ("2024-02-28", 1440, "290000"),
+        ("2099-12-31", 2879, "012359"),
+    ];
+    for (text, number, printed) in table {
+        let day = Day::of_text(text.as_bytes())?;
+        let minute = Minute::new(number).ok_or("no minute")?;
+        let stamp = Stamp { day, minute };
+        let shown = format!(in rt.alloc(); "{day} {stamp}")?;
+        let wanted = format!(in rt.alloc(); "{text} {printed}")?;
+        assert_eq!(rt; shown, wanted);
     }
-    let six = minute(6)?;
-    assert!(rt; Window::new(six, Bound::from(six)) == None);
-    assert!(rt; Window::new(Minute::LAST, Bound::END).is_some());
+    Ok(())
+}
+
+#[test]
+fn windows_and_numbers(rt: HostRuntime) -> Result<(), Fail> {
+    for (ctot, from, to) in [(3, 0, 14), (600, 595, 611), (2875, 2870, 2880)] {
+        let ctot = Minute::new(ctot).ok_or("no minute")?;
+        let window = ctot_window(ctot);
+        let ends = (window.from().get(), window.to().get());
+        assert_eq!(rt; ends, (from, to));
+        assert!(rt; Window::new(window.from(), window.to()) == Some(window));
+    }
+    for (text, number) in [("0090", Some(90)), ("9999", Some(9999)), ("1 0", None)] {
+        assert_eq!(rt; number_of(text.as_bytes()), number, "{text}");
+    }
     Ok(())
 }
