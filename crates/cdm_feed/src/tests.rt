@@ -1,6 +1,8 @@
+//! What files can't show: devices that give or take little or fail, the limits, workers that meet.
 mod runs;
 
-use crate::{Device, InputFault, WriteFault, read_input, write_text};
+use crate::{Device, FileFault, Input, InputFault, RunError, WriteFault, read_input, write_text};
+use cdm_flight::RefusalWord;
 use std::alloc::Global;
 use std::io;
 use std::io::{Error, ErrorKind, Read, Write};
@@ -13,6 +15,17 @@ struct Source<'a> {
     at_a_time: usize,
     fails_at: usize,
     reads: usize,
+}
+
+impl<'a> Source<'a> {
+    fn new(text: &'a [u8], at_a_time: usize, fails_at: usize) -> Source<'a> {
+        Source {
+            left: text,
+            at_a_time,
+            fails_at,
+            reads: 0,
+        }
+    }
 }
 
 impl Read for Source<'_> {
@@ -28,46 +41,44 @@ impl Read for Source<'_> {
     }
 }
 
-impl<'a> Source<'a> {
-    // One that never fails.
-    fn new(text: &'a [u8], at_a_time: usize) -> Source<'a> {
-        Source {
-            left: text,
-            at_a_time,
-            fails_at: 0,
-            reads: 0,
-        }
-    }
-}
-
-// What a writer answers at one of its writes.
-#[derive(Clone, Copy)]
+// Where a writer stops: at a write of this number, from 1, by an error or by no byte, or at its flush.
+#[derive(Clone, Copy, PartialEq, Eq, Debug)]
 enum Stop {
-    Error,
-    NoByte,
+    Never,
+    Error(usize),
+    NoByte(usize),
+    Flush,
 }
 
-// A writer that takes one byte at a time, and stops at one of its writes, the first of which is
-// number 1.
+// A writer that takes one byte at a time.
 #[derive(Drop)]
 struct Sink {
     text: Vec<u8>,
-    stops_at: usize,
     stop: Stop,
     writes: usize,
-    flush_fails: bool,
     flushes_since_write: usize,
+}
+
+impl Sink {
+    fn new(alloc: Global, stop: Stop) -> Sink {
+        Sink {
+            text: Vec::new(alloc),
+            stop,
+            writes: 0,
+            flushes_since_write: 0,
+        }
+    }
 }
 
 impl Write for Sink {
     fn write(&mut self, buf: &[u8]) -> io::Result<usize> {
         self.writes = self.writes.saturating_add(1);
         self.flushes_since_write = 0;
-        if self.writes == self.stops_at {
-            return match self.stop {
-                Stop::Error => Err(Error::from(ErrorKind::Interrupted)),
-                Stop::NoByte => Ok(0),
-            };
+        if self.stop == Stop::Error(self.writes) {
+            return Err(Error::from(ErrorKind::Interrupted));
+        }
+        if self.stop == Stop::NoByte(self.writes) {
+            return Ok(0);
         }
         let count = buf.len().min(1);
         self.text.extend_from_slice(&buf[..count])?;
@@ -75,7 +86,7 @@ impl Write for Sink {
     }
 
     fn flush(&mut self) -> io::Result<()> {
-        if self.flush_fails {
+        if self.stop == Stop::Flush {
             return Err(Error::from(ErrorKind::Interrupted));
         }
         self.flushes_since_write = self.flushes_since_write.saturating_add(1);
@@ -83,43 +94,18 @@ impl Write for Sink {
     }
 }
 
-impl Sink {
-    // One that never stops.
-    fn new(alloc: Global) -> Sink {
-        Sink {
-            text: Vec::new(alloc),
-            stops_at: 0,
-            stop: Stop::Error,
-            writes: 0,
-            flush_fails: false,
-            flushes_since_write: 0,
+#[test]
+fn input_is_read_to_its_end_or_to_a_failed_read(rt: HostRuntime) {
+    // How many bytes come at a time, which read fails, and how many reads are made.
+    let table = [(1, 0, 4), (2, 0, 3), (9, 0, 2), (1, 1, 1), (1, 4, 4)];
+    for (at_a_time, fails_at, reads) in table {
+        let mut device = Device::new(Source::new(b"abc", at_a_time, fails_at));
+        match read_input(rt.alloc(), &mut device) {
+            Ok(input) => assert!(rt; fails_at == 0 && input.as_slice() == b"abc".as_slice()),
+            Err(fault) => assert!(rt; fails_at != 0 && fault == InputFault::Failed),
         }
-    }
-}
-
-#[test]
-fn reads_whole_input(rt: HostRuntime) -> Result<(), Fail> {
-    for at_a_time in [1, 2, 100] {
-        let mut device = Device::new(Source::new(b"AO,CNL,AB1\n", at_a_time));
-        let input = read_input(rt.alloc(), &mut device)?;
-        assert_eq!(rt; input.as_slice(), b"AO,CNL,AB1\n".as_slice());
-        assert!(rt; !device.failed());
-    }
-    Ok(())
-}
-
-#[test]
-fn failed_read(rt: HostRuntime) {
-    for fails_at in [1, 2, 3] {
-        let mut device = Device::new(Source {
-            fails_at,
-            ..Source::new(b"abc", 1)
-        });
-        let fault = read_input(rt.alloc(), &mut device).err();
-        assert_eq!(rt; fault, Some(InputFault::Failed), "at read {fails_at}");
-        assert!(rt; device.failed());
-        // It wasn't tried again.
-        assert_eq!(rt; device.into_inner().reads, fails_at);
+        assert_eq!(rt; device.failed(), fails_at != 0);
+        assert_eq!(rt; device.into_inner().reads, reads);
     }
 }
 
@@ -139,63 +125,62 @@ fn input_limit(rt: HostRuntime) -> Result<(), Fail> {
 }
 
 #[test]
-fn writes_and_flushes(rt: HostRuntime) -> Result<(), Fail> {
-    for text in [b"abc".as_slice(), b"".as_slice()] {
-        let mut device = Device::new(Sink::new(rt.alloc()));
-        write_text(&mut device, text)?;
-        assert!(rt; !device.failed());
+fn text_is_written_and_flushed_or_a_prefix_is_written(rt: HostRuntime) {
+    // A text, where the writer stops, and what it has then.
+    let table = [
+        ("abc", Stop::Never, "abc"),
+        ("", Stop::Never, ""),
+        ("abc", Stop::Error(2), "a"),
+        ("abc", Stop::NoByte(3), "ab"),
+        ("abc", Stop::Flush, "abc"),
+    ];
+    for (text, stop, prefix) in table {
+        let is_whole = stop == Stop::Never;
+        let mut device = Device::new(Sink::new(rt.alloc(), stop));
+        let answer = write_text(&mut device, text.as_bytes());
+        assert_eq!(rt; answer.err(), (!is_whole).then_some(WriteFault), "{stop:?}");
+        assert_eq!(rt; device.failed(), !is_whole);
         let sink = device.into_inner();
-        assert_eq!(rt; sink.text.as_slice(), text);
-        assert_eq!(rt; sink.flushes_since_write, 1);
+        assert_eq!(rt; sink.text.as_slice(), prefix.as_bytes());
+        assert_eq!(rt; sink.flushes_since_write, usize::from(is_whole));
     }
-    Ok(())
-}
-
-#[test]
-fn failed_write(rt: HostRuntime) {
-    let table = [(1, b"".as_slice()), (2, b"a"), (3, b"ab")];
-    for stop in [Stop::Error, Stop::NoByte] {
-        for (stops_at, prefix) in table {
-            let mut device = Device::new(Sink {
-                stops_at,
-                stop,
-                ..Sink::new(rt.alloc())
-            });
-            assert_eq!(rt; write_text(&mut device, b"abc"), Err(WriteFault));
-            assert!(rt; device.failed());
-            let sink = device.into_inner();
-            assert_eq!(rt; sink.text.as_slice(), prefix);
-            // It wasn't tried again.
-            assert_eq!(rt; sink.writes, stops_at);
-        }
-    }
-}
-
-#[test]
-fn failed_flush(rt: HostRuntime) {
-    let mut device = Device::new(Sink {
-        flush_fails: true,
-        ..Sink::new(rt.alloc())
-    });
-    assert_eq!(rt; write_text(&mut device, b"abc"), Err(WriteFault));
-    assert!(rt; device.failed());
-    assert_eq!(rt; device.into_inner().text.as_slice(), b"abc".as_slice());
 }
 
 #[test]
 fn fault_texts(rt: HostRuntime) -> Result<(), Fail> {
-    let table = [
-        (InputFault::Failed, "the input cannot be read"),
-        (
-            InputFault::TooLong,
-            "the input is longer than 8388608 bytes",
-        ),
-        (InputFault::Memory, "no memory is left for the input"),
-    ];
-    for (fault, text) in table {
-        assert_eq!(rt; format!(in rt.alloc(); "{fault}")?.as_str(), text);
+    let file = FileFault::Refused(5, RefusalWord::Unknown);
+    let mut text = format!(in rt.alloc(); "{WriteFault}\n{file}\n")?;
+    for fault in [InputFault::Failed, InputFault::TooLong, InputFault::Memory] {
+        writeln!(text, "{fault}")?;
     }
-    let text = format!(in rt.alloc(); "{WriteFault}")?;
-    assert_eq!(rt; text.as_str(), "the text cannot be written");
+    let faults = [
+        RunError::Read(Input::Airport),
+        RunError::Read(Input::Feed1),
+        RunError::TooLong(Input::Feed),
+        RunError::TooLong(Input::Feed2),
+        RunError::Airport(5, RefusalWord::Unknown),
+        RunError::Scenario(1, RefusalWord::Order),
+        RunError::Memory,
+        RunError::Write,
+    ];
+    for fault in faults {
+        writeln!(text, "{fault}")?;
+    }
+    let expected = "\
+the text cannot be written
+record 5: UNKNOWN
+the input cannot be read
+the input is longer than 8388608 bytes
+no memory is left for the input
+cannot read AIRPORT
+cannot read FEED1
+FEED is longer than 8388608 bytes
+FEED2 is longer than 8388608 bytes
+AIRPORT record 5: UNKNOWN
+SCENARIOS record 1: ORDER
+out of memory
+cannot write
+";
+    assert_eq!(rt; text.as_str(), expected);
     Ok(())
 }

@@ -13,56 +13,44 @@ fn first(alloc: Global, text: &str) -> Result<Result<AirportRecord, RefusalWord>
     Ok(airport_record(&row))
 }
 
+// Records, after the word that refuses them.
+const REFUSED: &str = "\
+FIELDS DAY DAY,2025-02-29,5 RUNWAY,27L,10 TAXI,*,27L,15,5
+KIND SPACE day,2025-03-10
+TEXT DAY,2025-02-29 RUNWAY,0027,7,2 RUNWAY,27L,7,two TAXI,**,27L,0
+RANGE DAY,1999-12-31 RUNWAY,27L,7,2 RUNWAY,27L,60,61 TAXI,*,27L,0 TAXI,*,27L,121
+";
+
 #[test]
 fn records(rt: HostRuntime) -> Result<(), Fail> {
     let alloc = rt.alloc();
     let day = Day::of_text(b"2025-03-10").ok().ok_or("no day")?;
     let runway = Name::new(b"27L").ok_or("no name")?;
-    let default = Place::Default;
-    let stand = Place::Stand(Name::new(b"A1").ok_or("no name")?);
+    let stand = Name::new(b"A1").ok_or("no name")?;
     let cell = CellLength::new(10).ok_or("no length")?;
     let cap = Cap::new(2).ok_or("no capacity")?;
     let minutes = TaxiMinutes::new(15).ok_or("no minutes")?;
-    let table = [
-        ("DAY,2025-03-10", Ok(AirportRecord::Day(day))),
-        (
-            "RUNWAY,27L,10,2",
-            Ok(AirportRecord::Runway { runway, cell, cap }),
-        ),
-        (
-            "TAXI,*,27L,15",
-            Ok(AirportRecord::Taxi {
-                place: default,
-                runway,
-                minutes,
-            }),
-        ),
-        (
-            "TAXI,A1,27L,15",
-            Ok(AirportRecord::Taxi {
-                place: stand,
-                runway,
-                minutes,
-            }),
-        ),
-        ("DAY", Err(RefusalWord::Fields)),
-        ("DAY,2025-02-29,5", Err(RefusalWord::Fields)),
-        ("RUNWAY,27L,10", Err(RefusalWord::Fields)),
-        ("TAXI,*,27L,15,5", Err(RefusalWord::Fields)),
-        ("SPACE", Err(RefusalWord::Kind)),
-        ("day,2025-03-10", Err(RefusalWord::Kind)),
-        ("DAY,2025-02-29", Err(RefusalWord::Text)),
-        ("DAY,1999-12-31", Err(RefusalWord::Range)),
-        ("RUNWAY,0027,7,2", Err(RefusalWord::Text)),
-        ("RUNWAY,27L,7,two", Err(RefusalWord::Text)),
-        ("RUNWAY,27L,7,2", Err(RefusalWord::Range)),
-        ("RUNWAY,27L,60,61", Err(RefusalWord::Range)),
-        ("TAXI,**,27L,0", Err(RefusalWord::Text)),
-        ("TAXI,*,27L,0", Err(RefusalWord::Range)),
-        ("TAXI,*,27L,121", Err(RefusalWord::Range)),
+    let row = AirportRecord::Runway { runway, cell, cap };
+    let taxi = |place| AirportRecord::Taxi {
+        place,
+        runway,
+        minutes,
+    };
+    let good = [
+        ("DAY,2025-03-10", AirportRecord::Day(day)),
+        ("RUNWAY,27L,10,2", row),
+        ("TAXI,*,27L,15", taxi(Place::Default)),
+        ("TAXI,A1,27L,15", taxi(Place::Stand(stand))),
     ];
-    for (text, want) in table {
-        assert_eq!(rt; first(alloc, text)?, want, "{text}");
+    for (text, want) in good {
+        assert_eq!(rt; first(alloc, text)?, Ok(want), "{text}");
+    }
+    for line in REFUSED.lines() {
+        let (word, texts) = line.split_once(' ').ok_or("no word")?;
+        for text in texts.split(' ') {
+            let found = first(alloc, text)?.err().map_or("OK", RefusalWord::text);
+            assert_eq!(rt; found, word, "{text}");
+        }
     }
     Ok(())
 }

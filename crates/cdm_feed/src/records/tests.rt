@@ -23,27 +23,16 @@ fn lines_of(alloc: Global, text: &[u8]) -> Result<Vec<u8>, AllocError> {
 fn records(rt: HostRuntime) -> Result<(), Fail> {
     let table = [
         ("", ""),
-        (
-            "AO,CNL,AB1\nAO,CNL,AB2\n",
-            "[AO][CNL][AB1]\n[AO][CNL][AB2]\n",
-        ),
-        (
-            "AO,CNL,AB1\r\nAO,CNL,AB2",
-            "[AO][CNL][AB1]\n[AO][CNL][AB2]\n",
-        ),
+        ("AO,CNL\nGH,ICE\n", "[AO][CNL]\n[GH][ICE]\n"),
+        ("AO,CNL\r\nGH,ICE", "[AO][CNL]\n[GH][ICE]\n"),
         ("\n\r\nAO,CNL\n\n\r\n", "[AO][CNL]\n"),
-        (
-            "\"A,B\",\"say \"\"C\"\"\",\"D\nE\"\n",
-            "[A,B][say \"C\"][D\nE]\n",
-        ),
+        ("\"A,B\",\"\"\"C\"\"\",\"D\nE\"\n", "[A,B][\"C\"][D\nE]\n"),
         ("A\nB,C,D\n,\n\"\"\n", "[A]\n[B][C][D]\n[][]\n[]\n"),
         (" A , B\n#C\n", "[ A ][ B]\n[#C]\n"),
     ];
     for (text, want) in table {
-        assert_eq!(rt;
-            lines_of(rt.alloc(), text.as_bytes())?.as_slice(),
-            want.as_bytes()
-        );
+        let lines = lines_of(rt.alloc(), text.as_bytes())?;
+        assert_eq!(rt; lines.as_slice(), want.as_bytes());
     }
     Ok(())
 }

@@ -1,76 +1,213 @@
 //! Whole runs, from the bytes of files to the bytes of a report.
-mod days;
-mod devices;
-mod faults;
-
-use crate::{Device, RunCounts, RunError, run};
-use cdm_phase::{OpenGate, Workers};
+use super::{Sink, Source, Stop};
+use crate::{Device, Input, RunCounts, RunError, run};
+use cdm_flight::RefusalWord;
+use cdm_phase::{Gate, OpenGate, PhaseName, Workers};
+use std::alloc::Global;
+use std::process::Abort;
+use std::sync::atomic::{AtomicBool, AtomicUsize, Ordering};
 use std::test::Fail;
-use std::thread::Threads;
+use std::thread::{Threads, yield_now};
 
-/// An airport with one runway, on which two flights take off in ten minutes.
-pub(crate) const AIRPORT: &str = "\
+// An airport with two runways, on each of which two flights take off in ten minutes.
+const AIRPORT: &str = "\
 DAY,2025-03-10
 RUNWAY,27L,10,2
 TAXI,*,27L,15
-TAXI,A1,27L,10
+RUNWAY,09,10,2
+TAXI,*,09,15
 ";
 
-/// A flight that is ready at 06:00.
-pub(crate) const ONE_FLIGHT: &str = "\
+// A flight on each runway, ready at 06:00, and a CTOT of an operator.
+const FEED: &str = "\
 AP,FLT,AB1,5
 ATC,RWY,AB1,27L
-AO,TOBT,AB1,[06:00]
+AO,TOBT,AB1,2025-03-10T06:00Z
+AP,FLT,AB2,5
+ATC,RWY,AB2,09
+AO,TOBT,AB2,2025-03-10T06:00Z
+AO,CTOT,AB1,2025-03-10T06:40Z
 ";
 
-/// The report of that flight.
-pub(crate) const ONE_LINE: &str = "\
+// Their report.
+const REPORT: &str = "\
 DAY 2025-03-10 NOW 100000
+RUNWAY 09
+AB2     100600   15 ------ 100600 100615 P    0
 RUNWAY 27L
 AB1     100600   15 ------ 100600 100615 P    0
-TOTAL PLACED 1 DELAY 0 MAX 0 LATE 0 BLOCKED 0
+TOTAL PLACED 2 DELAY 0 MAX 0 LATE 0 BLOCKED 0
+REFUSED 7 AUTHORITY
 ";
 
-/// A text with times of the airport's day in full: `[06:00]` is one of the first day, `[+06:00]` of
-/// the second, and `[END]` is the horizon's end.
-pub(crate) fn in_full(
-    rt: &(impl AllocGlobal + Threads + Sync),
-    text: &str,
-) -> Result<String, Fail> {
-    let alloc = rt.alloc();
-    let text = text.replace(alloc, "[END]", "2025-03-12T00:00Z")?;
-    let text = text.replace(alloc, "[+", "2025-03-11T")?;
-    let text = text.replace(alloc, "[", "2025-03-10T")?;
-    Ok(text.replace(alloc, "]", "Z")?)
+// The airport file, a feed and no scenario file.
+fn files(feed: &str) -> [Source<'_>; 3] {
+    [AIRPORT, feed, ""].map(|text| Source::new(text.as_bytes(), usize::MAX, 0))
 }
 
-/// What a run with so many workers answers and writes.
-pub(crate) fn run_of(
-    rt: &(impl AllocGlobal + Threads + Sync),
-    airport: &str,
-    feed: &str,
+// What a run with so many workers answers, and its writer, which stops here.
+fn run_of<R: AllocGlobal + Threads + Sync + Abort>(
+    rt: &R,
+    files: [Source<'_>; 3],
     workers: usize,
-) -> Result<(Result<RunCounts, RunError>, String), Fail> {
-    let workers = Workers::new(workers).ok_or("workers")?;
-    let feed = in_full(rt, feed)?;
-    let mut out = Device::new(Vec::new(rt.alloc()));
+    gate: &impl Gate,
+    stop: Stop,
+) -> (Result<RunCounts, RunError>, Device<Sink>) {
+    let [airport, feed, scenarios] = files;
+    let mut out = Device::new(Sink::new(rt.alloc(), stop));
     let answer = run(
         rt,
         rt.alloc(),
-        &mut Device::new(airport.as_bytes()),
-        &mut Device::new(feed.as_bytes()),
-        &mut Device::new(&[][..]),
-        workers,
-        &OpenGate,
+        &mut Device::new(airport),
+        &mut Device::new(feed),
+        &mut Device::new(scenarios),
+        Workers::new(workers).expect(rt, "workers"),
+        gate,
         &mut out,
     );
-    let text = String::from_utf8(out.into_inner()).map_err(|_| "no text")?;
-    Ok((answer, text))
+    (answer, out)
 }
 
-/// The report of a feed at the airport.
-pub(crate) fn report(rt: &(impl AllocGlobal + Threads + Sync), feed: &str) -> Result<String, Fail> {
-    let (answer, text) = run_of(rt, AIRPORT, feed, 1)?;
-    answer.map_err(|_| "a fault")?;
-    Ok(text)
+// Holds each of two runways until the other has come, for so many turns at most.
+#[derive(Drop)]
+struct Meeting {
+    turns: usize,
+    came: [AtomicUsize; 2],
+    missed: AtomicBool,
+}
+
+impl Gate for Meeting {
+    fn pass(&self, phase: PhaseName, piece: usize) {
+        if phase != PhaseName::Runways || piece > 1 {
+            return;
+        }
+        self.came[piece].fetch_add(1, Ordering::SeqCst);
+        for _ in 0..self.turns {
+            if self.came[1 - piece].load(Ordering::SeqCst) > 0 {
+                return;
+            }
+            yield_now();
+        }
+        self.missed.store(true, Ordering::SeqCst);
+    }
+}
+
+// One worker plans one runway after the other, and more meet.
+#[test]
+fn workers_meet_and_write_one_text(rt: HostRuntime) {
+    for workers in [1, 2, 7, 64] {
+        let gate = Meeting {
+            turns: if workers == 1 { 2_000 } else { 1_000_000 },
+            came: [AtomicUsize::new(0), AtomicUsize::new(0)],
+            missed: AtomicBool::new(false),
+        };
+        let (answer, out) = run_of(&rt, files(FEED), workers, &gate, Stop::Never);
+        let counts = answer.map(|counts| (counts.accepted, counts.refused, counts.scenarios));
+        assert_eq!(rt; counts, Ok((6, 1, 0)), "{workers} workers");
+        assert_eq!(rt; out.into_inner().text.as_slice(), REPORT.as_bytes());
+        for times in &gate.came {
+            assert_eq!(rt; times.load(Ordering::SeqCst), 1);
+        }
+        let is_missed = gate.missed.load(Ordering::SeqCst);
+        assert_eq!(rt; is_missed, workers == 1, "{workers} workers");
+    }
+}
+
+#[test]
+fn limits(rt: HostRuntime) -> Result<(), Fail> {
+    let alloc = rt.alloc();
+    // How many records are taken, one, and its line and the end of the report, with its number for #.
+    let table: [(usize, &str, &str, &str); 2] = [
+        (20_000, "ATC,CLOCK,2025-03-10T00:00Z", "", "0"),
+        (2_000, "AP,FLT,#,5", "BLOCKED #   TOBT\n", "2000 TOBT 2000"),
+    ];
+    for (limit, record, line, blocked) in table {
+        let (mut feed, mut lines) = (String::new(alloc), String::new(alloc));
+        for number in 0..limit {
+            let number = format!(in alloc; "{number:05}")?;
+            writeln!(feed, "{}", record.replace(alloc, "#", &number)?)?;
+            lines.push_str(&line.replace(alloc, "#", &number)?)?;
+        }
+        feed.push_str(&record.replace(alloc, "#", "ONEMORE")?)?;
+        let report = format!(in alloc;
+            "\
+DAY 2025-03-10 NOW 100000
+RUNWAY 09
+RUNWAY 27L
+{lines}TOTAL PLACED 0 DELAY 0 MAX 0 LATE 0 BLOCKED {blocked}
+REFUSED {} FULL
+",
+            limit.saturating_add(1)
+        )?;
+        let (answer, out) = run_of(&rt, files(&feed), 1, &OpenGate, Stop::Never);
+        let counts = answer.map(|counts| (counts.accepted, counts.refused));
+        assert_eq!(rt; counts, Ok((limit, 1)));
+        assert_eq!(rt; out.into_inner().text.as_slice(), report.as_bytes());
+    }
+    Ok(())
+}
+
+// The fault of a run with this input in the place of the day's own, before which nothing was
+// written. Without one, the day's report was.
+fn fault_with<R: AllocGlobal + Threads + Sync + Abort>(
+    rt: &R,
+    input: Input,
+    source: Source<'_>,
+) -> Option<RunError> {
+    let [airport, feed, scenarios] = files(FEED);
+    let files = match input {
+        Input::Airport => [source, feed, scenarios],
+        Input::Feed => [airport, source, scenarios],
+        _ => [airport, feed, source],
+    };
+    let (answer, out) = run_of(rt, files, 1, &OpenGate, Stop::Never);
+    let text = if answer.is_ok() { REPORT } else { "" };
+    assert_eq!(rt; out.into_inner().text.as_slice(), text.as_bytes());
+    answer.err()
+}
+
+#[test]
+fn failing_reads_and_refused_inputs(rt: HostRuntime) -> Result<(), Fail> {
+    let long = vec![in rt.alloc(); b'\n'; 8_388_609]?;
+    let table = [
+        (Input::Airport, AIRPORT),
+        (Input::Feed, FEED),
+        (Input::Scenarios, "\n\r\n\n"),
+    ];
+    for (input, text) in table {
+        // A byte comes at a time, and each read in turn fails, the one at the end too.
+        for read in 0..=text.len().saturating_add(1) {
+            let source = Source::new(text.as_bytes(), 1, read);
+            let fault = (read > 0).then_some(RunError::Read(input));
+            assert_eq!(rt; fault_with(&rt, input, source), fault, "at read {read}");
+        }
+        let fault = fault_with(&rt, input, Source::new(&long, usize::MAX, 0));
+        assert_eq!(rt; fault, Some(RunError::TooLong(input)));
+    }
+    let source = Source::new(b"CNL,AB1\n", usize::MAX, 0);
+    let fault = RunError::Scenario(1, RefusalWord::Kind);
+    assert_eq!(rt; fault_with(&rt, Input::Scenarios, source), Some(fault));
+    Ok(())
+}
+
+// Asserts that a run on a writer that stops here leaves this text, whole and flushed or a prefix.
+fn assert_writes<R: AllocGlobal + Threads + Sync + Abort>(rt: &R, stop: Stop, text: &[u8]) {
+    let is_whole = stop == Stop::Never;
+    let (answer, out) = run_of(rt, files(FEED), 1, &OpenGate, stop);
+    assert_eq!(rt; answer.err(), (!is_whole).then_some(RunError::Write));
+    assert_eq!(rt; out.failed(), !is_whole);
+    let sink = out.into_inner();
+    assert_eq!(rt; sink.text.as_slice(), text, "{stop:?}");
+    assert_eq!(rt; sink.flushes_since_write, usize::from(is_whole));
+}
+
+#[test]
+fn failing_writes(rt: HostRuntime) {
+    let report = REPORT.as_bytes();
+    assert_writes(&rt, Stop::Never, report);
+    assert_writes(&rt, Stop::Flush, report);
+    for at in 0..report.len() {
+        assert_writes(&rt, Stop::Error(at + 1), &report[..at]);
+        assert_writes(&rt, Stop::NoByte(at + 1), &report[..at]);
+    }
 }

@@ -13,6 +13,7 @@ use std::thread;
 #[derive(Drop)]
 struct Meeting {
     all: usize,
+    turns: usize,
     begun: AtomicUsize,
     missed: AtomicBool,
 }
@@ -28,7 +29,7 @@ impl Job for Meeting {
 
     fn run(&self, _alloc: Global, item: &u32) -> Result<u32, AllocError> {
         self.begun.fetch_add(1, Ordering::SeqCst);
-        for _ in 0..10_000_000 {
+        for _ in 0..self.turns {
             if self.begun.load(Ordering::SeqCst) >= self.all {
                 return Ok(*item);
             }
@@ -44,14 +45,22 @@ impl Job for Meeting {
 }
 
 /// A phase that ran its pieces one after another, on one thread or under one lock, would meet every
-/// clause. Here its first item would wait in vain for the others to begin.
+/// clause, and so would one that started more threads than it has workers. Here as many pieces as
+/// there are workers meet, and one piece more than that doesn't.
 #[test]
-fn pieces_run_side_by_side(rt: HostRuntime) -> Result<(), Fail> {
+fn as_many_pieces_run_side_by_side_as_there_are_workers(rt: HostRuntime) -> Result<(), Fail> {
     let alloc = rt.alloc();
-    for all in [2, 7] {
-        let workers = Workers::new(all).ok_or("workers")?;
+    let table = [
+        (2, 2, 10_000_000, false),
+        (7, 7, 10_000_000, false),
+        (1, 2, 2_000, true),
+        (2, 3, 2_000, true),
+    ];
+    for (count, all, turns, is_missed) in table {
+        let workers = Workers::new(count).ok_or("workers")?;
         let meeting = Meeting {
             all,
+            turns,
             begun: AtomicUsize::new(0),
             missed: AtomicBool::new(false),
         };
@@ -66,7 +75,11 @@ fn pieces_run_side_by_side(rt: HostRuntime) -> Result<(), Fail> {
             &OpenGate,
         )?;
         assert_eq!(rt; outs.as_slice(), items.as_slice());
-        assert!(rt; !meeting.missed.load(Ordering::SeqCst), "{all} workers");
+        assert_eq!(rt;
+            meeting.missed.load(Ordering::SeqCst),
+            is_missed,
+            "{count} workers"
+        );
     }
     Ok(())
 }

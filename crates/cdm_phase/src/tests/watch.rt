@@ -78,31 +78,21 @@ impl Job for Watch {
 #[test]
 fn each_piece_passes_once_before_its_items_run(rt: HostRuntime) -> Result<(), Fail> {
     let alloc = rt.alloc();
-    let items = numbers(alloc, 1000)?;
+    let table = [(1000, 1, 1000), (1000, 64, 16), (1000, 2000, 1), (0, 1, 0)];
     for count in WORKERS {
         let workers = Workers::new(count).ok_or("workers")?;
-        for (grain, pieces) in [(1, 1000), (64, 16), (2000, 1)] {
+        for (len, grain, pieces) in table {
+            let items = numbers(alloc, len)?;
             let watch = Watch::new(alloc, grain, pieces)?;
             let outs = run_phase(&rt, alloc, workers, grain, &watch, items.as_slice(), &watch)?;
             assert!(rt;
-                outs.iter().copied().eq(1..=1000),
-                "{count} workers, grain {grain}"
+                outs.iter().copied().eq(1..=u64::from(len)),
+                "{count} workers, {len} items, grain {grain}"
             );
             assert!(rt; watch.passes.iter().all(|n| n.load(Ordering::SeqCst) == 1));
-            assert_eq!(rt; watch.runs.load(Ordering::SeqCst), 1000);
+            assert_eq!(rt; watch.runs.load(Ordering::SeqCst), items.len());
             assert_eq!(rt; watch.faults.load(Ordering::SeqCst), 0);
         }
     }
-    Ok(())
-}
-
-#[test]
-fn without_items_no_gate_is_passed(rt: HostRuntime) -> Result<(), Fail> {
-    let alloc = rt.alloc();
-    let workers = Workers::new(7).ok_or("workers")?;
-    let watch = Watch::new(alloc, 1, 0)?;
-    let outs = run_phase(&rt, alloc, workers, 1, &watch, &[], &watch)?;
-    assert!(rt; outs.is_empty());
-    assert_eq!(rt; watch.faults.load(Ordering::SeqCst), 0);
     Ok(())
 }
