@@ -1,220 +1,218 @@
+//! Names and numbers at their edges, who may make which update, the life of a flight, and the order
+//! of sequence.
+ghost use Rattle.std.specs.Prelude.{◌≡◌, IfSome, Some, false};
+ghost use Rattle.cdm_flight.specs.Step.{flight_of_update, is_fresh};
+
 use crate::{
-    Cap, CellLength, Flight, FlightName, Ice, IceMinutes, Key, Listed, Name, Place, Priority,
-    RefusalWord, Role, RunwayName, StandName, Status, TaxiMinutes, Update, allows, before,
+    Cap, CellLength, Flight, FlightName, Ice, IceMinutes, Place, Priority, RefusalWord, Role,
+    RunwayName, StandName, Status, TaxiMinutes, Update, allows, before,
 };
+use RefusalWord::{Ended, NotReady, OffBlock, Order};
 use cdm_time::{Bound, Minute};
 use std::test::Fail;
 
-fn flight(text: &[u8]) -> Result<FlightName, Fail> {
-    Ok(FlightName::new(text).ok_or("no flight name")?)
-}
-
-fn minute(number: u16) -> Result<Minute, Fail> {
-    Ok(Minute::new(number).ok_or("no minute")?)
-}
-
 #[test]
-fn names_at_their_edges(rt: HostRuntime) -> Result<(), Fail> {
-    for text in ["A", "7", "AB12345"] {
-        assert_eq!(rt; flight(text.as_bytes())?.text(), text);
+fn names_and_numbers_at_their_edges(rt: HostRuntime) {
+    for (text, is_flight, is_runway, is_stand) in [
+        ("7", true, true, true),
+        ("27L", true, true, true),
+        ("027L", true, false, true),
+        ("A1234", true, false, true),
+        ("A12345", true, false, false),
+        ("AB12345", true, false, false),
+        ("AB123456", false, false, false),
+        ("", false, false, false),
+        ("ab1", false, false, false),
+        ("A 1", false, false, false),
+        ("A-1", false, false, false),
+        ("*", false, false, false),
+    ] {
+        let bytes = text.as_bytes();
+        assert_eq!(rt; FlightName::new(bytes).is_some(), is_flight, "{text}");
+        assert_eq!(rt; RunwayName::new(bytes).is_some(), is_runway, "{text}");
+        assert_eq!(rt; StandName::new(bytes).is_some(), is_stand, "{text}");
     }
-    for text in ["", "AB123456", "ab1", "AB 1", "A-1", "*"] {
-        assert!(rt; FlightName::new(text.as_bytes()).is_none(), "{text}");
-    }
-    assert!(rt; RunwayName::new(b"27L").is_some() && RunwayName::new(b"027L").is_none());
-    assert!(rt; StandName::new(b"A1234").is_some() && StandName::new(b"A12345").is_none());
-    assert_eq!(rt;
-        Name::<3>::new(b"09").ok_or("09")?.bytes(),
-        b"09".as_slice()
-    );
-    Ok(())
-}
-
-#[test]
-fn numbers_at_their_edges(rt: HostRuntime) {
-    assert!(rt;
-        Priority::new(0).is_some() && Priority::new(9).is_some() && Priority::new(10).is_none()
-    );
-    assert!(rt; Cap::new(0).is_some() && Cap::new(60).is_some() && Cap::new(61).is_none());
-    assert!(rt; TaxiMinutes::new(0).is_none() && TaxiMinutes::new(1).is_some());
-    assert!(rt; TaxiMinutes::new(120).is_some() && TaxiMinutes::new(121).is_none());
-    assert!(rt; IceMinutes::new(0).is_none() && IceMinutes::new(1).is_some());
-    assert!(rt; IceMinutes::new(60).is_some() && IceMinutes::new(61).is_none());
     let lengths = [1, 2, 3, 4, 5, 6, 10, 12, 15, 20, 30, 60];
-    for number in 0..70 {
-        assert_eq!(rt;
-            CellLength::new(number).is_some(),
-            lengths.contains(&number),
-            "{number}"
-        );
+    for number in 0..125 {
+        assert_eq!(rt; Priority::new(number).is_some(), number < 10, "{number}");
+        assert_eq!(rt; Cap::new(number).is_some(), number < 61, "{number}");
+        let is_taxi = number > 0 && number < 121;
+        assert_eq!(rt; TaxiMinutes::new(number).is_some(), is_taxi, "{number}");
+        let is_ice = number > 0 && number < 61;
+        assert_eq!(rt; IceMinutes::new(number).is_some(), is_ice, "{number}");
+        let is_length = lengths.contains(&number);
+        assert_eq!(rt; CellLength::new(number).is_some(), is_length, "{number}");
     }
 }
 
-// Who may make an update: AO, GH, AP, ATC and NM.
-type Makers = [bool; 5];
-
-const OPERATOR: Makers = [true, false, false, false, false];
-
-const HANDLER: Makers = [false, true, false, false, false];
-
-const AIRPORT: Makers = [false, false, true, false, false];
-
-const TOWER: Makers = [false, false, false, true, false];
-
-const NETWORK: Makers = [false, false, false, false, true];
-
-// Whether these roles and no others may make the update.
-fn is_made_by(update: &Update, makers: Makers) -> bool {
-    let [ao, gh, ap, atc, nm] = makers;
-    allows(Role::AircraftOperator, update) == ao
-        && allows(Role::GroundHandler, update) == gh
-        && allows(Role::AirportOperator, update) == ap
-        && allows(Role::AirTrafficControl, update) == atc
-        && allows(Role::NetworkManager, update) == nm
+// A flight of which nothing but its priority and its TOBT is known.
+fn flight_of(name: &str, priority: u16, tobt: Option<Minute>) -> Option<Flight> {
+    let name = FlightName::new(name.as_bytes())?;
+    let mut flight = Flight::fresh(name, Priority::new(priority)?);
+    flight.tobt = tobt;
+    Some(flight)
 }
 
+// An update of a flight that is known, where its kind has a time at this minute.
+fn update_of(flight: FlightName, kind: &str, time: u16) -> Option<Update>
+    ensures of_this { IfSome result (λ u. flight_of_update u ≡ Some flight) }
+    ensures known { IfSome result (λ u. is_fresh u ≡ false) }
+{
+    let tobt = Minute::new(time)?;
+    let (aobt, atot, ctot) = (tobt, tobt, Some(tobt));
+    let (runway, stand) = (RunwayName::new(b"27L")?, StandName::new(b"A1")?);
+    let (ice, priority) = (Ice::Remote(IceMinutes::new(12)?), Priority::new(1)?);
+    Some(match kind {
+        "TOBT" => Update::Tobt { flight, tobt },
+        "STAND" => Update::Stand { flight, stand },
+        "RWY" => Update::Rwy { flight, runway },
+        "CTOT" => Update::Ctot { flight, ctot },
+        "ICE" => Update::Ice { flight, ice },
+        "PRIO" => Update::Prio { flight, priority },
+        "OFF" => Update::Off { flight, aobt },
+        "AIR" => Update::Air { flight, atot },
+        "CNL" => Update::Cnl { flight },
+        _ => return None,
+    })
+}
+
+// An update of another kind.
+fn other_update(flight: FlightName, kind: &str) -> Option<Update> {
+    let (priority, runway) = (Priority::new(5)?, RunwayName::new(b"27L")?);
+    let (from, to, cap) = (Minute::FIRST, Bound::END, Cap::new(2)?);
+    let (place, minutes) = (Place::Default, TaxiMinutes::new(15)?);
+    Some(match kind {
+        "FLT" => Update::Flt { flight, priority },
+        "RATE" => Update::Rate {
+            runway,
+            from,
+            to,
+            cap,
+        },
+        "CLOSE" => Update::Close { runway, from, to },
+        "OPEN" => Update::Reopen { runway, from, to },
+        "TAXI" => Update::Taxi {
+            place,
+            runway,
+            minutes,
+        },
+        "CLOCK" => Update::Clock { now: from },
+        _ => return None,
+    })
+}
+
+// A letter for each of AO, GH, AP, ATC and NM that may make the update.
 #[test]
-fn authority_over_a_flight(rt: HostRuntime) -> Result<(), Fail> {
-    let flight = flight(b"AB1")?;
-    let tobt = minute(360)?;
-    let stand = StandName::new(b"A1").ok_or("A1")?;
-    let priority = Priority::new(5).ok_or("5")?;
-    let (ctot, ice) = (None, Ice::NoIce);
-    let flt = Update::Flt { flight, priority };
-    assert!(rt; is_made_by(&flt, AIRPORT));
-    assert!(rt; is_made_by(&Update::Stand { flight, stand }, AIRPORT));
-    let either = [true, true, false, false, false];
-    assert!(rt; is_made_by(&Update::Tobt { flight, tobt }, either));
-    assert!(rt; is_made_by(&Update::Ice { flight, ice }, HANDLER));
-    assert!(rt; is_made_by(&Update::Ctot { flight, ctot }, NETWORK));
-    assert!(rt; is_made_by(&Update::Cnl { flight }, OPERATOR));
+fn authority(rt: HostRuntime) -> Result<(), Fail> {
+    let roles = [
+        Role::AircraftOperator,
+        Role::GroundHandler,
+        Role::AirportOperator,
+        Role::AirTrafficControl,
+        Role::NetworkManager,
+    ];
+    let flight = FlightName::new(b"AB1").ok_or("no flight name")?;
+    for (kind, makers) in [
+        ("FLT", "--P--"),
+        ("TOBT", "OG---"),
+        ("STAND", "--P--"),
+        ("RWY", "---C-"),
+        ("CTOT", "----N"),
+        ("ICE", "-G---"),
+        ("PRIO", "---C-"),
+        ("OFF", "---C-"),
+        ("AIR", "---C-"),
+        ("CNL", "O----"),
+        ("RATE", "---C-"),
+        ("CLOSE", "---C-"),
+        ("OPEN", "---C-"),
+        ("TAXI", "---C-"),
+        ("CLOCK", "---C-"),
+    ] {
+        let known = update_of(flight, kind, 360);
+        let update = known.or(other_update(flight, kind)).ok_or(kind)?;
+        for (role, letter) in roles.into_iter().zip(makers.bytes()) {
+            assert_eq!(rt; allows(role, &update), letter != b'-', "{role:?} {kind}");
+        }
+    }
     Ok(())
 }
 
-#[test]
-fn authority_of_the_tower_over_a_flight(rt: HostRuntime) -> Result<(), Fail> {
-    let flight = flight(b"AB1")?;
-    let runway = RunwayName::new(b"27L").ok_or("27L")?;
-    let priority = Priority::new(5).ok_or("5")?;
-    let now = minute(360)?;
-    let (aobt, atot) = (now, now);
-    assert!(rt; is_made_by(&Update::Rwy { flight, runway }, TOWER));
-    assert!(rt; is_made_by(&Update::Prio { flight, priority }, TOWER));
-    assert!(rt; is_made_by(&Update::Off { flight, aobt }, TOWER));
-    assert!(rt; is_made_by(&Update::Air { flight, atot }, TOWER));
-    Ok(())
+// What the update makes of the flight where this taxi-out time is known, or none where it is 0.
+fn step(flight: &Flight, kind: &str, time: u16, taxi: u16) -> Option<Result<Flight, RefusalWord>> {
+    let exot = if taxi == 0 { None } else { Some(taxi.min(180)) };
+    match update_of(flight.name, kind, time) {
+        Some(update) => Some(flight.step(&update, exot)),
+        None => None,
+    }
 }
 
-#[test]
-fn authority_over_runways_and_the_clock(rt: HostRuntime) -> Result<(), Fail> {
-    let runway = RunwayName::new(b"27L").ok_or("27L")?;
-    let from = minute(360)?;
-    let to = Bound::new(370).ok_or("370")?;
-    let cap = Cap::new(2).ok_or("2")?;
-    let minutes = TaxiMinutes::new(15).ok_or("15")?;
-    let rate = Update::Rate {
-        runway,
-        from,
-        to,
-        cap,
-    };
-    let taxi = Update::Taxi {
-        place: Place::Default,
-        runway,
-        minutes,
-    };
-    assert!(rt; is_made_by(&rate, TOWER));
-    assert!(rt; is_made_by(&Update::Close { runway, from, to }, TOWER));
-    assert!(rt; is_made_by(&Update::Reopen { runway, from, to }, TOWER));
-    assert!(rt; is_made_by(&taxi, TOWER));
-    assert!(rt; is_made_by(&Update::Clock { now: from }, TOWER));
-    Ok(())
+// Flight AB1 after it took off, with all that the updates of its life say.
+fn flown() -> Option<Flight> {
+    let mut flight = flight_of("AB1", 1, Minute::new(2860))?;
+    flight.runway = Some(RunwayName::new(b"27L")?);
+    flight.stand = Some(StandName::new(b"A1")?);
+    flight.ctot = Minute::new(2875);
+    flight.ice = Ice::Remote(IceMinutes::new(12)?);
+    let aobt = Minute::new(2864)?;
+    flight.status = Status::Airborne { aobt, atot: aobt };
+    Some(flight)
 }
 
+// Each update with the taxi-out time that is known then, and the word that refuses it. FLT begins
+// anew.
 #[test]
-fn words_and_their_numbers(rt: HostRuntime) {
-    assert_eq!(rt;
-        (RefusalWord::Fields.number(), RefusalWord::Fields.text()),
-        (1, "FIELDS")
-    );
-    assert_eq!(rt;
-        (RefusalWord::OffBlock.number(), RefusalWord::OffBlock.text()),
-        (10, "OFFBLOCK")
-    );
-    assert_eq!(rt;
-        (RefusalWord::Full.number(), RefusalWord::Full.text()),
-        (13, "FULL")
-    );
+fn life_of_a_flight(rt: HostRuntime) -> Result<(), Fail> {
+    let fresh = flight_of("AB1", 5, None).ok_or("no flight")?;
+    let mut flight = fresh;
+    for (kind, time, taxi, refused) in [
+        ("CNL", 0, 0, None),
+        ("TOBT", 360, 0, Some(Ended)),
+        ("FLT", 0, 0, None),
+        ("OFF", 2864, 15, Some(NotReady)),
+        ("AIR", 2870, 0, Some(Order)),
+        ("RWY", 0, 0, None),
+        ("OFF", 2864, 0, Some(NotReady)),
+        ("OFF", 2864, 16, Some(NotReady)),
+        ("STAND", 0, 0, None),
+        ("TOBT", 2860, 0, None),
+        ("CTOT", 2875, 0, None),
+        ("ICE", 0, 0, None),
+        ("PRIO", 0, 0, None),
+        ("OFF", 2864, 15, None),
+        ("CNL", 0, 0, Some(OffBlock)),
+        ("AIR", 2863, 0, Some(Order)),
+        ("AIR", 2864, 0, None),
+        ("AIR", 2864, 0, Some(Ended)),
+    ] {
+        match step(&flight, kind, time, taxi).unwrap_or(Ok(fresh)) {
+            Ok(next) => {
+                assert_eq!(rt; refused, None, "{kind} {time}");
+                flight = next;
+            }
+            Err(word) => assert_eq!(rt; refused, Some(word), "{kind} {time}"),
+        }
+    }
+    assert_eq!(rt; Some(flight), flown());
+    Ok(())
 }
 
 #[test]
 fn order_of_sequence(rt: HostRuntime) -> Result<(), Fail> {
-    let key = |priority: u16, tobt: u16, name: &[u8]| -> Option<Key> {
-        Some(Key {
-            priority: Priority::new(priority)?,
-            tobt: Minute::new(tobt)?,
-            name: FlightName::new(name)?,
-        })
-    };
-    let first = key(1, 400, b"ZZ9").ok_or("key")?;
-    let second = key(5, 360, b"AB10").ok_or("key")?;
-    let third = key(5, 360, b"AB2").ok_or("key")?;
-    let fourth = key(5, 361, b"AA1").ok_or("key")?;
-    assert!(rt; before(&first, &second) && before(&second, &third) && before(&third, &fourth));
-    assert!(rt; !before(&second, &first) && !before(&first, &first));
-    Ok(())
-}
-
-#[test]
-fn a_flight_leaves_and_takes_off(rt: HostRuntime) -> Result<(), Fail> {
-    let name = flight(b"AB1")?;
-    let runway = RunwayName::new(b"27L").ok_or("27L")?;
-    let fresh = Flight::fresh(name, Priority::new(5).ok_or("5")?);
-    assert_eq!(rt; fresh.key(), None);
-    let off = Update::Off {
-        flight: name,
-        aobt: minute(2864)?,
-    };
-    let air = Update::Air {
-        flight: name,
-        atot: minute(2870)?,
-    };
-    assert_eq!(rt; off.flight(), Some(name));
-    assert_eq!(rt; fresh.step(&off, Some(15)), Err(RefusalWord::NotReady));
-    assert_eq!(rt; fresh.step(&air, None), Err(RefusalWord::Order));
-    let ready = fresh.step(
-        &Update::Rwy {
-            flight: name,
-            runway,
-        },
-        None,
-    );
-    let ready = ready.ok().ok_or("RWY")?;
-    assert_eq!(rt; ready.step(&off, Some(16)), Err(RefusalWord::NotReady));
-    let left = ready.step(&off, Some(15)).ok().ok_or("OFF")?;
-    assert_eq!(rt; left.step(&off, Some(15)), Err(RefusalWord::OffBlock));
-    let early = Update::Air {
-        flight: name,
-        atot: minute(2863)?,
-    };
-    assert_eq!(rt; left.step(&early, None), Err(RefusalWord::Order));
-    let airborne = left.step(&air, None).ok().ok_or("AIR")?;
-    assert_eq!(rt;
-        airborne.status,
-        Status::Airborne {
-            aobt: minute(2864)?,
-            atot: minute(2870)?
+    let mut keys = Vec::new(rt.alloc());
+    for (priority, tobt, name) in [
+        (1, 400, "ZZ9"),
+        (5, 360, "AB10"),
+        (5, 360, "AB2"),
+        (5, 361, "AA1"),
+    ] {
+        let flight = flight_of(name, priority, Minute::new(tobt)).ok_or(name)?;
+        keys.push(flight.key().ok_or(name)?)?;
+    }
+    for (place, key) in keys.iter().enumerate() {
+        for (later, other) in keys.iter().enumerate() {
+            assert_eq!(rt; before(key, other), place < later, "{key:?} {other:?}");
         }
-    );
-    assert_eq!(rt; airborne.step(&air, None), Err(RefusalWord::Ended));
-    Ok(())
-}
-
-#[test]
-fn a_list_gives_its_items_back(rt: HostRuntime) -> Result<(), Fail> {
-    let listed = Listed::new([4u16, 2].to_vec(rt.alloc())?);
-    assert_eq!(rt; (listed.len(), listed.is_empty()), (2, false));
-    assert_eq!(rt; listed.as_slice(), [4u16, 2].as_slice());
-    assert_eq!(rt; listed.into_vec().as_slice(), [4u16, 2].as_slice());
+    }
     Ok(())
 }

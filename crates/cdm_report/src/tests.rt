@@ -3,12 +3,51 @@ ghost use Rattle.std.specs.Prelude.{◌≡◌, IsTrue, IsSorted, vec_len};
 ghost use Rattle.cdm_sequence.specs.Slots.{blocked_cmp, slot_cmp};
 
 use super::*;
+use RefusalWord::{Exists, Full};
 use cdm_flight::{FlightName, Listed, RefusalWord, RunwayName};
 use cdm_sequence::{BlockedFlight, Mark, Plan, Rule, RunwayPlan, Slot};
 use cdm_time::{Day, Minute};
 use std::alloc::Global;
-use std::process::Abort;
 use std::test::Fail;
+
+// A flight's name, mark, TOBT, EXOT or AXOT, CTOT, and TSAT or AOBT.
+type Row = (&'static str, Mark, u16, u16, u16, u16);
+
+// A TOBT or a CTOT that isn't there: no minute of the horizon.
+const NONE: u16 = 9999;
+
+fn slot(row: Row) -> Option<Slot> {
+    let (name, mark, tobt, exot, ctot, tsat) = row;
+    if exot > 1439 || tsat > 1440 {
+        return None;
+    }
+    let slot = Slot {
+        name: FlightName::new(name.as_bytes())?,
+        tobt: Minute::new(tobt),
+        exot,
+        ctot: Minute::new(ctot),
+        tsat: Minute::new(tsat)?,
+        ttot: Minute::new(tsat + exot)?,
+        mark: Mark::Airborne,
+        delay: None,
+    };
+    Some(match mark {
+        Mark::Planned => Slot {
+            mark,
+            delay: Some(tsat.checked_sub(tobt)?),
+            ..slot
+        },
+        _ => Slot { mark, ..slot },
+    })
+}
+
+fn slots_of(alloc: Global, rows: &[Row]) -> Result<Vec<Slot>, Fail> {
+    let mut slots = Vec::new(alloc);
+    for row in rows {
+        slots.push(slot(*row).ok_or("no slot")?)?;
+    }
+    Ok(slots)
+}
 
 // Whether the slots stand by TTOT and then by name.
 fn are_in_order(slots: &[Slot]) -> bool
@@ -24,70 +63,13 @@ fn are_in_order(slots: &[Slot]) -> bool
     true
 }
 
-// A planned flight with TOBT 06:00, which takes 15 minutes to its runway.
-fn planned(name: &[u8], ctot: Option<Minute>, tsat: u16) -> Option<Slot> {
-    if tsat > 1440 {
-        return None;
+fn blocked_of(alloc: Global, rows: &[(&str, Rule)]) -> Result<Vec<BlockedFlight>, Fail> {
+    let mut blocked = Vec::new(alloc);
+    for (name, rule) in rows {
+        let name = FlightName::new(name.as_bytes()).ok_or("no flight name")?;
+        blocked.push(BlockedFlight { name, rule: *rule })?;
     }
-    Some(Slot {
-        name: FlightName::new(name)?,
-        tobt: Minute::new(360),
-        exot: 15,
-        ctot,
-        tsat: Minute::new(tsat)?,
-        ttot: Minute::new(tsat + 15)?,
-        mark: Mark::Planned,
-        delay: Some(tsat.checked_sub(360)?),
-    })
-}
-
-// A flight that has left its stand.
-fn left(
-    name: &[u8],
-    mark: Mark,
-    tobt: Option<Minute>,
-    ctot: Option<Minute>,
-    aobt: u16,
-    exot: u16,
-) -> Option<Slot> {
-    if mark == Mark::Planned || aobt > 1440 || exot > 1439 {
-        return None;
-    }
-    Some(Slot {
-        name: FlightName::new(name)?,
-        tobt,
-        exot,
-        ctot,
-        tsat: Minute::new(aobt)?,
-        ttot: Minute::new(aobt + exot)?,
-        mark,
-        delay: None,
-    })
-}
-
-// A flight with TOBT and AOBT 06:00, which takes 15 minutes to its runway.
-fn off_block(name: &[u8]) -> Option<Slot> {
-    left(name, Mark::OffBlock, Minute::new(360), None, 360, 15)
-}
-
-// A flight without TOBT, with AOBT 06:00 and ATOT 06:20.
-fn airborne(name: &[u8]) -> Option<Slot> {
-    left(name, Mark::Airborne, None, None, 360, 20)
-}
-
-fn blocked(name: &[u8], rule: Rule) -> Option<BlockedFlight> {
-    Some(BlockedFlight {
-        name: FlightName::new(name)?,
-        rule,
-    })
-}
-
-fn all<T: Copy + Drop>(alloc: Global, items: &[Option<T>]) -> Result<Vec<T>, Fail> {
-    let mut list = Vec::new(alloc);
-    for item in items {
-        list.push((*item).ok_or("no such flight")?)?;
-    }
-    Ok(list)
+    Ok(blocked)
 }
 
 // The blocked flights by name.
@@ -101,283 +83,119 @@ fn by_name(flights: Vec<BlockedFlight>) -> Vec<BlockedFlight>
 }
 
 // A plan of runway 27L alone.
-fn plan(
-    alloc: Global,
-    now: u16,
-    slots: &[Option<Slot>],
-    blocked: &[Option<BlockedFlight>],
-) -> Result<Plan, Fail> {
-    let slots = all(alloc, slots)?;
-    let blocked = by_name(all(alloc, blocked)?);
+fn plan(alloc: Global, now: u16, slots: &[Row], blocked: &[(&str, Rule)]) -> Result<Plan, Fail> {
+    let slots = slots_of(alloc, slots)?;
+    let blocked = by_name(blocked_of(alloc, blocked)?);
     if slots.len() > 1000 || blocked.len() > 1000 || !are_in_order(&slots) {
         return Err("no plan".into());
     }
     let mut runways = Vec::new(alloc);
     runways.push(RunwayPlan {
-        runway: RunwayName::new(b"27L").ok_or("runway")?,
+        runway: RunwayName::new(b"27L").ok_or("no runway name")?,
         slots: Listed::new(slots),
         blocked: Listed::new(Vec::new(alloc)),
     })?;
     Ok(Plan {
-        now: Minute::new(now).ok_or("now")?,
+        now: Minute::new(now).ok_or("no minute")?,
         runways: Listed::new(runways),
         blocked: Listed::new(blocked),
     })
 }
 
-fn assert_report(
-    rt: &impl Abort,
-    alloc: Global,
-    plan: &Plan,
-    refused: &[(u32, RefusalWord)],
-    expected: &[u8],
-) -> Result<(), Fail> {
-    let day = Day::of_text(b"2025-03-10").map_err(|_| "day")?;
-    let text = report_text(alloc, &day, plan, refused)?;
-    assert_eq!(rt; text.as_slice(), expected);
-    Ok(())
-}
+const SLOTS: [Row; 7] = [
+    ("B", Mark::OffBlock, NONE, 180, 400, 0),
+    ("OFF1", Mark::OffBlock, 360, 15, NONE, 360),
+    ("AB1", Mark::Planned, 360, 15, NONE, 365),
+    ("AIR1", Mark::Airborne, NONE, 20, NONE, 360),
+    ("CD2", Mark::Planned, 360, 15, 400, 380),
+    ("ABCDEFG", Mark::Planned, 360, 15, 1460, 1440),
+    ("C3", Mark::Airborne, 2879, 1439, NONE, 1440),
+];
 
-fn assert_delta(
-    rt: &impl Abort,
-    alloc: Global,
-    base: &Counts,
-    scenario: &Counts,
-    expected: &[u8],
-) -> Result<(), Fail> {
-    let text = delta_text(alloc, base, scenario)?;
-    assert_eq!(rt; text.as_slice(), expected);
-    Ok(())
-}
+const BLOCKED: [(&str, Rule); 9] = [
+    ("G7", Rule::Tobt),
+    ("ABCDEFH", Rule::Closure),
+    ("A", Rule::Rate),
+    ("F6", Rule::Rate),
+    ("B2", Rule::Runway),
+    ("E5", Rule::Ctot),
+    ("AB2", Rule::Tobt),
+    ("DE", Rule::Horizon),
+    ("C4", Rule::Exot),
+];
 
-#[test]
-fn a_day_without_flights(rt: HostRuntime) -> Result<(), Fail> {
-    let alloc = rt.alloc();
-    let plan = plan(alloc, 0, &[], &[])?;
-    let expected = b"DAY 2025-03-10 NOW 100000
-RUNWAY 27L
-TOTAL PLACED 0 DELAY 0 MAX 0 LATE 0 BLOCKED 0
-";
-    assert_report(&rt, alloc, &plan, &[], expected.as_slice())
-}
-
-#[test]
-fn planned_flights(rt: HostRuntime) -> Result<(), Fail> {
-    let alloc = rt.alloc();
-    let slots = [
-        planned(b"AB1", None, 360),
-        planned(b"AB2", None, 360),
-        planned(b"AB3", None, 365),
-    ];
-    let plan = plan(alloc, 0, &slots, &[])?;
-    let expected = b"DAY 2025-03-10 NOW 100000
-RUNWAY 27L
-AB1     100600   15 ------ 100600 100615 P    0
-AB2     100600   15 ------ 100600 100615 P    0
-AB3     100600   15 ------ 100605 100620 P    5
-TOTAL PLACED 3 DELAY 5 MAX 5 LATE 0 BLOCKED 0
-";
-    assert_report(&rt, alloc, &plan, &[], expected.as_slice())
-}
-
-#[test]
-fn a_late_flight_with_a_ctot(rt: HostRuntime) -> Result<(), Fail> {
-    let alloc = rt.alloc();
-    let plan = plan(alloc, 0, &[planned(b"AB1", Minute::new(400), 380)], &[])?;
-    let expected = b"DAY 2025-03-10 NOW 100000
-RUNWAY 27L
-AB1     100600   15 100640 100620 100635 P   20
-TOTAL PLACED 1 DELAY 20 MAX 20 LATE 1 BLOCKED 0
-";
-    assert_report(&rt, alloc, &plan, &[], expected.as_slice())
-}
-
-#[test]
-fn flights_off_block(rt: HostRuntime) -> Result<(), Fail> {
-    let alloc = rt.alloc();
-    let slots = [
-        off_block(b"AB1"),
-        off_block(b"AB2"),
-        off_block(b"AB3"),
-        planned(b"AB4", None, 365),
-    ];
-    let plan = plan(alloc, 0, &slots, &[])?;
-    let expected = b"DAY 2025-03-10 NOW 100000
-RUNWAY 27L
-AB1     100600   15 ------ 100600 100615 O ----
-AB2     100600   15 ------ 100600 100615 O ----
-AB3     100600   15 ------ 100600 100615 O ----
-AB4     100600   15 ------ 100605 100620 P    5
-TOTAL PLACED 1 DELAY 5 MAX 5 LATE 0 BLOCKED 0
-";
-    assert_report(&rt, alloc, &plan, &[], expected.as_slice())
-}
-
-#[test]
-fn a_flight_airborne(rt: HostRuntime) -> Result<(), Fail> {
-    let alloc = rt.alloc();
-    let plan = plan(alloc, 0, &[airborne(b"AB1")], &[])?;
-    let refused = [
-        (2, RefusalWord::Order),
-        (3, RefusalWord::NotReady),
-        (6, RefusalWord::OffBlock),
-        (7, RefusalWord::Order),
-        (9, RefusalWord::Ended),
-        (12, RefusalWord::Ended),
-        (13, RefusalWord::Exists),
-    ];
-    let expected = b"DAY 2025-03-10 NOW 100000
-RUNWAY 27L
-AB1     ------   20 ------ 100600 100620 A ----
-TOTAL PLACED 0 DELAY 0 MAX 0 LATE 0 BLOCKED 0
-REFUSED 2 ORDER
-REFUSED 3 NOTREADY
-REFUSED 6 OFFBLOCK
-REFUSED 7 ORDER
-REFUSED 9 ENDED
-REFUSED 12 ENDED
-REFUSED 13 EXISTS
-";
-    assert_report(&rt, alloc, &plan, &refused, expected.as_slice())
-}
-
-#[test]
-fn a_blocked_flight(rt: HostRuntime) -> Result<(), Fail> {
-    let alloc = rt.alloc();
-    let plan = plan(alloc, 0, &[], &[blocked(b"AB1", Rule::Tobt)])?;
-    let refused = [(3, RefusalWord::Text)];
-    let expected = b"DAY 2025-03-10 NOW 100000
-RUNWAY 27L
-BLOCKED AB1     TOBT
-TOTAL PLACED 0 DELAY 0 MAX 0 LATE 0 BLOCKED 1 TOBT 1
-REFUSED 3 TEXT
-";
-    assert_report(&rt, alloc, &plan, &refused, expected.as_slice())
-}
-
-#[test]
-fn blocked_flights_by_name_and_counts_by_rule(rt: HostRuntime) -> Result<(), Fail> {
-    let alloc = rt.alloc();
-    let flights = [
-        blocked(b"G7", Rule::Tobt),
-        blocked(b"ABCDEFG", Rule::Closure),
-        blocked(b"A", Rule::Rate),
-        blocked(b"F6", Rule::Rate),
-        blocked(b"B2", Rule::Runway),
-        blocked(b"E5", Rule::Ctot),
-        blocked(b"AB1", Rule::Tobt),
-        blocked(b"DE", Rule::Horizon),
-        blocked(b"C3", Rule::Exot),
-    ];
-    let plan = plan(alloc, 0, &[], &flights)?;
-    let expected = b"DAY 2025-03-10 NOW 100000
-RUNWAY 27L
-BLOCKED A       RATE
-BLOCKED AB1     TOBT
-BLOCKED ABCDEFG CLOSURE
-BLOCKED B2      RUNWAY
-BLOCKED C3      EXOT
-BLOCKED DE      HORIZON
-BLOCKED E5      CTOT
-BLOCKED F6      RATE
-BLOCKED G7      TOBT
-TOTAL PLACED 0 DELAY 0 MAX 0 LATE 0 BLOCKED 9 TOBT 2 RUNWAY 1 EXOT 1 HORIZON 1 CTOT 1 CLOSURE 1 RATE 2
-";
-    assert_report(&rt, alloc, &plan, &[], expected.as_slice())
-}
-
-#[test]
-fn columns_of_every_width(rt: HostRuntime) -> Result<(), Fail> {
-    let alloc = rt.alloc();
-    let slots = [
-        left(b"B", Mark::OffBlock, None, Minute::new(400), 0, 180),
-        planned(b"ABCDEFG", Minute::new(1460), 1440),
-        left(b"C3", Mark::Airborne, Minute::new(2879), None, 1440, 1439),
-    ];
-    let plan = plan(alloc, 2879, &slots, &[])?;
-    let expected = b"DAY 2025-03-10 NOW 112359
+const REPORT: &str = "DAY 2025-03-10 NOW 112359
 RUNWAY 27L
 B       ------  180 100640 100000 100300 O ----
-ABCDEFG 100600   15 110020 110000 110015 P 1080
-C3      112359 1439 ------ 110000 112359 A ----
-TOTAL PLACED 1 DELAY 1080 MAX 1080 LATE 1 BLOCKED 0
-";
-    assert_report(&rt, alloc, &plan, &[], expected.as_slice())
-}
-
-#[test]
-fn a_report_with_every_kind_of_line(rt: HostRuntime) -> Result<(), Fail> {
-    let alloc = rt.alloc();
-    let slots = [
-        off_block(b"OFF1"),
-        planned(b"AB1", None, 365),
-        airborne(b"AIR1"),
-        planned(b"CD2", Minute::new(400), 380),
-    ];
-    let flights = [blocked(b"EF3", Rule::Ctot), blocked(b"GH4", Rule::Runway)];
-    let plan = plan(alloc, 370, &slots, &flights)?;
-    let refused = [(7, RefusalWord::Exists), (1000, RefusalWord::Full)];
-    let expected = b"DAY 2025-03-10 NOW 100610
-RUNWAY 27L
 OFF1    100600   15 ------ 100600 100615 O ----
 AB1     100600   15 ------ 100605 100620 P    5
 AIR1    ------   20 ------ 100600 100620 A ----
 CD2     100600   15 100640 100620 100635 P   20
-BLOCKED EF3     CTOT
-BLOCKED GH4     RUNWAY
-TOTAL PLACED 2 DELAY 25 MAX 20 LATE 1 BLOCKED 2 RUNWAY 1 CTOT 1
+ABCDEFG 100600   15 110020 110000 110015 P 1080
+C3      112359 1439 ------ 110000 112359 A ----
+BLOCKED A       RATE
+BLOCKED AB2     TOBT
+BLOCKED ABCDEFH CLOSURE
+BLOCKED B2      RUNWAY
+BLOCKED C4      EXOT
+BLOCKED DE      HORIZON
+BLOCKED E5      CTOT
+BLOCKED F6      RATE
+BLOCKED G7      TOBT
+TOTAL PLACED 3 DELAY 1105 MAX 1080 LATE 2 BLOCKED 9 TOBT 2 RUNWAY 1 EXOT 1 HORIZON 1 CTOT 1 CLOSURE 1 RATE 2
 REFUSED 7 EXISTS
 REFUSED 1000 FULL
 ";
-    assert_report(&rt, alloc, &plan, &refused, expected.as_slice())
-}
+
+const EMPTY_RUNWAY: &str = "DAY 2025-03-10 NOW 100000
+RUNWAY 27L
+TOTAL PLACED 0 DELAY 0 MAX 0 LATE 0 BLOCKED 0
+";
 
 #[test]
-fn refused_records(rt: HostRuntime) -> Result<(), Fail> {
-    let alloc = rt.alloc();
-    let plan = plan(alloc, 300, &[planned(b"AB1", None, 360)], &[])?;
-    let refused = [
-        (4, RefusalWord::Authority),
-        (5, RefusalWord::Fields),
-        (6, RefusalWord::Fields),
-        (7, RefusalWord::Role),
-        (8, RefusalWord::Kind),
-        (9, RefusalWord::Order),
-        (11, RefusalWord::Order),
-        (12, RefusalWord::Range),
-        (13, RefusalWord::Text),
-        (14, RefusalWord::Unknown),
-    ];
-    let expected = b"DAY 2025-03-10 NOW 100500
-RUNWAY 27L
-AB1     100600   15 ------ 100600 100615 P    0
-TOTAL PLACED 1 DELAY 0 MAX 0 LATE 0 BLOCKED 0
-REFUSED 4 AUTHORITY
-REFUSED 5 FIELDS
-REFUSED 6 FIELDS
-REFUSED 7 ROLE
-REFUSED 8 KIND
-REFUSED 9 ORDER
-REFUSED 11 ORDER
-REFUSED 12 RANGE
-REFUSED 13 TEXT
-REFUSED 14 UNKNOWN
-";
-    assert_report(&rt, alloc, &plan, &refused, expected.as_slice())
+fn reports(rt: HostRuntime) -> Result<(), Fail> {
+    let day = Day::of_text(b"2025-03-10").map_err(|_| "no day")?;
+    for (now, slots, blocked, refused, report) in [
+        (
+            2879,
+            SLOTS.as_slice(),
+            BLOCKED.as_slice(),
+            [(7, Exists), (1000, Full)].as_slice(),
+            REPORT,
+        ),
+        (0, &[], &[], &[], EMPTY_RUNWAY),
+    ] {
+        let plan = plan(rt.alloc(), now, slots, blocked)?;
+        let text = report_text(rt.alloc(), &day, &plan, refused)?;
+        assert_eq!(rt; text.as_slice(), report.as_bytes());
+    }
+    Ok(())
 }
 
 #[test]
 fn a_flight_is_late_above_15_minutes(rt: HostRuntime) -> Result<(), Fail> {
-    for (tsat, late) in [(375, 0), (376, 1)] {
-        let plan = plan(rt.alloc(), 0, &[planned(b"AB1", None, tsat)], &[])?;
-        assert_eq!(rt; indicators(&plan).late, late, "at {tsat}");
+    for (delay, late) in [(15, 0), (16, 1)] {
+        let late_last = [
+            ("AB1", Mark::Planned, 360, 15, NONE, 360),
+            ("AB2", Mark::Planned, 360, 15, NONE, 360 + delay),
+        ];
+        let plan = plan(rt.alloc(), 0, &late_last, &[("AB3", Rule::Ctot)])?;
+        let expected = Counts {
+            placed: 2,
+            delay: u32::from(delay),
+            greatest: u32::from(delay),
+            late,
+            blocked: 1,
+            ctot: 1,
+            ..Counts::default()
+        };
+        assert_eq!(rt; indicators(&plan), expected);
     }
     Ok(())
 }
 
 #[test]
 fn changes_have_signs(rt: HostRuntime) -> Result<(), Fail> {
-    let alloc = rt.alloc();
     let none = Counts::default();
     let placed = Counts { placed: 1, ..none };
     let no_tobt = Counts {
@@ -390,29 +208,44 @@ fn changes_have_signs(rt: HostRuntime) -> Result<(), Fail> {
         rate: 1,
         ..none
     };
-    let expected = b"DELTA PLACED -1 DELAY +0 MAX +0 LATE +0 BLOCKED +1 RATE +1\n";
-    assert_delta(&rt, alloc, &placed, &no_room, expected.as_slice())?;
-    let expected = b"DELTA PLACED +0 DELAY +0 MAX +0 LATE +0 BLOCKED +0 TOBT -1 RATE +1\n";
-    assert_delta(&rt, alloc, &no_tobt, &no_room, expected.as_slice())
-}
-
-#[test]
-fn changes_of_delays(rt: HostRuntime) -> Result<(), Fail> {
-    let base = Counts {
-        placed: 3,
-        delay: 5,
-        greatest: 5,
-        ..Counts::default()
-    };
     let closed = Counts {
         placed: 3,
         delay: 55,
         greatest: 25,
         late: 1,
-        ..Counts::default()
+        ..none
     };
-    let expected = b"DELTA PLACED +0 DELAY +50 MAX +20 LATE +1 BLOCKED +0\n";
-    assert_delta(&rt, rt.alloc(), &base, &closed, expected.as_slice())?;
-    let expected = b"DELTA PLACED +0 DELAY -50 MAX -20 LATE -1 BLOCKED +0\n";
-    assert_delta(&rt, rt.alloc(), &closed, &base, expected.as_slice())
+    let open = Counts {
+        delay: 5,
+        greatest: 5,
+        late: 0,
+        ..closed
+    };
+    for (base, scenario, line) in [
+        (
+            placed,
+            no_room,
+            "PLACED -1 DELAY +0 MAX +0 LATE +0 BLOCKED +1 RATE +1",
+        ),
+        (
+            no_tobt,
+            no_room,
+            "PLACED +0 DELAY +0 MAX +0 LATE +0 BLOCKED +0 TOBT -1 RATE +1",
+        ),
+        (
+            open,
+            closed,
+            "PLACED +0 DELAY +50 MAX +20 LATE +1 BLOCKED +0",
+        ),
+        (
+            closed,
+            open,
+            "PLACED +0 DELAY -50 MAX -20 LATE -1 BLOCKED +0",
+        ),
+    ] {
+        let text = delta_text(rt.alloc(), &base, &scenario)?;
+        let expected = format!(in rt.alloc(); "DELTA {line}\n")?;
+        assert_eq!(rt; text.as_slice(), expected.as_bytes());
+    }
+    Ok(())
 }

@@ -1,13 +1,16 @@
-//! Flights, taxi times and runways that are made by hand, with minutes that were worked out by hand.
-ghost use Rattle.std.specs.Prelude.{◌≡◌, ◌++◌, ◌≤◌, IfOk, IsTrue, map};
+//! Flights, taxi times and runways that are made by hand, with minutes of the horizon that were worked
+//! out by hand: 360 is 06:00.
+ghost use Rattle.std.specs.Prelude.{◌≡◌, ◌++◌, true, IfOk, IfSome, IsTrue};
 ghost use Rattle.std.specs.List.{IsDistinct};
 ghost use Rattle.cdm_flight.specs.Names.{same_name};
+ghost use Rattle.cdm_flight.specs.Record.{is_planned};
 ghost use Rattle.cdm_sequence.specs.Sequence.{flight_names};
 
 use super::*;
+use Rule::{Closure, Ctot, Exot, Horizon, Rate, Runway as NoRunway, Tobt};
 use cdm_flight::{
-    Cap, CellLength, Flight, FlightName, Place, Priority, RefusalWord, RunwayName, StandName,
-    Status, TaxiMinutes, Update,
+    Cap, CellLength, Flight, FlightName, Ice, IceMinutes, Listed, Place, Priority, RunwayName,
+    StandName, Status, TaxiMinutes,
 };
 use cdm_runway::Runway;
 use cdm_taxi::TaxiTable;
@@ -16,119 +19,176 @@ use std::alloc::{AllocError, Global};
 use std::process::Abort;
 use std::test::Fail;
 
-mod aiming;
-mod copying;
-mod left;
-mod many;
-mod rules;
-mod sequences;
+// A time that isn't there: no minute of the horizon.
+const NONE: u16 = 9999;
 
-// A minute of the two days, by its hour, which runs on past midnight, and its minute.
-fn at(hour: u16, minute: u16) -> Minute {
-    Minute::new((hour % 48) * 60 + minute % 60).unwrap()
+// A planned flight. A runway without a name is none.
+fn planned(name: &[u8], priority: u16, tobt: u16, runway: &str) -> Option<Flight>
+    ensures { IfSome result (λ f. is_planned f.status ≡ true) }
+{
+    let name = FlightName::new(name)?;
+    let mut flight = Flight::fresh(name, Priority::new(priority)?);
+    flight.tobt = Minute::new(tobt);
+    flight.runway = RunwayName::new(runway.as_bytes());
+    Some(flight)
 }
 
-fn flight_name(text: &str) -> Result<FlightName, Fail> {
-    Ok(FlightName::new(text.as_bytes()).ok_or("no flight name")?)
-}
-
-fn runway_name(text: &str) -> Result<RunwayName, Fail> {
-    Ok(RunwayName::new(text.as_bytes()).ok_or("no runway name")?)
-}
-
-fn stand(text: &str) -> Result<StandName, Fail> {
-    Ok(StandName::new(text.as_bytes()).ok_or("no stand name")?)
-}
-
-fn priority(number: u16) -> Result<Priority, Fail> {
-    Ok(Priority::new(number).ok_or("no priority")?)
-}
-
-fn cap(number: u16) -> Result<Cap, Fail> {
-    Ok(Cap::new(number).ok_or("no capacity")?)
-}
-
-// A planned flight of priority 5 on runway 27L.
-fn planned(name: &str, tobt: Minute) -> Result<Flight, Fail> {
-    let mut flight = Flight::fresh(flight_name(name)?, priority(5)?);
-    flight.tobt = Some(tobt);
-    flight.runway = Some(runway_name("27L")?);
-    Ok(flight)
-}
-
-// The flight after it left its stand with an EXOT of 15 minutes.
-fn after_off(flight: &Flight, aobt: Minute) -> Result<Flight, RefusalWord> {
-    let update = Update::Off {
-        flight: flight.name,
-        aobt,
-    };
-    flight.step(&update, Some(15))
-}
-
-// To runway 27L it takes 10 minutes from stand A1, and from elsewhere as many as are given.
-fn taxi_times(alloc: Global, default: u16) -> Result<TaxiTable, Fail> {
-    let runway = runway_name("27L")?;
-    let default = TaxiMinutes::new(default).ok_or("no taxi time")?;
-    let own = TaxiMinutes::new(10).ok_or("no taxi time")?;
-    let place = Place::Stand(stand("A1")?);
+// To runway 27L it takes 10 minutes from stand A1, and 15 from elsewhere.
+fn taxi_times(alloc: Global) -> Result<TaxiTable, Fail> {
+    let runway = RunwayName::new(b"27L").ok_or("no runway name")?;
+    let stand = StandName::new(b"A1").ok_or("no stand name")?;
     let mut table = TaxiTable::empty(alloc);
-    table.set(Place::Default, runway, default)?;
-    table.set(place, runway, own)?;
+    for (place, minutes) in [(Place::Default, 15), (Place::Stand(stand), 10)] {
+        let minutes = TaxiMinutes::new(minutes).ok_or("no taxi time")?;
+        table.set(place, runway, minutes)?;
+    }
     Ok(table)
 }
 
-// What a flight that should be planned could have.
-fn aim_by(taxi: &TaxiTable, flight: &Flight, now: Minute) -> Result<AimResult, Fail> {
-    match flight.status {
-        Status::Planned => Ok(aim(flight, taxi, now)),
-        _ => Err("not planned".into()),
+// The first rule that holds, or the EXOT, the readiness and the window. De-icing takes 12 minutes, on
+// the stand (S) or remote (R).
+#[test]
+fn aims(rt: HostRuntime) -> Result<(), Fail> {
+    let taxi = taxi_times(rt.alloc())?;
+    let minutes = IceMinutes::new(12).ok_or("no de-icing time")?;
+    for (tobt, runway, stand, ctot, ice, now, outcome) in [
+        (NONE, "", "", 300, "", 0, Err(Tobt)),
+        (2865, "", "", 300, "", 0, Err(NoRunway)),
+        (2865, "09", "", 300, "", 0, Err(Exot)),
+        (2865, "27L", "", 300, "", 0, Err(Horizon)),
+        (360, "27L", "", 364, "", 0, Err(Ctot)),
+        (360, "27L", "", 365, "", 0, Ok((15, 360, 375, 376))),
+        (360, "27L", "", 400, "", 0, Ok((15, 360, 395, 411))),
+        (2864, "27L", "", NONE, "", 0, Ok((15, 2864, 2879, 2880))),
+        (360, "27L", "A1", NONE, "", 0, Ok((10, 360, 370, 2880))),
+        (360, "27L", "A2", NONE, "R", 0, Ok((27, 360, 387, 2880))),
+        (360, "27L", "", NONE, "S", 360, Ok((15, 372, 387, 2880))),
+        (360, "27L", "", NONE, "S", 373, Ok((15, 373, 388, 2880))),
+    ] {
+        let mut flight = planned(b"AB1", 5, tobt, runway).ok_or("no flight")?;
+        flight.stand = StandName::new(stand.as_bytes());
+        flight.ctot = Minute::new(ctot);
+        flight.ice = match ice {
+            "S" => Ice::AtStand(minutes),
+            "R" => Ice::Remote(minutes),
+            _ => Ice::NoIce,
+        };
+        let now = Minute::new(now).ok_or("no minute")?;
+        let found = match aim(&flight, &taxi, now) {
+            AimResult::Early(rule) => Err(rule),
+            AimResult::Ready(target) => {
+                assert_eq!(rt; Some(target.key), flight.key());
+                assert_eq!(rt; Some(target.runway), flight.runway);
+                assert_eq!(rt; target.ctot, flight.ctot);
+                let (from, to) = (target.window.from().get(), target.window.to().get());
+                Ok((target.exot, target.ready.get(), from, to))
+            }
+        };
+        assert_eq!(rt; found, outcome, "{flight:?}");
+    }
+    Ok(())
+}
+
+// The flight after it left its stand, 15 minutes from its runway.
+fn off_block(flight: Flight, aobt: Minute) -> Option<Flight> {
+    if aobt.get() > 2864 || flight.runway.is_none() {
+        return None;
+    }
+    let status = Status::OffBlock { aobt, exot: 15 };
+    Some(Flight { status, ..flight })
+}
+
+// The flight after it took off.
+fn airborne(flight: Flight, aobt: Minute, atot: Minute) -> Option<Flight> {
+    if atot < aobt || flight.runway.is_none() {
+        return None;
+    }
+    let status = Status::Airborne { aobt, atot };
+    Some(Flight { status, ..flight })
+}
+
+// EXOT or AXOT, AOBT, take-off and mark of a flight that has left.
+fn columns(flight: &Flight) -> Option<(u16, u16, u16, Mark)> {
+    let fixed = fixed_of(flight)?;
+    Some((fixed.exot, fixed.off.get(), fixed.takeoff.get(), fixed.mark))
+}
+
+#[test]
+fn fixed_flights(rt: HostRuntime) -> Result<(), Fail> {
+    let mut flight = planned(b"AB1", 5, 360, "27L").ok_or("no flight")?;
+    assert_eq!(rt; columns(&flight), None);
+    let aobt = Minute::new(2864).ok_or("no minute")?;
+    let left = off_block(flight, aobt).ok_or("not ready")?;
+    assert_eq!(rt; columns(&left), Some((15, 2864, 2879, Mark::OffBlock)));
+    let atot = Minute::new(2870).ok_or("no minute")?;
+    let flown = airborne(flight, aobt, atot).ok_or("not ready")?;
+    assert_eq!(rt; columns(&flown), Some((6, 2864, 2870, Mark::Airborne)));
+    flight.status = Status::Cancelled;
+    assert_eq!(rt; columns(&flight), None);
+    Ok(())
+}
+
+// What changes a runway: a word, from a minute up to a bound, and the flights in each cell.
+type Change = (&'static str, u16, u16, u16);
+
+// Runway 27L, which takes so many flights in each cell of 10 minutes, with changes made in turn.
+fn runway_of(alloc: Global, flights: u16, changes: &[Change]) -> Result<Runway, Fail> {
+    let name = RunwayName::new(b"27L").ok_or("no runway name")?;
+    let cell = CellLength::new(10).ok_or("no cell length")?;
+    let cap = Cap::new(flights).ok_or("no capacity")?;
+    let mut runway = Runway::new(alloc, name, cell, cap)?;
+    for (word, from, to, flights) in changes {
+        let from = Minute::new(*from).ok_or("no minute")?;
+        let to = Bound::new(*to).ok_or("no bound")?;
+        let cap = Cap::new(*flights).ok_or("no capacity")?;
+        match *word {
+            "CLOSE" => runway.close(from, to)?,
+            "OPEN" => runway.reopen(from, to)?,
+            _ => runway.rate(from, to, cap)?,
+        }
+    }
+    Ok(runway)
+}
+
+// What a planned flight of runway 27L could have at 00:00: its name, priority, TOBT, stand and CTOT.
+fn target_of(
+    taxi: &TaxiTable,
+    name: &[u8],
+    priority: u16,
+    tobt: u16,
+    stand: &str,
+    ctot: u16,
+) -> Option<Target> {
+    let mut flight = planned(name, priority, tobt, "27L")?;
+    flight.stand = StandName::new(stand.as_bytes());
+    flight.ctot = Minute::new(ctot);
+    match aim(&flight, taxi, Minute::FIRST) {
+        AimResult::Ready(target) => Some(target),
+        AimResult::Early(_) => None,
     }
 }
 
-fn target_by(taxi: &TaxiTable, flight: &Flight, now: Minute) -> Result<Target, Fail> {
-    match aim_by(taxi, flight, now)? {
-        AimResult::Ready(target) => Ok(target),
-        AimResult::Early(rule) => Err(rule.text().into()),
-    }
-}
-
-// The target of a planned flight where it takes 15 minutes by default to runway 27L.
-fn target_of(alloc: Global, flight: &Flight, now: Minute) -> Result<Target, Fail> {
-    target_by(&taxi_times(alloc, 15)?, flight, now)
-}
-
-// The targets of planned flights at 00:00.
-fn targets_of(alloc: Global, flights: &[Flight]) -> Result<Vec<Target>, Fail> {
-    let taxi = taxi_times(alloc, 15)?;
+// The targets of flights, each with its name, priority, TOBT, stand and CTOT.
+fn targets_of(alloc: Global, flights: &[(&str, u16, u16, &str, u16)]) -> Result<Vec<Target>, Fail> {
+    let taxi = taxi_times(alloc)?;
     let mut targets = Vec::new(alloc);
-    for flight in flights {
-        targets.push(target_by(&taxi, flight, Minute::FIRST)?)?;
+    for (name, priority, tobt, stand, ctot) in flights {
+        let target = target_of(&taxi, name.as_bytes(), *priority, *tobt, stand, *ctot);
+        targets.push(target.ok_or("no target")?)?;
     }
     Ok(targets)
 }
 
-// What changes a runway.
-#[derive(Clone, Copy)]
-enum Change {
-    Closed(Minute, Bound),
-    Open(Minute, Bound),
-    Rate(Minute, Bound, u16),
-}
-
-use Change::{Closed, Open, Rate};
-
-// Runway 27L, which takes so many flights in each cell of 10 minutes, with changes made in turn.
-fn runway_of(alloc: Global, flights: u16, changes: &[Change]) -> Result<Runway, Fail> {
-    let cell = CellLength::new(10).ok_or("no cell length")?;
-    let mut runway = Runway::new(alloc, runway_name("27L")?, cell, cap(flights)?)?;
-    for change in changes {
-        match *change {
-            Closed(from, to) => runway.close(from, to)?,
-            Open(from, to) => runway.reopen(from, to)?,
-            Rate(from, to, flights) => runway.rate(from, to, cap(flights)?)?,
-        }
+// The flights of these names after they left their stands at 06:00.
+fn fixed_at_six(alloc: Global, names: &[&str]) -> Result<Vec<Fixed>, Fail> {
+    let mut fixed = Vec::new(alloc);
+    let aobt = Minute::new(360).ok_or("no minute")?;
+    for name in names {
+        let flight = planned(name.as_bytes(), 5, NONE, "27L").ok_or("no flight")?;
+        let left = off_block(flight, aobt).ok_or("not ready")?;
+        fixed.push(fixed_of(&left).ok_or("not fixed")?)?;
     }
-    Ok(runway)
+    Ok(fixed)
 }
 
 fn names_of(
@@ -170,28 +230,190 @@ fn sequenced(
     Ok(sequence(alloc, runway, fixed, targets)?)
 }
 
-// The sequence of planned flights at 00:00, after the fixed flights.
-fn plan_of(
-    alloc: Global,
-    runway: &Runway,
-    fixed: &[Fixed],
-    flights: &[Flight],
-) -> Result<RunwayPlan, Fail> {
-    let targets = targets_of(alloc, flights)?;
-    sequenced(alloc, runway, fixed, &targets)
+// The flights of runway 27L with 2 in each cell and these changes: those that have left their stands
+// and those that are planned, the name, TSAT, TTOT and delay of each slot, and the blocked flights.
+struct Day {
+    changes: &'static [Change],
+    fixed: &'static [&'static str],
+    planned: &'static [(&'static str, u16, u16, &'static str, u16)],
+    slots: &'static [(&'static str, u16, u16, Option<u16>)],
+    blocked: &'static [(&'static str, Rule)],
 }
 
-// A flight's name, TSAT, TTOT and delay.
-type Line = (&'static str, Minute, Minute, Option<u16>);
+const DAYS: [Day; 6] = [
+    // The flight that is placed last takes off first.
+    Day {
+        changes: &[],
+        fixed: &[],
+        planned: &[
+            ("AB1", 5, 360, "", NONE),
+            ("AB2", 5, 360, "", NONE),
+            ("AB3", 1, 360, "", NONE),
+            ("ZZ9", 9, 330, "", NONE),
+        ],
+        slots: &[
+            ("ZZ9", 330, 345, Some(0)),
+            ("AB1", 360, 375, Some(0)),
+            ("AB3", 360, 375, Some(0)),
+            ("AB2", 365, 380, Some(5)),
+        ],
+        blocked: &[],
+    },
+    // The earlier TOBT goes before the earlier take-off.
+    Day {
+        changes: &[("RATE", 360, 420, 1)],
+        fixed: &[],
+        planned: &[("AB1", 5, 360, "", NONE), ("CD2", 5, 361, "A1", NONE)],
+        slots: &[("AB1", 360, 375, Some(0)), ("CD2", 370, 380, Some(9))],
+        blocked: &[],
+    },
+    // Flights that have left overfill a closed cell.
+    Day {
+        changes: &[("CLOSE", 370, 378, 0)],
+        fixed: &["AB1", "AB2", "AB3"],
+        planned: &[("AB4", 5, 360, "", NONE)],
+        slots: &[
+            ("AB1", 360, 375, None),
+            ("AB2", 360, 375, None),
+            ("AB3", 360, 375, None),
+            ("AB4", 365, 380, Some(5)),
+        ],
+        blocked: &[],
+    },
+    Day {
+        changes: &[("CLOSE", 370, 390, 0), ("OPEN", 378, 380, 0)],
+        fixed: &[],
+        planned: &[("AB1", 5, 360, "", NONE)],
+        slots: &[("AB1", 363, 378, Some(3))],
+        blocked: &[],
+    },
+    // The last minute of the CTOT tolerance is open, but its cell is full.
+    Day {
+        changes: &[("RATE", 370, 390, 0), ("CLOSE", 370, 385, 0)],
+        fixed: &[],
+        planned: &[("CD2", 1, 360, "", 375), ("AB1", 5, 360, "", 375)],
+        slots: &[],
+        blocked: &[("AB1", Rate), ("CD2", Rate)],
+    },
+    Day {
+        changes: &[("RATE", 370, 390, 0), ("CLOSE", 370, 386, 0)],
+        fixed: &[],
+        planned: &[("AB1", 5, 360, "", 375)],
+        slots: &[],
+        blocked: &[("AB1", Closure)],
+    },
+];
 
-// Each slot is one of these lines, in their order, and no flight is blocked.
-fn assert_lines(rt: &impl Abort, plan: &RunwayPlan, lines: &[Line]) {
-    assert_eq!(rt; plan.slots.len(), lines.len());
-    assert!(rt; plan.blocked.is_empty());
-    for (slot, (name, tsat, ttot, delay)) in plan.slots.as_slice().iter().zip(lines) {
+fn assert_plan(rt: &impl Abort, plan: &RunwayPlan, day: &Day) {
+    assert_eq!(rt; plan.slots.len(), day.slots.len());
+    for (slot, (name, tsat, ttot, delay)) in plan.slots.as_slice().iter().zip(day.slots) {
         assert_eq!(rt; slot.name.text(), *name);
-        assert_eq!(rt; slot.tsat, *tsat, "{name}");
-        assert_eq!(rt; slot.ttot, *ttot, "{name}");
+        assert_eq!(rt; slot.tsat.get(), *tsat, "{name}");
+        assert_eq!(rt; slot.ttot.get(), *ttot, "{name}");
         assert_eq!(rt; slot.delay, *delay, "{name}");
+    }
+    assert_eq!(rt; plan.blocked.len(), day.blocked.len());
+    for (flight, (name, rule)) in plan.blocked.as_slice().iter().zip(day.blocked) {
+        assert_eq!(rt; flight.name.text(), *name);
+        assert_eq!(rt; flight.rule, *rule, "{name}");
+    }
+}
+
+#[test]
+fn whatever_the_order_of_targets(rt: HostRuntime) -> Result<(), Fail> {
+    for day in &DAYS {
+        let runway = runway_of(rt.alloc(), 2, day.changes)?;
+        let fixed = fixed_at_six(rt.alloc(), day.fixed)?;
+        let mut targets = targets_of(rt.alloc(), day.planned)?;
+        for _ in 0..2 {
+            let plan = sequenced(rt.alloc(), &runway, &fixed, &targets)?;
+            assert_plan(&rt, &plan, day);
+            targets.reverse();
+        }
+    }
+    Ok(())
+}
+
+// The name of one of 2,000 flights, whose numbers are the order of their names.
+fn name_of(number: u16) -> [u8; 5] {
+    let digit = |value: u16| b'0' + (value % 10) as u8;
+    [
+        b'F',
+        digit(number / 1000),
+        digit(number / 100),
+        digit(number / 10),
+        digit(number),
+    ]
+}
+
+// Seven flights take off at 00:15, within the second cell, and then seven at the start of each.
+#[test]
+fn two_thousand_flights_in_scrambled_order(rt: HostRuntime) -> Result<(), Fail> {
+    let taxi = taxi_times(rt.alloc())?;
+    let mut targets = Vec::new(rt.alloc());
+    for place in 0..2000u32 {
+        let name = name_of((place * 1237 % 2000) as u16);
+        let target = target_of(&taxi, &name, 5, 0, "", NONE);
+        targets.push(target.ok_or("no target")?)?;
+    }
+    let runway = runway_of(rt.alloc(), 7, &[])?;
+    let plan = sequenced(rt.alloc(), &runway, &[], &targets)?;
+    assert_eq!(rt; plan.slots.len(), 2000);
+    for (slot, number) in plan.slots.as_slice().iter().zip(0..2000) {
+        let cell = u32::from(number) / 7 + 1;
+        let ttot = if cell == 1 { 15 } else { cell * 10 };
+        assert_eq!(rt; slot.name.bytes(), name_of(number).as_slice());
+        assert_eq!(rt; u32::from(slot.ttot.get()), ttot, "flight {number}");
+    }
+    Ok(())
+}
+
+// A day of one runway at 00:20, of which one more flight is blocked.
+fn day_of(alloc: Global, part: RunwayPlan) -> Result<Plan, Fail> {
+    let name = FlightName::new(b"CD2").ok_or("no flight name")?;
+    let blocked = vec![in alloc; BlockedFlight { name, rule: Tobt }]?;
+    if part.slots.len() > 1000 {
+        return Err("too many flights".into());
+    }
+    let mut runways = Vec::new(alloc);
+    runways.push(part)?;
+    Ok(Plan {
+        now: Minute::new(20).ok_or("no minute")?,
+        runways: Listed::new(runways),
+        blocked: Listed::new(blocked),
+    })
+}
+
+#[test]
+fn copies(rt: HostRuntime) -> Result<(), Fail> {
+    let flights = [("AB1", 5, 360, "", NONE), ("AB2", 5, 360, "", NONE)];
+    let targets = targets_of(rt.alloc(), &flights)?;
+    let runway = runway_of(rt.alloc(), 0, &[("RATE", 370, 380, 1)])?;
+    let part = sequenced(rt.alloc(), &runway, &[], &targets)?;
+    let copy = part.copy(rt.alloc())?;
+    assert_eq!(rt; (copy.slots.len(), copy.blocked.len()), (1, 1));
+    assert_eq!(rt; copy.runway, part.runway);
+    assert_eq!(rt; copy.slots.as_slice(), part.slots.as_slice());
+    assert_eq!(rt; copy.blocked.as_slice(), part.blocked.as_slice());
+    let day = day_of(rt.alloc(), part)?;
+    let copied = day.copy(rt.alloc())?;
+    assert_eq!(rt; copied.now.get(), 20);
+    assert_eq!(rt; copied.blocked.as_slice(), day.blocked.as_slice());
+    for plan in copied.runways.as_slice() {
+        assert_eq!(rt; plan.runway, copy.runway);
+        assert_eq!(rt; plan.slots.as_slice(), copy.slots.as_slice());
+        assert_eq!(rt; plan.blocked.as_slice(), copy.blocked.as_slice());
+    }
+    assert_eq!(rt; copied.runways.len(), 1);
+    Ok(())
+}
+
+#[test]
+fn each_rule_has_its_word(rt: HostRuntime) {
+    let words = [
+        "TOBT", "RUNWAY", "EXOT", "HORIZON", "CTOT", "CLOSURE", "RATE",
+    ];
+    for (rule, word) in Rule::ALL.into_iter().zip(words) {
+        assert_eq!(rt; rule.text(), word);
     }
 }
