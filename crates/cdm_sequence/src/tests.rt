@@ -413,7 +413,7 @@ fn each_rule_has_its_word(rt: HostRuntime) {
     let words = [
         "TOBT", "RUNWAY", "EXOT", "HORIZON", "CTOT", "CLOSURE", "RATE",
     ];
-    for (rule, word) in Rule::ALL.into_iter().zip(words) {
+    for (rule, word) in Rule::all().into_iter().zip(words) {
         assert_eq!(rt; rule.text(), word);
     }
 }
