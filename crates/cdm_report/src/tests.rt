@@ -3,7 +3,6 @@ ghost use Rattle.std.specs.Prelude.{◌≡◌, IsTrue, IsSorted, vec_len};
 ghost use Rattle.cdm_sequence.specs.Slots.{blocked_cmp, slot_cmp};
 
 use super::*;
-use RefusalWord::{Exists, Full};
 use cdm_flight::{FlightName, Listed, RefusalWord, RunwayName};
 use cdm_sequence::{BlockedFlight, Mark, Plan, Rule, RunwayPlan, Slot};
 use cdm_time::{Day, Minute};
@@ -102,145 +101,97 @@ fn plan(alloc: Global, now: u16, slots: &[Row], blocked: &[(&str, Rule)]) -> Res
     })
 }
 
-const SLOTS: [Row; 7] = [
+// One flight is late by a minute, and another is a minute from it.
+const SLOTS: [Row; 5] = [
     ("B", Mark::OffBlock, NONE, 180, 400, 0),
-    ("OFF1", Mark::OffBlock, 360, 15, NONE, 360),
-    ("AB1", Mark::Planned, 360, 15, NONE, 365),
-    ("AIR1", Mark::Airborne, NONE, 20, NONE, 360),
-    ("CD2", Mark::Planned, 360, 15, 400, 380),
+    ("CD2", Mark::Planned, 360, 15, NONE, 375),
+    ("AB1", Mark::Planned, 360, 15, 400, 376),
     ("ABCDEFG", Mark::Planned, 360, 15, 1460, 1440),
     ("C3", Mark::Airborne, 2879, 1439, NONE, 1440),
 ];
 
-const BLOCKED: [(&str, Rule); 9] = [
+const BLOCKED: [(&str, Rule); 4] = [
     ("G7", Rule::Tobt),
     ("ABCDEFH", Rule::Closure),
     ("A", Rule::Rate),
-    ("F6", Rule::Rate),
-    ("B2", Rule::Runway),
-    ("E5", Rule::Ctot),
     ("AB2", Rule::Tobt),
-    ("DE", Rule::Horizon),
-    ("C4", Rule::Exot),
 ];
 
 const REPORT: &str = "DAY 2025-03-10 NOW 112359
 RUNWAY 27L
 B       ------  180 100640 100000 100300 O ----
-OFF1    100600   15 ------ 100600 100615 O ----
-AB1     100600   15 ------ 100605 100620 P    5
-AIR1    ------   20 ------ 100600 100620 A ----
-CD2     100600   15 100640 100620 100635 P   20
+CD2     100600   15 ------ 100615 100630 P   15
+AB1     100600   15 100640 100616 100631 P   16
 ABCDEFG 100600   15 110020 110000 110015 P 1080
 C3      112359 1439 ------ 110000 112359 A ----
 BLOCKED A       RATE
 BLOCKED AB2     TOBT
 BLOCKED ABCDEFH CLOSURE
-BLOCKED B2      RUNWAY
-BLOCKED C4      EXOT
-BLOCKED DE      HORIZON
-BLOCKED E5      CTOT
-BLOCKED F6      RATE
 BLOCKED G7      TOBT
-TOTAL PLACED 3 DELAY 1105 MAX 1080 LATE 2 BLOCKED 9 TOBT 2 RUNWAY 1 EXOT 1 HORIZON 1 CTOT 1 CLOSURE 1 RATE 2
+TOTAL PLACED 3 DELAY 1111 MAX 1080 LATE 2 BLOCKED 4 TOBT 2 CLOSURE 1 RATE 1
 REFUSED 7 EXISTS
 REFUSED 1000 FULL
 ";
 
-const EMPTY_RUNWAY: &str = "DAY 2025-03-10 NOW 100000
-RUNWAY 27L
-TOTAL PLACED 0 DELAY 0 MAX 0 LATE 0 BLOCKED 0
-";
-
 #[test]
-fn reports(rt: HostRuntime) -> Result<(), Fail> {
+fn report_and_indicators(rt: HostRuntime) -> Result<(), Fail> {
     let day = Day::of_text(b"2025-03-10").map_err(|_| "no day")?;
-    for (now, slots, blocked, refused, report) in [
-        (
-            2879,
-            SLOTS.as_slice(),
-            BLOCKED.as_slice(),
-            [(7, Exists), (1000, Full)].as_slice(),
-            REPORT,
-        ),
-        (0, &[], &[], &[], EMPTY_RUNWAY),
-    ] {
-        let plan = plan(rt.alloc(), now, slots, blocked)?;
-        let text = report_text(rt.alloc(), &day, &plan, refused)?;
-        assert_eq!(rt; text.as_slice(), report.as_bytes());
-    }
+    let plan = plan(rt.alloc(), 2879, &SLOTS, &BLOCKED)?;
+    let refused = [(7, RefusalWord::Exists), (1000, RefusalWord::Full)];
+    let text = report_text(rt.alloc(), &day, &plan, &refused)?;
+    assert_eq!(rt; text.as_slice(), REPORT.as_bytes());
+    let counts = Counts {
+        placed: 3,
+        delay: 1111,
+        greatest: 1080,
+        late: 2,
+        blocked: 4,
+        tobt: 2,
+        closure: 1,
+        rate: 1,
+        ..Counts::default()
+    };
+    assert_eq!(rt; indicators(&plan), counts);
     Ok(())
 }
 
 #[test]
-fn a_flight_is_late_above_15_minutes(rt: HostRuntime) -> Result<(), Fail> {
-    for (delay, late) in [(15, 0), (16, 1)] {
-        let late_last = [
-            ("AB1", Mark::Planned, 360, 15, NONE, 360),
-            ("AB2", Mark::Planned, 360, 15, NONE, 360 + delay),
-        ];
-        let plan = plan(rt.alloc(), 0, &late_last, &[("AB3", Rule::Ctot)])?;
-        let expected = Counts {
-            placed: 2,
-            delay: u32::from(delay),
-            greatest: u32::from(delay),
-            late,
-            blocked: 1,
-            ctot: 1,
-            ..Counts::default()
-        };
-        assert_eq!(rt; indicators(&plan), expected);
-    }
+fn report_of_a_runway_without_flights(rt: HostRuntime) -> Result<(), Fail> {
+    let day = Day::of_text(b"2025-03-10").map_err(|_| "no day")?;
+    let plan = plan(rt.alloc(), 0, &[], &[])?;
+    let expected = b"DAY 2025-03-10 NOW 100000
+RUNWAY 27L
+TOTAL PLACED 0 DELAY 0 MAX 0 LATE 0 BLOCKED 0
+";
+    let text = report_text(rt.alloc(), &day, &plan, &[])?;
+    assert_eq!(rt; text.as_slice(), expected.as_slice());
     Ok(())
 }
 
 #[test]
 fn changes_have_signs(rt: HostRuntime) -> Result<(), Fail> {
-    let none = Counts::default();
-    let placed = Counts { placed: 1, ..none };
-    let no_tobt = Counts {
+    let base = Counts {
+        placed: 3,
+        delay: 5,
+        greatest: 5,
         blocked: 1,
         tobt: 1,
-        ..none
+        ..Counts::default()
     };
-    let no_room = Counts {
-        blocked: 1,
-        rate: 1,
-        ..none
-    };
-    let closed = Counts {
-        placed: 3,
+    let other = Counts {
+        placed: 2,
         delay: 55,
         greatest: 25,
         late: 1,
-        ..none
+        blocked: 1,
+        rate: 1,
+        ..Counts::default()
     };
-    let open = Counts {
-        delay: 5,
-        greatest: 5,
-        late: 0,
-        ..closed
-    };
-    for (base, scenario, line) in [
+    for (scenario, line) in [
+        (base, "PLACED +0 DELAY +0 MAX +0 LATE +0 BLOCKED +0"),
         (
-            placed,
-            no_room,
-            "PLACED -1 DELAY +0 MAX +0 LATE +0 BLOCKED +1 RATE +1",
-        ),
-        (
-            no_tobt,
-            no_room,
-            "PLACED +0 DELAY +0 MAX +0 LATE +0 BLOCKED +0 TOBT -1 RATE +1",
-        ),
-        (
-            open,
-            closed,
-            "PLACED +0 DELAY +50 MAX +20 LATE +1 BLOCKED +0",
-        ),
-        (
-            closed,
-            open,
-            "PLACED +0 DELAY -50 MAX -20 LATE -1 BLOCKED +0",
+            other,
+            "PLACED -1 DELAY +50 MAX +20 LATE +1 BLOCKED +0 TOBT -1 RATE +1",
         ),
     ] {
         let text = delta_text(rt.alloc(), &base, &scenario)?;

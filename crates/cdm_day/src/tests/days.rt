@@ -1,30 +1,25 @@
 //! Airports and days.
-use super::updates::{runway, stand};
 use crate::{Airport, AirportFault, DayState};
-use cdm_flight::{Cap, CellLength, Place, TaxiMinutes};
+use cdm_flight::{Cap, CellLength, Place, RunwayName, StandName, TaxiMinutes};
 use cdm_time::Day;
 use std::alloc::Global;
 use std::test::Fail;
 
-/// Adds a runway with 2 flights in each 10 minutes.
-pub fn add_runway(airport: &mut Airport, name: &str) -> Option<Result<(), AirportFault>> {
-    Some(airport.add_runway(runway(name)?, CellLength::new(10)?, Cap::new(2)?))
-}
-
-/// Adds a taxi time to a runway.
-pub fn add_taxi(
+/// Adds a runway with 2 flights in each 10 minutes, where no stand is given, or a taxi time of 15
+/// minutes to it, from a stand or by default.
+pub fn add_row(
     airport: &mut Airport,
-    place: Place,
-    name: &str,
-    minutes: u16,
+    stand: &str,
+    runway: &str,
 ) -> Option<Result<(), AirportFault>> {
-    Some(airport.add_taxi(place, runway(name)?, TaxiMinutes::new(minutes)?))
-}
-
-/// The taxi time to a runway.
-pub fn taxi_time(airport: &Airport, place: Place, name: &str) -> Option<u16> {
-    let minutes = airport.taxi().minutes(place, runway(name)?)?;
-    Some(minutes.get())
+    let runway = RunwayName::new(runway.as_bytes())?;
+    let minutes = TaxiMinutes::new(15)?;
+    let place = match stand {
+        "" => return Some(airport.add_runway(runway, CellLength::new(10)?, Cap::new(2)?)),
+        "*" => Place::Default,
+        _ => Place::Stand(StandName::new(stand.as_bytes())?),
+    };
+    Some(airport.add_taxi(place, runway, minutes))
 }
 
 /// An airport of 2025-03-10 without runways.
@@ -33,30 +28,16 @@ pub fn no_runway(alloc: Global) -> Result<Airport, Fail> {
     Ok(Airport::new(alloc, day))
 }
 
-/// An airport with these runways, each 15 taxi minutes away.
-pub fn runways(alloc: Global, names: &[&str]) -> Result<Airport, Fail> {
-    let mut airport = no_runway(alloc)?;
-    for name in names {
-        add_runway(&mut airport, name).ok_or("no runway")??;
-        add_taxi(&mut airport, Place::Default, name, 15).ok_or("no taxi time")??;
-    }
-    Ok(airport)
-}
-
-/// An airport with runway 27L, 15 taxi minutes away, but 10 from stand A1.
-pub fn one_runway(alloc: Global) -> Result<Airport, Fail> {
-    let mut airport = runways(alloc, &["27L"])?;
-    let place = stand("A1").ok_or("no stand")?;
-    add_taxi(&mut airport, place, "27L", 10).ok_or("no taxi time")??;
-    Ok(airport)
-}
-
 /// The day of an airport.
 pub fn day_of(alloc: Global, airport: Airport) -> Result<DayState, Fail> {
     Ok(DayState::new(alloc, airport).map_err(|_| "no memory")?)
 }
 
-/// The day of the airport with one runway, before its first update.
-pub fn new_day(alloc: Global) -> Result<DayState, Fail> {
-    day_of(alloc, one_runway(alloc)?)
+/// The day of an airport with two runways, of which the second is the first by name.
+pub fn two_runways(alloc: Global) -> Result<DayState, Fail> {
+    let mut airport = no_runway(alloc)?;
+    for (stand, runway) in [("", "27L"), ("*", "27L"), ("", "09"), ("*", "09")] {
+        add_row(&mut airport, stand, runway).ok_or("no row")??;
+    }
+    day_of(alloc, airport)
 }

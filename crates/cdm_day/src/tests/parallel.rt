@@ -1,13 +1,13 @@
-//! A day that many workers plan: that the pieces of a phase run side by side, which pieces there are,
-//! and that their number doesn't change the plan.
-use crate::{Airport, DayState, Reply};
-use cdm_flight::{
-    Cap, CellLength, FlightName, Place, Priority, Role, RunwayName, TaxiMinutes, Update,
-};
-use cdm_phase::{Gate, OpenGate, PhaseName, Workers};
-use cdm_sequence::RunwayPlan;
-use cdm_time::{Day, Minute};
-use std::alloc::Global;
+//! A day that many workers plan: that the pieces of a phase run side by side, and which pieces there
+//! are.
+use super::days::two_runways;
+use super::morning::{Line, assert_slots};
+use super::updates::{Short, batch_of};
+use crate::{DayState, Reply};
+use cdm_flight::{FlightName, Priority, Role, Update};
+use cdm_phase::{Gate, PhaseName, Workers};
+use cdm_sequence::Mark;
+use std::alloc::{AllocError, Global};
 use std::process::Abort;
 use std::sync::atomic::{AtomicBool, AtomicUsize, Ordering};
 use std::test::Fail;
@@ -68,129 +68,17 @@ impl Gate for Meeting {
     }
 }
 
-fn at(hour: u16, minute: u16) -> Result<Minute, Fail> {
-    let start = hour.checked_mul(60).ok_or("no hour")?;
-    let number = start.checked_add(minute).ok_or("no minute")?;
-    Ok(Minute::new(number).ok_or("no minute of the horizon")?)
-}
-
-fn runway(name: &str) -> Result<RunwayName, Fail> {
-    Ok(RunwayName::new(name.as_bytes()).ok_or("no runway name")?)
-}
-
-fn flight(name: &[u8]) -> Result<FlightName, Fail> {
-    Ok(FlightName::new(name).ok_or("no flight name")?)
-}
-
-/// Adds a runway that takes 2 flights in 10 minutes, 15 taxi minutes away.
-fn add_runway(airport: &mut Airport, name: &str) -> Result<(), Fail> {
-    let runway = runway(name)?;
-    let cell = CellLength::new(10).ok_or("no cell length")?;
-    let cap = Cap::new(2).ok_or("no capacity")?;
-    let minutes = TaxiMinutes::new(15).ok_or("no taxi time")?;
-    airport.add_runway(runway, cell, cap)?;
-    airport.add_taxi(Place::Default, runway, minutes)?;
-    Ok(())
-}
-
-/// A day with such a runway.
-fn one_runway(alloc: Global) -> Result<DayState, Fail> {
-    let day = Day::of_text(b"2025-03-10").map_err(|_| "no day")?;
-    let mut airport = Airport::new(alloc, day);
-    add_runway(&mut airport, "27L")?;
-    Ok(DayState::new(alloc, airport).map_err(|_| "no memory")?)
-}
-
-/// A day with two, of which the second is the first by name.
-fn two_runways(alloc: Global) -> Result<DayState, Fail> {
-    let day = Day::of_text(b"2025-03-10").map_err(|_| "no day")?;
-    let mut airport = Airport::new(alloc, day);
-    add_runway(&mut airport, "27L")?;
-    add_runway(&mut airport, "09")?;
-    Ok(DayState::new(alloc, airport).map_err(|_| "no memory")?)
-}
-
-fn new_flight(flight: FlightName) -> Result<(Role, Update), Fail> {
-    let priority = Priority::new(5).ok_or("no priority")?;
-    Ok((Role::AirportOperator, Update::Flt { flight, priority }))
-}
-
-fn on_runway(name: &str, to: &str) -> Result<(Role, Update), Fail> {
-    let flight = flight(name.as_bytes())?;
-    let runway = runway(to)?;
-    Ok((Role::AirTrafficControl, Update::Rwy { flight, runway }))
-}
-
-/// A new flight that is to leave its stand at 06:00 and to take off from this runway.
-fn at_six(name: &str, to: &str) -> Result<[(Role, Update); 3], Fail> {
-    let flight = flight(name.as_bytes())?;
-    let tobt = at(6, 0)?;
-    let known = new_flight(flight)?;
-    let assigned = on_runway(name, to)?;
-    Ok([
-        known,
-        assigned,
-        (Role::AircraftOperator, Update::Tobt { flight, tobt }),
-    ])
-}
-
-/// One of 100 flights without a target off-block time.
-fn other_flight(number: u8) -> Result<(Role, Update), Fail> {
+/// One of 100 flights of which nothing but its priority is known.
+fn other_flight(number: u8) -> Option<(Role, Update)> {
     let name = [b'F', b'0' + number / 10 % 10, b'0' + number % 10];
-    let flight = flight(&name)?;
-    new_flight(flight)
+    let flight = FlightName::new(&name)?;
+    let priority = Priority::new(5)?;
+    Some((Role::AirportOperator, Update::Flt { flight, priority }))
 }
 
-/// So many of them become known.
-fn add_others(alloc: Global, day: &mut DayState, count: u8) -> Result<(), Fail> {
-    for number in 0..count {
-        let update = other_flight(number)?;
-        day.apply(alloc, &[update])?;
-    }
-    Ok(())
-}
-
-/// A slot's flight, taxi-out time, start-up, take-off and delay.
-type Line = (FlightName, u16, Minute, Minute, Option<u16>);
-
-/// The line of a flight that is to leave its stand at 06:00.
-fn line(name: &str, tsat: Minute, ttot: Minute, delay: u16) -> Result<Line, Fail> {
-    let flight = flight(name.as_bytes())?;
-    Ok((flight, 15, tsat, ttot, Some(delay)))
-}
-
-/// The line of one that takes off at 06:15, as early as it can.
-fn in_time(name: &str) -> Result<Line, Fail> {
-    let tsat = at(6, 0)?;
-    let ttot = at(6, 15)?;
-    line(name, tsat, ttot, 0)
-}
-
-/// The plan is of this runway, and has these lines and no blocked flight.
-fn assert_runway(rt: &impl Abort, plan: &RunwayPlan, name: RunwayName, lines: &[Line]) {
-    assert_eq!(rt; plan.runway, name);
-    assert_eq!(rt; plan.slots.len(), lines.len());
-    for (slot, line) in plan.slots.as_slice().iter().zip(lines) {
-        let found = (slot.name, slot.exot, slot.tsat, slot.ttot, slot.delay);
-        assert_eq!(rt; found, *line);
-    }
-    assert!(rt; plan.blocked.is_empty());
-}
-
-/// The day's runways are 09 and 27L, and their plans have these lines.
-fn assert_runways(
-    rt: &impl Abort,
-    day: &DayState,
-    first: &[Line],
-    second: &[Line],
-) -> Result<(), Fail> {
-    let name = runway("09")?;
-    let other = runway("27L")?;
-    let plans = day.plan().runways.as_slice();
-    assert_eq!(rt; plans.len(), 2);
-    assert_runway(rt, &plans[0], name, first);
-    assert_runway(rt, &plans[1], other, second);
-    Ok(())
+/// So many of them.
+fn other_flights(alloc: Global, count: u8) -> Result<Vec<(Role, Update)>, AllocError> {
+    (0..count).filter_map(other_flight).collect(alloc)
 }
 
 /// So many workers plan the batch behind the gate. All its updates are accepted.
@@ -200,151 +88,69 @@ fn accept_all<R: Abort + Threads + Sync>(
     day: &mut DayState,
     batch: &[(Role, Update)],
     workers: usize,
-    gate: &impl Gate,
+    gate: &Meeting,
 ) -> Result<(), Fail> {
     let workers = Workers::new(workers).ok_or("no workers")?;
     let replies = day.apply_all(rt, alloc, batch, workers, gate)?;
     assert_eq!(rt; replies.len(), batch.len());
     assert!(rt; replies.iter().all(|reply| *reply == Reply::Accepted));
-    Ok(())
-}
-
-/// Two workers plan the batch, and meet in the phase.
-fn accept_meeting<R: Abort + Threads + Sync>(
-    rt: &R,
-    alloc: Global,
-    day: &mut DayState,
-    batch: &[(Role, Update)],
-    phase: PhaseName,
-) -> Result<(), Fail> {
-    let gate = Meeting::of(phase);
-    accept_all(rt, alloc, day, batch, 2, &gate)?;
     assert!(rt; !gate.missed.load(Ordering::SeqCst));
     Ok(())
 }
 
-/// A flight on each runway.
-fn two_flights() -> Result<[(Role, Update); 6], Fail> {
-    let [a, b, c] = at_six("AB1", "27L")?;
-    let [d, e, f] = at_six("AB2", "09")?;
-    Ok([a, b, c, d, e, f])
-}
+const ON_TWO_RUNWAYS: [Short; 6] = [
+    ("FLT", "AB1", "27L", 5, None),
+    ("RWY", "AB1", "27L", 0, None),
+    ("TOBT", "AB1", "27L", 360, None),
+    ("FLT", "AB2", "09", 5, None),
+    ("RWY", "AB2", "09", 0, None),
+    ("TOBT", "AB2", "09", 360, None),
+];
 
-/// Their lines.
-fn two_lines() -> Result<[Line; 2], Fail> {
-    let first = in_time("AB1")?;
-    let second = in_time("AB2")?;
-    Ok([first, second])
-}
+const APART: [Line; 2] = [
+    ("09", "AB2", 15, 360, 375, Mark::Planned, Some(0)),
+    ("27L", "AB1", 15, 360, 375, Mark::Planned, Some(0)),
+];
+
+const TOGETHER: [Line; 2] = [
+    ("27L", "AB1", 15, 360, 375, Mark::Planned, Some(0)),
+    ("27L", "AB2", 15, 360, 375, Mark::Planned, Some(0)),
+];
 
 /// Two workers, who meet in the phase, plan a flight on each runway. Then one flight moves to the
-/// other's runway.
-fn assert_move<R: Abort + Threads + Sync>(
-    rt: &R,
-    alloc: Global,
-    day: &mut DayState,
-    phase: PhaseName,
-) -> Result<(), Fail> {
-    let batch = two_flights()?;
-    let change = [on_runway("AB2", "27L")?];
-    let lines = two_lines()?;
-    let (first, second) = lines.as_slice().split_at(1);
-    accept_meeting(rt, alloc, day, &batch, phase)?;
-    assert_runways(rt, day, second, first)?;
-    accept_meeting(rt, alloc, day, &change, phase)?;
-    assert_runways(rt, day, &[], lines.as_slice())
-}
-
+/// other's runway. With 63 flights more there are two pieces of flights.
 #[test]
-fn two_runways_are_planned_side_by_side(rt: HostRuntime) -> Result<(), Fail> {
-    let alloc = rt.alloc();
-    let mut day = two_runways(alloc)?;
-    assert_move(&rt, alloc, &mut day, PhaseName::Runways)
-}
-
-/// With 63 flights more there are two pieces of flights.
-#[test]
-fn targets_are_found_side_by_side(rt: HostRuntime) -> Result<(), Fail> {
-    let alloc = rt.alloc();
-    let mut day = two_runways(alloc)?;
-    add_others(alloc, &mut day, 63)?;
-    assert_move(&rt, alloc, &mut day, PhaseName::Targets)
-}
-
-/// One flight more, and so many pieces of flights and two of runways pass the gate, each once.
-fn assert_pieces<R: Abort + Threads + Sync>(
-    rt: &R,
-    alloc: Global,
-    day: &mut DayState,
-    workers: usize,
-    pieces: [usize; 2],
-) -> Result<(), Fail> {
-    let update = other_flight(99)?;
-    let gate = Meeting::of(PhaseName::Desks);
-    accept_all(rt, alloc, day, &[update], workers, &gate)?;
-    assert_eq!(rt; gate.count(PhaseName::Targets, 0), pieces[0]);
-    assert_eq!(rt; gate.count(PhaseName::Targets, 1), pieces[1]);
-    assert_eq!(rt; gate.count(PhaseName::Runways, 0), 1);
-    assert_eq!(rt; gate.count(PhaseName::Runways, 1), 1);
-    assert_eq!(rt; gate.others.load(Ordering::SeqCst), 0);
-    Ok(())
-}
-
-/// 64 flights on their stands are one piece, and 65 are two.
-#[test]
-fn each_piece_passes_once(rt: HostRuntime) -> Result<(), Fail> {
-    let alloc = rt.alloc();
-    for (others, pieces) in [(63, [1, 0]), (64, [1, 1])] {
-        for workers in [1, 2, 7, 64] {
-            let mut day = two_runways(alloc)?;
-            add_others(alloc, &mut day, others)?;
-            assert_pieces(&rt, alloc, &mut day, workers, pieces)?;
+fn pieces_run_side_by_side(rt: HostRuntime) -> Result<(), Fail> {
+    let change = [("RWY", "AB2", "27L", 0, None)];
+    for (phase, others) in [(PhaseName::Runways, 0), (PhaseName::Targets, 63)] {
+        let mut day = two_runways(rt.alloc())?;
+        let flights = other_flights(rt.alloc(), others)?;
+        day.apply(rt.alloc(), &flights)?;
+        for (updates, lines) in [(ON_TWO_RUNWAYS.as_slice(), APART), (&change, TOGETHER)] {
+            let batch = batch_of(rt.alloc(), updates)?;
+            let gate = Meeting::of(phase);
+            accept_all(&rt, rt.alloc(), &mut day, &batch, 2, &gate)?;
+            assert_slots(&rt, &day, &lines);
         }
     }
     Ok(())
 }
 
-/// Three flights of one runway.
-fn three_flights() -> Result<[(Role, Update); 9], Fail> {
-    let [a, b, c] = at_six("AB1", "27L")?;
-    let [d, e, f] = at_six("AB2", "27L")?;
-    let [g, h, i] = at_six("AB3", "27L")?;
-    Ok([a, b, c, d, e, f, g, h, i])
-}
-
-/// Their lines: the cell from 06:10 takes two of them, and their names break the tie.
-fn three_lines() -> Result<[Line; 3], Fail> {
-    let [first, second] = two_lines()?;
-    let tsat = at(6, 5)?;
-    let ttot = at(6, 20)?;
-    let third = line("AB3", tsat, ttot, 5)?;
-    Ok([first, second, third])
-}
-
-/// So many workers plan three flights whose cell takes two.
-fn assert_full_cell<R: Abort + Threads + Sync>(
-    rt: &R,
-    alloc: Global,
-    day: &mut DayState,
-    workers: usize,
-) -> Result<(), Fail> {
-    let name = runway("27L")?;
-    let batch = three_flights()?;
-    let lines = three_lines()?;
-    accept_all(rt, alloc, day, &batch, workers, &OpenGate)?;
-    let plans = day.plan().runways.as_slice();
-    assert_eq!(rt; plans.len(), 1);
-    assert_runway(rt, &plans[0], name, &lines);
-    assert!(rt; day.plan().blocked.is_empty());
-    Ok(())
-}
-
+/// 64 flights on their stands are one piece, and 65 are two. Each runway is one.
 #[test]
-fn any_number_of_workers_makes_one_plan(rt: HostRuntime) -> Result<(), Fail> {
-    let alloc = rt.alloc();
-    for workers in [1, 2, 7, 64] {
-        let mut day = one_runway(alloc)?;
-        assert_full_cell(&rt, alloc, &mut day, workers)?;
+fn each_piece_passes_once(rt: HostRuntime) -> Result<(), Fail> {
+    for (flights, second) in [(64, 0), (65, 1)] {
+        let batch = other_flights(rt.alloc(), flights)?;
+        for workers in [1, 2, 7, 64] {
+            let mut day = two_runways(rt.alloc())?;
+            let gate = Meeting::of(PhaseName::Desks);
+            accept_all(&rt, rt.alloc(), &mut day, &batch, workers, &gate)?;
+            assert_eq!(rt; gate.count(PhaseName::Targets, 0), 1);
+            assert_eq!(rt; gate.count(PhaseName::Targets, 1), second);
+            assert_eq!(rt; gate.count(PhaseName::Runways, 0), 1);
+            assert_eq!(rt; gate.count(PhaseName::Runways, 1), 1);
+            assert_eq!(rt; gate.others.load(Ordering::SeqCst), 0);
+        }
     }
     Ok(())
 }

@@ -1,0 +1,163 @@
+//! A worked morning: what each update is answered, and the journal and the whole plan after it.
+use super::days::two_runways;
+use super::updates::{Short, batch_of};
+use crate::{DayState, Reply};
+use RefusalWord::{Authority, NotReady, OffBlock, Order, Unknown};
+use cdm_flight::{RefusalWord, Role, Update};
+use cdm_phase::{OpenGate, Workers};
+use cdm_sequence::{Mark, Rule, RunwayPlan};
+use std::alloc::{AllocError, Global};
+use std::process::Abort;
+use std::test::Fail;
+use std::thread::Threads;
+
+/// A slot: its runway, flight, EXOT, TSAT or AOBT, TTOT, mark and delay.
+pub type Line = (&'static str, &'static str, u16, u16, u16, Mark, Option<u16>);
+
+// A batch, and the clock and the slots after it. CD3, which has no TOBT, stays blocked.
+struct Step {
+    updates: &'static [Short],
+    now: u16,
+    lines: &'static [Line],
+}
+
+// A flight on each runway, and what is refused.
+const FIRST: Step = Step {
+    updates: &[
+        ("FLT", "AB1", "27L", 5, None),
+        ("RWY", "AB1", "27L", 0, None),
+        ("TOBT", "AB1", "27L", 360, None),
+        ("FLT", "AB2", "09", 5, None),
+        ("RWY", "AB2", "09", 0, None),
+        ("CTOT", "AB1", "27L", 400, Some(Authority)),
+        ("TOBT", "AB2", "09", 360, None),
+        ("OFF", "AB2", "09", 2865, Some(NotReady)),
+        ("TOBT", "XY9", "09", 360, Some(Unknown)),
+        ("FLT", "CD3", "09", 5, None),
+    ],
+    now: 0,
+    lines: &[
+        ("09", "AB2", 15, 360, 375, Mark::Planned, Some(0)),
+        ("27L", "AB1", 15, 360, 375, Mark::Planned, Some(0)),
+    ],
+};
+
+// AB1 leaves its stand, and AB2 moves to its runway, where AB1 has the cell.
+const SECOND: Step = Step {
+    updates: &[
+        ("RATE", "AB1", "27L", 370, None),
+        ("CLOCK", "AB1", "27L", 300, None),
+        ("CLOCK", "AB1", "27L", 299, Some(Order)),
+        ("OFF", "AB1", "27L", 360, None),
+        ("TOBT", "AB1", "27L", 361, Some(OffBlock)),
+        ("RWY", "AB2", "27L", 0, None),
+    ],
+    now: 300,
+    lines: &[
+        ("27L", "AB1", 15, 360, 375, Mark::OffBlock, None),
+        ("27L", "AB2", 15, 365, 380, Mark::Planned, Some(5)),
+    ],
+};
+
+// The first lines are those of the runway. Gives the others.
+fn assert_runway<'a>(rt: &impl Abort, plan: &RunwayPlan, lines: &'a [Line]) -> &'a [Line] {
+    let count = plan.slots.len();
+    assert!(rt; count <= lines.len());
+    let (first, others) = lines.split_at(count);
+    for (slot, line) in plan.slots.as_slice().iter().zip(first) {
+        let (runway, name, exot, tsat, ttot, mark, delay) = *line;
+        assert_eq!(rt; plan.runway.text(), runway);
+        assert_eq!(rt; slot.name.text(), name);
+        let found = (
+            slot.exot,
+            slot.tsat.get(),
+            slot.ttot.get(),
+            slot.mark,
+            slot.delay,
+        );
+        assert_eq!(rt; found, (exot, tsat, ttot, mark, delay), "{name}");
+    }
+    others
+}
+
+/// The day has two runways, and exactly these slots, runway after runway.
+pub fn assert_slots(rt: &impl Abort, day: &DayState, lines: &[Line]) {
+    let plans = day.plan().runways.as_slice();
+    assert_eq!(rt; plans.len(), 2);
+    let mut left = lines;
+    for plan in plans {
+        left = assert_runway(rt, plan, left);
+    }
+    assert!(rt; left.is_empty());
+}
+
+fn assert_plan(rt: &impl Abort, day: &DayState, step: &Step) {
+    assert_slots(rt, day, step.lines);
+    assert_eq!(rt; day.plan().now.get(), step.now);
+    let blocked = day.plan().blocked.as_slice();
+    assert_eq!(rt; blocked.len(), 1);
+    assert_eq!(rt; blocked[0].name.text(), "CD3");
+    assert_eq!(rt; blocked[0].rule, Rule::Tobt);
+}
+
+// So many workers plan the batch, or the caller alone where there are none.
+fn apply_by<R: Abort + Threads + Sync>(
+    rt: &R,
+    alloc: Global,
+    day: &mut DayState,
+    batch: &[(Role, Update)],
+    workers: usize,
+) -> Result<Vec<Reply>, AllocError> {
+    match Workers::new(workers) {
+        Some(workers) => day.apply_all(rt, alloc, batch, workers, &OpenGate),
+        None => day.apply(alloc, batch),
+    }
+}
+
+fn replies_of(alloc: Global, updates: &[Short]) -> Result<Vec<Reply>, AllocError> {
+    let mut replies = Vec::new(alloc);
+    for (_, _, _, _, refused) in updates {
+        replies.push(match refused {
+            Some(word) => Reply::Refused(*word),
+            None => Reply::Accepted,
+        })?;
+    }
+    Ok(replies)
+}
+
+fn assert_step<R: Abort + Threads + Sync>(
+    rt: &R,
+    alloc: Global,
+    day: &mut DayState,
+    step: &Step,
+    workers: usize,
+) -> Result<(), Fail> {
+    let batch = batch_of(alloc, step.updates)?;
+    let wanted = replies_of(alloc, step.updates)?;
+    let mut journal = day.journal().to_vec(alloc)?;
+    for ((_, update), reply) in batch.iter().zip(&wanted) {
+        if *reply == Reply::Accepted {
+            journal.push(*update)?;
+        }
+    }
+    let replies = apply_by(rt, alloc, day, &batch, workers)?;
+    assert_eq!(rt; replies.as_slice(), wanted.as_slice(), "by {workers}");
+    assert_eq!(rt; day.journal(), journal.as_slice(), "by {workers}");
+    assert_plan(rt, day, step);
+    Ok(())
+}
+
+/// The caller alone and any number of workers make one plan. A copy stays as it was while the day goes
+/// on.
+#[test]
+fn morning_of_two_runways(rt: HostRuntime) -> Result<(), Fail> {
+    for workers in [0, 1, 2, 7, 64] {
+        let mut day = two_runways(rt.alloc())?;
+        assert_step(&rt, rt.alloc(), &mut day, &FIRST, workers)?;
+        let copy = day.copy(rt.alloc())?;
+        assert_step(&rt, rt.alloc(), &mut day, &SECOND, workers)?;
+        assert_eq!(rt; copy.journal().len(), 7);
+        assert_plan(&rt, &copy, &FIRST);
+    }
+    Ok(())
+}
