@@ -1,2 +1,4 @@
 pub mod CellLemmas
+pub mod IntervalLemmas
+pub mod RangeLemmas
 pub mod RulesLemmas

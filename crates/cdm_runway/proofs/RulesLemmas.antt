@@ -1,12 +1,13 @@
 -- What the rules of a runway say of its minutes.
-use Rattle.std.proofs.Common.{◌≡◌, ℕ, ◌<◌, ◌≤◌, ◌/◌, ◌%◌, Bool, true, false, IsTrue, List, length, get_or, arith, ◌∙◌}
+use Rattle.std.proofs.Common.{◌≡◌, ℕ, ◌<◌, ◌≤◌, ◌/◌, ◌%◌, Bool, true, false, IsTrue, List, length, arith, ◌∙◌}
 use Rattle.std.specs.Prelude.{if◌then◌else◌, not, ◌||◌, ◌==◌, nat_le}
 use Rattle.std.proofs.lemmas.Bool.Decides.{nat_tests}
-use Rattle.std.proofs.lemmas.List.{get_or-replicate, places}
+use Rattle.std.proofs.lemmas.List.{get_or-replicate}
 use Rattle.cdm_flight.specs.Cells.{is_cell_length}
 use Rattle.cdm_flight.specs.Journal.{window_has}
 use Rattle.cdm_runway.specs.Rules.{RunwayRules, AreRules, is_rate_window, plain_rules, with_range, with_rate, with_closed}
 use Rattle.cdm_runway.specs.Room.{cap_at, is_closed}
+use Rattle.cdm_runway.proofs.RangeLemmas.{get_or-with_range, length-with_range}
 use Rattle.cdm_runway.proofs.CellLemmas.{cell_length-divides, cell_below, cell_from, cell_to, cells_in_order}
 
 -- a new runway has its one capacity at each minute
@@ -19,11 +20,6 @@ pub is_closed-plain_rules : (name : List ℕ) (cell cap m : ℕ) → m < 2880 �
 unfolding plain_rules
 is_closed-plain_rules name cell cap m below = get_or-replicate 2880 m false false below
 
--- what a list has at a place after a range of it was given one value
-get_or-with_range : {X : Type 0} (xs : List X) (from to : ℕ) (x d : X) (k : ℕ) → from ≤ to → to ≤ length xs
-    → get_or (with_range xs from to x) k d ≡ (if window_has from to k then x else get_or xs k d)
-get_or-with_range xs from to x d k order within = grind (arith, places, nat_tests, get_or-replicate)
-
 -- a rate's window has a minute and begins and ends with a cell
 pub rate_window-says : (cell from to : ℕ) → is_rate_window cell from to ≡ true → (from < to) × (from % cell ≡ 0) × (to % cell ≡ 0)
 rate_window-says cell from to h = grind (arith, nat_tests)
@@ -32,15 +28,33 @@ rate_window-says cell from to h = grind (arith, nat_tests)
 pub rate_window-in_order : (cell from to : ℕ) → not (is_rate_window cell from to) ≡ (nat_le to from || not (from % cell == 0) || not (to % cell == 0))
 rate_window-in_order cell from to = grind (arith, nat_tests)
 
+-- its cells are cells of the horizon
+pub cells_of_rate_window : (cell : ℕ) (caps : List ℕ) (closed : List Bool) (from to : ℕ) → AreRules cell caps closed → is_rate_window cell from to ≡ true → to ≤ 2880
+    → (from / cell ≤ to / cell) × (to / cell ≤ length caps)
+cells_of_rate_window cell caps closed from to rules window within =
+    let parts = cell_length-divides cell rules.cell_length in
+    let says = rate_window-says cell from to window in
+    (cells_in_order cell parts.0 from to (omega (arith, says.0)), omega (arith, cells_in_order cell parts.0 to 2880 within, rules.cells))
+
+-- after a RATE there are as many cells and minutes as before
+pub are_rules-with_rate : (cell : ℕ) (caps : List ℕ) (closed : List Bool) (from to cap : ℕ) → AreRules cell caps closed → is_rate_window cell from to ≡ true → to ≤ 2880
+    → AreRules cell (with_range caps (from / cell) (to / cell) cap) closed
+are_rules-with_rate cell caps closed from to cap rules window within =
+    let cells = cells_of_rate_window cell caps closed from to rules window within in
+    record {
+      cell_length = rules.cell_length;
+      cells = length-with_range caps (from / cell) (to / cell) cap cells.0 cells.1 ∙ rules.cells;
+      minutes = rules.minutes;
+    }
+
 -- after a RATE the minutes of its window have its capacity, and the others theirs
 pub cap_at-with_rate : (r : RunwayRules) (from to cap m : ℕ) → AreRules r.cell r.caps r.closed → is_rate_window r.cell from to ≡ true → to ≤ 2880
     → cap_at (with_rate r from to cap) m ≡ (if window_has from to m then cap else cap_at r m)
 cap_at-with_rate r from to cap m rules window within =
     let parts = cell_length-divides r.cell rules.cell_length in
     let says = rate_window-says r.cell from to window in
-    let order : from ≤ to = omega (arith, says.0) in
-    let end : to / r.cell ≤ length r.caps = omega (arith, cells_in_order r.cell parts.0 to 2880 within, rules.cells) in
-    get_or-with_range r.caps (from / r.cell) (to / r.cell) cap 0 (m / r.cell) (cells_in_order r.cell parts.0 from to order) end
+    let cells = cells_of_rate_window r.cell r.caps r.closed from to rules window within in
+    get_or-with_range r.caps (from / r.cell) (to / r.cell) cap 0 (m / r.cell) cells.0 cells.1
     ∙ rw (cell_from r.cell parts.0 from m says.1, cell_to r.cell parts.0 to m says.2)
 
 -- after a CLOSE or OPEN the minutes of its window are closed or open, and the others as they were

@@ -4,6 +4,7 @@
 //! counted from minute 0 of the horizon, and each cell takes a number of flights.
 #![tactic(auto)]
 
+mod intervals;
 mod load;
 mod runway;
 

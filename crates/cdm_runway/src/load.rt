@@ -1,5 +1,5 @@
 //! The minutes that are taken on a runway.
-ghost use Rattle.std.specs.Prelude.{◌≡◌, ℕ, ◌<◌, ◌++◌, [], ◌∷◌, length, slice_index};
+ghost use Rattle.std.specs.Prelude.{◌≡◌, ℕ, ◌<◌, ◌≤◌, ◌/◌, ◌++◌, [], ◌∷◌, length, slice_index};
 
 use crate::Runway;
 use cdm_flight::CellLength;
@@ -48,6 +48,16 @@ fn minute_at(number: u16) -> Minute
     ensures { result ≡ number }
 {
     Minute::new(number).unwrap()
+}
+
+// The first minute after the minute's cell.
+fn next_cell(minute: Minute, cell: CellLength) -> u16
+    ensures after { minute < result }
+    ensures same { (k : ℕ) → minute ≤ k → k < result → k / cell ≡ minute / cell }
+{
+    let minute = minute.get();
+    let cell = cell.get();
+    minute + cell - minute % cell
 }
 
 // No flight in any cell.
@@ -99,13 +109,19 @@ impl RunwayLoad {
         requires { self.now.cell ≡ runway.now.cell }
         ensures { Gives runway.now self.now.taken window.from window.to result }
     {
+        let end = window.to().get();
+        let mut number = window.from().get();
         let mut some_open = false;
-        for number in window.from().get()..window.to().get() {
+        while number < end {
             let minute = minute_at(number);
-            if !runway.closed(minute) {
-                some_open = true;
-                if self.held(minute) < runway.cap_at(minute).get() {
-                    return Ok(minute);
+            match runway.closed_until(minute) {
+                Some(opening) => number = opening,
+                None => {
+                    some_open = true;
+                    if self.held(minute) < runway.cap_at(minute).get() {
+                        return Ok(minute);
+                    }
+                    number = next_cell(minute, self.cell);
                 }
             }
         }

@@ -1,7 +1,8 @@
 //! Rates and closures of a runway.
-ghost use Rattle.std.specs.Prelude.{◌≡◌, ℕ, true, false, nat_lt, Ok, Err, IfOk, OnOk, OnErr, if◌then◌else◌};
+ghost use Rattle.std.specs.Prelude.{◌≡◌, ℕ, ◌<◌, ◌≤◌, ◌↔◌, true, false, Err, IfOk, OnOk, OnErr, MatchOption, if◌then◌else◌};
 ghost use Rattle.cdm_flight.specs.Journal.{window_has};
 
+use crate::intervals::Intervals;
 use cdm_flight::{Cap, CellLength, RunwayName};
 use cdm_time::{Bound, Minute};
 use std::alloc::{AllocError, Global};
@@ -12,8 +13,18 @@ use std::marker::Model;
 pub enum RunwayFault {
     /// The window has no minute, or cuts a cell.
     Order = 1,
-    /// There was no memory. Today's tables need none for a change, so it isn't answered.
+    /// There was no memory for the change.
     Memory = 2,
+}
+
+impl From<AllocError> for RunwayFault {
+    ghost use Rattle.cdm_runway.specs.declared.runway.RunwayFault.{RunwayFault};
+
+    ghost from_gives = { λ _ fault. fault ≡ RunwayFault.Memory };
+
+    fn from(_: AllocError) -> RunwayFault {
+        RunwayFault::Memory
+    }
 }
 
 /// A runway: its name, the length of its cells, how many flights each cell takes, and the minutes
@@ -22,8 +33,8 @@ pub enum RunwayFault {
 pub struct Runway {
     name: RunwayName,
     cell: CellLength,
-    caps: Vec<Cap>,
-    closed: Vec<bool>,
+    caps: Intervals<Cap>,
+    closed: Intervals<bool>,
 }
 
 impl Model for Runway {
@@ -34,16 +45,16 @@ impl Model for Runway {
     ghost view = { λ r. record {
       name = r.name;
       cell = r.cell;
-      caps = r.caps.items;
-      closed = r.closed.items;
+      caps = r.caps;
+      closed = r.closed;
     } };
 
-    ghost invariant = { λ r. AreRules r.cell r.caps.items r.closed.items };
+    ghost invariant = { λ r. AreRules r.cell r.caps r.closed };
 }
 
 impl Runway {
     ghost use Rattle.cdm_runway.specs.Rules.{plain_rules, is_rate_window, with_rate, with_closed};
-    ghost use Rattle.cdm_runway.specs.Room.{cap_at, is_closed};
+    ghost use Rattle.cdm_runway.specs.Room.{cap_at, is_closed, IsOpen, AllClosed};
 
     /// A runway with one capacity everywhere and no closure.
     pub fn new(
@@ -55,13 +66,11 @@ impl Runway {
         ensures { IfOk result (λ r. r ≡ plain_rules name cell cap) }
     {
         let minutes = Bound::END.get();
-        let caps = vec![in alloc; cap; (minutes / cell.get()) as usize]?;
-        let closed = vec![in alloc; false; minutes as usize]?;
         Ok(Runway {
             name,
             cell,
-            caps,
-            closed,
+            caps: Intervals::new(alloc, minutes / cell.get(), cap),
+            closed: Intervals::new(alloc, minutes, false),
         })
     }
 
@@ -84,14 +93,26 @@ impl Runway {
     pub fn cap_at(&self, minute: Minute) -> Cap
         ensures { result ≡ cap_at self.now minute }
     {
-        self.caps[(minute.get() / self.cell.get()) as usize]
+        self.caps.at(minute.get() / self.cell.get()).value
     }
 
     /// Whether the runway is closed at the minute.
     pub fn closed(&self, minute: Minute) -> bool
         ensures { result ≡ is_closed self.now minute }
     {
-        self.closed[minute.get() as usize]
+        self.closed.at(minute.get()).value
+    }
+
+    // The end of the closure that the minute is in, if the runway is closed at it.
+    pub(crate) fn closed_until(&self, minute: Minute) -> Option<u16>
+        ensures { MatchOption result (IsOpen self.now minute) (λ end. (minute < end) × AllClosed self.now minute end) }
+    {
+        let closure = self.closed.at(minute.get());
+        if closure.value {
+            Some(closure.to)
+        } else {
+            None
+        }
     }
 
     /// Whether the window has a minute and cuts no cell, so that a rate may be set for it.
@@ -104,10 +125,9 @@ impl Runway {
 
     /// Sets how many flights each cell of the window takes, from a minute up to a bound.
     ///
-    /// `Order` where the window has no minute or cuts a cell.
+    /// `Order` where the window has no minute or cuts a cell. After an error nothing has changed.
     pub fn rate(&mut self, from: Minute, to: Bound, cap: Cap) -> Result<(), RunwayFault>
-        ensures answer { result ≡
-            (if is_rate_window self.old.cell from to then Ok tt else Err RunwayFault.Order) }
+        ensures order { (result ≡ Err RunwayFault.Order) ↔ (is_rate_window self.old.cell from to ≡ false) }
         ensures ok { OnOk result (self.new ≡ with_rate self.old from to cap) }
         ensures err { OnErr result (self.new ≡ self.old) }
         ensures minutes { OnOk result ((m : ℕ) →
@@ -117,15 +137,13 @@ impl Runway {
             return Err(RunwayFault::Order);
         }
         let cell = self.cell.get();
-        let first = (from.get() / cell) as usize;
-        let end = (to.get() / cell) as usize;
-        self.caps[first..end].fill(cap);
+        self.caps.set(from.get() / cell, to.get() / cell, cap)?;
         Ok(())
     }
 
     // Closes or opens the window.
     fn set_closed(&mut self, from: Minute, to: Bound, closed: bool) -> Result<(), RunwayFault>
-        ensures answer { result ≡ (if nat_lt from to then Ok tt else Err RunwayFault.Order) }
+        ensures order { (result ≡ Err RunwayFault.Order) ↔ (to ≤ from) }
         ensures ok { OnOk result (self.new ≡ with_closed self.old from to closed) }
         ensures err { OnErr result (self.new ≡ self.old) }
         ensures minutes { OnOk result ((m : ℕ) →
@@ -134,15 +152,15 @@ impl Runway {
         if from.get() >= to.get() {
             return Err(RunwayFault::Order);
         }
-        self.closed[from.get() as usize..to.get() as usize].fill(closed);
+        self.closed.set(from.get(), to.get(), closed)?;
         Ok(())
     }
 
     /// Closes the runway at the minutes of the window, from a minute up to a bound.
     ///
-    /// `Order` where the window has no minute.
+    /// `Order` where the window has no minute. After an error nothing has changed.
     pub fn close(&mut self, from: Minute, to: Bound) -> Result<(), RunwayFault>
-        ensures answer { result ≡ (if nat_lt from to then Ok tt else Err RunwayFault.Order) }
+        ensures order { (result ≡ Err RunwayFault.Order) ↔ (to ≤ from) }
         ensures ok { OnOk result (self.new ≡ with_closed self.old from to true) }
         ensures err { OnErr result (self.new ≡ self.old) }
         ensures minutes { OnOk result ((m : ℕ) →
@@ -153,9 +171,9 @@ impl Runway {
 
     /// Opens the runway again at the minutes of the window, from a minute up to a bound.
     ///
-    /// `Order` where the window has no minute.
+    /// `Order` where the window has no minute. After an error nothing has changed.
     pub fn reopen(&mut self, from: Minute, to: Bound) -> Result<(), RunwayFault>
-        ensures answer { result ≡ (if nat_lt from to then Ok tt else Err RunwayFault.Order) }
+        ensures order { (result ≡ Err RunwayFault.Order) ↔ (to ≤ from) }
         ensures ok { OnOk result (self.new ≡ with_closed self.old from to false) }
         ensures err { OnErr result (self.new ≡ self.old) }
         ensures minutes { OnOk result ((m : ℕ) →
@@ -168,8 +186,8 @@ impl Runway {
     pub fn copy(&self, alloc: Global) -> Result<Runway, AllocError>
         ensures { IfOk result (λ r. r ≡ self.now) }
     {
-        let caps = Vec::from_slice(alloc, &self.caps)?;
-        let closed = Vec::from_slice(alloc, &self.closed)?;
+        let caps = self.caps.copy(alloc)?;
+        let closed = self.closed.copy(alloc)?;
         Ok(Runway {
             name: self.name,
             cell: self.cell,

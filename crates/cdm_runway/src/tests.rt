@@ -1,3 +1,5 @@
+ghost use Rattle.std.specs.Prelude.{◌<◌};
+
 use crate::{Blocked, Runway, RunwayFault, RunwayLoad};
 use cdm_flight::{Cap, CellLength, RunwayName};
 use cdm_time::{Bound, Minute, Window};
@@ -39,13 +41,13 @@ fn a_full_cell_and_a_closed_one(rt: HostRuntime) -> Result<(), Fail> {
     runway.close(minute(370)?, bound(380)?)?;
     assert!(rt; load.earliest(&runway, window(375, 380)?) == Err(Blocked::Closure));
     assert!(rt; load.earliest(&runway, window(375, 390)?) == Ok(minute(380)?));
+    assert!(rt; runway.rate(minute(365)?, bound(380)?, cap(2)?) == Err(RunwayFault::Order));
     Ok(())
 }
 
 #[test]
 fn the_last_rate_wins(rt: HostRuntime) -> Result<(), Fail> {
     let mut runway = two_in_ten(rt.alloc())?;
-    assert!(rt; runway.rate(minute(365)?, bound(380)?, cap(2)?) == Err(RunwayFault::Order));
     assert!(rt; runway.rate(minute(370)?, bound(385)?, cap(2)?) == Err(RunwayFault::Order));
     assert!(rt; runway.rate(minute(370)?, bound(370)?, cap(2)?) == Err(RunwayFault::Order));
     runway.rate(minute(360)?, bound(390)?, cap(0)?)?;
@@ -88,18 +90,126 @@ fn the_last_closure_or_opening_wins(rt: HostRuntime) -> Result<(), Fail> {
     Ok(())
 }
 
-#[test]
-fn a_copy_answers_alike(rt: HostRuntime) -> Result<(), Fail> {
-    let mut runway = two_in_ten(rt.alloc())?;
-    runway.rate(minute(370)?, bound(380)?, cap(7)?)?;
-    runway.close(minute(365)?, bound(375)?)?;
-    let copy = runway.copy(rt.alloc())?;
-    assert!(rt; copy.name() == runway.name());
-    assert!(rt; copy.cell() == runway.cell());
+// A fixed list of numbers, by a linear congruential generator.
+#[derive(Drop)]
+struct Numbers {
+    state: u32,
+}
+
+impl Numbers {
+    fn below(&mut self, limit: u16) -> u16
+        requires { 0 < limit }
+        ensures { result < limit }
+    {
+        self.state = self
+            .state
+            .wrapping_mul(1_664_525)
+            .wrapping_add(1_013_904_223);
+        (self.state / 65_536 % u32::from(limit)) as u16
+    }
+}
+
+// What a runway allows, minute by minute, and how many flights hold the cell of each minute.
+#[derive(Drop)]
+struct Tables {
+    caps: [u16; 2880],
+    closed: [bool; 2880],
+    held: [u16; 2880],
+}
+
+fn fill<T: Copy>(table: &mut [T], from: u16, to: u16, value: T) {
+    for place in from..to {
+        if let Some(entry) = table.get_mut(place as usize) {
+            *entry = value;
+        }
+    }
+}
+
+impl Tables {
+    fn earliest(&self, window: Window) -> Result<Minute, Blocked> {
+        let mut some_open = false;
+        for number in window.from().get()..window.to().get() {
+            let place = number as usize;
+            if !self.closed[place] {
+                some_open = true;
+                if self.held[place] < self.caps[place]
+                    && let Some(minute) = Minute::new(number)
+                {
+                    return Ok(minute);
+                }
+            }
+        }
+        if some_open {
+            Err(Blocked::Rate)
+        } else {
+            Err(Blocked::Closure)
+        }
+    }
+}
+
+// Makes the same change of both: a rate of 0 to 3 flights, a closure or an opening.
+fn change(runway: &mut Runway, tables: &mut Tables, numbers: &mut Numbers) -> Result<(), Fail> {
+    let cells = 1 + numbers.below(30);
+    let from = 10 * numbers.below(288 - cells);
+    let to = from + 10 * cells;
+    let (early, late) = (from + numbers.below(5), to - numbers.below(5));
+    match numbers.below(4) {
+        0 => {
+            let number = numbers.below(4);
+            runway.rate(minute(from)?, bound(to)?, cap(number)?)?;
+            fill(&mut tables.caps, from, to, number);
+        }
+        1 => {
+            runway.reopen(minute(early)?, bound(late)?)?;
+            fill(&mut tables.closed, early, late, false);
+        }
+        _ => {
+            runway.close(minute(early)?, bound(late)?)?;
+            fill(&mut tables.closed, early, late, true);
+        }
+    }
+    Ok(())
+}
+
+// Whether the runway, with two flights at minute 375, answers as the tables do.
+fn agree(runway: &Runway, tables: &Tables) -> Result<bool, Fail> {
+    let mut load = RunwayLoad::empty(runway);
+    load.take(runway, minute(375)?);
+    load.take(runway, minute(375)?);
     for number in 0..2880 {
         let minute = minute(number)?;
-        assert!(rt; copy.cap_at(minute) == runway.cap_at(minute));
-        assert!(rt; copy.closed(minute) == runway.closed(minute));
+        let place = number as usize;
+        if runway.cap_at(minute).get() != tables.caps[place]
+            || runway.closed(minute) != tables.closed[place]
+        {
+            return Ok(false);
+        }
+        if number % 30 == 5 {
+            let window = window(number, (number + 70).min(2880))?;
+            if load.earliest(runway, window) != tables.earliest(window) {
+                return Ok(false);
+            }
+        }
     }
+    Ok(true)
+}
+
+#[test]
+fn intervals_agree_with_tables(rt: HostRuntime) -> Result<(), Fail> {
+    let mut runway = two_in_ten(rt.alloc())?;
+    let mut tables = Tables {
+        caps: [2; 2880],
+        closed: [false; 2880],
+        held: [0; 2880],
+    };
+    fill(&mut tables.held, 370, 380, 2);
+    let mut numbers = Numbers { state: 1 };
+    for number in 0..500 {
+        change(&mut runway, &mut tables, &mut numbers)?;
+        assert!(rt; agree(&runway, &tables)?, "after change {number}");
+    }
+    let copy = runway.copy(rt.alloc())?;
+    assert!(rt; copy.name() == runway.name() && copy.cell() == runway.cell());
+    assert!(rt; agree(&copy, &tables)?);
     Ok(())
 }

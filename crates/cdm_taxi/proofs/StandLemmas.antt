@@ -1,23 +1,25 @@
 -- Which stands have rows, and how many.
-use Rattle.std.proofs.Common.{◌≡◌, ℕ, ◌+◌, Bool, true, false, not, ◌||◌, List, [], ◌∷◌, length, map, refl, sym, ap, ◌∙◌, arith}
+use Rattle.std.proofs.Common.{◌≡◌, ℕ, ◌+◌, Bool, true, false, cond, not, ◌||◌, List, [], ◌∷◌, length, map, refl, sym, ap, ◌∙◌, arith}
 use Rattle.std.specs.Prelude.{Option, None, Some, if◌then◌else◌}
 use Rattle.std.specs.declared.cmp.Ordering.{Ordering}
 use Rattle.std.specs.declared.cmp.Ordering.TheVariants.{Less, Equal, Greater}
 use Rattle.std.specs.Cmp.{IsEquivalence}
-use Rattle.std.specs.Cmp.Lexicographic.{nat_list_eq_equiv}
+use Rattle.std.specs.Ordering.{is_eq, eq_by_cmp}
+use Rattle.std.specs.Cmp.Lexicographic.{nat_list_eq_equiv, texts_ties}
 use Rattle.std.specs.FinMap as map
-use Rattle.std.specs.FinMap.{IsAntisymmetric, keys, entries-insert}
+use Rattle.std.specs.FinMap.{IsAntisymmetric, keys, entries-insert, get-insert, same_map}
 use Rattle.std.specs.FinMap.Entries.{put, by_order}
-use Rattle.std.specs.List.{list_any, filter_map, cons_option, AllByRecursion, IsDistinct}
+use Rattle.std.specs.List.{list_any, filter_map, cons_option, AllByRecursion, IsDistinct, AllZip}
 use Rattle.std.specs.Option.{option_map_or}
 use Rattle.std.specs.Set.{distinct_count, is_member, unique_keys}
 use Rattle.std.proofs.lemmas.Map.Made.{length-from_keys}
 use Rattle.std.proofs.lemmas.Map.Steps.{list_any_congr}
 use Rattle.cdm_flight.specs.declared.place.Place.{Place}
 use Rattle.cdm_flight.specs.declared.place.Place.TheVariants as place
-use Rattle.cdm_flight.specs.Names.{same_name}
+use Rattle.cdm_flight.specs.Names.{name_cmp, same_name}
 use Rattle.cdm_flight.specs.Taxi.{TaxiRows, stand_of_place, stands_in, taxi_cmp}
 use Rattle.cdm_taxi.specs.Stands.{has_row, stands_with_rows, is_new_stand}
+use Rattle.cdm_taxi.specs.inner.StandSet.{AreStandsOf}
 use Rattle.cdm_taxi.proofs.TaxiLemmas.{taxi_cmp_total, taxi_cmp_same}
 
 abbrev Key : Type 0
@@ -151,3 +153,110 @@ stands_with_rows-insert rows place.Default r minutes =
 stands_with_rows-insert rows (place.Stand stand) r minutes =
     distinct_count-same nat_list_eq_equiv (stands_in (map.insert rows (place.Stand stand, r) minutes)) (stand ∷ stands_in rows) (has_row-insert rows (place.Stand stand) r minutes)
     ∙ counted (has_row rows stand) stand (unique_keys same_name (stands_in rows))
+
+-- Names of stands, by their order.
+module _ (names : List (List ℕ)) (q : List ℕ) where
+  -- a look-up by the order is one by the bytes
+  pub by_order_or_bytes : list_any (λ name. is_eq (name_cmp q name)) names ≡ list_any (same_name q) names
+  by_order_or_bytes = λ i. list_any (λ name. sym (texts_ties q name) i) names
+
+tie-bytes : (s q : List ℕ) → is_eq (name_cmp s q) ≡ same_name q s
+tie-bytes s q = sym (texts_ties s q) ∙ nat_list_eq_equiv.symm s q
+
+or_cond : (b c : Bool) → cond b true c ≡ (b || c)
+or_cond true c = refl
+or_cond false c = refl
+
+-- the names of no stands
+pub are_stands_of_none : (rows : TaxiRows) → rows ≡ map.from_entries [] → AreStandsOf rows []
+are_stands_of_none rows none = record {
+  each = λ stand. sym (has_row-from_entries [] stand) ∙ ap (λ (r : TaxiRows). has_row r stand) (sym none);
+  count = sym (ap (λ (r : TaxiRows). stands_with_rows r) none ∙ stands_with_rows-none);
+}
+  where
+    stands_with_rows-none : stands_with_rows (map.from_entries []) ≡ 0
+    stands_with_rows-none = stands_with_rows-empty
+
+-- a row of a default, or of a stand that has a row, adds none
+pub are_stands_of-insert_old : (rows : TaxiRows) (names : List (List ℕ)) (p : Place) (r : List ℕ) (minutes : ℕ) → AreStandsOf rows names → is_new_stand rows p ≡ false
+    → AreStandsOf (map.insert rows (p, r) minutes) names
+are_stands_of-insert_old rows names place.Default r minutes old is_old = record {
+  each = λ stand. old.each stand ∙ sym (has_row-insert rows place.Default r minutes stand);
+  count = old.count ∙ sym (stands_with_rows-insert rows place.Default r minutes);
+}
+are_stands_of-insert_old rows names (place.Stand s) r minutes old is_old = record {
+  each = λ stand.
+      old.each stand ∙ counted_behind nat_list_eq_equiv (stands_in rows) s stand (has_one is_old) ∙ sym (has_row-insert rows (place.Stand s) r minutes stand);
+  count = old.count ∙ sym (stands_with_rows-insert rows (place.Stand s) r minutes ∙ ap (λ b. if b then stands_with_rows rows + 1 else stands_with_rows rows) is_old);
+}
+  where
+    has_one : not (has_row rows s) ≡ false → has_row rows s ≡ true
+    has_one h = by (has_row rows s) h
+      where
+        by : (b : Bool) → not b ≡ false → b ≡ true
+        by true e = refl
+        by false e = cc
+
+-- the first row of a stand adds its name
+pub are_stands_of-insert_new : (rows : TaxiRows) (names new : List (List ℕ)) (s r : List ℕ) (minutes : ℕ) → AreStandsOf rows names → has_row rows s ≡ false
+    → ((q : List ℕ) → list_any (same_name q) new ≡ cond (is_eq (name_cmp s q)) true (list_any (same_name q) names)) → length new ≡ length names + 1
+    → AreStandsOf (map.insert rows (place.Stand s, r) minutes) new
+are_stands_of-insert_new rows names new s r minutes old is_new added one = record {
+  each = λ q.
+      added q ∙ (λ i. cond (tie-bytes s q i) true (old.each q i)) ∙ or_cond (same_name q s) (has_row rows q)
+      ∙ sym (has_row-insert rows (place.Stand s) r minutes q);
+  count =
+      one ∙ ap (λ n. n + 1) old.count
+      ∙ sym (stands_with_rows-insert rows (place.Stand s) r minutes ∙ ap (λ b. if not b then stands_with_rows rows + 1 else stands_with_rows rows) is_new);
+}
+
+-- a name that was added and is taken back leaves those that were there
+pub are_stands_of-taken_back : (rows : TaxiRows) (names with_it without : List (List ℕ)) (s : List ℕ) → AreStandsOf rows names → has_row rows s ≡ false
+    → ((q : List ℕ) → list_any (same_name q) with_it ≡ cond (is_eq (name_cmp s q)) true (list_any (same_name q) names)) → length with_it ≡ length names + 1
+    → ((q : List ℕ) → list_any (same_name q) without ≡ cond (is_eq (name_cmp s q)) false (list_any (same_name q) with_it)) → length without + 1 ≡ length with_it
+    → AreStandsOf rows without
+are_stands_of-taken_back rows names with_it without s old is_new added one removed back = record {
+  each = λ q.
+      removed q ∙ ap (λ b. cond (is_eq (name_cmp s q)) false b) (added q)
+      ∙ (λ i. cond (tie-bytes s q i) false (cond (tie-bytes s q i) true (old.each q i)))
+      ∙ by q (same_name q s) refl;
+  count = omega (arith, one, back, old.count);
+}
+  where
+    by : (q : List ℕ) (b : Bool) → same_name q s ≡ b → cond b false (cond b true (has_row rows q)) ≡ has_row rows q
+    by q true same = sym (list_any_congr nat_list_eq_equiv q s (stands_in rows) same ∙ is_new)
+    by q false same = refl
+
+-- clones of names are the names
+pub clones_same : {K : Type 0} (C : K → K → Type 0) → ((x y : K) → C x y → y ≡ x) → (xs ys : List K) → AllZip C xs ys → ys ≡ xs
+clones_same C same [] [] clones = refl
+clones_same C same [] (y ∷ ys) clones = absurd clones
+clones_same C same (x ∷ xs) [] clones = absurd clones
+clones_same C same (x ∷ xs) (y ∷ ys) clones = λ i. same x y clones.0 i ∷ clones_same C same xs ys clones.1 i
+
+tied-equal : (o : Ordering) → is_eq o ≡ true → o ≡ Equal
+tied-equal Less e = cc
+tied-equal Equal e = refl
+tied-equal Greater e = cc
+
+-- a row that is set again as it is changes nothing
+insert_again : (rows : TaxiRows) (k : Key) (minutes : ℕ) → map.get rows k ≡ Some minutes → map.insert rows k minutes ≡ rows
+insert_again rows k minutes is = same_map taxi_cmp_total taxi_cmp_same (map.insert rows k minutes) rows (λ q.
+    get-insert taxi_cmp_total rows k minutes q ∙ by q (eq_by_cmp taxi_cmp q k) refl)
+  where
+    by : (q : Key) (b : Bool) → eq_by_cmp taxi_cmp q k ≡ b → cond b (Some minutes) (map.get rows q) ≡ map.get rows q
+    by q true tied = sym (ap (λ x. map.get rows x) (taxi_cmp_same q k (tied-equal (taxi_cmp q k) tied)) ∙ is)
+    by q false apart = refl
+
+-- a stand without a row has none for any runway
+pub no_row_of_stand : (rows : TaxiRows) (s r : List ℕ) → has_row rows s ≡ false → map.get rows (place.Stand s, r) ≡ None
+no_row_of_stand rows s r is_new = by (map.get rows (place.Stand s, r)) refl
+  where
+    by : (o : Option ℕ) → map.get rows (place.Stand s, r) ≡ o → o ≡ None
+    by None e = refl
+    by (Some minutes) e =
+        let has : true ≡ has_row rows s =
+        sym (λ i. nat_list_eq_equiv.refl s i || has_row rows s)
+        ∙ sym (has_row-insert rows (place.Stand s) r minutes s)
+        ∙ ap (λ (t : TaxiRows). has_row t s) (insert_again rows (place.Stand s, r) minutes e) in
+        cc

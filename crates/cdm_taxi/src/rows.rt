@@ -1,17 +1,19 @@
 //! Taxi rows: the minutes of each place and runway that has a row.
-ghost use Rattle.std.specs.Prelude.{◌≡◌, None, IfOk, OnOk, OnErr};
+ghost use Rattle.std.specs.Prelude.{◌≡◌, false, None, IfOk, OnOk, OnErr};
 ghost use Rattle.std.specs.FinMap as map;
-ghost use Rattle.cdm_taxi.specs.Stands.{has_row, is_new_stand};
+ghost use Rattle.cdm_flight.specs.declared.place.Place.TheVariants as place;
+ghost use Rattle.cdm_taxi.specs.Stands.{has_row, is_new_stand, stands_with_rows};
 
 use cdm_flight::{Place, RunwayName, StandName, TaxiMinutes};
 use std::alloc::{AllocError, Global};
-use std::collections::BTreeMap;
+use std::collections::{BTreeMap, BTreeSet};
 use std::marker::Model;
 
-// Taxi times, one at most for each place and runway.
+// Taxi times, one at most for each place and runway, and the stands that have some.
 #[derive(Debug, Drop)]
 pub struct Rows {
     minutes: BTreeMap<(Place, RunwayName), TaxiMinutes>,
+    stands: BTreeSet<StandName>,
 }
 
 impl Model for Rows {
@@ -19,12 +21,15 @@ impl Model for Rows {
     ghost use Rattle.std.specs.Coded.{coded_ℕ};
     ghost use Rattle.cdm_flight.specs.Taxi.{TaxiRows};
     ghost use Rattle.cdm_taxi.specs.Stands.{key_code};
+    ghost use Rattle.cdm_taxi.specs.inner.StandSet.{AreStandsOf};
 
     ghost Value = { TaxiRows };
 
     ghost coded = { map.code key_code coded_ℕ };
 
     ghost view = { λ r. map.from_entries r.minutes.entries };
+
+    ghost invariant = { λ r. AreStandsOf (map.from_entries r.minutes.entries) r.stands.keys };
 }
 
 impl Rows {
@@ -33,6 +38,7 @@ impl Rows {
     {
         Rows {
             minutes: BTreeMap::new(alloc),
+            stands: BTreeSet::new(alloc),
         }
     }
 
@@ -43,13 +49,18 @@ impl Rows {
         self.minutes.get(&(place, runway)).copied()
     }
 
+    // How many stands have rows.
+    pub fn stands(&self) -> usize
+        ensures { result ≡ stands_with_rows self.now }
+    {
+        self.stands.len()
+    }
+
     // Whether the stand has a row.
     fn has_row(&self, stand: StandName) -> bool
         ensures { result ≡ has_row self.now stand }
     {
-        self.minutes
-            .keys()
-            .any(|(place, _)| *place == Place::Stand(stand))
+        self.stands.contains(&stand)
     }
 
     // Whether the place is a stand without a row.
@@ -73,8 +84,36 @@ impl Rows {
         ensures err { OnErr result (self.new ≡ self.old) }
         ensures new_row { OnErr result (map.get self.old (place, runway) ≡ None) }
     {
-        self.minutes.insert((place, runway), minutes)?;
-        Ok(())
+        if !self.is_new_stand(&place) {
+            self.minutes.insert((place, runway), minutes)?;
+            return Ok(());
+        }
+        let Place::Stand(stand) = place else {
+            unreachable!()
+        };
+        self.put_first(stand, runway, minutes)
+    }
+
+    // Writes the first row of a stand.
+    fn put_first(
+        &mut self,
+        stand: StandName,
+        runway: RunwayName,
+        minutes: TaxiMinutes,
+    ) -> Result<(), AllocError>
+        requires { has_row self.old stand ≡ false }
+        ensures ok { OnOk result (self.new ≡ map.insert self.old (place.Stand stand, runway) minutes) }
+        ensures err { OnErr result (self.new ≡ self.old) }
+        ensures new_row { OnErr result (map.get self.old (place.Stand stand, runway) ≡ None) }
+    {
+        self.stands.insert(stand)?;
+        match self.minutes.insert((Place::Stand(stand), runway), minutes) {
+            Ok(_) => Ok(()),
+            Err(_) => {
+                self.stands.remove(&stand);
+                Err(AllocError)
+            }
+        }
     }
 
     pub fn copy(&self, alloc: Global) -> Result<Rows, AllocError>
@@ -85,6 +124,7 @@ impl Rows {
             .iter()
             .map(|(key, minutes)| (*key, *minutes))
             .collect(alloc)?;
-        Ok(Rows { minutes })
+        let stands = self.stands.clone()?;
+        Ok(Rows { minutes, stands })
     }
 }

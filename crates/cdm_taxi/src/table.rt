@@ -38,23 +38,19 @@ impl From<AllocError> for TaxiFault {
 #[derive(Debug, Drop)]
 pub struct TaxiTable {
     rows: Rows,
-    stands: usize,
 }
 
 impl Model for TaxiTable {
-    ghost use Rattle.std.specs.Prelude.{◌≡◌};
     ghost use Rattle.std.specs.FinMap as map;
     ghost use Rattle.std.specs.Coded.{coded_ℕ};
     ghost use Rattle.cdm_flight.specs.Taxi.{TaxiRows};
-    ghost use Rattle.cdm_taxi.specs.Stands.{key_code, stands_with_rows};
+    ghost use Rattle.cdm_taxi.specs.Stands.{key_code};
 
     ghost Value = { TaxiRows };
 
     ghost coded = { map.code key_code coded_ℕ };
 
     ghost view = { λ t. t.rows };
-
-    ghost invariant = { λ t. t.stands ≡ stands_with_rows t.rows };
 }
 
 impl TaxiTable {
@@ -64,7 +60,6 @@ impl TaxiTable {
     {
         TaxiTable {
             rows: Rows::empty(alloc),
-            stands: 0,
         }
     }
 
@@ -80,7 +75,7 @@ impl TaxiTable {
     pub fn fits(&self, place: Place) -> bool
         ensures { result ≡ not (is_one_stand_too_many self.now place) }
     {
-        self.stands < MOST_STANDS || !self.rows.is_new_stand(&place)
+        self.rows.stands() < MOST_STANDS || !self.rows.is_new_stand(&place)
     }
 
     /// Sets the taxi time from the place to the runway, in place of an older one.
@@ -100,14 +95,10 @@ impl TaxiTable {
         ensures rows { OnOk result ((p : Place) (r : List ℕ) → map.get self.new (p, r) ≡
             (if same_place place p && same_name runway r then Some minutes else map.get self.old (p, r))) }
     {
-        let is_new = self.rows.is_new_stand(&place);
-        if is_new && self.stands >= MOST_STANDS {
+        if self.rows.is_new_stand(&place) && self.rows.stands() >= MOST_STANDS {
             return Err(TaxiFault::Full);
         }
         self.rows.put(place, runway, minutes)?;
-        if is_new {
-            self.stands += 1;
-        }
         Ok(())
     }
 
@@ -138,9 +129,6 @@ impl TaxiTable {
         ensures { IfOk result (λ t. t ≡ self.now) }
     {
         let rows = self.rows.copy(alloc)?;
-        Ok(TaxiTable {
-            rows,
-            stands: self.stands,
-        })
+        Ok(TaxiTable { rows })
     }
 }

@@ -44,23 +44,10 @@ fn the_last_row_stands(rt: HostRuntime) -> Result<(), Fail> {
     let place = Place::Stand(stand(b"A1")?);
     table.set(place, runway(b"09")?, taxi(7)?)?;
     table.set(place, runway(b"27L")?, taxi(120)?)?;
-    assert!(rt; table.minutes(place, runway(b"27L")?) == Some(taxi(120)?));
-    assert!(rt; table.minutes(place, runway(b"09")?) == Some(taxi(7)?));
-    assert!(rt; table.minutes(Place::Default, runway(b"27L")?) == Some(taxi(15)?));
-    Ok(())
-}
-
-#[test]
-fn a_copy_answers_alike(rt: HostRuntime) -> Result<(), Fail> {
-    let mut table = two_rows(rt.alloc())?;
-    let place = Place::Stand(stand(b"A1")?);
-    table.set(place, runway(b"09")?, taxi(7)?)?;
-    let copy = table.copy(rt.alloc())?;
-    assert!(rt; copy.minutes(place, runway(b"09")?) == Some(taxi(7)?));
-    for place in [Place::Default, place] {
-        for name in [runway(b"27L")?, runway(b"09")?] {
-            assert!(rt; copy.minutes(place, name) == table.minutes(place, name));
-        }
+    for table in [&table, &table.copy(rt.alloc())?] {
+        assert!(rt; table.minutes(place, runway(b"27L")?) == Some(taxi(120)?));
+        assert!(rt; table.minutes(place, runway(b"09")?) == Some(taxi(7)?));
+        assert!(rt; table.minutes(Place::Default, runway(b"27L")?) == Some(taxi(15)?));
     }
     Ok(())
 }

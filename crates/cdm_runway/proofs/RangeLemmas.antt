@@ -1,0 +1,16 @@
+-- A list after a range of it was given one value.
+use Rattle.std.proofs.Common.{◌≡◌, ℕ, ◌≤◌, List, length, get_or, arith}
+use Rattle.std.specs.Prelude.{if◌then◌else◌}
+use Rattle.std.proofs.lemmas.Bool.Decides.{nat_tests}
+use Rattle.std.proofs.lemmas.List.{get_or-replicate, places}
+use Rattle.cdm_flight.specs.Journal.{window_has}
+use Rattle.cdm_runway.specs.Rules.{with_range}
+
+-- what a list has at a place after a range of it was given one value
+pub get_or-with_range : {X : Type 0} (xs : List X) (from to : ℕ) (x d : X) (k : ℕ) → from ≤ to → to ≤ length xs
+    → get_or (with_range xs from to x) k d ≡ (if window_has from to k then x else get_or xs k d)
+get_or-with_range xs from to x d k order within = grind (arith, places, nat_tests, get_or-replicate)
+
+-- it is as long as before
+pub length-with_range : {X : Type 0} (xs : List X) (from to : ℕ) (x : X) → from ≤ to → to ≤ length xs → length (with_range xs from to x) ≡ length xs
+length-with_range xs from to x order within = grind (arith, places)
