@@ -156,59 +156,32 @@ fn help_is_complete(rt: HostRuntime) -> Result<(), Fail> {
 
 #[test]
 fn faults_have_lines_and_statuses(rt: HostRuntime) -> Result<(), Fail> {
+    use Fault::{CannotOpen, NoMemory, Run};
+    use cdm_feed::Input::{Airport, Feed, Feed1, Feed2, Scenarios};
+    let unknown = RunError::Airport(5, RefusalWord::Unknown);
+    let disordered = RunError::Scenario(1, RefusalWord::Order);
     let cases = [
+        (CannotOpen(Airport), "cannot read AIRPORT", 1),
+        (CannotOpen(Feed), "cannot read FEED", 1),
+        (CannotOpen(Scenarios), "cannot read SCENARIOS", 1),
+        (NoMemory, "out of memory", 1),
+        (Run(RunError::Read(Feed)), "cannot read FEED", 1),
+        (Run(RunError::Read(Feed1)), "cannot read FEED1", 1),
+        (Run(RunError::Read(Feed2)), "cannot read FEED2", 1),
         (
-            Fault::CannotOpen(Input::Airport),
-            "cdmseq: cannot read AIRPORT\n",
-            1,
-        ),
-        (
-            Fault::CannotOpen(Input::Feed),
-            "cdmseq: cannot read FEED\n",
-            1,
-        ),
-        (
-            Fault::CannotOpen(Input::Scenarios),
-            "cdmseq: cannot read SCENARIOS\n",
-            1,
-        ),
-        (Fault::NoMemory, "cdmseq: out of memory\n", 1),
-        (
-            Fault::Run(RunError::Read(Input::Feed)),
-            "cdmseq: cannot read FEED\n",
-            1,
-        ),
-        (
-            Fault::Run(RunError::Read(Input::Feed1)),
-            "cdmseq: cannot read FEED1\n",
-            1,
-        ),
-        (
-            Fault::Run(RunError::Read(Input::Feed2)),
-            "cdmseq: cannot read FEED2\n",
-            1,
-        ),
-        (
-            Fault::Run(RunError::TooLong(Input::Feed)),
-            "cdmseq: FEED is longer than 8388608 bytes\n",
+            Run(RunError::TooLong(Feed)),
+            "FEED is longer than 8388608 bytes",
             3,
         ),
-        (
-            Fault::Run(RunError::Airport(5, RefusalWord::Unknown)),
-            "cdmseq: AIRPORT record 5: UNKNOWN\n",
-            3,
-        ),
-        (
-            Fault::Run(RunError::Scenario(1, RefusalWord::Order)),
-            "cdmseq: SCENARIOS record 1: ORDER\n",
-            3,
-        ),
-        (Fault::Run(RunError::Memory), "cdmseq: out of memory\n", 1),
-        (Fault::Run(RunError::Write), "cdmseq: cannot write\n", 1),
+        (Run(unknown), "AIRPORT record 5: UNKNOWN", 3),
+        (Run(disordered), "SCENARIOS record 1: ORDER", 3),
+        (Run(RunError::Memory), "out of memory", 1),
+        (Run(RunError::Write), "cannot write", 1),
     ];
     for (fault, line, status) in cases {
         let (text, answer) = told(&rt, rt.alloc(), &fault);
-        assert_eq!(rt; text.as_slice(), line.as_bytes(), "{line}");
+        let wanted = format!(in rt.alloc(); "cdmseq: {line}\n")?;
+        assert_eq!(rt; text.as_slice(), wanted.as_bytes(), "{line}");
         assert_eq!(rt; answer, status, "{line}");
         let mut full = Device::new(Full);
         assert_eq!(rt; report_fault(&fault, &mut full), status, "{line}");
