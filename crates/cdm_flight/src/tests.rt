@@ -1,49 +1,14 @@
-//! Names and numbers at their edges, who may make which update, the life of a flight, and the order
-//! of sequence.
+//! Who may make which update, the life of a flight, and the order of sequence.
 ghost use Rattle.std.specs.Prelude.{◌≡◌, IfSome, Some, false};
 ghost use Rattle.cdm_flight.specs.Step.{flight_of_update, is_fresh};
 
 use crate::{
-    Cap, CellLength, Flight, FlightName, Ice, IceMinutes, Place, Priority, RefusalWord, Role,
-    RunwayName, StandName, Status, TaxiMinutes, Update, allows, before,
+    Cap, Flight, FlightName, Ice, IceMinutes, Place, Priority, RefusalWord, Role, RunwayName,
+    StandName, Status, TaxiMinutes, Update, allows, before,
 };
 use RefusalWord::{Ended, NotReady, OffBlock, Order};
 use cdm_time::{Bound, Minute};
 use std::test::Fail;
-
-#[test]
-fn names_and_numbers_at_their_edges(rt: HostRuntime) {
-    for (text, is_flight, is_runway, is_stand) in [
-        ("7", true, true, true),
-        ("27L", true, true, true),
-        ("027L", true, false, true),
-        ("A1234", true, false, true),
-        ("A12345", true, false, false),
-        ("AB12345", true, false, false),
-        ("AB123456", false, false, false),
-        ("", false, false, false),
-        ("ab1", false, false, false),
-        ("A 1", false, false, false),
-        ("A-1", false, false, false),
-        ("*", false, false, false),
-    ] {
-        let bytes = text.as_bytes();
-        assert_eq!(rt; FlightName::new(bytes).is_some(), is_flight, "{text}");
-        assert_eq!(rt; RunwayName::new(bytes).is_some(), is_runway, "{text}");
-        assert_eq!(rt; StandName::new(bytes).is_some(), is_stand, "{text}");
-    }
-    let lengths = [1, 2, 3, 4, 5, 6, 10, 12, 15, 20, 30, 60];
-    for number in 0..125 {
-        assert_eq!(rt; Priority::new(number).is_some(), number < 10, "{number}");
-        assert_eq!(rt; Cap::new(number).is_some(), number < 61, "{number}");
-        let is_taxi = number > 0 && number < 121;
-        assert_eq!(rt; TaxiMinutes::new(number).is_some(), is_taxi, "{number}");
-        let is_ice = number > 0 && number < 61;
-        assert_eq!(rt; IceMinutes::new(number).is_some(), is_ice, "{number}");
-        let is_length = lengths.contains(&number);
-        assert_eq!(rt; CellLength::new(number).is_some(), is_length, "{number}");
-    }
-}
 
 // A flight of which nothing but its priority and its TOBT is known.
 fn flight_of(name: &str, priority: u16, tobt: Option<Minute>) -> Option<Flight> {

@@ -45,51 +45,6 @@ fn a_full_cell_and_a_closed_one(rt: HostRuntime) -> Result<(), Fail> {
     Ok(())
 }
 
-#[test]
-fn the_last_rate_wins(rt: HostRuntime) -> Result<(), Fail> {
-    let mut runway = two_in_ten(rt.alloc())?;
-    assert!(rt; runway.rate(minute(370)?, bound(385)?, cap(2)?) == Err(RunwayFault::Order));
-    assert!(rt; runway.rate(minute(370)?, bound(370)?, cap(2)?) == Err(RunwayFault::Order));
-    runway.rate(minute(360)?, bound(390)?, cap(0)?)?;
-    runway.rate(minute(380)?, bound(400)?, cap(1)?)?;
-    runway.rate(minute(2870)?, Bound::END, cap(5)?)?;
-    let caps = [
-        (359, 2),
-        (360, 0),
-        (379, 0),
-        (380, 1),
-        (399, 1),
-        (400, 2),
-        (2869, 2),
-        (2879, 5),
-    ];
-    for (number, want) in caps {
-        assert_eq!(rt; runway.cap_at(minute(number)?).get(), want, "at {number}");
-    }
-    Ok(())
-}
-
-#[test]
-fn the_last_closure_or_opening_wins(rt: HostRuntime) -> Result<(), Fail> {
-    let mut runway = two_in_ten(rt.alloc())?;
-    assert!(rt; runway.close(minute(380)?, bound(370)?) == Err(RunwayFault::Order));
-    assert!(rt; runway.reopen(minute(370)?, bound(370)?) == Err(RunwayFault::Order));
-    runway.close(minute(370)?, bound(390)?)?;
-    runway.reopen(minute(378)?, bound(380)?)?;
-    let closures = [
-        (369, false),
-        (377, true),
-        (378, false),
-        (379, false),
-        (380, true),
-        (390, false),
-    ];
-    for (number, want) in closures {
-        assert_eq!(rt; runway.closed(minute(number)?), want, "at {number}");
-    }
-    Ok(())
-}
-
 // A fixed list of numbers, by a linear congruential generator.
 #[derive(Drop)]
 struct Numbers {
