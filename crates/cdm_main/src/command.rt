@@ -2,16 +2,16 @@
 ghost use Rattle.std.specs.Prelude.{◌≡◌};
 ghost use Rattle.cdm_main.specs.declared.command.CommandFault.TheVariants as command;
 
-use crate::manual::{ABOUT, MANUAL, PLAN_ABOUT};
+use crate::manual::{ABOUT, HELP_ABOUT, MANUAL, PLAN_ABOUT, SHORT_HELP, VERSION};
 use cdm_phase::Workers;
 use clap::error::ErrorKind;
-use clap::{Arg, ArgMatches, Command as Parser, value_parser};
+use clap::{Arg, ArgMatches, Command as Parser, Error as ParseError, value_parser};
 use std::alloc::{AllocError, Global};
 use std::convert::AsStr;
 use thiserror::Error;
 
 /// What the words ask for. Files are named by their paths.
-#[derive(Clone, Copy, PartialEq, Eq, Debug)]
+#[derive(PartialEq, Eq, Debug, Drop)]
 pub enum Command<'a> {
     /// Plan the departures of a feed at an airport, and of each scenario, by so many workers.
     Plan {
@@ -20,6 +20,8 @@ pub enum Command<'a> {
         scenarios: Option<&'a str>,
         workers: Workers,
     },
+    /// Print this text, the help or the version.
+    Print(String),
 }
 
 /// Why the words ask for nothing that can be done.
@@ -43,24 +45,36 @@ impl From<AllocError> for CommandFault {
 
 /// The command that the words after the program's name ask for.
 ///
-/// `Usage` where they ask for none or for help, with the text that says so. Tests show what is
-/// answered.
+/// `Usage` where they ask for none, or for help by `-h` or `--help`, with the text that says so. Tests
+/// show what is answered.
 pub fn command_of<'a, S: AsStr>(
     alloc: Global,
     words: &'a [S],
 ) -> Result<Command<'a>, CommandFault> {
     let matches = match parser(alloc)?.try_get_matches_from(words) {
         Ok(matches) => matches,
-        Err(error) if error.kind() == ErrorKind::OutOfMemory => return Err(CommandFault::Memory),
-        Err(error) => return Err(CommandFault::Usage(error.to_string(alloc)?)),
+        Err(error) => return told(alloc, &error),
     };
-    let command = matches.subcommand().and_then(|(_, plan)| plan_of(plan));
+    let command = match matches.subcommand() {
+        Some(("plan", plan)) => plan_of(plan),
+        Some(_) => Some(Command::Print(parser(alloc)?.render_long_help()?)),
+        None => None,
+    };
     match command {
         Some(command) => Ok(command),
         None => Err(CommandFault::Usage(String::from_str(
             alloc,
             "error: the command is not complete\n",
         )?)),
+    }
+}
+
+// What the parser tells in place of matches: the version, or a usage text.
+fn told<'a>(alloc: Global, error: &ParseError) -> Result<Command<'a>, CommandFault> {
+    match error.kind() {
+        ErrorKind::OutOfMemory => Err(CommandFault::Memory),
+        ErrorKind::DisplayVersion => Ok(Command::Print(error.to_string(alloc)?)),
+        _ => Err(CommandFault::Usage(error.to_string(alloc)?)),
     }
 }
 
@@ -78,28 +92,35 @@ fn parser<'a>(alloc: Global) -> Result<Parser<'a>, AllocError> {
     let airport = Arg::new(alloc, "AIRPORT")
         .required(true)
         .help("Airport file: the day, the runways, the taxi times");
-    let feed = Arg::new(alloc, "FEED").required(true).help(
-        "Feed of updates: flights, times, runways, in the order in which they came",
-    );
+    let feed = Arg::new(alloc, "FEED")
+        .required(true)
+        .help("Feed of updates, in the order in which they came");
     let workers = Arg::new(alloc, "workers")
         .long("workers")
         .value_name("N")
         .value_parser(value_parser!(usize).range(1..=64))
         .default_value("1")
-        .help("Threads that plan side by side, 1 to 64; the output is the same");
+        .help("1 to 64 threads; the output is the same");
     let plan = Parser::new(alloc, "plan")
         .about(PLAN_ABOUT)
-        .after_help(MANUAL)
+        .after_help(SHORT_HELP)
+        .after_long_help(MANUAL)
         .arg(airport)?
         .arg(feed)?
         .arg(workers)?;
+    let help = Parser::new(alloc, "help")
+        .about(HELP_ABOUT)
+        .visible_alias("manual")?;
     Parser::new(alloc, "cdmseq")
         .bin_name("cdmseq")?
+        .version(VERSION)
         .about(ABOUT)
-        .after_help(MANUAL)
+        .after_help(SHORT_HELP)
+        .after_long_help(MANUAL)
         .no_binary_name(true)
         .disable_help_subcommand(true)
         .subcommand_required(true)
         .arg_required_else_help(true)
-        .subcommand(plan)
+        .subcommand(plan)?
+        .subcommand(help)
 }

@@ -7,10 +7,11 @@ mod command;
 mod fault;
 mod manual;
 
-use cdm_feed::{Device, Input, run};
+use cdm_feed::{Device, Input, RunError, WriteFault, run, write_text};
 use cdm_phase::{OpenGate, Workers};
 use command::{Command, CommandFault, command_of};
 use fault::{Fault, report_fault};
+use std::alloc::AllocError;
 use std::io::{ErrorKind, Read, Write};
 use std::process::ExitCode;
 use std::rt::{Env, Files};
@@ -19,6 +20,9 @@ use std::{env, fs, io};
 
 /// The status where the words name no command.
 const USAGE_STATUS: u8 = 2;
+
+/// The bytes that Linux gives a word at most.
+const LONGEST_WORD: usize = 131_072;
 
 fn main(rt: HostRuntime) -> ExitCode {
     let mut out = Device::new(rt.stdout());
@@ -53,11 +57,29 @@ fn status_of<R: AllocGlobal + Env + Files + Threads + Sync, O: Write, E: Write>(
 fn words_of<R: AllocGlobal + Env>(rt: &R) -> Result<Vec<String>, CommandFault> {
     match env::args(rt) {
         Ok(words) => Ok(words.skip(1).collect(rt.alloc())?),
-        Err(error) if error.kind() == ErrorKind::InvalidData => Err(CommandFault::Usage(
-            String::from_str(rt.alloc(), "error: an argument is not UTF-8\n")?,
-        )),
+        Err(error) if error.kind() == ErrorKind::InvalidData => {
+            let place = place_not_utf8(rt)?;
+            let text = format!(in rt.alloc(); "error: argument {place} is not UTF-8\n")?;
+            Err(CommandFault::Usage(text))
+        }
         Err(_) => Err(CommandFault::Memory),
     }
+}
+
+// The place, from 1, of the first word after the program's name that is not UTF-8.
+fn place_not_utf8<R: AllocGlobal + Env>(rt: &R) -> Result<usize, AllocError> {
+    let mut buffer = Vec::new(rt.alloc());
+    buffer.resize(LONGEST_WORD, 0)?;
+    for place in 1..usize::MAX {
+        let Ok(length) = rt.arg(place, buffer.as_mut_slice()) else {
+            return Ok(place);
+        };
+        let word = buffer.get(..length).unwrap_or_default();
+        if str::from_utf8(word).is_err() {
+            return Ok(place);
+        }
+    }
+    Ok(0)
 }
 
 // Writes a usage text or the line of a fault, and answers the exit status.
@@ -78,20 +100,26 @@ fn run_command<R: AllocGlobal + Files + Threads + Sync, W: Write>(
 ) -> Result<(), Fault>
     requires { out.old.failed ≡ false }
 {
-    let Command::Plan {
-        airport,
-        feed,
-        scenarios,
-        workers,
-    } = *command;
-    let airport = open(rt, airport, Input::Airport)?;
-    let feed = open(rt, feed, Input::Feed)?;
-    match scenarios {
-        Some(path) => {
-            let scenarios = open(rt, path, Input::Scenarios)?;
-            plan(rt, airport, feed, scenarios, workers, out)
+    match command {
+        Command::Plan {
+            airport,
+            feed,
+            scenarios,
+            workers,
+        } => {
+            let airport = open(rt, airport, Input::Airport)?;
+            let feed = open(rt, feed, Input::Feed)?;
+            match scenarios {
+                Some(path) => {
+                    let scenarios = open(rt, path, Input::Scenarios)?;
+                    plan(rt, airport, feed, scenarios, *workers, out)
+                }
+                None => plan(rt, airport, feed, &[][..], *workers, out),
+            }
         }
-        None => plan(rt, airport, feed, &[][..], workers, out),
+        Command::Print(text) => write_text(out, text.as_bytes()).map_err(|_: WriteFault| Fault::Run(
+            RunError::Write,
+        )),
     }
 }
 

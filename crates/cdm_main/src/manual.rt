@@ -1,120 +1,178 @@
 //! What the program tells of itself, its files and its output.
 
+/// The program's version.
+pub const VERSION: &str = "0.1.0";
+
 /// What the program is.
 pub const ABOUT: &str = "\
-The pre-departure sequencer of Airport Collaborative Decision Making: it gives each departure of an
-airport the time at which its start-up can be approved.";
+The pre-departure sequencer of Airport Collaborative Decision Making: it gives
+each departure of an airport the time at which its start-up can be approved.";
 
 /// What `plan` does.
-pub const PLAN_ABOUT: &str = "\
-Plans the departures that a feed of updates leaves at an airport, and prints the sequence of each
-runway.";
+pub const PLAN_ABOUT: &str = "Plan a feed of updates, and print the sequence of each runway";
+
+/// What `help` does.
+pub const HELP_ABOUT: &str = "Print all of the help on standard output";
+
+/// The end of the short help: an example, and where the long help is.
+pub const SHORT_HELP: &str = "\
+For example:
+  cdmseq plan airport.csv feed.csv
+What the two files hold and what the output says:
+  cdmseq help | less";
 
 /// What the two files hold and what the output says, for a reader who has no other paper.
 pub const MANUAL: &str = "\
 WHAT IT DOES
-  All times are UTC, in whole minutes. A plan spans two days from 00:00 of the airport file's day.
+  All times are UTC, in whole minutes. A plan spans two days from 00:00 of the
+  airport file's day.
 
-  TOBT   target off-block time: when the operator or handler expects the flight to be ready
-  EXOT   estimated taxi-out minutes: the taxi time from the stand to the runway, and remote de-icing
-  CTOT   calculated take-off time of the Network Manager; its tolerance is from 5 minutes before to
-         10 minutes after
-  TSAT   target start-up approval time: when start-up can be expected to be approved
+  TOBT   target off-block time: when the operator or handler expects the flight
+         to be ready
+  EXOT   estimated taxi-out minutes: the taxi time from the stand to the runway,
+         and remote de-icing
+  CTOT   calculated take-off time of the Network Manager; its tolerance is from
+         5 minutes before to 10 minutes after
+  TSAT   target start-up approval time: when start-up can be expected to be
+         approved
   TTOT   target take-off time: TSAT + EXOT
-  AOBT   actual off-block time            ATOT   actual take-off time
+  AOBT   actual off-block time
+  ATOT   actual take-off time
 
-  On each runway the flights stand in the order of their priority numbers (0 comes first), then of
-  their TOBT, then of their names. One after the other gets the first take-off minute that
-    - isn't before TOBT (with the minutes of de-icing on the stand, and not before now) + EXOT,
+  On each runway the flights stand in the order of their priority numbers (0
+  comes first), then of their TOBT, then of their names. One after the other
+  gets the first take-off minute that
+    - isn't before the time at which it is ready + EXOT. It is ready at TOBT and
+      the minutes of de-icing on the stand, or now if that is later,
     - lies in the tolerance of its CTOT, if it has one,
     - isn't closed on its runway,
-    - lies in a cell of its runway that has room beside the flights off-block, the flights airborne
-      and those that got their minute before. A cell is a stretch of so many minutes; its capacity
-      says how many flights may take off in it.
-  A flight that gets no minute is blocked. This is a local profile, not a rule of the A-CDM manual.
+    - lies in a cell of its runway that has room beside the flights off-block,
+      the flights airborne and those that got their minute before. A cell is a
+      stretch of so many minutes; its cap says how many flights may take off in
+      it.
+  A flight that gets no minute is blocked. This is a local profile, not a rule
+  of the A-CDM manual.
 
 THE TWO FILES
-  Each is a list of comma-separated records, one a line, without a heading; blank lines don't count.
-  A flight has 1 to 7 of A-Z and 0-9, a runway 1 to 3, a stand 1 to 5. A number has up to 4 digits. A
-  time is written 2025-03-10T06:00Z. A window has the minutes from its first time up to the one before
-  its second, which may be the midnight that ends the second day.
+  Each is a list of comma-separated records, one a line, without a heading;
+  blank lines don't count. A field that begins with a double quote goes on to
+  the next double quote, over line ends too.
+  A flight has 1 to 7 of A-Z and 0-9, a runway 1 to 3, a stand 1 to 5. A number
+  has up to 4 digits. A time is written 2025-03-10T06:00Z. A window has the
+  minutes from its first time up to the one before its second, which may be the
+  midnight that ends the second day.
 
   AIRPORT, in this example all its kinds of record:
-    DAY,2025-03-10         the first day; the first record, and once
-    RUNWAY,27L,10,2        a runway: minutes of a cell (1, 2, 3, 4, 5, 6, 10, 12, 15, 20, 30 or 60),
-                           capacity of each cell (0 to 60)
-    TAXI,*,27L,15          taxi minutes (1 to 120) to the runway from stands without an own row
-    TAXI,A1,27L,10         taxi minutes from this stand; of two rows for one place the last counts
+
+DAY,2025-03-10
+RUNWAY,27L,10,2
+TAXI,*,27L,15
+TAXI,A1,27L,10
+
+    DAY,day                    the first day; the first record, and once
+    RUNWAY,runway,cell,cap     a runway: minutes of a cell (1, 2, 3, 4, 5, 6,
+                               10, 12, 15, 20, 30 or 60), cap of each (0 to 60)
+    TAXI,stand,runway,minutes  taxi minutes (1 to 120) from a stand to a runway,
+                               * for the stands without a row; of two rows for
+                               one stand and runway the last counts
 
   FEED, a record a line, in the order in which the updates came:
-    AP,FLT,AB1,5
-    ATC,RWY,AB1,27L
-    AO,TOBT,AB1,2025-03-10T06:00Z
-    AP,FLT,CD2,5
-    AO,CTOT,AB1,2025-03-10T06:40Z
-  The first field is who makes the update: AO operator, GH ground handler, AP airport operator, ATC
-  air traffic control, NM Network Manager. The kinds of update, with those who may make them:
-    AP,FLT,flight,priority           a new flight, priority 0 to 9
-    AO,TOBT,flight,time              its TOBT (AO or GH)
-    AP,STAND,flight,stand            its stand
-    ATC,RWY,flight,runway            its runway
-    NM,CTOT,flight,time              its CTOT; - in place of the time takes the CTOT away
-    GH,ICE,flight,kind,minutes       de-icing: NONE with 0 minutes, or STAND (on the stand, before it
-                                     is ready) or REMOTE (on the way, part of EXOT) with 1 to 60
-    ATC,PRIO,flight,priority         its priority, 0 to 9
-    ATC,OFF,flight,time              it went off-block at this AOBT; this fixes its EXOT
-    ATC,AIR,flight,time              it took off at this ATOT
-    AO,CNL,flight                    it is cancelled
-    ATC,RATE,runway,from,to,number   capacity (0 to 60) of the cells of a window; both times of it
-                                     are ends of cells
-    ATC,CLOSE,runway,from,to         no take-off in the window
-    ATC,OPEN,runway,from,to          take-offs again in the window
-    ATC,TAXI,stand,runway,minutes    taxi minutes (1 to 120) from a stand, * for all without a row
-    ATC,CLOCK,time                   it is this time now; without it, 00:00 of the first day
+
+AP,FLT,AB1,5
+ATC,RWY,AB1,27L
+AO,TOBT,AB1,2025-03-10T06:00Z
+AP,FLT,CD2,5
+AO,CTOT,AB1,2025-03-10T06:40Z
+
+  The first field is who makes the update: AO operator, GH ground handler, AP
+  airport operator, ATC air traffic control, NM Network Manager. The kinds of
+  update, with those who may make them:
+    AP,FLT,flight,priority         a new flight, priority 0 to 9
+    AO,TOBT,flight,time            its TOBT (AO or GH)
+    AP,STAND,flight,stand          its stand
+    ATC,RWY,flight,runway          its runway
+    NM,CTOT,flight,time            its CTOT; - for the time takes it away
+    GH,ICE,flight,kind,minutes     de-icing: NONE with 0 minutes, or with 1 to
+                                   60 STAND (on the stand, before it is ready)
+                                   or REMOTE (on the way, part of EXOT)
+    ATC,PRIO,flight,priority       its priority, 0 to 9
+    ATC,OFF,flight,time            it went off-block at this AOBT, which fixes
+                                   its EXOT
+    ATC,AIR,flight,time            it took off at this ATOT
+    AO,CNL,flight                  it is cancelled
+    ATC,RATE,runway,from,to,cap    cap (0 to 60) of the cells of a window, whose
+                                   ends are whole numbers of cells from 00:00
+    ATC,CLOSE,runway,from,to       no take-off in the window
+    ATC,OPEN,runway,from,to        take-offs again in the window
+    ATC,TAXI,stand,runway,minutes  taxi minutes (1 to 120) from a stand, * for
+                                   the stands without a row
+    ATC,CLOCK,time                 it is this time now; at first it is 00:00 of
+                                   the first day
   Of several updates of one item the last counts.
 
 THE OUTPUT
   The example files give
+
     DAY 2025-03-10 NOW 100000
     RUNWAY 27L
     AB1     100600   15 ------ 100600 100615 P    0
     BLOCKED CD2     TOBT
     TOTAL PLACED 1 DELAY 0 MAX 0 LATE 0 BLOCKED 1 TOBT 1
     REFUSED 5 AUTHORITY
-  Times are printed as day of the month, hour and minute: 100615 is the 10th, 06:15.
 
-  DAY       the first day, and the time that it is now
-  RUNWAY    each runway by name, with a line for each of its flights by TTOT and then by name:
-            flight, TOBT, EXOT, CTOT, TSAT, TTOT, a letter, minutes of delay (TSAT - TOBT)
-              P  planned
-              O  off-block: AOBT stands for TSAT, and TTOT is AOBT + EXOT
-              A  airborne: AOBT stands for TSAT, ATOT for TTOT, ATOT - AOBT for EXOT
-            Dashes stand where there is no such value. Cancelled flights are in no line.
-  BLOCKED   each planned flight without a minute, by name, and the first cause that holds:
-              TOBT     it has none                  CTOT     no such minute in its tolerance
-              RUNWAY   it has none                  CLOSURE  all those minutes are closed
-              EXOT     no taxi time is known        RATE     those left are all in full cells
-              HORIZON  it can't take off within the two days
-  TOTAL     PLACED planned flights with a minute, DELAY the sum and MAX the greatest of their
-            delays, LATE how many are above 15 minutes, BLOCKED the blocked flights, and by what cause
-  REFUSED   the number, from 1, of each record of the feed that was refused, and the first cause that
-            holds. A refused record changes nothing.
-              FIELDS     too few or too many        EXISTS     the flight is known already
-              ROLE       no such role               ENDED      it is airborne or cancelled
-              KIND       no such kind of update     OFFBLOCK   it is off-block; only AIR may follow
-              TEXT       a field hasn't its form    ORDER      the clock goes back, a window is empty
-              RANGE      a number or time is out               or off the cells, AIR comes before OFF
-                         of its range               NOTREADY   OFF without a runway or EXOT, or
-              AUTHORITY  the role may not do this              with a TTOT past the two days
-              UNKNOWN    no such flight or runway   FULL       20,000 updates, 2,000 flights or 400
-                                                               stands with taxi rows are known
-            The first record at fault in AIRPORT stops the run: ORDER is then a DAY that isn't the
-            first record, EXISTS a runway named twice, FULL a ninth runway or a 401st stand.
+  Times are printed as day of the month, hour and minute: 100615 is the 10th,
+  06:15.
+
+  DAY      the first day, and the time that it is now
+  RUNWAY   each runway by name, with a line for each of its flights by TTOT and
+           then by name: flight, TOBT, EXOT, CTOT, TSAT, TTOT, a letter, minutes
+           of delay (TSAT - TOBT)
+             P  planned
+             O  off-block: AOBT stands for TSAT, and TTOT is AOBT + EXOT
+             A  airborne: AOBT stands for TSAT, ATOT for TTOT, ATOT - AOBT for
+                EXOT
+           Dashes stand where there is no such value. Cancelled flights are in
+           no line.
+  BLOCKED  each planned flight without a minute, by name, and the first cause
+           that holds:
+             TOBT     it has none
+             RUNWAY   it has none
+             EXOT     no taxi time is known
+             HORIZON  it can't take off within the two days
+             CTOT     no such minute lies in its tolerance
+             CLOSURE  all those minutes are closed
+             RATE     those that are open are all in full cells
+  TOTAL    PLACED planned flights with a minute, DELAY the sum and MAX the
+           greatest of their delays, LATE how many are above 15 minutes, BLOCKED
+           the blocked flights, and how many by each cause
+  REFUSED  the number, from 1, of each record of the feed that was refused, and
+           the first cause that holds. A refused record changes nothing.
+             FIELDS     too few or too many fields
+             ROLE       no such role
+             KIND       no such kind of update
+             TEXT       a field hasn't its form
+             RANGE      a number or time is out of its range
+             AUTHORITY  the role may not make this update
+             UNKNOWN    no such flight or runway
+             EXISTS     the flight is known already
+             ENDED      the flight is airborne or cancelled
+             OFFBLOCK   the flight is off-block; only AIR may follow
+             ORDER      the clock goes back, a window is empty or cuts a cell,
+                        AIR without OFF or before it
+             NOTREADY   OFF without a runway or EXOT, or with a TTOT past the
+                        two days
+             FULL       20,000 updates, 2,000 flights or 400 stands with taxi
+                        rows are known
+           The first record at fault in AIRPORT stops the run, with the same
+           words: ORDER is a first record that isn't DAY, as in an empty file,
+           or a second DAY; EXISTS a runway named twice; FULL a ninth runway or
+           a 401st stand.
 
 STATUS
-  0  done: standard output has the whole text
+  0  done: standard output has the whole text, also where records were refused
   1  a file can't be read, the text can't be written, or memory is short
-  2  the words are wrong, or asked for help
+  2  the words are wrong, or asked for help by -h or --help
   3  a file has more than 8388608 bytes, or AIRPORT is refused
-  For 1 and 3 one line on standard error names the cause, as cdmseq: AIRPORT record 5: UNKNOWN.
+  For 1 and 3 one line on standard error names the cause, as
+  cdmseq: AIRPORT record 5: UNKNOWN. The help of status 2 goes there too.
 ";

@@ -66,13 +66,14 @@ fn plans_with_one_worker_or_as_many_as_asked_for(rt: HostRuntime) -> Result<(), 
 
 #[test]
 fn wrong_words_are_told(rt: HostRuntime) -> Result<(), Fail> {
-    let cases: [(&[&str], &str); 15] = [
+    let cases: [(&[&str], &str); 16] = [
         (&["fly"], "unrecognized subcommand 'fly'"),
         (&["Plan", "a", "f"], "unrecognized subcommand 'Plan'"),
         (&["live", "a", "f", "g"], "unrecognized subcommand 'live'"),
         (&["plan"], "<AIRPORT>"),
         (&["plan", "a"], "<FEED>"),
         (&["plan", "a", "f", "g"], "unexpected argument 'g'"),
+        (&["help", "plan"], "unexpected argument 'plan'"),
         (
             &["plan", "a", "f", "--worker", "2"],
             "unexpected argument '--worker'",
@@ -119,37 +120,78 @@ fn wrong_words_are_told(rt: HostRuntime) -> Result<(), Fail> {
     Ok(())
 }
 
-// What the help says of times, records, columns, words and statuses, among other things.
+// What the long help says of times, records, columns, words and statuses, among other things.
 const TOLD: &str = "\
 TOBT   target|EXOT   estimated|CTOT   calculated|TSAT   target|TTOT   target|\
-DAY,2025-03-10|RUNWAY,27L,10,2|TAXI,*,27L,15|TAXI,A1,27L,10|\
+\nDAY,2025-03-10\n|\nRUNWAY,27L,10,2\n|\nTAXI,*,27L,15\n|\nTAXI,A1,27L,10\n|\
+DAY,day|RUNWAY,runway,cell,cap|TAXI,stand,runway,minutes|\
 AP,FLT,|AO,TOBT,|AP,STAND,|ATC,RWY,|NM,CTOT,|GH,ICE,|ATC,PRIO,|ATC,OFF,|ATC,AIR,|AO,CNL,|\
 ATC,RATE,|ATC,CLOSE,|ATC,OPEN,|ATC,TAXI,|ATC,CLOCK,|P  planned|O  off-block|A  airborne|\
 PLACED|DELAY|MAX|LATE|BLOCKED|FIELDS |ROLE |KIND |TEXT |RANGE |AUTHORITY |UNKNOWN |EXISTS |\
 ENDED |OFFBLOCK |ORDER |NOTREADY |FULL |TOBT     it|RUNWAY   it|EXOT     no|HORIZON  it|\
 CTOT     no|CLOSURE  all|RATE     those|0  done|1  a file|2  the words|3  a file";
 
+// The short help: what it says, and that its lines are short and few.
+fn check_short(rt: &impl Abort, text: &str, usage: &str) {
+    assert!(rt; text.contains(usage), "{text}");
+    assert!(rt; text.ends_with("cdmseq help | less\n"), "{text}");
+    assert!(rt; text.lines().count() <= 25, "{text}");
+    check_lines(rt, text);
+}
+
+// All of the help.
+fn check_long(rt: &impl Abort, text: &str, usage: &str) {
+    assert!(rt; text.contains(usage), "{text}");
+    for part in TOLD.split('|') {
+        assert!(rt; text.contains(part), "{part}");
+    }
+    check_lines(rt, text);
+}
+
+fn check_lines(rt: &impl Abort, text: &str) {
+    for line in text.lines() {
+        assert!(rt; line.len() <= 80, "{line}");
+    }
+}
+
 #[test]
-fn help_is_complete(rt: HostRuntime) -> Result<(), Fail> {
-    let asked: [(&[&str], &str); 5] = [
-        (&[], "Usage: cdmseq <COMMAND>"),
-        (&["--help"], "Usage: cdmseq <COMMAND>"),
-        (&["-h"], "Usage: cdmseq <COMMAND>"),
-        (
-            &["plan", "--help"],
-            "Usage: cdmseq plan [OPTIONS] <AIRPORT> <FEED>",
-        ),
-        (
-            &["plan", "a", "-h"],
-            "Usage: cdmseq plan [OPTIONS] <AIRPORT> <FEED>",
-        ),
+fn help_is_short_or_complete(rt: HostRuntime) -> Result<(), Fail> {
+    const ALL: &str = "Usage: cdmseq <COMMAND>";
+    const PLAN: &str = "Usage: cdmseq plan [OPTIONS] <AIRPORT> <FEED>";
+    let short: [(&[&str], &str); 4] = [
+        (&[], ALL),
+        (&["-h"], ALL),
+        (&["plan", "-h"], PLAN),
+        (&["plan", "a", "-h"], PLAN),
     ];
-    for (words, usage) in asked {
-        let text = usage_of(rt.alloc(), words)?;
-        assert!(rt; text.contains(usage), "{text}");
-        for part in TOLD.split('|') {
-            assert!(rt; text.contains(part), "{part}");
-        }
+    for (words, usage) in short {
+        check_short(&rt, usage_of(rt.alloc(), words)?.as_str(), usage);
+    }
+    let long: [(&[&str], &str); 2] = [(&["--help"], ALL), (&["plan", "--help"], PLAN)];
+    for (words, usage) in long {
+        check_long(&rt, usage_of(rt.alloc(), words)?.as_str(), usage);
+    }
+    Ok(())
+}
+
+#[test]
+fn help_and_version_can_be_printed(rt: HostRuntime) -> Result<(), Fail> {
+    let long = usage_of(rt.alloc(), &["--help"])?;
+    let version = String::from_str(rt.alloc(), "cdmseq 0.1.0\n")?;
+    let cases: [(&[&str], &String); 4] = [
+        (&["help"], &long),
+        (&["manual"], &long),
+        (&["--version"], &version),
+        (&["-V"], &version),
+    ];
+    for (words, expected) in cases {
+        let Ok(Command::Print(text)) = command_of(rt.alloc(), words) else {
+            return Err("no text".into());
+        };
+        assert_eq!(rt; text.as_str(), expected.as_str());
+        let mut out = Device::new(Vec::new(rt.alloc()));
+        assert!(rt; run_command(&rt, &Command::Print(text), &mut out).is_ok());
+        assert_eq!(rt; out.into_inner().as_slice(), expected.as_bytes());
     }
     Ok(())
 }
@@ -205,11 +247,16 @@ fn faults_have_lines_and_statuses(rt: HostRuntime) -> Result<(), Fail> {
 }
 
 #[test]
-fn a_device_that_is_full_stops_the_plan(rt: HostRuntime) -> Result<(), Fail> {
+fn a_device_that_is_full_stops_the_program(rt: HostRuntime) -> Result<(), Fail> {
     let workers = Workers::new(2).ok_or("workers")?;
     let day = b"DAY,2025-03-10\n".as_slice();
     let none = &[][..];
     let fault = plan(&rt, day, none, none, workers, &mut Device::new(Full)).err();
+    assert_eq!(rt; fault, Some(Fault::Run(RunError::Write)));
+    let version = command_of(rt.alloc(), &["--version"])
+        .ok()
+        .ok_or("no version")?;
+    let fault = run_command(&rt, &version, &mut Device::new(Full)).err();
     assert_eq!(rt; fault, Some(Fault::Run(RunError::Write)));
     Ok(())
 }
