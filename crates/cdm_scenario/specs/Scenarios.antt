@@ -1,0 +1,8 @@
+-- What a contract sees of a scenario.
+use Rattle.std.specs.Prelude.{ℕ, List}
+use Rattle.cdm_flight.specs.declared.update.Update.{Update}
+
+-- a name, and the updates that would come
+pub record ScenarioRecord : Type 0 where
+  pub name : List ℕ
+  pub updates : List Update
