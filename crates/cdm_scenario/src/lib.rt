@@ -5,7 +5,7 @@ mod name;
 mod scenario;
 
 pub use name::ScenarioName;
-pub use scenario::{MOST_UPDATES, Scenario};
+pub use scenario::{MOST_UPDATES, Scenario, ScenarioFault};
 
 #[cfg(test)]
 mod tests;
