@@ -1,10 +1,11 @@
 //! Scenarios.
 ghost use Rattle.std.specs.Prelude.{◌≡◌, ◌≤◌, ◌↔◌, ◌++◌, [], ◌∷◌, Some, None, Err, OnOk, OnErr, if◌then◌else◌, nat_le, length};
+ghost use Rattle.cdm_scenario.specs.Scenarios.{empty_scenario};
 ghost use Rattle.cdm_scenario.specs.declared.scenario.ScenarioFault.TheVariants as ScenarioFault;
 
 use crate::ScenarioName;
 use cdm_flight::{Update, push_reserved};
-use std::alloc::AllocError;
+use std::alloc::{AllocError, Global};
 use std::marker::Model;
 use thiserror::Error;
 
@@ -59,6 +60,16 @@ impl Scenario {
             return None;
         }
         Some(Scenario { name, updates })
+    }
+
+    /// The scenario of no update yet.
+    pub fn empty(alloc: Global, name: ScenarioName) -> Scenario
+        ensures { result ≡ empty_scenario name }
+    {
+        Scenario {
+            name,
+            updates: Vec::new(alloc),
+        }
     }
 
     /// Puts one more update behind the others.
