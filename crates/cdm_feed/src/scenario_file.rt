@@ -118,3 +118,6 @@ pub fn read_scenarios(alloc: Global, day: &Day, text: &[u8]) -> Result<Vec<Scena
     }
     Ok(scenarios)
 }
+
+#[cfg(test)]
+mod tests;
