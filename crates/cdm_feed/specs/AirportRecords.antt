@@ -1,15 +1,11 @@
 -- What a record of the airport file spells: a day, a runway or a taxi time, or the first word that
 -- refuses it.
-use Rattle.std.specs.Prelude.{ℕ, ◌==◌, List, length, codes, bytes_eq, Result, Err, if◌then◌else◌}
+use Rattle.std.specs.Prelude.{ℕ, List, codes, bytes_eq, Result, Err, if◌then◌else◌}
 use Rattle.cdm_flight.specs.declared.word.RefusalWord.{RefusalWord}
 use Rattle.cdm_flight.specs.declared.word.RefusalWord.TheVariants as word
-use Rattle.cdm_feed.specs.Fields.{cap_field, cell_field, day_field, field, of_one, of_three, place_field, runway_field, taxi_field}
+use Rattle.cdm_feed.specs.Fields.{cap_field, cell_field, day_field, field, of_fields, of_one, of_three, place_field, runway_field, taxi_field}
 use Rattle.cdm_feed.specs.declared.airport.AirportRecord.{AirportRecord}
 use Rattle.cdm_feed.specs.declared.airport.AirportRecord.TheVariants.{Day, Runway, Taxi}
-
--- what a record with so many fields spells; with another number of them FIELDS refuses it
-abbrev pub of_fields : ℕ → List (List ℕ) → Result AirportRecord RefusalWord → Result AirportRecord RefusalWord
-of_fields count fields r = if length fields == count then r else Err word.Fields
 
 -- what a record spells, by its first field
 unfoldable pub airport_record_of : List (List ℕ) → Result AirportRecord RefusalWord

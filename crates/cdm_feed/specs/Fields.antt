@@ -10,17 +10,20 @@ use Rattle.cdm_time.specs.declared.day.TimeFault.{TimeFault}
 use Rattle.cdm_time.specs.declared.day.TimeFault.TheVariants as fault
 use Rattle.cdm_flight.specs.Cells.{is_cell_length}
 use Rattle.cdm_flight.specs.Names.{is_name}
-use Rattle.cdm_flight.specs.Words.{number_of}
 use Rattle.cdm_flight.specs.declared.ice.Ice.{Ice}
 use Rattle.cdm_flight.specs.declared.ice.Ice.TheVariants.{NoIce, AtStand, Remote}
 use Rattle.cdm_flight.specs.declared.place.Place.{Place}
 use Rattle.cdm_flight.specs.declared.place.Place.TheVariants as place
 use Rattle.cdm_flight.specs.declared.word.RefusalWord.{RefusalWord}
-use Rattle.cdm_flight.specs.declared.word.RefusalWord.TheVariants.{Text, Range}
+use Rattle.cdm_flight.specs.declared.word.RefusalWord.TheVariants.{Fields, Text, Range}
 
 -- the field at a place, counted from 0
 abbrev pub field : List (List ℕ) → ℕ → List ℕ
 field fields place = unwrap_or (field_at fields place) []
+
+-- what a record with so many fields spells; with another number of them FIELDS refuses it
+abbrev pub of_fields : {X : Type 0} → ℕ → List (List ℕ) → Result X RefusalWord → Result X RefusalWord
+of_fields count fields r = if length fields == count then r else Err Fields
 
 -- what a good field's value makes
 abbrev pub of_one : {A X : Type 0} → (A → X) → Result A RefusalWord → Result X RefusalWord
@@ -29,22 +32,24 @@ of_one f (Err word) = Err word
 
 -- Several fields.
 
--- of two words the one that is tested first
+-- the word of two faulty fields: TEXT where one hasn't its form, else RANGE
 abbrev pub first_word : RefusalWord → RefusalWord → RefusalWord
-first_word one other = if nat_le (number_of one) (number_of other) then one else other
+first_word Text other = Text
+first_word one Text = Text
+first_word one other = Range
 
--- two values, or the first word that refuses one of them
+-- two values, or the word that refuses them
 unfoldable pub both : {A B : Type 0} → Result A RefusalWord → Result B RefusalWord → Result (A × B) RefusalWord
 both (Ok a) (Ok b) = Ok (a, b)
 both (Ok a) (Err word) = Err word
 both (Err word) (Ok b) = Err word
 both (Err one) (Err other) = Err (first_word one other)
 
--- three values, or the first word that refuses one of them
+-- three values, or the word that refuses them
 unfoldable pub all_three : {A B C : Type 0} → Result A RefusalWord → Result B RefusalWord → Result C RefusalWord → Result (A × B × C) RefusalWord
 all_three a b c = of_one (λ p. (p.0, p.1.0, p.1.1)) (both a (both b c))
 
--- four values, or the first word that refuses one of them
+-- four values, or the word that refuses them
 unfoldable pub all_four : {A B C D : Type 0} → Result A RefusalWord → Result B RefusalWord → Result C RefusalWord → Result D RefusalWord → Result (A × B × C × D) RefusalWord
 all_four a b c d = of_one (λ p. (p.0, p.1.0, p.1.1, p.1.2)) (both a (all_three b c d))
 

@@ -13,3 +13,5 @@ pub mod Refused
 pub mod Output
 pub mod RunFaults
 pub mod InputNames
+pub mod ScenarioRecords
+pub mod ScenarioFile

@@ -142,18 +142,17 @@ pub(crate) fn ctot_field(day: Day, text: &[u8]) -> Result<Option<Minute>, Refusa
     Ok(Some(time_field(day, text)?))
 }
 
-// Of two words that refuse a record the one that is tested first.
+// The word of two faulty fields: Text where one hasn't its form, else Range.
 fn first_word(one: RefusalWord, other: RefusalWord) -> RefusalWord
     ensures { result ≡ first_word one other }
 {
-    if one.number() <= other.number() {
-        one
-    } else {
-        other
+    match (one, other) {
+        (RefusalWord::Text, _) | (_, RefusalWord::Text) => RefusalWord::Text,
+        _ => RefusalWord::Range,
     }
 }
 
-/// Two values, or the first word that refuses one of them.
+/// Two values, or the word that refuses them.
 #[tactic(auto, unfolding(crate::specs::Fields::both))]
 pub(crate) fn both<A: Drop, B: Drop>(
     one: Result<A, RefusalWord>,
@@ -168,7 +167,7 @@ pub(crate) fn both<A: Drop, B: Drop>(
     }
 }
 
-/// Three values, or the first word that refuses one of them.
+/// Three values, or the word that refuses them.
 #[tactic(auto, unfolding(crate::specs::Fields::all_three))]
 pub(crate) fn all_three<A: Drop, B: Drop, C: Drop>(
     one: Result<A, RefusalWord>,
@@ -181,7 +180,7 @@ pub(crate) fn all_three<A: Drop, B: Drop, C: Drop>(
     Ok((one, two, three))
 }
 
-/// Four values, or the first word that refuses one of them.
+/// Four values, or the word that refuses them.
 #[tactic(auto, unfolding(crate::specs::Fields::all_four))]
 pub(crate) fn all_four<A: Drop, B: Drop, C: Drop, D: Drop>(
     one: Result<A, RefusalWord>,

@@ -1,5 +1,5 @@
-//! Reads and writes bytes: whole inputs and texts, the records of a feed and of an airport file, and
-//! what their fields spell.
+//! Reads and writes bytes: whole inputs and texts, the records of a feed, of an airport file
+//! and of a scenario file, and what their fields spell.
 #![tactic(auto)]
 
 mod airport;
@@ -19,6 +19,8 @@ mod refused;
 mod role;
 mod run_error;
 mod runs;
+mod scenario;
+mod scenario_file;
 
 pub use airport_file::read_airport;
 pub use device::Device;
@@ -29,6 +31,7 @@ pub use laws::one_text;
 pub use output::{WriteFault, write_text};
 pub use run_error::{Input, RunError};
 pub use runs::{RunCounts, run};
+pub use scenario_file::read_scenarios;
 
 #[cfg(test)]
 mod tests;

@@ -32,10 +32,10 @@ macro_rules! update {
     };
 }
 
-// The update of a kind that the fields after the kind spell. A kind with fewer than four fields
-// leaves the last ones alone.
+/// The update of a kind that the fields after the kind spell. A kind with fewer than four fields
+/// leaves the last ones alone.
 #[tactic(auto, unfolding(crate::specs::Parsing::update_of))]
-fn update_of(
+pub(crate) fn update_of(
     day: Day,
     kind: Kind,
     first: &[u8],

@@ -17,7 +17,7 @@ pub use airport::RunwayRow;
 pub use flight::{Flight, Status};
 pub use ice::Ice;
 pub use key::{Key, before};
-pub use list::{Listed, push_last};
+pub use list::{Listed, push_last, push_reserved};
 pub use name::Name;
 pub use place::Place;
 pub use role::{Role, allows};

@@ -1,0 +1,51 @@
+//! Records of the scenario file.
+ghost use Rattle.std.specs.Prelude.{◌≡◌};
+ghost use Rattle.csv.specs.Records.{fields_of};
+ghost use Rattle.cdm_feed.specs.ScenarioRecords.{scenario_field, scenario_line_of};
+
+use crate::field::field;
+use crate::kind::Kind;
+use crate::parsing::update_of;
+use cdm_flight::{RefusalWord, Update};
+use cdm_scenario::ScenarioName;
+use cdm_time::Day;
+use csv::ByteRecord;
+
+/// What a record of the scenario file says (local profile).
+#[derive(Clone, Copy, PartialEq, Eq, Debug)]
+pub(crate) enum ScenarioLine {
+    /// SCENARIO: a scenario of this name begins.
+    Begin(ScenarioName),
+    /// An update of the scenario that began last.
+    Next(Update),
+}
+
+// The name of a scenario.
+fn scenario_field(text: &[u8]) -> Result<ScenarioName, RefusalWord>
+    ensures { result ≡ scenario_field text.now }
+{
+    ScenarioName::new(text).ok_or(RefusalWord::Text)
+}
+
+/// What a record of the scenario file spells, or the first word that refuses it: Fields where it is
+/// SCENARIO or a known kind with another number of fields, Kind, Text or Range. Times are minutes of
+/// the horizon that begins on `day`.
+#[tactic(auto, unfolding(crate::specs::ScenarioRecords::scenario_line_of))]
+pub(crate) fn scenario_line(day: Day, row: &ByteRecord) -> Result<ScenarioLine, RefusalWord>
+    ensures { result ≡ scenario_line_of day (fields_of row.now) }
+{
+    let (word, first, second) = (field(row, 0), field(row, 1), field(row, 2));
+    let (third, fourth) = (field(row, 3), field(row, 4));
+    if word == b"SCENARIO".as_slice() {
+        if row.len() != 2 {
+            return Err(RefusalWord::Fields);
+        }
+        return Ok(ScenarioLine::Begin(scenario_field(first)?));
+    }
+    let kind = Kind::of_text(word).ok_or(RefusalWord::Kind)?;
+    if row.len() != 1 + kind.field_count() {
+        return Err(RefusalWord::Fields);
+    }
+    let update = update_of(day, kind, first, second, third, fourth)?;
+    Ok(ScenarioLine::Next(update))
+}

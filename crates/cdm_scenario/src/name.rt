@@ -1,0 +1,97 @@
+//! Names of scenarios.
+ghost use Rattle.std.specs.Prelude.{◌≡◌, ◌≤◌, Some, None, if◌then◌else◌, length};
+ghost use Rattle.std.specs.Cmp.{partial_equiv_from_equiv};
+ghost use Rattle.std.specs.Cmp.Lexicographic.{nat_list_eq_equiv};
+ghost use Rattle.std.specs.List.{list_all};
+ghost use Rattle.cdm_flight.specs.Names.{padded, same_name};
+ghost use Rattle.cdm_scenario.specs.Names.{IsScenarioName, is_name_byte, is_scenario_name};
+
+use std::marker::Model;
+
+/// The bytes that a scenario's name has at most.
+const LONGEST: usize = 16;
+
+/// The name of a scenario: 1 to 16 bytes of `A-Z0-9` and `-` (local profile).
+#[derive(Clone, Copy, Debug)]
+pub struct ScenarioName {
+    text: [u8; 16],
+    len: usize,
+}
+
+impl Model for ScenarioName {
+    ghost use Rattle.std.specs.Prelude.{◌≡◌, ℕ, List, ◌≤◌, length, take};
+    ghost use Rattle.std.proofs.Common.{arith, sym, length-take-le};
+    ghost use Rattle.cdm_flight.specs.Names.{padded};
+    ghost use Rattle.cdm_scenario.specs.Names.{IsScenarioName};
+
+    ghost Value = { List ℕ };
+
+    ghost view = { λ n. take n.len n.text };
+
+    ghost invariant = { λ n. (n.len ≤ 16) × (length n.text ≡ 16) × (n.text ≡ padded 16 (take n.len n.text)) × IsScenarioName (take n.len n.text) };
+
+    ghost inverse = { λ xs. record { text = padded 16 xs; len = length xs } };
+
+    ghost inverse_ok = { λ n h i. record {
+      text = sym h.2 i;
+      len = length-take-le n.len n.text (omega (arith, h.0, h.1)) i;
+    } };
+}
+
+fn name_byte(byte: u8) -> bool
+    ensures { result ≡ is_name_byte byte }
+{
+    byte.is_ascii_uppercase() || byte.is_ascii_digit() || byte == b'-'
+}
+
+fn all_name_bytes(text: &[u8]) -> bool
+    ensures { result ≡ list_all is_name_byte text.now }
+{
+    text.iter().all(|byte| name_byte(*byte))
+}
+
+fn pad(text: &[u8]) -> [u8; 16]
+    requires { length text.now ≤ 16 }
+    ensures { result ≡ padded 16 text.now }
+{
+    let mut row = [0; LONGEST];
+    row[..text.len()].copy_from_slice(text);
+    row
+}
+
+impl ScenarioName {
+    /// The name that the bytes spell, or None where they are no scenario's name.
+    pub fn new(text: &[u8]) -> Option<ScenarioName>
+        ensures { result ≡ (if is_scenario_name text.now then Some text.now else None) }
+    {
+        if text.is_empty() || text.len() > LONGEST || !all_name_bytes(text) {
+            return None;
+        }
+        Some(ScenarioName {
+            text: pad(text),
+            len: text.len(),
+        })
+    }
+
+    /// The name's bytes.
+    pub fn bytes(&self) -> &[u8]
+        ensures value { result.now ≡ self.now }
+        ensures name { IsScenarioName self.now }
+    {
+        &self.text[..self.len]
+    }
+}
+
+impl PartialEq for ScenarioName {
+    ghost eq = { same_name };
+
+    ghost laws = { partial_equiv_from_equiv nat_list_eq_equiv };
+
+    fn eq(&self, other: &Self) -> bool {
+        self.bytes() == other.bytes()
+    }
+}
+
+impl Eq for ScenarioName {
+    ghost laws = { nat_list_eq_equiv };
+}
