@@ -32,7 +32,8 @@ use Rattle.cdm_day.specs.Day.{Day, flights_in, rules_of}
 use Rattle.cdm_day.specs.DayPlan.{IsDayPlan, records_in}
 use Rattle.cdm_flight.specs.Journal.{flight_of, now_of, taxi_of}
 use Rattle.cdm_day.specs.Planning.{IsPlanOf, blocked_early, blocked_in, fixed_on, planned_of, target_in, targets_of}
-use Rattle.cdm_day.proofs.DayPlanLemmas.{record_name, runway-names}
+use Rattle.cdm_day.proofs.DayPlanLemmas.{record_name}
+use Rattle.cdm_day.proofs.NameLemmas.{runway-names}
 use Rattle.cdm_day.proofs.PlanningLemmas.{key_name, names_on}
 
 -- Lists by name.

@@ -1,5 +1,5 @@
 -- Each flight of a day stands once: as a fixed flight or a target of one runway, or blocked early.
-use Rattle.std.proofs.Common.{◌≡◌, ℕ, ◌+◌, ◌≤◌, Bool, true, false, cond, ◌||◌, List, [], ◌∷◌, ◌++◌, Option, None, Some, refl, sym, ◌∙◌, ap, subst, arith, map, filter, length, sum_by}
+use Rattle.std.proofs.Common.{Bor, ◌≡◌, ℕ, ◌+◌, ◌≤◌, Bool, true, false, cond, ◌||◌, List, [], ◌∷◌, ◌++◌, Option, None, Some, refl, sym, ◌∙◌, ap, subst, arith, map, filter, length, sum_by}
 use Rattle.std.specs.Prelude.{is_some}
 use Rattle.std.specs.Option.{option_map, option_map_or}
 use Rattle.std.specs.List.{All, cons_option, filter_map, IsDistinct, AllByRecursion}
@@ -386,3 +386,14 @@ zipped_targets times now fs [] (p ∷ ps) all = absurd all
 zipped_targets times now fs (r ∷ rs) [] all = absurd all
 zipped_targets times now fs (r ∷ rs) (p ∷ ps) all =
     (subst (λ (ts : List TargetRecord). IsRunwayPlan r (fixed_on r.name fs) ts p) (targets-among r.name times now fs) all.0, zipped_targets times now fs rs ps all.1)
+
+-- the flights of a runway among lent ones
+pub fixed_on-lent : (r : List ℕ) (fs : List (Bor Record)) → filter_map (λ f. fixed_flight f.now) (filter (λ f. is_on r f.now) fs) ≡ fixed_on r (map (λ f. f.now) fs)
+unfolding fixed_on
+fixed_on-lent r [] = refl
+fixed_on-lent r (f ∷ fs) = by (is_on r f.now) (fixed_on-lent r fs)
+  where
+    by : (b : Bool) → filter_map (λ f. fixed_flight f.now) (filter (λ f. is_on r f.now) fs) ≡ filter_map fixed_flight (filter (is_on r) (map (λ f. f.now) fs))
+        → filter_map (λ f. fixed_flight f.now) (cond b (f ∷ filter (λ f. is_on r f.now) fs) (filter (λ f. is_on r f.now) fs)) ≡ filter_map fixed_flight (cond b (f.now ∷ filter (is_on r) (map (λ f. f.now) fs)) (filter (is_on r) (map (λ f. f.now) fs)))
+    by true h = ap (cons_option (fixed_flight f.now)) h
+    by false h = h

@@ -20,11 +20,12 @@ pub(crate) struct Aimed {
 }
 
 /// The flights on their stands, in order.
-pub(crate) fn planned(alloc: Global, flights: &[Flight]) -> Result<Vec<Flight>, AllocError>
-    ensures { IfOk result (λ v. v.items ≡ planned_of flights.now) }
+pub(crate) fn planned(alloc: Global, flights: &[&Flight]) -> Result<Vec<Flight>, AllocError>
+    ensures { IfOk result (λ v. v.items ≡ planned_of (map (λ f. f.now) flights.now)) }
 {
     let mut planned = Vec::new(alloc);
     for flight in flights {
+        let flight: &Flight = flight;
         if flight.status == Status::Planned {
             push_last(&mut planned, *flight)?;
         }
