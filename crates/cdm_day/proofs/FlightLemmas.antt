@@ -8,7 +8,7 @@ use Rattle.std.specs.Map.{lookup, keys_of}
 use Rattle.std.specs.FinMap as map_of
 use Rattle.std.specs.Cmp.Lexicographic.{same_text}
 use Rattle.std.proofs.lemmas.List.{append-nil, length-map, map-append}
-use Rattle.indexmap.specs.IndexMap.{get, keys, index_map_len, Updates, insert_entry}
+use Rattle.indexmap.specs.IndexMap.{get, keys, index_map_len, insert_entry}
 use Rattle.indexmap.proofs.CallerLemmas.{insert_entry-new, keys-insert_entry-present}
 use Rattle.cdm_flight.specs.declared.flight.Status.{Status}
 use Rattle.cdm_flight.specs.declared.flight.Status.TheVariants.{Planned, OffBlock, Airborne, Cancelled}
@@ -24,7 +24,7 @@ use Rattle.cdm_flight.specs.Accepted.{has_runway}
 use Rattle.cdm_flight.proofs.Lists.{list_any-push}
 use Rattle.cdm_flight.proofs.JournalLemmas.{last_value-push, flight_of-untouched, flight_of-step, flight_of-fresh, known-untouched, runway-untouched, same_name-refl, before_off-all, status_of-record, planned_says}
 use Rattle.cdm_day.specs.Day.{flights_in}
-use Rattle.cdm_day.specs.Tables.{Flights, TellFlights}
+use Rattle.cdm_day.specs.Tables.{Flights, Sets, TellFlights}
 use Rattle.cdm_day.proofs.JournalFacts.{new_flight-old, flights_in-push}
 
 -- The taxi-out time that the code takes is the journal's where it matters.
@@ -73,12 +73,12 @@ module _ (g : AirportRows) (a : List Update) (u : Update) (m n : Flights) (f : L
   other q apart = flight_of-untouched q g a u (touched q ∙ apart)
 
   -- the table has a new record of the flight, and the journal says it
-  told_after : (r : Record) → TellFlights g a m → Updates same_name m n f (Some r) → flight_of g (a ++ u ∷ []) f ≡ Some r → keys n ≡ flights_in (a ++ u ∷ []) → TellFlights g (a ++ u ∷ []) n
+  told_after : (r : Record) → TellFlights g a m → Sets m n f r → flight_of g (a ++ u ∷ []) f ≡ Some r → keys n ≡ flights_in (a ++ u ∷ []) → TellFlights g (a ++ u ∷ []) n
   told_after r told new own order = record { each = λ q. each q (same_name f q) refl; order = order }
     where
       each : (q : List ℕ) (b : Bool) → same_name f q ≡ b → get same_name n q ≡ flight_of g (a ++ u ∷ []) q
-      each q true k = let same : f ≡ q = same_text f q (sym k) in subst (λ x. get same_name n x ≡ flight_of g (a ++ u ∷ []) x) same (new.1 ∙ sym own)
-      each q false k = new.2 q k ∙ (told.each q ∙ sym (other q k))
+      each q true k = let same : f ≡ q = same_text f q (sym k) in subst (λ x. get same_name n x ≡ flight_of g (a ++ u ∷ []) x) same (new.0 ∙ sym own)
+      each q false k = new.1 q k ∙ (told.each q ∙ sym (other q k))
 
 pub flights-old : (a : List Update) (u : Update) → is_fresh u ≡ false → flights_in (a ++ u ∷ []) ≡ flights_in a
 flights-old a u old = flights_in-push a u ∙ (ap (λ o. flights_in a ++ cons_option o []) (new_flight-old u old) ∙ append-nil (flights_in a))
@@ -86,7 +86,7 @@ flights-old a u old = flights_in-push a u ∙ (ap (λ o. flights_in a ++ cons_op
 -- after an update of a flight that is known
 pub flights_after_record : (g : AirportRows) (a : List Update) (u : Update) (m n : Flights) (f : List ℕ) (r : Record) → flight_of_update u ≡ Some f → is_fresh u ≡ false
     → TellFlights g a m → (flight_of g a f ≡ None → ⊥) → flight_of g (a ++ u ∷ []) f ≡ Some r
-    → Updates same_name m n f (Some r) → n.entries ≡ insert_entry same_name m.entries f r → TellFlights g (a ++ u ∷ []) n
+    → Sets m n f r → n.entries ≡ insert_entry same_name m.entries f r → TellFlights g (a ++ u ∷ []) n
 flights_after_record g a u m n f r e old told there says new entries =
     let same_keys : keys n ≡ keys m = ap keys_of entries ∙ keys-insert_entry-present same_name m f r (ap is_some (told.each f) ∙ is_there (flight_of g a f) there) in
     told_after g a u m n f e r told new says (same_keys ∙ (told.order ∙ sym (flights-old a u old)))
@@ -98,7 +98,7 @@ flights_after_record g a u m n f r e old told there says new entries =
 -- after the FLT of a new flight
 pub flights_after_flt : (g : AirportRows) (a : List Update) (m n : Flights) (f : List ℕ) (p : ℕ)
     → TellFlights g a m → flight_of g a f ≡ None → list_any (touches f) a ≡ false
-    → Updates same_name m n f (Some (fresh f p)) → n.entries ≡ insert_entry same_name m.entries f (fresh f p) → TellFlights g (a ++ Flt f p ∷ []) n
+    → Sets m n f (fresh f p) → n.entries ≡ insert_entry same_name m.entries f (fresh f p) → TellFlights g (a ++ Flt f p ∷ []) n
 flights_after_flt g a m n f p told none quiet new entries =
     let more : keys n ≡ keys m ++ f ∷ [] = ap keys_of (entries ∙ insert_entry-new same_name m f (fresh f p) (told.each f ∙ none)) ∙ keys_append m.entries in
     told_after g a (Flt f p) m n f refl (fresh f p) told new
@@ -123,12 +123,9 @@ flights_after_other g a u m none told = record {
   order = told.order ∙ sym (flights-old a u (fresh-none u none));
 }
 
--- a table with the same entries says the same
-pub flights_by_same_entries : (g : AirportRows) (a : List Update) (m n : Flights) → n.entries ≡ m.entries → TellFlights g a m → TellFlights g a n
-flights_by_same_entries g a m n e told = record {
-  each = λ q. ap (λ es. lookup (same_name q) es) e ∙ told.each q;
-  order = ap keys_of e ∙ told.order;
-}
+-- a table with the same entries is updated alike
+pub sets_by_same_entries : (m k n : Flights) (f : List ℕ) (r : Record) → k.entries ≡ m.entries → Sets k n f r → Sets m n f r
+sets_by_same_entries m k n f r e new = (new.0, λ q apart. new.1 q apart ∙ ap (λ es. lookup (same_name q) es) e)
 
 -- an empty table says what a journal without updates says
 pub flights_without_updates : (g : AirportRows) (m : Flights) → m.entries ≡ [] → TellFlights g [] m

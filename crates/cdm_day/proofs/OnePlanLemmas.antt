@@ -69,13 +69,13 @@ contains_from_lists f (x ∷ xs) y i = elim (Contains-append_cases (f x) (flat_m
 ]
 
 -- an element goes with one of the other list
-partner : {X Y : Type 0} (R : X → Y → Type 0) (xs : List X) (ys : List Y) (y : Y) → AllZip R xs ys → Contains ys y → (x : X) × R x y
+pub partner : {X Y : Type 0} (R : X → Y → Type 0) (xs : List X) (ys : List Y) (y : Y) → AllZip R xs ys → Contains ys y → (x : X) × R x y × Contains xs x
 partner R [] [] y all i = absurd (omega (arith, i.1))
 partner R [] (v ∷ ys) y all i = absurd all
 partner R (u ∷ xs) [] y all i = absurd all
 partner {X} {Y} R (u ∷ xs) (v ∷ ys) y all i = elim (contains_cases v ys y i) [
-  | inl e ↦ (u, subst (λ (z : Y). R u z) e all.0)
-  | inr j ↦ partner R xs ys y all.1 j
+  | inl e ↦ (u, subst (λ (z : Y). R u z) e all.0, contains_head u xs)
+  | inr j ↦ let w = partner R xs ys y all.1 j in (w.0, w.1, contains_tail u xs w.0 w.2)
 ]
 
 -- Aims.

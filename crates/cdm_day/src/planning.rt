@@ -1,22 +1,24 @@
 //! The plan of a day.
-ghost use Rattle.std.specs.Prelude.{filter, ◌≡◌, ◌+◌, ◌≤◌, ◌++◌, length, map, All, IfOk, IsPermutation, IsSorted, sum_by};
-ghost use Rattle.std.specs.List.{AllZip, filter_map, flat_map, IsDistinct};
-ghost use Rattle.std.specs.FinMap as finite;
-ghost use Rattle.cdm_flight.specs.Names.{same_name};
+ghost use Rattle.std.specs.Prelude.{filter, ◌≡◌, ◌+◌, ◌≤◌, ◌++◌, length, map, IfOk, IsPermutation, IsSorted, sum_by};
+ghost use Rattle.std.specs.List.{filter_map, flat_map};
 ghost use Rattle.cdm_sequence.specs.Fixed.{fixed_flight};
 ghost use Rattle.cdm_sequence.specs.Slots.{runway_cmp, blocked_cmp};
-ghost use Rattle.cdm_day.specs.Planning.{HasParts, IsPlanOf, fixed_on, is_on};
+ghost use Rattle.cdm_day.specs.Planning.{HasParts, fixed_on, is_on};
 ghost use Rattle.cdm_day.specs.Day.{rules_in};
 ghost use Rattle.cdm_day.specs.DayPlan.{IsDayPlan, records_in};
 ghost use Rattle.cdm_day.specs.Sound.{IsSound};
 ghost use Rattle.cdm_day.specs.Aimed.{CanSequence, IsRunwayPlan, early_among, target_for};
+ghost use Rattle.cdm_day.specs.inner.Kept.{AreKept, IsMade};
 
-use crate::aimed::{Aimed, aims, blocked, planned, targets};
+use crate::aimed::{Aimed, blocked, planned, targets};
+use crate::jobs::{RunwayJob, TargetJob};
+use crate::kept::Kept;
 use crate::records::Records;
+use crate::touched::Touched;
 use cdm_flight::{Flight, Listed, RunwayName, push_last};
+use cdm_phase::run_here;
 use cdm_runway::Runway;
 use cdm_sequence::{BlockedFlight, Fixed, Plan, RunwayPlan, fixed_of, sequence};
-use cdm_taxi::TaxiTable;
 use cdm_time::Minute;
 use std::alloc::{AllocError, Global};
 
@@ -62,25 +64,6 @@ pub(crate) fn runway_plan(
     Ok(plan)
 }
 
-// The plans of the runways, in order.
-fn runway_plans(
-    alloc: Global,
-    runways: &[&Runway],
-    flights: &[&Flight],
-    aims: &[Aimed],
-) -> Result<Vec<RunwayPlan>, AllocError>
-    requires { All (λ r. CanSequence (fixed_on r.now.name (map (λ f. f.now) flights.now)) (filter_map (target_for r.now.name) aims.now)) runways.now }
-    ensures { IfOk result (λ plans. AllZip (λ r p. IsRunwayPlan r.now (fixed_on r.now.name (map (λ f. f.now) flights.now))
-        (filter_map (target_for r.now.name) aims.now) p) runways.now plans.items) }
-{
-    let mut plans = Vec::new(alloc);
-    for runway in runways {
-        let plan = runway_plan(alloc, runway, flights, aims)?;
-        plans.push(plan)?;
-    }
-    Ok(plans)
-}
-
 // All blocked flights by name: those that were blocked early, and those of the runways.
 fn all_blocked(
     early: Vec<BlockedFlight>,
@@ -107,18 +90,22 @@ fn by_name(plans: Vec<RunwayPlan>) -> Vec<RunwayPlan>
     ordered
 }
 
-// The plan of a day, from what its planned flights could have and from the plans of its runways.
+// The plan of a day, from what its planned flights could have, and from plans of runways that stand
+// and others that were made.
 pub(crate) fn joined(
     alloc: Global,
     aims: &[Aimed],
-    plans: Vec<RunwayPlan>,
+    kept: Vec<RunwayPlan>,
+    made: Vec<RunwayPlan>,
     now: Minute,
 ) -> Result<Plan, AllocError>
-    requires { sum_by (λ p. length p.slots + length p.blocked) plans.items + length (early_among aims.now) ≤ 2000 }
+    requires { sum_by (λ p. length p.slots + length p.blocked) (kept.items ++ made.items) + length (early_among aims.now) ≤ 2000 }
     ensures clock { IfOk result (λ plan. plan.clock ≡ now) }
-    ensures parts { IfOk result (λ plan. HasParts (early_among aims.now) plans.items plan) }
+    ensures parts { IfOk result (λ plan. HasParts (early_among aims.now) (kept.items ++ made.items) plan) }
 {
     let early = blocked(alloc, aims)?;
+    let (mut plans, mut others) = (kept, made);
+    plans.append(&mut others)?;
     let plans = by_name(plans);
     let blocked = all_blocked(early, &plans)?;
     Ok(Plan {
@@ -156,32 +143,42 @@ pub(crate) fn all_runways<R: Records>(alloc: Global, records: &R) -> Result<Vec<
 }
 
 /// The plan of the day that the records tell.
-pub fn plan_of<R: Records>(alloc: Global, records: &R) -> Result<Plan, AllocError>
-    ensures { IfOk result (λ plan. IsDayPlan (R.day records.now) plan) }
+pub fn plan_of<D: Records>(alloc: Global, records: &D) -> Result<Plan, AllocError>
+    ensures { IfOk result (λ plan. IsDayPlan (D.day records.now) plan) }
 {
-    let flights = all_flights(alloc, records)?;
-    let runways = all_runways(alloc, records)?;
-    let plan = plan_from(alloc, &flights, &runways, records.taxi(), records.now())?;
+    let touched = Touched::none(alloc);
+    let kept = Kept {
+        plans: &[],
+        touched: &touched,
+    };
+    let plan = plan_keeping(alloc, records, &kept)?;
     Ok(plan)
 }
 
-// The plan of a day, from its flights in the order of first appearance, its runways, the taxi times
-// and the minute that it is now.
-fn plan_from(
+/// The plan of the day that the records tell, in which some plans of runways stand.
+pub(crate) fn plan_keeping<D: Records>(
     alloc: Global,
-    flights: &[&Flight],
-    runways: &[&Runway],
-    taxi: &TaxiTable,
-    now: Minute,
+    records: &D,
+    kept: &Kept,
 ) -> Result<Plan, AllocError>
-    requires names { IsDistinct same_name (map (λ f. f.name) (map (λ f. f.now) flights.now)) }
-    requires few { length (map (λ f. f.now) flights.now) ≤ 2000 }
-    requires runways { IsDistinct same_name (map (λ r. r.name) (map (λ r. r.now) runways.now)) }
-    ensures { IfOk result (λ plan. IsPlanOf (map (λ f. f.now) flights.now) (λ place runway. finite.get taxi.now (place, runway)) now (map (λ r. r.now) runways.now) plan) }
+    requires { AreKept (D.day records.now) kept.now.touched.now kept.now.plans.now }
+    ensures { IfOk result (λ plan. IsMade (D.day records.now) plan) }
 {
-    let planned = planned(alloc, flights)?;
-    let aims = aims(alloc, &planned, taxi, now)?;
-    let plans = runway_plans(alloc, runways, flights, &aims)?;
-    let plan = joined(alloc, &aims, plans, now)?;
+    let flights = all_flights(alloc, records)?;
+    let planned = planned(alloc, &flights)?;
+    let job = TargetJob {
+        taxi: records.taxi(),
+        clock: records.now(),
+    };
+    let aims = run_here(alloc, &job, &planned)?;
+    let runways = all_runways(alloc, records)?;
+    let left = kept.runways_left(alloc, &runways)?;
+    let job = RunwayJob {
+        flights: &flights,
+        aims: &aims,
+    };
+    let made = run_here(alloc, &job, &left)?;
+    let copies = kept.copies(alloc, &runways)?;
+    let plan = joined(alloc, &aims, copies, made, records.now())?;
     Ok(plan)
 }
