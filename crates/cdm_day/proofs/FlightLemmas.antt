@@ -123,10 +123,6 @@ flights_after_other g a u m none told = record {
   order = told.order ∙ sym (flights-old a u (fresh-none u none));
 }
 
--- a table with the same entries is updated alike
-pub sets_by_same_entries : (m k n : Flights) (f : List ℕ) (r : Record) → k.entries ≡ m.entries → Sets k n f r → Sets m n f r
-sets_by_same_entries m k n f r e new = (new.0, λ q apart. new.1 q apart ∙ ap (λ es. lookup (same_name q) es) e)
-
 -- an empty table says what a journal without updates says
 pub flights_without_updates : (g : AirportRows) (m : Flights) → m.entries ≡ [] → TellFlights g [] m
 unfolding flight_of
@@ -136,9 +132,6 @@ flights_without_updates g m none = record {
 }
 
 -- The order of the flights in the table.
-
-pub length-flights : (g : AirportRows) (a : List Update) (m : Flights) → TellFlights g a m → index_map_len m ≡ length (flights_in a)
-length-flights g a m told = sym (length-map m.entries (λ (e : List ℕ × Record). e.0)) ∙ ap length told.order
 
 slice_get-keys : (es : List (List ℕ × Record)) (i : ℕ) → slice_get (keys_of es) i ≡ option_map (λ e. e.0) (slice_get es i)
 slice_get-keys es i = slice_get-map (λ (e : List ℕ × Record). e.0) es i

@@ -39,9 +39,9 @@ impl Draft {
             return Ok((Draft { tables, touched }, Reply::Refused(word)));
         }
         touched.note(&tables, update)?;
-        let tables = tables.take(alloc, *update)?;
-        touched.note(&tables, update)?;
-        Ok((Draft { tables, touched }, Reply::Accepted))
+        let taken = tables.take(alloc, *update)?;
+        touched.note(&taken, update)?;
+        Ok((Draft { tables: taken, touched }, Reply::Accepted))
     }
 
     /// Judges each update of the batch in turn, and takes those that no word refuses.

@@ -8,4 +8,4 @@ take-requires c = good_from c.args.self.tables c.args.role c.args.update.now (sy
 
 pub returns-clause-since : goal.returns-clause-since
 returns-clause-since c = λ first since.
-    since_taken first c.args.self.tables c.in_ok-tables.tables c.args.self.touched c.note.new.self c.note-2.new.self c.args.update.now c.in_ok-tables.ensures c.in_ok-note.ensures c.in_ok-note-2.ensures since
+    since_taken first c.args.self.tables c.in_ok-taken.taken c.args.self.touched c.note.new.self c.note-2.new.self c.args.update.now c.in_ok-taken.ensures c.in_ok-note.ensures c.in_ok-note-2.ensures since
