@@ -17,9 +17,7 @@ use Rattle.cdm_flight.specs.declared.update.Update.TheVariants.{Flt}
 use Rattle.cdm_flight.specs.declared.word.RefusalWord.{RefusalWord}
 use Rattle.cdm_flight.specs.declared.word.RefusalWord.TheVariants as word
 use Rattle.cdm_sequence.proofs.OrderLemmas.{same_flips}
-use Rattle.cdm_day.specs.Airport.{IsAirport, runway_fault, runway_names, taxi_fault, with_runway, with_taxi}
-use Rattle.cdm_day.specs.declared.airport.AirportFault.{AirportFault}
-use Rattle.cdm_day.specs.declared.airport.AirportFault.TheVariants as airport
+use Rattle.cdm_day.specs.Airport.{IsAirport, runway_word, runway_names, taxi_word, with_runway, with_taxi}
 use Rattle.cdm_day.specs.Day.{Day as JournalOfDay, flights_in, new_flight}
 use Rattle.cdm_day.proofs.OnePlanLemmas.{one_day_plan}
 use Rattle.cdm_day.proofs.AirportLemmas.{airport_after_runway, airport_after_taxi, airport_without_rows}
@@ -88,12 +86,9 @@ abbrev pub Keeps : Option AirportRows → Type 0
 Keeps None = ⊤
 Keeps (Some g) = IsAirport g
 
-unless-kept : (fault : Option AirportFault) (g : AirportRows) → (fault ≡ None → IsAirport g) → IfOk (unless fault g) Keeps
+unless-kept : (o : Option RefusalWord) (g : AirportRows) → (o ≡ None → IsAirport g) → IfOk (unless o g) Keeps
 unless-kept None g k = k refl
-unless-kept (Some airport.Unknown) g k = tt
-unless-kept (Some airport.Exists) g k = tt
-unless-kept (Some airport.Full) g k = tt
-unless-kept (Some airport.Memory) g k = tt
+unless-kept (Some word) g k = tt
 
 record-kept : (s : Option AirportRows) (said : AirportRecord) → Keeps s → IfOk (with_record s said) Keeps
 unfolding with_record
@@ -101,8 +96,8 @@ record-kept None (Day day) k = airport_without_rows _ refl refl
 record-kept None (Runway r cell cap) k = tt
 record-kept None (Taxi place r minutes) k = tt
 record-kept (Some g) (Day day) k = tt
-record-kept (Some g) (Runway r cell cap) k = unless-kept (runway_fault g r) (with_runway g r cell cap) (airport_after_runway g r cell cap k)
-record-kept (Some g) (Taxi place r minutes) k = unless-kept (taxi_fault g place r) (with_taxi g place r minutes) (airport_after_taxi g place r minutes k)
+record-kept (Some g) (Runway r cell cap) k = unless-kept (runway_word g r) (with_runway g r cell cap) (airport_after_runway g r cell cap k)
+record-kept (Some g) (Taxi place r minutes) k = unless-kept (taxi_word g place r) (with_taxi g place r minutes) (airport_after_taxi g place r minutes k)
 
 fields-kept : (s : Option AirportRows) (fields : List (List ℕ)) → Keeps s → IfOk (airport_after s fields) Keeps
 unfolding airport_after

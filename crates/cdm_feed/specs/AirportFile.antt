@@ -4,22 +4,17 @@ use Rattle.std.specs.FinMap as map
 use Rattle.cdm_flight.specs.declared.word.RefusalWord.{RefusalWord}
 use Rattle.cdm_flight.specs.declared.word.RefusalWord.TheVariants as word
 use Rattle.cdm_flight.specs.Journal.{AirportRows}
-use Rattle.cdm_day.specs.Airport.{runway_fault, taxi_fault, with_runway, with_taxi}
-use Rattle.cdm_day.specs.declared.airport.AirportFault.{AirportFault}
-use Rattle.cdm_day.specs.declared.airport.AirportFault.TheVariants as fault
+use Rattle.cdm_day.specs.Airport.{runway_word, taxi_word, with_runway, with_taxi}
 use Rattle.cdm_feed.specs.AirportRecords.{airport_record_of}
 use Rattle.cdm_feed.specs.Files.{after_records}
 use Rattle.cdm_feed.specs.Records.{records_of}
 use Rattle.cdm_feed.specs.declared.airport.AirportRecord.{AirportRecord}
 use Rattle.cdm_feed.specs.declared.airport.AirportRecord.TheVariants.{Day, Runway, Taxi}
 
--- a row that can't be added to the airport is refused by the word of its fault
-abbrev pub unless : Option AirportFault → AirportRows → Result (Option AirportRows) RefusalWord
+-- a row that a word refuses can't be added to the airport
+abbrev pub unless : Option RefusalWord → AirportRows → Result (Option AirportRows) RefusalWord
 unless None g = Ok (Some g)
-unless (Some fault.Unknown) g = Err word.Unknown
-unless (Some fault.Exists) g = Err word.Exists
-unless (Some fault.Full) g = Err word.Full
-unless (Some fault.Memory) g = Err word.Full
+unless (Some refusal) g = Err refusal
 
 -- the airport after one more record, where there is none before the first; or the word that refuses
 -- the record: UNKNOWN, EXISTS, ORDER or FULL, the first that holds
@@ -28,8 +23,8 @@ with_record None (Day day) = Ok (Some (record { day = day; runways = []; taxi = 
 with_record None (Runway r cell cap) = Err word.Order
 with_record None (Taxi place r minutes) = Err word.Unknown
 with_record (Some g) (Day day) = Err word.Order
-with_record (Some g) (Runway r cell cap) = unless (runway_fault g r) (with_runway g r cell cap)
-with_record (Some g) (Taxi place r minutes) = unless (taxi_fault g place r) (with_taxi g place r minutes)
+with_record (Some g) (Runway r cell cap) = unless (runway_word g r) (with_runway g r cell cap)
+with_record (Some g) (Taxi place r minutes) = unless (taxi_word g place r) (with_taxi g place r minutes)
 
 -- the airport after one more record of the file, as its fields spell it
 unfoldable pub airport_after : Option AirportRows → List (List ℕ) → Result (Option AirportRows) RefusalWord

@@ -1,8 +1,8 @@
 -- Faults of records and of files.
-use Rattle.std.specs.Prelude.{ℕ}
+use Rattle.std.specs.Prelude.{ℕ, Option, None, Some}
 use Rattle.cdm_day.specs.declared.airport.AirportFault.{AirportFault}
-use Rattle.cdm_day.specs.declared.airport.AirportFault.TheVariants as airport
-use Rattle.cdm_flight.specs.declared.word.RefusalWord.TheVariants as word
+use Rattle.cdm_day.specs.Airport.{word_of}
+use Rattle.cdm_flight.specs.declared.word.RefusalWord.{RefusalWord}
 use Rattle.cdm_feed.specs.declared.file.FileFault.{FileFault}
 use Rattle.cdm_feed.specs.declared.file.FileFault.TheVariants as file
 use Rattle.cdm_feed.specs.declared.file.RecordFault.{RecordFault}
@@ -15,7 +15,8 @@ fault_at row.Memory number = file.Memory
 
 -- the fault of a record whose row can't be added to the airport
 abbrev pub row_fault : AirportFault → RecordFault
-row_fault airport.Unknown = row.Refused word.Unknown
-row_fault airport.Exists = row.Refused word.Exists
-row_fault airport.Full = row.Refused word.Full
-row_fault airport.Memory = row.Memory
+row_fault fault = by (word_of fault)
+  where
+    by : Option RefusalWord → RecordFault
+    by (Some word) = row.Refused word
+    by None = row.Memory

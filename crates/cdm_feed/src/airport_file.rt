@@ -17,11 +17,9 @@ use std::alloc::Global;
 fn row_fault(fault: AirportFault) -> RecordFault
     ensures { result ≡ row_fault fault }
 {
-    match fault {
-        AirportFault::Unknown => RecordFault::Refused(RefusalWord::Unknown),
-        AirportFault::Exists => RecordFault::Refused(RefusalWord::Exists),
-        AirportFault::Full => RecordFault::Refused(RefusalWord::Full),
-        AirportFault::Memory => RecordFault::Memory,
+    match fault.word() {
+        Some(word) => RecordFault::Refused(word),
+        None => RecordFault::Memory,
     }
 }
 

@@ -136,7 +136,7 @@ fn pieces_run_side_by_side(rt: HostRuntime) -> Result<(), Fail> {
     Ok(())
 }
 
-/// 64 flights on their stands are one piece, and 65 are two. Each runway is one.
+/// 64 flights on their stands are one piece, and 65 are two. They have no runway, so they touch none.
 #[test]
 fn each_piece_passes_once(rt: HostRuntime) -> Result<(), Fail> {
     for (flights, second) in [(64, 0), (65, 1)] {
@@ -147,10 +147,54 @@ fn each_piece_passes_once(rt: HostRuntime) -> Result<(), Fail> {
             accept_all(&rt, rt.alloc(), &mut day, &batch, workers, &gate)?;
             assert_eq!(rt; gate.count(PhaseName::Targets, 0), 1);
             assert_eq!(rt; gate.count(PhaseName::Targets, 1), second);
-            assert_eq!(rt; gate.count(PhaseName::Runways, 0), 1);
-            assert_eq!(rt; gate.count(PhaseName::Runways, 1), 1);
+            assert_eq!(rt; gate.count(PhaseName::Runways, 0), 0);
             assert_eq!(rt; gate.others.load(Ordering::SeqCst), 0);
         }
     }
+    Ok(())
+}
+
+/// Only touched runways are pieces: that of a flight, those before and after its move, all after a
+/// CLOCK, and none of an empty batch.
+#[test]
+fn touched_runways_are_the_pieces(rt: HostRuntime) -> Result<(), Fail> {
+    let prio: [Short; 1] = [("PRIO", "AB1", "27L", 1, None)];
+    let table: [(&[Short], [usize; 2]); 4] = [
+        (&prio, [1, 0]),
+        (&[("RWY", "AB2", "27L", 0, None)], [1, 1]),
+        (&[("CLOCK", "AB1", "27L", 300, None)], [1, 1]),
+        (&[], [0, 0]),
+    ];
+    for workers in [1, 2, 7, 64] {
+        for (updates, counts) in table {
+            let mut day = two_runways(rt.alloc())?;
+            day.apply(rt.alloc(), &batch_of(rt.alloc(), &ON_TWO_RUNWAYS)?)?;
+            let batch = batch_of(rt.alloc(), updates)?;
+            let gate = Meeting::of(PhaseName::Desks);
+            accept_all(&rt, rt.alloc(), &mut day, &batch, workers, &gate)?;
+            assert_eq!(rt; gate.count(PhaseName::Runways, 0), counts[0]);
+            assert_eq!(rt; gate.count(PhaseName::Runways, 1), counts[1]);
+            assert_eq!(rt; gate.others.load(Ordering::SeqCst), 0);
+        }
+    }
+    Ok(())
+}
+
+/// A copy shares its parts with the day, and stays as it was while 100 batches change it.
+#[test]
+fn copy_stays(rt: HostRuntime) -> Result<(), Fail> {
+    let mut day = two_runways(rt.alloc())?;
+    day.apply(rt.alloc(), &batch_of(rt.alloc(), &ON_TWO_RUNWAYS)?)?;
+    let copy = day.copy(rt.alloc())?;
+    for number in 0..100 {
+        let updates = [
+            ("TOBT", "AB1", "27L", 400 + number, None),
+            ("RWY", "AB2", if number % 2 == 0 { "27L" } else { "09" }, 0, None),
+        ];
+        day.apply(rt.alloc(), &batch_of(rt.alloc(), &updates)?)?;
+    }
+    assert_eq!(rt; day.journal().len(), 206);
+    assert_eq!(rt; copy.journal().len(), 6);
+    assert_slots(&rt, &copy, &APART);
     Ok(())
 }

@@ -28,6 +28,7 @@ pub fn update_of(short: Short) -> Option<(Role, Update)> {
     Some(match kind {
         "FLT" => (Role::AirportOperator, Update::Flt { flight, priority }),
         "TOBT" => (Role::AircraftOperator, Update::Tobt { flight, tobt }),
+        "PRIO" => (Role::AirTrafficControl, Update::Prio { flight, priority }),
         "CTOT" => (Role::AircraftOperator, Update::Ctot { flight, ctot }),
         "RWY" => (Role::AirTrafficControl, Update::Rwy { flight, runway }),
         "OFF" => (Role::AirTrafficControl, Update::Off { flight, aobt }),
