@@ -212,7 +212,7 @@ kept_since first d t plan made since r p i e = by (is_touched t r.name) refl e
         let there = contains_map (rules_of first.airport first.journal) (rows_by_name first.airport.runways) row (subst (λ g. Contains (rows_by_name g.runways) row) since.airport at.1) in
         let name : old.0.name ≡ row.name = sym old.1.sequence.runway ∙ (same_is p.runway r.name found.1 ∙ sym named) in
         let one : old.0 ≡ rules_of first.airport first.journal row = one_of_key same_name same_flips (λ (x : RunwayRules). x.name) (rules_in first.airport first.journal) old.0 (rules_of first.airport first.journal row)
-            (rule_names_differ first.airport first.journal made.airport) old.2 there (is_same old.0.name row.name name) in
+        (rule_names_differ first.airport first.journal made.airport) old.2 there (is_same old.0.name row.name name) in
         let same = since.same row (ap (is_touched t) named ∙ h) in
         let here : IsRunwayPlan (rules_of first.airport first.journal row) (fixed_in first row.name) (targets_in first row.name) p = subst (λ (x : RunwayRules). IsPlanOn first x p) one old.1 in
         subst (λ (x : RunwayRules). IsPlanOn d x p) at.2

@@ -20,7 +20,10 @@ pub(crate) struct Aimed {
 }
 
 /// The flights on their stands, in order.
-pub(crate) fn planned<'a>(alloc: Global, flights: &[&'a Flight]) -> Result<Vec<&'a Flight>, AllocError>
+pub(crate) fn planned<'a>(
+    alloc: Global,
+    flights: &[&'a Flight],
+) -> Result<Vec<&'a Flight>, AllocError>
     ensures { IfOk result (λ v. map (λ f. f.now) v.items ≡ planned_of (map (λ f. f.now) flights.now)) }
 {
     let mut planned = Vec::new(alloc);

@@ -41,7 +41,13 @@ impl Draft {
         touched.note(&tables, update)?;
         let taken = tables.take(alloc, *update)?;
         touched.note(&taken, update)?;
-        Ok((Draft { tables: taken, touched }, Reply::Accepted))
+        Ok((
+            Draft {
+                tables: taken,
+                touched,
+            },
+            Reply::Accepted,
+        ))
     }
 
     /// Judges each update of the batch in turn, and takes those that no word refuses.

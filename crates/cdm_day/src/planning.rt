@@ -33,11 +33,7 @@ fn has_runway(flight: &Flight, runway: RunwayName) -> bool
 }
 
 // The flights that have left their stands for a runway, in order.
-fn fixed(
-    alloc: Global,
-    runway: RunwayName,
-    flights: &[&Flight],
-) -> Result<Vec<Fixed>, AllocError>
+fn fixed(alloc: Global, runway: RunwayName, flights: &[&Flight]) -> Result<Vec<Fixed>, AllocError>
     ensures { IfOk result (λ v. v.items ≡ filter_map (λ f. fixed_flight f.now) (filter (λ f. is_on runway f.now) flights.now)) }
 {
     flights
@@ -116,7 +112,10 @@ pub(crate) fn joined(
 }
 
 // All flights in the order of first appearance.
-pub(crate) fn all_flights<R: Records>(alloc: Global, records: &R) -> Result<Vec<&Flight>, AllocError>
+pub(crate) fn all_flights<R: Records>(
+    alloc: Global,
+    records: &R,
+) -> Result<Vec<&Flight>, AllocError>
     ensures sound { IsSound (R.day records.now) }
     ensures all { IfOk result (λ v. let d = R.day records.now in map (λ f. f.now) v.items ≡ records_in d.airport d.journal) }
 {
@@ -130,7 +129,10 @@ pub(crate) fn all_flights<R: Records>(alloc: Global, records: &R) -> Result<Vec<
 }
 
 // All runways by name.
-pub(crate) fn all_runways<R: Records>(alloc: Global, records: &R) -> Result<Vec<&Runway>, AllocError>
+pub(crate) fn all_runways<R: Records>(
+    alloc: Global,
+    records: &R,
+) -> Result<Vec<&Runway>, AllocError>
     ensures { IfOk result (λ v. let d = R.day records.now in map (λ r. r.now) v.items ≡ rules_in d.airport d.journal) }
 {
     let mut runways = Vec::new(alloc);

@@ -43,7 +43,11 @@ impl Touched {
     }
 
     /// Adds the runway of the update, or the runway that its flight has.
-    pub(crate) fn note<R: Records>(&mut self, records: &R, update: &Update) -> Result<(), AllocError>
+    pub(crate) fn note<R: Records>(
+        &mut self,
+        records: &R,
+        update: &Update,
+    ) -> Result<(), AllocError>
         ensures { OnOk result (Adds self.old (is_noted (R.day records.now) update.now) self.new) }
     {
         match *update {

@@ -189,7 +189,13 @@ fn copy_stays(rt: HostRuntime) -> Result<(), Fail> {
     for number in 0..100 {
         let updates = [
             ("TOBT", "AB1", "27L", 400 + number, None),
-            ("RWY", "AB2", if number % 2 == 0 { "27L" } else { "09" }, 0, None),
+            (
+                "RWY",
+                "AB2",
+                if number % 2 == 0 { "27L" } else { "09" },
+                0,
+                None,
+            ),
         ];
         day.apply(rt.alloc(), &batch_of(rt.alloc(), &updates)?)?;
     }

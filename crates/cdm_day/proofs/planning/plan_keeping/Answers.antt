@@ -38,7 +38,7 @@ joined-requires g c =
     let left = c.deref-6.ensures.value ∙ (c.in_ok-left.ensures ∙ ap (filter (λ r. is_none (stands r))) c.deref-3.ensures.value) in
     let copies = c.in_ok-copies.ensures ∙ ap (filter_map stands) c.deref-7.ensures.value in
     let all = together d c.in_ok-flights.ensures.sound c.deref-4.result.now flights c.deref-5.result.now aims c.in_ok-runways.runways.items c.deref-6.result.now c.args.kept.now.touched.now c.args.kept.now.plans.now
-        c.in_ok-copies.copies.items c.in_ok-made.made.items c.in_ok-runways.ensures left copies c.requires c.in_ok-made.ensures in
+    c.in_ok-copies.copies.items c.in_ok-made.made.items c.in_ok-runways.ensures left copies c.requires c.in_ok-made.ensures in
     let same = c.deref-5.ensures.value ∙ sym c.deref-8.ensures.value in
     subst (λ (l : List Aimed). sum_by (λ p. length p.slots + length p.blocked) (c.in_ok-copies.copies.items ++ c.in_ok-made.made.items) + length (early_among l) ≤ 2000) same all.few
 
@@ -52,7 +52,7 @@ returns g c =
     let left = c.deref-6.ensures.value ∙ (c.in_ok-left.ensures ∙ ap (filter (λ r. is_none (stands r))) c.deref-3.ensures.value) in
     let copies = c.in_ok-copies.ensures ∙ ap (filter_map stands) c.deref-7.ensures.value in
     let all = together d c.in_ok-flights.ensures.sound c.deref-4.result.now flights c.deref-5.result.now aims c.in_ok-runways.runways.items c.deref-6.result.now c.args.kept.now.touched.now c.args.kept.now.plans.now
-        c.in_ok-copies.copies.items c.in_ok-made.made.items c.in_ok-runways.ensures left copies c.requires c.in_ok-made.ensures in
+    c.in_ok-copies.copies.items c.in_ok-made.made.items c.in_ok-runways.ensures left copies c.requires c.in_ok-made.ensures in
     let same = c.deref-5.ensures.value ∙ sym c.deref-8.ensures.value in
     all.made c.in_ok-plan.plan (c.in_ok-plan.ensures.clock ∙ c.now-2.ensures.value)
     (subst (λ (l : List Aimed). HasParts (early_among l) (c.in_ok-copies.copies.items ++ c.in_ok-made.made.items) c.in_ok-plan.plan) (sym same) c.in_ok-plan.ensures.parts)

@@ -20,8 +20,8 @@ loop-runway-preserved c =
     let found = ap (kept_plan c.args.self.now.touched.now c.args.self.now.plans.now) (sym c.name.ensures) ∙ sym c.plan_on.ensures in
     elim c.match-plan_on.branch [
       | in-Some+in_ok-copy+in_ok-push w ↦
-        ap (λ v. v.items) w.copies-is ∙ (w.in_ok-push.ensures.items ∙ ((λ i. c.loop-runway.invariant i ++ w.in_ok-copy.ensures i ∷ [])
-        ∙ sym (next ∙ ap (λ o. filter_map stands (take k rs) ++ cons_option o []) (found ∙ ap option_copied w.in-Some.is))))
+          ap (λ v. v.items) w.copies-is ∙ (w.in_ok-push.ensures.items ∙ ((λ i. c.loop-runway.invariant i ++ w.in_ok-copy.ensures i ∷ [])
+          ∙ sym (next ∙ ap (λ o. filter_map stands (take k rs) ++ cons_option o []) (found ∙ ap option_copied w.in-Some.is))))
       | in_default w ↦
-        ap (λ v. v.items) w.copies-is ∙ (c.loop-runway.invariant ∙ sym (next ∙ (ap (λ o. filter_map stands (take k rs) ++ cons_option o []) (found ∙ ap option_copied w.in_default.is) ∙ append-nil (filter_map stands (take k rs)))))
+          ap (λ v. v.items) w.copies-is ∙ (c.loop-runway.invariant ∙ sym (next ∙ (ap (λ o. filter_map stands (take k rs) ++ cons_option o []) (found ∙ ap option_copied w.in_default.is) ∙ append-nil (filter_map stands (take k rs)))))
     ]
