@@ -1,14 +1,14 @@
 -- The table of flights says what the journal says after one more update.
-use Rattle.std.proofs.Common.{◌≡◌, ℕ, ◌≤◌, ◌<◌, Bool, true, false, ◌||◌, List, [], ◌∷◌, ◌++◌, length, Option, None, Some, refl, sym, ap, ◌∙◌, subst, arith, true≢false, length-append}
+use Rattle.std.proofs.Common.{◌≡◌, ℕ, Bool, true, false, List, [], ◌∷◌, ◌++◌, Option, None, Some, refl, sym, ap, ◌∙◌, subst}
 use Rattle.std.specs.Prelude.{is_some, slice_get}
-use Rattle.std.specs.Option.{option_and_then, option_map, option_map_or, option_or}
+use Rattle.std.specs.Option.{option_and_then, option_map, option_map_or}
 use Rattle.std.proofs.lemmas.Option.{slice_get-map}
 use Rattle.std.specs.List.{list_any, cons_option}
 use Rattle.std.specs.Map.{lookup, keys_of}
 use Rattle.std.specs.FinMap as map_of
 use Rattle.std.specs.Cmp.Lexicographic.{same_text}
-use Rattle.std.proofs.lemmas.List.{append-nil, length-map, map-append}
-use Rattle.indexmap.specs.IndexMap.{get, keys, index_map_len, insert_entry}
+use Rattle.std.proofs.lemmas.List.{append-nil, map-append}
+use Rattle.indexmap.specs.IndexMap.{get, keys, insert_entry}
 use Rattle.indexmap.proofs.CallerLemmas.{insert_entry-new, keys-insert_entry-present}
 use Rattle.cdm_flight.specs.declared.flight.Status.{Status}
 use Rattle.cdm_flight.specs.declared.flight.Status.TheVariants.{Planned, OffBlock, Airborne, Cancelled}
@@ -17,12 +17,10 @@ use Rattle.cdm_flight.specs.declared.update.Update.{Update}
 use Rattle.cdm_flight.specs.declared.update.Update.TheVariants.{Flt, Off}
 use Rattle.cdm_flight.specs.Names.{same_name}
 use Rattle.cdm_flight.specs.Record.{Record, fresh}
-use Rattle.cdm_flight.specs.Step.{flight_of_update, is_fresh, stepped, step_refusal, step_of}
+use Rattle.cdm_flight.specs.Step.{flight_of_update, is_fresh, step_of}
 use Rattle.cdm_flight.specs.Taxi.{TaxiRows, taxi_out}
-use Rattle.cdm_flight.specs.Journal.{AirportRows, touches, makes_known, sets_runway, is_known, is_cancelled, runway_of, aobt_of, atot_of, exot_now, exot_of, record_with, flight_of, taxi_of}
-use Rattle.cdm_flight.specs.Accepted.{has_runway}
-use Rattle.cdm_flight.proofs.Lists.{list_any-push}
-use Rattle.cdm_flight.proofs.JournalLemmas.{last_value-push, flight_of-untouched, flight_of-step, flight_of-fresh, known-untouched, runway-untouched, same_name-refl, before_off-all, status_of-record, planned_says}
+use Rattle.cdm_flight.specs.Journal.{AirportRows, touches, is_known, is_cancelled, runway_of, aobt_of, atot_of, exot_now, exot_of, record_with, flight_of, taxi_of}
+use Rattle.cdm_flight.proofs.JournalLemmas.{flight_of-untouched, flight_of-fresh, before_off-all, status_of-record, planned_says}
 use Rattle.cdm_day.specs.Day.{flights_in}
 use Rattle.cdm_day.specs.Tables.{Flights, Sets, TellFlights}
 use Rattle.cdm_day.proofs.JournalFacts.{new_flight-old, flights_in-push}

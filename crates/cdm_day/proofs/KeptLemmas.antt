@@ -1,9 +1,8 @@
 -- A runway that updates do not touch keeps its plan.
-use Rattle.std.proofs.Common.{◌≡◌, ℕ, Bool, true, false, cond, ◌&&◌, List, [], ◌∷◌, ◌++◌, Option, None, Some, refl, sym, ◌∙◌, ap, subst, map}
+use Rattle.std.proofs.Common.{◌≡◌, ℕ, Bool, true, false, cond, ◌&&◌, List, [], ◌∷◌, ◌++◌, Option, None, Some, refl, sym, ◌∙◌, ap, subst}
 use Rattle.std.specs.Option.{option_and_then, option_map_or}
 use Rattle.std.specs.Prelude.{if◌then◌else◌}
 use Rattle.std.specs.List.{Contains, cons_option, filter_map, find}
-use Rattle.std.specs.List.Sorted.{IsPermutation}
 use Rattle.std.proofs.lemmas.List.{append-nil}
 use Rattle.std.proofs.lemmas.List.Elements.{filter_map-append}
 use Rattle.std.proofs.lemmas.List.Sorted.{Contains-permutation, IsPermutation-sym}
@@ -15,7 +14,7 @@ use Rattle.cdm_flight.specs.Names.{same_name}
 use Rattle.cdm_flight.specs.Record.{Record, is_planned}
 use Rattle.cdm_flight.specs.Step.{flight_of_update}
 use Rattle.cdm_flight.specs.Taxi.{taxi_out}
-use Rattle.cdm_flight.specs.Journal.{flight_of, last_value, now_of, only_if, sets_cap, sets_closed, sets_now, sets_taxi, taxi_of, touches}
+use Rattle.cdm_flight.specs.Journal.{flight_of, now_of, only_if, sets_cap, sets_closed, sets_now, sets_taxi, taxi_of, touches}
 use Rattle.cdm_flight.proofs.JournalLemmas.{flight_of-untouched}
 use Rattle.cdm_flight.proofs.Lists.{contains_from_map, contains_map, if_so, one_of_key}
 use Rattle.cdm_runway.specs.Rules.{RunwayRules}
@@ -32,7 +31,7 @@ use Rattle.cdm_day.specs.Day.{Day, flights_in, new_flight, rows_by_name, rules_i
 use Rattle.cdm_day.specs.DayPlan.{records_in}
 use Rattle.cdm_day.specs.declared.touched.Touched.{Touched}
 use Rattle.cdm_day.specs.Planning.{is_on, target_in}
-use Rattle.cdm_day.specs.inner.Kept.{Adds, AreKept, IsMade, IsPlanOn, IsSince, SameOn, fixed_in, is_noted, is_touched, kept_plan, targets_in}
+use Rattle.cdm_day.specs.inner.Kept.{Adds, AreKept, IsMade, IsPlanOn, IsSince, SameOn, fixed_in, is_noted, is_touched, targets_in}
 use Rattle.cdm_day.proofs.JournalFacts.{flights_in-push, now_of-same, taxi_of-same}
 use Rattle.cdm_day.proofs.NameLemmas.{find_some, rule_names_differ}
 use Rattle.cdm_day.proofs.OnePlanLemmas.{partner}

@@ -22,7 +22,7 @@ use Rattle.cdm_day.specs.Day.{Day, rules_in}
 use Rattle.cdm_day.specs.DayPlan.{records_in}
 use Rattle.cdm_day.specs.Planning.{HasParts, blocked_early, fixed_on, planned_of}
 use Rattle.cdm_day.specs.Sound.{IsSound, TellTaxi}
-use Rattle.cdm_day.specs.inner.Kept.{AreKept, IsMade, IsPlanOn, fixed_in, kept_plan, targets_in}
+use Rattle.cdm_day.specs.inner.Kept.{AreKept, IsMade, IsPlanOn, kept_plan, targets_in}
 use Rattle.cdm_day.proofs.DayPlanLemmas.{day_plan, few_records, flight_names_differ}
 use Rattle.cdm_day.proofs.NameLemmas.{rule_names_differ}
 use Rattle.cdm_day.proofs.PartLemmas.{All-lent, AllZip-lent, few_parts}

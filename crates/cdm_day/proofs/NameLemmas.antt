@@ -14,12 +14,11 @@ use Rattle.cdm_flight.specs.declared.airport.RunwayRow.{RunwayRow}
 use Rattle.cdm_flight.specs.declared.update.Update.{Update}
 use Rattle.cdm_flight.specs.Names.{same_name, name_cmp}
 use Rattle.cdm_flight.specs.Journal.{AirportRows, runway_row}
-use Rattle.cdm_flight.proofs.JournalLemmas.{same_name-refl}
 use Rattle.cdm_runway.specs.Rules.{RunwayRules}
 use Rattle.cdm_flight.proofs.Lists.{contains_cases, contains_head, contains_tail, one_of_key}
 use Rattle.cdm_sequence.proofs.OrderLemmas.{same_flips}
 use Rattle.cdm_day.specs.Airport.{IsAirport, runway_names}
-use Rattle.cdm_day.specs.Day.{Day, rules_of, put_by_name, rows_by_name, rules_in}
+use Rattle.cdm_day.specs.Day.{rules_of, put_by_name, rows_by_name, rules_in}
 
 -- What `find` finds.
 

@@ -1,9 +1,9 @@
 -- A day stays sound with every update that no word refuses.
-use Rattle.std.proofs.Common.{◌≡◌, ℕ, ◌+◌, ◌<◌, ◌≤◌, Bool, true, false, not, ◌&&◌, ◌||◌, List, [], ◌∷◌, ◌++◌, length, Option, None, Some, refl, sym, ap, ◌∙◌, subst, true≢false, arith, length-append}
+use Rattle.std.proofs.Common.{◌≡◌, ℕ, ◌+◌, ◌≤◌, Bool, true, false, not, ◌&&◌, ◌||◌, List, [], ◌∷◌, ◌++◌, length, Option, None, Some, refl, sym, ap, ◌∙◌, subst, true≢false, arith, length-append}
 use Rattle.std.specs.Prelude.{if◌then◌else◌, nat_le, count_by, is_some}
 use Rattle.std.proofs.lemmas.Bool.Decides.{nat_tests}
 use Rattle.std.specs.Option.{option_map_or, option_or}
-use Rattle.std.specs.List.{list_any, cons_option, IsDistinct}
+use Rattle.std.specs.List.{list_any, IsDistinct}
 use Rattle.std.specs.Cmp.Lexicographic.{same_text}
 use Rattle.std.proofs.lemmas.Cmp.{nat_list_eq_equiv}
 use Rattle.std.proofs.lemmas.List.{append-nil}
@@ -17,9 +17,9 @@ use Rattle.cdm_flight.specs.Journal.{AirportRows, touches, makes_known, sets_run
 use Rattle.cdm_flight.specs.Accepted.{has_runway, has_ended, has_left, of_flight, is_unknown, is_known_already, is_disordered, is_unready, is_one_stand_too_many, is_full, refusal_of}
 use Rattle.cdm_flight.proofs.JournalLemmas.{last_value-push}
 use Rattle.cdm_flight.proofs.Lists.{list_any-push}
-use Rattle.cdm_day.specs.Day.{Day, flights_in, new_flight, with_update}
+use Rattle.cdm_day.specs.Day.{Day, flights_in, with_update}
 use Rattle.cdm_day.specs.Sound.{IsSound}
-use Rattle.cdm_day.proofs.JournalFacts.{flights_in-push, new_flight-old}
+use Rattle.cdm_day.proofs.JournalFacts.{flights_in-push}
 use Rattle.cdm_day.proofs.WordLemmas.{flt-accepted, known_from, known_is, named_runway}
 
 -- a flight is known where it is among those that were made known

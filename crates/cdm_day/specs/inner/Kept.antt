@@ -7,7 +7,7 @@ use Rattle.cdm_flight.specs.declared.update.Update.{Update}
 use Rattle.cdm_flight.specs.declared.update.Update.TheVariants.{Rate, Close, Reopen, Taxi, Clock}
 use Rattle.cdm_flight.specs.Names.{same_name}
 use Rattle.cdm_flight.specs.Step.{flight_of_update}
-use Rattle.cdm_flight.specs.Journal.{AirportRows, flight_of, now_of, taxi_of}
+use Rattle.cdm_flight.specs.Journal.{flight_of, now_of, taxi_of}
 use Rattle.cdm_runway.specs.Rules.{RunwayRules}
 use Rattle.cdm_sequence.specs.Day.{targets_on}
 use Rattle.cdm_sequence.specs.Fixed.{FixedRecord}

@@ -1,4 +1,4 @@
-use Rattle.std.proofs.Common.{Bor, ◌≡◌, ◌<◌, ◌++◌, ◌∷◌, [], Some, None, Option, length, take, sym, ◌∙◌, ap, arith}
+use Rattle.std.proofs.Common.{Bor, ◌<◌, ◌++◌, ◌∷◌, [], Option, length, take, sym, ◌∙◌, ap, arith}
 use Rattle.std.specs.List.{cons_option, filter_map}
 use Rattle.std.specs.Option.{option_copied}
 use Rattle.std.proofs.lemmas.List.{append-nil, take_more}
