@@ -368,43 +368,19 @@ fn two_thousand_flights_in_scrambled_order(rt: HostRuntime) -> Result<(), Fail> 
     Ok(())
 }
 
-// A day of one runway at 00:20, of which one more flight is blocked.
-fn day_of(alloc: Global, part: RunwayPlan) -> Result<Plan, Fail> {
-    let name = FlightName::new(b"CD2").ok_or("no flight name")?;
-    let blocked = vec![in alloc; BlockedFlight { name, rule: Tobt }]?;
-    if part.slots.len() > 1000 {
-        return Err("too many flights".into());
-    }
-    let mut runways = Vec::new(alloc);
-    runways.push(part)?;
-    Ok(Plan {
-        now: Minute::new(20).ok_or("no minute")?,
-        runways: Listed::new(runways),
-        blocked: Listed::new(blocked),
-    })
-}
-
 #[test]
-fn copies(rt: HostRuntime) -> Result<(), Fail> {
-    let flights = [("AB1", 5, 360, "", NONE), ("AB2", 5, 360, "", NONE)];
-    let targets = targets_of(rt.alloc(), &flights)?;
-    let runway = runway_of(rt.alloc(), 0, &[("RATE", 370, 380, 1)])?;
-    let part = sequenced(rt.alloc(), &runway, &[], &targets)?;
-    let copy = part.copy(rt.alloc())?;
-    assert_eq!(rt; (copy.slots.len(), copy.blocked.len()), (1, 1));
-    assert_eq!(rt; copy.runway, part.runway);
-    assert_eq!(rt; copy.slots.as_slice(), part.slots.as_slice());
-    assert_eq!(rt; copy.blocked.as_slice(), part.blocked.as_slice());
-    let day = day_of(rt.alloc(), part)?;
-    let copied = day.copy(rt.alloc())?;
-    assert_eq!(rt; copied.now.get(), 20);
-    assert_eq!(rt; copied.blocked.as_slice(), day.blocked.as_slice());
-    for plan in copied.runways.as_slice() {
-        assert_eq!(rt; plan.runway, copy.runway);
-        assert_eq!(rt; plan.slots.as_slice(), copy.slots.as_slice());
-        assert_eq!(rt; plan.blocked.as_slice(), copy.blocked.as_slice());
-    }
-    assert_eq!(rt; copied.runways.len(), 1);
+fn copy_of_a_plan(rt: HostRuntime) -> Result<(), Fail> {
+    let name = FlightName::new(b"CD2").ok_or("no flight name")?;
+    let blocked = vec![in rt.alloc(); BlockedFlight { name, rule: Tobt }]?;
+    let plan = Plan {
+        now: Minute::new(20).ok_or("no minute")?,
+        runways: Listed::new(Vec::new(rt.alloc())),
+        blocked: Listed::new(blocked),
+    };
+    let copy = plan.copy(rt.alloc())?;
+    assert_eq!(rt; copy.now, plan.now);
+    assert_eq!(rt; copy.blocked.as_slice(), plan.blocked.as_slice());
+    assert!(rt; copy.runways.is_empty());
     Ok(())
 }
 
