@@ -1,13 +1,14 @@
 -- The table of flights says what the journal says after one more update.
 use Rattle.std.proofs.Common.{◌≡◌, ℕ, ◌≤◌, ◌<◌, Bool, true, false, ◌||◌, List, [], ◌∷◌, ◌++◌, length, Option, None, Some, refl, sym, ap, ◌∙◌, subst, arith, true≢false, length-append}
-use Rattle.std.specs.Prelude.{is_some}
-use Rattle.std.specs.Option.{option_and_then, option_map_or, option_or}
+use Rattle.std.specs.Prelude.{is_some, slice_get}
+use Rattle.std.specs.Option.{option_and_then, option_map, option_map_or, option_or}
+use Rattle.std.proofs.lemmas.Option.{slice_get-map}
 use Rattle.std.specs.List.{list_any, cons_option}
 use Rattle.std.specs.Map.{lookup, keys_of}
 use Rattle.std.specs.FinMap as map_of
 use Rattle.std.specs.Cmp.Lexicographic.{same_text}
-use Rattle.std.proofs.lemmas.List.{append-nil, map-append}
-use Rattle.indexmap.specs.IndexMap.{get, keys, Updates, insert_entry}
+use Rattle.std.proofs.lemmas.List.{append-nil, length-map, map-append}
+use Rattle.indexmap.specs.IndexMap.{get, keys, index_map_len, insert_entry}
 use Rattle.indexmap.proofs.CallerLemmas.{insert_entry-new, keys-insert_entry-present}
 use Rattle.cdm_flight.specs.declared.flight.Status.{Status}
 use Rattle.cdm_flight.specs.declared.flight.Status.TheVariants.{Planned, OffBlock, Airborne, Cancelled}
@@ -23,7 +24,7 @@ use Rattle.cdm_flight.specs.Accepted.{has_runway}
 use Rattle.cdm_flight.proofs.Lists.{list_any-push}
 use Rattle.cdm_flight.proofs.JournalLemmas.{last_value-push, flight_of-untouched, flight_of-step, flight_of-fresh, known-untouched, runway-untouched, same_name-refl, before_off-all, status_of-record, planned_says}
 use Rattle.cdm_day.specs.Day.{flights_in}
-use Rattle.cdm_day.specs.Tables.{Flights, TellFlights}
+use Rattle.cdm_day.specs.Tables.{Flights, Sets, TellFlights}
 use Rattle.cdm_day.proofs.JournalFacts.{new_flight-old, flights_in-push}
 
 -- The taxi-out time that the code takes is the journal's where it matters.
@@ -72,125 +73,84 @@ module _ (g : AirportRows) (a : List Update) (u : Update) (m n : Flights) (f : L
   other q apart = flight_of-untouched q g a u (touched q ∙ apart)
 
   -- the table has a new record of the flight, and the journal says it
-  told_after : (r : Record) → TellFlights g a m → Updates same_name m n f (Some r) → flight_of g (a ++ u ∷ []) f ≡ Some r → is_known (a ++ u ∷ []) f ≡ true
-      → keys n ≡ flights_in (a ++ u ∷ []) → length (flights_in (a ++ u ∷ [])) ≤ 2000 → ((q r : List ℕ) → sets_runway q u ≡ Some r → has_runway g r ≡ true) → TellFlights g (a ++ u ∷ []) n
-  told_after r told new own here order few named = record {
-    each = λ q. each q (same_name f q) refl;
-    known = λ q. known q (same_name f q) refl;
-    silent = λ q h. silent q h (same_name f q) refl;
-    order = order;
-    few = few;
-    runways = λ q s h. by (sets_runway q u) q refl s (sym (last_value-push (sets_runway q) a u) ∙ h);
-  }
+  told_after : (r : Record) → TellFlights g a m → Sets m n f r → flight_of g (a ++ u ∷ []) f ≡ Some r → keys n ≡ flights_in (a ++ u ∷ []) → TellFlights g (a ++ u ∷ []) n
+  told_after r told new own order = record { each = λ q. each q (same_name f q) refl; order = order }
     where
       each : (q : List ℕ) (b : Bool) → same_name f q ≡ b → get same_name n q ≡ flight_of g (a ++ u ∷ []) q
-      each q true k = let same : f ≡ q = same_text f q (sym k) in subst (λ x. get same_name n x ≡ flight_of g (a ++ u ∷ []) x) same (new.1 ∙ sym own)
-      each q false k = new.2 q k ∙ (told.each q ∙ sym (other q k))
+      each q true k = let same : f ≡ q = same_text f q (sym k) in subst (λ x. get same_name n x ≡ flight_of g (a ++ u ∷ []) x) same (new.0 ∙ sym own)
+      each q false k = new.1 q k ∙ (told.each q ∙ sym (other q k))
 
-      known_before : (q : List ℕ) → same_name f q ≡ false → is_known (a ++ u ∷ []) q ≡ is_known a q
-      known_before q k = list_any-push (makes_known q) a u ∙ ap (λ b. b || is_known a q) (known-untouched q u (touched q ∙ k))
-
-      known : (q : List ℕ) (b : Bool) → same_name f q ≡ b → is_known (a ++ u ∷ []) q ≡ is_some (get same_name n q)
-      known q true k = let same : f ≡ q = same_text f q (sym k) in subst (λ x. is_known (a ++ u ∷ []) x ≡ is_some (get same_name n x)) same (here ∙ sym (ap is_some new.1))
-      known q false k = known_before q k ∙ (told.known q ∙ sym (ap is_some (new.2 q k)))
-
-      silent : (q : List ℕ) → is_known (a ++ u ∷ []) q ≡ false → (b : Bool) → same_name f q ≡ b → list_any (touches q) (a ++ u ∷ []) ≡ false
-      silent q h true k = let same : f ≡ q = same_text f q (sym k) in absurd (true≢false (sym here ∙ subst (λ x. is_known (a ++ u ∷ []) x ≡ false) (sym same) h))
-      silent q h false k = list_any-push (touches q) a u ∙ rw (touched q, k) (told.silent q (sym (known_before q k) ∙ h))
-
-      by : (o : Option (List ℕ)) (q : List ℕ) → sets_runway q u ≡ o → (s : List ℕ) → option_or o (runway_of a q) ≡ Some s → has_runway g s ≡ true
-      by (Some x) q k s h = named q s (k ∙ h)
-      by None q k s h = told.runways q s h
-
-makes_none_known : (u : Update) (f : List ℕ) → is_fresh u ≡ false → makes_known f u ≡ false
-makes_none_known (Flt g p) f h = cc
-makes_none_known _ f h = refl
-
-flights-old : (a : List Update) (u : Update) → is_fresh u ≡ false → flights_in (a ++ u ∷ []) ≡ flights_in a
+pub flights-old : (a : List Update) (u : Update) → is_fresh u ≡ false → flights_in (a ++ u ∷ []) ≡ flights_in a
 flights-old a u old = flights_in-push a u ∙ (ap (λ o. flights_in a ++ cons_option o []) (new_flight-old u old) ∙ append-nil (flights_in a))
 
 -- after an update of a flight that is known
-pub flights_after_step : (g : AirportRows) (a : List Update) (u : Update) (m n : Flights) (f : List ℕ) (r : Record) → flight_of_update u ≡ Some f → is_fresh u ≡ false
-    → ((q s : List ℕ) → sets_runway q u ≡ Some s → has_runway g s ≡ true)
-    → TellFlights g a m → get same_name m f ≡ Some r → step_refusal r u (exot_of g a f) ≡ None
-    → Updates same_name m n f (Some (stepped r u (exot_of g a f))) → n.entries ≡ insert_entry same_name m.entries f (stepped r u (exot_of g a f)) → TellFlights g (a ++ u ∷ []) n
-flights_after_step g a u m n f r e old named told there ok new entries =
-    let next = stepped r u (exot_of g a f) in
-    let same_keys : keys n ≡ keys m = ap keys_of entries ∙ keys-insert_entry-present same_name m f next (ap is_some there) in
-    told_after g a u m n f e next told new
-    (flight_of-step g a u f e old r (sym (told.each f) ∙ there) ok)
-    (list_any-push (makes_known f) a u ∙ (ap (λ b. b || is_known a f) (makes_none_known u f old) ∙ (told.known f ∙ ap is_some there)))
-    (same_keys ∙ (told.order ∙ sym (flights-old a u old)))
-    (rw (flights-old a u old) told.few)
-    named
+pub flights_after_record : (g : AirportRows) (a : List Update) (u : Update) (m n : Flights) (f : List ℕ) (r : Record) → flight_of_update u ≡ Some f → is_fresh u ≡ false
+    → TellFlights g a m → (flight_of g a f ≡ None → ⊥) → flight_of g (a ++ u ∷ []) f ≡ Some r
+    → Sets m n f r → n.entries ≡ insert_entry same_name m.entries f r → TellFlights g (a ++ u ∷ []) n
+flights_after_record g a u m n f r e old told there says new entries =
+    let same_keys : keys n ≡ keys m = ap keys_of entries ∙ keys-insert_entry-present same_name m f r (ap is_some (told.each f) ∙ is_there (flight_of g a f) there) in
+    told_after g a u m n f e r told new says (same_keys ∙ (told.order ∙ sym (flights-old a u old)))
+  where
+    is_there : (o : Option Record) → (o ≡ None → ⊥) → is_some o ≡ true
+    is_there None h = absurd (h refl)
+    is_there (Some x) h = refl
 
 -- after the FLT of a new flight
 pub flights_after_flt : (g : AirportRows) (a : List Update) (m n : Flights) (f : List ℕ) (p : ℕ)
-    → TellFlights g a m → is_known a f ≡ false → length (flights_in a) < 2000
-    → Updates same_name m n f (Some (fresh f p)) → n.entries ≡ insert_entry same_name m.entries f (fresh f p) → TellFlights g (a ++ Flt f p ∷ []) n
-flights_after_flt g a m n f p told new_name few new entries =
-    let absent : get same_name m f ≡ None = none_there (get same_name m f) (sym (told.known f) ∙ new_name) in
-    let more : keys n ≡ keys m ++ f ∷ [] = ap keys_of (entries ∙ insert_entry-new same_name m f (fresh f p) absent) ∙ keys_append m.entries in
+    → TellFlights g a m → flight_of g a f ≡ None → list_any (touches f) a ≡ false
+    → Sets m n f (fresh f p) → n.entries ≡ insert_entry same_name m.entries f (fresh f p) → TellFlights g (a ++ Flt f p ∷ []) n
+flights_after_flt g a m n f p told none quiet new entries =
+    let more : keys n ≡ keys m ++ f ∷ [] = ap keys_of (entries ∙ insert_entry-new same_name m f (fresh f p) (told.each f ∙ none)) ∙ keys_append m.entries in
     told_after g a (Flt f p) m n f refl (fresh f p) told new
-    (flight_of-fresh g a f p (told.silent f new_name))
-    (list_any-push (makes_known f) a (Flt f p) ∙ rw (same_name-refl f) refl)
+    (flight_of-fresh g a f p quiet)
     (more ∙ (ap (λ l. l ++ f ∷ []) told.order ∙ sym (flights_in-push a (Flt f p))))
-    (rw (flights_in-push a (Flt f p)) (simp length-append (omega arith)))
-    (λ q s h. absurd (none_some h))
   where
-    none_there : (o : Option Record) → is_some o ≡ false → o ≡ None
-    none_there None h = refl
-    none_there (Some r) h = cc
-
-    none_some : {s : List ℕ} → None ≡ Some s → ⊥
-    none_some h = cc
-
     keys_append : (es : List (List ℕ × Record)) → keys_of (es ++ (f, fresh f p) ∷ []) ≡ keys_of es ++ f ∷ []
     keys_append es = map-append (λ (e : List ℕ × Record). e.0) es ((f, fresh f p) ∷ [])
+
+-- an update of no flight touches none
+pub touches-none : (u : Update) → flight_of_update u ≡ None → (q : List ℕ) → touches q u ≡ false
+touches-none u none q = ap (λ o. option_map_or (λ h. same_name h q) o false) none
+
+pub fresh-none : (u : Update) → flight_of_update u ≡ None → is_fresh u ≡ false
+fresh-none (Flt f p) h = cc
+fresh-none _ h = refl
 
 -- after an update of no flight
 pub flights_after_other : (g : AirportRows) (a : List Update) (u : Update) (m : Flights) → flight_of_update u ≡ None → TellFlights g a m → TellFlights g (a ++ u ∷ []) m
 flights_after_other g a u m none told = record {
-  each = λ q. told.each q ∙ sym (flight_of-untouched q g a u (apart q));
-  known = λ q. known q ∙ told.known q;
-  silent = λ q h. list_any-push (touches q) a u ∙ (ap (λ b. b || list_any (touches q) a) (apart q) ∙ told.silent q (sym (known q) ∙ h));
-  order = told.order ∙ sym same;
-  few = rw same told.few;
-  runways = λ q s h. told.runways q s (sym (last_value-push (sets_runway q) a u ∙ ap (λ o. option_or o (runway_of a q)) (runway-untouched q u (apart q))) ∙ h);
+  each = λ q. told.each q ∙ sym (flight_of-untouched q g a u (touches-none u none q));
+  order = told.order ∙ sym (flights-old a u (fresh-none u none));
 }
-  where
-    apart : (q : List ℕ) → touches q u ≡ false
-    apart q = ap (λ o. option_map_or (λ h. same_name h q) o false) none
 
-    known : (q : List ℕ) → is_known (a ++ u ∷ []) q ≡ is_known a q
-    known q = list_any-push (makes_known q) a u ∙ ap (λ b. b || is_known a q) (known-untouched q u (apart q))
-
-    old : (u : Update) → flight_of_update u ≡ None → is_fresh u ≡ false
-    old (Flt f p) h = cc
-    old _ h = refl
-
-    same : flights_in (a ++ u ∷ []) ≡ flights_in a
-    same = flights-old a u (old u none)
-
--- a table with the same entries says the same
-pub flights_by_same_entries : (g : AirportRows) (a : List Update) (m n : Flights) → n.entries ≡ m.entries → TellFlights g a m → TellFlights g a n
-flights_by_same_entries g a m n e told = record {
-  each = λ q. ap (λ es. lookup (same_name q) es) e ∙ told.each q;
-  known = λ q. told.known q ∙ sym (ap (λ es. is_some (lookup (same_name q) es)) e);
-  silent = told.silent;
-  order = ap keys_of e ∙ told.order;
-  few = told.few;
-  runways = told.runways;
-}
+-- a table with the same entries is updated alike
+pub sets_by_same_entries : (m k n : Flights) (f : List ℕ) (r : Record) → k.entries ≡ m.entries → Sets k n f r → Sets m n f r
+sets_by_same_entries m k n f r e new = (new.0, λ q apart. new.1 q apart ∙ ap (λ es. lookup (same_name q) es) e)
 
 -- an empty table says what a journal without updates says
 pub flights_without_updates : (g : AirportRows) (m : Flights) → m.entries ≡ [] → TellFlights g [] m
 unfolding flight_of
 flights_without_updates g m none = record {
   each = λ q. ap (λ es. lookup (same_name q) es) none;
-  known = λ q. sym (ap (λ es. is_some (lookup (same_name q) es)) none);
-  silent = λ q h. refl;
   order = ap keys_of none;
-  few = omega arith;
-  runways = λ q s h. cc;
 }
+
+-- The order of the flights in the table.
+
+pub length-flights : (g : AirportRows) (a : List Update) (m : Flights) → TellFlights g a m → index_map_len m ≡ length (flights_in a)
+length-flights g a m told = sym (length-map m.entries (λ (e : List ℕ × Record). e.0)) ∙ ap length told.order
+
+slice_get-keys : (es : List (List ℕ × Record)) (i : ℕ) → slice_get (keys_of es) i ≡ option_map (λ e. e.0) (slice_get es i)
+slice_get-keys es i = slice_get-map (λ (e : List ℕ × Record). e.0) es i
+
+-- the flight at a place
+pub flight_at_place : (g : AirportRows) (a : List Update) (m : Flights) (i : ℕ) → TellFlights g a m → (k : List ℕ) (r : Record) → slice_get m.entries i ≡ Some (k, r) → get same_name m k ≡ Some r
+    → Some r ≡ option_and_then (flight_of g a) (slice_get (flights_in a) i)
+flight_at_place g a m i told k r at here =
+    let name : slice_get (flights_in a) i ≡ Some k = ap (λ l. slice_get l i) (sym told.order) ∙ (slice_get-keys m.entries i ∙ ap (option_map (λ (e : List ℕ × Record). e.0)) at) in
+    sym here ∙ (told.each k ∙ sym (ap (option_and_then (flight_of g a)) name))
+
+pub no_flight_at_place : (g : AirportRows) (a : List Update) (m : Flights) (i : ℕ) → TellFlights g a m → slice_get m.entries i ≡ None → None ≡ option_and_then (flight_of g a) (slice_get (flights_in a) i)
+no_flight_at_place g a m i told at =
+    let name : slice_get (flights_in a) i ≡ None = ap (λ l. slice_get l i) (sym told.order) ∙ (slice_get-keys m.entries i ∙ ap (option_map (λ (e : List ℕ × Record). e.0)) at) in
+    sym (ap (option_and_then (flight_of g a)) name)

@@ -32,7 +32,8 @@ use Rattle.cdm_day.specs.Day.{Day, flights_in, rules_of}
 use Rattle.cdm_day.specs.DayPlan.{IsDayPlan, records_in}
 use Rattle.cdm_flight.specs.Journal.{flight_of, now_of, taxi_of}
 use Rattle.cdm_day.specs.Planning.{IsPlanOf, blocked_early, blocked_in, fixed_on, planned_of, target_in, targets_of}
-use Rattle.cdm_day.proofs.DayPlanLemmas.{record_name, runway-names}
+use Rattle.cdm_day.proofs.DayPlanLemmas.{record_name}
+use Rattle.cdm_day.proofs.NameLemmas.{runway-names}
 use Rattle.cdm_day.proofs.PlanningLemmas.{key_name, names_on}
 
 -- Lists by name.
@@ -68,13 +69,13 @@ contains_from_lists f (x ∷ xs) y i = elim (Contains-append_cases (f x) (flat_m
 ]
 
 -- an element goes with one of the other list
-partner : {X Y : Type 0} (R : X → Y → Type 0) (xs : List X) (ys : List Y) (y : Y) → AllZip R xs ys → Contains ys y → (x : X) × R x y
+pub partner : {X Y : Type 0} (R : X → Y → Type 0) (xs : List X) (ys : List Y) (y : Y) → AllZip R xs ys → Contains ys y → (x : X) × R x y × Contains xs x
 partner R [] [] y all i = absurd (omega (arith, i.1))
 partner R [] (v ∷ ys) y all i = absurd all
 partner R (u ∷ xs) [] y all i = absurd all
 partner {X} {Y} R (u ∷ xs) (v ∷ ys) y all i = elim (contains_cases v ys y i) [
-  | inl e ↦ (u, subst (λ (z : Y). R u z) e all.0)
-  | inr j ↦ partner R xs ys y all.1 j
+  | inl e ↦ (u, subst (λ (z : Y). R u z) e all.0, contains_head u xs)
+  | inr j ↦ let w = partner R xs ys y all.1 j in (w.0, w.1, contains_tail u xs w.0 w.2)
 ]
 
 -- Aims.

@@ -1,5 +1,5 @@
 -- Each flight of a day stands once: as a fixed flight or a target of one runway, or blocked early.
-use Rattle.std.proofs.Common.{◌≡◌, ℕ, ◌+◌, ◌≤◌, Bool, true, false, cond, ◌||◌, List, [], ◌∷◌, ◌++◌, Option, None, Some, refl, sym, ◌∙◌, ap, subst, arith, map, filter, length, sum_by}
+use Rattle.std.proofs.Common.{Bor, ◌≡◌, ℕ, ◌+◌, ◌≤◌, Bool, true, false, cond, ◌||◌, List, [], ◌∷◌, ◌++◌, Option, None, Some, refl, sym, ◌∙◌, ap, subst, arith, map, filter, length, sum_by}
 use Rattle.std.specs.Prelude.{is_some}
 use Rattle.std.specs.Option.{option_map, option_map_or}
 use Rattle.std.specs.List.{All, cons_option, filter_map, IsDistinct, AllByRecursion}
@@ -115,20 +115,20 @@ fixed_left f e = go f.status e
 
 -- What a flight gives to a runway.
 
-abbrev fixed_at : List ℕ → Record → Option FixedRecord
+abbrev pub fixed_at : List ℕ → Record → Option FixedRecord
 fixed_at r f = if_so (is_on r f) (fixed_flight f)
 
-abbrev target_at : List ℕ → TaxiTimes → ℕ → Record → Option TargetRecord
+abbrev pub target_at : List ℕ → TaxiTimes → ℕ → Record → Option TargetRecord
 target_at r times now f = if_so (is_planned f.status) (if_on r (target_in (aim_of f times now)))
 
 abbrev early_at : TaxiTimes → ℕ → Record → Option BlockedFlight
 early_at times now f = if_so (is_planned f.status) (blocked_in f.name (aim_of f times now))
 
-fixed_on-given : (r : List ℕ) (fs : List Record) → fixed_on r fs ≡ filter_map (fixed_at r) fs
+pub fixed_on-given : (r : List ℕ) (fs : List Record) → fixed_on r fs ≡ filter_map (fixed_at r) fs
 unfolding fixed_on
 fixed_on-given r fs = filter_map-filter fixed_flight (is_on r) fs
 
-targets_on-given : (r : List ℕ) (times : TaxiTimes) (now : ℕ) (fs : List Record) → targets_on r (targets_of fs times now) ≡ filter_map (target_at r times now) fs
+pub targets_on-given : (r : List ℕ) (times : TaxiTimes) (now : ℕ) (fs : List Record) → targets_on r (targets_of fs times now) ≡ filter_map (target_at r times now) fs
 unfolding targets_of
 targets_on-given r times now fs =
     filter-filter_map r (λ f. target_in (aim_of f times now)) (planned_of fs)
@@ -377,12 +377,13 @@ zipped_sequences fixed targets [] (p ∷ ps) all = absurd all
 zipped_sequences fixed targets (r ∷ rs) [] all = absurd all
 zipped_sequences fixed targets (r ∷ rs) (p ∷ ps) all = (all.0.sequence, zipped_sequences fixed targets rs ps all.1)
 
--- the plans of the runways, whose targets are those among the aims
-pub zipped_targets : (times : TaxiTimes) (now : ℕ) (fs : List Record) (runways : List RunwayRules) (plans : List RunwayPlanRecord)
-    → AllZip (λ r p. IsRunwayPlan r (fixed_on r.name fs) (filter_map (target_for r.name) (map (aimed times now) (planned_of fs))) p) runways plans
-    → AllZip (λ r p. IsRunwayPlan r (fixed_on r.name fs) (targets_on r.name (targets_of fs times now)) p) runways plans
-zipped_targets times now fs [] [] all = tt
-zipped_targets times now fs [] (p ∷ ps) all = absurd all
-zipped_targets times now fs (r ∷ rs) [] all = absurd all
-zipped_targets times now fs (r ∷ rs) (p ∷ ps) all =
-    (subst (λ (ts : List TargetRecord). IsRunwayPlan r (fixed_on r.name fs) ts p) (targets-among r.name times now fs) all.0, zipped_targets times now fs rs ps all.1)
+-- the flights of a runway among lent ones
+pub fixed_on-lent : (r : List ℕ) (fs : List (Bor Record)) → filter_map (λ f. fixed_flight f.now) (filter (λ f. is_on r f.now) fs) ≡ fixed_on r (map (λ f. f.now) fs)
+unfolding fixed_on
+fixed_on-lent r [] = refl
+fixed_on-lent r (f ∷ fs) = by (is_on r f.now) (fixed_on-lent r fs)
+  where
+    by : (b : Bool) → filter_map (λ f. fixed_flight f.now) (filter (λ f. is_on r f.now) fs) ≡ filter_map fixed_flight (filter (is_on r) (map (λ f. f.now) fs))
+        → filter_map (λ f. fixed_flight f.now) (cond b (f ∷ filter (λ f. is_on r f.now) fs) (filter (λ f. is_on r f.now) fs)) ≡ filter_map fixed_flight (cond b (f.now ∷ filter (is_on r) (map (λ f. f.now) fs)) (filter (is_on r) (map (λ f. f.now) fs)))
+    by true h = ap (cons_option (fixed_flight f.now)) h
+    by false h = h

@@ -1,5 +1,5 @@
 //! What planned flights could have.
-ghost use Rattle.std.specs.Prelude.{◌≡◌, true, All, IfOk, map};
+ghost use Rattle.std.specs.Prelude.{◌≡◌, true, IfOk, map};
 ghost use Rattle.std.specs.List.{filter_map};
 ghost use Rattle.std.specs.FinMap as finite;
 ghost use Rattle.cdm_flight.specs.Record.{is_planned};
@@ -20,13 +20,14 @@ pub(crate) struct Aimed {
 }
 
 /// The flights on their stands, in order.
-pub(crate) fn planned(alloc: Global, flights: &[Flight]) -> Result<Vec<Flight>, AllocError>
-    ensures { IfOk result (λ v. v.items ≡ planned_of flights.now) }
+pub(crate) fn planned<'a>(alloc: Global, flights: &[&'a Flight]) -> Result<Vec<&'a Flight>, AllocError>
+    ensures { IfOk result (λ v. map (λ f. f.now) v.items ≡ planned_of (map (λ f. f.now) flights.now)) }
 {
     let mut planned = Vec::new(alloc);
     for flight in flights {
+        let flight: &'a Flight = flight;
         if flight.status == Status::Planned {
-            push_last(&mut planned, *flight)?;
+            push_last(&mut planned, flight)?;
         }
     }
     Ok(planned)
@@ -42,23 +43,6 @@ pub(crate) fn aimed_of(flight: &Flight, taxi: &TaxiTable, now: Minute) -> Aimed
         name: flight.name,
         aim: aim(flight, taxi, now),
     }
-}
-
-/// What each planned flight could have, in order.
-pub(crate) fn aims(
-    alloc: Global,
-    planned: &[Flight],
-    taxi: &TaxiTable,
-    now: Minute,
-) -> Result<Vec<Aimed>, AllocError>
-    requires { All (λ f. is_planned f.status ≡ true) planned.now }
-    ensures { IfOk result (λ v. v.items ≡ map (aimed (λ place runway. finite.get taxi.now (place, runway)) now) planned.now) }
-{
-    let mut aims = Vec::new(alloc);
-    for flight in planned {
-        push_last(&mut aims, aimed_of(flight, taxi, now))?;
-    }
-    Ok(aims)
 }
 
 // The flight's target, if it has one on the runway.

@@ -1,17 +1,24 @@
 //! The plan of a day.
-ghost use Rattle.std.specs.Prelude.{◌≡◌, ◌+◌, ◌≤◌, ◌++◌, length, map, All, IfOk, IsPermutation, IsSorted, sum_by};
-ghost use Rattle.std.specs.List.{AllZip, filter_map, flat_map, IsDistinct};
-ghost use Rattle.std.specs.FinMap as finite;
-ghost use Rattle.cdm_flight.specs.Names.{same_name};
+ghost use Rattle.std.specs.Prelude.{filter, ◌≡◌, ◌+◌, ◌≤◌, ◌++◌, length, map, IfOk, IsPermutation, IsSorted, sum_by};
+ghost use Rattle.std.specs.List.{filter_map, flat_map};
+ghost use Rattle.cdm_sequence.specs.Fixed.{fixed_flight};
 ghost use Rattle.cdm_sequence.specs.Slots.{runway_cmp, blocked_cmp};
-ghost use Rattle.cdm_day.specs.Planning.{HasParts, IsPlanOf, fixed_on, is_on};
+ghost use Rattle.cdm_day.specs.Planning.{HasParts, fixed_on, is_on};
+ghost use Rattle.cdm_day.specs.Day.{rules_in};
+ghost use Rattle.cdm_day.specs.DayPlan.{IsDayPlan, records_in};
+ghost use Rattle.cdm_day.specs.Sound.{IsSound};
 ghost use Rattle.cdm_day.specs.Aimed.{CanSequence, IsRunwayPlan, early_among, target_for};
+ghost use Rattle.cdm_day.specs.inner.Kept.{AreKept, IsMade};
 
-use crate::aimed::{Aimed, aims, blocked, planned, targets};
-use cdm_flight::{Flight, Listed, RunwayName};
+use crate::aimed::{Aimed, blocked, planned, targets};
+use crate::jobs::{RunwayJob, TargetJob};
+use crate::kept::Kept;
+use crate::records::Records;
+use crate::touched::Touched;
+use cdm_flight::{Flight, Listed, RunwayName, push_last};
+use cdm_phase::run_here;
 use cdm_runway::Runway;
 use cdm_sequence::{BlockedFlight, Fixed, Plan, RunwayPlan, fixed_of, sequence};
-use cdm_taxi::TaxiTable;
 use cdm_time::Minute;
 use std::alloc::{AllocError, Global};
 
@@ -26,9 +33,12 @@ fn has_runway(flight: &Flight, runway: RunwayName) -> bool
 }
 
 // The flights that have left their stands for a runway, in order.
-#[tactic(auto, unfolding(crate::specs::Planning::fixed_on))]
-fn fixed(alloc: Global, runway: RunwayName, flights: &[Flight]) -> Result<Vec<Fixed>, AllocError>
-    ensures { IfOk result (λ v. v.items ≡ fixed_on runway flights.now) }
+fn fixed(
+    alloc: Global,
+    runway: RunwayName,
+    flights: &[&Flight],
+) -> Result<Vec<Fixed>, AllocError>
+    ensures { IfOk result (λ v. v.items ≡ filter_map (λ f. fixed_flight f.now) (filter (λ f. is_on runway f.now) flights.now)) }
 {
     flights
         .iter()
@@ -41,36 +51,17 @@ fn fixed(alloc: Global, runway: RunwayName, flights: &[Flight]) -> Result<Vec<Fi
 pub(crate) fn runway_plan(
     alloc: Global,
     runway: &Runway,
-    flights: &[Flight],
+    flights: &[&Flight],
     aims: &[Aimed],
 ) -> Result<RunwayPlan, AllocError>
-    requires { CanSequence (fixed_on runway.now.name flights.now) (filter_map (target_for runway.now.name) aims.now) }
-    ensures { IfOk result (λ p. IsRunwayPlan runway.now (fixed_on runway.now.name flights.now)
+    requires { CanSequence (fixed_on runway.now.name (map (λ f. f.now) flights.now)) (filter_map (target_for runway.now.name) aims.now) }
+    ensures { IfOk result (λ p. IsRunwayPlan runway.now (fixed_on runway.now.name (map (λ f. f.now) flights.now))
         (filter_map (target_for runway.now.name) aims.now) p) }
 {
     let fixed = fixed(alloc, runway.name(), flights)?;
     let targets = targets(alloc, runway.name(), aims)?;
     let plan = sequence(alloc, runway, &fixed, &targets)?;
     Ok(plan)
-}
-
-// The plans of the runways, in order.
-fn runway_plans(
-    alloc: Global,
-    runways: &[Runway],
-    flights: &[Flight],
-    aims: &[Aimed],
-) -> Result<Vec<RunwayPlan>, AllocError>
-    requires { All (λ r. CanSequence (fixed_on r.name flights.now) (filter_map (target_for r.name) aims.now)) runways.now }
-    ensures { IfOk result (λ plans. AllZip (λ r p. IsRunwayPlan r (fixed_on r.name flights.now)
-        (filter_map (target_for r.name) aims.now) p) runways.now plans.items) }
-{
-    let mut plans = Vec::new(alloc);
-    for runway in runways {
-        let plan = runway_plan(alloc, runway, flights, aims)?;
-        plans.push(plan)?;
-    }
-    Ok(plans)
 }
 
 // All blocked flights by name: those that were blocked early, and those of the runways.
@@ -99,18 +90,22 @@ fn by_name(plans: Vec<RunwayPlan>) -> Vec<RunwayPlan>
     ordered
 }
 
-// The plan of a day, from what its planned flights could have and from the plans of its runways.
+// The plan of a day, from what its planned flights could have, and from plans of runways that stand
+// and others that were made.
 pub(crate) fn joined(
     alloc: Global,
     aims: &[Aimed],
-    plans: Vec<RunwayPlan>,
+    kept: Vec<RunwayPlan>,
+    made: Vec<RunwayPlan>,
     now: Minute,
 ) -> Result<Plan, AllocError>
-    requires { sum_by (λ p. length p.slots + length p.blocked) plans.items + length (early_among aims.now) ≤ 2000 }
+    requires { sum_by (λ p. length p.slots + length p.blocked) (kept.items ++ made.items) + length (early_among aims.now) ≤ 2000 }
     ensures clock { IfOk result (λ plan. plan.clock ≡ now) }
-    ensures parts { IfOk result (λ plan. HasParts (early_among aims.now) plans.items plan) }
+    ensures parts { IfOk result (λ plan. HasParts (early_among aims.now) (kept.items ++ made.items) plan) }
 {
     let early = blocked(alloc, aims)?;
+    let (mut plans, mut others) = (kept, made);
+    plans.append(&mut others)?;
     let plans = by_name(plans);
     let blocked = all_blocked(early, &plans)?;
     Ok(Plan {
@@ -120,23 +115,70 @@ pub(crate) fn joined(
     })
 }
 
-/// The plan of a day, from its flights in the order of first appearance, its runways, the taxi times
-/// and the minute that it is now.
-pub(crate) fn plan_of(
-    alloc: Global,
-    flights: &[Flight],
-    runways: &[Runway],
-    taxi: &TaxiTable,
-    now: Minute,
-) -> Result<Plan, AllocError>
-    requires names { IsDistinct same_name (map (λ f. f.name) flights.now) }
-    requires few { length flights.now ≤ 2000 }
-    requires runways { IsDistinct same_name (map (λ r. r.name) runways.now) }
-    ensures { IfOk result (λ plan. IsPlanOf flights.now (λ place runway. finite.get taxi.now (place, runway)) now runways.now plan) }
+// All flights in the order of first appearance.
+pub(crate) fn all_flights<R: Records>(alloc: Global, records: &R) -> Result<Vec<&Flight>, AllocError>
+    ensures sound { IsSound (R.day records.now) }
+    ensures all { IfOk result (λ v. let d = R.day records.now in map (λ f. f.now) v.items ≡ records_in d.airport d.journal) }
 {
-    let planned = planned(alloc, flights)?;
-    let aims = aims(alloc, &planned, taxi, now)?;
-    let plans = runway_plans(alloc, runways, flights, &aims)?;
-    let plan = joined(alloc, &aims, plans, now)?;
+    let mut flights = Vec::new(alloc);
+    for place in 0..records.flights() {
+        if let Some(flight) = records.flight_at(place) {
+            push_last(&mut flights, flight)?;
+        }
+    }
+    Ok(flights)
+}
+
+// All runways by name.
+pub(crate) fn all_runways<R: Records>(alloc: Global, records: &R) -> Result<Vec<&Runway>, AllocError>
+    ensures { IfOk result (λ v. let d = R.day records.now in map (λ r. r.now) v.items ≡ rules_in d.airport d.journal) }
+{
+    let mut runways = Vec::new(alloc);
+    for place in 0..records.runways() {
+        if let Some(runway) = records.runway_at(place) {
+            push_last(&mut runways, runway)?;
+        }
+    }
+    Ok(runways)
+}
+
+/// The plan of the day that the records tell.
+pub fn plan_of<D: Records>(alloc: Global, records: &D) -> Result<Plan, AllocError>
+    ensures { IfOk result (λ plan. IsDayPlan (D.day records.now) plan) }
+{
+    let touched = Touched::none(alloc);
+    let kept = Kept {
+        plans: &[],
+        touched: &touched,
+    };
+    let plan = plan_keeping(alloc, records, &kept)?;
+    Ok(plan)
+}
+
+/// The plan of the day that the records tell, in which some plans of runways stand.
+pub(crate) fn plan_keeping<D: Records>(
+    alloc: Global,
+    records: &D,
+    kept: &Kept,
+) -> Result<Plan, AllocError>
+    requires { AreKept (D.day records.now) kept.now.touched.now kept.now.plans.now }
+    ensures { IfOk result (λ plan. IsMade (D.day records.now) plan) }
+{
+    let flights = all_flights(alloc, records)?;
+    let planned = planned(alloc, &flights)?;
+    let job = TargetJob {
+        taxi: records.taxi(),
+        clock: records.now(),
+    };
+    let aims = run_here(alloc, &job, &planned)?;
+    let runways = all_runways(alloc, records)?;
+    let left = kept.runways_left(alloc, &runways)?;
+    let job = RunwayJob {
+        flights: &flights,
+        aims: &aims,
+    };
+    let made = run_here(alloc, &job, &left)?;
+    let copies = kept.copies(alloc, &runways)?;
+    let plan = joined(alloc, &aims, copies, made, records.now())?;
     Ok(plan)
 }

@@ -22,7 +22,8 @@ pub enum PhaseName {
 /// A job states one value for each item. `gives` is that statement, a relation of the job, the item
 /// and the value: an equation where the value is a function of the other two, else what is ensured
 /// by the function that the job calls. Each implementation proves that an `Ok` of `run` is the
-/// stated value, so it makes no difference which worker runs an item, or how often it is run.
+/// stated value, and that there is no other, so it makes no difference which worker runs an item, or
+/// how often it is run.
 ///
 /// A job that waits holds the handle that waiting needs.
 pub trait Job: Sync {
@@ -49,4 +50,7 @@ pub trait Job: Sync {
     /// The job's one phase, which the gate is told.
     fn phase(&self) -> PhaseName
         ensures { result ≡ phase_name };
+
+    // Each item has one value.
+    ghost one_value: { (job : Self) (item : Self.Item) (x y : Self.Out) → can_run job item → gives job item x → gives job item y → x ≡ y };
 }

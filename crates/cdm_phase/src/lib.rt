@@ -5,6 +5,7 @@
 
 mod assembly;
 mod gate;
+mod here;
 mod job;
 mod phase;
 mod piece;
@@ -12,6 +13,7 @@ mod workers;
 
 pub use assembly::assemble;
 pub use gate::{Gate, OpenGate};
+pub use here::run_here;
 pub use job::{Job, PhaseName};
 pub use phase::run_phase;
 pub use piece::Piece;

@@ -3,6 +3,7 @@ ghost use Rattle.std.specs.Prelude.{◌≡◌, ℕ, ◌*◌, ◌<◌, ◌≤◌,
 ghost use Rattle.std.specs.List.{AllZip};
 ghost use Rattle.cdm_phase.specs.Piece.{items_of};
 
+use crate::here::run_here;
 use crate::job::Job;
 use std::alloc::{AllocError, Global};
 
@@ -39,17 +40,5 @@ pub(crate) fn run_piece<J: Job>(
         IfOk result (λ outs. AllZip (J.gives job.now) part outs.items) }
 {
     let rest = &items[number * grain..];
-    values_of(alloc, job, &rest[..grain.min(rest.len())])
-}
-
-// The job's values at a list of items.
-fn values_of<J: Job>(alloc: Global, job: &J, items: &[J::Item]) -> Result<Vec<J::Out>, AllocError>
-    requires { All (J.can_run job.now) items.now }
-    ensures { IfOk result (λ outs. AllZip (J.gives job.now) items.now outs.items) }
-{
-    let mut outs = Vec::new(alloc);
-    for item in items {
-        outs.push(job.run(alloc, item)?)?;
-    }
-    Ok(outs)
+    run_here(alloc, job, &rest[..grain.min(rest.len())])
 }

@@ -1,5 +1,6 @@
 //! Pieces that are put together.
 ghost use Rattle.std.specs.Prelude.{◌≡◌, ◌+◌, [], ◌∷◌, IfOk};
+ghost use Rattle.std.proofs.Common.{sym, ◌∙◌};
 ghost use Rattle.cdm_phase.specs.declared.job.PhaseName.TheVariants.{Targets};
 
 use crate::{Job, PhaseName, Piece, assemble};
@@ -25,6 +26,8 @@ impl Job for AddOne {
     fn phase(&self) -> PhaseName {
         PhaseName::Targets
     }
+
+    ghost one_value = { λ _ _ x y _ a b. a ∙ sym b };
 }
 
 fn piece_of_one(alloc: Global, number: usize, out: u64) -> Result<Piece<u64>, AllocError>

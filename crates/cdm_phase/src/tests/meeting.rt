@@ -1,5 +1,6 @@
 //! Pieces that wait for each other.
 ghost use Rattle.std.specs.Prelude.{◌≡◌};
+ghost use Rattle.std.proofs.Common.{sym, ◌∙◌};
 ghost use Rattle.cdm_phase.specs.declared.job.PhaseName.TheVariants.{Runways};
 
 use super::numbers;
@@ -42,6 +43,8 @@ impl Job for Meeting {
     fn phase(&self) -> PhaseName {
         PhaseName::Runways
     }
+
+    ghost one_value = { λ _ _ x y _ a b. a ∙ sym b };
 }
 
 /// A phase that ran its pieces one after another, on one thread or under one lock, would meet every

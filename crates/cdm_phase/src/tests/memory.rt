@@ -1,5 +1,6 @@
 //! A worker without memory.
 ghost use Rattle.std.specs.Prelude.{◌≡◌};
+ghost use Rattle.std.proofs.Common.{sym, ◌∙◌};
 ghost use Rattle.cdm_phase.specs.declared.job.PhaseName.TheVariants.{Runways};
 
 use super::{WORKERS, numbers};
@@ -37,6 +38,8 @@ impl Job for FailsAtFive {
     fn phase(&self) -> PhaseName {
         PhaseName::Runways
     }
+
+    ghost one_value = { λ _ _ x y _ a b. a ∙ sym b };
 }
 
 #[test]

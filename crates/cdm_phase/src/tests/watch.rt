@@ -1,5 +1,6 @@
 //! What the gate sees, and when.
 ghost use Rattle.std.specs.Prelude.{◌≡◌, ◌+◌};
+ghost use Rattle.std.proofs.Common.{sym, ◌∙◌};
 ghost use Rattle.cdm_phase.specs.declared.job.PhaseName.TheVariants.{Scenarios};
 
 use super::add_one::AddOne;
@@ -73,6 +74,8 @@ impl Job for Watch {
     fn phase(&self) -> PhaseName {
         PhaseName::Scenarios
     }
+
+    ghost one_value = { λ _ _ x y _ a b. a ∙ sym b };
 }
 
 #[test]

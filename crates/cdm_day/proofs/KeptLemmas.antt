@@ -1,0 +1,221 @@
+-- A runway that updates do not touch keeps its plan.
+use Rattle.std.proofs.Common.{◌≡◌, ℕ, Bool, true, false, cond, ◌&&◌, List, [], ◌∷◌, ◌++◌, Option, None, Some, refl, sym, ◌∙◌, ap, subst, map}
+use Rattle.std.specs.Option.{option_and_then, option_map_or}
+use Rattle.std.specs.Prelude.{if◌then◌else◌}
+use Rattle.std.specs.List.{Contains, cons_option, filter_map, find}
+use Rattle.std.specs.List.Sorted.{IsPermutation}
+use Rattle.std.proofs.lemmas.List.{append-nil}
+use Rattle.std.proofs.lemmas.List.Elements.{filter_map-append}
+use Rattle.std.proofs.lemmas.List.Sorted.{Contains-permutation, IsPermutation-sym}
+use Rattle.cdm_flight.specs.declared.airport.RunwayRow.{RunwayRow}
+use Rattle.cdm_flight.specs.declared.place.Place.{Place}
+use Rattle.cdm_flight.specs.declared.update.Update.{Update}
+use Rattle.cdm_flight.specs.declared.update.Update.TheVariants.{Flt, Rate, Close, Reopen, Taxi, Clock}
+use Rattle.cdm_flight.specs.Names.{same_name}
+use Rattle.cdm_flight.specs.Record.{Record, is_planned}
+use Rattle.cdm_flight.specs.Step.{flight_of_update}
+use Rattle.cdm_flight.specs.Taxi.{taxi_out}
+use Rattle.cdm_flight.specs.Journal.{flight_of, last_value, now_of, only_if, sets_cap, sets_closed, sets_now, sets_taxi, taxi_of, touches}
+use Rattle.cdm_flight.proofs.JournalLemmas.{flight_of-untouched}
+use Rattle.cdm_flight.proofs.Lists.{contains_from_map, contains_map, if_so, one_of_key}
+use Rattle.cdm_runway.specs.Rules.{RunwayRules}
+use Rattle.cdm_sequence.specs.Aims.{TaxiTimes, IsAim, aim_of, aim_with, aim_with_exot}
+use Rattle.cdm_sequence.specs.declared.aims.AimResult.{AimResult}
+use Rattle.cdm_sequence.specs.declared.aims.AimResult.TheVariants.{Ready, Early}
+use Rattle.cdm_sequence.specs.Fixed.{FixedRecord, fixed_flight}
+use Rattle.cdm_sequence.specs.Slots.{PlanRecord, RunwayPlanRecord}
+use Rattle.cdm_sequence.specs.Targets.{TargetRecord}
+use Rattle.cdm_sequence.proofs.AimLemmas.{aim_means}
+use Rattle.cdm_sequence.proofs.OrderLemmas.{is_same, same_flips, same_is}
+use Rattle.cdm_day.specs.Aimed.{IsRunwayPlan, if_on}
+use Rattle.cdm_day.specs.Day.{Day, flights_in, new_flight, rows_by_name, rules_in, rules_of, with_update}
+use Rattle.cdm_day.specs.DayPlan.{records_in}
+use Rattle.cdm_day.specs.declared.touched.Touched.{Touched}
+use Rattle.cdm_day.specs.Planning.{is_on, target_in}
+use Rattle.cdm_day.specs.inner.Kept.{Adds, AreKept, IsMade, IsPlanOn, IsSince, SameOn, fixed_in, is_noted, is_touched, kept_plan, targets_in}
+use Rattle.cdm_day.proofs.JournalFacts.{flights_in-push, now_of-same, taxi_of-same}
+use Rattle.cdm_day.proofs.NameLemmas.{find_some, rule_names_differ}
+use Rattle.cdm_day.proofs.OnePlanLemmas.{partner}
+use Rattle.cdm_day.proofs.PlanningLemmas.{fixed_at, fixed_on-given, target_at, targets_on-given}
+use Rattle.cdm_day.proofs.RunwayLemmas.{rules-same}
+
+-- What a flight gives to a runway.
+
+-- what is read of given values
+given_twice : {K R Y : Type 0} (q : R → Option Y) (h : K → Option R) (ks : List K) → filter_map q (filter_map h ks) ≡ filter_map (λ k. option_and_then q (h k)) ks
+given_twice q h [] = refl
+given_twice {K} {R} {Y} q h (k ∷ ks) = by (h k) (given_twice q h ks)
+  where
+    by : (o : Option R) → filter_map q (filter_map h ks) ≡ filter_map (λ k. option_and_then q (h k)) ks → filter_map q (cons_option o (filter_map h ks)) ≡ cons_option (option_and_then q o) (filter_map (λ k. option_and_then q (h k)) ks)
+    by None e = e
+    by (Some r) e = ap (λ (ys : List Y). cons_option (q r) ys) e
+
+no_fixed_at : (r : List ℕ) (f : Record) → is_on r f ≡ false → fixed_at r f ≡ None
+no_fixed_at r f h = ap (λ b. if_so b (fixed_flight f)) h
+
+no_target_at : (r : List ℕ) (times : TaxiTimes) (now : ℕ) (f : Record) → is_on r f ≡ false → target_at r times now f ≡ None
+no_target_at r times now f h = in_any (is_planned f.status) (by (aim_of f times now) refl)
+  where
+    by : (a : AimResult) → aim_of f times now ≡ a → if_on r (target_in a) ≡ None
+    by (Early rule) e = refl
+    by (Ready t) e =
+        let runway = (subst (IsAim f times now) e (aim_means f times now)).runway in
+        ap (λ b. cond b (Some t) None) (ap (λ o. option_map_or (λ s. same_name s r) o false) (sym runway) ∙ h)
+
+    in_any : (b : Bool) → if_on r (target_in (aim_of f times now)) ≡ None → if_so b (if_on r (target_in (aim_of f times now))) ≡ None
+    in_any true e = e
+    in_any false e = refl
+
+-- a flight's target depends on the taxi times to its own runway alone
+same_target_at : (r : List ℕ) (s t : TaxiTimes) (now : ℕ) → ((place : Place) → s place r ≡ t place r) → (f : Record) → target_at r s now f ≡ target_at r t now f
+unfolding aim_of
+same_target_at r s t now same f = by (is_on r f) refl
+  where
+    aim_same : f.runway ≡ Some r → aim_of f s now ≡ aim_of f t now
+    aim_same e = ap (aim_with f s now f.tobt) e ∙ (go f.tobt ∙ sym (ap (aim_with f t now f.tobt) e))
+      where
+        go : (o : Option ℕ) → aim_with f s now o (Some r) ≡ aim_with f t now o (Some r)
+        go None = refl
+        go (Some tobt) = λ i. aim_with_exot f now tobt r (taxi_out (λ place. same place i) f.stand f.ice)
+
+    own : (o : Option (List ℕ)) → option_map_or (λ q. same_name q r) o false ≡ true → o ≡ Some r
+    own None h = cc
+    own (Some q) h = ap Some (same_is q r h)
+
+    by : (b : Bool) → is_on r f ≡ b → target_at r s now f ≡ target_at r t now f
+    by false h = no_target_at r s now f h ∙ sym (no_target_at r t now f h)
+    by true h = ap (λ a. if_so (is_planned f.status) (if_on r (target_in a))) (aim_same (own f.runway h))
+
+-- What an update that is not of a runway leaves there.
+
+module _ (d : Day) (r : List ℕ) where
+  no_clock : (u : Update) → is_noted d u r ≡ false → sets_now u ≡ None
+  no_clock (Clock m) h = cc
+  no_clock _ h = refl
+
+  no_taxi : (place : Place) (u : Update) → is_noted d u r ≡ false → sets_taxi place r u ≡ None
+  no_taxi place (Taxi p s minutes) h = rw h (by _)
+    where
+      by : (b : Bool) → only_if (b && false) minutes ≡ None
+      by true = refl
+      by false = refl
+  no_taxi place _ h = refl
+
+  no_cap : (m : ℕ) (u : Update) → is_noted d u r ≡ false → sets_cap r m u ≡ None
+  no_cap m (Rate s from to cap) h = rw h refl
+  no_cap m _ h = refl
+
+  no_closed : (m : ℕ) (u : Update) → is_noted d u r ≡ false → sets_closed r m u ≡ None
+  no_closed m (Close s from to) h = rw h refl
+  no_closed m (Reopen s from to) h = rw h refl
+  no_closed m _ h = refl
+
+  elsewhere : (u : Update) (f : List ℕ) → flight_of_update u ≡ Some f → is_noted d u r ≡ false → option_map_or (is_on r) (flight_of d.airport d.journal f) false ≡ false
+  elsewhere (Clock m) f e h = cc
+  elsewhere (Rate s from to cap) f e h = cc
+  elsewhere (Close s from to) f e h = cc
+  elsewhere (Reopen s from to) f e h = cc
+  elsewhere (Taxi p s minutes) f e h = cc
+  elsewhere u f e h = ap (λ o. option_map_or (λ k. option_map_or (is_on r) (flight_of d.airport d.journal k) false) o false) (sym e) ∙ h
+
+fresh_is : (u : Update) (f : List ℕ) → new_flight u ≡ Some f → flight_of_update u ≡ Some f
+fresh_is (Flt g p) f e = e
+fresh_is _ f e = cc
+
+touched_is : (u : Update) (k : List ℕ) → touches k u ≡ true → flight_of_update u ≡ Some k
+touched_is u k h = by (flight_of_update u) h
+  where
+    by : (o : Option (List ℕ)) → option_map_or (λ g. same_name g k) o false ≡ true → o ≡ Some k
+    by None e = cc
+    by (Some g) e = ap Some (same_is g k e)
+
+module _ (d : Day) (u : Update) (row : RunwayRow) (before : is_noted d u row.name ≡ false) (after : is_noted (with_update d u) u row.name ≡ false) where
+  -- what flights give to the runway
+  module _ {Y : Type 0} (q p : Record → Option Y) (same : (f : Record) → q f ≡ p f) (off : (f : Record) → is_on row.name f ≡ false → q f ≡ None) where
+    nothing : (o : Option Record) → option_map_or (is_on row.name) o false ≡ false → (option_and_then q o ≡ None) × (option_and_then p o ≡ None)
+    nothing None h = (refl, refl)
+    nothing (Some f) h = (off f h, sym (same f) ∙ off f h)
+
+    each : (k : List ℕ) → option_and_then q (flight_of d.airport d.journal k) ≡ option_and_then p (flight_of d.airport (d.journal ++ u ∷ []) k)
+    each k = by (touches k u) refl
+      where
+        agree : (o : Option Record) → option_and_then q o ≡ option_and_then p o
+        agree None = refl
+        agree (Some f) = same f
+
+        by : (b : Bool) → touches k u ≡ b → option_and_then q (flight_of d.airport d.journal k) ≡ option_and_then p (flight_of d.airport (d.journal ++ u ∷ []) k)
+        by false h = agree (flight_of d.airport d.journal k) ∙ ap (option_and_then p) (sym (flight_of-untouched k d.airport d.journal u h))
+        by true h =
+            let of_it = touched_is u k h in
+            (nothing _ (elsewhere d row.name u k of_it before)).0 ∙ sym (nothing _ (elsewhere (with_update d u) row.name u k of_it after)).1
+
+    given_same : filter_map q (records_in d.airport d.journal) ≡ filter_map p (records_in d.airport (d.journal ++ u ∷ []))
+    given_same =
+        let later : List ℕ → Option Y = λ k. option_and_then p (flight_of d.airport (d.journal ++ u ∷ []) k) in
+        let old = flights_in d.journal in
+        given_twice q (flight_of d.airport d.journal) old
+        ∙ ((λ i. filter_map (λ k. each k i) old)
+        ∙ (sym (ap (filter_map later) (flights_in-push d.journal u) ∙ (filter_map-append later old (cons_option (new_flight u) []) ∙ (ap (λ l. filter_map later old ++ l) (new (new_flight u) refl) ∙ append-nil (filter_map later old))))
+        ∙ sym (given_twice p (flight_of d.airport (d.journal ++ u ∷ [])) (flights_in (d.journal ++ u ∷ [])))))
+      where
+        new : (o : Option (List ℕ)) → new_flight u ≡ o → filter_map (λ k. option_and_then p (flight_of d.airport (d.journal ++ u ∷ []) k)) (cons_option o []) ≡ []
+        new None e = refl
+        new (Some f) e = ap (λ (x : Option Y). cons_option x []) (nothing _ (elsewhere (with_update d u) row.name u f (fresh_is u f e) after)).1
+
+  same_on : SameOn d (with_update d u) row
+  same_on =
+      let g = d.airport in
+      let a = d.journal in
+      let b = d.journal ++ u ∷ [] in
+      let r = row.name in
+      let taxi : (place : Place) → taxi_of g a place r ≡ taxi_of g b place r = λ place. sym (taxi_of-same g a u place r (no_taxi d r place u before)) in
+      let now : now_of a ≡ now_of b = sym (now_of-same a u (no_clock d r u before)) in
+      record {
+        rules = rules-same g a row u (λ m. no_cap d r m u before) (λ m. no_closed d r m u before);
+        fixed = fixed_on-given r (records_in g a) ∙ (given_same (fixed_at r) (fixed_at r) (λ f. refl) (no_fixed_at r) ∙ sym (fixed_on-given r (records_in g b)));
+        targets = targets_on-given r (taxi_of g a) (now_of a) (records_in g a)
+            ∙ (given_same (target_at r (taxi_of g a) (now_of a)) (target_at r (taxi_of g b) (now_of b)) (λ f. same_target_at r (taxi_of g a) (taxi_of g b) (now_of a) taxi f ∙ ap (λ n. target_at r (taxi_of g b) n f) now) (no_target_at r (taxi_of g a) (now_of a))
+            ∙ sym (targets_on-given r (taxi_of g b) (now_of b) (records_in g b)));
+      }
+
+-- since the first day, after one more update
+pub since_taken : (first d next : Day) (s m t : Touched) (u : Update) → next ≡ with_update d u → Adds s (is_noted d u) m → Adds m (is_noted next u) t → IsSince first s d → IsSince first t next
+since_taken first d next s m t u is more later since =
+    let further : Adds m (is_noted (with_update d u) u) t = subst (λ (x : Day). Adds m (is_noted x u) t) is later in
+    subst (IsSince first t) (sym is) (record {
+      airport = since.airport;
+      same = λ row h.
+          let after = further row.name h in
+          let before = more row.name after.0 in
+          let old = since.same row before.0 in
+          let new = same_on d u row before.1 after.1 in
+          record { rules = old.rules ∙ new.rules; fixed = old.fixed ∙ new.fixed; targets = old.targets ∙ new.targets };
+    })
+
+-- at first nothing changed
+pub since_itself : (d : Day) (t : Touched) → IsSince d t d
+since_itself d t = record { airport = refl; same = λ row h. record { rules = refl; fixed = refl; targets = refl } }
+
+-- the plans of the runways that were not touched stand
+pub kept_since : (first d : Day) (t : Touched) (plan : PlanRecord) → IsMade first plan → IsSince first t d → AreKept d t plan.runways
+unfolding rules_of
+kept_since first d t plan made since r p i e = by (is_touched t r.name) refl e
+  where
+    by : (b : Bool) → is_touched t r.name ≡ b → (if b then None else find (λ p. same_name p.runway r.name) plan.runways) ≡ Some p → IsPlanOn d r p
+    by true h k = cc
+    by false h k =
+        let found = find_some (λ (p : RunwayPlanRecord). same_name p.runway r.name) plan.runways p k in
+        let old = partner (IsPlanOn first) (rules_in first.airport first.journal) made.made p made.each (Contains-permutation plan.runways made.made p (IsPermutation-sym made.made plan.runways made.same) found.0) in
+        let at = contains_from_map (rules_of d.airport d.journal) (rows_by_name d.airport.runways) r i in
+        let row = at.0 in
+        let named : row.name ≡ r.name = ap (λ (x : RunwayRules). x.name) at.2 in
+        let there = contains_map (rules_of first.airport first.journal) (rows_by_name first.airport.runways) row (subst (λ g. Contains (rows_by_name g.runways) row) since.airport at.1) in
+        let name : old.0.name ≡ row.name = sym old.1.sequence.runway ∙ (same_is p.runway r.name found.1 ∙ sym named) in
+        let one : old.0 ≡ rules_of first.airport first.journal row = one_of_key same_name same_flips (λ (x : RunwayRules). x.name) (rules_in first.airport first.journal) old.0 (rules_of first.airport first.journal row)
+            (rule_names_differ first.airport first.journal made.airport) old.2 there (is_same old.0.name row.name name) in
+        let same = since.same row (ap (is_touched t) named ∙ h) in
+        let here : IsRunwayPlan (rules_of first.airport first.journal row) (fixed_in first row.name) (targets_in first row.name) p = subst (λ (x : RunwayRules). IsPlanOn first x p) one old.1 in
+        subst (λ (x : RunwayRules). IsPlanOn d x p) at.2
+        (subst (λ (x : RunwayRules). IsRunwayPlan x (fixed_in d row.name) (targets_in d row.name) p) same.rules
+        (subst (λ (x : List FixedRecord). IsRunwayPlan (rules_of first.airport first.journal row) x (targets_in d row.name) p) same.fixed
+        (subst (λ (x : List TargetRecord). IsRunwayPlan (rules_of first.airport first.journal row) (fixed_in first row.name) x p) same.targets here)))

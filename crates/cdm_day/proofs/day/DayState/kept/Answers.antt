@@ -1,0 +1,15 @@
+use Rattle.std.proofs.Common.{sym, ap, ◌∙◌, subst, List}
+use Rattle.std.specs.Arc.{arc_value}
+use Rattle.cdm_sequence.specs.Slots.{PlanRecord, RunwayPlanRecord}
+use Rattle.cdm_day.specs.Day.{Day}
+use Rattle.cdm_day.specs.inner.Kept.{AreKept, IsMade, IsSince}
+use Rattle.cdm_day.proofs.KeptLemmas.{kept_since}
+use Rattle.cdm_day.proofs.day.DayState.kept.Goals as goal
+
+pub returns : goal.returns
+returns c =
+    let s = c.self.inside in
+    let draft = c.args.draft.now in
+    let since = subst (λ (x : Day). IsSince x draft.touched draft.tables) (sym c.self.view_is) c.requires in
+    subst (λ (ps : List RunwayPlanRecord). AreKept draft.tables draft.touched ps) (sym (c.as_slice.ensures ∙ (ap (λ (p : PlanRecord). p.runways) c.behind-self.view_is ∙ ap (λ (p : PlanRecord). p.runways) c.deref.ensures)))
+    (kept_since s.tables draft.tables draft.touched (arc_value s.plan) c.self.invariant since)

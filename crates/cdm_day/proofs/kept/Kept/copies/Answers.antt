@@ -1,0 +1,27 @@
+use Rattle.std.proofs.Common.{Bor, ◌≡◌, ◌<◌, ◌++◌, ◌∷◌, [], Some, None, Option, length, take, sym, ◌∙◌, ap, arith}
+use Rattle.std.specs.List.{cons_option, filter_map}
+use Rattle.std.specs.Option.{option_copied}
+use Rattle.std.proofs.lemmas.List.{append-nil, take_more}
+use Rattle.std.proofs.lemmas.List.Elements.{filter_map-append}
+use Rattle.cdm_runway.specs.Rules.{RunwayRules}
+use Rattle.cdm_sequence.specs.Slots.{RunwayPlanRecord}
+use Rattle.cdm_day.specs.inner.Kept.{kept_plan}
+use Rattle.cdm_day.proofs.kept.Kept.copies.Goals.{in-Some+in_ok-copy+in_ok-push, in_default}
+use Rattle.cdm_day.proofs.kept.Kept.copies.Goals as goal
+
+pub loop-runway-preserved : goal.loop-runway-preserved
+loop-runway-preserved c =
+    let rs = c.args.runways.now in
+    let k = c.loop-runway.runway-index in
+    let r = c.runway-item.result in
+    let stands : Bor RunwayRules → Option RunwayPlanRecord = λ r. kept_plan c.args.self.now.touched.now c.args.self.now.plans.now r.now.name in
+    let inside : k < length rs = omega arith in
+    let next = ap (filter_map stands) (take_more rs k r inside ∙ ap (λ (x : Bor RunwayRules). take k rs ++ x ∷ []) (sym c.runway-item.is)) ∙ filter_map-append stands (take k rs) (r ∷ []) in
+    let found = ap (kept_plan c.args.self.now.touched.now c.args.self.now.plans.now) (sym c.name.ensures) ∙ sym c.plan_on.ensures in
+    elim c.match-plan_on.branch [
+      | in-Some+in_ok-copy+in_ok-push w ↦
+        ap (λ v. v.items) w.copies-is ∙ (w.in_ok-push.ensures.items ∙ ((λ i. c.loop-runway.invariant i ++ w.in_ok-copy.ensures i ∷ [])
+        ∙ sym (next ∙ ap (λ o. filter_map stands (take k rs) ++ cons_option o []) (found ∙ ap option_copied w.in-Some.is))))
+      | in_default w ↦
+        ap (λ v. v.items) w.copies-is ∙ (c.loop-runway.invariant ∙ sym (next ∙ (ap (λ o. filter_map stands (take k rs) ++ cons_option o []) (found ∙ ap option_copied w.in_default.is) ∙ append-nil (filter_map stands (take k rs)))))
+    ]

@@ -1,0 +1,42 @@
+//! What an update makes of a flight.
+ghost use Rattle.std.specs.Prelude.{◌≡◌, ◌≤◌, ◌++◌, ◌∷◌, [], false, not, nat_le, length, None, Some, if◌then◌else◌, IfErr, IfOk, OnOk};
+ghost use Rattle.std.specs.FinMap as map;
+ghost use Rattle.std.specs.Option.{ForSome, option_and_then};
+ghost use Rattle.cdm_flight.specs.Step.{flight_of_update, is_fresh};
+ghost use Rattle.cdm_flight.specs.Taxi.{taxi_out};
+ghost use Rattle.cdm_flight.specs.Journal.{flight_of, is_known};
+ghost use Rattle.cdm_flight.specs.Accepted.{is_unknown, refusal_of};
+
+use crate::records::Records;
+use cdm_flight::{Flight, FlightName, RefusalWord, Update};
+use cdm_taxi::TaxiTable;
+
+// The flight's taxi-out time to its runway, as the table has it.
+fn exot_to_runway(taxi: &TaxiTable, flight: &Flight) -> Option<u16>
+    ensures value { result ≡ option_and_then (λ r. taxi_out (λ place. map.get taxi.now (place, r)) flight.now.stand flight.now.ice) flight.now.runway }
+    ensures range { ForSome result (λ minutes. minutes ≤ 180) }
+{
+    let runway = flight.runway?;
+    taxi.exot(flight.stand, runway, flight.ice)
+}
+
+/// The flight after an update of it, other than its FLT, or the first word that refuses the update,
+/// but for Full. A runway that it names is one of the airport.
+pub fn flight_after<R: Records>(
+    records: &R,
+    flight: FlightName,
+    update: &Update,
+) -> Result<Flight, RefusalWord>
+    requires of_flight { flight_of_update update.now ≡ Some flight }
+    requires old { is_fresh update.now ≡ false }
+    requires runway { let d = R.day records.now in is_unknown d.airport d.journal update.now ≡ not (is_known d.journal flight) }
+    ensures refused { let d = R.day records.now in IfErr result (λ word. refusal_of d.airport d.journal update.now ≡ Some word) }
+    ensures rest { let d = R.day records.now in OnOk result
+        (refusal_of d.airport d.journal update.now ≡ (if nat_le 20000 (length d.journal) then Some RefusalWord.Full else None)) }
+    ensures after { let d = R.day records.now in IfOk result (λ next. flight_of d.airport (d.journal ++ update.now ∷ []) flight ≡ Some next) }
+{
+    let Some(record) = records.flight(flight) else {
+        return Err(RefusalWord::Unknown);
+    };
+    record.step(update, exot_to_runway(records.taxi(), record))
+}
