@@ -1,2 +1,4 @@
 pub mod Names
 pub mod Scenarios
+pub mod Overlay
+pub mod inner
