@@ -1,1 +1,2 @@
 pub mod OverlayLemmas
+pub mod OutcomeLemmas

@@ -1,14 +1,15 @@
 -- What is laid over a day, after one more update.
-use Rattle.std.proofs.Common.{◌≡◌, ℕ, zero, suc, ◌-◌, ◌<◌, ◌≤◌, Bool, true, false, not, ◌||◌, List, [], ◌∷◌, ◌++◌, length, Option, None, Some, refl, sym, ap, ◌∙◌, subst, true≢false, arith}
+use Rattle.std.proofs.Common.{◌≡◌, ℕ, zero, suc, ◌-◌, ◌<◌, ◌≤◌, Bool, true, false, not, List, [], ◌∷◌, ◌++◌, length, Option, None, Some, refl, sym, ap, ◌∙◌, subst, true≢false, arith}
 use Rattle.std.specs.Prelude.{unwrap_or, is_some, slice_get}
 use Rattle.std.specs.Option.{option_and_then, option_map, option_map_or, option_or}
-use Rattle.std.specs.List.{Contains, list_any}
+use Rattle.std.specs.List.{Contains}
 use Rattle.std.specs.Map.{lookup}
 use Rattle.std.specs.Cmp.Lexicographic.{same_text}
 use Rattle.std.proofs.lemmas.Cmp.{nat_list_eq_equiv}
 use Rattle.std.proofs.lemmas.List.{append_assoc, append-nil}
 use Rattle.std.proofs.lemmas.List.Sorted.{Contains-permutation, IsPermutation-sym}
-use Rattle.std.proofs.lemmas.Option.{slice_get-map}
+use Rattle.std.proofs.lemmas.Map.Keys.{any_passes_from_place}
+use Rattle.std.proofs.lemmas.Option.{get_or_from_slice_get, slice_get-map, slice_get_within}
 use Rattle.indexmap.specs.IndexMap.{get, Updates}
 use Rattle.cdm_flight.specs.declared.airport.RunwayRow.{RunwayRow}
 use Rattle.cdm_flight.specs.declared.place.Place.{Place}
@@ -21,7 +22,6 @@ use Rattle.cdm_flight.specs.Taxi.{TaxiRows}
 use Rattle.cdm_flight.specs.Journal.{AirportRows, is_known, sets_cap, sets_closed, sets_taxi, sets_now, flight_of, now_of, runway_row}
 use Rattle.cdm_flight.specs.Accepted.{is_unknown, refusal_of, stand_with_taxi}
 use Rattle.cdm_flight.proofs.JournalLemmas.{last_value-push, flight_of-untouched, flight_of-fresh, same_name-refl}
-use Rattle.cdm_flight.proofs.Lists.{contains_head, contains_tail}
 use Rattle.cdm_runway.specs.Rules.{RunwayRules}
 use Rattle.cdm_day.specs.Day.{Day, flights_in, rules_of, rules_in, rows_by_name}
 use Rattle.cdm_day.specs.Runways.{has_window, is_of_runway, with_change, window_end, window_runway}
@@ -52,20 +52,6 @@ slice_get-back {X} [] ys i h = let same : i ≡ i - length {A = X} [] = omega ar
 slice_get-back (x ∷ xs) ys zero h = absurd (omega arith)
 slice_get-back (x ∷ xs) ys (suc i) h = let same : i - length xs ≡ suc i - length (x ∷ xs) = omega arith in slice_get-back xs ys i (omega arith) ∙ ap (slice_get ys) same
 
-contains_at : {X : Type 0} (xs : List X) (i : ℕ) (x : X) → slice_get xs i ≡ Some x → Contains xs x
-contains_at [] i x h = cc
-contains_at {X} (y ∷ ys) zero x h = let same : y ≡ x = cc in subst (λ (z : X). Contains (y ∷ ys) z) same (contains_head y ys)
-contains_at (y ∷ ys) (suc i) x h = contains_tail y ys x (contains_at ys i x h)
-
-any_at : (ks : List (List ℕ)) (i : ℕ) (k : List ℕ) → slice_get ks i ≡ Some k → list_any (same_name k) ks ≡ true
-any_at [] i k h = cc
-any_at (x ∷ ks) zero k h = let same : x ≡ k = cc in rw (ap (same_name k) same ∙ same_name-refl k) refl
-any_at (x ∷ ks) (suc i) k h = rw (any_at ks i k h) (last (same_name k x))
-  where
-    last : (b : Bool) → (b || true) ≡ true
-    last true = refl
-    last false = refl
-
 -- The names of a day's flights are those of their records.
 
 name_at_place : (d : Day) → IsSound d → (i : ℕ) (o : Option Record) → o ≡ option_and_then (flight_of d.airport d.journal) (slice_get (flights_in d.journal) i) → option_map (λ r. r.name) o ≡ slice_get (flights_in d.journal) i
@@ -77,7 +63,7 @@ name_at_place d sound i o at = ap (option_map (λ (r : Record). r.name)) at ∙ 
 
     by : (o : Option (List ℕ)) → slice_get (flights_in d.journal) i ≡ o → option_map (λ r. r.name) (option_and_then (flight_of d.airport d.journal) o) ≡ o
     by None e = refl
-    by (Some k) e = by_record k (flight_of d.airport d.journal k) refl (sym (known_is d sound k) ∙ (known-among d.journal k ∙ any_at (flights_in d.journal) i k e))
+    by (Some k) e = by_record k (flight_of d.airport d.journal k) refl (sym (known_is d sound k) ∙ (known-among d.journal k ∙ any_passes_from_place (same_name k) (flights_in d.journal) i k e (same_name-refl k)))
 
 -- Nothing laid over.
 
@@ -117,7 +103,7 @@ module _ {g : AirportRows} {a e : List Update} {m : Flights} {new : List (List �
       by (Some row) h k =
           let is_x : rules_of g a row ≡ x = cc in
           let name : row.name ≡ x.name = sym (name_of_rules g a row) ∙ ap (λ (y : RunwayRules). y.name) is_x in
-          let here = Contains-permutation (rows_by_name g.runways) g.runways row (IsPermutation-sym g.runways (rows_by_name g.runways) (rows_permutation g.runways)) (contains_at (rows_by_name g.runways) i row h) in
+          let here = Contains-permutation (rows_by_name g.runways) g.runways row (IsPermutation-sym g.runways (rows_by_name g.runways) (rows_permutation g.runways)) (i, slice_get_within (rows_by_name g.runways) i row h, get_or_from_slice_get (rows_by_name g.runways) i row row h) in
           ap Some (told.runways row here ∙ (λ j. unwrap_or ((ap (get same_name own) name ∙ sym mine) j) (is_x j)))
 
   -- The name of the flight at a place.
