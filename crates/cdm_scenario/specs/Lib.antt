@@ -1,2 +1,5 @@
 pub mod Names
 pub mod Scenarios
+pub mod Overlay
+pub mod Outcome
+pub mod inner

@@ -1,10 +1,19 @@
-//! What-if questions: scenarios, each a name and further updates.
+//! What-if questions: scenarios, each a name and further updates, and what becomes of a day by them.
 #![tactic(auto)]
 
+mod answering;
+mod answers;
+mod changes;
 mod name;
+mod outcome;
+mod overlay;
 mod scenario;
 
+pub use answering::answer;
+pub use answers::answer_all;
 pub use name::ScenarioName;
+pub use outcome::Outcome;
+pub use overlay::Overlay;
 pub use scenario::{MOST_UPDATES, Scenario, ScenarioFault};
 
 #[cfg(test)]

@@ -1,0 +1,2 @@
+pub mod OverlayLemmas
+pub mod OutcomeLemmas

@@ -1,0 +1,16 @@
+use Rattle.std.proofs.Common.{None, Some, sym, ap, ◌∙◌}
+use Rattle.std.specs.Option.{option_copied}
+use Rattle.indexmap.specs.IndexMap.{get}
+use Rattle.cdm_flight.specs.Names.{same_name}
+use Rattle.cdm_scenario.proofs.OverlayLemmas.{over_runway}
+use Rattle.cdm_scenario.proofs.overlay.records.OverlayRecords.runway_at.Goals as goal
+
+pub returns-in-Some-clause-value : goal.returns-in-Some-clause-value
+returns-in-Some-clause-value c =
+    over_runway c.self.invariant c.self.view_is c.args.place c.in_ok-runway.runway.now (Some c.in-Some.changed.now) (sym (ap option_copied c.in_ok-runway.was) ∙ c.runway_at.ensures.value)
+    (sym (ap option_copied c.in-Some.is) ∙ (c.get.ensures.value ∙ ap (get same_name c.self.inside.runways) c.name.ensures))
+
+pub returns-in-None-clause-value : goal.returns-in-None-clause-value
+returns-in-None-clause-value c =
+    over_runway c.self.invariant c.self.view_is c.args.place c.in_ok-runway.runway.now None (sym (ap option_copied c.in_ok-runway.was) ∙ c.runway_at.ensures.value)
+    (sym (ap option_copied c.in-None.is) ∙ (c.get.ensures.value ∙ ap (get same_name c.self.inside.runways) c.name.ensures))

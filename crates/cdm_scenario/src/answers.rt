@@ -1,0 +1,61 @@
+//! The answers to scenarios, by many workers.
+ghost use Rattle.std.specs.Prelude.{◌≡◌, ◌≤◌, IfOk, length};
+ghost use Rattle.std.specs.List.{AllZip};
+ghost use Rattle.cdm_phase.specs.declared.job.PhaseName.TheVariants.{Scenarios};
+ghost use Rattle.cdm_day.specs.Sound.{IsSound};
+ghost use Rattle.cdm_scenario.specs.Outcome.{IsOutcome};
+ghost use Rattle.cdm_scenario.specs.inner.OneOutcome.{one_outcome};
+
+use crate::{Outcome, Scenario, answer};
+use cdm_day::{DayState, Records};
+use cdm_phase::{Gate, Job, PhaseName, Workers, run_phase};
+use std::alloc::{AllocError, Global};
+use std::thread::Threads;
+
+// The answer to each scenario over the base that they share.
+#[derive(Clone, Copy)]
+struct AnswerJob<'a> {
+    base: &'a DayState,
+}
+
+impl Job for AnswerJob<'_> {
+    type Item = Scenario;
+
+    type Out = Outcome;
+
+    ghost can_run = { λ job _. IsSound job.base.now };
+
+    ghost gives = { λ job scenario outcome. IsOutcome job.base.now scenario.updates outcome };
+
+    ghost phase_name = { Scenarios };
+
+    fn run(&self, alloc: Global, scenario: &Scenario) -> Result<Outcome, AllocError> {
+        answer(alloc, self.base, scenario)
+    }
+
+    fn phase(&self) -> PhaseName {
+        PhaseName::Scenarios
+    }
+
+    ghost one_value = { λ job scenario x y sound a b. one_outcome job.base.now scenario.updates sound.airport.names sound.names x y a b };
+}
+
+/// The answers to the scenarios, in their order, by so many workers: each scenario is one piece, and
+/// every piece passes the gate once, in phase `Scenarios`. All answers stand on the base as it is, and
+/// none on another's updates.
+pub fn answer_all<R: Threads + Sync, G: Gate>(
+    rt: &R,
+    alloc: Global,
+    base: &DayState,
+    scenarios: &[Scenario],
+    workers: Workers,
+    gate: &G,
+) -> Result<Vec<Outcome>, AllocError>
+    requires { length scenarios.now ≤ 64 }
+    ensures { IfOk result (λ outcomes.
+        AllZip (λ scenario outcome. IsOutcome base.now scenario.updates outcome) scenarios.now outcomes.items) }
+{
+    // What the base's records tell is sound, which makes each answer the only one.
+    let _now = base.now();
+    run_phase(rt, alloc, workers, 1, &AnswerJob { base }, scenarios, gate)
+}
