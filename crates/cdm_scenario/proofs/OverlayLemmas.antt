@@ -36,9 +36,13 @@ use Rattle.cdm_day.proofs.NameLemmas.{all_at, find_some, rows_permutation}
 use Rattle.cdm_day.proofs.RunwayLemmas.{row_of_name, rules-same}
 use Rattle.cdm_day.proofs.SoundLemmas.{known-among, known_update, sound_after}
 use Rattle.cdm_day.proofs.TableLemmas.{row_there, taxi_after_other, taxi_after_taxi}
-use Rattle.cdm_day.proofs.WindowLemmas.{name_of_rules, rules-after, windows_by_name, window-of_no_flight, window-no_clock, window-no_taxi, window-no_stand}
+use Rattle.cdm_day.proofs.WindowLemmas.{rules-after, windows_by_name, window-of_no_flight, window-no_clock, window-no_taxi, window-no_stand}
 use Rattle.cdm_day.proofs.WordLemmas.{flt-accepted, known_from, known_is}
 use Rattle.cdm_scenario.specs.inner.Changed.{Runways, TaxiOver, TellChanged}
+
+name_of_rules : (g : AirportRows) (a : List Update) (row : RunwayRow) → (rules_of g a row).name ≡ row.name
+unfolding rules_of
+name_of_rules g a row = refl
 
 -- Lists.
 
