@@ -90,6 +90,7 @@ fn a_closure_is_laid_over_a_day(rt: HostRuntime) -> Result<(), Fail> {
 fn scenarios_are_answered_side_by_side(rt: HostRuntime) -> Result<(), Fail> {
     let base = full_cell(rt.alloc())?;
     let scenarios = scenarios(rt.alloc())?;
+    assert_eq!(rt; scenarios.len(), 4);
     for (count, turns) in [(1, 1_000), (2, 1_000_000), (7, 1_000_000), (64, 1_000_000)] {
         let workers = Workers::new(count).ok_or("no workers")?;
         let gate = Meeting::new(turns);
