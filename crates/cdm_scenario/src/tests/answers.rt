@@ -1,0 +1,105 @@
+//! What becomes of a day by scenarios: worked answers, by one worker and by many.
+use super::full_cell::{closed, full_cell, priority, ready};
+use super::meeting::Meeting;
+use crate::{Outcome, Overlay, Scenario, ScenarioName, answer_all};
+use cdm_day::{Reply, judge, plan_of};
+use cdm_flight::{RefusalWord, Update};
+use cdm_phase::Workers;
+use cdm_sequence::Plan;
+use std::alloc::Global;
+use std::process::Abort;
+use std::test::Fail;
+
+// What a scenario is to be answered.
+#[derive(Clone, Copy)]
+enum Wanted {
+    // The take-off minutes in order; the sum of the delays, the greatest, and how many are late.
+    Planned([u16; 3], (u32, u32, u32)),
+    // The refused update and its word.
+    Refused(usize, RefusalWord),
+}
+
+const WANTED: [Wanted; 4] = [
+    Wanted::Planned([390, 390, 400], (55, 25, 1)),
+    Wanted::Planned([390, 390, 400], (55, 25, 1)),
+    Wanted::Refused(2, RefusalWord::Unknown),
+    Wanted::Planned([375, 375, 380], (5, 5, 0)),
+];
+
+// The take-off minutes of the one runway.
+fn assert_minutes(rt: &impl Abort, plan: &Plan, minutes: &[u16]) {
+    assert_eq!(rt; plan.runways.len(), 1);
+    for runway in plan.runways.as_slice() {
+        assert_eq!(rt; runway.slots.len(), minutes.len());
+        for (slot, minute) in runway.slots.as_slice().iter().zip(minutes) {
+            assert_eq!(rt; slot.ttot.get(), *minute);
+        }
+    }
+}
+
+fn assert_outcome(rt: &impl Abort, outcome: &Outcome, wanted: &Wanted) {
+    match (outcome, wanted) {
+        (Outcome::Planned(plan, counts), Wanted::Planned(minutes, sums)) => {
+            assert_minutes(rt, plan, minutes);
+            assert_eq!(rt; (counts.delay, counts.greatest, counts.late), *sums);
+            assert_eq!(rt; (counts.placed, counts.blocked), (3, 0));
+        }
+        (Outcome::Refused(number, word), Wanted::Refused(place, refusal)) => {
+            assert_eq!(rt; (*number, *word), (*place, *refusal));
+        }
+        _ => panic!(rt; "another answer"),
+    }
+}
+
+fn scenario(alloc: Global, name: &str, updates: &[Option<Update>]) -> Result<Scenario, Fail> {
+    let name = ScenarioName::new(name.as_bytes()).ok_or("no name")?;
+    let mut scenario = Scenario::empty(alloc, name);
+    for update in updates {
+        scenario.add(update.ok_or("no update")?)?;
+    }
+    Ok(scenario)
+}
+
+fn scenarios(alloc: Global) -> Result<Vec<Scenario>, Fail> {
+    let mut scenarios = Vec::new(alloc);
+    scenarios.push(scenario(alloc, "SHUT", &[closed()])?)?;
+    scenarios.push(scenario(alloc, "SHUT2", &[closed()])?)?;
+    scenarios.push(scenario(alloc, "BAD", &[priority("AB3", 1), ready("XY9")])?)?;
+    scenarios.push(scenario(alloc, "SAME", &[])?)?;
+    Ok(scenarios)
+}
+
+/// A closure moves the flights in the plan of what is laid over the day, and not in the day's own.
+#[test]
+fn a_closure_is_laid_over_a_day(rt: HostRuntime) -> Result<(), Fail> {
+    let base = full_cell(rt.alloc())?;
+    let mut overlay = Overlay::over(rt.alloc(), &base);
+    let unknown = ready("XY9").ok_or("no update")?;
+    assert_eq!(rt; judge(&overlay, &unknown), Some(RefusalWord::Unknown));
+    let closure = closed().ok_or("no update")?;
+    assert_eq!(rt; overlay.apply(rt.alloc(), &closure)?, Reply::Accepted);
+    let plan = plan_of(rt.alloc(), &overlay)?;
+    assert_minutes(&rt, &plan, &[390, 390, 400]);
+    assert_minutes(&rt, base.plan(), &[375, 375, 380]);
+    Ok(())
+}
+
+/// Any number of workers answer alike. Two or more meet at the first two scenarios, and one goes on
+/// alone.
+#[test]
+fn scenarios_are_answered_side_by_side(rt: HostRuntime) -> Result<(), Fail> {
+    let base = full_cell(rt.alloc())?;
+    let scenarios = scenarios(rt.alloc())?;
+    assert_eq!(rt; scenarios.len(), 4);
+    for (count, turns) in [(1, 1_000), (2, 1_000_000), (7, 1_000_000), (64, 1_000_000)] {
+        let workers = Workers::new(count).ok_or("no workers")?;
+        let gate = Meeting::new(turns);
+        let outcomes = answer_all(&rt, rt.alloc(), &base, &scenarios, workers, &gate)?;
+        assert_eq!(rt; outcomes.len(), 4);
+        for (outcome, wanted) in outcomes.iter().zip(WANTED.iter()) {
+            assert_outcome(&rt, outcome, wanted);
+        }
+        assert_eq!(rt; gate.is_missed(), count == 1, "{count} workers");
+    }
+    Ok(())
+}
