@@ -1,16 +1,16 @@
 -- A day has several runways: what holds of each runway's plan holds of the day.
-use Rattle.std.proofs.Common.{◌≡◌, ℕ, Bool, true, List, Option, sym, ap, subst, map, get_or}
+use Rattle.std.proofs.Common.{◌≡◌, ℕ, Bool, true, List, sym, ap, map}
 use Rattle.std.specs.List.{Contains, IsDistinct}
-use Rattle.std.proofs.lemmas.List.Elements.{All-contains, Contains-get_or, filter_passes}
+use Rattle.std.proofs.lemmas.List.Elements.{All-contains, filter_passes}
 use Rattle.cdm_flight.specs.Names.{same_name}
 use Rattle.cdm_runway.specs.Rules.{RunwayRules}
 use Rattle.cdm_sequence.specs.Day.{targets_on, IsDayPlan, IsDayAllowed}
-use Rattle.cdm_sequence.specs.Plan.{Placing, taken_before, IsLeast, IsPlan, IsEarlier}
+use Rattle.cdm_sequence.specs.Plan.{Placing, IsPlan, IsEarlier}
 use Rattle.cdm_sequence.specs.Targets.{TargetRecord}
 use Rattle.cdm_sequence.proofs.AllowedLemmas.{plan_allowed}
 use Rattle.cdm_flight.proofs.Lists.{contains_kept, contains_all, distinct_filter}
 use Rattle.cdm_sequence.proofs.OrderLemmas.{same_is, same_itself}
-use Rattle.cdm_sequence.proofs.PlanLemmas.{plan_one, none_earlier, least_same, held_agree}
+use Rattle.cdm_sequence.proofs.PlanLemmas.{plan_one, plan_agree, none_earlier}
 
 abbrev on_runway : List ℕ → TargetRecord → Bool
 on_runway runway f = same_name f.runway runway
@@ -40,15 +40,6 @@ day_one rules fixed targets p q a b f i =
 pub day_allowed : (rules : List ℕ → RunwayRules) (fixed : List ℕ → List ℕ) (targets : List TargetRecord) (p : Placing) → IsDistinct same_name (map (λ f. f.key.name) targets) → IsDayPlan rules fixed targets p → IsDayAllowed rules fixed targets p
 day_allowed rules fixed targets p own plan runway =
     plan_allowed (rules runway) (fixed runway) (targets_on runway targets) p (distinct_filter same_name (λ f. f.key.name) (on_runway runway) targets own) (plan runway)
-
--- a placing that agrees with the plan on its targets is the plan
-plan_agree : (r : RunwayRules) (fixed : List ℕ) (targets : List TargetRecord) (p q : Placing) → ((g : TargetRecord) → Contains targets g → p g ≡ q g) → IsPlan r fixed targets p → IsPlan r fixed targets q
-plan_agree r fixed targets p q same a = λ k d l.
-    let f = get_or targets k d in
-    let i = Contains-get_or targets k d l in
-    let x : IsLeast r (taken_before fixed targets p f) f (p f) = a k d l in
-    let y : IsLeast r (taken_before fixed targets q f) f (p f) = least_same r (taken_before fixed targets p f) (taken_before fixed targets q f) f (p f) (λ m. held_agree r.cell m fixed targets p q f (λ g j h. same g j)) x in
-    subst (λ (o : Option ℕ). IsLeast r (taken_before fixed targets q f) f o) (same f i) y
 
 -- plans that were made runway by runway are one plan of the day
 pub day_made : (rules : List ℕ → RunwayRules) (fixed : List ℕ → List ℕ) (targets : List TargetRecord) (each : List ℕ → Placing) → ((runway : List ℕ) → IsPlan (rules runway) (fixed runway) (targets_on runway targets) (each runway)) → IsDayPlan rules fixed targets (λ f. each f.runway f)

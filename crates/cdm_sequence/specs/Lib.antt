@@ -6,4 +6,4 @@ pub mod Plan
 pub mod Aims
 pub mod Sequence
 pub mod Day
-pub mod Turns
+pub mod inner

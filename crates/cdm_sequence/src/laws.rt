@@ -4,18 +4,24 @@ ghost use Rattle.std.specs.List.{IsDistinct};
 ghost use Rattle.cdm_flight.specs.Names.{same_name};
 ghost use Rattle.cdm_flight.specs.Record.{Record};
 ghost use Rattle.cdm_runway.specs.Rules.{RunwayRules};
-ghost use Rattle.cdm_sequence.specs.Aims.{TaxiTimes, aim_of, IsAim};
+ghost use Rattle.cdm_sequence.specs.Aims.{TaxiTimes, IsAim};
 ghost use Rattle.cdm_sequence.specs.Day.{targets_on, IsDayPlan, IsDayAllowed};
 ghost use Rattle.cdm_sequence.specs.Fixed.{FixedRecord};
 ghost use Rattle.cdm_sequence.specs.Plan.{Placing, IsPlan, IsAllowed, IsEarlier};
 ghost use Rattle.cdm_sequence.specs.Sequence.{IsSequence, flight_names};
 ghost use Rattle.cdm_sequence.specs.Slots.{RunwayPlanRecord};
 ghost use Rattle.cdm_sequence.specs.Targets.{TargetRecord};
+ghost use Rattle.cdm_sequence.specs.declared.aims.AimResult.{AimResult};
 
-/// An aim is the flight's target, with the minutes at which it may take off, or the first rule
-/// that leaves it none.
-pub fn aims_are_right()
-    ensures { (f : Record) (times : TaxiTimes) (now : ℕ) → IsAim f times now (aim_of f times now) }
+/// A planned flight could have something: its target, or the first rule that leaves it none.
+pub fn some_aim()
+    ensures { (f : Record) (times : TaxiTimes) (now : ℕ) → (aim : AimResult) × IsAim f times now aim }
+{}
+
+/// And there is only one such answer.
+pub fn one_aim()
+    ensures { (f : Record) (times : TaxiTimes) (now : ℕ) (a b : AimResult) →
+        IsAim f times now a → IsAim f times now b → a ≡ b }
 {}
 
 /// Two plans of the same flights give each flight the same.
