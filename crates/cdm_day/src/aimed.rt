@@ -1,10 +1,10 @@
 //! What planned flights could have.
-ghost use Rattle.std.specs.Prelude.{◌≡◌, true, All, IfOk, map};
-ghost use Rattle.std.specs.List.{filter_map};
+ghost use Rattle.std.specs.Prelude.{◌≡◌, true, All, IfOk};
+ghost use Rattle.std.specs.List.{AllZip, filter_map};
 ghost use Rattle.std.specs.FinMap as finite;
 ghost use Rattle.cdm_flight.specs.Record.{is_planned};
 ghost use Rattle.cdm_day.specs.Planning.{blocked_in, planned_of};
-ghost use Rattle.cdm_day.specs.Aimed.{aimed, early_among, target_for};
+ghost use Rattle.cdm_day.specs.Aimed.{IsAimed, early_among, target_for};
 
 use cdm_flight::{Flight, FlightName, RunwayName, Status, push_last};
 use cdm_sequence::{AimResult, BlockedFlight, Target, aim};
@@ -33,10 +33,9 @@ pub(crate) fn planned(alloc: Global, flights: &[Flight]) -> Result<Vec<Flight>, 
 }
 
 /// A planned flight with what it could have.
-#[tactic(auto, unfolding(crate::specs::Aimed::aimed))]
 pub(crate) fn aimed_of(flight: &Flight, taxi: &TaxiTable, now: Minute) -> Aimed
     requires { is_planned flight.now.status ≡ true }
-    ensures { result ≡ aimed (λ place runway. finite.get taxi.now (place, runway)) now flight.now }
+    ensures { IsAimed (λ place runway. finite.get taxi.now (place, runway)) now flight.now result }
 {
     Aimed {
         name: flight.name,
@@ -52,7 +51,7 @@ pub(crate) fn aims(
     now: Minute,
 ) -> Result<Vec<Aimed>, AllocError>
     requires { All (λ f. is_planned f.status ≡ true) planned.now }
-    ensures { IfOk result (λ v. v.items ≡ map (aimed (λ place runway. finite.get taxi.now (place, runway)) now) planned.now) }
+    ensures { IfOk result (λ v. AllZip (IsAimed (λ place runway. finite.get taxi.now (place, runway)) now) planned.now v.items) }
 {
     let mut aims = Vec::new(alloc);
     for flight in planned {

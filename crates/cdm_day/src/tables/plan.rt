@@ -25,11 +25,11 @@ fn in_order(
 }
 
 impl Tables {
-    ghost use Rattle.cdm_day.specs.DayPlan.{IsDayPlan};
+    ghost use Rattle.cdm_day.specs.DayPlan.{IsOnlyPlan};
 
     /// The plan of the day.
     pub fn plan(&self, alloc: Global) -> Result<Plan, AllocError>
-        ensures { IfOk result (λ plan. IsDayPlan self.now plan) }
+        ensures { IfOk result (λ plan. IsOnlyPlan self.now plan) }
     {
         let flights = in_order(alloc, &self.flights)?;
         let plan = plan_of(alloc, &flights, &self.runways, &self.taxi, self.clock)?;
@@ -42,7 +42,7 @@ impl Tables {
         alloc: Global,
         crew: &Crew<'_, R, G>,
     ) -> Result<Plan, AllocError>
-        ensures { IfOk result (λ plan. IsDayPlan self.now plan) }
+        ensures { IfOk result (λ plan. IsOnlyPlan self.now plan) }
     {
         let flights = in_order(alloc, &self.flights)?;
         let plan = crew.plan_of(alloc, &flights, &self.runways, &self.taxi, self.clock)?;

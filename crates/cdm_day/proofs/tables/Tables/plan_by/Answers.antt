@@ -6,8 +6,9 @@ use Rattle.cdm_runway.specs.Rules.{RunwayRules}
 use Rattle.std.specs.FinMap as finite
 use Rattle.cdm_day.specs.Day.{Day}
 use Rattle.cdm_day.specs.Planning.{IsPlanOf}
-use Rattle.cdm_day.specs.DayPlan.{IsDayPlan, records_in}
+use Rattle.cdm_day.specs.DayPlan.{IsOnlyPlan, records_in}
 use Rattle.cdm_day.proofs.DayPlanLemmas.{flight_names_differ, runway_names_differ, tables_plan, values-records}
+use Rattle.cdm_day.proofs.OnePlanLemmas.{only_plan}
 use Rattle.cdm_day.proofs.tables.Tables.plan_by.Goals as goal
 
 pub plan_of-requires-clause-names : goal.plan_of-requires-clause-names
@@ -31,5 +32,6 @@ returns g c =
     let flights : c.deref.result.now ≡ records_in t.airport t.journal.items =
     (c.deref.ensures.value ∙ c.in_ok-flights.ensures.all) ∙ values-records t.airport t.journal.items t.flights told.flights c.in_ok-flights.ensures.unique in
     let made = subst (λ (rs : List RunwayRules). IsPlanOf c.deref.result.now (λ place r. finite.get t.taxi (place, r)) t.clock rs c.in_ok-plan.plan) c.deref-2.ensures.value c.in_ok-plan.ensures in
-    subst (λ (d : Day). IsDayPlan d c.in_ok-plan.plan) c.self.view_is
-    (tables_plan t.airport t.journal.items t.flights t.runways.items t.taxi t.clock c.deref.result.now c.in_ok-plan.plan told flights made)
+    subst (λ (d : Day). IsOnlyPlan d c.in_ok-plan.plan) c.self.view_is
+    (only_plan t.airport t.journal.items t.flights t.runways.items t.taxi t.clock c.in_ok-plan.plan told c.in_ok-flights.ensures.unique
+    (tables_plan t.airport t.journal.items t.flights t.runways.items t.taxi t.clock c.deref.result.now c.in_ok-plan.plan told flights made))
