@@ -105,32 +105,28 @@ aim_of f times now = aim_with f times now f.tobt f.runway
 pub aim_means : (f : Record) (times : TaxiTimes) (now : ℕ) → IsAim f times now (aim_of f times now)
 unfolding aim_of
 aim_means f times now = go f.tobt f.runway refl refl where
+  reaches : (tobt exot : ℕ) (runway : List ℕ) → f.tobt ≡ Some tobt → f.runway ≡ Some runway → exot_to times f runway ≡ Some exot → ReachesAt f times now (ready_at f tobt now + exot)
+  reaches tobt exot runway d e h = record { tobt = tobt; runway = runway; exot = exot; tobt_is = d; runway_is = e; exot_is = h; earliest_is = refl }
+
   possible : (tobt exot : ℕ) (runway : List ℕ) → f.tobt ≡ Some tobt → f.runway ≡ Some runway → exot_to times f runway ≡ Some exot → (b c : Bool)
       → nat_le 2880 (ready_at f tobt now + exot) ≡ b → nat_lt (window_from (ready_at f tobt now + exot) f.ctot) (window_to f.ctot) ≡ c
       → IsAim f times now (if_possible b c (target_of f now tobt runway exot))
-  possible tobt exot runway d e h b c p q = by b c p q where
-    earliest : ℕ
-    earliest = ready_at f tobt now + exot
-
-    reaches : ReachesAt f times now (ready_at f tobt now + exot)
-    reaches = record { tobt = tobt; runway = runway; exot = exot; tobt_is = d; runway_is = e; exot_is = h; earliest_is = refl }
-
-    by : (b c : Bool) → nat_le 2880 (ready_at f tobt now + exot) ≡ b → nat_lt (window_from (ready_at f tobt now + exot) f.ctot) (window_to f.ctot) ≡ c
-        → IsAim f times now (if_possible b c (target_of f now tobt runway exot))
-    by true c p q = (ready_at f tobt now + exot, reaches, grind (arith, nat_tests))
-    by false true p q = record {
-      key = ap (option_map (λ (tobt : ℕ). record { priority = f.priority; tobt = tobt; name = f.name })) d;
-      runway = e;
-      ctot = refl;
-      exot = h;
-      ready = refl;
-      some_minute = grind (arith, nat_tests);
-      minutes = window_minutes (ready_at f tobt now + exot) f.ctot;
-    }
-    by false false p q = (
-      ready_at f tobt now + exot, reaches, grind (arith, nat_tests),
-      λ m. sym (window_minutes (ready_at f tobt now + exot) f.ctot m) ∙ empty_window (window_from (ready_at f tobt now + exot) f.ctot) (window_to f.ctot) m q,
-    )
+  possible tobt exot runway d e h true c p q = (ready_at f tobt now + exot, reaches tobt exot runway d e h, grind (arith, nat_tests))
+  possible tobt exot runway d e h false true p q = record {
+    key = ap (option_map (λ (tobt : ℕ). record { priority = f.priority; tobt = tobt; name = f.name })) d;
+    runway = e;
+    ctot = refl;
+    exot = h;
+    ready = refl;
+    some_minute = grind (arith, nat_tests);
+    minutes = window_minutes (ready_at f tobt now + exot) f.ctot;
+  }
+  possible tobt exot runway d e h false false p q = (
+    ready_at f tobt now + exot,
+    reaches tobt exot runway d e h,
+    grind (arith, nat_tests),
+    λ m. sym (window_minutes (ready_at f tobt now + exot) f.ctot m) ∙ empty_window (window_from (ready_at f tobt now + exot) f.ctot) (window_to f.ctot) m q,
+  )
 
   some_there : (o : Option ℕ) (x : ℕ) → o ≡ Some x → IsSome o
   some_there None x d = cc
