@@ -78,7 +78,6 @@ module _ (fixed : List ℕ → List FixedRecord) (targets : List TargetRecord) w
   none_earlier_on p q (r ∷ rs) [] all allowed e known = absurd all
   none_earlier_on p q (r ∷ rs) (x ∷ ps) all allowed e known = go (same_name r.name e.first.runway) refl (none_earlier_on p q rs ps all.1 (All-tail (λ r. IsAllowed r (takeoffs (fixed r.name)) (on r.name) q) r rs allowed) e) known
     where
-
       go : (b : Bool) → same_name r.name e.first.runway ≡ b → (list_any (λ n. same_name n e.first.runway) (map (λ r. r.name) rs) ≡ true → ⊥) → (b || list_any (λ n. same_name n e.first.runway) (map (λ r. r.name) rs)) ≡ true → ⊥
       go true h others k = none_earlier r (takeoffs (fixed r.name)) (on r.name) p q all.0.minutes (All-head (λ r. IsAllowed r (takeoffs (fixed r.name)) (on r.name) q) r rs allowed) record {
         first = e.first;

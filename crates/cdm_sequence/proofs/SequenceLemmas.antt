@@ -182,13 +182,15 @@ sequence_made r fixed targets ds plan named made =
     let among : Contains targets d.target = Contains-permutation us targets d.target (IsPermutation-sym targets us made.same) (contains_map (λ (d : Decision). d.target) ds d i) in
     let go : (o : Result ℕ Blocked) → Gives r (taken_before (takeoffs fixed) targets p d.target) d.target.window.from d.target.window.to o → IfSome (blocked_from d.target o) (IsRightlyBlocked r (takeoffs fixed) targets p) =
     elim [ Ok m ↦ λ g. tt | Err reason ↦ λ g. (d.target, among, refl, rightly r (taken_before (takeoffs fixed) targets p d.target) d.target reason g) ] in
-    go d.outcome (decided_among r (takeoffs fixed) targets p ds made.same made.decided up agree d i) in
-    (p, record {
-      runway = named;
-      minutes = plan_made r (takeoffs fixed) targets p ds made.same made.decided up agree;
-      slots = IsPermutation-trans (slots_by p fixed targets) (map fixed_slot fixed ++ slots_given ds) ss (IsPermutation-append_right (map fixed_slot fixed) (filter_map slot targets) (slots_given ds) slots) made.slots;
-      slot_order = made.slot_order;
-      blocked = IsPermutation-trans (names_left p targets) (blocked_names (blocked_given ds)) (blocked_names bs) blocked (IsPermutation-map (λ (b : BlockedFlight). b.name) (blocked_given ds) bs made.blocked);
-      rules = All-permutation (IsRightlyBlocked r (takeoffs fixed) targets p) (blocked_given ds) bs made.blocked (All-given (λ d. blocked_from d.target d.outcome) (IsRightlyBlocked r (takeoffs fixed) targets p) ds each);
-      blocked_order = made.blocked_order;
-    })
+    go d.outcome (decided_among r (takeoffs fixed) targets p ds made.same made.decided up agree d i) in (
+      p,
+      record {
+        runway = named;
+        minutes = plan_made r (takeoffs fixed) targets p ds made.same made.decided up agree;
+        slots = IsPermutation-trans (slots_by p fixed targets) (map fixed_slot fixed ++ slots_given ds) ss (IsPermutation-append_right (map fixed_slot fixed) (filter_map slot targets) (slots_given ds) slots) made.slots;
+        slot_order = made.slot_order;
+        blocked = IsPermutation-trans (names_left p targets) (blocked_names (blocked_given ds)) (blocked_names bs) blocked (IsPermutation-map (λ (b : BlockedFlight). b.name) (blocked_given ds) bs made.blocked);
+        rules = All-permutation (IsRightlyBlocked r (takeoffs fixed) targets p) (blocked_given ds) bs made.blocked (All-given (λ d. blocked_from d.target d.outcome) (IsRightlyBlocked r (takeoffs fixed) targets p) ds each);
+        blocked_order = made.blocked_order;
+      },
+    )
