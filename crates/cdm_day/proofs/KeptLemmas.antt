@@ -18,22 +18,24 @@ use Rattle.cdm_flight.specs.Journal.{flight_of, now_of, only_if, sets_cap, sets_
 use Rattle.cdm_flight.proofs.JournalLemmas.{flight_of-untouched}
 use Rattle.cdm_flight.proofs.Lists.{contains_from_map, contains_map, if_so, one_of_key}
 use Rattle.cdm_runway.specs.Rules.{RunwayRules}
-use Rattle.cdm_sequence.specs.Aims.{TaxiTimes, IsAim, aim_of, aim_with, aim_with_exot}
+use Rattle.cdm_sequence.specs.Aims.{TaxiTimes, IsAim}
 use Rattle.cdm_sequence.specs.declared.aims.AimResult.{AimResult}
 use Rattle.cdm_sequence.specs.declared.aims.AimResult.TheVariants.{Ready, Early}
 use Rattle.cdm_sequence.specs.Fixed.{FixedRecord, fixed_flight}
+use Rattle.cdm_sequence.specs.Sequence.{IsSequence, IsSequenceBy}
 use Rattle.cdm_sequence.specs.Slots.{PlanRecord, RunwayPlanRecord}
 use Rattle.cdm_sequence.specs.Targets.{TargetRecord}
-use Rattle.cdm_sequence.proofs.AimLemmas.{aim_means}
+use Rattle.cdm_sequence.proofs.AimLemmas.{aim_means, aim_of, aim_with, aim_with_exot}
 use Rattle.cdm_sequence.proofs.OrderLemmas.{is_same, same_flips, same_is}
-use Rattle.cdm_day.specs.Aimed.{IsRunwayPlan, if_on}
-use Rattle.cdm_day.specs.Day.{Day, flights_in, new_flight, rows_by_name, rules_in, rules_of, with_update}
-use Rattle.cdm_day.specs.DayPlan.{records_in}
+use Rattle.cdm_day.specs.Aimed.{if_on}
+use Rattle.cdm_day.specs.Day.{Day, flights_in, new_flight, rows_by_name, rules_of, with_update}
+use Rattle.cdm_day.specs.DayPlan.{IsDayPlan, day_rules, records_in}
 use Rattle.cdm_day.specs.declared.touched.Touched.{Touched}
-use Rattle.cdm_day.specs.Planning.{is_on, target_in}
-use Rattle.cdm_day.specs.inner.Kept.{Adds, AreKept, IsMade, IsPlanOn, IsSince, SameOn, fixed_in, is_noted, is_touched, targets_in}
+use Rattle.cdm_day.specs.Planning.{is_on, target_in, targets_in, targets_on}
+use Rattle.cdm_day.specs.inner.Kept.{Adds, AreKept, IsMade, IsPlanOn, IsSince, fixed_in, is_noted, is_touched}
 use Rattle.cdm_day.proofs.JournalFacts.{flights_in-push, now_of-same, taxi_of-same}
-use Rattle.cdm_day.proofs.NameLemmas.{find_some, rule_names_differ}
+use Rattle.cdm_day.proofs.DayPlanLemmas.{day_rules_differ, has_sequence, is_plan_on, targets_at}
+use Rattle.cdm_day.proofs.NameLemmas.{find_some, rows_permutation}
 use Rattle.cdm_day.proofs.OnePlanLemmas.{partner}
 use Rattle.cdm_day.proofs.PlanningLemmas.{fixed_at, fixed_on-given, target_at, targets_on-given}
 use Rattle.cdm_day.proofs.RunwayLemmas.{rules-same}
@@ -117,6 +119,10 @@ module _ (d : Day) (r : List ℕ) where
   elsewhere (Taxi p s minutes) f e h = cc
   elsewhere u f e h = ap (λ o. option_map_or (λ k. option_map_or (is_on r) (flight_of d.airport d.journal k) false) o false) (sym e) ∙ h
 
+rules_name : (d : Day) (row : RunwayRow) → (rules_of d.airport d.journal row).name ≡ row.name
+unfolding rules_of
+rules_name d row = refl
+
 fresh_is : (u : Update) (f : List ℕ) → new_flight u ≡ Some f → flight_of_update u ≡ Some f
 fresh_is (Flt g p) f e = e
 fresh_is _ f e = cc
@@ -161,21 +167,28 @@ module _ (d : Day) (u : Update) (row : RunwayRow) (before : is_noted d u row.nam
         new None e = refl
         new (Some f) e = ap (λ (x : Option Y). cons_option x []) (nothing _ (elsewhere (with_update d u) row.name u f (fresh_is u f e) after)).1
 
-  same_on : SameOn d (with_update d u) row
-  same_on =
+  -- the runway keeps its sequence
+  still_planned : (p : RunwayPlanRecord) → IsPlanOn d (rules_of d.airport d.journal row) p → IsPlanOn (with_update d u) (rules_of d.airport (d.journal ++ u ∷ []) row) p
+  still_planned p old =
       let g = d.airport in
       let a = d.journal in
       let b = d.journal ++ u ∷ [] in
       let r = row.name in
       let taxi : (place : Place) → taxi_of g a place r ≡ taxi_of g b place r = λ place. sym (taxi_of-same g a u place r (no_taxi d r place u before)) in
       let now : now_of a ≡ now_of b = sym (now_of-same a u (no_clock d r u before)) in
-      record {
-        rules = rules-same g a row u (λ m. no_cap d r m u before) (λ m. no_closed d r m u before);
-        fixed = fixed_on-given r (records_in g a) ∙ (given_same (fixed_at r) (fixed_at r) (λ f. refl) (no_fixed_at r) ∙ sym (fixed_on-given r (records_in g b)));
-        targets = targets_on-given r (taxi_of g a) (now_of a) (records_in g a)
-            ∙ (given_same (target_at r (taxi_of g a) (now_of a)) (target_at r (taxi_of g b) (now_of b)) (λ f. same_target_at r (taxi_of g a) (taxi_of g b) (now_of a) taxi f ∙ ap (λ n. target_at r (taxi_of g b) n f) now) (no_target_at r (taxi_of g a) (now_of a))
-            ∙ sym (targets_on-given r (taxi_of g b) (now_of b) (records_in g b)));
-      }
+      let rules : rules_of g a row ≡ rules_of g b row = rules-same g a row u (λ m. no_cap d r m u before) (λ m. no_closed d r m u before) in
+      let fixed : fixed_in d r ≡ fixed_in (with_update d u) r =
+          fixed_on-given r (records_in g a) ∙ (given_same (fixed_at r) (fixed_at r) (λ f. refl) (no_fixed_at r) ∙ sym (fixed_on-given r (records_in g b))) in
+      let targets : targets_at d r ≡ targets_at (with_update d u) r =
+          targets_on-given r (taxi_of g a) (now_of a) (records_in g a)
+          ∙ (given_same (target_at r (taxi_of g a) (now_of a)) (target_at r (taxi_of g b) (now_of b)) (λ f. same_target_at r (taxi_of g a) (taxi_of g b) (now_of a) taxi f ∙ ap (λ n. target_at r (taxi_of g b) n f) now) (no_target_at r (taxi_of g a) (now_of a))
+          ∙ sym (targets_on-given r (taxi_of g b) (now_of b) (records_in g b))) in
+      let x = rules_of g a row in
+      let there : IsSequence x (fixed_in (with_update d u) x.name) (targets_at (with_update d u) x.name) p =
+          subst (λ (ts : List TargetRecord). IsSequence x (fixed_in (with_update d u) x.name) ts p) (subst (λ (n : List ℕ). targets_at d n ≡ targets_at (with_update d u) n) (sym (rules_name d row)) targets)
+          (subst (λ (xs : List FixedRecord). IsSequence x xs (targets_at d x.name) p) (subst (λ (n : List ℕ). fixed_in d n ≡ fixed_in (with_update d u) n) (sym (rules_name d row)) fixed)
+          (has_sequence d x p old)) in
+      subst (λ (y : RunwayRules). IsPlanOn (with_update d u) y p) rules (is_plan_on (with_update d u) x p there)
 
 -- since the first day, after one more update
 pub since_taken : (first d next : Day) (s m t : Touched) (u : Update) → next ≡ with_update d u → Adds s (is_noted d u) m → Adds m (is_noted next u) t → IsSince first s d → IsSince first t next
@@ -183,38 +196,39 @@ since_taken first d next s m t u is more later since =
     let further : Adds m (is_noted (with_update d u) u) t = subst (λ (x : Day). Adds m (is_noted x u) t) is later in
     subst (IsSince first t) (sym is) (record {
       airport = since.airport;
-      same = λ row h.
+      keeps = λ row p h old.
           let after = further row.name h in
           let before = more row.name after.0 in
-          let old = since.same row before.0 in
-          let new = same_on d u row before.1 after.1 in
-          record { rules = old.rules ∙ new.rules; fixed = old.fixed ∙ new.fixed; targets = old.targets ∙ new.targets };
+          still_planned d u row before.1 after.1 p (since.keeps row p before.0 old);
     })
 
 -- at first nothing changed
 pub since_itself : (d : Day) (t : Touched) → IsSince d t d
-since_itself d t = record { airport = refl; same = λ row h. record { rules = refl; fixed = refl; targets = refl } }
+since_itself d t = record { airport = refl; keeps = λ row p h old. old }
 
 -- the plans of the runways that were not touched stand
 pub kept_since : (first d : Day) (t : Touched) (plan : PlanRecord) → IsMade first plan → IsSince first t d → AreKept d t plan.runways
-unfolding rules_of
+unfolding IsDayPlan
 kept_since first d t plan made since r p i e = by (is_touched t r.name) refl e
   where
     by : (b : Bool) → is_touched t r.name ≡ b → (if b then None else find (λ p. same_name p.runway r.name) plan.runways) ≡ Some p → IsPlanOn d r p
     by true h k = cc
     by false h k =
+        let placing = made.of_day.0 in
+        let aims = made.of_day.1 in
+        let day = made.of_day.2 in
+        let rows = rows_by_name first.airport.runways in
+        let rules : RunwayRow → RunwayRules = rules_of first.airport first.journal in
+        let R : RunwayRules → RunwayPlanRecord → Type 0 = λ x p. IsSequenceBy placing x (fixed_in first x.name) (targets_on x.name (targets_in aims)) p in
         let found = find_some (λ (p : RunwayPlanRecord). same_name p.runway r.name) plan.runways p k in
-        let old = partner (IsPlanOn first) (rules_in first.airport first.journal) made.made p made.each (Contains-permutation plan.runways made.made p (IsPermutation-sym made.made plan.runways made.same) found.0) in
+        let old = partner R (day_rules first) day.made p day.sequences (Contains-permutation plan.runways day.made p (IsPermutation-sym day.made plan.runways day.parts.runways) found.0) in
         let at = contains_from_map (rules_of d.airport d.journal) (rows_by_name d.airport.runways) r i in
         let row = at.0 in
-        let named : row.name ≡ r.name = ap (λ (x : RunwayRules). x.name) at.2 in
-        let there = contains_map (rules_of first.airport first.journal) (rows_by_name first.airport.runways) row (subst (λ g. Contains (rows_by_name g.runways) row) since.airport at.1) in
-        let name : old.0.name ≡ row.name = sym old.1.sequence.runway ∙ (same_is p.runway r.name found.1 ∙ sym named) in
-        let one : old.0 ≡ rules_of first.airport first.journal row = one_of_key same_name same_flips (λ (x : RunwayRules). x.name) (rules_in first.airport first.journal) old.0 (rules_of first.airport first.journal row)
-        (rule_names_differ first.airport first.journal made.airport) old.2 there (is_same old.0.name row.name name) in
-        let same = since.same row (ap (is_touched t) named ∙ h) in
-        let here : IsRunwayPlan (rules_of first.airport first.journal row) (fixed_in first row.name) (targets_in first row.name) p = subst (λ (x : RunwayRules). IsPlanOn first x p) one old.1 in
-        subst (λ (x : RunwayRules). IsPlanOn d x p) at.2
-        (subst (λ (x : RunwayRules). IsRunwayPlan x (fixed_in d row.name) (targets_in d row.name) p) same.rules
-        (subst (λ (x : List FixedRecord). IsRunwayPlan (rules_of first.airport first.journal row) x (targets_in d row.name) p) same.fixed
-        (subst (λ (x : List TargetRecord). IsRunwayPlan (rules_of first.airport first.journal row) (fixed_in first row.name) x p) same.targets here)))
+        let named : row.name ≡ r.name = sym (rules_name d row) ∙ ap (λ (x : RunwayRules). x.name) at.2 in
+        let among : Contains rows row = subst (λ g. Contains (rows_by_name g.runways) row) since.airport at.1 in
+        let there = contains_map rules first.airport.runways row (Contains-permutation rows first.airport.runways row (IsPermutation-sym first.airport.runways rows (rows_permutation first.airport.runways)) among) in
+        let name : old.0.name ≡ (rules row).name = sym old.1.runway ∙ (same_is p.runway r.name found.1 ∙ (sym named ∙ sym (rules_name first row))) in
+        let one : old.0 ≡ rules row = one_of_key same_name same_flips (λ (x : RunwayRules). x.name) (day_rules first) old.0 (rules row)
+            (day_rules_differ first made.airport.names) old.2 there (is_same old.0.name (rules row).name name) in
+        let here : IsPlanOn first (rules row) p = subst (λ (x : RunwayRules). IsPlanOn first x p) one (record { aims = aims; aimed = day.aimed; sequence = (placing, old.1) }) in
+        subst (λ (x : RunwayRules). IsPlanOn d x p) at.2 (since.keeps row p (ap (is_touched t) named ∙ h) here)

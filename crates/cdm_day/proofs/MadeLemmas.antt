@@ -5,28 +5,29 @@ use Rattle.std.specs.FinMap as finite
 use Rattle.std.specs.List.{All, AllZip, Contains, cons_option, filter_map}
 use Rattle.std.specs.List.Sorted.{IsPermutation}
 use Rattle.std.proofs.lemmas.List.Sorted.{IsPermutation-append_right, IsPermutation-middle, IsPermutation-refl, IsPermutation-sym, IsPermutation-trans}
-use Rattle.std.proofs.lemmas.Slice.Zip.{AllZip-map}
 use Rattle.cdm_flight.specs.Record.{Record, is_planned}
 use Rattle.cdm_flight.specs.Taxi.{TaxiRows}
 use Rattle.cdm_flight.specs.Journal.{now_of, taxi_of}
 use Rattle.cdm_flight.proofs.Lists.{contains_head, contains_map, contains_tail}
 use Rattle.cdm_runway.specs.Rules.{RunwayRules}
 use Rattle.cdm_sequence.specs.Aims.{TaxiTimes}
+use Rattle.cdm_sequence.specs.Sequence.{IsSequence}
 use Rattle.cdm_sequence.specs.Slots.{PlanRecord, RunwayPlanRecord}
 use Rattle.cdm_sequence.specs.Targets.{TargetRecord}
 use Rattle.cdm_sequence.specs.declared.slot.BlockedFlight.{BlockedFlight}
-use Rattle.cdm_day.specs.Aimed.{CanSequence, IsRunwayPlan, aimed, early_among, target_for}
+use Rattle.cdm_day.specs.Aimed.{CanSequence, IsAimed, early_among, target_for}
 use Rattle.cdm_day.specs.declared.aimed.Aimed.{Aimed}
 use Rattle.cdm_day.specs.declared.touched.Touched.{Touched}
 use Rattle.cdm_day.specs.Day.{Day, rules_in}
 use Rattle.cdm_day.specs.DayPlan.{records_in}
-use Rattle.cdm_day.specs.Planning.{HasParts, blocked_early, fixed_on, planned_of}
+use Rattle.cdm_day.specs.Planning.{HasParts, fixed_on, planned_of}
 use Rattle.cdm_day.specs.Sound.{IsSound, TellTaxi}
-use Rattle.cdm_day.specs.inner.Kept.{AreKept, IsMade, IsPlanOn, kept_plan, targets_in}
-use Rattle.cdm_day.proofs.DayPlanLemmas.{day_plan, few_records, flight_names_differ}
+use Rattle.cdm_day.specs.inner.Kept.{AreKept, IsMade, kept_plan}
+use Rattle.cdm_day.proofs.DayPlanLemmas.{HasSequence, day_plan, few_records, has_sequence, record_names_differ, targets_at}
 use Rattle.cdm_day.proofs.NameLemmas.{rule_names_differ}
+use Rattle.cdm_day.proofs.OnePlanLemmas.{one_day_plan}
 use Rattle.cdm_day.proofs.PartLemmas.{All-lent, AllZip-lent, few_parts}
-use Rattle.cdm_day.proofs.PlanningLemmas.{blocked-among, can_sequence, planned_are, targets-among}
+use Rattle.cdm_day.proofs.PlanningLemmas.{AllZip-weaker, aimed, aimed_are, blocked-among, blocked_early, can_sequence, planned_are, targets-among}
 
 abbrev times_of : Day → TaxiTimes
 times_of d = taxi_of d.airport d.journal
@@ -41,16 +42,12 @@ aims_of d = map (aimed (times_of d) (now_of d.journal)) (planned_of (flights_of 
 pub all_planned : (fs : List Record) (ps : List (Bor Record)) → map (λ f. f.now) ps ≡ planned_of fs → All (λ f. is_planned f.now.status ≡ true) ps
 all_planned fs ps is = All-lent (λ (f : Record). is_planned f.status ≡ true) ps (subst (λ (l : List Record). All (λ f. is_planned f.status ≡ true) l) (sym is) (planned_are fs))
 
-map_lent : (f : Record → Aimed) (ps : List (Bor Record)) → map (λ p. f p.now) ps ≡ map f (map (λ p. p.now) ps)
-map_lent f [] = refl
-map_lent f (p ∷ ps) = ap (λ (l : List Aimed). f p.now ∷ l) (map_lent f ps)
-
 pub aims_are : (d : Day) (rows : TaxiRows) (clock : ℕ) (ps : List (Bor Record)) (aims : List Aimed) → TellTaxi d.airport d.journal rows → clock ≡ now_of d.journal
-    → map (λ f. f.now) ps ≡ planned_of (flights_of d) → AllZip (λ f out. out ≡ aimed (λ place r. finite.get rows (place, r)) clock f.now) ps aims → aims ≡ aims_of d
+    → map (λ f. f.now) ps ≡ planned_of (flights_of d) → AllZip (λ f out. IsAimed (λ place r. finite.get rows (place, r)) clock f.now out) ps aims → aims ≡ aims_of d
 aims_are d rows clock ps aims told now is zipped =
-    let times : ◌≡◌ {A = TaxiTimes} (λ place r. finite.get rows (place, r)) (times_of d) = λ i place r. told.minutes place r i in
-    AllZip-map (λ (f : Bor Record). aimed (λ place r. finite.get rows (place, r)) clock f.now) ps aims zipped
-    ∙ (map_lent (aimed (λ place r. finite.get rows (place, r)) clock) ps ∙ (λ i. map (aimed (times i) (now i)) (is i)))
+    let read : TaxiTimes = λ place r. finite.get rows (place, r) in
+    let times : ◌≡◌ {A = TaxiTimes} read (times_of d) = λ i place r. told.minutes place r i in
+    aimed_are read clock (map (λ (f : Bor Record). f.now) ps) aims (AllZip-lent (IsAimed read clock) ps aims zipped) ∙ (λ i. map (aimed (times i) (now i)) (is i))
 
 module _ {X Y : Type 0} (R : X → Y → Type 0) (stands : X → Option Y) where
   -- what stands, and what was made where nothing does, goes with all
@@ -72,43 +69,37 @@ module _ {X Y : Type 0} (R : X → Y → Type 0) (stands : X → Option Y) where
           let kept = filter_map stands xs in
           (y ∷ w.0, (each.0, w.1), IsPermutation-trans (y ∷ w.0) (y ∷ (kept ++ made)) (kept ++ y ∷ made) (IsPermutation-append_right (y ∷ []) w.0 (kept ++ made) w.2) (IsPermutation-sym (kept ++ y ∷ made) (y ∷ (kept ++ made)) (IsPermutation-middle kept y made)))
 
-AllZip-weaker : {X Y : Type 0} (R S : X → Y → Type 0) → ((x : X) (y : Y) → R x y → S x y) → (xs : List X) (ys : List Y) → AllZip R xs ys → AllZip S xs ys
-AllZip-weaker R S weaker [] [] all = tt
-AllZip-weaker R S weaker [] (y ∷ ys) all = absurd all
-AllZip-weaker R S weaker (x ∷ xs) [] all = absurd all
-AllZip-weaker R S weaker (x ∷ xs) (y ∷ ys) all = (weaker x y all.0, AllZip-weaker R S weaker xs ys all.1)
-
 -- few enough plans, which make the plan of the day
 pub record Together (d : Day) (aims : List Aimed) (plans : List RunwayPlanRecord) : Type 0 where
   pub few : sum_by (λ p. length p.slots + length p.blocked) plans + length (early_among aims) ≤ 2000
   pub made : (plan : PlanRecord) → plan.clock ≡ now_of d.journal → HasParts (early_among aims) plans plan → IsMade d plan
 
 module _ (d : Day) (sound : IsSound d) (fs : List (Bor Record)) (fs_are : map (λ f. f.now) fs ≡ flights_of d) (aims : List Aimed) (aims_is : aims ≡ aims_of d) where
-  targets_are : (r : List ℕ) → filter_map (target_for r) aims ≡ targets_in d r
+  targets_are : (r : List ℕ) → filter_map (target_for r) aims ≡ targets_at d r
   targets_are r = ap (filter_map (target_for r)) aims_is ∙ targets-among r (times_of d) (now_of d.journal) (flights_of d)
 
   -- each runway can be sequenced
   pub can_plan : (r : List ℕ) → CanSequence (fixed_on r (map (λ f. f.now) fs)) (filter_map (target_for r) aims)
   can_plan r =
       subst (λ (ts : List TargetRecord). CanSequence (fixed_on r (map (λ f. f.now) fs)) ts) (sym (targets_are r))
-      (subst (λ (l : List Record). CanSequence (fixed_on r l) (targets_in d r)) (sym fs_are)
-      (can_sequence (times_of d) (now_of d.journal) (flights_of d) (flight_names_differ d sound) (few_records d sound) r))
+      (subst (λ (l : List Record). CanSequence (fixed_on r l) (targets_at d r)) (sym fs_are)
+      (can_sequence (times_of d) (now_of d.journal) (flights_of d) (record_names_differ d sound.names) (few_records d sound) r))
 
   -- the plans that stand and the others
   pub together : (runways left : List (Bor RunwayRules)) (t : Touched) (old copies made : List RunwayPlanRecord) → map (λ r. r.now) runways ≡ rules_in d.airport d.journal
       → left ≡ filter (λ r. is_none (kept_plan t old r.now.name)) runways → copies ≡ filter_map (λ r. kept_plan t old r.now.name) runways → AreKept d t old
-      → AllZip (λ r p. IsRunwayPlan r.now (fixed_on r.now.name (map (λ f. f.now) fs)) (filter_map (target_for r.now.name) aims) p) left made
+      → AllZip (λ r p. IsSequence r.now (fixed_on r.now.name (map (λ f. f.now) fs)) (filter_map (target_for r.now.name) aims) p) left made
       → Together d aims (copies ++ made)
   together runways left t old copies made rules left_is copies_is kept each =
-      let R : Bor RunwayRules → RunwayPlanRecord → Type 0 = λ r p. IsPlanOn d r.now p in
+      let R : Bor RunwayRules → RunwayPlanRecord → Type 0 = λ r p. HasSequence d r.now p in
       let stands : Bor RunwayRules → Option RunwayPlanRecord = λ r. kept_plan t old r.now.name in
-      let right : (r : Bor RunwayRules) (p : RunwayPlanRecord) → IsRunwayPlan r.now (fixed_on r.now.name (map (λ f. f.now) fs)) (filter_map (target_for r.now.name) aims) p → R r p = λ r p h.
-      subst (λ (l : List Record). IsRunwayPlan r.now (fixed_on r.now.name l) (targets_in d r.now.name) p) fs_are
-      (subst (λ (ts : List TargetRecord). IsRunwayPlan r.now (fixed_on r.now.name (map (λ f. f.now) fs)) ts p) (targets_are r.now.name) h) in
+      let right : (r : Bor RunwayRules) (p : RunwayPlanRecord) → IsSequence r.now (fixed_on r.now.name (map (λ f. f.now) fs)) (filter_map (target_for r.now.name) aims) p → R r p = λ r p h.
+          subst (λ (l : List Record). IsSequence r.now (fixed_on r.now.name l) (targets_at d r.now.name) p) fs_are
+          (subst (λ (ts : List TargetRecord). IsSequence r.now (fixed_on r.now.name (map (λ f. f.now) fs)) ts p) (targets_are r.now.name) h) in
       let new = subst (λ (l : List (Bor RunwayRules)). AllZip R l made) left_is (AllZip-weaker _ R right left made each) in
       let all = merged R stands runways made
-      (λ r p i e. kept r.now p (subst (λ (l : List RunwayRules). Contains l r.now) rules (contains_map (λ (x : Bor RunwayRules). x.now) runways r i)) e) new in
-      let zipped = subst (λ (l : List RunwayRules). AllZip (IsPlanOn d) l all.0) rules (AllZip-lent (IsPlanOn d) runways all.0 all.1) in
+          (λ r p i e. has_sequence d r.now p (kept r.now p (subst (λ (l : List RunwayRules). Contains l r.now) rules (contains_map (λ (x : Bor RunwayRules). x.now) runways r i)) e)) new in
+      let zipped = subst (λ (l : List RunwayRules). AllZip (HasSequence d) l all.0) rules (AllZip-lent (HasSequence d) runways all.0 all.1) in
       let same = subst (λ (l : List RunwayPlanRecord). IsPermutation all.0 (l ++ made)) (sym copies_is) all.2 in
       let early : early_among aims ≡ blocked_early (flights_of d) (times_of d) (now_of d.journal) = ap early_among aims_is ∙ blocked-among (times_of d) (now_of d.journal) (flights_of d) in
       record {
@@ -116,11 +107,10 @@ module _ (d : Day) (sound : IsSound d) (fs : List (Bor Record)) (fs_are : map (�
             let most = few_records d sound in let long = ap length early in omega arith;
         made = λ plan clock parts.
             let shown : HasParts (blocked_early (flights_of d) (times_of d) (now_of d.journal)) (copies ++ made) plan = subst (λ (bs : List BlockedFlight). HasParts bs (copies ++ made) plan) early parts in
+            let plan_is = day_plan d all.0 (copies ++ made) plan sound.airport zipped same clock shown in
             record {
               airport = sound.airport;
-              shown = day_plan d all.0 (copies ++ made) plan zipped same clock shown;
-              made = all.0;
-              each = zipped;
-              same = IsPermutation-trans all.0 (copies ++ made) plan.runways same parts.runways;
+              of_day = plan_is;
+              only = λ other is. one_day_plan d other plan sound.airport.names sound.names is plan_is;
             };
       }

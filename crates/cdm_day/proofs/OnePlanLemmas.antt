@@ -1,11 +1,10 @@
 -- A day has one plan.
-use Rattle.std.proofs.Common.{◌≡◌, ℕ, true, false, List, [], ◌∷◌, ◌++◌, Option, None, Some, is_none, refl, sym, ◌∙◌, ap, subst, inl, inr, ◌⊎◌, map, filter, arith}
-use Rattle.std.specs.Prelude.{is_some, if◌then◌else◌}
+use Rattle.std.proofs.Common.{◌≡◌, ℕ, true, false, List, [], ◌∷◌, ◌++◌, Some, is_none, refl, sym, ◌∙◌, ap, subst, inl, inr, ◌⊎◌, map, arith}
 use Rattle.std.specs.declared.cmp.Ordering.{Ordering}
 use Rattle.std.specs.declared.cmp.Ordering.TheVariants.{Less, Equal, Greater}
 use Rattle.std.specs.Ordering.{is_lt, ordering_reverse}
 use Rattle.std.specs.Cmp.{IsStrictWeakOrder}
-use Rattle.std.specs.List.{AllZip, Contains, IsDistinct, cons_option, filter_map, flat_map}
+use Rattle.std.specs.List.{All, AllZip, Contains, IsDistinct, flat_map, list_any}
 use Rattle.std.specs.List.Sorted.{IsPermutation, IsSortedBy}
 use Rattle.std.proofs.lemmas.Bool.{false≢true}
 use Rattle.std.proofs.lemmas.Cmp.{nat_list_cmp_total}
@@ -15,26 +14,31 @@ use Rattle.std.proofs.lemmas.Map.Keys.{IsDistinct-IsPermutation}
 use Rattle.cdm_flight.specs.Names.{name_cmp, same_name}
 use Rattle.cdm_flight.specs.Record.{Record, is_planned}
 use Rattle.cdm_runway.specs.Rules.{RunwayRules}
-use Rattle.cdm_sequence.specs.Aims.{TaxiTimes, aim_of}
-use Rattle.cdm_sequence.specs.Day.{targets_on}
+use Rattle.cdm_sequence.specs.Aims.{TaxiTimes}
 use Rattle.cdm_sequence.specs.Fixed.{FixedRecord, takeoffs}
-use Rattle.cdm_sequence.specs.Sequence.{IsRightlyBlocked, IsSequence, minute_in, names_left}
+use Rattle.cdm_sequence.specs.Sequence.{IsRightlyBlocked, IsSequence, IsSequenceBy, names_left}
 use Rattle.cdm_sequence.specs.Slots.{PlanRecord, RunwayPlanRecord}
 use Rattle.cdm_sequence.specs.Targets.{TargetRecord}
 use Rattle.cdm_sequence.specs.declared.aims.AimResult.{AimResult}
 use Rattle.cdm_sequence.specs.declared.aims.AimResult.TheVariants.{Early, Ready}
 use Rattle.cdm_sequence.specs.declared.slot.BlockedFlight.{BlockedFlight}
-use Rattle.cdm_flight.proofs.Lists.{contains_all, contains_from_given, contains_head, contains_tail, contains_cases, distinct_filter, distinct_right, one_of_key, sorted_one}
+use Rattle.cdm_flight.proofs.Lists.{contains_all, contains_from_given, contains_head, contains_tail, contains_cases, distinct_filter, distinct_right, list_any-find, list_any-map, one_of_key, sorted_one}
+use Rattle.cdm_sequence.specs.Plan.{Placing, IsEarlier}
+use Rattle.cdm_sequence.proofs.AimLemmas.{aim_of}
 use Rattle.cdm_sequence.proofs.OneLemmas.{sequence_one}
 use Rattle.cdm_sequence.proofs.OrderLemmas.{is_same, same_flips, same_is, tied_names}
 use Rattle.cdm_day.specs.Airport.{runway_names}
-use Rattle.cdm_day.specs.Day.{Day, flights_in, rules_of}
-use Rattle.cdm_day.specs.DayPlan.{IsDayPlan, records_in}
-use Rattle.cdm_flight.specs.Journal.{flight_of, now_of, taxi_of}
-use Rattle.cdm_day.specs.Planning.{IsPlanOf, blocked_early, blocked_in, fixed_on, planned_of, target_in, targets_of}
-use Rattle.cdm_day.proofs.DayPlanLemmas.{record_name}
+use Rattle.cdm_day.specs.Day.{Day, flights_in}
+use Rattle.cdm_day.specs.DayPlan.{IsDayAllowed, IsDayPlan, IsDayPlanBy, day_rules, records_in}
+use Rattle.cdm_flight.specs.Accepted.{has_runway}
+use Rattle.cdm_flight.specs.Journal.{now_of, taxi_of}
+use Rattle.cdm_flight.specs.declared.airport.RunwayRow.{RunwayRow}
+use Rattle.cdm_day.specs.Planning.{AreAims, HasParts, IsPlanOf, blocked_in, early_in, fixed_on, planned_of, target_in, targets_in, targets_on}
+use Rattle.cdm_day.proofs.DayPlanLemmas.{day_rules_differ, record_names_differ}
 use Rattle.cdm_day.proofs.NameLemmas.{runway-names}
-use Rattle.cdm_day.proofs.PlanningLemmas.{key_name, names_on}
+use Rattle.cdm_day.proofs.PartLemmas.{runways_make}
+use Rattle.cdm_day.proofs.PlacingLemmas.{allowed_on, none_earlier_on}
+use Rattle.cdm_day.proofs.PlanningLemmas.{AllZip-weaker, aims_are, blocked_early, early-aims, key_name, names_on, targets-aims, targets_of}
 
 -- Lists by name.
 
@@ -126,7 +130,7 @@ module _ (times : TaxiTimes) (now : ℕ) (fs : List Record) (own : IsDistinct sa
   made_named [] (p ∷ ps) all = absurd all
   made_named (r ∷ rs) [] all = absurd all
   made_named (r ∷ rs) (p ∷ ps) all =
-      let here = all.0.runway in
+      let here = all.0.1.runway in
       let rest = made_named rs ps all.1 in
       λ i. here i ∷ rest i
 
@@ -169,7 +173,7 @@ module _ (times : TaxiTimes) (now : ℕ) (fs : List Record) (own : IsDistinct sa
       let p = w.0 in
       let x = partner IsMade rs made p all (Contains-permutation ps made p (IsPermutation-sym made ps same) w.1) in
       let r = x.0 in
-      let rule : IsRightlyBlocked r (takeoffs (fixed_on r.name fs)) (targets_at r.name) (minute_in p.slots) b = All-contains (IsRightlyBlocked r (takeoffs (fixed_on r.name fs)) (targets_at r.name) (minute_in p.slots)) p.blocked b x.1.rules w.2 in
+      let rule : IsRightlyBlocked r (takeoffs (fixed_on r.name fs)) (targets_at r.name) x.1.0 b = All-contains (IsRightlyBlocked r (takeoffs (fixed_on r.name fs)) (targets_at r.name) x.1.0) p.blocked b x.1.1.rules w.2 in
       let t = rule.0 in
       let on : same_name t.runway r.name ≡ true = All-contains (λ f. same_name f.runway r.name ≡ true) (targets_at r.name) t (filter_passes (λ f. same_name f.runway r.name) (targets_of fs times now)) rule.1 in
       let f = target_origin t (contains_all (λ f. same_name f.runway r.name) (targets_of fs times now) t rule.1) in
@@ -177,7 +181,7 @@ module _ (times : TaxiTimes) (now : ℕ) (fs : List Record) (own : IsDistinct sa
         flight = f.0;
         known = f.1;
         named = rule.2 ∙ key_name f.0 times now t (ready_from (aim_at f.0) t f.2);
-        fate = inr (record { plan = p; among = w.1; shown = w.2; target = t; aimed = f.2; here = same_is t.runway r.name on ∙ sym x.1.runway });
+        fate = inr (record { plan = p; among = w.1; shown = w.2; target = t; aimed = f.2; here = same_is t.runway r.name on ∙ sym x.1.1.runway });
       }
 
   -- the flights that one runway blocks have names of their own
@@ -185,8 +189,8 @@ module _ (times : TaxiTimes) (now : ℕ) (fs : List Record) (own : IsDistinct sa
   blocked_differ r p made =
       let targets = targets_at r.name in
       let all = distinct_right same_name (map (λ (x : FixedRecord). x.name) (fixed_on r.name fs)) (map (λ (t : TargetRecord). t.key.name) targets) (names_on r.name times now fs own) in
-      let left = distinct_filter same_name (λ (t : TargetRecord). t.key.name) (λ t. is_none (minute_in p.slots t)) targets all in
-      IsDistinct-IsPermutation same_name same_flips (names_left (minute_in p.slots) targets) (map (λ (b : BlockedFlight). b.name) p.blocked) made.blocked left
+      let left = distinct_filter same_name (λ (t : TargetRecord). t.key.name) (λ t. is_none (made.0 t)) targets all in
+      IsDistinct-IsPermutation same_name same_flips (names_left made.0 targets) (map (λ (b : BlockedFlight). b.name) p.blocked) made.1.blocked left
 
   module _ (rs : List RunwayRules) (rs_own : IsDistinct same_name (map (λ r. r.name) rs)) (made ps : List RunwayPlanRecord) (all : AllZip IsMade rs made) (same : IsPermutation made ps) where
     made_own : IsDistinct same_name (map (λ p. p.runway) made)
@@ -230,43 +234,77 @@ module _ (times : TaxiTimes) (now : ℕ) (fs : List Record) (own : IsDistinct sa
             let found = partner IsMade rs made h.plan all (in_made h.plan h.among) in
             one_of_key same_name same_flips (λ (b : BlockedFlight). b.name) h.plan.blocked a b (blocked_differ found.0 h.plan found.1) h.shown shown (is_same a.name b.name e)
 
+  -- a plan has parts, whatever its placing
+  record Parts (rs : List RunwayRules) (plan : PlanRecord) : Type 0 where
+    clock : plan.clock ≡ now
+    made : List RunwayPlanRecord
+    all : AllZip IsMade rs made
+    parts : HasParts (blocked_early fs times now) made plan
+
+  parts_of : (rs : List RunwayRules) (plan : PlanRecord) → IsPlanOf fs times now rs plan → Parts rs plan
+  parts_of rs plan (placing, aims, e) =
+      let are = aims_are times now (planned_of fs) aims e.aimed in
+      let by : List TargetRecord → RunwayRules → RunwayPlanRecord → Type 0 = λ ts r p. IsSequenceBy placing r (fixed_on r.name fs) (targets_on r.name ts) p in
+      record {
+        clock = e.clock;
+        made = e.made;
+        all = AllZip-weaker (by (targets_of fs times now)) IsMade (λ r p h. (placing, h)) rs e.made
+            (subst (λ (ts : List TargetRecord). AllZip (by ts) rs e.made) (sym (ap targets_in are) ∙ targets-aims times now fs) e.sequences);
+        parts = subst (λ (bs : List BlockedFlight). HasParts bs e.made plan) (sym (ap (early_in fs) are) ∙ early-aims times now fs) e.parts;
+      }
+
   -- there is one plan
   pub one_plan : (rs : List RunwayRules) → IsDistinct same_name (map (λ r. r.name) rs) → (p q : PlanRecord) → IsPlanOf fs times now rs p → IsPlanOf fs times now rs q → p ≡ q
-  one_plan rs rs_own p q a b =
-      let made = a.sequences.0 in
-      let all = a.sequences.1 in
-      let equal : b.sequences.0 ≡ made = made_one rs b.sequences.0 made b.sequences.1 all in
-      let other : IsPermutation made q.runways = subst (λ (ms : List RunwayPlanRecord). IsPermutation ms q.runways) equal b.sequences.2 in
+  one_plan rs rs_own p q x y =
+      let a = parts_of rs p x in
+      let b = parts_of rs q y in
+      let equal : b.made ≡ a.made = made_one rs b.made a.made b.all a.all in
+      let other : IsPermutation a.made q.runways = subst (λ (ms : List RunwayPlanRecord). IsPermutation ms q.runways) equal b.parts.runways in
       let clock : p.clock ≡ q.clock = a.clock ∙ sym b.clock in
-      let runways : p.runways ≡ q.runways = one_order (λ (p : RunwayPlanRecord). p.runway) made p.runways q.runways (plan_same rs rs_own made p.runways all a.sequences.2) a.sequences.2 other a.runway_order b.runway_order in
+      let runways : p.runways ≡ q.runways = one_order (λ (p : RunwayPlanRecord). p.runway) a.made p.runways q.runways (plan_same rs rs_own a.made p.runways a.all a.parts.runways) a.parts.runways other a.parts.runway_order b.parts.runway_order in
       let left = blocked_early fs times now ++ flat_map (λ p. p.blocked) p.runways in
-      let others : IsPermutation left q.blocked = subst (λ (ps : List RunwayPlanRecord). IsPermutation (blocked_early fs times now ++ flat_map (λ p. p.blocked) ps) q.blocked) (sym runways) b.blocked in
-      let blocked : p.blocked ≡ q.blocked = one_order (λ (b : BlockedFlight). b.name) left p.blocked q.blocked (blocked_same rs rs_own made p.runways all a.sequences.2) a.blocked others a.blocked_order b.blocked_order in
+      let others : IsPermutation left q.blocked = subst (λ (ps : List RunwayPlanRecord). IsPermutation (blocked_early fs times now ++ flat_map (λ p. p.blocked) ps) q.blocked) (sym runways) b.parts.blocked in
+      let blocked : p.blocked ≡ q.blocked = one_order (λ (b : BlockedFlight). b.name) left p.blocked q.blocked (blocked_same rs rs_own a.made p.runways a.all a.parts.runways) a.parts.blocked others a.parts.blocked_order b.parts.blocked_order in
       λ i. record { clock = clock i; runways = runways i; blocked = blocked i }
 
 -- Days.
 
--- records that names give have those names
-given_names : (h : List ℕ → Option Record) → ((k : List ℕ) (r : Record) → h k ≡ Some r → r.name ≡ k) → (ks : List (List ℕ)) → map (λ r. r.name) (filter_map h ks) ≡ map (λ k. k) (filter (λ k. is_some (h k)) ks)
-given_names h own [] = refl
-given_names h own (k ∷ ks) = go (h k) refl (given_names h own ks)
-  where
-    go : (o : Option Record) → h k ≡ o → map (λ r. r.name) (filter_map h ks) ≡ map (λ k. k) (filter (λ k. is_some (h k)) ks)
-        → map (λ r. r.name) (cons_option o (filter_map h ks)) ≡ map (λ k. k) (if is_some o then k ∷ filter (λ k. is_some (h k)) ks else filter (λ k. is_some (h k)) ks)
-    go None e rest = rest
-    go (Some r) e rest = let here = own k r e in λ i. here i ∷ rest i
-
-map_same : (ks : List (List ℕ)) → map (λ (k : List ℕ). k) ks ≡ ks
-map_same [] = refl
-map_same (k ∷ ks) = let rest = map_same ks in λ i. k ∷ rest i
-
 pub one_day_plan : (d : Day) (p q : PlanRecord) → IsDistinct same_name (runway_names d.airport) → IsDistinct same_name (flights_in d.journal) → IsDayPlan d p → IsDayPlan d q → p ≡ q
 unfolding IsDayPlan
 one_day_plan d p q runways flights a b =
+    one_plan (taxi_of d.airport d.journal) (now_of d.journal) (records_in d.airport d.journal) (record_names_differ d flights) (day_rules d) (day_rules_differ d runways) p q a b
+
+-- plans of the runways make the day's
+pub day_made : (d : Day) (aims : List AimResult) (made : List RunwayPlanRecord) (plan : PlanRecord) → IsDistinct same_name (runway_names d.airport)
+    → AreAims (records_in d.airport d.journal) (taxi_of d.airport d.journal) (now_of d.journal) aims
+    → AllZip (λ r p. IsSequence r (fixed_on r.name (records_in d.airport d.journal)) (targets_on r.name (targets_in aims)) p) (day_rules d) made
+    → plan.clock ≡ now_of d.journal → HasParts (early_in (records_in d.airport d.journal) aims) made plan → IsDayPlan d plan
+unfolding IsDayPlan
+day_made d aims made plan own are all clock parts =
+    runways_make (taxi_of d.airport d.journal) (now_of d.journal) (records_in d.airport d.journal) (day_rules d) aims made plan are (day_rules_differ d own) all clock parts
+
+-- it is allowed
+pub day_allowed : (d : Day) (aims : List AimResult) (placing : Placing) (plan : PlanRecord) → IsDistinct same_name (flights_in d.journal) → IsDayPlanBy placing aims d plan → IsDayAllowed aims d placing
+unfolding IsDayPlanBy
+day_allowed d aims placing plan own e =
+    let fs = records_in d.airport d.journal in
+    let times = taxi_of d.airport d.journal in
+    let now = now_of d.journal in
+    let targets = sym (targets-aims times now fs) ∙ ap targets_in (aims_are times now (planned_of fs) aims e.aimed) in
+    allowed_on (λ r. fixed_on r fs) (targets_in aims) placing (day_rules d) e.made
+    (λ r.
+    subst (λ (ts : List TargetRecord). IsDistinct same_name (map (λ f. f.key.name) (targets_on r ts))) targets
+    (distinct_right same_name (map (λ (x : FixedRecord). x.name) (fixed_on r fs)) (map (λ (t : TargetRecord). t.key.name) (targets_on r (targets_of fs times now))) (names_on r times now fs (record_names_differ d own))))
+    e.sequences
+
+-- and none that is allowed is earlier
+pub day_none_earlier : (d : Day) (aims : List AimResult) (placing other : Placing) (plan : PlanRecord) → All (λ f. has_runway d.airport f.runway ≡ true) (targets_in aims)
+    → IsDayPlanBy placing aims d plan → IsDayAllowed aims d other → IsEarlier (targets_in aims) other placing → ⊥
+unfolding IsDayPlanBy
+day_none_earlier d aims placing other plan known e allowed sooner =
     let g = d.airport in
-    let j = d.journal in
-    let names : IsDistinct same_name (map (λ (r : Record). r.name) (records_in g j)) =
-    subst (λ (ns : List (List ℕ)). IsDistinct same_name ns) (sym (given_names (flight_of g j) (record_name g j) (flights_in j)))
-    (distinct_filter same_name (λ (k : List ℕ). k) (λ k. is_some (flight_of g j k)) (flights_in j) (subst (λ (ns : List (List ℕ)). IsDistinct same_name ns) (sym (map_same (flights_in j))) flights)) in
-    one_plan (taxi_of g j) (now_of j) (records_in g j) names (map (rules_of g j) g.runways)
-    (subst (λ (ns : List (List ℕ)). IsDistinct same_name ns) (sym (runway-names g j g.runways)) runways) p q a b
+    let runway = sooner.first.runway in
+    let there : has_runway g runway ≡ true = All-contains (λ f. has_runway g f.runway ≡ true) (targets_in aims) sooner.first known sooner.among in
+    let named : list_any (λ n. same_name n runway) (runway_names g) ≡ true = list_any-map (λ n. same_name n runway) (λ (row : RunwayRow). row.name) g.runways ∙ list_any-find (λ (row : RunwayRow). same_name row.name runway) g.runways ∙ there in
+    none_earlier_on (λ r. fixed_on r (records_in g d.journal)) (targets_in aims) placing other (day_rules d) e.made e.sequences allowed sooner
+    (ap (list_any (λ n. same_name n runway)) (runway-names g d.journal g.runways) ∙ named)

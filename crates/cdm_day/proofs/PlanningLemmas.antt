@@ -1,6 +1,6 @@
 -- Each flight of a day stands once: as a fixed flight or a target of one runway, or blocked early.
 use Rattle.std.proofs.Common.{Bor, ◌≡◌, ℕ, ◌+◌, ◌≤◌, Bool, true, false, cond, ◌||◌, List, [], ◌∷◌, ◌++◌, Option, None, Some, refl, sym, ◌∙◌, ap, subst, arith, map, filter, length, sum_by}
-use Rattle.std.specs.Prelude.{is_some}
+use Rattle.std.specs.Prelude.{is_none, is_some, zip}
 use Rattle.std.specs.Option.{option_map, option_map_or}
 use Rattle.std.specs.List.{All, cons_option, filter_map, IsDistinct, AllByRecursion}
 use Rattle.std.specs.List.Sorted.{IsPermutation}
@@ -12,14 +12,14 @@ use Rattle.cdm_flight.specs.Names.{same_name}
 use Rattle.cdm_flight.specs.Record.{Record, is_planned}
 use Rattle.cdm_flight.specs.declared.flight.Status.{Status}
 use Rattle.cdm_flight.specs.declared.flight.Status.TheVariants as status
-use Rattle.cdm_sequence.specs.Aims.{TaxiTimes, aim_of, IsAim}
-use Rattle.cdm_sequence.proofs.AimLemmas.{aim_means}
+use Rattle.cdm_sequence.specs.Aims.{TaxiTimes, IsAim}
+use Rattle.cdm_sequence.proofs.AimLemmas.{aim_of, aim_is, aim_means}
 use Rattle.cdm_sequence.proofs.OrderLemmas.{same_flips, same_is}
 use Rattle.std.proofs.lemmas.List.{length-map, map-append}
 use Rattle.cdm_flight.specs.declared.key.Key.{Key}
-use Rattle.cdm_sequence.specs.Day.{targets_on}
 use Rattle.cdm_sequence.specs.Fixed.{FixedRecord, fixed_flight, fixed_by}
-use Rattle.cdm_sequence.specs.Sequence.{flight_names, IsSequence}
+use Rattle.cdm_sequence.specs.Plan.{Placing}
+use Rattle.cdm_sequence.specs.Sequence.{flight_names, fixed_slot, names_left, planned_slot, slots_by, IsSequence}
 use Rattle.cdm_sequence.specs.Targets.{TargetRecord}
 use Rattle.cdm_sequence.specs.declared.aims.AimResult.{AimResult}
 use Rattle.cdm_sequence.specs.declared.aims.AimResult.TheVariants.{Ready, Early}
@@ -28,13 +28,72 @@ use Rattle.cdm_flight.proofs.Lists.{All-given, distinct_filter, filter_map-map, 
 use Rattle.cdm_sequence.specs.Slots.{SlotRecord}
 use Rattle.std.proofs.Common.{IfSome, length-append}
 use Rattle.std.proofs.lemmas.List.Sorted.{length_permutation}
-use Rattle.cdm_day.specs.Planning.{planned_of, target_in, blocked_in, targets_of, blocked_early, is_on, fixed_on}
-use Rattle.cdm_day.specs.Aimed.{aimed, if_on, target_for, CanSequence, IsRunwayPlan}
+use Rattle.cdm_day.specs.Planning.{early_in, planned_of, target_in, targets_in, blocked_in, is_on, fixed_on, targets_on}
+use Rattle.cdm_day.specs.Aimed.{IsAimed, if_on, target_for, CanSequence}
 use Rattle.cdm_runway.specs.Rules.{RunwayRules}
 use Rattle.cdm_sequence.specs.Slots.{RunwayPlanRecord}
 use Rattle.std.specs.List.{AllZip}
 use Rattle.std.proofs.lemmas.List.Elements.{filter_passes}
 use Rattle.cdm_day.specs.declared.aimed.Aimed.{Aimed}
+
+-- Aims.
+
+-- a flight with what it could have
+unfoldable pub aimed : TaxiTimes → ℕ → Record → Aimed
+aimed times now f = record { name = f.name; aim = aim_of f times now }
+
+-- the targets of the planned flights that can be sequenced
+unfoldable pub targets_of : List Record → TaxiTimes → ℕ → List TargetRecord
+targets_of flights times now = filter_map (λ f. target_in (aim_of f times now)) (planned_of flights)
+
+-- the planned flights that are blocked before the traffic of their runway is asked
+unfoldable pub blocked_early : List Record → TaxiTimes → ℕ → List BlockedFlight
+blocked_early flights times now = filter_map (λ f. blocked_in f.name (aim_of f times now)) (planned_of flights)
+
+-- what planned flights could have
+abbrev pub aim_list : List Record → TaxiTimes → ℕ → List AimResult
+aim_list fs times now = map (λ f. aim_of f times now) (planned_of fs)
+
+-- the aims of flights are one list
+pub aims_are : (times : TaxiTimes) (now : ℕ) (fs : List Record) (aims : List AimResult) → AllZip (λ f a. IsAim f times now a) fs aims → map (λ f. aim_of f times now) fs ≡ aims
+aims_are times now [] [] all = refl
+aims_are times now [] (a ∷ aims) all = absurd all
+aims_are times now (f ∷ fs) [] all = absurd all
+aims_are times now (f ∷ fs) (a ∷ aims) all =
+    let here = aim_is f times now a all.0 in
+    let rest = aims_are times now fs aims all.1 in
+    λ i. here i ∷ rest i
+
+pub aims_mean : (times : TaxiTimes) (now : ℕ) (fs : List Record) → AllZip (λ f a. IsAim f times now a) fs (map (λ f. aim_of f times now) fs)
+aims_mean times now [] = tt
+aims_mean times now (f ∷ fs) = (aim_means f times now, aims_mean times now fs)
+
+-- and so they are with the names
+pub aimed_are : (times : TaxiTimes) (now : ℕ) (fs : List Record) (aims : List Aimed) → AllZip (IsAimed times now) fs aims → aims ≡ map (aimed times now) fs
+unfolding aimed
+aimed_are times now [] [] all = refl
+aimed_are times now [] (a ∷ aims) all = absurd all
+aimed_are times now (f ∷ fs) [] all = absurd all
+aimed_are times now (f ∷ fs) (a ∷ aims) all =
+    let name = all.0.name in
+    let aim = sym (aim_is f times now a.aim all.0.aim) in
+    let rest = aimed_are times now fs aims all.1 in
+    λ i. record { name = name i; aim = aim i } ∷ rest i
+
+-- the targets among the aims, and the flights that are blocked early
+pub targets-aims : (times : TaxiTimes) (now : ℕ) (fs : List Record) → targets_in (aim_list fs times now) ≡ targets_of fs times now
+unfolding targets_of
+targets-aims times now fs = filter_map-map target_in (λ f. aim_of f times now) (planned_of fs)
+
+zip-map : {Y : Type 0} (h : Record → Y) (fs : List Record) → zip fs (map h fs) ≡ map (λ f. (f, h f)) fs
+zip-map h [] = refl
+zip-map {Y} h (f ∷ fs) = ap (λ (xs : List (Record × Y)). (f, h f) ∷ xs) (zip-map h fs)
+
+pub early-aims : (times : TaxiTimes) (now : ℕ) (fs : List Record) → early_in fs (aim_list fs times now) ≡ blocked_early fs times now
+unfolding blocked_early
+early-aims times now fs =
+    let blocked : Record × AimResult → Option BlockedFlight = λ x. blocked_in x.0.name x.1 in
+    ap (filter_map blocked) (zip-map (λ f. aim_of f times now) (planned_of fs)) ∙ filter_map-map blocked (λ f. (f, aim_of f times now)) (planned_of fs)
 
 -- what is left of targets on a runway
 filter-filter_map : (r : List ℕ) (h : Record → Option TargetRecord) (fs : List Record) → filter (λ t. same_name t.runway r) (filter_map h fs) ≡ filter_map (λ f. if_on r (h f)) fs
@@ -328,23 +387,32 @@ on_it r aims = All-given (target_for r) (λ t. t.runway ≡ r) aims (λ a i. giv
     given None = tt
     given (Some t) = by (same_name t.runway r) t refl
 
--- a plan that shows each flight once shows them all
-pub all_shown : (fixed : List FixedRecord) (targets : List TargetRecord) (slots : List SlotRecord) (blocked : List BlockedFlight)
-    → IsPermutation (flight_names fixed targets) (map (λ s. s.name) slots ++ map (λ b. b.name) blocked) → length slots + length blocked ≡ length fixed + length targets
-all_shown fixed targets slots blocked same =
-    let sizes = length_permutation (flight_names fixed targets) (map (λ s. s.name) slots ++ map (λ b. b.name) blocked) same in
-    let a = length-append (map (λ (s : SlotRecord). s.name) slots) (map (λ (b : BlockedFlight). b.name) blocked) in
-    let b = length-append (map (λ (x : FixedRecord). x.name) fixed) (map (λ (t : TargetRecord). t.key.name) targets) in
-    let c = length-map slots (λ (s : SlotRecord). s.name) in
-    let d = length-map blocked (λ (b : BlockedFlight). b.name) in
-    let e = length-map fixed (λ (x : FixedRecord). x.name) in
-    let f = length-map targets (λ (t : TargetRecord). t.key.name) in
+-- each target has a slot, or is left without one
+given_or_left : (slot : TargetRecord → ℕ → SlotRecord) (p : Placing) (ts : List TargetRecord) → length (filter_map (λ t. option_map (slot t) (p t)) ts) + length (filter (λ t. is_none (p t)) ts) ≡ length ts
+given_or_left slot p [] = refl
+given_or_left slot p (t ∷ ts) = by (p t) (given_or_left slot p ts)
+  where
+    by : (o : Option ℕ) → length (filter_map (λ t. option_map (slot t) (p t)) ts) + length (filter (λ t. is_none (p t)) ts) ≡ length ts
+        → length (cons_option (option_map (slot t) o) (filter_map (λ t. option_map (slot t) (p t)) ts)) + length (cond (is_none o) (t ∷ filter (λ t. is_none (p t)) ts) (filter (λ t. is_none (p t)) ts)) ≡ length (t ∷ ts)
+    by None e = omega arith
+    by (Some m) e = omega arith
+
+-- so a sequence shows all flights
+all_shown : (r : RunwayRules) (fixed : List FixedRecord) (targets : List TargetRecord) (plan : RunwayPlanRecord) → IsSequence r fixed targets plan → length plan.slots + length plan.blocked ≡ length fixed + length targets
+all_shown r fixed targets plan (p, e) =
+    let slots = length_permutation (slots_by p fixed targets) plan.slots e.slots in
+    let blocked = length_permutation (names_left p targets) (map (λ (b : BlockedFlight). b.name) plan.blocked) e.blocked in
+    let a = length-append (map fixed_slot fixed) (filter_map (λ t. option_map (planned_slot t) (p t)) targets) in
+    let b = length-map fixed fixed_slot in
+    let c = length-map (filter (λ (t : TargetRecord). is_none (p t)) targets) (λ (t : TargetRecord). t.key.name) in
+    let d = length-map plan.blocked (λ (b : BlockedFlight). b.name) in
+    let each = given_or_left planned_slot p targets in
     omega arith
 
 -- The whole day.
 
 pub zipped_sizes : (fixed : List ℕ → List FixedRecord) (targets : List ℕ → List TargetRecord) (runways : List RunwayRules) (plans : List RunwayPlanRecord)
-    → AllZip (λ r p. IsRunwayPlan r (fixed r.name) (targets r.name) p) runways plans
+    → AllZip (λ r p. IsSequence r (fixed r.name) (targets r.name) p) runways plans
     → sum_by (λ p. length p.slots + length p.blocked) plans ≡ sum_by (λ r. length (fixed r) + length (targets r)) (map (λ (r : RunwayRules). r.name) runways)
 zipped_sizes fixed targets [] [] all = refl
 zipped_sizes fixed targets [] (p ∷ ps) all = absurd all
@@ -352,7 +420,7 @@ zipped_sizes fixed targets (r ∷ rs) [] all = absurd all
 zipped_sizes fixed targets (r ∷ rs) (p ∷ ps) all =
     let a = sum_by-cons (λ p. length p.slots + length p.blocked) p ps in
     let b = sum_by-cons (λ r. length (fixed r) + length (targets r)) r.name (map (λ (r : RunwayRules). r.name) rs) in
-    let size = all.0.size in
+    let size = all_shown r (fixed r.name) (targets r.name) p all.0 in
     let rest = zipped_sizes fixed targets rs ps all.1 in
     omega arith
 
@@ -368,14 +436,12 @@ can_sequence times now fs own few r = record {
 pub planned_are : (fs : List Record) → All (λ f. is_planned f.status ≡ true) (planned_of fs)
 planned_are fs = filter_passes (λ f. is_planned f.status) fs
 
--- the sequences without their sizes
-pub zipped_sequences : (fixed : List ℕ → List FixedRecord) (targets : List ℕ → List TargetRecord) (runways : List RunwayRules) (plans : List RunwayPlanRecord)
-    → AllZip (λ r p. IsRunwayPlan r (fixed r.name) (targets r.name) p) runways plans
-    → AllZip (λ r p. IsSequence r (fixed r.name) (targets r.name) p) runways plans
-zipped_sequences fixed targets [] [] all = tt
-zipped_sequences fixed targets [] (p ∷ ps) all = absurd all
-zipped_sequences fixed targets (r ∷ rs) [] all = absurd all
-zipped_sequences fixed targets (r ∷ rs) (p ∷ ps) all = (all.0.sequence, zipped_sequences fixed targets rs ps all.1)
+-- what goes together goes together in a weaker way
+pub AllZip-weaker : {X Y : Type 0} (R S : X → Y → Type 0) → ((x : X) (y : Y) → R x y → S x y) → (xs : List X) (ys : List Y) → AllZip R xs ys → AllZip S xs ys
+AllZip-weaker R S h [] [] all = tt
+AllZip-weaker R S h [] (y ∷ ys) all = absurd all
+AllZip-weaker R S h (x ∷ xs) [] all = absurd all
+AllZip-weaker R S h (x ∷ xs) (y ∷ ys) all = (h x y all.0, AllZip-weaker R S h xs ys all.1)
 
 -- the flights of a runway among lent ones
 pub fixed_on-lent : (r : List ℕ) (fs : List (Bor Record)) → filter_map (λ f. fixed_flight f.now) (filter (λ f. is_on r f.now) fs) ≡ fixed_on r (map (λ f. f.now) fs)

@@ -2,12 +2,13 @@
 ghost use Rattle.std.specs.Prelude.{filter, ◌≡◌, ◌+◌, ◌≤◌, ◌++◌, length, map, IfOk, IsPermutation, IsSorted, sum_by};
 ghost use Rattle.std.specs.List.{filter_map, flat_map};
 ghost use Rattle.cdm_sequence.specs.Fixed.{fixed_flight};
+ghost use Rattle.cdm_sequence.specs.Sequence.{IsSequence};
 ghost use Rattle.cdm_sequence.specs.Slots.{runway_cmp, blocked_cmp};
 ghost use Rattle.cdm_day.specs.Planning.{HasParts, fixed_on, is_on};
 ghost use Rattle.cdm_day.specs.Day.{rules_in};
 ghost use Rattle.cdm_day.specs.DayPlan.{IsDayPlan, records_in};
 ghost use Rattle.cdm_day.specs.Sound.{IsSound};
-ghost use Rattle.cdm_day.specs.Aimed.{CanSequence, IsRunwayPlan, early_among, target_for};
+ghost use Rattle.cdm_day.specs.Aimed.{CanSequence, early_among, target_for};
 ghost use Rattle.cdm_day.specs.inner.Kept.{AreKept, IsMade};
 
 use crate::aimed::{Aimed, blocked, planned, targets};
@@ -51,7 +52,7 @@ pub(crate) fn runway_plan(
     aims: &[Aimed],
 ) -> Result<RunwayPlan, AllocError>
     requires { CanSequence (fixed_on runway.now.name (map (λ f. f.now) flights.now)) (filter_map (target_for runway.now.name) aims.now) }
-    ensures { IfOk result (λ p. IsRunwayPlan runway.now (fixed_on runway.now.name (map (λ f. f.now) flights.now))
+    ensures { IfOk result (λ p. IsSequence runway.now (fixed_on runway.now.name (map (λ f. f.now) flights.now))
         (filter_map (target_for runway.now.name) aims.now) p) }
 {
     let fixed = fixed(alloc, runway.name(), flights)?;

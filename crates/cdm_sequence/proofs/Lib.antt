@@ -6,7 +6,6 @@ pub mod TurnLemmas
 pub mod MadeLemmas
 pub mod AllowedLemmas
 pub mod SequenceLemmas
-pub mod DayLemmas
 pub mod OneLemmas
 pub mod AimLemmas
 pub mod NameLemmas

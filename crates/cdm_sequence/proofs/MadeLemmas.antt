@@ -19,7 +19,7 @@ use Rattle.cdm_sequence.specs.declared.decision.Decision.{Decision}
 use Rattle.cdm_flight.specs.Names.{same_name}
 use Rattle.cdm_flight.specs.Order.{key_cmp, is_before}
 use Rattle.cdm_sequence.specs.Plan.{Placing, taken_before, IsLeast, IsPlan}
-use Rattle.cdm_sequence.specs.Turns.{placed_at, IsDecided, AreDecided}
+use Rattle.cdm_sequence.specs.inner.Turns.{placed_at, IsDecided, AreDecided}
 use Rattle.cdm_sequence.proofs.OrderLemmas.{before_itself, before_or_after, not_back, keys_weak}
 use Rattle.cdm_flight.proofs.Lists.{contains_cases, contains_head, contains_tail}
 use Rattle.cdm_sequence.proofs.PlanLemmas.{load_of, held_before}

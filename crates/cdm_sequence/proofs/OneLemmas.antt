@@ -1,5 +1,5 @@
 -- A runway has one sequence, in whatever order its flights stand.
-use Rattle.std.proofs.Common.{◌≡◌, ℕ, Bool, false, cond, List, ◌++◌, Option, Some, None, is_none, sym, ◌∙◌, ap, subst, refl, arith, inl, inr, ◌⊎◌, sum_by, filter, map, get_or}
+use Rattle.std.proofs.Common.{◌≡◌, ℕ, Bool, false, cond, List, ◌++◌, Option, Some, None, is_none, sym, ◌∙◌, ap, subst, refl, arith, inl, inr, ◌⊎◌, filter, map, get_or}
 use Rattle.std.specs.declared.cmp.Ordering.{Ordering}
 use Rattle.std.specs.declared.cmp.Ordering.TheVariants.{Less, Equal, Greater}
 use Rattle.std.specs.Ordering.{is_lt, ordering_reverse, nat_cmp}
@@ -16,7 +16,7 @@ use Rattle.cdm_runway.specs.Rules.{RunwayRules}
 use Rattle.cdm_runway.specs.Room.{held_in_cell}
 use Rattle.cdm_sequence.specs.Fixed.{FixedRecord, takeoffs}
 use Rattle.cdm_sequence.specs.Plan.{Placing, taken_before, IsLeast}
-use Rattle.cdm_sequence.specs.Sequence.{planned_slot, fixed_slot, minute_in, slots_by, names_left, flight_names, Blocks, IsRightlyBlocked, IsSequence}
+use Rattle.cdm_sequence.specs.Sequence.{planned_slot, fixed_slot, slots_by, names_left, flight_names, Blocks, IsRightlyBlocked, IsSequenceBy, IsSequence}
 use Rattle.cdm_sequence.specs.Slots.{SlotRecord, RunwayPlanRecord, slot_cmp}
 use Rattle.cdm_sequence.specs.Targets.{TargetRecord}
 use Rattle.cdm_sequence.specs.declared.rule.Rule.{Rule}
@@ -24,7 +24,7 @@ use Rattle.cdm_sequence.specs.declared.rule.Rule.TheVariants.{Closure, Rate}
 use Rattle.cdm_sequence.specs.declared.slot.BlockedFlight.{BlockedFlight}
 use Rattle.cdm_flight.proofs.Lists.{contains_map, contains_from_map, contains_from_given, filter_map_same, filter_same, sum_map, sorted_one, IsPermutation-filter_map, IsPermutation-filter, distinct_left, distinct_right, apart_from_rest, one_of_key}
 use Rattle.cdm_sequence.proofs.OrderLemmas.{same_flips, is_same, tied_names, last_ties}
-use Rattle.cdm_sequence.proofs.PlanLemmas.{in_cell, load_of, held_before, held_agree, least_same, plan_one}
+use Rattle.cdm_sequence.proofs.PlanLemmas.{in_cell, load_of, held_before, held_agree, least_same, plan_agree, plan_one}
 
 -- Any order.
 
@@ -43,9 +43,8 @@ blocks_same r xs ys f Rate h e = record { some_open = e.some_open; full = λ k a
 blocks_same r xs ys f _ h e = absurd e
 
 -- the sequence of flights is that of the same flights in another order
-pub reordered : (r : RunwayRules) (fixed fixed' : List FixedRecord) (ts us : List TargetRecord) (plan : RunwayPlanRecord) → IsPermutation fixed fixed' → IsPermutation ts us → IsSequence r fixed ts plan → IsSequence r fixed' us plan
-reordered r fixed fixed' ts us plan same order e =
-    let p : Placing = minute_in plan.slots in
+reordered_by : (p : Placing) (r : RunwayRules) (fixed fixed' : List FixedRecord) (ts us : List TargetRecord) (plan : RunwayPlanRecord) → IsPermutation fixed fixed' → IsPermutation ts us → IsSequenceBy p r fixed ts plan → IsSequenceBy p r fixed' us plan
+reordered_by p r fixed fixed' ts us plan same order e =
     let xs = takeoffs fixed in
     let ys = takeoffs fixed' in
     let minutes : IsPermutation xs ys = IsPermutation-map (λ (x : FixedRecord). x.takeoff) fixed fixed' same in
@@ -69,6 +68,30 @@ reordered r fixed fixed' ts us plan same order e =
           e.blocked;
       rules = All-weaker (IsRightlyBlocked r xs ts p) (IsRightlyBlocked r ys us p)
           (λ b w. (w.0, Contains-permutation ts us w.0 order w.1, w.2, blocks_same r (taken_before xs ts p w.0) (taken_before ys us p w.0) w.0 b.rule (held w.0) w.3))
+          plan.blocked e.rules;
+      blocked_order = e.blocked_order;
+    }
+
+pub reordered : (r : RunwayRules) (fixed fixed' : List FixedRecord) (ts us : List TargetRecord) (plan : RunwayPlanRecord) → IsPermutation fixed fixed' → IsPermutation ts us → IsSequence r fixed ts plan → IsSequence r fixed' us plan
+reordered r fixed fixed' ts us plan same order (p, e) = (p, reordered_by p r fixed fixed' ts us plan same order e)
+
+-- Any placing.
+
+-- a placing that agrees with a sequence's on its targets is the sequence's
+pub sequence_agree : (p q : Placing) (r : RunwayRules) (fixed : List FixedRecord) (ts : List TargetRecord) (plan : RunwayPlanRecord) → ((f : TargetRecord) → Contains ts f → p f ≡ q f) → IsSequenceBy p r fixed ts plan → IsSequenceBy q r fixed ts plan
+sequence_agree p q r fixed ts plan agree e =
+    let xs = takeoffs fixed in
+    let shown : slots_by p fixed ts ≡ slots_by q fixed ts = ap (λ (ss : List SlotRecord). map fixed_slot fixed ++ ss)
+    (filter_map_same (λ f. option_map (planned_slot f) (p f)) (λ f. option_map (planned_slot f) (q f)) ts (λ f i. ap (option_map (planned_slot f)) (agree f i))) in
+    let left : names_left p ts ≡ names_left q ts = ap (map (λ (f : TargetRecord). f.key.name)) (filter_same (λ f. is_none (p f)) (λ f. is_none (q f)) ts (λ f i. ap is_none (agree f i))) in
+    record {
+      runway = e.runway;
+      minutes = plan_agree r xs ts p q agree e.minutes;
+      slots = subst (λ (ss : List SlotRecord). IsPermutation ss plan.slots) shown e.slots;
+      slot_order = e.slot_order;
+      blocked = subst (λ (ns : List (List ℕ)). IsPermutation ns (map (λ (b : BlockedFlight). b.name) plan.blocked)) left e.blocked;
+      rules = All-weaker (IsRightlyBlocked r xs ts p) (IsRightlyBlocked r xs ts q)
+          (λ b w. (w.0, w.1, w.2, blocks_same r (taken_before xs ts p w.0) (taken_before xs ts q w.0) w.0 b.rule (λ m. held_agree r.cell m xs ts p q w.0 (λ g l t. agree g l)) w.3))
           plan.blocked e.rules;
       blocked_order = e.blocked_order;
     }
@@ -149,47 +172,39 @@ rule_one r taken f Closure _ h k = absurd k
 rule_one r taken f Rate _ h k = absurd k
 rule_one r taken f _ b h k = absurd h
 
--- two sequences of the same flights on the same runway are the same
-same_plan : (r : RunwayRules) (fixed : List FixedRecord) (ts : List TargetRecord) (x y : RunwayPlanRecord) → IsDistinct same_name (flight_names fixed ts) → IsSequence r fixed ts x → IsSequence r fixed ts y → x ≡ y
-same_plan r fixed ts x y own a b =
-    let p : Placing = minute_in x.slots in
-    let q : Placing = minute_in y.slots in
+-- two sequences by one placing are the same
+same_plan : (p : Placing) (r : RunwayRules) (fixed : List FixedRecord) (ts : List TargetRecord) (x y : RunwayPlanRecord) → IsDistinct same_name (flight_names fixed ts) → IsSequenceBy p r fixed ts x → IsSequenceBy p r fixed ts y → x ≡ y
+same_plan p r fixed ts x y own a b =
     let xs = takeoffs fixed in
-    let agree : (f : TargetRecord) → Contains ts f → p f ≡ q f = plan_one r xs ts p q a.minutes b.minutes in
-    let shown : slots_by p fixed ts ≡ slots_by q fixed ts = ap (λ (ss : List SlotRecord). map fixed_slot fixed ++ ss)
-    (filter_map_same (λ f. option_map (planned_slot f) (p f)) (λ f. option_map (planned_slot f) (q f)) ts (λ f i. ap (option_map (planned_slot f)) (agree f i))) in
-    let others : IsPermutation (slots_by p fixed ts) y.slots = subst (λ (ss : List SlotRecord). IsPermutation ss y.slots) (sym shown) b.slots in
     let slots : x.slots ≡ y.slots =
     sorted_one (λ s t. is_lt (slot_cmp s t)) slots_weak (λ (s : SlotRecord). s) x.slots y.slots
     (λ s t i j h k.
     let tied = tie_from slot_total s t h k in
     slot_one p fixed ts s t own (Contains-permutation x.slots (slots_by p fixed ts) s (IsPermutation-sym (slots_by p fixed ts) x.slots a.slots) i)
-    (Contains-permutation y.slots (slots_by p fixed ts) t (IsPermutation-sym (slots_by p fixed ts) y.slots others) j) (tied_names s.name t.name (last_ties (nat_cmp s.ttot t.ttot) (name_cmp s.name t.name) tied)))
+    (Contains-permutation y.slots (slots_by p fixed ts) t (IsPermutation-sym (slots_by p fixed ts) y.slots b.slots) j) (tied_names s.name t.name (last_ties (nat_cmp s.ttot t.ttot) (name_cmp s.name t.name) tied)))
     a.slot_order b.slot_order
-    (λ g. sum_by-IsPermutation g (slots_by p fixed ts) x.slots a.slots ∙ sym (sum_by-IsPermutation g (slots_by p fixed ts) y.slots others)) in
-    let left : names_left p ts ≡ names_left q ts = ap (map (λ (f : TargetRecord). f.key.name)) (filter_same (λ f. is_none (p f)) (λ f. is_none (q f)) ts (λ f i. ap is_none (agree f i))) in
+    (λ g. sum_by-IsPermutation g (slots_by p fixed ts) x.slots a.slots ∙ sym (sum_by-IsPermutation g (slots_by p fixed ts) y.slots b.slots)) in
     let name : BlockedFlight → List ℕ = λ c. c.name in
     let blocked : x.blocked ≡ y.blocked =
     sorted_one (λ m n. is_lt (name_cmp m n)) names_weak name x.blocked y.blocked
     (λ c d i j h k.
     let same : c.name ≡ d.name = tied_names c.name d.name (tie_from nat_list_cmp_total c.name d.name h k) in
     let v : IsRightlyBlocked r xs ts p c = All-contains (IsRightlyBlocked r xs ts p) x.blocked c a.rules i in
-    let w : IsRightlyBlocked r xs ts q d = All-contains (IsRightlyBlocked r xs ts q) y.blocked d b.rules j in
+    let w : IsRightlyBlocked r xs ts p d = All-contains (IsRightlyBlocked r xs ts p) y.blocked d b.rules j in
     let named : w.0.key.name ≡ v.0.key.name = sym w.2 ∙ sym same ∙ v.2 in
     let target : w.0 ≡ v.0 = one_of_key same_name same_flips (λ (f : TargetRecord). f.key.name) ts w.0 v.0 (distinct_right same_name (map (λ (x : FixedRecord). x.name) fixed) (map (λ (f : TargetRecord). f.key.name) ts) own) w.1 v.1 (is_same w.0.key.name v.0.key.name named) in
-    let other : Blocks r (taken_before xs ts q v.0) v.0 d.rule = subst (λ (f : TargetRecord). Blocks r (taken_before xs ts q f) f d.rule) target w.3 in
-    let here : Blocks r (taken_before xs ts p v.0) v.0 d.rule = blocks_same r (taken_before xs ts q v.0) (taken_before xs ts p v.0) v.0 d.rule (λ m. held_agree r.cell m xs ts q p v.0 (λ g l t. sym (agree g l))) other in
-    let rule : c.rule ≡ d.rule = rule_one r (taken_before xs ts p v.0) v.0 c.rule d.rule v.3 here in
+    let other : Blocks r (taken_before xs ts p v.0) v.0 d.rule = subst (λ (f : TargetRecord). Blocks r (taken_before xs ts p f) f d.rule) target w.3 in
+    let rule : c.rule ≡ d.rule = rule_one r (taken_before xs ts p v.0) v.0 c.rule d.rule v.3 other in
     λ i. record { name = same i; rule = rule i })
     a.blocked_order b.blocked_order
     (λ g.
     sym (sum_map g name x.blocked) ∙ sum_by-IsPermutation g (names_left p ts) (map name x.blocked) a.blocked
-    ∙ ap (sum_by g) left
-    ∙ sym (sum_by-IsPermutation g (names_left q ts) (map name y.blocked) b.blocked) ∙ sum_map g name y.blocked) in
+    ∙ sym (sum_by-IsPermutation g (names_left p ts) (map name y.blocked) b.blocked) ∙ sum_map g name y.blocked) in
     let runway : x.runway ≡ y.runway = a.runway ∙ sym b.runway in
     λ i. record { runway = runway i; slots = slots i; blocked = blocked i }
 
 -- a runway has one sequence
 pub sequence_one : (r : RunwayRules) (fixed fixed' : List FixedRecord) (ts us : List TargetRecord) (x y : RunwayPlanRecord) → IsDistinct same_name (flight_names fixed ts) → IsPermutation fixed fixed' → IsPermutation ts us → IsSequence r fixed ts x → IsSequence r fixed' us y → x ≡ y
-sequence_one r fixed fixed' ts us x y own same order a b =
-    same_plan r fixed ts x y own a (reordered r fixed' fixed us ts y (IsPermutation-sym fixed fixed' same) (IsPermutation-sym ts us order) b)
+sequence_one r fixed fixed' ts us x y own same order (p, a) (q, b) =
+    let back = reordered_by q r fixed' fixed us ts y (IsPermutation-sym fixed fixed' same) (IsPermutation-sym ts us order) b in
+    same_plan p r fixed ts x y own a (sequence_agree q p r fixed ts y (plan_one r (takeoffs fixed) ts q p back.minutes a.minutes) back)

@@ -1,9 +1,9 @@
 -- What holds of a plan, whoever made it: it is the only one, it is allowed, and no allowed placing is earlier.
-use Rattle.std.proofs.Common.{◌≡◌, ℕ, zero, suc, ◌+◌, ◌<◌, ◌≤◌, ◌/◌, ◌==◌, Bool, true, false, cond, List, ◌++◌, Option, Some, None, sym, ◌∙◌, ap, refl, arith, sum_by, filter, eq-eqb}
+use Rattle.std.proofs.Common.{◌≡◌, ℕ, zero, suc, ◌+◌, ◌<◌, ◌≤◌, ◌/◌, ◌==◌, Bool, true, false, cond, List, ◌++◌, Option, Some, None, sym, ◌∙◌, ap, subst, refl, arith, get_or, sum_by, filter, eq-eqb}
 use Rattle.std.specs.List.{filter_map, Contains}
 use Rattle.std.specs.Option.{IfSome}
 use Rattle.std.proofs.lemmas.List.Sums.{sum_by-append}
-use Rattle.std.proofs.lemmas.List.Elements.{All-contains}
+use Rattle.std.proofs.lemmas.List.Elements.{All-contains, Contains-get_or}
 use Rattle.std.proofs.lemmas.Bool.{false≢true}
 use Rattle.cdm_runway.specs.Rules.{RunwayRules}
 use Rattle.cdm_runway.specs.Room.{held_in_cell, IsOpen, HasRoom}
@@ -99,6 +99,15 @@ same_below r fixed ts p q a b (suc n) f i l =
 -- there is one plan
 pub plan_one : (r : RunwayRules) (fixed : List ℕ) (ts : List TargetRecord) (p q : Placing) → IsPlan r fixed ts p → IsPlan r fixed ts q → (f : TargetRecord) → Contains ts f → p f ≡ q f
 plan_one r fixed ts p q a b f i = same_below r fixed ts p q a b (suc (rank ts f)) f i (omega arith)
+
+-- a placing that agrees with the plan on its targets is the plan
+pub plan_agree : (r : RunwayRules) (fixed : List ℕ) (targets : List TargetRecord) (p q : Placing) → ((g : TargetRecord) → Contains targets g → p g ≡ q g) → IsPlan r fixed targets p → IsPlan r fixed targets q
+plan_agree r fixed targets p q same a = λ k d l.
+    let f = get_or targets k d in
+    let i = Contains-get_or targets k d l in
+    let x : IsLeast r (taken_before fixed targets p f) f (p f) = a k d l in
+    let y : IsLeast r (taken_before fixed targets q f) f (p f) = least_same r (taken_before fixed targets p f) (taken_before fixed targets q f) f (p f) (λ m. held_agree r.cell m fixed targets p q f (λ g j h. same g j)) x in
+    subst (λ (o : Option ℕ). IsLeast r (taken_before fixed targets q f) f o) (same f i) y
 
 -- a placing that puts f at m has in m's cell all that stands before f, and f
 room_for : (c m : ℕ) (fixed : List ℕ) (ts : List TargetRecord) (q : Placing) (f : TargetRecord) → Contains ts f → q f ≡ Some m → held_in_cell c (taken_before fixed ts q f) m < held_in_cell c (fixed ++ filter_map q ts) m

@@ -1,10 +1,9 @@
 -- What decisions that were made one after another show is the runway's sequence.
-use Rattle.std.proofs.Common.{◌≡◌, ℕ, suc, ◌+◌, Bool, false, cond, List, [], ◌∷◌, ◌++◌, Option, Some, None, IfSome, Result, Ok, Err, is_none, sym, ◌∙◌, ap, subst, refl, arith, inl, inr, filter, map, length, length-append, append_assoc}
+use Rattle.std.proofs.Common.{◌≡◌, ℕ, suc, ◌+◌, Bool, false, cond, List, [], ◌∷◌, ◌++◌, Option, None, IfSome, Result, Ok, Err, is_none, sym, ◌∙◌, ap, subst, refl, arith, inl, inr, filter, map, length, length-append, append_assoc}
 use Rattle.std.specs.List.{filter_map, cons_option, Contains, IsDistinct}
 use Rattle.std.specs.List.Sorted.{IsPermutation, IsSortedByKey, IsSorted}
 use Rattle.std.specs.Option.{option_map}
 use Rattle.std.proofs.lemmas.List.{length-map}
-use Rattle.std.proofs.lemmas.List.Elements.{Contains-append_right}
 use Rattle.std.proofs.lemmas.List.Sorted.{All-permutation, Contains-permutation, length_permutation, IsPermutation-refl, IsPermutation-cons, IsPermutation-middle, IsPermutation-sym, IsPermutation-trans, IsPermutation-append, IsPermutation-append_right, IsPermutation-map}
 use Rattle.std.proofs.lemmas.Map.Keys.{IsDistinct-IsPermutation, IsDistinct-tail}
 use Rattle.cdm_flight.specs.Names.{same_name}
@@ -15,14 +14,14 @@ use Rattle.cdm_runway.specs.declared.load.Blocked.{Blocked}
 use Rattle.cdm_runway.specs.declared.load.Blocked.TheVariants.{Closure, Rate}
 use Rattle.cdm_sequence.specs.Fixed.{FixedRecord, takeoffs}
 use Rattle.cdm_sequence.specs.Plan.{Placing, taken_before}
-use Rattle.cdm_sequence.specs.Sequence.{planned_slot, fixed_slot, minute_in, slots_by, names_left, flight_names, Blocks, IsRightlyBlocked, IsSequence}
+use Rattle.cdm_sequence.specs.Sequence.{planned_slot, fixed_slot, slots_by, names_left, flight_names, Blocks, IsRightlyBlocked, IsSequence}
 use Rattle.cdm_sequence.specs.Slots.{SlotRecord, RunwayPlanRecord, slot_cmp, blocked_cmp}
 use Rattle.cdm_sequence.specs.Targets.{TargetRecord}
-use Rattle.cdm_sequence.specs.Turns.{placed_at, slot_from, blocked_from, AreDecided}
+use Rattle.cdm_sequence.specs.inner.Turns.{placed_at, slot_from, blocked_from, AreDecided}
 use Rattle.cdm_sequence.specs.Words.{rule_for}
 use Rattle.cdm_sequence.specs.declared.decision.Decision.{Decision}
 use Rattle.cdm_sequence.specs.declared.slot.BlockedFlight.{BlockedFlight}
-use Rattle.cdm_flight.proofs.Lists.{contains_cases, contains_head, contains_tail, contains_map, contains_given, All-given, IsPermutation-filter_map, IsPermutation-filter, distinct_left, distinct_right, distinct_by, apart_from_head, apart_from_rest}
+use Rattle.cdm_flight.proofs.Lists.{contains_cases, contains_head, contains_tail, contains_map, All-given, IsPermutation-filter_map, IsPermutation-filter, distinct_right, distinct_by, apart_from_head}
 use Rattle.cdm_sequence.proofs.MadeLemmas.{Rising, rising_from_sorted, decided_among, plan_made}
 use Rattle.cdm_sequence.proofs.OrderLemmas.{is_same, same_flips}
 
@@ -116,42 +115,24 @@ as_many fixed ds ss bs slots blocked =
     let e = given_lengths ds in
     omega arith
 
--- a slot gives its flight's minute, where no other slot has its name
-found : (ss : List SlotRecord) (f : TargetRecord) (s : SlotRecord) → IsDistinct same_name (slot_names ss) → Contains ss s → s.name ≡ f.key.name → minute_in ss f ≡ Some s.ttot
-found [] f s own i e = absurd (omega (arith, i.1))
-found (x ∷ xs) f s own i e = elim (contains_cases x xs s i) [
+-- the minute that decisions give a flight
+minute_by : List Decision → Placing
+minute_by [] f = None
+minute_by (d ∷ ds) f = cond (same_name d.target.key.name f.key.name) (placed_at d.outcome) (minute_by ds f)
+
+-- is the decision's, where the names differ
+minute_agrees : (ds : List Decision) → IsDistinct same_name (map (λ d. d.target.key.name) ds) → (d : Decision) → Contains ds d → minute_by ds d.target ≡ placed_at d.outcome
+unfolding minute_by
+minute_agrees [] own d i = absurd (omega (arith, i.1))
+minute_agrees (e ∷ ds) own d i = elim (contains_cases e ds d i) [
   | inl same ↦
-      ap (λ (b : Bool). cond b (Some x.ttot) (minute_in xs f)) (is_same x.name f.key.name (ap (λ (y : SlotRecord). y.name) same ∙ e))
-      ∙ ap (λ (y : SlotRecord). Some y.ttot) same
+      ap (λ (b : Bool). cond b (placed_at e.outcome) (minute_by ds d.target)) (is_same e.target.key.name d.target.key.name (ap (λ (x : Decision). x.target.key.name) same))
+      ∙ ap (λ (x : Decision). placed_at x.outcome) same
   | inr j ↦
-      let apart : same_name x.name s.name ≡ false = apart_from_head same_name x.name (slot_names xs) s.name own (contains_map (λ (y : SlotRecord). y.name) xs s j) in
-      ap (λ (b : Bool). cond b (Some x.ttot) (minute_in xs f)) (subst (λ (n : List ℕ). same_name x.name n ≡ false) e apart)
-      ∙ found xs f s (IsDistinct-tail same_name x.name (slot_names xs) own) j e
+      let names = map (λ (x : Decision). x.target.key.name) ds in
+      let apart : same_name e.target.key.name d.target.key.name ≡ false = apart_from_head same_name e.target.key.name names d.target.key.name own (contains_map (λ (x : Decision). x.target.key.name) ds d j) in
+      ap (λ (b : Bool). cond b (placed_at e.outcome) (minute_by ds d.target)) apart ∙ minute_agrees ds (IsDistinct-tail same_name e.target.key.name names own) d j
 ]
-
-missing : (ss : List SlotRecord) (f : TargetRecord) → ((s : SlotRecord) → Contains ss s → same_name s.name f.key.name ≡ false) → minute_in ss f ≡ None
-missing [] f none = refl
-missing (x ∷ xs) f none =
-    ap (λ (b : Bool). cond b (Some x.ttot) (minute_in xs f)) (none x (contains_head x xs))
-    ∙ missing xs f (λ s i. none s (contains_tail x xs s i))
-
--- the slots give each decision's minute
-pub minute_agrees : (r : RunwayRules) (fixed : List FixedRecord) (targets : List TargetRecord) (ds : List Decision) (ss : List SlotRecord) (bs : List BlockedFlight) → IsMade r fixed targets ds ss bs
-    → (d : Decision) → Contains ds d → minute_in ss d.target ≡ placed_at d.outcome
-minute_agrees r fixed targets ds ss bs made d i = go d.outcome refl where
-  own : IsDistinct same_name (slot_names ss ++ blocked_names bs)
-  own = IsDistinct-IsPermutation same_name same_flips (flight_names fixed targets) (slot_names ss ++ blocked_names bs) (names_once r fixed targets ds ss bs made) made.names
-
-  go : (o : Result ℕ Blocked) → d.outcome ≡ o → minute_in ss d.target ≡ placed_at o
-  go (Ok m) e =
-      let given : Contains (slots_given ds) (planned_slot d.target m) = contains_given (λ (x : Decision). slot_from x.target x.outcome) ds d (planned_slot d.target m) i (ap (slot_from d.target) e) in
-      found ss d.target (planned_slot d.target m) (distinct_left same_name (slot_names ss) (blocked_names bs) own)
-      (Contains-permutation (map fixed_slot fixed ++ slots_given ds) ss (planned_slot d.target m) made.slots (Contains-append_right (map fixed_slot fixed) (slots_given ds) (planned_slot d.target m) given)) refl
-  go (Err reason) e =
-      let left : BlockedFlight = record { name = d.target.key.name; rule = rule_for reason } in
-      let given : Contains (blocked_given ds) left = contains_given (λ (x : Decision). blocked_from x.target x.outcome) ds d left i (ap (blocked_from d.target) e) in
-      let there : Contains (blocked_names bs) d.target.key.name = contains_map (λ (b : BlockedFlight). b.name) bs left (Contains-permutation (blocked_given ds) bs left made.blocked given) in
-      missing ss d.target (λ s j. apart_from_rest same_name (slot_names ss) (blocked_names bs) s.name d.target.key.name own (contains_map (λ (s : SlotRecord). s.name) ss s j) there)
 
 -- a placing that agrees with the decisions shows their slots
 slots_shown : (p : Placing) (ds : List Decision) → ((d : Decision) → Contains ds d → p d.target ≡ placed_at d.outcome) → filter_map (λ f. option_map (planned_slot f) (p f)) (targets_of ds) ≡ slots_given ds
@@ -185,15 +166,15 @@ sequence_made r fixed targets ds plan named made =
     let ss = plan.slots in
     let bs = plan.blocked in
     let us = targets_of ds in
-    let p : Placing = minute_in ss in
-    let agree = minute_agrees r fixed targets ds ss bs made in
-    let own : IsDistinct (λ (f g : TargetRecord). same_name f.key.name g.key.name) us =
-    IsDistinct-IsPermutation (λ f g. same_name f.key.name g.key.name) (λ f g. same_flips f.key.name g.key.name) targets us made.same
-    (distinct_by same_name (λ f. f.key.name) targets (distinct_right same_name (map (λ (x : FixedRecord). x.name) fixed) (map (λ (f : TargetRecord). f.key.name) targets) made.names)) in
-    let up : Rising us = rising_from_sorted us made.sorted own in
+    let p : Placing = minute_by ds in
+    let name : TargetRecord → List ℕ = λ f. f.key.name in
+    let own : IsDistinct same_name (map name us) =
+    IsDistinct-IsPermutation same_name same_flips (map name targets) (map name us) (IsPermutation-map name targets us made.same)
+    (distinct_right same_name (map (λ (x : FixedRecord). x.name) fixed) (map name targets) made.names) in
+    let agree = minute_agrees ds (subst (IsDistinct same_name) (names_of_targets ds) own) in
+    let up : Rising us = rising_from_sorted us made.sorted (distinct_by same_name name us own) in
     let slot : TargetRecord → Option SlotRecord = λ f. option_map (planned_slot f) (p f) in
     let slots : IsPermutation (filter_map slot targets) (slots_given ds) = subst (IsPermutation (filter_map slot targets)) (slots_shown p ds agree) (IsPermutation-filter_map slot targets us made.same) in
-    let name : TargetRecord → List ℕ = λ f. f.key.name in
     let free : TargetRecord → Bool = λ f. is_none (p f) in
     let blocked : IsPermutation (names_left p targets) (blocked_names (blocked_given ds)) =
     subst (IsPermutation (names_left p targets)) (names_shown p ds agree) (IsPermutation-map name (filter free targets) (filter free us) (IsPermutation-filter free targets us made.same)) in
@@ -201,13 +182,15 @@ sequence_made r fixed targets ds plan named made =
     let among : Contains targets d.target = Contains-permutation us targets d.target (IsPermutation-sym targets us made.same) (contains_map (λ (d : Decision). d.target) ds d i) in
     let go : (o : Result ℕ Blocked) → Gives r (taken_before (takeoffs fixed) targets p d.target) d.target.window.from d.target.window.to o → IfSome (blocked_from d.target o) (IsRightlyBlocked r (takeoffs fixed) targets p) =
     elim [ Ok m ↦ λ g. tt | Err reason ↦ λ g. (d.target, among, refl, rightly r (taken_before (takeoffs fixed) targets p d.target) d.target reason g) ] in
-    go d.outcome (decided_among r (takeoffs fixed) targets p ds made.same made.decided up agree d i) in
-    record {
-      runway = named;
-      minutes = plan_made r (takeoffs fixed) targets p ds made.same made.decided up agree;
-      slots = IsPermutation-trans (slots_by p fixed targets) (map fixed_slot fixed ++ slots_given ds) ss (IsPermutation-append_right (map fixed_slot fixed) (filter_map slot targets) (slots_given ds) slots) made.slots;
-      slot_order = made.slot_order;
-      blocked = IsPermutation-trans (names_left p targets) (blocked_names (blocked_given ds)) (blocked_names bs) blocked (IsPermutation-map (λ (b : BlockedFlight). b.name) (blocked_given ds) bs made.blocked);
-      rules = All-permutation (IsRightlyBlocked r (takeoffs fixed) targets p) (blocked_given ds) bs made.blocked (All-given (λ d. blocked_from d.target d.outcome) (IsRightlyBlocked r (takeoffs fixed) targets p) ds each);
-      blocked_order = made.blocked_order;
-    }
+    go d.outcome (decided_among r (takeoffs fixed) targets p ds made.same made.decided up agree d i) in (
+      p,
+      record {
+        runway = named;
+        minutes = plan_made r (takeoffs fixed) targets p ds made.same made.decided up agree;
+        slots = IsPermutation-trans (slots_by p fixed targets) (map fixed_slot fixed ++ slots_given ds) ss (IsPermutation-append_right (map fixed_slot fixed) (filter_map slot targets) (slots_given ds) slots) made.slots;
+        slot_order = made.slot_order;
+        blocked = IsPermutation-trans (names_left p targets) (blocked_names (blocked_given ds)) (blocked_names bs) blocked (IsPermutation-map (λ (b : BlockedFlight). b.name) (blocked_given ds) bs made.blocked);
+        rules = All-permutation (IsRightlyBlocked r (takeoffs fixed) targets p) (blocked_given ds) bs made.blocked (All-given (λ d. blocked_from d.target d.outcome) (IsRightlyBlocked r (takeoffs fixed) targets p) ds each);
+        blocked_order = made.blocked_order;
+      },
+    )

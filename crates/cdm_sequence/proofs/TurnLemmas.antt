@@ -6,7 +6,7 @@ use Rattle.std.proofs.lemmas.List.{append-nil}
 use Rattle.std.proofs.lemmas.List.Elements.{filter_map-append}
 use Rattle.cdm_runway.specs.Rules.{RunwayRules}
 use Rattle.cdm_sequence.specs.declared.decision.Decision.{Decision}
-use Rattle.cdm_sequence.specs.Turns.{placed_at, IsDecided, AreDecided}
+use Rattle.cdm_sequence.specs.inner.Turns.{placed_at, IsDecided, AreDecided}
 
 -- the minutes that decisions took
 abbrev pub minutes_of : List Decision → List ℕ

@@ -1,6 +1,6 @@
 -- Whether a planned flight can be sequenced, and when it may take off.
-use Rattle.std.specs.Prelude.{◌≡◌, ℕ, ◌+◌, ◌-◌, ◌<◌, max, min, Bool, true, false, ◌&&◌, nat_le, nat_lt, List, Option, Some, None, if◌then◌else◌}
-use Rattle.cdm_time.specs.Windows.{has_minute, is_in_tolerance, tolerance_after, tolerance_before}
+use Rattle.std.specs.Prelude.{◌≡◌, ℕ, ◌+◌, ◌<◌, ◌≤◌, max, Bool, true, false, ◌&&◌, nat_le, nat_lt, List, Option, Some, None, IsSome}
+use Rattle.cdm_time.specs.Windows.{has_minute, horizon, is_in_tolerance}
 use Rattle.cdm_flight.specs.declared.ice.Ice.{Ice}
 use Rattle.cdm_flight.specs.declared.ice.Ice.TheVariants.{AtStand}
 use Rattle.cdm_flight.specs.declared.place.Place.{Place}
@@ -33,59 +33,9 @@ abbrev pub keeps_ctot : Option ℕ → ℕ → Bool
 keeps_ctot None m = true
 keeps_ctot (Some ctot) m = is_in_tolerance ctot m
 
--- a minute of the horizon from the earliest on
-abbrev pub is_in_reach : ℕ → ℕ → Bool
-is_in_reach earliest m = nat_le earliest m && nat_lt m 2880
-
--- and within the CTOT tolerance
+-- a minute of the horizon from the earliest on, within the CTOT tolerance
 abbrev pub is_candidate : ℕ → Option ℕ → ℕ → Bool
-is_candidate earliest ctot m = is_in_reach earliest m && keeps_ctot ctot m
-
--- the first of the candidates, and the end of them
-abbrev pub window_from : ℕ → Option ℕ → ℕ
-window_from earliest None = earliest
-window_from earliest (Some ctot) = max earliest (ctot - tolerance_before)
-
-abbrev pub window_to : Option ℕ → ℕ
-window_to None = 2880
-window_to (Some ctot) = min 2880 (ctot + tolerance_after + 1)
-
--- the target of a flight that has all three
-abbrev pub target_of : Record → ℕ → ℕ → List ℕ → ℕ → TargetRecord
-target_of f now tobt runway exot = record {
-  key = record { priority = f.priority; tobt = tobt; name = f.name };
-  runway = runway;
-  ctot = f.ctot;
-  exot = exot;
-  ready = ready_at f tobt now;
-  window = record { from = window_from (ready_at f tobt now + exot) f.ctot; to = window_to f.ctot };
-}
-
--- the target, unless no minute is in reach, or none of those is a candidate
-abbrev pub if_possible : TargetRecord → AimResult
-if_possible t =
-    if nat_le 2880 (t.ready + t.exot) then Early Horizon
-    else if nat_lt t.window.from t.window.to then Ready t else Early Ctot
-
-abbrev pub aim_with_exot : Record → ℕ → ℕ → List ℕ → Option ℕ → AimResult
-aim_with_exot f now tobt runway None = Early Exot
-aim_with_exot f now tobt runway (Some exot) = if_possible (target_of f now tobt runway exot)
-
-abbrev pub aim_with : Record → TaxiTimes → ℕ → Option ℕ → Option (List ℕ) → AimResult
-aim_with f times now None runway = Early Tobt
-aim_with f times now (Some tobt) None = Early Runway
-aim_with f times now (Some tobt) (Some runway) = aim_with_exot f now tobt runway (exot_to times f runway)
-
--- the target of a planned flight, or the first rule that leaves it none: it has no TOBT, no runway
--- or no taxi-out time, or no minute is in reach, or none of those keeps its CTOT
-unfoldable pub aim_of : Record → TaxiTimes → ℕ → AimResult
-aim_of f times now = aim_with f times now f.tobt f.runway
-
--- the flight has a TOBT, a runway and a taxi-out time
-pub record HasTimes (f : Record) (times : TaxiTimes) (tobt exot : ℕ) (runway : List ℕ) : Type 0 where
-  pub tobt_is : f.tobt ≡ Some tobt
-  pub runway_is : f.runway ≡ Some runway
-  pub exot_is : exot_to times f runway ≡ Some exot
+is_candidate earliest ctot m = nat_le earliest m && nat_lt m horizon && keeps_ctot ctot m
 
 -- the target is that of the flight, and the minutes of its window are the candidates
 pub record IsTarget (f : Record) (times : TaxiTimes) (now : ℕ) (t : TargetRecord) : Type 0 where
@@ -97,29 +47,23 @@ pub record IsTarget (f : Record) (times : TaxiTimes) (now : ℕ) (t : TargetReco
   pub some_minute : t.window.from < t.window.to
   pub minutes : (m : ℕ) → has_minute t.window m ≡ is_candidate (t.ready + t.exot) t.ctot m
 
--- no minute is in reach
-pub record IsOutOfReach (f : Record) (times : TaxiTimes) (now : ℕ) : Type 0 where
+-- the flight has a TOBT, a runway and a taxi-out time, and by them it could take off from this minute on
+pub record ReachesAt (f : Record) (times : TaxiTimes) (now earliest : ℕ) : Type 0 where
   pub tobt : ℕ
-  pub exot : ℕ
   pub runway : List ℕ
-  pub has : HasTimes f times tobt exot runway
-  pub none : (m : ℕ) → is_in_reach (ready_at f tobt now + exot) m ≡ false
-
--- some minute is in reach, and none of those keeps the CTOT
-pub record IsOffCtot (f : Record) (times : TaxiTimes) (now : ℕ) : Type 0 where
-  pub tobt : ℕ
   pub exot : ℕ
-  pub runway : List ℕ
-  pub has : HasTimes f times tobt exot runway
-  pub some : ready_at f tobt now + exot < 2880
-  pub none : (m : ℕ) → is_candidate (ready_at f tobt now + exot) f.ctot m ≡ false
+  pub tobt_is : f.tobt ≡ Some tobt
+  pub runway_is : f.runway ≡ Some runway
+  pub exot_is : exot_to times f runway ≡ Some exot
+  pub earliest_is : earliest ≡ ready_at f tobt now + exot
 
--- what each answer means
+-- what a planned flight could have: its target, or the first rule that leaves it none: it has no TOBT,
+-- no runway or no taxi-out time, or no minute of the horizon is in reach, or none of those keeps its CTOT
 abbrev pub IsAim : Record → TaxiTimes → ℕ → AimResult → Type 0
 IsAim f times now (Ready t) = IsTarget f times now t
 IsAim f times now (Early Tobt) = f.tobt ≡ None
-IsAim f times now (Early Runway) = ((tobt : ℕ) × (f.tobt ≡ Some tobt)) × (f.runway ≡ None)
-IsAim f times now (Early Exot) = ((tobt : ℕ) × (f.tobt ≡ Some tobt)) × ((runway : List ℕ) × (f.runway ≡ Some runway) × (exot_to times f runway ≡ None))
-IsAim f times now (Early Horizon) = IsOutOfReach f times now
-IsAim f times now (Early Ctot) = IsOffCtot f times now
+IsAim f times now (Early Runway) = IsSome f.tobt × (f.runway ≡ None)
+IsAim f times now (Early Exot) = IsSome f.tobt × ((runway : List ℕ) × (f.runway ≡ Some runway) × (exot_to times f runway ≡ None))
+IsAim f times now (Early Horizon) = (m : ℕ) × ReachesAt f times now m × (horizon ≤ m)
+IsAim f times now (Early Ctot) = (m : ℕ) × ReachesAt f times now m × (m < horizon) × ((k : ℕ) → is_candidate m f.ctot k ≡ false)
 IsAim f times now (Early rule) = ⊥

@@ -3,7 +3,7 @@ use Rattle.std.specs.Prelude.{◌≡◌, ℕ, ◌+◌, ◌-◌, ◌<◌, List, O
 use Rattle.cdm_flight.specs.Record.{Record}
 use Rattle.cdm_flight.specs.declared.flight.Status.{Status}
 use Rattle.cdm_flight.specs.declared.flight.Status.TheVariants as status
-use Rattle.cdm_sequence.specs.Slots.{has_left}
+use Rattle.cdm_sequence.specs.Slots.{is_fixed}
 use Rattle.cdm_sequence.specs.declared.slot.Mark.{Mark}
 use Rattle.cdm_sequence.specs.declared.slot.Mark.TheVariants.{OffBlock, Airborne}
 
@@ -21,28 +21,17 @@ pub record FixedRecord : Type 0 where
 pub record KeepsTakeoff (exot off takeoff : ℕ) (mark : Mark) : Type 0 where
   pub taxi : takeoff ≡ off + exot
   pub taxi_range : exot < 2880
-  pub left : IsTrue (has_left mark)
+  pub left : IsTrue (is_fixed mark)
+
+-- the flight with its taxi-out time, off-block time and take-off
+abbrev pub fixed_with : Record → ℕ → ℕ → ℕ → Mark → FixedRecord
+fixed_with f exot off takeoff mark =
+    record { name = f.name; tobt = f.tobt; ctot = f.ctot; exot = exot; off = off; takeoff = takeoff; mark = mark }
 
 -- off-block it takes off its fixed taxi-out time after the AOBT; airborne it took off at the ATOT
 abbrev pub fixed_by : Record → Status → Option FixedRecord
-fixed_by f (status.OffBlock aobt exot) = Some (record {
-  name = f.name;
-  tobt = f.tobt;
-  ctot = f.ctot;
-  exot = exot;
-  off = aobt;
-  takeoff = aobt + exot;
-  mark = OffBlock;
-})
-fixed_by f (status.Airborne aobt atot) = Some (record {
-  name = f.name;
-  tobt = f.tobt;
-  ctot = f.ctot;
-  exot = atot - aobt;
-  off = aobt;
-  takeoff = atot;
-  mark = Airborne;
-})
+fixed_by f (status.OffBlock aobt exot) = Some (fixed_with f exot aobt (aobt + exot) OffBlock)
+fixed_by f (status.Airborne aobt atot) = Some (fixed_with f (atot - aobt) aobt atot Airborne)
 fixed_by f _ = None
 
 -- a flight that has left its stand, as the sequence takes it

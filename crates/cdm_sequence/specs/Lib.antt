@@ -5,5 +5,4 @@ pub mod Fixed
 pub mod Plan
 pub mod Aims
 pub mod Sequence
-pub mod Day
-pub mod Turns
+pub mod inner

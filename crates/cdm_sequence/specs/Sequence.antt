@@ -1,8 +1,7 @@
 -- One runway's sequence: its plan with all that is shown of each flight.
-use Rattle.std.specs.Prelude.{◌≡◌, ℕ, ◌-◌, [], ◌∷◌, ◌++◌, List, Some, None, is_none, All, Contains, IsPermutation, IsSorted, filter, map, if◌then◌else◌}
+use Rattle.std.specs.Prelude.{◌≡◌, ℕ, ◌-◌, ◌++◌, List, Some, None, is_none, All, Contains, IsPermutation, IsSorted, filter, map}
 use Rattle.std.specs.List.{filter_map}
 use Rattle.std.specs.Option.{option_map}
-use Rattle.cdm_flight.specs.Names.{same_name}
 use Rattle.cdm_runway.specs.Rules.{RunwayRules}
 use Rattle.cdm_runway.specs.Room.{AllClosed, AllFull}
 use Rattle.cdm_sequence.specs.Fixed.{FixedRecord, takeoffs}
@@ -40,11 +39,6 @@ fixed_slot x = record {
   delay = None;
 }
 
--- the minute that slots give a flight
-abbrev pub minute_in : List SlotRecord → Placing
-minute_in [] f = None
-minute_in (s ∷ ss) f = if same_name s.name f.key.name then Some s.ttot else minute_in ss f
-
 -- the slots of the fixed flights, and of the targets that have a minute
 abbrev pub slots_by : Placing → List FixedRecord → List TargetRecord → List SlotRecord
 slots_by placing fixed targets = map fixed_slot fixed ++ filter_map (λ f. option_map (planned_slot f) (placing f)) targets
@@ -69,14 +63,18 @@ abbrev pub IsRightlyBlocked : RunwayRules → List ℕ → List TargetRecord →
 IsRightlyBlocked r fixed targets placing b =
     (f : TargetRecord) × Contains targets f × (b.name ≡ f.key.name) × Blocks r (taken_before fixed targets placing f) f b.rule
 
--- the sequence of a runway: each target has the earliest minute that the fixed flights and the
--- targets before it leave; it shows the fixed flights and the targets with a minute by take-off and
--- name, and the other targets with the rules that block them by name
-pub record IsSequence (r : RunwayRules) (fixed : List FixedRecord) (targets : List TargetRecord) (plan : RunwayPlanRecord) : Type 0 where
+-- the sequence of a runway by a placing, in which each target has the earliest minute that the fixed
+-- flights and the targets before it leave: it shows the fixed flights and the targets with a minute by
+-- take-off and name, and the other targets with the rules that block them by name
+pub record IsSequenceBy (placing : Placing) (r : RunwayRules) (fixed : List FixedRecord) (targets : List TargetRecord) (plan : RunwayPlanRecord) : Type 0 where
   pub runway : plan.runway ≡ r.name
-  pub minutes : IsPlan r (takeoffs fixed) targets (minute_in plan.slots)
-  pub slots : IsPermutation (slots_by (minute_in plan.slots) fixed targets) plan.slots
+  pub minutes : IsPlan r (takeoffs fixed) targets placing
+  pub slots : IsPermutation (slots_by placing fixed targets) plan.slots
   pub slot_order : IsSorted slot_cmp plan.slots
-  pub blocked : IsPermutation (names_left (minute_in plan.slots) targets) (map (λ b. b.name) plan.blocked)
-  pub rules : All (IsRightlyBlocked r (takeoffs fixed) targets (minute_in plan.slots)) plan.blocked
+  pub blocked : IsPermutation (names_left placing targets) (map (λ b. b.name) plan.blocked)
+  pub rules : All (IsRightlyBlocked r (takeoffs fixed) targets placing) plan.blocked
   pub blocked_order : IsSorted blocked_cmp plan.blocked
+
+-- the sequence of a runway: there is such a placing
+abbrev pub IsSequence : RunwayRules → List FixedRecord → List TargetRecord → RunwayPlanRecord → Type 0
+IsSequence r fixed targets plan = (placing : Placing) × IsSequenceBy placing r fixed targets plan

@@ -19,14 +19,14 @@ pub record SlotRecord : Type 0 where
   pub mark : Mark
   pub delay : Option ℕ
 
--- off-block or airborne
-abbrev pub has_left : Mark → Bool
-has_left Planned = false
-has_left mark = true
+-- off-block or airborne, its take-off is fixed
+abbrev pub is_fixed : Mark → Bool
+is_fixed Planned = false
+is_fixed mark = true
 
 -- a planned flight's delay, from its TOBT to its TSAT; flights that have left have none
 abbrev pub IsDelay : Option ℕ → Mark → Option ℕ → ℕ → Type 0
-IsDelay None mark tobt tsat = IsTrue (has_left mark)
+IsDelay None mark tobt tsat = IsTrue (is_fixed mark)
 IsDelay (Some delay) Planned (Some tobt) tsat = tsat ≡ tobt + delay
 IsDelay (Some delay) mark tobt tsat = ⊥
 

@@ -1,5 +1,5 @@
 //! Whether a planned flight can be sequenced.
-ghost use Rattle.std.specs.Prelude.{◌≡◌, ◌+◌, ◌<◌, ◌≤◌, true, nat_lt, max, Some, None, if◌then◌else◌};
+ghost use Rattle.std.specs.Prelude.{◌≡◌, ◌≤◌, true, IfSome};
 ghost use Rattle.std.specs.FinMap as map;
 ghost use Rattle.cdm_flight.specs.Record.{is_planned};
 
@@ -17,7 +17,8 @@ pub enum AimResult {
     Early(Rule),
 }
 
-ghost use Rattle.cdm_sequence.specs.Aims.{stand_minutes, window_from, window_to, aim_of, IsAim};
+ghost use Rattle.cdm_sequence.specs.Aims.{stand_minutes, IsAim};
+ghost use Rattle.cdm_sequence.specs.inner.Candidates.{AreCandidates};
 
 // The minutes of de-icing on the stand.
 fn minutes_on_stand(ice: Ice) -> u16
@@ -32,8 +33,8 @@ fn minutes_on_stand(ice: Ice) -> u16
 
 // The minutes of the horizon from the earliest on that keep the CTOT tolerance, if there are any.
 fn candidates(earliest: Minute, ctot: Option<Minute>) -> Option<Window>
-    ensures { result ≡ (if nat_lt (window_from earliest ctot) (window_to ctot)
-        then Some (record { from = window_from earliest ctot; to = window_to ctot }) else None) }
+    ensures minutes { AreCandidates earliest ctot result }
+    ensures reachable { IfSome result (λ window. earliest ≤ window.from) }
 {
     let (from, to) = match ctot {
         Some(ctot) => {
@@ -50,11 +51,9 @@ fn candidates(earliest: Minute, ctot: Option<Minute>) -> Option<Window>
 /// minute of the horizon is at or after its readiness and EXOT. Ctot: none of those is within the
 /// CTOT tolerance. It is ready after its TOBT and de-icing on the stand, and not before `now`
 /// (local profile).
-#[tactic(auto, unfolding(crate::specs::Aims::aim_of))]
 pub fn aim(flight: &Flight, taxi: &TaxiTable, now: Minute) -> AimResult
     requires { is_planned flight.now.status ≡ true }
-    ensures value { result ≡ aim_of flight.now (λ place runway. map.get taxi.now (place, runway)) now }
-    ensures meaning { IsAim flight.now (λ place runway. map.get taxi.now (place, runway)) now result }
+    ensures { IsAim flight.now (λ place runway. map.get taxi.now (place, runway)) now result }
 {
     let Some(key) = flight.key() else {
         return AimResult::Early(Rule::Tobt);

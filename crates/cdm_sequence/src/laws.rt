@@ -4,18 +4,23 @@ ghost use Rattle.std.specs.List.{IsDistinct};
 ghost use Rattle.cdm_flight.specs.Names.{same_name};
 ghost use Rattle.cdm_flight.specs.Record.{Record};
 ghost use Rattle.cdm_runway.specs.Rules.{RunwayRules};
-ghost use Rattle.cdm_sequence.specs.Aims.{TaxiTimes, aim_of, IsAim};
-ghost use Rattle.cdm_sequence.specs.Day.{targets_on, IsDayPlan, IsDayAllowed};
+ghost use Rattle.cdm_sequence.specs.Aims.{TaxiTimes, IsAim};
 ghost use Rattle.cdm_sequence.specs.Fixed.{FixedRecord};
 ghost use Rattle.cdm_sequence.specs.Plan.{Placing, IsPlan, IsAllowed, IsEarlier};
 ghost use Rattle.cdm_sequence.specs.Sequence.{IsSequence, flight_names};
 ghost use Rattle.cdm_sequence.specs.Slots.{RunwayPlanRecord};
 ghost use Rattle.cdm_sequence.specs.Targets.{TargetRecord};
+ghost use Rattle.cdm_sequence.specs.declared.aims.AimResult.{AimResult};
 
-/// An aim is the flight's target, with the minutes at which it may take off, or the first rule
-/// that leaves it none.
-pub fn aims_are_right()
-    ensures { (f : Record) (times : TaxiTimes) (now : ℕ) → IsAim f times now (aim_of f times now) }
+/// A planned flight could have something: its target, or the first rule that leaves it none.
+pub fn some_aim()
+    ensures { (f : Record) (times : TaxiTimes) (now : ℕ) → (aim : AimResult) × IsAim f times now aim }
+{}
+
+/// And there is only one such answer.
+pub fn one_aim()
+    ensures { (f : Record) (times : TaxiTimes) (now : ℕ) (a b : AimResult) →
+        IsAim f times now a → IsAim f times now b → a ≡ b }
 {}
 
 /// Two plans of the same flights give each flight the same.
@@ -57,31 +62,4 @@ pub fn any_order()
     ensures { (r : RunwayRules) (fixed others : List FixedRecord) (targets reordered : List TargetRecord) (plan : RunwayPlanRecord) →
         IsPermutation fixed others → IsPermutation targets reordered →
         IsSequence r fixed targets plan → IsSequence r others reordered plan }
-{}
-
-/// Plans that were made runway by runway are one plan of the day.
-pub fn runways_make_the_day()
-    ensures { (rules : List ℕ → RunwayRules) (fixed : List ℕ → List ℕ) (targets : List TargetRecord) (each : List ℕ → Placing) →
-        ((runway : List ℕ) → IsPlan (rules runway) (fixed runway) (targets_on runway targets) (each runway)) →
-        IsDayPlan rules fixed targets (λ f. each f.runway f) }
-{}
-
-/// Two plans of one day give each flight the same.
-pub fn one_plan_of_a_day()
-    ensures { (rules : List ℕ → RunwayRules) (fixed : List ℕ → List ℕ) (targets : List TargetRecord) (p q : Placing) →
-        IsDayPlan rules fixed targets p → IsDayPlan rules fixed targets q →
-        (f : TargetRecord) → Contains targets f → p f ≡ q f }
-{}
-
-/// A day's plan of flights with names of their own is allowed.
-pub fn plans_of_a_day_are_allowed()
-    ensures { (rules : List ℕ → RunwayRules) (fixed : List ℕ → List ℕ) (targets : List TargetRecord) (p : Placing) →
-        IsDistinct same_name (map (λ f. f.key.name) targets) →
-        IsDayPlan rules fixed targets p → IsDayAllowed rules fixed targets p }
-{}
-
-/// No allowed placing of a day is earlier than its plan.
-pub fn none_is_earlier_in_a_day()
-    ensures { (rules : List ℕ → RunwayRules) (fixed : List ℕ → List ℕ) (targets : List TargetRecord) (p q : Placing) →
-        IsDayPlan rules fixed targets p → IsDayAllowed rules fixed targets q → IsEarlier targets q p → ⊥ }
 {}

@@ -16,9 +16,8 @@ mod turns;
 pub use aims::{AimResult, aim};
 pub use fixed::{Fixed, fixed_of};
 pub use laws::{
-    aims_are_right, any_order, none_is_earlier, none_is_earlier_in_a_day, one_is_earlier, one_plan,
-    one_plan_of_a_day, one_sequence, plans_are_allowed, plans_of_a_day_are_allowed,
-    runways_make_the_day,
+    any_order, none_is_earlier, one_aim, one_is_earlier, one_plan, one_sequence, plans_are_allowed,
+    some_aim,
 };
 pub use plan::{Plan, RunwayPlan};
 pub use rule::Rule;

@@ -4,9 +4,9 @@ ghost use Rattle.std.specs.List.{filter_map, IsDistinct};
 ghost use Rattle.cdm_flight.specs.Names.{same_name};
 ghost use Rattle.cdm_sequence.specs.Fixed.{takeoffs};
 ghost use Rattle.cdm_sequence.specs.Plan.{Placing, IsAllowed, IsEarlier};
-ghost use Rattle.cdm_sequence.specs.Sequence.{IsSequence, fixed_slot, flight_names, minute_in};
+ghost use Rattle.cdm_sequence.specs.Sequence.{IsSequence, IsSequenceBy, fixed_slot, flight_names};
 ghost use Rattle.cdm_sequence.specs.Slots.{slot_cmp, blocked_cmp};
-ghost use Rattle.cdm_sequence.specs.Turns.{slot_from, blocked_from};
+ghost use Rattle.cdm_sequence.specs.inner.Turns.{slot_from, blocked_from};
 
 use crate::decision::Decision;
 use crate::turns::{decide_all, in_order, load_of};
@@ -101,10 +101,11 @@ pub fn sequence(
     ensures each_once { IfOk result (λ plan. IsPermutation (flight_names fixed.now targets.now)
         (map (λ s. s.name) plan.slots ++ map (λ b. b.name) plan.blocked)) }
 
-    // The plan is allowed, and no allowed placing is earlier.
-    ensures allowed { IfOk result (λ plan. IsAllowed runway.now (takeoffs fixed.now) targets.now (minute_in plan.slots)) }
-    ensures first { IfOk result (λ plan. (other : Placing) → IsAllowed runway.now (takeoffs fixed.now) targets.now other →
-        IsEarlier targets.now other (minute_in plan.slots) → ⊥) }
+    // The plan's placing is allowed, and no allowed placing is earlier.
+    ensures allowed { IfOk result (λ plan. (placing : Placing) → IsSequenceBy placing runway.now fixed.now targets.now plan →
+        IsAllowed runway.now (takeoffs fixed.now) targets.now placing) }
+    ensures first { IfOk result (λ plan. (placing other : Placing) → IsSequenceBy placing runway.now fixed.now targets.now plan →
+        IsAllowed runway.now (takeoffs fixed.now) targets.now other → IsEarlier targets.now other placing → ⊥) }
 {
     let ordered = in_order(alloc, targets)?;
     let load = load_of(runway, fixed);

@@ -3,7 +3,7 @@ ghost use Rattle.std.specs.Prelude.{◌≡◌, ◌+◌, ◌<◌, ◌≤◌, ◌+
 ghost use Rattle.std.specs.Option.{option_to_list};
 ghost use Rattle.cdm_flight.specs.Order.{key_cmp};
 ghost use Rattle.cdm_sequence.specs.Fixed.{takeoffs};
-ghost use Rattle.cdm_sequence.specs.Turns.{placed_at, IsDecided, AreDecided};
+ghost use Rattle.cdm_sequence.specs.inner.Turns.{placed_at, IsDecided, AreDecided};
 
 use crate::decision::Decision;
 use crate::{Fixed, Target};

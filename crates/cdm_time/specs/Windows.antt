@@ -10,6 +10,10 @@ pub record Interval : Type 0 where
 abbrev pub has_minute : Interval → ℕ → Bool
 has_minute i m = nat_le i.from m && nat_lt m i.to
 
+-- the horizon is the minutes below this one
+abbrev pub horizon : ℕ
+horizon = 2880
+
 -- the CTOT tolerance, in minutes before the CTOT and after it
 abbrev pub tolerance_before : ℕ
 tolerance_before = 5

@@ -1,6 +1,6 @@
 -- Which runways updates touch, and the plans of the others, which stand.
-use Rattle.std.specs.Prelude.{◌≡◌, ℕ, ◌||◌, Bool, true, false, List, Contains, Option, None, Some, if◌then◌else◌, IsPermutation}
-use Rattle.std.specs.List.{AllZip, find, list_any}
+use Rattle.std.specs.Prelude.{◌≡◌, ℕ, ◌||◌, Bool, true, false, List, Contains, Option, None, Some, if◌then◌else◌}
+use Rattle.std.specs.List.{find, list_any}
 use Rattle.std.specs.Option.{option_map_or}
 use Rattle.cdm_flight.specs.declared.airport.RunwayRow.{RunwayRow}
 use Rattle.cdm_flight.specs.declared.update.Update.{Update}
@@ -9,16 +9,15 @@ use Rattle.cdm_flight.specs.Names.{same_name}
 use Rattle.cdm_flight.specs.Step.{flight_of_update}
 use Rattle.cdm_flight.specs.Journal.{flight_of, now_of, taxi_of}
 use Rattle.cdm_runway.specs.Rules.{RunwayRules}
-use Rattle.cdm_sequence.specs.Day.{targets_on}
 use Rattle.cdm_sequence.specs.Fixed.{FixedRecord}
+use Rattle.cdm_sequence.specs.Sequence.{IsSequence}
 use Rattle.cdm_sequence.specs.Slots.{PlanRecord, RunwayPlanRecord}
-use Rattle.cdm_sequence.specs.Targets.{TargetRecord}
+use Rattle.cdm_sequence.specs.declared.aims.AimResult.{AimResult}
 use Rattle.cdm_day.specs.declared.touched.Touched.{Touched}
-use Rattle.cdm_day.specs.Aimed.{IsRunwayPlan}
 use Rattle.cdm_day.specs.Airport.{IsAirport}
 use Rattle.cdm_day.specs.Day.{Day, rules_in, rules_of}
 use Rattle.cdm_day.specs.DayPlan.{IsDayPlan, records_in}
-use Rattle.cdm_day.specs.Planning.{fixed_on, is_on, targets_of}
+use Rattle.cdm_day.specs.Planning.{AreAims, fixed_on, is_on, targets_in, targets_on}
 
 -- the runway is one of those that were touched
 abbrev pub is_touched : Touched → List ℕ → Bool
@@ -37,27 +36,21 @@ is_noted d u r = option_map_or (λ f. option_map_or (is_on r) (flight_of d.airpo
 abbrev pub Adds : Touched → (List ℕ → Bool) → Touched → Type 0
 Adds before others after = (r : List ℕ) → is_touched after r ≡ false → (is_touched before r ≡ false) × (others r ≡ false)
 
--- the runway's fixed flights and targets on a day
+-- the runway's fixed flights on a day
 abbrev pub fixed_in : Day → List ℕ → List FixedRecord
 fixed_in d r = fixed_on r (records_in d.airport d.journal)
 
-abbrev pub targets_in : Day → List ℕ → List TargetRecord
-targets_in d r = targets_on r (targets_of (records_in d.airport d.journal) (taxi_of d.airport d.journal) (now_of d.journal))
+-- the plan is the runway's sequence on a day
+pub record IsPlanOn (d : Day) (r : RunwayRules) (p : RunwayPlanRecord) : Type 0 where
+  pub aims : List AimResult
+  pub aimed : AreAims (records_in d.airport d.journal) (taxi_of d.airport d.journal) (now_of d.journal) aims
+  pub sequence : IsSequence r (fixed_in d r.name) (targets_on r.name (targets_in aims)) p
 
--- the runway has one plan on both days
-pub record SameOn (d e : Day) (row : RunwayRow) : Type 0 where
-  pub rules : rules_of d.airport d.journal row ≡ rules_of e.airport e.journal row
-  pub fixed : fixed_in d row.name ≡ fixed_in e row.name
-  pub targets : targets_in d row.name ≡ targets_in e row.name
-
--- what was not touched since the first day is as it was
+-- a runway that was not touched since the first day keeps its sequence
 pub record IsSince (first : Day) (t : Touched) (d : Day) : Type 0 where
   pub airport : d.airport ≡ first.airport
-  pub same : (row : RunwayRow) → is_touched t row.name ≡ false → SameOn first d row
-
--- the plan of a runway on a day
-abbrev pub IsPlanOn : Day → RunwayRules → RunwayPlanRecord → Type 0
-IsPlanOn d r p = IsRunwayPlan r (fixed_in d r.name) (targets_in d r.name) p
+  pub keeps : (row : RunwayRow) (p : RunwayPlanRecord) → is_touched t row.name ≡ false
+      → IsPlanOn first (rules_of first.airport first.journal row) p → IsPlanOn d (rules_of d.airport d.journal row) p
 
 -- the plan that stands on a runway, if one does
 abbrev pub kept_plan : Touched → List RunwayPlanRecord → List ℕ → Option RunwayPlanRecord
@@ -67,10 +60,8 @@ kept_plan t plans r = if is_touched t r then None else find (λ p. same_name p.r
 abbrev pub AreKept : Day → Touched → List RunwayPlanRecord → Type 0
 AreKept d t plans = (r : RunwayRules) (p : RunwayPlanRecord) → Contains (rules_in d.airport d.journal) r → kept_plan t plans r.name ≡ Some p → IsPlanOn d r p
 
--- the plan is the day's, and shows the plan of each runway
+-- the plan is the day's, and no other is
 pub record IsMade (d : Day) (plan : PlanRecord) : Type 0 where
   pub airport : IsAirport d.airport
-  pub shown : IsDayPlan d plan
-  pub made : List RunwayPlanRecord
-  pub each : AllZip (IsPlanOn d) (rules_in d.airport d.journal) made
-  pub same : IsPermutation made plan.runways
+  pub of_day : IsDayPlan d plan
+  pub only : (other : PlanRecord) → IsDayPlan d other → other ≡ plan

@@ -1,11 +1,13 @@
 //! A worked morning: what each update is answered, and the journal and the whole plan after it.
+ghost use Rattle.std.specs.Prelude.{◌≡◌};
+
 use super::days::two_runways;
 use super::updates::{Short, batch_of};
 use crate::{DayState, Reply};
 use RefusalWord::{Authority, NotReady, OffBlock, Order, Unknown};
 use cdm_flight::{RefusalWord, Role, Update};
 use cdm_phase::{OpenGate, Workers};
-use cdm_sequence::{Mark, Rule, RunwayPlan};
+use cdm_sequence::{Mark, Plan, Rule, RunwayPlan};
 use std::alloc::{AllocError, Global};
 use std::process::Abort;
 use std::test::Fail;
@@ -147,14 +149,24 @@ fn assert_step<R: Abort + Threads + Sync>(
     Ok(())
 }
 
-/// The caller alone and any number of workers make one plan. A copy stays as it was while the day goes
-/// on.
+// The plans of two states of one journal are one.
+fn plans_of<'a>(day: &'a DayState, other: &'a DayState) -> (&'a Plan, &'a Plan)
+    requires { day.now ≡ other.now }
+    ensures { result.0.now ≡ result.1.now }
+{
+    (day.plan(), other.plan())
+}
+
+/// The caller alone and any number of workers make one plan. A copy has the same, and stays as it was
+/// while the day goes on.
 #[test]
 fn morning_of_two_runways(rt: HostRuntime) -> Result<(), Fail> {
     for workers in [0, 1, 2, 7, 64] {
         let mut day = two_runways(rt.alloc())?;
         assert_step(&rt, rt.alloc(), &mut day, &FIRST, workers)?;
         let copy = day.copy(rt.alloc())?;
+        let (plan, same) = plans_of(&day, &copy);
+        assert_eq!(rt; plan.blocked.as_slice(), same.blocked.as_slice());
         assert_step(&rt, rt.alloc(), &mut day, &SECOND, workers)?;
         assert_eq!(rt; copy.journal().len(), 7);
         assert_plan(&rt, &copy, &FIRST);

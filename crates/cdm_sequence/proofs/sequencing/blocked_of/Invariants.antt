@@ -1,6 +1,6 @@
 use Rattle.std.proofs.Common.{◌≡◌, take}
 use Rattle.std.specs.List.{filter_map}
-use Rattle.cdm_sequence.specs.Turns.{blocked_from}
+use Rattle.cdm_sequence.specs.inner.Turns.{blocked_from}
 use Rattle.cdm_sequence.proofs.sequencing.blocked_of.Given as goal
 
 abbrev pub invariant-loop-decision : goal.invariant-loop-decision

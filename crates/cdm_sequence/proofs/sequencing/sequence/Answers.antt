@@ -7,9 +7,9 @@ use Rattle.cdm_flight.specs.Names.{same_name}
 use Rattle.cdm_runway.specs.Load.{Load}
 use Rattle.cdm_sequence.specs.declared.decision.Decision.{Decision}
 use Rattle.cdm_sequence.specs.Fixed.{FixedRecord, takeoffs}
-use Rattle.cdm_sequence.specs.Sequence.{fixed_slot, minute_in}
+use Rattle.cdm_sequence.specs.Sequence.{fixed_slot}
 use Rattle.cdm_sequence.specs.Targets.{TargetRecord}
-use Rattle.cdm_sequence.specs.Turns.{AreDecided}
+use Rattle.cdm_sequence.specs.inner.Turns.{AreDecided}
 use Rattle.cdm_sequence.proofs.AllowedLemmas.{plan_allowed}
 use Rattle.cdm_flight.proofs.Lists.{distinct_right}
 use Rattle.cdm_sequence.proofs.PlanLemmas.{none_earlier}
@@ -61,9 +61,10 @@ pub returns-clause-each_once : goal.returns-clause-each_once
 returns-clause-each_once c = names_once c.args.runway.now c.args.fixed.now c.args.targets.now c.in_ok-decisions.decisions.items c.in_ok-plan.plan.slots c.in_ok-plan.plan.blocked (made c)
 
 pub returns-clause-allowed : goal.returns-clause-allowed
-returns-clause-allowed c = plan_allowed c.args.runway.now (takeoffs c.args.fixed.now) c.args.targets.now (minute_in c.in_ok-plan.plan.slots)
-    (distinct_right same_name (map (λ (x : FixedRecord). x.name) c.args.fixed.now) (map (λ (f : TargetRecord). f.key.name) c.args.targets.now) c.requires.names) (returns-clause-sequence c).minutes
+returns-clause-allowed c = λ placing made.
+    plan_allowed c.args.runway.now (takeoffs c.args.fixed.now) c.args.targets.now placing
+    (distinct_right same_name (map (λ (x : FixedRecord). x.name) c.args.fixed.now) (map (λ (f : TargetRecord). f.key.name) c.args.targets.now) c.requires.names) made.minutes
 
 pub returns-clause-first : goal.returns-clause-first
-returns-clause-first c = λ other allowed sooner.
-    none_earlier c.args.runway.now (takeoffs c.args.fixed.now) c.args.targets.now (minute_in c.in_ok-plan.plan.slots) other (returns-clause-sequence c).minutes allowed sooner
+returns-clause-first c = λ placing other made allowed sooner.
+    none_earlier c.args.runway.now (takeoffs c.args.fixed.now) c.args.targets.now placing other made.minutes allowed sooner

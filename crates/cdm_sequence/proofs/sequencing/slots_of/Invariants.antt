@@ -1,7 +1,7 @@
 use Rattle.std.proofs.Common.{◌≡◌, ◌++◌, map, take}
 use Rattle.std.specs.List.{filter_map}
 use Rattle.cdm_sequence.specs.Sequence.{fixed_slot}
-use Rattle.cdm_sequence.specs.Turns.{slot_from}
+use Rattle.cdm_sequence.specs.inner.Turns.{slot_from}
 use Rattle.cdm_sequence.proofs.sequencing.slots_of.Given as goal
 
 abbrev pub invariant-loop-decision : goal.invariant-loop-decision

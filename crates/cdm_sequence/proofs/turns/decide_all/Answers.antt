@@ -4,7 +4,7 @@ use Rattle.std.proofs.lemmas.Grind.{common_steps}
 use Rattle.std.proofs.lemmas.List.{length-append}
 use Rattle.cdm_runway.specs.Load.{Load}
 use Rattle.cdm_sequence.specs.declared.decision.Decision.{Decision}
-use Rattle.cdm_sequence.specs.Turns.{placed_at, IsDecided, AreDecided}
+use Rattle.cdm_sequence.specs.inner.Turns.{placed_at, IsDecided, AreDecided}
 use Rattle.cdm_sequence.proofs.TurnLemmas.{decided_push, minutes_of, at_most_one, minutes_push}
 use Rattle.cdm_sequence.proofs.turns.decide_all.Goals as goal
 

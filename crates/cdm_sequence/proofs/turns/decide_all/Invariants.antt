@@ -1,6 +1,6 @@
 use Rattle.std.proofs.Common.{◌≡◌, ◌≤◌, ◌+◌, ◌++◌, take, map, length}
 use Rattle.std.specs.List.{filter_map}
-use Rattle.cdm_sequence.specs.Turns.{placed_at, AreDecided}
+use Rattle.cdm_sequence.specs.inner.Turns.{placed_at, AreDecided}
 use Rattle.cdm_sequence.proofs.turns.decide_all.Given as goal
 
 abbrev pub invariant-loop-target : goal.invariant-loop-target
