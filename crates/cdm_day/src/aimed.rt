@@ -20,7 +20,7 @@ pub(crate) struct Aimed {
 }
 
 /// The flights on their stands, in order.
-pub(crate) fn planned<'a>(
+pub(crate) fn planned_flights<'a>(
     alloc: Global,
     flights: &[&'a Flight],
 ) -> Result<Vec<&'a Flight>, AllocError>
@@ -58,7 +58,7 @@ fn target_on(aimed: &Aimed, runway: RunwayName) -> Option<Target>
 }
 
 /// The targets of a runway, in order.
-pub(crate) fn targets(
+pub(crate) fn targets_on_runway(
     alloc: Global,
     runway: RunwayName,
     aims: &[Aimed],

@@ -55,7 +55,7 @@ impl Kept<'_> {
     }
 
     /// The plans that stand, in the order of the runways.
-    pub(crate) fn copies(
+    pub(crate) fn copied_plans(
         &self,
         alloc: Global,
         runways: &[&Runway],
@@ -65,8 +65,8 @@ impl Kept<'_> {
         let mut copies = Vec::new(alloc);
         for runway in runways {
             if let Some(plan) = self.plan_on(runway.name()) {
-                let copy = plan.copy(alloc)?;
-                copies.push(copy)?;
+                let copied = plan.copy(alloc)?;
+                copies.push(copied)?;
             }
         }
         Ok(copies)

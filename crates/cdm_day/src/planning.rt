@@ -11,7 +11,7 @@ ghost use Rattle.cdm_day.specs.Sound.{IsSound};
 ghost use Rattle.cdm_day.specs.Aimed.{CanSequence, early_among, target_for};
 ghost use Rattle.cdm_day.specs.inner.Kept.{AreKept, IsMade};
 
-use crate::aimed::{Aimed, blocked, planned, targets};
+use crate::aimed::{Aimed, blocked, planned_flights, targets_on_runway};
 use crate::jobs::{RunwayJob, TargetJob};
 use crate::kept::Kept;
 use crate::records::Records;
@@ -34,7 +34,7 @@ fn has_runway(flight: &Flight, runway: RunwayName) -> bool
 }
 
 // The flights that have left their stands for a runway, in order.
-fn fixed(alloc: Global, runway: RunwayName, flights: &[&Flight]) -> Result<Vec<Fixed>, AllocError>
+fn fixed_on_runway(alloc: Global, runway: RunwayName, flights: &[&Flight]) -> Result<Vec<Fixed>, AllocError>
     ensures { IfOk result (λ v. v.items ≡ filter_map (λ f. fixed_flight f.now) (filter (λ f. is_on runway f.now) flights.now)) }
 {
     flights
@@ -55,8 +55,8 @@ pub(crate) fn runway_plan(
     ensures { IfOk result (λ p. IsSequence runway.now (fixed_on runway.now.name (map (λ f. f.now) flights.now))
         (filter_map (target_for runway.now.name) aims.now) p) }
 {
-    let fixed = fixed(alloc, runway.name(), flights)?;
-    let targets = targets(alloc, runway.name(), aims)?;
+    let fixed = fixed_on_runway(alloc, runway.name(), flights)?;
+    let targets = targets_on_runway(alloc, runway.name(), aims)?;
     let plan = sequence(alloc, runway, &fixed, &targets)?;
     Ok(plan)
 }
@@ -168,7 +168,7 @@ pub(crate) fn plan_keeping<D: Records>(
     ensures { IfOk result (λ plan. IsMade (D.day records.now) plan) }
 {
     let flights = all_flights(alloc, records)?;
-    let planned = planned(alloc, &flights)?;
+    let planned = planned_flights(alloc, &flights)?;
     let job = TargetJob {
         taxi: records.taxi(),
         clock: records.now(),
@@ -181,7 +181,7 @@ pub(crate) fn plan_keeping<D: Records>(
         aims: &aims,
     };
     let made = run_here(alloc, &job, &left)?;
-    let copies = kept.copies(alloc, &runways)?;
+    let copies = kept.copied_plans(alloc, &runways)?;
     let plan = joined(alloc, &aims, copies, made, records.now())?;
     Ok(plan)
 }

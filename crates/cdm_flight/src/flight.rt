@@ -134,7 +134,7 @@ impl Flight {
                 let (Some(_), Some(exot)) = (self.runway, exot) else {
                     return Err(RefusalWord::NotReady);
                 };
-                if aobt.get() + exot > 2879 {
+                if aobt.get() + exot > Minute::LAST.get() {
                     return Err(RefusalWord::NotReady);
                 }
                 next.status = Status::OffBlock { aobt, exot };

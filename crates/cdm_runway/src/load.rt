@@ -3,14 +3,14 @@ ghost use Rattle.std.specs.Prelude.{◌≡◌, ℕ, ◌<◌, ◌≤◌, ◌/◌,
 
 use crate::Runway;
 use cdm_flight::CellLength;
-use cdm_time::{Minute, Window};
+use cdm_time::{HORIZON_MINUTES, Minute, Window};
 use std::marker::Model;
 
 /// How many flights a day has at most (local profile).
 pub const MOST_FLIGHTS: usize = 2000;
 
 // A runway has at most this many cells: one for each minute of the horizon.
-const MOST_CELLS: usize = 2880;
+const MOST_CELLS: usize = HORIZON_MINUTES as usize;
 
 /// Why a window has no minute for a flight.
 #[derive(Clone, Copy, PartialEq, Eq, Debug)]
@@ -86,7 +86,7 @@ impl RunwayLoad {
     /// Takes one more minute of the runway.
     pub fn take(&mut self, runway: &Runway, minute: Minute)
         requires cell { self.old.cell ≡ runway.now.cell }
-        requires room { length self.old.taken < MOST_FLIGHTS }
+        requires room { length self.old.taken < 2000 }
         ensures { self.new ≡ record self.old { taken = self.old.taken ++ minute ∷ [] } }
     {
         let cell = (minute.get() / runway.cell().get()) as usize;

@@ -4,6 +4,9 @@ ghost use Rattle.std.specs.Prelude.{◌≡◌, ℕ, ◌≤◌, nat_le, Some, Non
 use crate::minute::Minute;
 use std::marker::Model;
 
+/// How many minutes the horizon has: two UTC days (local profile).
+pub const HORIZON_MINUTES: u16 = 2880;
+
 /// The minute at which a window ends, itself not in the window: 0 to 2880, the horizon's end.
 #[derive(Clone, Copy, PartialEq, Eq, PartialOrd, Ord, Hash, Debug)]
 pub struct Bound {
@@ -22,13 +25,15 @@ impl Model for Bound {
 
 impl Bound {
     /// The horizon's end, 24:00 UTC of the day after the airport's day.
-    pub const END: Bound = Bound { number: 2880 };
+    pub const END: Bound = Bound {
+        number: HORIZON_MINUTES,
+    };
 
     /// The bound of a number, or `None` where it lies past the horizon's end.
     pub fn new(number: u16) -> Option<Bound>
         ensures { result ≡ (if nat_le number 2880 then Some number else None) }
     {
-        if number <= 2880 {
+        if number <= HORIZON_MINUTES {
             Some(Bound { number })
         } else {
             None

@@ -12,7 +12,7 @@ mod minute;
 mod stamp;
 mod window;
 
-pub use bound::Bound;
+pub use bound::{Bound, HORIZON_MINUTES};
 pub use calendar::CalendarDate;
 pub use day::{Day, TimeFault};
 pub use digits::number_of;

@@ -1,6 +1,7 @@
 //! A minute of the horizon.
 ghost use Rattle.std.specs.Prelude.{◌≡◌, ℕ, ◌<◌, nat_lt, Some, None, if◌then◌else◌};
 
+use crate::bound::HORIZON_MINUTES;
 use std::marker::Model;
 
 /// A minute of the horizon: whole minutes after 00:00 UTC of the airport's day, 0 to 2879.
@@ -24,7 +25,9 @@ impl Minute {
     pub const FIRST: Minute = Minute { number: 0 };
 
     /// The horizon's last minute, 23:59 UTC of the next day.
-    pub const LAST: Minute = Minute { number: 2879 };
+    pub const LAST: Minute = Minute {
+        number: HORIZON_MINUTES - 1,
+    };
 
     /// The minute of a number, or `None` where the horizon has no such minute.
     pub fn new(number: u16) -> Option<Minute>

@@ -6,8 +6,8 @@ use Rattle.std.proofs.lemmas.List.Elements.{filter_map-append}
 use Rattle.cdm_runway.specs.Rules.{RunwayRules}
 use Rattle.cdm_sequence.specs.Slots.{RunwayPlanRecord}
 use Rattle.cdm_day.specs.inner.Kept.{kept_plan}
-use Rattle.cdm_day.proofs.kept.Kept.copies.Goals.{in-Some+in_ok-copy+in_ok-push, in_default}
-use Rattle.cdm_day.proofs.kept.Kept.copies.Goals as goal
+use Rattle.cdm_day.proofs.kept.Kept.copied_plans.Goals.{in-Some+in_ok-copied+in_ok-push, in_default}
+use Rattle.cdm_day.proofs.kept.Kept.copied_plans.Goals as goal
 
 pub loop-runway-preserved : goal.loop-runway-preserved
 loop-runway-preserved c =
@@ -19,8 +19,8 @@ loop-runway-preserved c =
     let next = ap (filter_map stands) (take_more rs k r inside ∙ ap (λ (x : Bor RunwayRules). take k rs ++ x ∷ []) (sym c.runway-item.is)) ∙ filter_map-append stands (take k rs) (r ∷ []) in
     let found = ap (kept_plan c.args.self.now.touched.now c.args.self.now.plans.now) (sym c.name.ensures) ∙ sym c.plan_on.ensures in
     elim c.match-plan_on.branch [
-      | in-Some+in_ok-copy+in_ok-push w ↦
-          ap (λ v. v.items) w.copies-is ∙ (w.in_ok-push.ensures.items ∙ ((λ i. c.loop-runway.invariant i ++ w.in_ok-copy.ensures i ∷ [])
+      | in-Some+in_ok-copied+in_ok-push w ↦
+          ap (λ v. v.items) w.copies-is ∙ (w.in_ok-push.ensures.items ∙ ((λ i. c.loop-runway.invariant i ++ w.in_ok-copied.ensures i ∷ [])
           ∙ sym (next ∙ ap (λ o. filter_map stands (take k rs) ++ cons_option o []) (found ∙ ap option_copied w.in-Some.is))))
       | in_default w ↦
           ap (λ v. v.items) w.copies-is ∙ (c.loop-runway.invariant ∙ sym (next ∙ (ap (λ o. filter_map stands (take k rs) ++ cons_option o []) (found ∙ ap option_copied w.in_default.is) ∙ append-nil (filter_map stands (take k rs)))))
