@@ -1,4 +1,4 @@
-// The list that pieces make.
+//! The list that pieces make.
 ghost use Rattle.std.specs.Prelude.{◌≡◌, ◌*◌, ◌<◌, All, IfOk, IfSome, IsNone, length, vec_len};
 ghost use Rattle.std.specs.List.{AllZip};
 ghost use Rattle.cdm_phase.specs.Piece.{items_of, IsPieceOf};

@@ -1,4 +1,4 @@
-// What a worker passes before each piece.
+//! What a worker passes before each piece.
 use crate::job::PhaseName;
 
 /// Where a phase can be watched or held. The worker that is going to run a piece calls `pass` once,

@@ -1,4 +1,4 @@
-// What a phase runs.
+//! What a phase runs.
 ghost use Rattle.std.specs.Prelude.{◌≡◌, IfOk};
 ghost use Rattle.cdm_phase.specs.declared.job.PhaseName.{PhaseName};
 

@@ -5,7 +5,6 @@
 
 mod assembly;
 mod gate;
-mod here;
 mod job;
 mod phase;
 mod piece;
@@ -13,9 +12,8 @@ mod workers;
 
 pub use assembly::assemble;
 pub use gate::{Gate, OpenGate};
-pub use here::run_here;
 pub use job::{Job, PhaseName};
-pub use phase::run_phase;
+pub use phase::{run_here, run_phase};
 pub use piece::Piece;
 pub use workers::{MOST_WORKERS, Workers};
 

@@ -1,4 +1,4 @@
-// A phase's workers, each a thread that claims pieces from one counter.
+//! A phase: its workers, each a thread that claims pieces from one counter, or the caller alone.
 ghost use Rattle.std.specs.Prelude.{◌≡◌, ◌+◌, ◌*◌, ◌<◌, ◌≤◌, All, IfOk, length};
 ghost use Rattle.std.specs.List.{AllZip};
 ghost use Rattle.std.specs.Thread.{IsSync, IsSend};
@@ -52,6 +52,23 @@ pub fn run_phase<R: Threads + Sync, J: Job, G: Gate>(
     };
     let pieces = run_workers(rt, alloc, &work, 0..count)?;
     assemble(alloc, job, items, grain, pieces)
+}
+
+/// The list of the job's values at all the items, in their order. The caller runs them one after
+/// another, and no gate is passed. The only error is want of memory, in the job or here.
+pub fn run_here<J: Job>(
+    alloc: Global,
+    job: &J,
+    items: &[J::Item],
+) -> Result<Vec<J::Out>, AllocError>
+    requires { All (J.can_run job.now) items.now }
+    ensures { IfOk result (λ outs. AllZip (J.gives job.now) items.now outs.items) }
+{
+    let mut outs = Vec::new(alloc);
+    for item in items {
+        outs.push(job.run(alloc, item)?)?;
+    }
+    Ok(outs)
 }
 
 // What the workers of a phase share. `next` is the number of the next piece to be claimed. No proof

@@ -1,10 +1,10 @@
-// Numbered parts of a phase's answer.
+//! Numbered parts of a phase's answer.
 ghost use Rattle.std.specs.Prelude.{◌≡◌, ℕ, ◌*◌, ◌<◌, ◌≤◌, All, IfOk, length};
 ghost use Rattle.std.specs.List.{AllZip};
 ghost use Rattle.cdm_phase.specs.Piece.{items_of};
 
-use crate::here::run_here;
 use crate::job::Job;
+use crate::phase::run_here;
 use std::alloc::{AllocError, Global};
 
 /// The values of one piece of a list of items. Piece n has the items from `n * grain` on, at most

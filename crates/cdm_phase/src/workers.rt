@@ -1,4 +1,4 @@
-// How many workers a phase has.
+//! How many workers a phase has.
 ghost use Rattle.std.specs.Prelude.{◌≡◌, ℕ, ◌≤◌, ◌↔◌, IsSome, IfSome};
 
 use std::marker::Model;

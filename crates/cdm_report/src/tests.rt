@@ -82,7 +82,7 @@ fn by_name(flights: Vec<BlockedFlight>) -> Vec<BlockedFlight>
 }
 
 // A plan of runway 27L alone.
-fn plan(alloc: Global, now: u16, slots: &[Row], blocked: &[(&str, Rule)]) -> Result<Plan, Fail> {
+fn plan_of_27l(alloc: Global, now: u16, slots: &[Row], blocked: &[(&str, Rule)]) -> Result<Plan, Fail> {
     let slots = slots_of(alloc, slots)?;
     let blocked = by_name(blocked_of(alloc, blocked)?);
     if slots.len() > 1000 || blocked.len() > 1000 || !are_in_order(&slots) {
@@ -136,7 +136,7 @@ REFUSED 1000 FULL
 #[test]
 fn report_and_indicators(rt: HostRuntime) -> Result<(), Fail> {
     let day = Day::of_text(b"2025-03-10").map_err(|_| "no day")?;
-    let plan = plan(rt.alloc(), 2879, &SLOTS, &BLOCKED)?;
+    let plan = plan_of_27l(rt.alloc(), 2879, &SLOTS, &BLOCKED)?;
     let refused = [(7, RefusalWord::Exists), (1000, RefusalWord::Full)];
     let text = report_text(rt.alloc(), &day, &plan, &refused)?;
     assert_eq!(rt; text.as_slice(), REPORT.as_bytes());
@@ -158,7 +158,7 @@ fn report_and_indicators(rt: HostRuntime) -> Result<(), Fail> {
 #[test]
 fn report_of_a_runway_without_flights(rt: HostRuntime) -> Result<(), Fail> {
     let day = Day::of_text(b"2025-03-10").map_err(|_| "no day")?;
-    let plan = plan(rt.alloc(), 0, &[], &[])?;
+    let plan = plan_of_27l(rt.alloc(), 0, &[], &[])?;
     let expected = b"DAY 2025-03-10 NOW 100000
 RUNWAY 27L
 TOTAL PLACED 0 DELAY 0 MAX 0 LATE 0 BLOCKED 0

@@ -6,19 +6,19 @@ use cdm_time::{Bound, Minute, Window};
 use std::alloc::Global;
 use std::test::Fail;
 
-fn minute(number: u16) -> Result<Minute, Fail> {
+fn minute_of(number: u16) -> Result<Minute, Fail> {
     Ok(Minute::new(number).ok_or("no minute")?)
 }
 
-fn bound(number: u16) -> Result<Bound, Fail> {
+fn bound_of(number: u16) -> Result<Bound, Fail> {
     Ok(Bound::new(number).ok_or("no bound")?)
 }
 
-fn window(from: u16, to: u16) -> Result<Window, Fail> {
-    Ok(Window::new(minute(from)?, bound(to)?).ok_or("no window")?)
+fn window_of(from: u16, to: u16) -> Result<Window, Fail> {
+    Ok(Window::new(minute_of(from)?, bound_of(to)?).ok_or("no window")?)
 }
 
-fn cap(number: u16) -> Result<Cap, Fail> {
+fn cap_of(number: u16) -> Result<Cap, Fail> {
     Ok(Cap::new(number).ok_or("no capacity")?)
 }
 
@@ -26,22 +26,24 @@ fn cap(number: u16) -> Result<Cap, Fail> {
 fn two_in_ten(alloc: Global) -> Result<Runway, Fail> {
     let name = RunwayName::new(b"27L").ok_or("no name")?;
     let cell = CellLength::new(10).ok_or("no cell length")?;
-    Ok(Runway::new(alloc, name, cell, cap(2)?)?)
+    Ok(Runway::new(alloc, name, cell, cap_of(2)?)?)
 }
 
 #[test]
 fn a_full_cell_and_a_closed_one(rt: HostRuntime) -> Result<(), Fail> {
     let mut runway = two_in_ten(rt.alloc())?;
     let mut load = RunwayLoad::empty(&runway);
-    load.take(&runway, minute(375)?);
-    assert!(rt; load.earliest(&runway, window(375, 380)?) == Ok(minute(375)?));
-    load.take(&runway, minute(375)?);
-    assert!(rt; load.earliest(&runway, window(375, 390)?) == Ok(minute(380)?));
-    assert!(rt; load.earliest(&runway, window(375, 380)?) == Err(Blocked::Rate));
-    runway.close(minute(370)?, bound(380)?)?;
-    assert!(rt; load.earliest(&runway, window(375, 380)?) == Err(Blocked::Closure));
-    assert!(rt; load.earliest(&runway, window(375, 390)?) == Ok(minute(380)?));
-    assert!(rt; runway.rate(minute(365)?, bound(380)?, cap(2)?) == Err(RunwayFault::Order));
+    load.take(&runway, minute_of(375)?);
+    assert!(rt; load.earliest(&runway, window_of(375, 380)?) == Ok(minute_of(375)?));
+    load.take(&runway, minute_of(375)?);
+    assert!(rt; load.earliest(&runway, window_of(375, 390)?) == Ok(minute_of(380)?));
+    assert!(rt; load.earliest(&runway, window_of(375, 380)?) == Err(Blocked::Rate));
+    runway.close(minute_of(370)?, bound_of(380)?)?;
+    assert!(rt; load.earliest(&runway, window_of(375, 380)?) == Err(Blocked::Closure));
+    assert!(rt; load.earliest(&runway, window_of(375, 390)?) == Ok(minute_of(380)?));
+    assert!(rt;
+        runway.rate(minute_of(365)?, bound_of(380)?, cap_of(2)?) == Err(RunwayFault::Order)
+    );
     Ok(())
 }
 
@@ -111,15 +113,15 @@ fn change(runway: &mut Runway, tables: &mut Tables, numbers: &mut Numbers) -> Re
     match numbers.below(4) {
         0 => {
             let number = numbers.below(4);
-            runway.rate(minute(from)?, bound(to)?, cap(number)?)?;
+            runway.rate(minute_of(from)?, bound_of(to)?, cap_of(number)?)?;
             fill(&mut tables.caps, from, to, number);
         }
         1 => {
-            runway.reopen(minute(early)?, bound(late)?)?;
+            runway.reopen(minute_of(early)?, bound_of(late)?)?;
             fill(&mut tables.closed, early, late, false);
         }
         _ => {
-            runway.close(minute(early)?, bound(late)?)?;
+            runway.close(minute_of(early)?, bound_of(late)?)?;
             fill(&mut tables.closed, early, late, true);
         }
     }
@@ -129,10 +131,10 @@ fn change(runway: &mut Runway, tables: &mut Tables, numbers: &mut Numbers) -> Re
 // Whether the runway, with two flights at minute 375, answers as the tables do.
 fn agree(runway: &Runway, tables: &Tables) -> Result<bool, Fail> {
     let mut load = RunwayLoad::empty(runway);
-    load.take(runway, minute(375)?);
-    load.take(runway, minute(375)?);
+    load.take(runway, minute_of(375)?);
+    load.take(runway, minute_of(375)?);
     for number in 0..2880 {
-        let minute = minute(number)?;
+        let minute = minute_of(number)?;
         let place = number as usize;
         if runway.cap_at(minute).get() != tables.caps[place]
             || runway.closed(minute) != tables.closed[place]
@@ -140,7 +142,7 @@ fn agree(runway: &Runway, tables: &Tables) -> Result<bool, Fail> {
             return Ok(false);
         }
         if number % 30 == 5 {
-            let window = window(number, (number + 70).min(2880))?;
+            let window = window_of(number, (number + 70).min(2880))?;
             if load.earliest(runway, window) != tables.earliest(window) {
                 return Ok(false);
             }
@@ -163,8 +165,8 @@ fn intervals_agree_with_tables(rt: HostRuntime) -> Result<(), Fail> {
         change(&mut runway, &mut tables, &mut numbers)?;
         assert!(rt; agree(&runway, &tables)?, "after change {number}");
     }
-    let copy = runway.copy(rt.alloc())?;
-    assert!(rt; copy.name() == runway.name() && copy.cell() == runway.cell());
-    assert!(rt; agree(&copy, &tables)?);
+    let copied = runway.copy(rt.alloc())?;
+    assert!(rt; copied.name() == runway.name() && copied.cell() == runway.cell());
+    assert!(rt; agree(&copied, &tables)?);
     Ok(())
 }

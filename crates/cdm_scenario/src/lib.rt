@@ -1,7 +1,7 @@
 //! What-if questions: scenarios, each a name and further updates, and what becomes of a day by them.
 #![tactic(auto)]
 
-mod answering;
+mod answer;
 mod answers;
 mod changes;
 mod name;
@@ -9,7 +9,7 @@ mod outcome;
 mod overlay;
 mod scenario;
 
-pub use answering::answer;
+pub use answer::answer;
 pub use answers::answer_all;
 pub use name::ScenarioName;
 pub use outcome::Outcome;

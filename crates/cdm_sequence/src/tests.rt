@@ -377,10 +377,10 @@ fn copy_of_a_plan(rt: HostRuntime) -> Result<(), Fail> {
         runways: Listed::new(Vec::new(rt.alloc())),
         blocked: Listed::new(blocked),
     };
-    let copy = plan.copy(rt.alloc())?;
-    assert_eq!(rt; copy.now, plan.now);
-    assert_eq!(rt; copy.blocked.as_slice(), plan.blocked.as_slice());
-    assert!(rt; copy.runways.is_empty());
+    let copied = plan.copy(rt.alloc())?;
+    assert_eq!(rt; copied.now, plan.now);
+    assert_eq!(rt; copied.blocked.as_slice(), plan.blocked.as_slice());
+    assert!(rt; copied.runways.is_empty());
     Ok(())
 }
 

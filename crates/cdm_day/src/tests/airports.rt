@@ -36,11 +36,11 @@ fn rows_of_an_airport(rt: HostRuntime) -> Result<(), Fail> {
         assert_eq!(rt; found, Some(answer), "{stand} {runway}");
     }
     assert_eq!(rt; airport.runways().len(), 8);
-    let copy = airport.copy(rt.alloc())?;
-    assert_eq!(rt; copy.runways(), airport.runways());
-    assert_eq!(rt; taxi_time(&copy, "01"), Some(15));
-    assert_eq!(rt; taxi_time(&copy, "02"), None);
-    let day = day_of(rt.alloc(), copy)?;
+    let copied = airport.copy(rt.alloc())?;
+    assert_eq!(rt; copied.runways(), airport.runways());
+    assert_eq!(rt; taxi_time(&copied, "01"), Some(15));
+    assert_eq!(rt; taxi_time(&copied, "02"), None);
+    let day = day_of(rt.alloc(), copied)?;
     assert_eq!(rt; day.airport().runways(), airport.runways());
     assert_eq!(rt; day.day().date_text(), *b"2025-03-10");
     assert!(rt; day.journal().is_empty());

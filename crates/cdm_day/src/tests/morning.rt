@@ -164,12 +164,12 @@ fn morning_of_two_runways(rt: HostRuntime) -> Result<(), Fail> {
     for workers in [0, 1, 2, 7, 64] {
         let mut day = two_runways(rt.alloc())?;
         assert_step(&rt, rt.alloc(), &mut day, &FIRST, workers)?;
-        let copy = day.copy(rt.alloc())?;
-        let (plan, same) = plans_of(&day, &copy);
+        let copied = day.copy(rt.alloc())?;
+        let (plan, same) = plans_of(&day, &copied);
         assert_eq!(rt; plan.blocked.as_slice(), same.blocked.as_slice());
         assert_step(&rt, rt.alloc(), &mut day, &SECOND, workers)?;
-        assert_eq!(rt; copy.journal().len(), 7);
-        assert_plan(&rt, &copy, &FIRST);
+        assert_eq!(rt; copied.journal().len(), 7);
+        assert_plan(&rt, &copied, &FIRST);
     }
     Ok(())
 }

@@ -185,7 +185,7 @@ fn touched_runways_are_the_pieces(rt: HostRuntime) -> Result<(), Fail> {
 fn copy_stays(rt: HostRuntime) -> Result<(), Fail> {
     let mut day = two_runways(rt.alloc())?;
     day.apply(rt.alloc(), &batch_of(rt.alloc(), &ON_TWO_RUNWAYS)?)?;
-    let copy = day.copy(rt.alloc())?;
+    let copied = day.copy(rt.alloc())?;
     for number in 0..100 {
         let updates = [
             ("TOBT", "AB1", "27L", 400 + number, None),
@@ -200,7 +200,7 @@ fn copy_stays(rt: HostRuntime) -> Result<(), Fail> {
         day.apply(rt.alloc(), &batch_of(rt.alloc(), &updates)?)?;
     }
     assert_eq!(rt; day.journal().len(), 206);
-    assert_eq!(rt; copy.journal().len(), 6);
-    assert_slots(&rt, &copy, &APART);
+    assert_eq!(rt; copied.journal().len(), 6);
+    assert_slots(&rt, &copied, &APART);
     Ok(())
 }

@@ -60,7 +60,7 @@ fn scenario(alloc: Global, name: &str, updates: &[Option<Update>]) -> Result<Sce
     Ok(scenario)
 }
 
-fn scenarios(alloc: Global) -> Result<Vec<Scenario>, Fail> {
+fn four_scenarios(alloc: Global) -> Result<Vec<Scenario>, Fail> {
     let mut scenarios = Vec::new(alloc);
     scenarios.push(scenario(alloc, "SHUT", &[closed()])?)?;
     scenarios.push(scenario(alloc, "SHUT2", &[closed()])?)?;
@@ -89,7 +89,7 @@ fn a_closure_is_laid_over_a_day(rt: HostRuntime) -> Result<(), Fail> {
 #[test]
 fn scenarios_are_answered_side_by_side(rt: HostRuntime) -> Result<(), Fail> {
     let base = full_cell(rt.alloc())?;
-    let scenarios = scenarios(rt.alloc())?;
+    let scenarios = four_scenarios(rt.alloc())?;
     assert_eq!(rt; scenarios.len(), 4);
     for (count, turns) in [(1, 1_000), (2, 1_000_000), (7, 1_000_000), (64, 1_000_000)] {
         let workers = Workers::new(count).ok_or("no workers")?;

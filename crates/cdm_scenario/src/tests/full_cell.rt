@@ -8,7 +8,7 @@ use std::alloc::Global;
 use std::test::Fail;
 
 /// The runway's name.
-pub fn runway() -> Option<RunwayName> {
+pub fn runway_27l() -> Option<RunwayName> {
     RunwayName::new(b"27L")
 }
 
@@ -28,7 +28,7 @@ pub fn priority(flight: &str, priority: u16) -> Option<Update> {
 
 /// That the runway is closed from 06:10 to 06:30.
 pub fn closed() -> Option<Update> {
-    let runway = runway()?;
+    let runway = runway_27l()?;
     let from = Minute::new(370)?;
     let to = Bound::new(390)?;
     Some(Update::Close { runway, from, to })
@@ -38,7 +38,7 @@ pub fn closed() -> Option<Update> {
 fn planned(name: &str) -> Option<[(Role, Update); 3]> {
     let flight = FlightName::new(name.as_bytes())?;
     let priority = Priority::new(5)?;
-    let runway = runway()?;
+    let runway = runway_27l()?;
     Some([
         (Role::AirportOperator, Update::Flt { flight, priority }),
         (Role::AirTrafficControl, Update::Rwy { flight, runway }),
@@ -49,7 +49,7 @@ fn planned(name: &str) -> Option<[(Role, Update); 3]> {
 /// The day after the updates that plan AB1, AB2 and AB3 for 06:00.
 pub fn full_cell(alloc: Global) -> Result<DayState, Fail> {
     let day = Day::of_text(b"2025-03-10").map_err(|_| "no day")?;
-    let runway = runway().ok_or("no runway")?;
+    let runway = runway_27l().ok_or("no runway")?;
     let cell = CellLength::new(10).ok_or("no cell")?;
     let cap = Cap::new(2).ok_or("no capacity")?;
     let minutes = TaxiMinutes::new(15).ok_or("no minutes")?;

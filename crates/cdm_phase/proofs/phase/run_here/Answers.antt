@@ -1,6 +1,6 @@
 use Rattle.std.proofs.Common.{arith}
 use Rattle.cdm_phase.proofs.Values.{AllZip-step}
-use Rattle.cdm_phase.proofs.here.run_here.Goals as goal
+use Rattle.cdm_phase.proofs.phase.run_here.Goals as goal
 
 pub loop-item-preserved : goal.loop-item-preserved
 loop-item-preserved g c =

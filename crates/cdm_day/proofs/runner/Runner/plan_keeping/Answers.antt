@@ -10,7 +10,7 @@ use Rattle.cdm_day.specs.DayPlan.{records_in}
 use Rattle.cdm_day.specs.Planning.{HasParts, planned_of}
 use Rattle.cdm_day.specs.inner.Kept.{kept_plan}
 use Rattle.cdm_day.proofs.MadeLemmas.{aims_are, all_planned, can_plan, together}
-use Rattle.cdm_day.proofs.crew.Crew.plan_keeping.Goals as goal
+use Rattle.cdm_day.proofs.runner.Runner.plan_keeping.Goals as goal
 
 abbrev now : Bor Record → Record
 now f = f.now
