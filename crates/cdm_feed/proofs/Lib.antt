@@ -1,5 +1,6 @@
 pub mod RecordFacts
 pub mod RefusedLemmas
+pub mod QuotedLemmas
 pub mod RunLemmas
 pub mod OutputLemmas
 pub mod ScenarioLemmas

@@ -1,6 +1,7 @@
 pub mod Device
 pub mod Input
 pub mod Records
+pub mod Quoted
 pub mod Roles
 pub mod Kinds
 pub mod Fields

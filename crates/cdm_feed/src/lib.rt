@@ -27,7 +27,7 @@ pub use device::Device;
 pub use feed::read_feed;
 pub use file::FileFault;
 pub use input::{INPUT_LIMIT, InputFault, read_input};
-pub use laws::one_text;
+pub use laws::{one_text, quoted_records_are_read_back};
 pub use output::{WriteFault, write_text};
 pub use run_error::{Input, RunError};
 pub use runs::{RunCounts, run};
