@@ -1,4 +1,4 @@
-//! The answers to scenarios, by many workers.
+//! The answers to scenarios.
 ghost use Rattle.std.specs.Prelude.{◌≡◌, ◌≤◌, IfOk, length};
 ghost use Rattle.std.specs.List.{AllZip};
 ghost use Rattle.cdm_phase.specs.declared.job.PhaseName.TheVariants.{Scenarios};
@@ -6,11 +6,30 @@ ghost use Rattle.cdm_day.specs.Sound.{IsSound};
 ghost use Rattle.cdm_scenario.specs.Outcome.{IsOutcome};
 ghost use Rattle.cdm_scenario.specs.inner.OneOutcome.{one_outcome};
 
-use crate::{Outcome, Scenario, answer};
-use cdm_day::{DayState, Records};
+use crate::{Outcome, Overlay, Scenario};
+use cdm_day::{DayState, Records, Reply, plan_of};
 use cdm_phase::{Gate, Job, PhaseName, Workers, run_phase};
+use cdm_report::indicators;
 use std::alloc::{AllocError, Global};
 use std::thread::Threads;
+
+/// The plan and the indicators of the day after all updates of the scenario, or the first of them that
+/// is refused.
+pub fn answer(alloc: Global, base: &DayState, scenario: &Scenario) -> Result<Outcome, AllocError>
+    ensures { IfOk result (λ outcome. IsOutcome base.now scenario.now.updates outcome) }
+{
+    let mut overlay = Overlay::over(alloc, base);
+    let updates = scenario.updates();
+    for (place, update) in updates.iter().enumerate() {
+        match overlay.apply(alloc, update)? {
+            Reply::Refused(word) => return Ok(Outcome::Refused(place + 1, word)),
+            Reply::Accepted => {}
+        }
+    }
+    let plan = plan_of(alloc, &overlay)?;
+    let counts = indicators(&plan);
+    Ok(Outcome::Planned(plan, counts))
+}
 
 // The answer to each scenario over the base that they share.
 #[derive(Clone, Copy)]

@@ -1,7 +1,6 @@
 //! What-if questions: scenarios, each a name and further updates, and what becomes of a day by them.
 #![tactic(auto)]
 
-mod answer;
 mod answers;
 mod changes;
 mod name;
@@ -9,8 +8,7 @@ mod outcome;
 mod overlay;
 mod scenario;
 
-pub use answer::answer;
-pub use answers::answer_all;
+pub use answers::{answer, answer_all};
 pub use name::ScenarioName;
 pub use outcome::Outcome;
 pub use overlay::Overlay;

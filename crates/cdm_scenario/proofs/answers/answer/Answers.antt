@@ -4,7 +4,7 @@ use Rattle.cdm_flight.specs.declared.update.Update.{Update}
 use Rattle.cdm_scenario.specs.Outcome.{IsOutcome}
 use Rattle.cdm_scenario.specs.declared.outcome.Outcome.TheVariants.{Planned, Refused}
 use Rattle.cdm_scenario.proofs.OutcomeLemmas.{all_taken_here, none_taken, one_more_taken, refused_here}
-use Rattle.cdm_scenario.proofs.answer.answer.Goals as goal
+use Rattle.cdm_scenario.proofs.answers.answer.Goals as goal
 
 pub loop-place-preserved : goal.loop-place-preserved
 loop-place-preserved c =
