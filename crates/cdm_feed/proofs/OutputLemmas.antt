@@ -2,7 +2,7 @@
 use Rattle.std.proofs.Common.{◌≡◌, ◌++◌, ◌∙◌, ◌||◌, ℕ, ◌+◌, Bool, true, false, List, [], ◌∷◌, Option, None, Some, Result, Ok, Err, IfOk, refl, sym, ap, subst}
 use Rattle.std.specs.Prelude.{⊤, if◌then◌else◌, is_none, unwrap_or}
 use Rattle.std.specs.Result.{result_ok}
-use Rattle.std.specs.List.{cons_option, list_any, IsDistinct}
+use Rattle.std.specs.List.{AllZip, concat, cons_option, list_any, IsDistinct}
 use Rattle.std.specs.Option.{option_map_or}
 use Rattle.std.proofs.lemmas.Cmp.{nat_list_eq_equiv}
 use Rattle.std.proofs.lemmas.List.{append-nil}
@@ -25,7 +25,12 @@ use Rattle.cdm_day.proofs.JournalFacts.{flights_in-push}
 use Rattle.cdm_feed.specs.AirportFile.{airport_after, airport_in, begun, unless, with_record}
 use Rattle.cdm_feed.specs.AirportRecords.{airport_record_of}
 use Rattle.cdm_feed.specs.Files.{after_records, go_on}
-use Rattle.cdm_feed.specs.Output.{IsOutput, IsReport, accepted_in, refusals_in, spelled_in}
+use Rattle.cdm_feed.specs.Answers.{IsAnswer}
+use Rattle.cdm_feed.specs.Output.{IsOutput, IsReport, accepted_in, day_in, refusals_in, spelled_in}
+use Rattle.cdm_feed.specs.ScenarioFile.{scenarios_in}
+use Rattle.cdm_feed.specs.inner.OneAnswer.{one_answer}
+use Rattle.cdm_scenario.specs.Scenarios.{ScenarioRecord}
+use Rattle.cdm_report.specs.Counts.{counts_of}
 use Rattle.cdm_feed.specs.Records.{records_of}
 use Rattle.cdm_feed.specs.Refused.{updates_in}
 use Rattle.cdm_report.specs.Report.{report_bytes}
@@ -145,13 +150,38 @@ own_journal : (g : AirportRows) (feed : List ℕ) → IsDistinct same_name (flig
 unfolding accepted_in
 own_journal g feed = own_flights g [] (updates_in (spelled_in g feed)) none_distinct
 
-one-report : (airport : List ℕ) (g : AirportRows) (feed x y : List ℕ) → airport_in airport ≡ Ok g → IsReport g feed x → IsReport g feed y → x ≡ y
-one-report airport g feed x y is a b =
-    let day : JournalOfDay = record { airport = g; journal = accepted_in g feed } in
-    let plans : a.plan ≡ b.plan = one_day_plan day a.plan b.plan (own_runways airport g is) (own_journal g feed) a.of_day b.of_day in
-    a.bytes ∙ ap (λ (p : PlanRecord). report_bytes g.day p (refusals_in g feed)) plans ∙ sym b.bytes
+one-answers : (R : ScenarioRecord → List ℕ → Type 0) → ((s : ScenarioRecord) (x y : List ℕ) → R s x → R s y → x ≡ y)
+    → (ss : List ScenarioRecord) (xs ys : List (List ℕ)) → AllZip R ss xs → AllZip R ss ys → xs ≡ ys
+one-answers R one [] [] [] a b = refl
+one-answers R one [] (x ∷ xs) ys a b = absurd a
+one-answers R one [] [] (y ∷ ys) a b = absurd b
+one-answers R one (s ∷ ss) [] ys a b = absurd a
+one-answers R one (s ∷ ss) (x ∷ xs) [] a b = absurd b
+one-answers R one (s ∷ ss) (x ∷ xs) (y ∷ ys) a b = λ i. one s x y a.0 b.0 i ∷ one-answers R one ss xs ys a.1 b.1 i
 
-pub one-output : (airport feed x y : List ℕ) → IsOutput airport feed x → IsOutput airport feed y → x ≡ y
-one-output airport feed x y a b =
+one-report : (airport : List ℕ) (g : AirportRows) (feed : List ℕ) (questions : List ScenarioRecord) (x y : List ℕ) → airport_in airport ≡ Ok g
+    → IsReport g feed questions x → IsReport g feed questions y → x ≡ y
+one-report airport g feed questions x y is a b =
+    let day : JournalOfDay = day_in g feed in
+    let runways = own_runways airport g is in
+    let flights = own_journal g feed in
+    let plans : a.plan ≡ b.plan = one_day_plan day a.plan b.plan runways flights a.of_day b.of_day in
+    let also : AllZip (IsAnswer day (counts_of a.plan)) questions b.answers =
+    subst (λ (p : PlanRecord). AllZip (IsAnswer day (counts_of p)) questions b.answers) (sym plans) b.of_scenarios in
+    let answers : a.answers ≡ b.answers =
+    one-answers (IsAnswer day (counts_of a.plan)) (λ s. one_answer day (counts_of a.plan) s runways flights) questions a.answers b.answers a.of_scenarios also in
+    a.bytes ∙ (λ i. report_bytes g.day (plans i) (refusals_in g feed) ++ concat (answers i)) ∙ sym b.bytes
+
+same-scenarios : (r : Result (List ScenarioRecord) (ℕ × RefusalWord)) (x y : List ScenarioRecord) → r ≡ Ok x → r ≡ Ok y → x ≡ y
+same-scenarios r x y a b =
+    let said : Result (List ScenarioRecord) (ℕ × RefusalWord) → List ScenarioRecord = λ q. unwrap_or (result_ok q) x in
+    sym (ap said a) ∙ ap said b
+
+pub one-output : (airport feed scenarios x y : List ℕ) → IsOutput airport feed scenarios x → IsOutput airport feed scenarios y → x ≡ y
+one-output airport feed scenarios x y a b =
     let same : b.rows ≡ a.rows = same-airport (airport_in airport) b.rows a.rows b.airport_file a.airport_file in
-    one-report airport a.rows feed x y a.airport_file a.report (subst (λ (g : AirportRows). IsReport g feed y) same b.report)
+    let file : scenarios_in a.rows.day scenarios ≡ Ok b.questions =
+    subst (λ (g : AirportRows). scenarios_in g.day scenarios ≡ Ok b.questions) same b.scenario_file in
+    let asked : b.questions ≡ a.questions = same-scenarios (scenarios_in a.rows.day scenarios) b.questions a.questions file a.scenario_file in
+    let report : IsReport a.rows feed b.questions y = subst (λ (g : AirportRows). IsReport g feed b.questions y) same b.report in
+    one-report airport a.rows feed a.questions x y a.airport_file a.report (subst (λ (q : List ScenarioRecord). IsReport a.rows feed q y) asked report)

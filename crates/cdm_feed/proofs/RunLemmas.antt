@@ -1,5 +1,5 @@
 -- Faults of a run.
-use Rattle.std.proofs.Common.{◌≡◌, ℕ, suc, Bool, arith, List, [], ◌∷◌, Option, None, Some, IfSome, Err, false, refl, sym, ap, subst, ◌∙◌, length}
+use Rattle.std.proofs.Common.{◌≡◌, ℕ, suc, Bool, arith, List, [], ◌∷◌, Option, None, Some, IfSome, Ok, Err, false, refl, sym, ap, subst, ◌∙◌, length}
 use Rattle.cdm_flight.specs.Accepted.{after_one, replies_to}
 use Rattle.cdm_flight.specs.Journal.{AirportRows}
 use Rattle.cdm_flight.specs.declared.role.Role.{Role}
@@ -7,9 +7,7 @@ use Rattle.cdm_flight.specs.declared.update.Update.{Update}
 use Rattle.std.proofs.lemmas.Option.{IfSome_then}
 use Rattle.std.specs.Io.KnownBytes.{Consumes}
 use Rattle.cdm_feed.specs.AirportFile.{airport_in}
-use Rattle.cdm_feed.specs.Output.{AreCounts}
-use Rattle.cdm_feed.specs.declared.runs.RunCounts.{RunCounts}
-use Rattle.cdm_feed.specs.RunFaults.{AreRead, HasNoScenario, IsAirportFile, IsBeforeWriting, IsFirstFault, IsInputFault, IsNoScenarioFile, IsRead, IsRecordFault, IsScenarioFault, IsUnfailed, Reading, is_write_fault}
+use Rattle.cdm_feed.specs.RunFaults.{AreFiles, AreRead, IsBeforeWriting, IsFaultyScenario, IsFirstFault, IsInputFault, IsRead, IsRecordFault, IsScenarioFault, IsUnfailed, Reading, is_write_fault}
 use Rattle.cdm_feed.specs.declared.run_error.Input.{Input}
 use Rattle.cdm_feed.specs.declared.run_error.Input.TheVariants.{Airport, Feed, Scenarios}
 use Rattle.cdm_feed.specs.declared.run_error.RunError.{RunError}
@@ -49,10 +47,8 @@ record_fault-first a f s airport scenarios (error.Airport number word) read as_a
     (read, IfSome_then a.before as_airport (λ bytes is. sym (ap airport_in is) ∙ fault))
 record_fault-first a f s airport scenarios (error.Scenario number word) read as_airport as_scenarios fault = (
   read,
-  IfSome_then a.before as_airport (λ bytes is. subst IsAirportFile is fault.0),
-  IfSome_then s.before as_scenarios (λ bytes is. subst IsNoScenarioFile is fault.1.0),
-  fault.1.1,
-  fault.1.2,
+  IfSome_then a.before as_airport (λ x is. IfSome_then s.before as_scenarios (λ y also.
+      subst (λ (bytes : List ℕ). IsFaultyScenario bytes y number word) is (subst (λ (bytes : List ℕ). IsFaultyScenario airport bytes number word) also fault))),
 )
 record_fault-first a f s airport scenarios error.Memory read as_airport as_scenarios fault =
     (read.airport_read.unfailed, read.feed_read.unfailed, read.scenarios_read.unfailed)
@@ -93,29 +89,29 @@ scenarios_fault-first a f s error.Write read feed_read fault = absurd fault
 -- where the inputs were read and have good records, a failed write is the first fault
 pub write_fault-first : (a f s : Reading) (airport scenarios : List ℕ) → AreRead a f s
     → IfSome a.before (λ bytes. airport ≡ bytes) → IfSome s.before (λ bytes. scenarios ≡ bytes)
-    → IsAirportFile airport → HasNoScenario scenarios → IsFirstFault a f s error.Write
-write_fault-first a f s airport scenarios read as_airport as_scenarios file none = (
+    → AreFiles airport scenarios → IsFirstFault a f s error.Write
+write_fault-first a f s airport scenarios read as_airport as_scenarios files = (
   read,
-  IfSome_then a.before as_airport (λ bytes is. subst IsAirportFile is file),
-  IfSome_then s.before as_scenarios (λ bytes is. subst HasNoScenario is none),
+  IfSome_then a.before as_airport (λ x is. IfSome_then s.before as_scenarios (λ y also.
+      subst (λ (bytes : List ℕ). AreFiles bytes y) is (subst (AreFiles airport) also files))),
 )
 
 -- a fault of the scenario file is one of the records, where there is an airport
-pub scenario_fault-record : (airport scenarios : List ℕ) (e : RunError) → IsAirportFile airport → IsScenarioFault scenarios e → IsRecordFault airport scenarios e
-scenario_fault-record airport scenarios (error.Read input) file fault = absurd fault
-scenario_fault-record airport scenarios (error.TooLong input) file fault = absurd fault
-scenario_fault-record airport scenarios (error.Airport number word) file fault = absurd fault
-scenario_fault-record airport scenarios (error.Scenario number word) file fault = (file, fault)
-scenario_fault-record airport scenarios error.Memory file fault = cc
-scenario_fault-record airport scenarios error.Write file fault = absurd fault
+pub scenario_fault-record : (airport scenarios : List ℕ) (g : AirportRows) (e : RunError) → airport_in airport ≡ Ok g → IsScenarioFault g.day scenarios e → IsRecordFault airport scenarios e
+scenario_fault-record airport scenarios g (error.Read input) file fault = absurd fault
+scenario_fault-record airport scenarios g (error.TooLong input) file fault = absurd fault
+scenario_fault-record airport scenarios g (error.Airport number word) file fault = absurd fault
+scenario_fault-record airport scenarios g (error.Scenario number word) file fault = (g, file, fault)
+scenario_fault-record airport scenarios g error.Memory file fault = cc
+scenario_fault-record airport scenarios g error.Write file fault = absurd fault
 
--- what is counted in the bytes that were read is counted in the inputs
-pub counts-of_inputs : (a f : Option (List ℕ)) (airport feed : List ℕ) (counts : RunCounts)
-    → IfSome a (λ bytes. airport ≡ bytes) → IfSome f (λ bytes. feed ≡ bytes) → AreCounts airport feed counts
-    → IfSome a (λ airport_file. IfSome f (λ feed_file. AreCounts airport_file feed_file counts))
-counts-of_inputs a f airport feed counts as_airport as_feed are =
-    IfSome_then a as_airport (λ x is. IfSome_then f as_feed (λ y is_feed.
-    subst (λ (bytes : List ℕ). AreCounts bytes y counts) is (subst (λ (bytes : List ℕ). AreCounts airport bytes counts) is_feed are)))
+-- what is said of the bytes that were read is said of the inputs
+pub of_inputs : (P : List ℕ → List ℕ → List ℕ → Type 0) (a f s : Option (List ℕ)) (airport feed scenarios : List ℕ)
+    → IfSome a (λ bytes. airport ≡ bytes) → IfSome f (λ bytes. feed ≡ bytes) → IfSome s (λ bytes. scenarios ≡ bytes)
+    → P airport feed scenarios → IfSome a (λ x. IfSome f (λ y. IfSome s (P x y)))
+of_inputs P a f s airport feed scenarios as_airport as_feed as_scenarios p =
+    IfSome_then a as_airport (λ x is_airport. IfSome_then f as_feed (λ y is_feed. IfSome_then s as_scenarios (λ z is_scenarios.
+    subst (λ (bytes : List ℕ). P bytes y z) is_airport (subst (λ (bytes : List ℕ). P airport bytes z) is_feed (subst (P airport feed) is_scenarios p)))))
 
 -- what holds of all bytes holds of those that a reader has left
 pub of_known : {P : List ℕ → Type 0} (o : Option (List ℕ)) → ((bytes : List ℕ) → P bytes) → IfSome o P

@@ -11,8 +11,10 @@ pub mod FileFaults
 pub mod Files
 pub mod AirportFile
 pub mod Refused
+pub mod Answers
 pub mod Output
 pub mod RunFaults
 pub mod InputNames
 pub mod ScenarioRecords
 pub mod ScenarioFile
+pub mod inner

@@ -1,15 +1,21 @@
 -- What a run writes, and what it counts.
-use Rattle.std.specs.Prelude.{◌≡◌, ℕ, List, [], length, map, Ok}
+use Rattle.std.specs.Prelude.{◌≡◌, ℕ, List, [], ◌++◌, length, map, Ok}
+use Rattle.std.specs.List.{AllZip, concat}
 use Rattle.cdm_flight.specs.Accepted.{accepted}
 use Rattle.cdm_flight.specs.Journal.{AirportRows}
 use Rattle.cdm_flight.specs.declared.update.Update.{Update}
 use Rattle.cdm_flight.specs.declared.word.RefusalWord.{RefusalWord}
 use Rattle.cdm_sequence.specs.Slots.{PlanRecord}
+use Rattle.cdm_report.specs.Counts.{counts_of}
 use Rattle.cdm_report.specs.Report.{report_bytes}
+use Rattle.cdm_day.specs.Day.{Day}
 use Rattle.cdm_day.specs.DayPlan.{IsDayPlan}
+use Rattle.cdm_scenario.specs.Scenarios.{ScenarioRecord}
 use Rattle.cdm_feed.specs.AirportFile.{airport_in}
+use Rattle.cdm_feed.specs.Answers.{IsAnswer}
 use Rattle.cdm_feed.specs.Parsing.{parse_of}
 use Rattle.cdm_feed.specs.Records.{records_of}
+use Rattle.cdm_feed.specs.ScenarioFile.{scenarios_in}
 use Rattle.cdm_feed.specs.declared.runs.RunCounts.{RunCounts}
 use Rattle.cdm_feed.specs.Refused.{Spelled, updates_in, refused_in}
 
@@ -25,31 +31,43 @@ accepted_in g feed = accepted g [] (updates_in (spelled_in g feed))
 unfoldable pub refusals_in : AirportRows → List ℕ → List (ℕ × RefusalWord)
 refusals_in g feed = refused_in g [] 1 (spelled_in g feed)
 
--- the text is the report of the day that the airport and the feed's accepted updates make, and of the
--- feed's refused records
-pub record IsReport (g : AirportRows) (feed text : List ℕ) : Type 0 where
-  pub plan : PlanRecord
-  pub of_day : IsDayPlan (record { airport = g; journal = accepted_in g feed }) plan
-  pub bytes : text ≡ report_bytes g.day plan (refusals_in g feed)
+-- the day that an airport and the accepted updates of a feed make
+abbrev pub day_in : AirportRows → List ℕ → Day
+day_in g feed = record { airport = g; journal = accepted_in g feed }
 
--- the text that is written for the bytes of an airport file and of a feed
-pub record IsOutput (airport feed text : List ℕ) : Type 0 where
+-- the text is the report of the day and of the feed's refused records, and then the answer to each
+-- scenario over that day
+pub record IsReport (g : AirportRows) (feed : List ℕ) (scenarios : List ScenarioRecord) (text : List ℕ) : Type 0 where
+  pub plan : PlanRecord
+  pub of_day : IsDayPlan (day_in g feed) plan
+  pub answers : List (List ℕ)
+  pub of_scenarios : AllZip (IsAnswer (day_in g feed) (counts_of plan)) scenarios answers
+  pub bytes : text ≡ report_bytes g.day plan (refusals_in g feed) ++ concat answers
+
+-- the text that is written for the bytes of an airport file, of a feed and of a scenario file
+pub record IsOutput (airport feed scenarios text : List ℕ) : Type 0 where
   pub rows : AirportRows
   pub airport_file : airport_in airport ≡ Ok rows
-  pub report : IsReport rows feed text
+  pub questions : List ScenarioRecord
+  pub scenario_file : scenarios_in rows.day scenarios ≡ Ok questions
+  pub report : IsReport rows feed questions text
 
--- the counts of a run: the accepted updates, the refused records, and no scenario
-abbrev pub counts_in : AirportRows → List ℕ → RunCounts
-counts_in g feed = record {
+-- the counts of a run: the accepted updates, the refused records, and the scenarios
+abbrev pub counts_in : AirportRows → List ℕ → List ScenarioRecord → RunCounts
+counts_in g feed questions = record {
   accepted = length (accepted_in g feed);
   refused = length (refusals_in g feed);
-  scenarios = 0;
+  scenarios = length questions;
 }
 
--- what the bytes of an airport file and of a feed make a run count
-abbrev pub AreCounts : List ℕ → List ℕ → RunCounts → Type 0
-AreCounts airport feed counts = (g : AirportRows) × (airport_in airport ≡ Ok g) × (counts ≡ counts_in g feed)
+-- what the bytes of an airport file, of a feed and of a scenario file make a run count
+abbrev pub AreCounts : List ℕ → List ℕ → List ℕ → RunCounts → Type 0
+AreCounts airport feed scenarios counts =
+    (g : AirportRows) × (airport_in airport ≡ Ok g)
+    × (questions : List ScenarioRecord) × (scenarios_in g.day scenarios ≡ Ok questions)
+    × (counts ≡ counts_in g feed questions)
 
--- the bytes of an airport file and of a feed have one text at most
-abbrev pub HaveOneText : List ℕ → List ℕ → Type 0
-HaveOneText airport feed = (text other : List ℕ) → IsOutput airport feed text → IsOutput airport feed other → text ≡ other
+-- the bytes of an airport file, of a feed and of a scenario file have one text at most
+abbrev pub HaveOneText : List ℕ → List ℕ → List ℕ → Type 0
+HaveOneText airport feed scenarios =
+    (text other : List ℕ) → IsOutput airport feed scenarios text → IsOutput airport feed scenarios other → text ≡ other

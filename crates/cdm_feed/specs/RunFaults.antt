@@ -1,11 +1,13 @@
 -- What each fault of a run says.
-use Rattle.std.specs.Prelude.{◌≡◌, ◌≤◌, ◌+◌, ⊤, ℕ, Bool, true, false, List, [], length, Option, IfSome, Result, Ok, Err}
+use Rattle.std.specs.Prelude.{◌≡◌, ◌≤◌, ◌+◌, ⊤, ℕ, Bool, true, false, List, Option, IfSome, Result, Ok, Err}
 use Rattle.std.specs.Io.KnownBytes.{IsAtEnd}
+use Rattle.cdm_time.specs.declared.calendar.CalendarDate.{CalendarDate}
 use Rattle.cdm_flight.specs.Journal.{AirportRows}
-use Rattle.cdm_flight.specs.declared.word.RefusalWord.TheVariants as word
+use Rattle.cdm_flight.specs.declared.word.RefusalWord.{RefusalWord}
+use Rattle.cdm_scenario.specs.Scenarios.{ScenarioRecord}
 use Rattle.cdm_feed.specs.AirportFile.{airport_in}
 use Rattle.cdm_feed.specs.Input.{GivesBytes, input_limit}
-use Rattle.cdm_feed.specs.Records.{records_of}
+use Rattle.cdm_feed.specs.ScenarioFile.{scenarios_in}
 use Rattle.cdm_feed.specs.declared.run_error.Input.{Input}
 use Rattle.cdm_feed.specs.declared.run_error.Input.TheVariants.{Airport, Feed, Scenarios, Feed1, Feed2}
 use Rattle.cdm_feed.specs.declared.run_error.RunError.{RunError}
@@ -48,17 +50,16 @@ IsInputFault r which (error.TooLong input) = (input ≡ which) × IsTooLong r
 IsInputFault r which error.Memory = IsUnfailed r
 IsInputFault r which fault = ⊥
 
--- the scenario file has no record
-abbrev pub HasNoScenario : List ℕ → Type 0
-HasNoScenario scenarios = records_of scenarios ≡ []
+-- the airport file and the scenario file are accepted
+abbrev pub AreFiles : List ℕ → List ℕ → Type 0
+AreFiles airport scenarios =
+    (g : AirportRows) × (airport_in airport ≡ Ok g)
+    × (questions : List ScenarioRecord) × (scenarios_in g.day scenarios ≡ Ok questions)
 
--- the scenario file begins with a faulty record; no scenario is known
-abbrev pub IsNoScenarioFile : List ℕ → Type 0
-IsNoScenarioFile scenarios = HasNoScenario scenarios → ⊥
-
--- the airport file is accepted
-abbrev pub IsAirportFile : List ℕ → Type 0
-IsAirportFile airport = (g : AirportRows) × (airport_in airport ≡ Ok g)
+-- the airport file is accepted, and this is the first faulty record of the scenario file, with its word
+abbrev pub IsFaultyScenario : List ℕ → List ℕ → ℕ → RefusalWord → Type 0
+IsFaultyScenario airport scenarios number refusal =
+    (g : AirportRows) × (airport_in airport ≡ Ok g) × (scenarios_in g.day scenarios ≡ Err (number, refusal))
 
 -- all three inputs were read to their ends
 pub record AreRead (airport feed scenarios : Reading) : Type 0 where
@@ -83,9 +84,9 @@ IsFirstFault a f s (error.TooLong Feed2) = ⊥
 IsFirstFault a f s (error.Airport number refusal) =
     AreRead a f s × IfSome a.before (λ bytes. airport_in bytes ≡ Err (number, refusal))
 IsFirstFault a f s (error.Scenario number refusal) =
-    AreRead a f s × IfSome a.before IsAirportFile × IfSome s.before IsNoScenarioFile × (number ≡ 1) × (refusal ≡ word.Kind)
+    AreRead a f s × IfSome a.before (λ airport. IfSome s.before (λ scenarios. IsFaultyScenario airport scenarios number refusal))
 IsFirstFault a f s error.Memory = IsUnfailed a × IsUnfailed f × IsUnfailed s
-IsFirstFault a f s error.Write = AreRead a f s × IfSome a.before IsAirportFile × IfSome s.before HasNoScenario
+IsFirstFault a f s error.Write = AreRead a f s × IfSome a.before (λ airport. IfSome s.before (AreFiles airport))
 
 -- why an airport file makes no airport
 abbrev pub IsAirportFault : List ℕ → RunError → Type 0
@@ -93,17 +94,16 @@ IsAirportFault airport (error.Airport number refusal) = airport_in airport ≡ E
 IsAirportFault airport error.Memory = ⊤
 IsAirportFault airport fault = ⊥
 
--- why a scenario file is refused as long as no scenario is known
-abbrev pub IsScenarioFault : List ℕ → RunError → Type 0
-IsScenarioFault scenarios (error.Scenario number refusal) = IsNoScenarioFile scenarios × (number ≡ 1) × (refusal ≡ word.Kind)
-IsScenarioFault scenarios error.Memory = ⊤
-IsScenarioFault scenarios fault = ⊥
+-- why a scenario file makes no scenarios
+abbrev pub IsScenarioFault : CalendarDate → List ℕ → RunError → Type 0
+IsScenarioFault day scenarios (error.Scenario number refusal) = scenarios_in day scenarios ≡ Err (number, refusal)
+IsScenarioFault day scenarios error.Memory = ⊤
+IsScenarioFault day scenarios fault = ⊥
 
 -- why the records of whole inputs make no text
 abbrev pub IsRecordFault : List ℕ → List ℕ → RunError → Type 0
 IsRecordFault airport scenarios (error.Airport number refusal) = airport_in airport ≡ Err (number, refusal)
-IsRecordFault airport scenarios (error.Scenario number refusal) =
-    IsAirportFile airport × IsScenarioFault scenarios (error.Scenario number refusal)
+IsRecordFault airport scenarios (error.Scenario number refusal) = IsFaultyScenario airport scenarios number refusal
 IsRecordFault airport scenarios error.Memory = ⊤
 IsRecordFault airport scenarios fault = ⊥
 

@@ -5,9 +5,9 @@ ghost use Rattle.cdm_feed.specs.Output.{HaveOneText};
 ghost use Rattle.cdm_feed.specs.Quoted.{Line, line_record, line_text};
 ghost use Rattle.cdm_feed.specs.Records.{records_of};
 
-/// The bytes of an airport file and of a feed have one text at most.
+/// The bytes of an airport file, of a feed and of a scenario file have one text at most.
 pub fn one_text()
-    ensures { (airport feed : List ℕ) → HaveOneText airport feed }
+    ensures { (airport feed scenarios : List ℕ) → HaveOneText airport feed scenarios }
 {}
 
 /// Records whose fields are any bytes, each in quotes with its own quotes doubled, are read back as they

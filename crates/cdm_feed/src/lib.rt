@@ -4,6 +4,7 @@
 
 mod airport;
 mod airport_file;
+mod answers;
 mod device;
 mod feed;
 mod field;

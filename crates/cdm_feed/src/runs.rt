@@ -4,23 +4,25 @@ ghost use Rattle.std.specs.Io.KnownBytes.{Appends};
 ghost use Rattle.cdm_feed.specs.Input.{input_limit};
 ghost use Rattle.cdm_feed.specs.Output.{AreCounts, HaveOneText, IsOutput, IsReport, accepted_in, counts_in, refusals_in};
 ghost use Rattle.cdm_feed.specs.AirportFile.{airport_in};
-ghost use Rattle.cdm_feed.specs.Records.{records_of};
+ghost use Rattle.cdm_feed.specs.ScenarioFile.{scenarios_in};
 ghost use Rattle.cdm_feed.specs.RunFaults.{AreRead, IsAirportFault, IsBeforeWriting, IsFirstFault, IsRecordFault, IsScenarioFault, is_write_fault};
 
 use crate::airport_file::read_airport;
+use crate::answers::push_answers;
 use crate::device::Device;
 use crate::feed::read_feed;
 use crate::file::FileFault;
 use crate::inputs::{Inputs, read_inputs};
 use crate::output::write_text;
-use crate::records::RecordReader;
 use crate::refused::{refusals_of, updates_of};
 use crate::run_error::RunError;
+use crate::scenario_file::read_scenarios;
 use cdm_day::{Airport, DayState};
 use cdm_flight::RefusalWord;
 use cdm_phase::{Gate, Workers};
-use cdm_report::report_text;
-use csv::ByteRecord;
+use cdm_report::{indicators, report_text};
+use cdm_scenario::Scenario;
+use cdm_time::Day;
 use std::alloc::{AllocError, Global};
 use std::io::{Read, Write};
 use std::thread::Threads;
@@ -81,25 +83,28 @@ fn judge<R: Threads + Sync, G: Gate>(
     Ok(Judged { state, refused })
 }
 
-// The report of a feed at an airport.
+// The report of a feed at an airport, and the answers to scenarios.
 fn report_of<R: Threads + Sync, G: Gate>(
     rt: &R,
     alloc: Global,
     airport: Airport,
     feed: &[u8],
+    scenarios: &[Scenario],
     workers: Workers,
     gate: &G,
 ) -> Result<Report, AllocError>
     requires { length feed.now ≤ input_limit }
-    ensures text { IfOk result (λ report. IsReport airport feed.now report.text.items) }
-    ensures counts { IfOk result (λ report. report.counts ≡ counts_in airport feed.now) }
+    ensures text { IfOk result (λ report. IsReport airport feed.now scenarios.now report.text.items) }
+    ensures counts { IfOk result (λ report. report.counts ≡ counts_in airport feed.now scenarios.now) }
 {
     let Judged { state, refused } = judge(rt, alloc, airport, feed, workers, gate)?;
-    let text = report_text(alloc, state.day(), state.plan(), &refused)?;
+    let mut text = report_text(alloc, state.day(), state.plan(), &refused)?;
+    let base = indicators(state.plan());
+    push_answers(rt, alloc, &state, base, scenarios, workers, gate, &mut text)?;
     let counts = RunCounts {
         accepted: state.journal().len(),
         refused: refused.len(),
-        scenarios: 0,
+        scenarios: scenarios.len(),
     };
     Ok(Report { text, counts })
 }
@@ -116,17 +121,16 @@ fn airport_of(alloc: Global, text: &[u8]) -> Result<Airport, RunError>
     }
 }
 
-// Refuses a scenario file that has a record: no scenario is known yet.
-fn no_scenarios(alloc: Global, text: &[u8]) -> Result<(), RunError>
-    ensures none { OnOk result (records_of text.now ≡ []) }
-    ensures fault { IfErr result (IsScenarioFault text.now) }
+// The scenarios of a scenario file.
+fn scenarios_of(alloc: Global, day: &Day, text: &[u8]) -> Result<Vec<Scenario>, RunError>
+    ensures said { IfOk result (λ scenarios. scenarios_in day.now text.now ≡ Ok scenarios.items) }
+    ensures fault { IfErr result (IsScenarioFault day.now text.now) }
 {
-    let mut reader = RecordReader::new(alloc, text);
-    let mut row = ByteRecord::new(alloc);
-    if reader.read(&mut row)? {
-        return Err(RunError::Scenario(1, RefusalWord::Kind));
+    match read_scenarios(alloc, day, text) {
+        Ok(scenarios) => Ok(scenarios),
+        Err(FileFault::Refused(number, word)) => Err(RunError::Scenario(number, word)),
+        Err(FileFault::Memory) => Err(RunError::Memory),
     }
-    Ok(())
 }
 
 // The text that the inputs make, and its counts.
@@ -138,27 +142,28 @@ fn answer<R: Threads + Sync, G: Gate>(
     gate: &G,
 ) -> Result<Report, RunError>
     requires { length inputs.now.feed.items ≤ input_limit }
-    ensures text { IfOk result (λ report. IsOutput inputs.now.airport.items inputs.now.feed.items report.text.items) }
-    ensures counts { IfOk result (λ report. AreCounts inputs.now.airport.items inputs.now.feed.items report.counts) }
-    ensures no_scenarios { OnOk result (records_of inputs.now.scenarios.items ≡ []) }
+    ensures text { IfOk result (λ report.
+        IsOutput inputs.now.airport.items inputs.now.feed.items inputs.now.scenarios.items report.text.items) }
+    ensures counts { IfOk result (λ report.
+        AreCounts inputs.now.airport.items inputs.now.feed.items inputs.now.scenarios.items report.counts) }
     ensures fault { IfErr result (IsRecordFault inputs.now.airport.items inputs.now.scenarios.items) }
 {
     let airport = airport_of(alloc, &inputs.airport)?;
-    no_scenarios(alloc, &inputs.scenarios)?;
-    let report = report_of(rt, alloc, airport, &inputs.feed, workers, gate)?;
+    let scenarios = scenarios_of(alloc, airport.day(), &inputs.scenarios)?;
+    let report = report_of(rt, alloc, airport, &inputs.feed, &scenarios, workers, gate)?;
     Ok(report)
 }
 
 /// Runs a day: reads the airport file, the feed and the scenario file, judges the feed's updates in
-/// order, plans the day with so many workers and writes its report, with the feed's refused records.
-/// The text depends on the bytes of the inputs alone, whatever the workers and the gate do.
+/// order, plans the day and answers each scenario with so many workers, and writes the day's report,
+/// with the feed's refused records, and then the answers. The text depends on the bytes of the inputs
+/// alone, whatever the workers and the gate do.
 ///
-/// `Ok` has read the three inputs to their ends, counts the accepted updates and the refused records,
-/// and has written the whole text and flushed it. Faults in their order: `Read` and `TooLong` of the
-/// airport file, of the feed and of the scenario file; `Airport` and `Scenario`, the first faulty
-/// record of that file and its word; `Memory`, wherever memory was first refused; `Write`. Before
-/// `Write` nothing was written, and at `Write` a prefix of the text was. Scenarios can't be answered
-/// yet: any record of the scenario file is refused as `Scenario` with number 1 and the word Kind.
+/// `Ok` has read the three inputs to their ends, counts the accepted updates, the refused records and
+/// the scenarios, and has written the whole text and flushed it. Faults in their order: `Read` and
+/// `TooLong` of the airport file, of the feed and of the scenario file; `Airport` and `Scenario`, the
+/// first faulty record of that file and its word; `Memory`, wherever memory was first refused; `Write`.
+/// Before `Write` nothing was written, and at `Write` a prefix of the text was.
 pub fn run<R: Threads + Sync, A: Read, F: Read, S: Read, G: Gate, W: Write>(
     rt: &R,
     alloc: Global,
@@ -174,14 +179,14 @@ pub fn run<R: Threads + Sync, A: Read, F: Read, S: Read, G: Gate, W: Write>(
     requires scenarios { scenarios.old.failed ≡ false }
     requires out { out.old.failed ≡ false }
 
-    // The one text of the airport file and the feed was written, and its counts are the answer.
+    // The one text of the three inputs was written, and its counts are the answer.
     ensures written { OnOk result (IfSome (A.remaining airport.old.inner) (λ airport_file. IfSome (F.remaining feed.old.inner) (λ feed_file.
-        (text : List ℕ) × IsOutput airport_file feed_file text × Appends (W.contents out.old.inner) (W.contents out.new.inner) text))) }
+        IfSome (S.remaining scenarios.old.inner) (λ scenario_file.
+        (text : List ℕ) × IsOutput airport_file feed_file scenario_file text × Appends (W.contents out.old.inner) (W.contents out.new.inner) text)))) }
     ensures one { OnOk result (IfSome (A.remaining airport.old.inner) (λ airport_file. IfSome (F.remaining feed.old.inner) (λ feed_file.
-        HaveOneText airport_file feed_file))) }
+        IfSome (S.remaining scenarios.old.inner) (λ scenario_file. HaveOneText airport_file feed_file scenario_file)))) }
     ensures counts { IfOk result (λ counts. IfSome (A.remaining airport.old.inner) (λ airport_file. IfSome (F.remaining feed.old.inner) (λ feed_file.
-        AreCounts airport_file feed_file counts))) }
-    ensures no_scenarios { OnOk result (IfSome (S.remaining scenarios.old.inner) (λ scenario_file. records_of scenario_file ≡ [])) }
+        IfSome (S.remaining scenarios.old.inner) (λ scenario_file. AreCounts airport_file feed_file scenario_file counts)))) }
 
     // The first fault is the answer, and Ok where there was none.
     ensures read { OnOk result (AreRead
@@ -195,7 +200,8 @@ pub fn run<R: Threads + Sync, A: Read, F: Read, S: Read, G: Gate, W: Write>(
     ensures nothing { IfErr result (λ e. IsBeforeWriting e → out.new ≡ out.old) }
     ensures failed { out.new.failed ≡ is_write_fault result }
     ensures prefix { IsErrOf result RunError.Write → IfSome (A.remaining airport.old.inner) (λ airport_file. IfSome (F.remaining feed.old.inner) (λ feed_file.
-        (text : List ℕ) × IsOutput airport_file feed_file text × (n : ℕ) × Appends (W.contents out.old.inner) (W.contents out.new.inner) (take n text))) }
+        IfSome (S.remaining scenarios.old.inner) (λ scenario_file.
+        (text : List ℕ) × IsOutput airport_file feed_file scenario_file text × (n : ℕ) × Appends (W.contents out.old.inner) (W.contents out.new.inner) (take n text)))) }
 {
     let inputs = read_inputs(alloc, airport, feed, scenarios)?;
     let report = answer(rt, alloc, &inputs, workers, gate)?;

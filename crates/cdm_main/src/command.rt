@@ -83,7 +83,7 @@ fn plan_of<'a>(plan: &ArgMatches<'a>) -> Option<Command<'a>> {
     Some(Command::Plan {
         airport: plan.get_str("AIRPORT")?,
         feed: plan.get_str("FEED")?,
-        scenarios: None,
+        scenarios: plan.get_str("scenarios"),
         workers: Workers::new(plan.get_one::<usize>("workers")?)?,
     })
 }
@@ -95,6 +95,10 @@ fn parser<'a>(alloc: Global) -> Result<Parser<'a>, AllocError> {
     let feed = Arg::new(alloc, "FEED")
         .required(true)
         .help("Feed of updates, in the order in which they came");
+    let scenarios = Arg::new(alloc, "scenarios")
+        .long("scenarios")
+        .value_name("FILE")
+        .help("What-if scenarios, each answered over the feed");
     let workers = Arg::new(alloc, "workers")
         .long("workers")
         .value_name("N")
@@ -107,6 +111,7 @@ fn parser<'a>(alloc: Global) -> Result<Parser<'a>, AllocError> {
         .after_long_help(MANUAL)
         .arg(airport)?
         .arg(feed)?
+        .arg(scenarios)?
         .arg(workers)?;
     let help = Parser::new(alloc, "help")
         .about(HELP_ABOUT)

@@ -14,14 +14,15 @@ pub const PLAN_ABOUT: &str = "Plan a feed of updates, and print the sequence of 
 /// What `help` does.
 pub const HELP_ABOUT: &str = "Print all of the help on standard output";
 
-/// The end of the short help: an example, and where the long help is.
+/// The end of the short help: examples, and where the long help is.
 pub const SHORT_HELP: &str = "\
 For example:
   cdmseq plan airport.csv feed.csv
-What the two files hold and what the output says:
+  cdmseq plan airport.csv feed.csv --scenarios what_if.csv
+What the files hold and what the output says:
   cdmseq help | less";
 
-/// What the two files hold and what the output says, for a reader who has no other paper.
+/// What the files hold and what the output says, for a reader who has no other paper.
 pub const MANUAL: &str = "\
 WHAT IT DOES
   All times are UTC, in whole minutes. A plan spans two days from 00:00 of the
@@ -53,7 +54,7 @@ WHAT IT DOES
   A flight that gets no minute is blocked. This is a local profile, not a rule
   of the A-CDM manual.
 
-THE TWO FILES
+THE FILES
   Each is a list of comma-separated records, one a line, without a heading;
   blank lines don't count. A field that begins with a double quote goes on to
   the next double quote, over line ends too.
@@ -110,8 +111,24 @@ AO,CTOT,AB1,2025-03-10T06:40Z
                                    the first day
   Of several updates of one item the last counts.
 
+  SCENARIOS, a file that --scenarios names, asks what the day would be if other
+  updates came after those of FEED:
+
+SCENARIO,SHUT
+CLOSE,27L,2025-03-10T06:10Z,2025-03-10T06:30Z
+SCENARIO,NO-SUCH
+TOBT,CD2,2025-03-10T06:00Z
+PRIO,XY9,1
+
+    SCENARIO,name              a scenario begins; its name has 1 to 16 of A-Z,
+                               0-9 and -. Its updates follow, written as in FEED
+                               without the role, and may be any
+  Each scenario is answered for itself, over the updates of FEED that were
+  accepted. It may have no update, and has at most 64; there are at most 64
+  scenarios.
+
 THE OUTPUT
-  The example files give
+  The example files AIRPORT and FEED give
 
     DAY 2025-03-10 NOW 100000
     RUNWAY 27L
@@ -166,13 +183,34 @@ THE OUTPUT
            The first record at fault in AIRPORT stops the run, with the same
            words: ORDER is a first record that isn't DAY, as in an empty file,
            or a second DAY; EXISTS a runway named twice; FULL a ninth runway or
-           a 401st stand.
+           a 401st stand. So does the first in SCENARIOS, with FIELDS, KIND,
+           TEXT or RANGE, EXISTS for a name used twice, ORDER for an update
+           before the first SCENARIO, FULL for a 65th scenario or update.
+
+  The example file SCENARIOS adds
+
+    SCENARIO SHUT
+    DAY 2025-03-10 NOW 100000
+    RUNWAY 27L
+    AB1     100600   15 ------ 100615 100630 P   15
+    BLOCKED CD2     TOBT
+    TOTAL PLACED 1 DELAY 15 MAX 15 LATE 0 BLOCKED 1 TOBT 1
+    DELTA PLACED +0 DELAY +15 MAX +15 LATE +0 BLOCKED +0
+    SCENARIO NO-SUCH
+    REFUSED 2 UNKNOWN
+
+  SCENARIO each scenario by its name, in the order of the file. Where all its
+           updates can be accepted, the plan with them follows, from DAY to
+           TOTAL, and then DELTA: the numbers of TOTAL less those of the plan
+           without them, and each cause whose number differs. Else REFUSED tells
+           its first update that can't be, by its number in the scenario, from
+           1, and the cause, from UNKNOWN to FULL.
 
 STATUS
   0  done: standard output has the whole text, also where records were refused
   1  a file can't be read, the text can't be written, or memory is short
   2  the words are wrong, or asked for help by -h or --help
-  3  a file has more than 8388608 bytes, or AIRPORT is refused
+  3  a file has more than 8388608 bytes, or AIRPORT or SCENARIOS is refused
   For 1 and 3 one line on standard error names the cause, as
   cdmseq: AIRPORT record 5: UNKNOWN. The help of status 2 goes there too.
 ";

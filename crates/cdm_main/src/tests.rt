@@ -38,6 +38,26 @@ fn told(rt: &impl Abort, alloc: Global, fault: &Fault) -> (Vec<u8>, u8) {
     (device.into_inner(), status)
 }
 
+// The words ask for the plan of the files a.csv and f.csv, with these scenarios and workers.
+fn check_plan<R: AllocGlobal + Abort>(
+    rt: &R,
+    words: &[&str],
+    scenarios: Option<&str>,
+    count: usize,
+) -> Result<(), Fail> {
+    let Ok(command) = command_of(rt.alloc(), words) else {
+        return Err("no command".into());
+    };
+    let expected = Command::Plan {
+        airport: "a.csv",
+        feed: "f.csv",
+        scenarios,
+        workers: Workers::new(count).ok_or("workers")?,
+    };
+    assert_eq!(rt; command, expected, "{count} workers");
+    Ok(())
+}
+
 #[test]
 fn plans_with_one_worker_or_as_many_as_asked_for(rt: HostRuntime) -> Result<(), Fail> {
     let cases: [(&[&str], usize); 7] = [
@@ -50,16 +70,26 @@ fn plans_with_one_worker_or_as_many_as_asked_for(rt: HostRuntime) -> Result<(), 
         (&["plan", "a.csv", "--workers", "3", "--", "f.csv"], 3),
     ];
     for (words, count) in cases {
-        let Ok(command) = command_of(rt.alloc(), words) else {
-            return Err("no command".into());
-        };
-        let expected = Command::Plan {
-            airport: "a.csv",
-            feed: "f.csv",
-            scenarios: None,
-            workers: Workers::new(count).ok_or("workers")?,
-        };
-        assert_eq!(rt; command, expected, "{count} workers");
+        check_plan(&rt, words, None, count)?;
+    }
+    let cases: [(&[&str], usize); 3] = [
+        (&["plan", "a.csv", "f.csv", "--scenarios", "s.csv"], 1),
+        (&["plan", "--scenarios=s.csv", "a.csv", "f.csv"], 1),
+        (
+            &[
+                "plan",
+                "a.csv",
+                "--workers",
+                "3",
+                "f.csv",
+                "--scenarios",
+                "s.csv",
+            ],
+            3,
+        ),
+    ];
+    for (words, count) in cases {
+        check_plan(&rt, words, Some("s.csv"), count)?;
     }
     Ok(())
 }
@@ -79,8 +109,8 @@ fn wrong_words_are_told(rt: HostRuntime) -> Result<(), Fail> {
             "unexpected argument '--worker'",
         ),
         (
-            &["plan", "a", "f", "--scenarios", "s"],
-            "unexpected argument '--scenarios'",
+            &["plan", "a", "f", "--scenarios"],
+            "a value is required for '--scenarios <FILE>'",
         ),
         (
             &["plan", "a", "f", "--workers"],
@@ -125,6 +155,7 @@ const TOLD: &str = "\
 TOBT   target|EXOT   estimated|CTOT   calculated|TSAT   target|TTOT   target|\
 \nDAY,2025-03-10\n|\nRUNWAY,27L,10,2\n|\nTAXI,*,27L,15\n|\nTAXI,A1,27L,10\n|\
 DAY,day|RUNWAY,runway,cell,cap|TAXI,stand,runway,minutes|\
+SCENARIO,name|\nSCENARIO,SHUT\n|SCENARIO each|DELTA: the numbers|\
 AP,FLT,|AO,TOBT,|AP,STAND,|ATC,RWY,|NM,CTOT,|GH,ICE,|ATC,PRIO,|ATC,OFF,|ATC,AIR,|AO,CNL,|\
 ATC,RATE,|ATC,CLOSE,|ATC,OPEN,|ATC,TAXI,|ATC,CLOCK,|P  planned|O  off-block|A  airborne|\
 PLACED|DELAY|MAX|LATE|BLOCKED|FIELDS |ROLE |KIND |TEXT |RANGE |AUTHORITY |UNKNOWN |EXISTS |\

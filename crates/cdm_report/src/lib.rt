@@ -9,7 +9,7 @@ mod text;
 pub use counts::{Counts, indicators};
 pub use delta::delta_text;
 pub use line::line_has_47_bytes;
-pub use text::report_text;
+pub use text::{refused_text, report_text};
 
 #[cfg(test)]
 mod tests;

@@ -138,19 +138,29 @@ fn push_rule_count(text: &mut String, counts: &Counts, rule: Rule) -> Result<(),
     write!(text, " {rule} {count}")
 }
 
+/// The line of one refused update or record, by its number, which is counted from 1, and why it was
+/// refused (local profile). Only want of memory makes it fail.
+pub fn refused_text(alloc: Global, number: usize, word: RefusalWord) -> Result<Vec<u8>, AllocError>
+    ensures { IfOk result (λ text. text.items ≡ refused_line (number, word)) }
+{
+    let mut text = String::new(alloc);
+    push_refusal(&mut text, number, word)?;
+    Ok(text.into_bytes())
+}
+
 fn push_refused(text: &mut String, refused: &[(u32, RefusalWord)]) -> Result<(), AllocError>
     ensures { OnOk result (string_bytes text.new ≡ string_bytes text.old ++ flat_map refused_line refused.now) }
 {
     for refusal in refused {
-        push_refusal(text, refusal)?;
+        let (number, word) = *refusal;
+        push_refusal(text, number as usize, word)?;
     }
     Ok(())
 }
 
 #[tactic(auto, unfolding(crate::specs::Report::refused_line))]
-fn push_refusal(text: &mut String, refusal: &(u32, RefusalWord)) -> Result<(), AllocError>
-    ensures { OnOk result (string_bytes text.new ≡ string_bytes text.old ++ refused_line refusal.now) }
+fn push_refusal(text: &mut String, number: usize, word: RefusalWord) -> Result<(), AllocError>
+    ensures { OnOk result (string_bytes text.new ≡ string_bytes text.old ++ refused_line (number, word)) }
 {
-    let (number, word) = refusal;
     writeln!(text, "REFUSED {number} {word}")
 }

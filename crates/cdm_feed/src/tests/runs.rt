@@ -40,6 +40,29 @@ TOTAL PLACED 2 DELAY 0 MAX 0 LATE 0 BLOCKED 0
 REFUSED 7 AUTHORITY
 ";
 
+// Two questions, of which the second can't be answered.
+const SCENARIOS: &str = "\
+SCENARIO,SHUT
+CLOSE,27L,2025-03-10T06:10Z,2025-03-10T06:30Z
+SCENARIO,BAD
+PRIO,AB2,1
+TOBT,XY9,2025-03-10T06:00Z
+";
+
+// Their answers.
+const ANSWERS: &str = "\
+SCENARIO SHUT
+DAY 2025-03-10 NOW 100000
+RUNWAY 09
+AB2     100600   15 ------ 100600 100615 P    0
+RUNWAY 27L
+AB1     100600   15 ------ 100615 100630 P   15
+TOTAL PLACED 2 DELAY 15 MAX 15 LATE 0 BLOCKED 0
+DELTA PLACED +0 DELAY +15 MAX +15 LATE +0 BLOCKED +0
+SCENARIO BAD
+REFUSED 2 UNKNOWN
+";
+
 // The airport file, a feed and no scenario file.
 fn files(feed: &str) -> [Source<'_>; 3] {
     [AIRPORT, feed, ""].map(|text| Source::new(text.as_bytes(), usize::MAX, 0))
@@ -68,9 +91,10 @@ fn run_of<R: AllocGlobal + Threads + Sync + Abort>(
     (answer, out)
 }
 
-// Holds each of two runways until the other has come, for so many turns at most.
+// Holds each of the first two pieces of a phase until the other has come, for so many turns at most.
 #[derive(Drop)]
 struct Meeting {
+    phase: PhaseName,
     turns: usize,
     came: [AtomicUsize; 2],
     missed: AtomicBool,
@@ -78,7 +102,7 @@ struct Meeting {
 
 impl Gate for Meeting {
     fn pass(&self, phase: PhaseName, piece: usize) {
-        if phase != PhaseName::Runways || piece > 1 {
+        if phase != self.phase || piece > 1 {
             return;
         }
         self.came[piece].fetch_add(1, Ordering::SeqCst);
@@ -92,25 +116,42 @@ impl Gate for Meeting {
     }
 }
 
-// One worker plans one runway after the other, and more meet.
+// One worker takes one runway after the other, and one scenario after the other, and more meet.
 #[test]
-fn workers_meet_and_write_one_text(rt: HostRuntime) {
-    for workers in [1, 2, 7, 64] {
+fn workers_meet_and_write_one_text(rt: HostRuntime) -> Result<(), Fail> {
+    let text = format!(in rt.alloc(); "{REPORT}{ANSWERS}")?;
+    let table = [
+        (PhaseName::Runways, 1),
+        (PhaseName::Runways, 2),
+        (PhaseName::Runways, 7),
+        (PhaseName::Runways, 64),
+        (PhaseName::Scenarios, 1),
+        (PhaseName::Scenarios, 2),
+        (PhaseName::Scenarios, 7),
+        (PhaseName::Scenarios, 64),
+    ];
+    for (phase, workers) in table {
         let gate = Meeting {
+            phase,
             turns: if workers == 1 { 2_000 } else { 1_000_000 },
             came: [AtomicUsize::new(0), AtomicUsize::new(0)],
             missed: AtomicBool::new(false),
         };
-        let (answer, out) = run_of(&rt, files(FEED), workers, &gate, Stop::Never);
+        let files = [AIRPORT, FEED, SCENARIOS].map(|text| Source::new(
+            text.as_bytes(),
+            usize::MAX,
+            0,
+        ));
+        let (answer, out) = run_of(&rt, files, workers, &gate, Stop::Never);
         let counts = answer.map(|counts| (counts.accepted, counts.refused, counts.scenarios));
-        assert_eq!(rt; counts, Ok((6, 1, 0)), "{workers} workers");
-        assert_eq!(rt; out.into_inner().text.as_slice(), REPORT.as_bytes());
-        for times in &gate.came {
-            assert_eq!(rt; times.load(Ordering::SeqCst), 1);
-        }
+        assert_eq!(rt; counts, Ok((6, 1, 2)), "{phase:?}, {workers} workers");
+        assert_eq!(rt; out.into_inner().text.as_slice(), text.as_bytes());
+        let came = [0, 1].map(|piece| gate.came[piece].load(Ordering::SeqCst));
+        assert_eq!(rt; came, [1, 1], "{phase:?}, {workers} workers");
         let is_missed = gate.missed.load(Ordering::SeqCst);
-        assert_eq!(rt; is_missed, workers == 1, "{workers} workers");
+        assert_eq!(rt; is_missed, workers == 1, "{phase:?}, {workers} workers");
     }
+    Ok(())
 }
 
 #[test]
@@ -185,7 +226,7 @@ fn failing_reads_and_refused_inputs(rt: HostRuntime) -> Result<(), Fail> {
         assert_eq!(rt; fault, Some(RunError::TooLong(input)));
     }
     let source = Source::new(b"CNL,AB1\n", usize::MAX, 0);
-    let fault = RunError::Scenario(1, RefusalWord::Kind);
+    let fault = RunError::Scenario(1, RefusalWord::Order);
     assert_eq!(rt; fault_with(&rt, Input::Scenarios, source), Some(fault));
     Ok(())
 }

@@ -10,4 +10,4 @@ returns-clause-counts over c =
     let journal : c.journal.result.now ≡ accepted_in g feed = c.journal.ensures ∙ ap (λ (s : Day). s.journal) c.in_ok-state.ensures.state in
     let refused : c.len.result ≡ length (refusals_in g feed) =
     c.len.ensures ∙ sym c.deref.ensures.len ∙ ap length (c.deref.ensures.value ∙ c.in_ok-state.ensures.refused) in
-    λ i. record { accepted = length (journal i); refused = refused i; scenarios = 0 }
+    λ i. record { accepted = length (journal i); refused = refused i; scenarios = length c.args.scenarios.now }

@@ -1,6 +1,7 @@
 use Rattle.std.proofs.lemmas.Result.{err_from_is_err_and}
+use Rattle.cdm_feed.specs.Output.{AreCounts}
 use Rattle.cdm_feed.proofs.OutputLemmas.{one-output}
-use Rattle.cdm_feed.proofs.RunLemmas.{counts-of_inputs, of_known, record_fault-first, write_fault-first}
+use Rattle.cdm_feed.proofs.RunLemmas.{of_inputs, of_known, record_fault-first, write_fault-first}
 use Rattle.cdm_feed.proofs.runs.run.Goals as goal
 
 pub returns-in_err-report-clause-fault : goal.returns-in_err-report-clause-fault
@@ -14,19 +15,16 @@ returns-in_err-write_text-clause-fault g c =
     let inputs = c.in_ok-inputs.ensures in
     let text = c.in_ok-report.ensures.text in
     let p = err_from_is_err_and c.from_residual-in_err-write_text.result c.from_residual-in_err-write_text.ensures.1 in
-    rw (p.1, p.2) (write_fault-first _ _ _ _ _ inputs.read inputs.airport inputs.scenarios (text.rows, text.airport_file) c.in_ok-report.ensures.no_scenarios)
+    rw (p.1, p.2) (write_fault-first _ _ _ _ _ inputs.read inputs.airport inputs.scenarios (text.rows, text.airport_file, text.questions, text.scenario_file))
 
 pub returns-clause-counts : goal.returns-clause-counts
-returns-clause-counts g c = counts-of_inputs
-    (g.A.Read.remaining c.args.airport.now.inner)
-    (g.F.Read.remaining c.args.feed.now.inner)
-    c.in_ok-inputs.inputs.airport.items
-    c.in_ok-inputs.inputs.feed.items
-    c.in_ok-report.report.counts
-    c.in_ok-inputs.ensures.airport
-    c.in_ok-inputs.ensures.feed
-    c.in_ok-report.ensures.counts
+returns-clause-counts g c =
+    let inputs = c.in_ok-inputs.ensures in
+    of_inputs (λ x y z. AreCounts x y z c.in_ok-report.report.counts)
+    (g.A.Read.remaining c.args.airport.now.inner) (g.F.Read.remaining c.args.feed.now.inner) (g.S.Read.remaining c.args.scenarios.now.inner)
+    _ _ _ inputs.airport inputs.feed inputs.scenarios c.in_ok-report.ensures.counts
 
 pub returns-clause-one : goal.returns-clause-one
 returns-clause-one g c = of_known (g.A.Read.remaining c.args.airport.now.inner) (λ airport.
-    of_known (g.F.Read.remaining c.args.feed.now.inner) (λ feed. one-output airport feed))
+    of_known (g.F.Read.remaining c.args.feed.now.inner) (λ feed.
+    of_known (g.S.Read.remaining c.args.scenarios.now.inner) (λ scenarios. one-output airport feed scenarios)))

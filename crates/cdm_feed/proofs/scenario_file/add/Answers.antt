@@ -1,4 +1,4 @@
-use Rattle.std.proofs.Common.{rules, ◌∙◌, ap, length, ◌≤◌, arith}
+use Rattle.std.proofs.Common.{rules}
 use Rattle.cdm_feed.proofs.ScenarioLemmas.{next_added, next_full}
 use Rattle.cdm_feed.proofs.scenario_file.add.Goals as goal
 
