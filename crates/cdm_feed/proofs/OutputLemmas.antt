@@ -35,8 +35,8 @@ use Rattle.cdm_feed.specs.Records.{records_of}
 use Rattle.cdm_feed.specs.Refused.{updates_in}
 use Rattle.cdm_report.specs.Report.{report_bytes}
 use Rattle.cdm_sequence.specs.Slots.{PlanRecord}
-use Rattle.cdm_feed.specs.declared.airport.AirportRecord.{AirportRecord}
-use Rattle.cdm_feed.specs.declared.airport.AirportRecord.TheVariants.{Day, Runway, Taxi}
+use Rattle.cdm_feed.specs.declared.airport_record.AirportRecord.{AirportRecord}
+use Rattle.cdm_feed.specs.declared.airport_record.AirportRecord.TheVariants.{Day, Runway, Taxi}
 
 -- Each flight becomes known once.
 

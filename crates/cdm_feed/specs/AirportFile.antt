@@ -8,8 +8,8 @@ use Rattle.cdm_day.specs.Airport.{runway_word, taxi_word, with_runway, with_taxi
 use Rattle.cdm_feed.specs.AirportRecords.{airport_record_of}
 use Rattle.cdm_feed.specs.Files.{after_records}
 use Rattle.cdm_feed.specs.Records.{records_of}
-use Rattle.cdm_feed.specs.declared.airport.AirportRecord.{AirportRecord}
-use Rattle.cdm_feed.specs.declared.airport.AirportRecord.TheVariants.{Day, Runway, Taxi}
+use Rattle.cdm_feed.specs.declared.airport_record.AirportRecord.{AirportRecord}
+use Rattle.cdm_feed.specs.declared.airport_record.AirportRecord.TheVariants.{Day, Runway, Taxi}
 
 -- a row that a word refuses can't be added to the airport
 abbrev pub unless : Option RefusalWord → AirportRows → Result (Option AirportRows) RefusalWord

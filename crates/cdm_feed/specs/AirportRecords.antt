@@ -4,8 +4,8 @@ use Rattle.std.specs.Prelude.{ℕ, List, codes, bytes_eq, Result, Err, if◌then
 use Rattle.cdm_flight.specs.declared.word.RefusalWord.{RefusalWord}
 use Rattle.cdm_flight.specs.declared.word.RefusalWord.TheVariants as word
 use Rattle.cdm_feed.specs.Fields.{cap_field, cell_field, day_field, field, of_fields, of_one, of_three, place_field, runway_field, taxi_field}
-use Rattle.cdm_feed.specs.declared.airport.AirportRecord.{AirportRecord}
-use Rattle.cdm_feed.specs.declared.airport.AirportRecord.TheVariants.{Day, Runway, Taxi}
+use Rattle.cdm_feed.specs.declared.airport_record.AirportRecord.{AirportRecord}
+use Rattle.cdm_feed.specs.declared.airport_record.AirportRecord.TheVariants.{Day, Runway, Taxi}
 
 -- what a record spells, by its first field
 unfoldable pub airport_record_of : List (List ℕ) → Result AirportRecord RefusalWord

@@ -3,10 +3,10 @@ use Rattle.std.specs.Prelude.{ℕ, Option, None, Some}
 use Rattle.cdm_day.specs.declared.airport.AirportFault.{AirportFault}
 use Rattle.cdm_day.specs.Airport.{word_of}
 use Rattle.cdm_flight.specs.declared.word.RefusalWord.{RefusalWord}
-use Rattle.cdm_feed.specs.declared.file.FileFault.{FileFault}
-use Rattle.cdm_feed.specs.declared.file.FileFault.TheVariants as file
-use Rattle.cdm_feed.specs.declared.file.RecordFault.{RecordFault}
-use Rattle.cdm_feed.specs.declared.file.RecordFault.TheVariants as row
+use Rattle.cdm_feed.specs.declared.file_fault.FileFault.{FileFault}
+use Rattle.cdm_feed.specs.declared.file_fault.FileFault.TheVariants as file
+use Rattle.cdm_feed.specs.declared.file_fault.RecordFault.{RecordFault}
+use Rattle.cdm_feed.specs.declared.file_fault.RecordFault.TheVariants as row
 
 -- the fault of a file whose first faulty record has this number
 abbrev pub fault_at : RecordFault → ℕ → FileFault

@@ -1,10 +1,10 @@
 -- Files whose first faulty record refuses them.
 use Rattle.std.specs.Prelude.{◌≡◌, ⊤, ℕ, ◌+◌, List, [], ◌∷◌, Result, Ok, Err}
 use Rattle.cdm_flight.specs.declared.word.RefusalWord.{RefusalWord}
-use Rattle.cdm_feed.specs.declared.file.FileFault.{FileFault}
-use Rattle.cdm_feed.specs.declared.file.FileFault.TheVariants as file
-use Rattle.cdm_feed.specs.declared.file.RecordFault.{RecordFault}
-use Rattle.cdm_feed.specs.declared.file.RecordFault.TheVariants as row
+use Rattle.cdm_feed.specs.declared.file_fault.FileFault.{FileFault}
+use Rattle.cdm_feed.specs.declared.file_fault.FileFault.TheVariants as file
+use Rattle.cdm_feed.specs.declared.file_fault.RecordFault.{RecordFault}
+use Rattle.cdm_feed.specs.declared.file_fault.RecordFault.TheVariants as row
 
 -- goes on after a good record, and stops at a faulty one with its number
 abbrev pub go_on : {S : Type 0} → ℕ → Result S RefusalWord → (S → Result S (ℕ × RefusalWord)) → Result S (ℕ × RefusalWord)

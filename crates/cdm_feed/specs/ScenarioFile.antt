@@ -11,8 +11,8 @@ use Rattle.cdm_feed.specs.Fields.{of_one}
 use Rattle.cdm_feed.specs.Files.{after_records}
 use Rattle.cdm_feed.specs.Records.{records_of}
 use Rattle.cdm_feed.specs.ScenarioRecords.{scenario_line_of}
-use Rattle.cdm_feed.specs.declared.scenario.ScenarioLine.{ScenarioLine}
-use Rattle.cdm_feed.specs.declared.scenario.ScenarioLine.TheVariants.{Begin, Next}
+use Rattle.cdm_feed.specs.declared.scenario_record.ScenarioLine.{ScenarioLine}
+use Rattle.cdm_feed.specs.declared.scenario_record.ScenarioLine.TheVariants.{Begin, Next}
 
 -- one of the scenarios has the name
 abbrev pub has_name : List ScenarioRecord → List ℕ → Bool

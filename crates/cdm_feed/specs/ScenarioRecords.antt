@@ -9,8 +9,8 @@ use Rattle.cdm_feed.specs.Fields.{field, of_fields, of_one}
 use Rattle.cdm_feed.specs.Kinds.{field_count, kind_of}
 use Rattle.cdm_feed.specs.Parsing.{update_of}
 use Rattle.cdm_feed.specs.declared.kind.Kind.{Kind}
-use Rattle.cdm_feed.specs.declared.scenario.ScenarioLine.{ScenarioLine}
-use Rattle.cdm_feed.specs.declared.scenario.ScenarioLine.TheVariants.{Begin, Next}
+use Rattle.cdm_feed.specs.declared.scenario_record.ScenarioLine.{ScenarioLine}
+use Rattle.cdm_feed.specs.declared.scenario_record.ScenarioLine.TheVariants.{Begin, Next}
 
 -- the name of a scenario
 abbrev pub scenario_field : List ℕ → Result (List ℕ) RefusalWord

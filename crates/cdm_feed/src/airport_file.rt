@@ -5,8 +5,8 @@ ghost use Rattle.cdm_feed.specs.AirportFile.{airport_after, airport_in, with_rec
 ghost use Rattle.cdm_feed.specs.Files.{IsFaultOf, IsRecordFaultOf};
 ghost use Rattle.cdm_feed.specs.FileFaults.{row_fault};
 
-use crate::airport::{AirportRecord, airport_record};
-use crate::file::{FileFault, RecordFault};
+use crate::airport_record::{AirportRecord, airport_record};
+use crate::file_fault::{FileFault, RecordFault};
 use crate::records::RecordReader;
 use cdm_day::{Airport, AirportFault};
 use cdm_flight::RefusalWord;

@@ -3,7 +3,7 @@ ghost use Rattle.std.specs.Prelude.{◌≡◌, ◌≤◌, IfOk, length, map};
 ghost use Rattle.cdm_feed.specs.Parsing.{parse_of};
 ghost use Rattle.cdm_feed.specs.Records.{records_of};
 
-use crate::parsing::parse_record;
+use crate::feed_record::parse_record;
 use crate::records::RecordReader;
 use cdm_flight::{RefusalWord, Role, Update, push_last};
 use cdm_time::Day;

@@ -2,31 +2,31 @@
 //! and of a scenario file, and what their fields spell.
 #![tactic(auto)]
 
-mod airport;
 mod airport_file;
+mod airport_record;
 mod answers;
 mod device;
 mod feed;
+mod feed_record;
 mod field;
-mod file;
+mod file_fault;
 mod input;
 mod inputs;
 mod kind;
 mod laws;
 mod output;
-mod parsing;
 mod records;
 mod refused;
 mod role;
 mod run_error;
 mod runs;
-mod scenario;
 mod scenario_file;
+mod scenario_record;
 
 pub use airport_file::read_airport;
 pub use device::Device;
 pub use feed::read_feed;
-pub use file::FileFault;
+pub use file_fault::FileFault;
 pub use input::{INPUT_LIMIT, InputFault, read_input};
 pub use laws::{one_text, quoted_records_are_read_back};
 pub use output::{WriteFault, write_text};

@@ -11,7 +11,7 @@ use crate::airport_file::read_airport;
 use crate::answers::push_answers;
 use crate::device::Device;
 use crate::feed::read_feed;
-use crate::file::FileFault;
+use crate::file_fault::FileFault;
 use crate::inputs::{Inputs, read_inputs};
 use crate::output::write_text;
 use crate::refused::{refusals_of, updates_of};

@@ -4,9 +4,9 @@ ghost use Rattle.csv.specs.Records.{fields_of};
 ghost use Rattle.cdm_feed.specs.Files.{IsFaultOf, IsRecordFaultOf};
 ghost use Rattle.cdm_feed.specs.ScenarioFile.{begun_with, has_name, scenarios_after, scenarios_in, with_line, with_next};
 
-use crate::file::{FileFault, RecordFault};
+use crate::file_fault::{FileFault, RecordFault};
 use crate::records::RecordReader;
-use crate::scenario::{ScenarioLine, scenario_line};
+use crate::scenario_record::{ScenarioLine, scenario_line};
 use cdm_flight::{RefusalWord, Update};
 use cdm_scenario::{Scenario, ScenarioFault, ScenarioName};
 use cdm_time::Day;

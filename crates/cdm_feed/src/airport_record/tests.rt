@@ -1,4 +1,4 @@
-use crate::airport::{AirportRecord, airport_record};
+use crate::airport_record::{AirportRecord, airport_record};
 use crate::records::RecordReader;
 use cdm_flight::{Cap, CellLength, Name, Place, RefusalWord, TaxiMinutes};
 use cdm_time::Day;

@@ -1,7 +1,7 @@
 //! Files whose first faulty record refuses them.
 ghost use Rattle.std.specs.Prelude.{◌≡◌};
-ghost use Rattle.cdm_feed.specs.declared.file.FileFault.TheVariants as file;
-ghost use Rattle.cdm_feed.specs.declared.file.RecordFault.TheVariants as row;
+ghost use Rattle.cdm_feed.specs.declared.file_fault.FileFault.TheVariants as file;
+ghost use Rattle.cdm_feed.specs.declared.file_fault.RecordFault.TheVariants as row;
 
 use cdm_flight::RefusalWord;
 use std::alloc::AllocError;

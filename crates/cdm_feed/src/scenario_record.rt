@@ -3,9 +3,9 @@ ghost use Rattle.std.specs.Prelude.{◌≡◌};
 ghost use Rattle.csv.specs.Records.{fields_of};
 ghost use Rattle.cdm_feed.specs.ScenarioRecords.{scenario_field, scenario_line_of};
 
+use crate::feed_record::update_of;
 use crate::field::field;
 use crate::kind::Kind;
-use crate::parsing::update_of;
 use cdm_flight::{RefusalWord, Update};
 use cdm_scenario::ScenarioName;
 use cdm_time::Day;
