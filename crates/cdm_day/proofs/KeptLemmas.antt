@@ -27,7 +27,7 @@ use Rattle.cdm_sequence.specs.Slots.{PlanRecord, RunwayPlanRecord}
 use Rattle.cdm_sequence.specs.Targets.{TargetRecord}
 use Rattle.cdm_sequence.proofs.AimLemmas.{aim_means, aim_of, aim_with, aim_with_exot}
 use Rattle.cdm_sequence.proofs.OrderLemmas.{is_same, same_flips, same_is}
-use Rattle.cdm_day.specs.Aimed.{if_on}
+use Rattle.cdm_day.specs.inner.Aimed.{if_on}
 use Rattle.cdm_day.specs.Day.{Day, flights_in, new_flight, rows_by_name, rules_of, with_update}
 use Rattle.cdm_day.specs.DayPlan.{IsDayPlan, day_rules, records_in}
 use Rattle.cdm_day.specs.declared.touched.Touched.{Touched}

@@ -15,7 +15,7 @@ use Rattle.cdm_sequence.specs.Sequence.{IsSequence}
 use Rattle.cdm_sequence.specs.Slots.{PlanRecord, RunwayPlanRecord}
 use Rattle.cdm_sequence.specs.Targets.{TargetRecord}
 use Rattle.cdm_sequence.specs.declared.slot.BlockedFlight.{BlockedFlight}
-use Rattle.cdm_day.specs.Aimed.{CanSequence, IsAimed, early_among, target_for}
+use Rattle.cdm_day.specs.inner.Aimed.{CanSequence, IsAimed, early_among, target_for}
 use Rattle.cdm_day.specs.declared.aimed.Aimed.{Aimed}
 use Rattle.cdm_day.specs.declared.touched.Touched.{Touched}
 use Rattle.cdm_day.specs.Day.{Day, rules_in}

@@ -33,7 +33,7 @@ pub struct RunwayLoad {
 impl Model for RunwayLoad {
     ghost use Rattle.std.specs.Prelude.{take};
     ghost use Rattle.cdm_runway.specs.Load.{Load};
-    ghost use Rattle.cdm_runway.specs.Tally.{AreCounted};
+    ghost use Rattle.cdm_runway.specs.inner.Tally.{AreCounted};
 
     ghost Value = { Load };
 
@@ -86,7 +86,7 @@ impl RunwayLoad {
     /// Takes one more minute of the runway.
     pub fn take(&mut self, runway: &Runway, minute: Minute)
         requires cell { self.old.cell ≡ runway.now.cell }
-        requires room { length self.old.taken < MOST_FLIGHTS }
+        requires room { length self.old.taken < 2000 }
         ensures { self.new ≡ record self.old { taken = self.old.taken ++ minute ∷ [] } }
     {
         let cell = (minute.get() / runway.cell().get()) as usize;
