@@ -15,3 +15,4 @@ pub mod RunFaults
 pub mod InputNames
 pub mod ScenarioRecords
 pub mod ScenarioFile
+pub mod inner
