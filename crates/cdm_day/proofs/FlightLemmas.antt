@@ -22,7 +22,7 @@ use Rattle.cdm_flight.specs.Taxi.{TaxiRows, taxi_out}
 use Rattle.cdm_flight.specs.Journal.{AirportRows, touches, is_known, is_cancelled, runway_of, aobt_of, atot_of, exot_now, exot_of, record_with, flight_of, taxi_of}
 use Rattle.cdm_flight.proofs.JournalLemmas.{flight_of-untouched, flight_of-fresh, before_off-all, status_of-record, planned_says}
 use Rattle.cdm_day.specs.Day.{flights_in}
-use Rattle.cdm_day.specs.Tables.{Flights, Sets, TellFlights}
+use Rattle.cdm_day.specs.inner.Tables.{Flights, Sets, TellFlights}
 use Rattle.cdm_day.proofs.JournalFacts.{new_flight-old, flights_in-push}
 
 -- The taxi-out time that the code takes is the journal's where it matters.

@@ -27,7 +27,7 @@ use Rattle.cdm_sequence.specs.Slots.{PlanRecord, RunwayPlanRecord}
 use Rattle.cdm_sequence.specs.Targets.{TargetRecord}
 use Rattle.cdm_sequence.proofs.AimLemmas.{aim_means, aim_of, aim_with, aim_with_exot}
 use Rattle.cdm_sequence.proofs.OrderLemmas.{is_same, same_flips, same_is}
-use Rattle.cdm_day.specs.Aimed.{if_on}
+use Rattle.cdm_day.specs.inner.Aimed.{if_on}
 use Rattle.cdm_day.specs.Day.{Day, flights_in, new_flight, rows_by_name, rules_of, with_update}
 use Rattle.cdm_day.specs.DayPlan.{IsDayPlan, day_rules, records_in}
 use Rattle.cdm_day.specs.declared.touched.Touched.{Touched}
@@ -178,16 +178,16 @@ module _ (d : Day) (u : Update) (row : RunwayRow) (before : is_noted d u row.nam
       let now : now_of a ≡ now_of b = sym (now_of-same a u (no_clock d r u before)) in
       let rules : rules_of g a row ≡ rules_of g b row = rules-same g a row u (λ m. no_cap d r m u before) (λ m. no_closed d r m u before) in
       let fixed : fixed_in d r ≡ fixed_in (with_update d u) r =
-          fixed_on-given r (records_in g a) ∙ (given_same (fixed_at r) (fixed_at r) (λ f. refl) (no_fixed_at r) ∙ sym (fixed_on-given r (records_in g b))) in
+      fixed_on-given r (records_in g a) ∙ (given_same (fixed_at r) (fixed_at r) (λ f. refl) (no_fixed_at r) ∙ sym (fixed_on-given r (records_in g b))) in
       let targets : targets_at d r ≡ targets_at (with_update d u) r =
-          targets_on-given r (taxi_of g a) (now_of a) (records_in g a)
-          ∙ (given_same (target_at r (taxi_of g a) (now_of a)) (target_at r (taxi_of g b) (now_of b)) (λ f. same_target_at r (taxi_of g a) (taxi_of g b) (now_of a) taxi f ∙ ap (λ n. target_at r (taxi_of g b) n f) now) (no_target_at r (taxi_of g a) (now_of a))
-          ∙ sym (targets_on-given r (taxi_of g b) (now_of b) (records_in g b))) in
+      targets_on-given r (taxi_of g a) (now_of a) (records_in g a)
+      ∙ (given_same (target_at r (taxi_of g a) (now_of a)) (target_at r (taxi_of g b) (now_of b)) (λ f. same_target_at r (taxi_of g a) (taxi_of g b) (now_of a) taxi f ∙ ap (λ n. target_at r (taxi_of g b) n f) now) (no_target_at r (taxi_of g a) (now_of a))
+      ∙ sym (targets_on-given r (taxi_of g b) (now_of b) (records_in g b))) in
       let x = rules_of g a row in
       let there : IsSequence x (fixed_in (with_update d u) x.name) (targets_at (with_update d u) x.name) p =
-          subst (λ (ts : List TargetRecord). IsSequence x (fixed_in (with_update d u) x.name) ts p) (subst (λ (n : List ℕ). targets_at d n ≡ targets_at (with_update d u) n) (sym (rules_name d row)) targets)
-          (subst (λ (xs : List FixedRecord). IsSequence x xs (targets_at d x.name) p) (subst (λ (n : List ℕ). fixed_in d n ≡ fixed_in (with_update d u) n) (sym (rules_name d row)) fixed)
-          (has_sequence d x p old)) in
+      subst (λ (ts : List TargetRecord). IsSequence x (fixed_in (with_update d u) x.name) ts p) (subst (λ (n : List ℕ). targets_at d n ≡ targets_at (with_update d u) n) (sym (rules_name d row)) targets)
+      (subst (λ (xs : List FixedRecord). IsSequence x xs (targets_at d x.name) p) (subst (λ (n : List ℕ). fixed_in d n ≡ fixed_in (with_update d u) n) (sym (rules_name d row)) fixed)
+      (has_sequence d x p old)) in
       subst (λ (y : RunwayRules). IsPlanOn (with_update d u) y p) rules (is_plan_on (with_update d u) x p there)
 
 -- since the first day, after one more update
@@ -229,6 +229,6 @@ kept_since first d t plan made since r p i e = by (is_touched t r.name) refl e
         let there = contains_map rules first.airport.runways row (Contains-permutation rows first.airport.runways row (IsPermutation-sym first.airport.runways rows (rows_permutation first.airport.runways)) among) in
         let name : old.0.name ≡ (rules row).name = sym old.1.runway ∙ (same_is p.runway r.name found.1 ∙ (sym named ∙ sym (rules_name first row))) in
         let one : old.0 ≡ rules row = one_of_key same_name same_flips (λ (x : RunwayRules). x.name) (day_rules first) old.0 (rules row)
-            (day_rules_differ first made.airport.names) old.2 there (is_same old.0.name (rules row).name name) in
+        (day_rules_differ first made.airport.names) old.2 there (is_same old.0.name (rules row).name name) in
         let here : IsPlanOn first (rules row) p = subst (λ (x : RunwayRules). IsPlanOn first x p) one (record { aims = aims; aimed = day.aimed; sequence = (placing, old.1) }) in
         subst (λ (x : RunwayRules). IsPlanOn d x p) at.2 (since.keeps row p (ap (is_touched t) named ∙ h) here)

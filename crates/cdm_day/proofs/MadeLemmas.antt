@@ -15,7 +15,7 @@ use Rattle.cdm_sequence.specs.Sequence.{IsSequence}
 use Rattle.cdm_sequence.specs.Slots.{PlanRecord, RunwayPlanRecord}
 use Rattle.cdm_sequence.specs.Targets.{TargetRecord}
 use Rattle.cdm_sequence.specs.declared.slot.BlockedFlight.{BlockedFlight}
-use Rattle.cdm_day.specs.Aimed.{CanSequence, IsAimed, early_among, target_for}
+use Rattle.cdm_day.specs.inner.Aimed.{CanSequence, IsAimed, early_among, target_for}
 use Rattle.cdm_day.specs.declared.aimed.Aimed.{Aimed}
 use Rattle.cdm_day.specs.declared.touched.Touched.{Touched}
 use Rattle.cdm_day.specs.Day.{Day, rules_in}
@@ -94,11 +94,11 @@ module _ (d : Day) (sound : IsSound d) (fs : List (Bor Record)) (fs_are : map (�
       let R : Bor RunwayRules → RunwayPlanRecord → Type 0 = λ r p. HasSequence d r.now p in
       let stands : Bor RunwayRules → Option RunwayPlanRecord = λ r. kept_plan t old r.now.name in
       let right : (r : Bor RunwayRules) (p : RunwayPlanRecord) → IsSequence r.now (fixed_on r.now.name (map (λ f. f.now) fs)) (filter_map (target_for r.now.name) aims) p → R r p = λ r p h.
-          subst (λ (l : List Record). IsSequence r.now (fixed_on r.now.name l) (targets_at d r.now.name) p) fs_are
-          (subst (λ (ts : List TargetRecord). IsSequence r.now (fixed_on r.now.name (map (λ f. f.now) fs)) ts p) (targets_are r.now.name) h) in
+      subst (λ (l : List Record). IsSequence r.now (fixed_on r.now.name l) (targets_at d r.now.name) p) fs_are
+      (subst (λ (ts : List TargetRecord). IsSequence r.now (fixed_on r.now.name (map (λ f. f.now) fs)) ts p) (targets_are r.now.name) h) in
       let new = subst (λ (l : List (Bor RunwayRules)). AllZip R l made) left_is (AllZip-weaker _ R right left made each) in
       let all = merged R stands runways made
-          (λ r p i e. has_sequence d r.now p (kept r.now p (subst (λ (l : List RunwayRules). Contains l r.now) rules (contains_map (λ (x : Bor RunwayRules). x.now) runways r i)) e)) new in
+      (λ r p i e. has_sequence d r.now p (kept r.now p (subst (λ (l : List RunwayRules). Contains l r.now) rules (contains_map (λ (x : Bor RunwayRules). x.now) runways r i)) e)) new in
       let zipped = subst (λ (l : List RunwayRules). AllZip (HasSequence d) l all.0) rules (AllZip-lent (HasSequence d) runways all.0 all.1) in
       let same = subst (λ (l : List RunwayPlanRecord). IsPermutation all.0 (l ++ made)) (sym copies_is) all.2 in
       let early : early_among aims ≡ blocked_early (flights_of d) (times_of d) (now_of d.journal) = ap early_among aims_is ∙ blocked-among (times_of d) (now_of d.journal) (flights_of d) in

@@ -29,7 +29,7 @@ use Rattle.cdm_sequence.specs.Slots.{SlotRecord}
 use Rattle.std.proofs.Common.{IfSome, length-append}
 use Rattle.std.proofs.lemmas.List.Sorted.{length_permutation}
 use Rattle.cdm_day.specs.Planning.{early_in, planned_of, target_in, targets_in, blocked_in, is_on, fixed_on, targets_on}
-use Rattle.cdm_day.specs.Aimed.{IsAimed, if_on, target_for, CanSequence}
+use Rattle.cdm_day.specs.inner.Aimed.{IsAimed, if_on, target_for, CanSequence}
 use Rattle.cdm_runway.specs.Rules.{RunwayRules}
 use Rattle.cdm_sequence.specs.Slots.{RunwayPlanRecord}
 use Rattle.std.specs.List.{AllZip}

@@ -13,8 +13,9 @@ use Rattle.cdm_flight.specs.declared.update.Update.TheVariants.{Flt, Taxi}
 use Rattle.cdm_flight.specs.declared.word.RefusalWord.TheVariants.{Unknown, Exists, Ended, OffBlock, Order, NotReady, Full}
 use Rattle.cdm_flight.specs.Names.{same_name}
 use Rattle.cdm_flight.specs.Step.{flight_of_update, is_fresh, is_air}
+use Rattle.cdm_flight.specs.Taxi.{is_one_stand_too_many}
 use Rattle.cdm_flight.specs.Journal.{AirportRows, touches, makes_known, sets_runway, is_known, flight_of, runway_of}
-use Rattle.cdm_flight.specs.Accepted.{has_runway, has_ended, has_left, of_flight, is_unknown, is_known_already, is_disordered, is_unready, is_one_stand_too_many, is_full, refusal_of}
+use Rattle.cdm_flight.specs.Accepted.{has_runway, has_ended, has_left, of_flight, is_unknown, is_known_already, is_disordered, is_unready, is_full, stands_with_rows, refusal_of}
 use Rattle.cdm_flight.proofs.JournalLemmas.{last_value-push}
 use Rattle.cdm_flight.proofs.Lists.{list_any-push}
 use Rattle.cdm_day.specs.Day.{Day, flights_in, with_update}
@@ -35,7 +36,7 @@ room_left g a u good = last (is_unknown g a u) (is_known_already a u) (of_flight
   where
     full_if : (v : Update) → nat_le 20000 (length a) ≡ true → is_full g a v ≡ true
     full_if (Flt f p) h = ap (λ b. b || nat_le 2000 (count_by is_fresh a)) h
-    full_if (Taxi place r minutes) h = ap (λ b. b || is_one_stand_too_many g a place) h
+    full_if (Taxi place r minutes) h = ap (λ b. b || is_one_stand_too_many (stands_with_rows g a) place) h
     full_if _ h = h
 
     last : (b1 b2 b3 b4 b5 b6 b7 b : Bool) → (b ≡ true → b7 ≡ true) → nat_le 20000 (length a) ≡ b

@@ -1,1 +1,4 @@
+pub mod Aimed
+pub mod AirportCode
 pub mod Kept
+pub mod Tables

@@ -4,7 +4,7 @@ ghost use Rattle.std.specs.List.{filter_map};
 ghost use Rattle.std.specs.FinMap as finite;
 ghost use Rattle.cdm_flight.specs.Record.{is_planned};
 ghost use Rattle.cdm_day.specs.Planning.{blocked_in, planned_of};
-ghost use Rattle.cdm_day.specs.Aimed.{IsAimed, early_among, target_for};
+ghost use Rattle.cdm_day.specs.inner.Aimed.{IsAimed, early_among, target_for};
 
 use cdm_flight::{Flight, FlightName, RunwayName, Status, push_last};
 use cdm_sequence::{AimResult, BlockedFlight, Target, aim};

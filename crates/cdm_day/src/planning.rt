@@ -8,7 +8,7 @@ ghost use Rattle.cdm_day.specs.Planning.{HasParts, fixed_on, is_on};
 ghost use Rattle.cdm_day.specs.Day.{rules_in};
 ghost use Rattle.cdm_day.specs.DayPlan.{IsDayPlan, records_in};
 ghost use Rattle.cdm_day.specs.Sound.{IsSound};
-ghost use Rattle.cdm_day.specs.Aimed.{CanSequence, early_among, target_for};
+ghost use Rattle.cdm_day.specs.inner.Aimed.{CanSequence, early_among, target_for};
 ghost use Rattle.cdm_day.specs.inner.Kept.{AreKept, IsMade};
 
 use crate::aimed::{Aimed, blocked, planned_flights, targets_on_runway};

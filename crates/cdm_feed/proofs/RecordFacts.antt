@@ -7,7 +7,8 @@ use Rattle.csv.specs.declared.parser.Action.{Action}
 use Rattle.csv.specs.declared.parser.Action.TheVariants as act
 use Rattle.csv.specs.declared.parser.State.{State}
 use Rattle.csv.specs.declared.parser.State.TheVariants as st
-use Rattle.cdm_feed.specs.Records.{IsBetweenRecords, records_at, records_left, records_of, unread}
+use Rattle.cdm_feed.specs.Records.{records_of}
+use Rattle.cdm_feed.specs.inner.RecordsLeft.{IsBetweenRecords, records_at, records_left, unread}
 
 -- an outcome that ends a record is between two records
 abbrev pub EndsBetween : State × Action → Type 0

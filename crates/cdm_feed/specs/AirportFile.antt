@@ -5,6 +5,7 @@ use Rattle.cdm_flight.specs.declared.word.RefusalWord.{RefusalWord}
 use Rattle.cdm_flight.specs.declared.word.RefusalWord.TheVariants as word
 use Rattle.cdm_flight.specs.Journal.{AirportRows}
 use Rattle.cdm_day.specs.Airport.{runway_word, taxi_word, with_runway, with_taxi}
+use Rattle.cdm_feed.specs.Fields.{and_then}
 use Rattle.cdm_feed.specs.AirportRecords.{airport_record_of}
 use Rattle.cdm_feed.specs.Files.{after_records}
 use Rattle.cdm_feed.specs.Records.{records_of}
@@ -28,11 +29,7 @@ with_record (Some g) (Taxi place r minutes) = unless (taxi_word g place r) (with
 
 -- the airport after one more record of the file, as its fields spell it
 unfoldable pub airport_after : Option AirportRows → List (List ℕ) → Result (Option AirportRows) RefusalWord
-airport_after g fields = by (airport_record_of fields)
-  where
-    by : Result AirportRecord RefusalWord → Result (Option AirportRows) RefusalWord
-    by (Ok said) = with_record g said
-    by (Err word) = Err word
+airport_after g fields = and_then (airport_record_of fields) (with_record g)
 
 -- a file without records has no DAY
 abbrev pub begun : Result (Option AirportRows) (ℕ × RefusalWord) → Result AirportRows (ℕ × RefusalWord)

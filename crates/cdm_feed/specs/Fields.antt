@@ -25,10 +25,14 @@ field fields place = unwrap_or (field_at fields place) []
 abbrev pub of_fields : {X : Type 0} → ℕ → List (List ℕ) → Result X RefusalWord → Result X RefusalWord
 of_fields count fields r = if length fields == count then r else Err Fields
 
+-- goes on with a good value, and keeps the word that refuses a faulty one
+abbrev pub and_then : {A X : Type 0} → Result A RefusalWord → (A → Result X RefusalWord) → Result X RefusalWord
+and_then (Ok a) more = more a
+and_then (Err word) more = Err word
+
 -- what a good field's value makes
 abbrev pub of_one : {A X : Type 0} → (A → X) → Result A RefusalWord → Result X RefusalWord
-of_one f (Ok a) = Ok (f a)
-of_one f (Err word) = Err word
+of_one f r = and_then r (λ a. Ok (f a))
 
 -- Several fields.
 

@@ -25,18 +25,11 @@ kind_of text =
 
 -- how many fields follow the kind
 abbrev pub field_count : Kind → ℕ
-field_count Flt = 2
-field_count Tobt = 2
-field_count Stand = 2
-field_count Rwy = 2
-field_count Ctot = 2
-field_count Ice = 3
-field_count Prio = 2
-field_count Off = 2
-field_count Air = 2
 field_count Cnl = 1
-field_count Rate = 4
+field_count Clock = 1
+field_count Ice = 3
 field_count Close = 3
 field_count Reopen = 3
 field_count Taxi = 3
-field_count Clock = 1
+field_count Rate = 4
+field_count kind = 2

@@ -1,6 +1,7 @@
 -- The updates that a feed spells, and its refused records.
 use Rattle.std.specs.Prelude.{ℕ, ◌+◌, List, [], ◌∷◌, ◌++◌, Option, None, Some, Result, Ok, Err}
 use Rattle.std.specs.List.{filter_map}
+use Rattle.std.specs.Result.{result_ok}
 use Rattle.cdm_flight.specs.Accepted.{after_one, refusal}
 use Rattle.cdm_flight.specs.Journal.{AirportRows}
 use Rattle.cdm_flight.specs.declared.role.Role.{Role}
@@ -11,14 +12,9 @@ use Rattle.cdm_flight.specs.declared.word.RefusalWord.{RefusalWord}
 abbrev pub Spelled : Type 0
 Spelled = Result (Role × Update) RefusalWord
 
--- the role and the update, if it spells them
-abbrev pub update_in : Spelled → Option (Role × Update)
-update_in (Ok p) = Some p
-update_in (Err word) = None
-
 -- the updates that the records spell, in order
 unfoldable pub updates_in : List Spelled → List (Role × Update)
-updates_in records = filter_map update_in records
+updates_in records = filter_map result_ok records
 
 -- a record by its number, if a word refuses it
 abbrev pub if_refused : ℕ → Option RefusalWord → List (ℕ × RefusalWord)

@@ -7,7 +7,7 @@ use Rattle.cdm_flight.specs.declared.update.Update.{Update}
 use Rattle.cdm_flight.specs.declared.word.RefusalWord.{RefusalWord}
 use Rattle.cdm_flight.specs.declared.word.RefusalWord.TheVariants as word
 use Rattle.cdm_scenario.specs.Scenarios.{ScenarioRecord, empty_scenario}
-use Rattle.cdm_feed.specs.Fields.{of_one}
+use Rattle.cdm_feed.specs.Fields.{and_then, of_one}
 use Rattle.cdm_feed.specs.Files.{after_records}
 use Rattle.cdm_feed.specs.Records.{records_of}
 use Rattle.cdm_feed.specs.ScenarioRecords.{scenario_line_of}
@@ -43,11 +43,7 @@ with_line scenarios (Next update) = with_next scenarios update
 
 -- the scenarios after one more record of the file, as its fields spell it
 unfoldable pub scenarios_after : CalendarDate → List ScenarioRecord → List (List ℕ) → Result (List ScenarioRecord) RefusalWord
-scenarios_after day scenarios fields = by (scenario_line_of day fields)
-  where
-    by : Result ScenarioLine RefusalWord → Result (List ScenarioRecord) RefusalWord
-    by (Ok line) = with_line scenarios line
-    by (Err word) = Err word
+scenarios_after day scenarios fields = and_then (scenario_line_of day fields) (with_line scenarios)
 
 -- the scenarios that a file says, or the number and the word of its first faulty record
 unfoldable pub scenarios_in : CalendarDate → List ℕ → Result (List ScenarioRecord) (ℕ × RefusalWord)

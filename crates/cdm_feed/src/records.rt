@@ -19,7 +19,7 @@ impl<'a> Model for RecordReader<'a> {
 
     ghost Value = { List (List (List ℕ)) };
 
-    ghost use Rattle.cdm_feed.specs.Records.{IsBetweenRecords, records_left};
+    ghost use Rattle.cdm_feed.specs.inner.RecordsLeft.{IsBetweenRecords, records_left};
 
     ghost view = { λ r. if r.ended then [] else records_left r.reader };
 

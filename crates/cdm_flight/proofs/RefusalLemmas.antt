@@ -63,8 +63,7 @@ module _ (g : AirportRows) (a : List Update) (f : List ℕ) where
   ready-record _ r e there = refl
 
 not_known_already : (a : List Update) (u : Update) → is_fresh u ≡ false → is_known_already a u ≡ false
-not_known_already a (Flt f p) h = cc
-not_known_already a _ h = refl
+not_known_already a u h = ap (λ b. b && of_flight (is_known a) u) h
 
 -- the words on an update of a flight that is known
 pub refusal_of-flight : (g : AirportRows) (a : List Update) (u : Update) (f : List ℕ) (r : Record) → flight_of_update u ≡ Some f → is_fresh u ≡ false → is_unknown g a u ≡ false → flight_of g a f ≡ Some r

@@ -1,49 +1,34 @@
 -- Which updates are refused and why, and what a batch of them leaves.
 use Rattle.std.specs.Prelude.{ℕ, ◌+◌, ◌%◌, ◌==◌, Bool, true, false, not, ◌&&◌, ◌||◌, nat_lt, nat_le, if◌then◌else◌, List, [], ◌∷◌, ◌++◌, length, Option, None, Some, is_none, is_some, count_by}
 use Rattle.std.specs.Option.{option_map_or}
-use Rattle.std.specs.List.{filter_map, list_any}
-use Rattle.std.specs.Set.{distinct_count}
+use Rattle.std.specs.List.{filter_map}
 use Rattle.cdm_flight.specs.declared.role.Role.{Role}
-use Rattle.cdm_flight.specs.declared.place.Place.{Place}
 use Rattle.cdm_flight.specs.declared.update.Update.{Update}
-use Rattle.cdm_flight.specs.declared.update.Update.TheVariants.{Flt, Tobt, Stand, Rwy, Ctot, Ice, Prio, Off, Air, Cnl, Rate, Close, Reopen, Taxi, Clock}
+use Rattle.cdm_flight.specs.declared.update.Update.TheVariants.{Flt, Off, Air, Rate, Close, Reopen, Taxi, Clock}
 use Rattle.cdm_flight.specs.declared.word.RefusalWord.{RefusalWord}
 use Rattle.cdm_flight.specs.declared.word.RefusalWord.TheVariants.{Authority, Unknown, Exists, Ended, OffBlock, Order, NotReady, Full}
 use Rattle.cdm_flight.specs.Authority.{may_make}
-use Rattle.cdm_flight.specs.Names.{same_name}
-use Rattle.cdm_flight.specs.Step.{flight_of_update, is_fresh, is_air}
-use Rattle.cdm_flight.specs.Taxi.{stand_of_place, stands_in}
+use Rattle.cdm_flight.specs.Step.{flight_of_update, runway_of_update, is_fresh, is_air}
+use Rattle.cdm_flight.specs.Taxi.{stand_of_place, stands_in, is_one_stand_too_many}
 use Rattle.cdm_flight.specs.Journal.{AirportRows, runway_row, is_known, is_cancelled, aobt_of, atot_of, runway_of, exot_of, now_of}
 
 -- the airport has the runway
 abbrev pub has_runway : AirportRows → List ℕ → Bool
 has_runway g r = is_some (runway_row g r)
 
--- UNKNOWN: of a flight without an FLT, or of a runway that the airport hasn't
+-- the update is of a flight for which this holds
+abbrev pub of_flight : (List ℕ → Bool) → Update → Bool
+of_flight holds u = option_map_or holds (flight_of_update u) false
+
+-- UNKNOWN: the flight of the update isn't known, or its runway isn't the airport's; an FLT makes its
+-- flight known
 abbrev pub is_unknown : AirportRows → List Update → Update → Bool
-is_unknown g a (Flt f p) = false
-is_unknown g a (Rwy f r) = not (is_known a f) || not (has_runway g r)
-is_unknown g a (Rate r from to cap) = not (has_runway g r)
-is_unknown g a (Close r from to) = not (has_runway g r)
-is_unknown g a (Reopen r from to) = not (has_runway g r)
-is_unknown g a (Taxi place r minutes) = not (has_runway g r)
-is_unknown g a (Clock m) = false
-is_unknown g a (Tobt f t) = not (is_known a f)
-is_unknown g a (Stand f s) = not (is_known a f)
-is_unknown g a (Ctot f c) = not (is_known a f)
-is_unknown g a (Ice f i) = not (is_known a f)
-is_unknown g a (Prio f p) = not (is_known a f)
-is_unknown g a (Off f m) = not (is_known a f)
-is_unknown g a (Air f m) = not (is_known a f)
-is_unknown g a (Cnl f) = not (is_known a f)
+is_unknown g a u =
+    option_map_or (λ r. not (has_runway g r)) (runway_of_update u) false || (not (is_fresh u) && of_flight (λ f. not (is_known a f)) u)
 
 -- EXISTS: FLT of a flight that has one
 abbrev pub is_known_already : List Update → Update → Bool
-is_known_already a (Flt f p) = is_known a f
-is_known_already a _ = false
-
-abbrev pub of_flight : (List ℕ → Bool) → Update → Bool
-of_flight holds u = option_map_or holds (flight_of_update u) false
+is_known_already a u = is_fresh u && of_flight (is_known a) u
 
 -- the flight is airborne or cancelled
 abbrev pub has_ended : List Update → List ℕ → Bool
@@ -81,16 +66,10 @@ stand_with_taxi _ = None
 abbrev pub stands_with_rows : AirportRows → List Update → List (List ℕ)
 stands_with_rows g a = stands_in g.taxi ++ filter_map stand_with_taxi a
 
--- a stand without a row, where 400 stands have rows
-abbrev pub is_one_stand_too_many : AirportRows → List Update → Place → Bool
-is_one_stand_too_many g a place =
-    option_map_or (λ stand. not (list_any (same_name stand) (stands_with_rows g a))) (stand_of_place place) false
-    && nat_le 400 (distinct_count same_name (stands_with_rows g a))
-
 -- FULL: 20,000 updates were accepted, 2,000 flights are known, or 400 stands have rows
 abbrev pub is_full : AirportRows → List Update → Update → Bool
 is_full g a (Flt f p) = nat_le 20000 (length a) || nat_le 2000 (count_by is_fresh a)
-is_full g a (Taxi place r minutes) = nat_le 20000 (length a) || is_one_stand_too_many g a place
+is_full g a (Taxi place r minutes) = nat_le 20000 (length a) || is_one_stand_too_many (stands_with_rows g a) place
 is_full g a _ = nat_le 20000 (length a)
 
 -- the first word that holds, of those that ask the airport and the journal

@@ -1,6 +1,6 @@
 -- What a journal says: a list of accepted updates, oldest first, over the rows of an airport.
 use Rattle.std.specs.Prelude.{ℕ, Bool, true, false, ◌&&◌, if◌then◌else◌, List, [], ◌∷◌, Option, None, Some, is_some, unwrap_or}
-use Rattle.std.specs.Option.{option_and_then, option_map, option_map_or, option_or}
+use Rattle.std.specs.Option.{option_and_then, option_eq, option_map, option_map_or, option_or}
 use Rattle.std.specs.List.{find, list_any}
 use Rattle.std.specs.FinMap as map
 use Rattle.cdm_time.specs.Windows.{has_minute}
@@ -91,13 +91,9 @@ abbrev pub cancels : List ℕ → Update → Bool
 cancels f (Cnl g) = same_name g f
 cancels f _ = false
 
+-- the same stand, or the default both
 abbrev pub same_place : Place → Place → Bool
-same_place p q = by (stand_of_place p) (stand_of_place q)
-  where
-    by : Option (List ℕ) → Option (List ℕ) → Bool
-    by None None = true
-    by (Some s) (Some t) = same_name s t
-    by _ _ = false
+same_place p q = option_eq same_name (stand_of_place p) (stand_of_place q)
 
 abbrev pub sets_taxi : Place → List ℕ → Update → Option ℕ
 sets_taxi place r (Taxi p s minutes) = only_if (same_place p place && same_name s r) minutes

@@ -4,7 +4,7 @@ use Rattle.std.specs.Option.{option_map_or}
 use Rattle.cdm_flight.specs.declared.flight.Status.{Status}
 use Rattle.cdm_flight.specs.declared.flight.Status.TheVariants.{Planned, OffBlock, Airborne, Cancelled}
 use Rattle.cdm_flight.specs.declared.update.Update.{Update}
-use Rattle.cdm_flight.specs.declared.update.Update.TheVariants.{Flt, Tobt, Stand, Rwy, Ctot, Ice, Prio, Off, Air, Cnl}
+use Rattle.cdm_flight.specs.declared.update.Update.TheVariants.{Flt, Tobt, Stand, Rwy, Ctot, Ice, Prio, Off, Air, Cnl, Rate, Close, Reopen, Taxi}
 use Rattle.cdm_flight.specs.declared.word.RefusalWord.{RefusalWord}
 use Rattle.cdm_flight.specs.declared.word.RefusalWord.TheVariants.{Ended, OffBlock as OffBlockWord, Order, NotReady}
 use Rattle.cdm_flight.specs.Record.{Record}
@@ -22,6 +22,15 @@ flight_of_update (Off f m) = Some f
 flight_of_update (Air f m) = Some f
 flight_of_update (Cnl f) = Some f
 flight_of_update _ = None
+
+-- the runway that an update is of, or that it gives a flight
+abbrev pub runway_of_update : Update → Option (List ℕ)
+runway_of_update (Rwy f r) = Some r
+runway_of_update (Rate r from to cap) = Some r
+runway_of_update (Close r from to) = Some r
+runway_of_update (Reopen r from to) = Some r
+runway_of_update (Taxi place r minutes) = Some r
+runway_of_update _ = None
 
 -- it makes a flight known
 abbrev pub is_fresh : Update → Bool

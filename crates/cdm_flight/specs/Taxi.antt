@@ -1,15 +1,16 @@
 -- Variable taxi times: the minutes from each place to each runway.
-use Rattle.std.specs.Prelude.{ℕ, ◌+◌, List, Option, None, Some}
+use Rattle.std.specs.Prelude.{ℕ, ◌+◌, Bool, false, not, ◌&&◌, nat_le, List, Option, None, Some}
 use Rattle.std.specs.declared.cmp.Ordering.{Ordering}
 use Rattle.std.specs.Ordering.{ordering_then}
-use Rattle.std.specs.Option.{option_cmp, option_map, option_or}
-use Rattle.std.specs.List.{filter_map}
+use Rattle.std.specs.Option.{option_cmp, option_map, option_map_or, option_or}
+use Rattle.std.specs.List.{filter_map, list_any}
+use Rattle.std.specs.Set.{distinct_count}
 use Rattle.std.specs.FinMap.{FinMap, keys}
 use Rattle.cdm_flight.specs.declared.ice.Ice.{Ice}
 use Rattle.cdm_flight.specs.declared.ice.Ice.TheVariants.{Remote}
 use Rattle.cdm_flight.specs.declared.place.Place.{Place}
 use Rattle.cdm_flight.specs.declared.place.Place.TheVariants as place
-use Rattle.cdm_flight.specs.Names.{name_cmp}
+use Rattle.cdm_flight.specs.Names.{name_cmp, same_name}
 
 -- the stand of a place, unless it is the default
 abbrev pub stand_of_place : Place → Option (List ℕ)
@@ -27,6 +28,14 @@ TaxiRows = FinMap taxi_cmp ℕ
 -- the stands that have rows, once for each row
 abbrev pub stands_in : TaxiRows → List (List ℕ)
 stands_in rows = filter_map (λ key. stand_of_place key.0) (keys rows)
+
+-- a stand that is none of those which have rows
+abbrev pub is_new_stand : List (List ℕ) → Place → Bool
+is_new_stand stands place = option_map_or (λ stand. not (list_any (same_name stand) stands)) (stand_of_place place) false
+
+-- a stand without a row, where 400 stands have rows
+abbrev pub is_one_stand_too_many : List (List ℕ) → Place → Bool
+is_one_stand_too_many stands place = is_new_stand stands place && nat_le 400 (distinct_count same_name stands)
 
 -- the taxi time from the stand that the flight has, else the default
 abbrev pub taxi_time : (Place → Option ℕ) → Option (List ℕ) → Option ℕ

@@ -1,7 +1,7 @@
 -- The slots that pieces are put into.
 use Rattle.std.proofs.Common.{◌≡◌, ℕ, zero, suc, set, ◌<◌, List, [], ◌∷◌, length, get_or, sym, Option, Some, None, IsNone, IfSome, All, Contains, Vec, Global, arith}
 use Rattle.std.proofs.lemmas.List.Elements.{All-same, All-head, All-contains_itself}
-use Rattle.cdm_phase.specs.Slots.{AreSlotsOf}
+use Rattle.cdm_phase.specs.inner.Slots.{AreSlotsOf}
 use Rattle.cdm_phase.specs.declared.piece.Piece.{Piece}
 
 -- a fact of each place and its element, after a write

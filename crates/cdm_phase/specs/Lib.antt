@@ -1,2 +1,2 @@
 pub mod Piece
-pub mod Slots
+pub mod inner

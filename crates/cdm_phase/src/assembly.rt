@@ -2,7 +2,7 @@
 ghost use Rattle.std.specs.Prelude.{◌≡◌, ◌*◌, ◌<◌, All, IfOk, IfSome, IsNone, length, vec_len};
 ghost use Rattle.std.specs.List.{AllZip};
 ghost use Rattle.cdm_phase.specs.Piece.{items_of, IsPieceOf};
-ghost use Rattle.cdm_phase.specs.Slots.{AreSlotsOf};
+ghost use Rattle.cdm_phase.specs.inner.Slots.{AreSlotsOf};
 
 use crate::job::Job;
 use crate::piece::{Piece, piece_count, run_piece};

@@ -6,7 +6,8 @@ use Rattle.std.proofs.lemmas.List.Elements.{filter_map-append}
 use Rattle.std.proofs.lemmas.List.Sums.{fold-append}
 use Rattle.cdm_sequence.specs.Slots.{SlotRecord, RunwayPlanRecord, PlanRecord}
 use Rattle.cdm_report.specs.declared.counts.Counts.{Counts}
-use Rattle.cdm_report.specs.Counts.{counts_of, delays_in, delays_of, is_late, only_blocked, with_delay}
+use Rattle.cdm_report.specs.Counts.{counts_of, delays_in, delays_of, is_late}
+use Rattle.cdm_report.specs.inner.Counting.{only_blocked, with_delay}
 
 -- one more slot
 pub fold-delays_in_more : (counts : Counts) (slots : List SlotRecord) (i : ℕ) (slot : SlotRecord) (delay : Option ℕ) → i < length slots → slot ≡ get_or slots i slot → slot.delay ≡ delay

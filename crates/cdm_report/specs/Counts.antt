@@ -1,10 +1,11 @@
 -- The indicators of a plan.
-use Rattle.std.specs.Prelude.{ℕ, ◌+◌, ◌==◌, Bool, List, length, max, sum, fold, count_by, flat_map, nat_lt, if◌then◌else◌}
+use Rattle.std.specs.Prelude.{ℕ, Bool, List, length, max, sum, fold, count_by, bytes_eq, flat_map, nat_lt}
 use Rattle.std.specs.List.{filter_map}
 use Rattle.cdm_sequence.specs.declared.rule.Rule.{Rule}
 use Rattle.cdm_sequence.specs.declared.rule.Rule.TheVariants as rules
 use Rattle.cdm_sequence.specs.declared.slot.BlockedFlight.{BlockedFlight}
 use Rattle.cdm_sequence.specs.Slots.{SlotRecord, PlanRecord}
+use Rattle.cdm_sequence.specs.Words.{rule_text}
 use Rattle.cdm_report.specs.declared.counts.Counts.{Counts}
 
 -- the count of a rule
@@ -29,52 +30,24 @@ delays_of plan = flat_map (λ runway. delays_in runway.slots) plan.runways
 abbrev pub is_late : ℕ → Bool
 is_late delay = nat_lt 15 delay
 
--- the place of a rule in the order of rules
-abbrev pub rule_number : Rule → ℕ
-rule_number rules.Tobt = 0
-rule_number rules.Runway = 1
-rule_number rules.Exot = 2
-rule_number rules.Horizon = 3
-rule_number rules.Ctot = 4
-rule_number rules.Closure = 5
-rule_number rules.Rate = 6
-
 -- how many of the flights the rule blocks
 abbrev pub blocked_by : Rule → List BlockedFlight → ℕ
-blocked_by rule blocked = count_by (λ flight. rule_number flight.rule == rule_number rule) blocked
-
--- the indicators where these flights are blocked and no other is planned
-abbrev pub only_blocked : List BlockedFlight → Counts
-only_blocked blocked = record {
-  placed = 0;
-  delay = 0;
-  greatest = 0;
-  late = 0;
-  blocked = length blocked;
-  tobt = blocked_by rules.Tobt blocked;
-  runway = blocked_by rules.Runway blocked;
-  exot = blocked_by rules.Exot blocked;
-  horizon = blocked_by rules.Horizon blocked;
-  ctot = blocked_by rules.Ctot blocked;
-  closure = blocked_by rules.Closure blocked;
-  rate = blocked_by rules.Rate blocked;
-}
-
--- a delay counted in
-abbrev pub with_delay : Counts → ℕ → Counts
-with_delay counts delay = record counts {
-  placed = counts.placed + 1;
-  delay = counts.delay + delay;
-  greatest = max counts.greatest delay;
-  late = counts.late + (if is_late delay then 1 else 0);
-}
+blocked_by rule blocked = count_by (λ flight. bytes_eq (rule_text flight.rule) (rule_text rule)) blocked
 
 -- the indicators: how many delays there are, their sum, the greatest, those of late flights, and the blocked
 -- flights, also by rule
 unfoldable pub counts_of : PlanRecord → Counts
-counts_of plan = record (only_blocked plan.blocked) {
+counts_of plan = record {
   placed = length (delays_of plan);
   delay = sum (delays_of plan);
   greatest = fold max 0 (delays_of plan);
   late = count_by is_late (delays_of plan);
+  blocked = length plan.blocked;
+  tobt = blocked_by rules.Tobt plan.blocked;
+  runway = blocked_by rules.Runway plan.blocked;
+  exot = blocked_by rules.Exot plan.blocked;
+  horizon = blocked_by rules.Horizon plan.blocked;
+  ctot = blocked_by rules.Ctot plan.blocked;
+  closure = blocked_by rules.Closure plan.blocked;
+  rate = blocked_by rules.Rate plan.blocked;
 }

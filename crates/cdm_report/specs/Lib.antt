@@ -2,3 +2,4 @@ pub mod Columns
 pub mod Counts
 pub mod Report
 pub mod Delta
+pub mod inner

@@ -33,7 +33,7 @@ pub struct RunwayLoad {
 impl Model for RunwayLoad {
     ghost use Rattle.std.specs.Prelude.{take};
     ghost use Rattle.cdm_runway.specs.Load.{Load};
-    ghost use Rattle.cdm_runway.specs.Tally.{AreCounted};
+    ghost use Rattle.cdm_runway.specs.inner.Tally.{AreCounted};
 
     ghost Value = { Load };
 

@@ -1,5 +1,5 @@
 -- What is laid over a day, after one more update.
-use Rattle.std.proofs.Common.{◌≡◌, ℕ, zero, suc, ◌-◌, ◌<◌, ◌≤◌, Bool, true, false, not, List, [], ◌∷◌, ◌++◌, length, Option, None, Some, refl, sym, ap, ◌∙◌, subst, true≢false, arith}
+use Rattle.std.proofs.Common.{◌≡◌, ℕ, zero, suc, ◌-◌, ◌<◌, ◌≤◌, Bool, true, false, not, ◌||◌, List, [], ◌∷◌, ◌++◌, length, Option, None, Some, refl, sym, ap, ◌∙◌, subst, true≢false, arith}
 use Rattle.std.specs.Prelude.{unwrap_or, is_some, slice_get}
 use Rattle.std.specs.Option.{option_and_then, option_map, option_map_or, option_or}
 use Rattle.std.specs.List.{Contains}
@@ -26,7 +26,7 @@ use Rattle.cdm_runway.specs.Rules.{RunwayRules}
 use Rattle.cdm_day.specs.Day.{Day, flights_in, rules_of, rules_in, rows_by_name}
 use Rattle.cdm_day.specs.Runways.{has_window, is_of_runway, with_change, window_end, window_runway}
 use Rattle.cdm_day.specs.Sound.{IsSound, TellTaxi}
-use Rattle.cdm_day.specs.Tables.{Flights}
+use Rattle.cdm_day.specs.inner.Tables.{Flights}
 use Rattle.cdm_day.specs.TaxiRows.{is_taxi, row_fits, with_row}
 use Rattle.cdm_day.proofs.AfterLemmas.{with_change-other}
 use Rattle.cdm_day.proofs.DayPlanLemmas.{record_name}
@@ -199,10 +199,14 @@ module _ {g : AirportRows} {a e : List Update} {m : Flights} {new : List (List �
           named : (s : List ℕ) → s ≡ r → not (is_some (runway_row g s)) ≡ false → ⊥
           named s same k = never (runway_row g r) none (ap (λ n. not (is_some (runway_row g n))) (sym same) ∙ k)
 
+          first : (b c : Bool) → (b || c) ≡ false → b ≡ false
+          first true c k = cc
+          first false c k = refl
+
           by : (v : Update) → window_runway v ≡ Some r → is_unknown g e v ≡ false → ⊥
-          by (Rate s from to most) h k = let same : s ≡ r = cc in named s same k
-          by (Close s from to) h k = let same : s ≡ r = cc in named s same k
-          by (Reopen s from to) h k = let same : s ≡ r = cc in named s same k
+          by (Rate s from to most) h k = let same : s ≡ r = cc in named s same (first _ false k)
+          by (Close s from to) h k = let same : s ≡ r = cc in named s same (first _ false k)
+          by (Reopen s from to) h k = let same : s ≡ r = cc in named s same (first _ false k)
           by _ h k = cc
 
       has : (row : RunwayRow) → Contains g.runways row → has_window u (rules_of g e row) ≡ true

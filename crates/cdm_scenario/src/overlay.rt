@@ -41,7 +41,7 @@ pub struct Overlay<'a> {
 impl<'a> Model for Overlay<'a> {
     ghost use Rattle.std.specs.Prelude.{◌++◌};
     ghost use Rattle.std.specs.Coded.{codes};
-    ghost use Rattle.cdm_day.specs.AirportCode.{airport_code};
+    ghost use Rattle.cdm_day.specs.inner.AirportCode.{airport_code};
     ghost use Rattle.cdm_day.specs.Day.{Day};
 
     ghost Value = { Day };

@@ -17,8 +17,8 @@ use Rattle.std.proofs.lemmas.Map.Steps.{list_any_congr}
 use Rattle.cdm_flight.specs.declared.place.Place.{Place}
 use Rattle.cdm_flight.specs.declared.place.Place.TheVariants as place
 use Rattle.cdm_flight.specs.Names.{name_cmp, same_name}
-use Rattle.cdm_flight.specs.Taxi.{TaxiRows, stand_of_place, stands_in, taxi_cmp}
-use Rattle.cdm_taxi.specs.Stands.{has_row, stands_with_rows, is_new_stand}
+use Rattle.cdm_flight.specs.Taxi.{TaxiRows, is_new_stand, stand_of_place, stands_in, taxi_cmp}
+use Rattle.cdm_taxi.specs.Stands.{has_row, stand_count}
 use Rattle.cdm_taxi.specs.inner.StandSet.{AreStandsOf}
 use Rattle.cdm_taxi.proofs.TaxiLemmas.{taxi_cmp_total, taxi_cmp_same}
 
@@ -126,8 +126,8 @@ entries-empty : map.entries (map.empty {X = ℕ} {R = taxi_cmp}) ≡ []
 entries-empty = entries_none (map.entries (map.empty {X = ℕ} {R = taxi_cmp})) (sym (map.len-entries (map.empty {X = ℕ} {R = taxi_cmp})) ∙ map.len-empty taxi_cmp ℕ)
 
 -- no stand has a row in an empty table
-pub stands_with_rows-empty : stands_with_rows map.empty ≡ 0
-stands_with_rows-empty = ap (λ (es : List (Key × ℕ)). distinct_count same_name (filter_map (λ key. stand_of_place key.0) (map (λ e. e.0) es))) entries-empty
+pub stand_count-empty : stand_count map.empty ≡ 0
+stand_count-empty = ap (λ (es : List (Key × ℕ)). distinct_count same_name (filter_map (λ key. stand_of_place key.0) (map (λ e. e.0) es))) entries-empty
 
 -- a stand has a row where one of the entries is its
 pub has_row-from_entries : (es : List (Key × ℕ)) (stand : List ℕ) → has_row (map.from_entries es) stand ≡ list_any (λ e. is_stand_of stand e.0.0) es
@@ -146,11 +146,11 @@ counted true stand stands = refl
 counted false stand stands = omega arith
 
 -- a row adds its stand, unless it is a default or the stand had one
-pub stands_with_rows-insert : (rows : TaxiRows) (p : Place) (r : List ℕ) (minutes : ℕ)
-    → stands_with_rows (map.insert rows (p, r) minutes) ≡ (if is_new_stand rows p then stands_with_rows rows + 1 else stands_with_rows rows)
-stands_with_rows-insert rows place.Default r minutes =
+pub stand_count-insert : (rows : TaxiRows) (p : Place) (r : List ℕ) (minutes : ℕ)
+    → stand_count (map.insert rows (p, r) minutes) ≡ (if is_new_stand (stands_in rows) p then stand_count rows + 1 else stand_count rows)
+stand_count-insert rows place.Default r minutes =
     distinct_count-same nat_list_eq_equiv (stands_in (map.insert rows (place.Default, r) minutes)) (stands_in rows) (has_row-insert rows place.Default r minutes)
-stands_with_rows-insert rows (place.Stand stand) r minutes =
+stand_count-insert rows (place.Stand stand) r minutes =
     distinct_count-same nat_list_eq_equiv (stands_in (map.insert rows (place.Stand stand, r) minutes)) (stand ∷ stands_in rows) (has_row-insert rows (place.Stand stand) r minutes)
     ∙ counted (has_row rows stand) stand (unique_keys same_name (stands_in rows))
 
@@ -171,23 +171,23 @@ or_cond false c = refl
 pub are_stands_of_none : (rows : TaxiRows) → rows ≡ map.from_entries [] → AreStandsOf rows []
 are_stands_of_none rows none = record {
   each = λ stand. sym (has_row-from_entries [] stand) ∙ ap (λ (r : TaxiRows). has_row r stand) (sym none);
-  count = sym (ap (λ (r : TaxiRows). stands_with_rows r) none ∙ stands_with_rows-none);
+  count = sym (ap (λ (r : TaxiRows). stand_count r) none ∙ stand_count-none);
 }
   where
-    stands_with_rows-none : stands_with_rows (map.from_entries []) ≡ 0
-    stands_with_rows-none = stands_with_rows-empty
+    stand_count-none : stand_count (map.from_entries []) ≡ 0
+    stand_count-none = stand_count-empty
 
 -- a row of a default, or of a stand that has a row, adds none
-pub are_stands_of-insert_old : (rows : TaxiRows) (names : List (List ℕ)) (p : Place) (r : List ℕ) (minutes : ℕ) → AreStandsOf rows names → is_new_stand rows p ≡ false
+pub are_stands_of-insert_old : (rows : TaxiRows) (names : List (List ℕ)) (p : Place) (r : List ℕ) (minutes : ℕ) → AreStandsOf rows names → is_new_stand (stands_in rows) p ≡ false
     → AreStandsOf (map.insert rows (p, r) minutes) names
 are_stands_of-insert_old rows names place.Default r minutes old is_old = record {
   each = λ stand. old.each stand ∙ sym (has_row-insert rows place.Default r minutes stand);
-  count = old.count ∙ sym (stands_with_rows-insert rows place.Default r minutes);
+  count = old.count ∙ sym (stand_count-insert rows place.Default r minutes);
 }
 are_stands_of-insert_old rows names (place.Stand s) r minutes old is_old = record {
   each = λ stand.
       old.each stand ∙ counted_behind nat_list_eq_equiv (stands_in rows) s stand (has_one is_old) ∙ sym (has_row-insert rows (place.Stand s) r minutes stand);
-  count = old.count ∙ sym (stands_with_rows-insert rows (place.Stand s) r minutes ∙ ap (λ b. if b then stands_with_rows rows + 1 else stands_with_rows rows) is_old);
+  count = old.count ∙ sym (stand_count-insert rows (place.Stand s) r minutes ∙ ap (λ b. if b then stand_count rows + 1 else stand_count rows) is_old);
 }
   where
     has_one : not (has_row rows s) ≡ false → has_row rows s ≡ true
@@ -207,7 +207,7 @@ are_stands_of-insert_new rows names new s r minutes old is_new added one = recor
       ∙ sym (has_row-insert rows (place.Stand s) r minutes q);
   count =
       one ∙ ap (λ n. n + 1) old.count
-      ∙ sym (stands_with_rows-insert rows (place.Stand s) r minutes ∙ ap (λ b. if not b then stands_with_rows rows + 1 else stands_with_rows rows) is_new);
+      ∙ sym (stand_count-insert rows (place.Stand s) r minutes ∙ ap (λ b. if not b then stand_count rows + 1 else stand_count rows) is_new);
 }
 
 -- a name that was added and is taken back leaves those that were there

@@ -2,7 +2,10 @@
 ghost use Rattle.std.specs.Prelude.{◌≡◌, false, None, IfOk, OnOk, OnErr};
 ghost use Rattle.std.specs.FinMap as map;
 ghost use Rattle.cdm_flight.specs.declared.place.Place.TheVariants as place;
-ghost use Rattle.cdm_taxi.specs.Stands.{has_row, is_new_stand, stands_with_rows};
+ghost use Rattle.cdm_flight.specs.Taxi.{is_new_stand, stands_in};
+ghost use Rattle.std.specs.Set.{distinct_count};
+ghost use Rattle.cdm_flight.specs.Names.{same_name};
+ghost use Rattle.cdm_taxi.specs.Stands.{has_row};
 
 use cdm_flight::{Place, RunwayName, StandName, TaxiMinutes};
 use std::alloc::{AllocError, Global};
@@ -20,7 +23,7 @@ impl Model for Rows {
     ghost use Rattle.std.specs.FinMap as map;
     ghost use Rattle.std.specs.Coded.{coded_ℕ};
     ghost use Rattle.cdm_flight.specs.Taxi.{TaxiRows};
-    ghost use Rattle.cdm_taxi.specs.Stands.{key_code};
+    ghost use Rattle.cdm_taxi.specs.inner.Keys.{key_code};
     ghost use Rattle.cdm_taxi.specs.inner.StandSet.{AreStandsOf};
 
     ghost Value = { TaxiRows };
@@ -51,7 +54,7 @@ impl Rows {
 
     // How many stands have rows.
     pub fn stands(&self) -> usize
-        ensures { result ≡ stands_with_rows self.now }
+        ensures { result ≡ distinct_count same_name (stands_in self.now) }
     {
         self.stands.len()
     }
@@ -65,7 +68,7 @@ impl Rows {
 
     // Whether the place is a stand without a row.
     pub fn is_new_stand(&self, place: &Place) -> bool
-        ensures { result ≡ is_new_stand self.now place.now }
+        ensures { result ≡ is_new_stand (stands_in self.now) place.now }
     {
         match place {
             Place::Default => false,

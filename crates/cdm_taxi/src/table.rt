@@ -4,7 +4,7 @@ ghost use Rattle.std.specs.FinMap as map;
 ghost use Rattle.cdm_flight.specs.Names.{same_name};
 ghost use Rattle.cdm_flight.specs.Taxi.{taxi_out};
 ghost use Rattle.cdm_flight.specs.Journal.{same_place};
-ghost use Rattle.cdm_taxi.specs.Stands.{is_one_stand_too_many};
+ghost use Rattle.cdm_flight.specs.Taxi.{is_one_stand_too_many, stands_in};
 
 use crate::rows::Rows;
 use cdm_flight::{Ice, Place, RunwayName, StandName, TaxiMinutes};
@@ -44,7 +44,7 @@ impl Model for TaxiTable {
     ghost use Rattle.std.specs.FinMap as map;
     ghost use Rattle.std.specs.Coded.{coded_ℕ};
     ghost use Rattle.cdm_flight.specs.Taxi.{TaxiRows};
-    ghost use Rattle.cdm_taxi.specs.Stands.{key_code};
+    ghost use Rattle.cdm_taxi.specs.inner.Keys.{key_code};
 
     ghost Value = { TaxiRows };
 
@@ -73,7 +73,7 @@ impl TaxiTable {
     /// Whether a taxi time from the place may be set: not from a stand without one where 400 stands
     /// have one.
     pub fn fits(&self, place: Place) -> bool
-        ensures { result ≡ not (is_one_stand_too_many self.now place) }
+        ensures { result ≡ not (is_one_stand_too_many (stands_in self.now) place) }
     {
         self.rows.stands() < MOST_STANDS || !self.rows.is_new_stand(&place)
     }
@@ -89,7 +89,7 @@ impl TaxiTable {
         minutes: TaxiMinutes,
     ) -> Result<(), TaxiFault>
         ensures ok { OnOk result (self.new ≡ map.insert self.old (place, runway) minutes) }
-        ensures full { (result ≡ Err TaxiFault.Full) ↔ IsTrue (is_one_stand_too_many self.old place) }
+        ensures full { (result ≡ Err TaxiFault.Full) ↔ IsTrue (is_one_stand_too_many (stands_in self.old) place) }
         ensures memory { result ≡ Err TaxiFault.Memory → map.get self.old (place, runway) ≡ None }
         ensures err { OnErr result (self.new ≡ self.old) }
         ensures rows { OnOk result ((p : Place) (r : List ℕ) → map.get self.new (p, r) ≡

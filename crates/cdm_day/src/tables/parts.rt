@@ -5,7 +5,7 @@ ghost use Rattle.std.specs.List.{IsDistinct};
 ghost use Rattle.indexmap.specs.IndexMap.{insert_entry};
 ghost use Rattle.cdm_flight.specs.Names.{same_name};
 ghost use Rattle.cdm_day.specs.Runways.{has_window, window_runway, with_change};
-ghost use Rattle.cdm_day.specs.Tables.{Sets};
+ghost use Rattle.cdm_day.specs.inner.Tables.{Sets};
 ghost use Rattle.cdm_day.specs.TaxiRows.{row_fits, with_row};
 
 use super::runways::{change_named, copy_runways};

@@ -13,7 +13,7 @@ use Rattle.cdm_flight.specs.Journal.{AirportRows, now_of, flight_of}
 use Rattle.cdm_runway.specs.Rules.{RunwayRules}
 use Rattle.cdm_day.specs.Day.{flights_in, rules_of}
 use Rattle.cdm_day.specs.Sound.{IsSound, TellTaxi}
-use Rattle.cdm_day.specs.Tables.{Flights}
+use Rattle.cdm_day.specs.inner.Tables.{Flights}
 
 -- runways by name
 abbrev pub Runways : Type 0

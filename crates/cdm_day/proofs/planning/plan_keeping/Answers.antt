@@ -4,7 +4,7 @@ use Rattle.std.specs.List.{filter_map}
 use Rattle.cdm_flight.specs.Record.{Record}
 use Rattle.cdm_runway.specs.Rules.{RunwayRules}
 use Rattle.cdm_sequence.specs.Slots.{RunwayPlanRecord}
-use Rattle.cdm_day.specs.Aimed.{early_among}
+use Rattle.cdm_day.specs.inner.Aimed.{early_among}
 use Rattle.cdm_day.specs.declared.aimed.Aimed.{Aimed}
 use Rattle.cdm_day.specs.DayPlan.{records_in}
 use Rattle.cdm_day.specs.Planning.{HasParts, planned_of}

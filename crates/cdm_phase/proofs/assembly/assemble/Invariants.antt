@@ -1,6 +1,6 @@
 use Rattle.std.proofs.Common.{◌*◌, take}
 use Rattle.std.specs.List.{AllZip}
-use Rattle.cdm_phase.specs.Slots.{AreSlotsOf}
+use Rattle.cdm_phase.specs.inner.Slots.{AreSlotsOf}
 use Rattle.cdm_phase.proofs.assembly.assemble.Given as goal
 
 abbrev pub invariant-loop-number : goal.invariant-loop-number

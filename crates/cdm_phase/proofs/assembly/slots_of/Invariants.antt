@@ -1,6 +1,6 @@
 use Rattle.std.proofs.Common.{◌≡◌, All, vec_len}
 use Rattle.std.specs.Vec.Iter.{into_iter_items}
-use Rattle.cdm_phase.specs.Slots.{AreSlotsOf}
+use Rattle.cdm_phase.specs.inner.Slots.{AreSlotsOf}
 use Rattle.cdm_phase.proofs.Slots.{IsLeft}
 use Rattle.cdm_phase.proofs.assembly.slots_of.Given as goal
 

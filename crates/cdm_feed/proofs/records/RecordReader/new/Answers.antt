@@ -1,5 +1,6 @@
 use Rattle.std.proofs.Common.{refl}
-use Rattle.cdm_feed.specs.Records.{records_at, records_of}
+use Rattle.cdm_feed.specs.Records.{records_of}
+use Rattle.cdm_feed.specs.inner.RecordsLeft.{records_at}
 use Rattle.cdm_feed.proofs.RecordFacts.{records_of-length}
 use Rattle.cdm_feed.proofs.records.RecordReader.new.Goals as goal
 

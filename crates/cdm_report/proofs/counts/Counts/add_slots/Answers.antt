@@ -1,6 +1,6 @@
 use Rattle.std.proofs.Common.{arith, sym, ap, ◌∙◌, Some, None}
 use Rattle.cdm_sequence.specs.Slots.{SlotRecord}
-use Rattle.cdm_report.specs.Counts.{with_delay}
+use Rattle.cdm_report.specs.inner.Counting.{with_delay}
 use Rattle.cdm_report.proofs.CountLemmas.{fold-delays_in_more}
 use Rattle.cdm_report.proofs.counts.Counts.add_slots.Goals as goal
 use Rattle.cdm_report.proofs.counts.Counts.add_slots.Goals.{in-Some, in_default}

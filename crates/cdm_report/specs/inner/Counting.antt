@@ -1,0 +1,32 @@
+-- Indicators that are counted one delay after another.
+use Rattle.std.specs.Prelude.{ℕ, ◌+◌, List, length, max, if◌then◌else◌}
+use Rattle.cdm_sequence.specs.declared.rule.Rule.TheVariants as rules
+use Rattle.cdm_sequence.specs.declared.slot.BlockedFlight.{BlockedFlight}
+use Rattle.cdm_report.specs.declared.counts.Counts.{Counts}
+use Rattle.cdm_report.specs.Counts.{blocked_by, is_late}
+
+-- the indicators where these flights are blocked and no other is planned
+abbrev pub only_blocked : List BlockedFlight → Counts
+only_blocked blocked = record {
+  placed = 0;
+  delay = 0;
+  greatest = 0;
+  late = 0;
+  blocked = length blocked;
+  tobt = blocked_by rules.Tobt blocked;
+  runway = blocked_by rules.Runway blocked;
+  exot = blocked_by rules.Exot blocked;
+  horizon = blocked_by rules.Horizon blocked;
+  ctot = blocked_by rules.Ctot blocked;
+  closure = blocked_by rules.Closure blocked;
+  rate = blocked_by rules.Rate blocked;
+}
+
+-- a delay counted in
+abbrev pub with_delay : Counts → ℕ → Counts
+with_delay counts delay = record counts {
+  placed = counts.placed + 1;
+  delay = counts.delay + delay;
+  greatest = max counts.greatest delay;
+  late = counts.late + (if is_late delay then 1 else 0);
+}
