@@ -84,9 +84,9 @@ fn a_snapshot_keeps_its_moment(rt: HostRuntime) -> Result<(), Fail> {
         || asks(&rt, alloc, &snapshot, update, &gate),
         || posts(&rt, alloc, &board, &mut second, update, &gate),
     );
+    let outcomes = outcomes?;
     assert!(rt; accepted?);
     assert!(rt; !gate.missed.load(Ordering::SeqCst));
-    let outcomes = outcomes?;
     let [Outcome::Planned(_, counts)] = outcomes.as_slice() else {
         return Err(Fail::from("another answer"));
     };
