@@ -3,13 +3,14 @@ use Rattle.std.proofs.Common.{◌≡◌, ℕ, cond, List, [], ◌∷◌, Some, r
 use Rattle.std.specs.declared.cmp.Ordering.{Ordering}
 use Rattle.std.specs.Ordering.{ordering_then, is_eq, eq_by_cmp}
 use Rattle.std.specs.Option.{option_cmp}
-use Rattle.std.specs.Cmp.{IsEquivalence, eq_by_cmp_equiv}
+use Rattle.std.specs.Cmp.{IsEquivalence, IsTotalOrder, eq_by_cmp_equiv}
 use Rattle.std.specs.BTreeMap as tree
 use Rattle.std.specs.BTreeMap.{BTreeMap, is_at}
 use Rattle.std.specs.Map.{lookup, keys_of}
 use Rattle.std.specs.FinMap as map
 use Rattle.std.specs.FinMap.{find, get-insert, get-from_entries, same_map}
 use Rattle.std.proofs.lemmas.Map.Keys.{IsDistinct-from_sorted}
+use Rattle.std.proofs.lemmas.Map.Lookups.{CmpEqualImpliesEq, btree_map_from_get}
 use Rattle.std.proofs.lemmas.Map.Made.{update_all_none}
 use Rattle.cdm_flight.specs.contracts.place.PlaceOrd.TheImpl as place_ord
 use Rattle.cdm_flight.specs.declared.place.Place.{Place}
@@ -59,3 +60,10 @@ rows_of-collect m n ordered collected =
     let apart = IsDistinct-from_sorted key_cmp (keys_of m.entries) ordered in
     same_map taxi_cmp_total taxi_cmp_same (rows_of n) (rows_of m) (λ q.
     sym (get-rows_of n q) ∙ collected.0 q ∙ update_all_none laws (eq_by_cmp key_cmp) (λ x y. refl) m.entries q apart ∙ get-rows_of m q)
+
+-- maps with the same rows have the same entries
+pub entries-same_rows : (m n : BTreeMap Key ℕ) → tree.IsOrdered key_cmp m → tree.IsOrdered key_cmp n → rows_of m ≡ rows_of n → m.entries ≡ n.entries
+entries-same_rows m n first second same =
+    let total = subst (λ (R : Key → Key → Ordering). IsTotalOrder R) (sym same_key_cmp) taxi_cmp_total in
+    let ties = subst (λ (R : Key → Key → Ordering). CmpEqualImpliesEq R) (sym same_key_cmp) taxi_cmp_same in
+    btree_map_from_get total m n first second (λ q. get-rows_of m q ∙ ap (λ (rows : TaxiRows). map.get rows q) same ∙ sym (get-rows_of n q)) ties

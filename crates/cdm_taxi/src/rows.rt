@@ -1,5 +1,5 @@
 //! Taxi rows: the minutes of each place and runway that has a row.
-ghost use Rattle.std.specs.Prelude.{◌≡◌, false, None, IfOk, OnOk, OnErr};
+ghost use Rattle.std.specs.Prelude.{◌≡◌, ◌↔◌, false, None, IfOk, IsTrue, OnOk, OnErr};
 ghost use Rattle.std.specs.FinMap as map;
 ghost use Rattle.cdm_flight.specs.declared.place.Place.TheVariants as place;
 ghost use Rattle.cdm_flight.specs.Taxi.{is_new_stand, stands_in};
@@ -33,6 +33,16 @@ impl Model for Rows {
     ghost view = { λ r. map.from_entries r.minutes.entries };
 
     ghost invariant = { λ r. AreStandsOf (map.from_entries r.minutes.entries) r.stands.keys };
+}
+
+// Whether the taxi times are those of the other.
+fn is_same_times(
+    one: &BTreeMap<(Place, RunwayName), TaxiMinutes>,
+    other: &BTreeMap<(Place, RunwayName), TaxiMinutes>,
+) -> bool
+    ensures { IsTrue result ↔ (one.now.entries ≡ other.now.entries) }
+{
+    one == other
 }
 
 impl Rows {
@@ -117,6 +127,13 @@ impl Rows {
                 Err(AllocError)
             }
         }
+    }
+
+    // Whether the rows are those of the other.
+    pub fn is_same(&self, other: &Rows) -> bool
+        ensures { IsTrue result ↔ (self.now ≡ other.now) }
+    {
+        self.minutes.len() == other.minutes.len() && is_same_times(&self.minutes, &other.minutes)
     }
 
     pub fn copy(&self, alloc: Global) -> Result<Rows, AllocError>

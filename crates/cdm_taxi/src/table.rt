@@ -124,6 +124,13 @@ impl TaxiTable {
         Some(taxi.get() + remote)
     }
 
+    /// Whether both tables have the same taxi times.
+    pub fn is_same(&self, other: &TaxiTable) -> bool
+        ensures { IsTrue result ↔ (self.now ≡ other.now) }
+    {
+        self.rows.is_same(&other.rows)
+    }
+
     /// A copy of the table.
     pub fn copy(&self, alloc: Global) -> Result<TaxiTable, AllocError>
         ensures { IfOk result (λ t. t ≡ self.now) }

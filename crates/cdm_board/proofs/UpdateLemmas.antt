@@ -1,0 +1,43 @@
+-- What `==` says of updates.
+use Rattle.std.proofs.Common.{rules, ◌≡◌, Bool, true, false, ◌&&◌, ap}
+use Rattle.std.specs.Bool.{Decides}
+use Rattle.std.proofs.lemmas.Bool.Decides.{Decides-and}
+use Rattle.cdm_flight.specs.contracts.update.UpdatePartialEq.TheImpl as update_eq
+use Rattle.cdm_flight.specs.contracts.role.RolePartialEq.TheImpl as role_eq
+use Rattle.cdm_flight.specs.declared.role.Role.{Role}
+use Rattle.cdm_flight.specs.declared.update.Update.{Update}
+use Rattle.cdm_flight.specs.declared.update.Update.TheVariants.{Flt, Tobt, Stand, Rwy, Ctot, Ice, Prio, Off, Air, Cnl, Rate, Close, Reopen, Taxi, Clock}
+
+apart : {P : Type 0} → (P → ⊥) → Decides false P
+apart never = ((λ (untrue : false ≡ true). cc), λ p. absurd (never p))
+
+pub update_eq-Decides : (a b : Update) → Decides ((update_eq.ghosts).eq a b) (a ≡ b)
+update_eq-Decides (Flt f p) (Flt g q) = search rules
+update_eq-Decides (Tobt f t) (Tobt g u) = search rules
+update_eq-Decides (Stand f s) (Stand g t) = search rules
+update_eq-Decides (Rwy f r) (Rwy g s) = search rules
+update_eq-Decides (Ctot f c) (Ctot g d) = search rules
+update_eq-Decides (Ice f i) (Ice g j) = search rules
+update_eq-Decides (Prio f p) (Prio g q) = search rules
+update_eq-Decides (Off f m) (Off g n) = search rules
+update_eq-Decides (Air f m) (Air g n) = search rules
+update_eq-Decides (Cnl f) (Cnl g) = search rules
+update_eq-Decides (Rate r from to cap) (Rate s start end most) = search rules
+update_eq-Decides (Close r from to) (Close s start end) = search rules
+update_eq-Decides (Reopen r from to) (Reopen s start end) = search rules
+update_eq-Decides (Taxi p r m) (Taxi q s n) = search rules
+update_eq-Decides (Clock m) (Clock n) = search rules
+update_eq-Decides a b = apart (λ (e : a ≡ b). cc)
+
+pub role_eq-Decides : (a b : Role) → Decides ((role_eq.ghosts).eq a b) (a ≡ b)
+role_eq-Decides a b = search rules
+
+-- equality as it is derived for a role and an update
+abbrev pub same_pair : Role × Update → Role × Update → Bool
+same_pair a b = (role_eq.ghosts).eq a.0 b.0 && (update_eq.ghosts).eq a.1 b.1
+
+by_parts : {r : Bool} {a b : Role × Update} → Decides r ((a.0 ≡ b.0) × (a.1 ≡ b.1)) → Decides r (a ≡ b)
+by_parts parts = ((λ yes. λ i. ((parts.0 yes).0 i, (parts.0 yes).1 i)), λ same. parts.1 (ap (λ (x : Role × Update). x.0) same, ap (λ (x : Role × Update). x.1) same))
+
+pub pair-Decides : (a b : Role × Update) → Decides (same_pair a b) (a ≡ b)
+pair-Decides a b = by_parts (Decides-and _ _ (role_eq-Decides a.0 b.0) (update_eq-Decides a.1 b.1))

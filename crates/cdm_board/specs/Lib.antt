@@ -1,0 +1,4 @@
+pub mod History
+pub mod Receipts
+pub mod Refusals
+pub mod Closing
