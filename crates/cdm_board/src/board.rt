@@ -25,7 +25,7 @@ pub struct Board {
 
 impl Model for Board {
     ghost use Rattle.std.specs.Coded.{codes};
-    ghost use Rattle.cdm_day.specs.AirportCode.{airport_code};
+    ghost use Rattle.cdm_day.specs.inner.AirportCode.{airport_code};
     ghost use Rattle.cdm_board.specs.History.{Opened, IsDesk};
 
     ghost Value = { Opened };

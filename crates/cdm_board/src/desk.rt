@@ -23,7 +23,7 @@ pub struct Desk {
 impl Model for Desk {
     ghost use Rattle.std.specs.Prelude.{map};
     ghost use Rattle.std.specs.Coded.{codes};
-    ghost use Rattle.cdm_day.specs.AirportCode.{airport_code};
+    ghost use Rattle.cdm_day.specs.inner.AirportCode.{airport_code};
     ghost use Rattle.cdm_board.specs.History.{DeskRecord, IsDesk};
 
     ghost Value = { DeskRecord };

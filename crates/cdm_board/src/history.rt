@@ -15,7 +15,7 @@ pub struct History {
 impl Model for History {
     ghost use Rattle.std.specs.Prelude.{List, ℕ, map};
     ghost use Rattle.std.specs.Coded.{codes};
-    ghost use Rattle.cdm_day.specs.AirportCode.{airport_code};
+    ghost use Rattle.cdm_day.specs.inner.AirportCode.{airport_code};
     ghost use Rattle.cdm_board.specs.History.{Call};
 
     ghost Value = { List (ℕ × Call) };

@@ -34,7 +34,7 @@ pub struct BoardState {
 impl Model for BoardState {
     ghost use Rattle.std.specs.Prelude.{map, take, length, ◌≤◌};
     ghost use Rattle.std.specs.Coded.{codes};
-    ghost use Rattle.cdm_day.specs.AirportCode.{airport_code};
+    ghost use Rattle.cdm_day.specs.inner.AirportCode.{airport_code};
     ghost use Rattle.cdm_board.specs.History.{BoardRecord};
 
     ghost Value = { BoardRecord };
