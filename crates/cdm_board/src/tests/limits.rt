@@ -1,6 +1,6 @@
 //! The limits of a board.
 use super::days::{day_of, planned};
-use crate::{Board, BoardError, BoardState, Desk};
+use crate::{Board, BoardError, BoardState, Desk, OpenFault};
 use cdm_day::DayState;
 use cdm_flight::{Role, Update};
 use cdm_time::Minute;
@@ -30,10 +30,14 @@ fn make_calls<R: Wait>(
 
 // A board isn't opened with so many desks. The day comes back.
 fn not_opened(alloc: Global, day: DayState, desks: usize) -> Result<DayState, Fail> {
-    match Board::open(alloc, day, desks) {
-        Err(fault) if fault.error == BoardError::DeskCount => Ok(fault.state),
-        _ => Err(Fail::from("another answer")),
+    let Err(fault) = Board::open(alloc, day, desks) else {
+        return Err(Fail::from("opened"));
+    };
+    let OpenFault { error, state } = fault;
+    if error != BoardError::DeskCount {
+        return Err(Fail::from("another fault"));
     }
+    Ok(state)
 }
 
 // The board of one thread: a look after a post has what the post accepted.

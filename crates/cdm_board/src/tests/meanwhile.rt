@@ -55,9 +55,10 @@ fn posts<R: Wait>(
     update: Update,
     gate: &UntilPosted,
 ) -> Result<bool, BoardError> {
+    let batch = [(Role::AirTrafficControl, update)];
     let mut all_accepted = true;
     for _ in 0..100u8 {
-        let replies = board.post(rt, alloc, desk, &[(Role::AirTrafficControl, update)])?;
+        let replies = board.post(rt, alloc, desk, &batch)?;
         all_accepted = all_accepted && replies.iter().all(|reply| *reply == Reply::Accepted);
         gate.posted.store(all_accepted, Ordering::SeqCst);
     }
