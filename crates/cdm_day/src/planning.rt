@@ -34,7 +34,11 @@ fn has_runway(flight: &Flight, runway: RunwayName) -> bool
 }
 
 // The flights that have left their stands for a runway, in order.
-fn fixed_on_runway(alloc: Global, runway: RunwayName, flights: &[&Flight]) -> Result<Vec<Fixed>, AllocError>
+fn fixed_on_runway(
+    alloc: Global,
+    runway: RunwayName,
+    flights: &[&Flight],
+) -> Result<Vec<Fixed>, AllocError>
     ensures { IfOk result (λ v. v.items ≡ filter_map (λ f. fixed_flight f.now) (filter (λ f. is_on runway f.now) flights.now)) }
 {
     flights

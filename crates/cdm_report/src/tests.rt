@@ -82,7 +82,12 @@ fn by_name(flights: Vec<BlockedFlight>) -> Vec<BlockedFlight>
 }
 
 // A plan of runway 27L alone.
-fn plan_of_27l(alloc: Global, now: u16, slots: &[Row], blocked: &[(&str, Rule)]) -> Result<Plan, Fail> {
+fn plan_of_27l(
+    alloc: Global,
+    now: u16,
+    slots: &[Row],
+    blocked: &[(&str, Rule)],
+) -> Result<Plan, Fail> {
     let slots = slots_of(alloc, slots)?;
     let blocked = by_name(blocked_of(alloc, blocked)?);
     if slots.len() > 1000 || blocked.len() > 1000 || !are_in_order(&slots) {
