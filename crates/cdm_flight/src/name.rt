@@ -14,11 +14,11 @@ use std::hash::{Hash, Hasher};
 use std::marker::Model;
 use std::str;
 
-/// A name of 1 to `MOST` bytes of `A-Z0-9`.
+/// A name of 1 to `MOST` bytes of `A-Z0-9`, where `MOST` is 255 at most.
 #[derive(Clone, Copy, Debug)]
 pub struct Name<const MOST: usize> {
     text: [u8; MOST],
-    len: usize,
+    len: u8,
 }
 
 impl<const MOST: usize> Model for Name<MOST> {
@@ -64,6 +64,7 @@ fn pad<const MOST: usize>(text: &[u8]) -> [u8; MOST]
 impl<const MOST: usize> Name<MOST> {
     /// The name that the bytes spell, or None where they are no name.
     pub fn new(text: &[u8]) -> Option<Self>
+        requires { MOST ≤ 255 }
         ensures { result ≡ (if is_name MOST text.now then Some text.now else None) }
     {
         if text.is_empty() || text.len() > MOST || !all_letters_or_digits(text) {
@@ -71,7 +72,7 @@ impl<const MOST: usize> Name<MOST> {
         }
         Some(Name {
             text: pad(text),
-            len: text.len(),
+            len: text.len() as u8,
         })
     }
 
@@ -80,7 +81,7 @@ impl<const MOST: usize> Name<MOST> {
         ensures value { result.now ≡ self.now }
         ensures name { IsName MOST self.now }
     {
-        &self.text[..self.len]
+        &self.text[..usize::from(self.len)]
     }
 
     /// The name as text.
