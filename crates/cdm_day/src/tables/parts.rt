@@ -17,6 +17,20 @@ use indexmap::IndexMap;
 use std::alloc::{AllocError, Global};
 use std::sync::Arc;
 
+// By how many updates the room of a journal grows. Each look at a board keeps the journal of its moment, so
+// a journal has little room to spare.
+const JOURNAL_ROOM: usize = 256;
+
+// Puts one more update behind the others of a journal that nobody shares.
+fn push_own(journal: &mut Vec<Update>, update: Update) -> Result<(), AllocError>
+    ensures { OnOk result (journal.new.items ≡ journal.old.items ++ update ∷ []) }
+{
+    if journal.len() == journal.capacity() {
+        journal.reserve_exact(JOURNAL_ROOM)?;
+    }
+    push_last(journal, update)
+}
+
 /// Puts one more update behind the others.
 pub fn push_update(
     alloc: Global,
@@ -26,10 +40,10 @@ pub fn push_update(
     ensures { OnOk result ((arc_value journal.new).items ≡ (arc_value journal.old).items ++ update ∷ []) }
 {
     if let Some(own) = Arc::get_mut(journal) {
-        return push_last(own, update);
+        return push_own(own, update);
     }
     let mut own = Vec::from_slice(alloc, journal.as_slice())?;
-    push_last(&mut own, update)?;
+    push_own(&mut own, update)?;
     *journal = Arc::new(alloc, own)?;
     Ok(())
 }

@@ -22,22 +22,36 @@ pub fn add_row(
     Some(airport.add_taxi(place, runway, minutes))
 }
 
+// Adds it once more where memory was refused.
+fn add_row_again(
+    airport: &mut Airport,
+    stand: &str,
+    runway: &str,
+) -> Option<Result<(), AirportFault>> {
+    match add_row(airport, stand, runway) {
+        Some(Err(AirportFault::Memory)) => add_row(airport, stand, runway),
+        answer => answer,
+    }
+}
+
 /// An airport of 2025-03-10 without runways.
 pub fn no_runway(alloc: Global) -> Result<Airport, Fail> {
     let day = Day::of_text(b"2025-03-10").map_err(|_| "no day")?;
     Ok(Airport::new(alloc, day))
 }
 
-/// The day of an airport.
+/// The day of an airport. It is asked for once more where memory was refused, since the airport comes
+/// back.
 pub fn day_of(alloc: Global, airport: Airport) -> Result<DayState, Fail> {
-    Ok(DayState::new(alloc, airport).map_err(|_| "no memory")?)
+    let day = DayState::new(alloc, airport).or_else(|airport| DayState::new(alloc, airport));
+    Ok(day.map_err(|_| "no memory")?)
 }
 
 /// The day of an airport with two runways, of which the second is the first by name.
 pub fn two_runways(alloc: Global) -> Result<DayState, Fail> {
     let mut airport = no_runway(alloc)?;
     for (stand, runway) in [("", "27L"), ("*", "27L"), ("", "09"), ("*", "09")] {
-        add_row(&mut airport, stand, runway).ok_or("no row")??;
+        add_row_again(&mut airport, stand, runway).ok_or("no row")??;
     }
     day_of(alloc, airport)
 }

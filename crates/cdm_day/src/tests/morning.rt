@@ -3,7 +3,7 @@ ghost use Rattle.std.specs.Prelude.{◌≡◌};
 
 use super::days::two_runways;
 use super::updates::{Short, batch_of};
-use crate::{DayState, Reply};
+use crate::{DayState, Reply, plan_of};
 use RefusalWord::{Authority, NotReady, OffBlock, Order, Unknown};
 use cdm_flight::{RefusalWord, Role, Update};
 use cdm_phase::{OpenGate, Workers};
@@ -17,6 +17,7 @@ use std::thread::Threads;
 pub type Line = (&'static str, &'static str, u16, u16, u16, Mark, Option<u16>);
 
 // A batch, and the clock and the slots after it. CD3, which has no TOBT, stays blocked.
+#[derive(Drop)]
 struct Step {
     updates: &'static [Short],
     now: u16,
@@ -171,5 +172,31 @@ fn morning_of_two_runways(rt: HostRuntime) -> Result<(), Fail> {
         assert_eq!(rt; copied.journal().len(), 7);
         assert_plan(&rt, &copied, &FIRST);
     }
+    Ok(())
+}
+
+/// Where a request for memory is refused, the day is as before, and the same call then succeeds.
+#[test]
+fn refused_memory_changes_nothing(rt: HostRuntime) -> Result<(), Fail> {
+    let alloc = rt.alloc();
+    let mut day = two_runways(alloc)?;
+    let first = batch_of(alloc, FIRST.updates)?;
+    let second = batch_of(alloc, SECOND.updates)?;
+    if day.apply(alloc, &first).is_err() {
+        assert!(rt; day.journal().is_empty());
+        assert_slots(&rt, &day, &[]);
+        day.apply(alloc, &first)?;
+    }
+    assert_plan(&rt, &day, &FIRST);
+    let copied = day.copy(alloc).or_else(|_| day.copy(alloc))?;
+    if apply_by(&rt, alloc, &mut day, &second, 2).is_err() {
+        assert_eq!(rt; day.journal().len(), copied.journal().len());
+        assert_plan(&rt, &day, &FIRST);
+        apply_by(&rt, alloc, &mut day, &second, 2)?;
+    }
+    assert_plan(&rt, &day, &SECOND);
+    let plan = plan_of(alloc, &day).or_else(|_| plan_of(alloc, &day))?;
+    assert_eq!(rt; plan.blocked.as_slice(), day.plan().blocked.as_slice());
+    assert_plan(&rt, &copied, &FIRST);
     Ok(())
 }

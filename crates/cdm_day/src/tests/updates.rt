@@ -46,9 +46,12 @@ pub fn update_of(short: Short) -> Option<(Role, Update)> {
     })
 }
 
-/// The batch of the updates.
+/// The batch of the updates. Its room is asked for once more where memory was refused.
 pub fn batch_of(alloc: Global, updates: &[Short]) -> Result<Vec<(Role, Update)>, Fail> {
     let mut batch = Vec::new(alloc);
+    if batch.reserve(updates.len()).is_err() {
+        batch.reserve(updates.len())?;
+    }
     for short in updates {
         batch.push(update_of(*short).ok_or("no update")?)?;
     }
