@@ -17,7 +17,7 @@ use std::marker::Model;
 #[derive(Drop)]
 pub struct Desk {
     number: usize,
-    pub(crate) receipts: Vec<Receipt>,
+    receipts: Vec<Receipt>,
 }
 
 impl Model for Desk {
@@ -117,3 +117,6 @@ impl Desk {
         Ok(snapshot)
     }
 }
+
+#[cfg(test)]
+mod tests;

@@ -6,7 +6,7 @@ use Rattle.cdm_board.specs.History.{day_of, answers_to}
 use Rattle.cdm_board.specs.History.{Call, Posts}
 use Rattle.cdm_board.specs.Receipts.{call_of}
 use Rattle.cdm_board.proofs.Boards.{grows}
-use Rattle.cdm_board.proofs.Histories.{take-accepted, length-accepted}
+use Rattle.cdm_day.proofs.BatchLemmas.{take-accepted, length-accepted}
 use Rattle.cdm_board.proofs.state.BoardState.post_twice.Goals as goal
 
 pub invariant_of-self-2 : goal.invariant_of-self-2

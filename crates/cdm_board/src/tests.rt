@@ -1,0 +1,6 @@
+//! Desks on two threads, the limits of a board, and what-if questions over a snapshot.
+
+pub mod days;
+pub mod desks;
+mod limits;
+mod meanwhile;
