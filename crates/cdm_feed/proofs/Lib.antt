@@ -4,3 +4,4 @@ pub mod QuotedLemmas
 pub mod RunLemmas
 pub mod OutputLemmas
 pub mod ScenarioLemmas
+pub mod StretchLemmas

@@ -1,5 +1,5 @@
 //! Feeds.
-ghost use Rattle.std.specs.Prelude.{◌≡◌, ◌≤◌, IfOk, length, map};
+ghost use Rattle.std.specs.Prelude.{◌≡◌, ◌≤◌, ◌<◌, ◌++◌, [], IfOk, length, map};
 ghost use Rattle.cdm_feed.specs.Parsing.{parse_of};
 ghost use Rattle.cdm_feed.specs.Records.{records_of};
 
@@ -22,10 +22,30 @@ pub fn read_feed(
     ensures count { IfOk result (λ parsed. length parsed.items ≤ length text.now) }
 {
     let mut reader = RecordReader::new(alloc, text);
+    // No text has more records than bytes.
+    read_stretch(alloc, *day, &mut reader, text.len())
+}
+
+/// What the next records of a feed spell, in the feed's order: of so many, or of all that are left
+/// where they are fewer.
+pub(crate) fn read_stretch(
+    alloc: Global,
+    day: Day,
+    reader: &mut RecordReader<'_>,
+    most: usize,
+) -> Result<Vec<Result<(Role, Update), RefusalWord>>, AllocError>
+    ensures spelled { IfOk result (λ parsed.
+        map (parse_of day) reader.old ≡ parsed.items ++ map (parse_of day) reader.new) }
+    ensures count { IfOk result (λ parsed. length parsed.items ≤ most) }
+    ensures all { IfOk result (λ parsed. length parsed.items < most → reader.new ≡ []) }
+{
     let mut row = ByteRecord::new(alloc);
     let mut parsed = Vec::new(alloc);
-    while reader.read(&mut row)? {
-        push_last(&mut parsed, parse_record(*day, &row))?;
+    'records: while parsed.len() < most {
+        if !reader.read(&mut row)? {
+            return Ok(parsed);
+        }
+        push_last(&mut parsed, parse_record(day, &row))?;
     }
     Ok(parsed)
 }

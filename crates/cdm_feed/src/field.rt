@@ -1,6 +1,6 @@
 //! The fields of a record. Each has a form, else it is refused by Text, and may have a range, else it
 //! is refused by Range.
-ghost use Rattle.std.specs.Prelude.{◌≡◌, Ok, Err, if◌then◌else◌};
+ghost use Rattle.std.specs.Prelude.{◌≤◌, ◌≡◌, Ok, Err, if◌then◌else◌};
 ghost use Rattle.csv.specs.Records.{fields_of};
 ghost use Rattle.cdm_time.specs.Digits.{number_in};
 ghost use Rattle.cdm_flight.specs.declared.word.RefusalWord.TheVariants as word;
@@ -21,6 +21,7 @@ pub(crate) fn field(row: &ByteRecord, place: usize) -> &[u8]
 
 /// The name of a flight, a runway or a stand: 1 to `MOST` bytes of `A-Z0-9`.
 pub(crate) fn name_field<const MOST: usize>(text: &[u8]) -> Result<Name<MOST>, RefusalWord>
+    requires { MOST ≤ 255 }
     ensures { result ≡ name_field MOST text.now }
 {
     Name::new(text).ok_or(RefusalWord::Text)

@@ -12,6 +12,7 @@ mod field;
 mod file_fault;
 mod input;
 mod inputs;
+mod judging;
 mod kind;
 mod laws;
 mod output;

@@ -1,5 +1,5 @@
 //! The records of a text, one after the other. Only this module reads a text by `csv`.
-ghost use Rattle.std.specs.Prelude.{◌≡◌, ◌≤◌, ◌∷◌, [], length, IfOk, OnErr, if◌then◌else◌};
+ghost use Rattle.std.specs.Prelude.{◌≡◌, ◌≤◌, ◌∷◌, [], length, false, IfOk, OnErr, if◌then◌else◌};
 ghost use Rattle.csv.specs.Records.{fields_of};
 ghost use Rattle.cdm_feed.specs.Records.{records_of};
 
@@ -42,11 +42,12 @@ impl<'a> RecordReader<'a> {
         }
     }
 
-    /// Puts the next record in `row`, and says whether there was one. Where there is no memory for
-    /// it, the reader has ended.
+    /// Puts the next record in `row`, and says whether there was one. Where there was none, or no
+    /// memory for it, the reader has ended.
     pub fn read(&mut self, row: &mut ByteRecord) -> Result<bool, AllocError>
         ensures left { IfOk result (λ found.
             self.old ≡ (if found then fields_of row.new ∷ self.new else [])) }
+        ensures last { IfOk result (λ found. found ≡ false → self.new ≡ []) }
         ensures ended { OnErr result (self.new ≡ []) }
     {
         if self.ended {

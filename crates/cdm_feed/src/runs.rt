@@ -10,15 +10,13 @@ ghost use Rattle.cdm_feed.specs.RunFaults.{AreRead, IsAirportFault, IsBeforeWrit
 use crate::airport_file::read_airport;
 use crate::answers::push_answers;
 use crate::device::Device;
-use crate::feed::read_feed;
 use crate::file_fault::FileFault;
 use crate::inputs::{Inputs, read_inputs};
+use crate::judging::{Judged, judge};
 use crate::output::write_text;
-use crate::refused::{refusals_of, updates_of};
 use crate::run_error::RunError;
 use crate::scenario_file::read_scenarios;
-use cdm_day::{Airport, DayState};
-use cdm_flight::RefusalWord;
+use cdm_day::Airport;
 use cdm_phase::{Gate, Workers};
 use cdm_report::{indicators, report_text};
 use cdm_scenario::Scenario;
@@ -45,44 +43,6 @@ struct Report {
     counts: RunCounts,
 }
 
-// The day of an airport before its first update.
-fn day_of(alloc: Global, airport: Airport) -> Result<DayState, AllocError>
-    ensures { IfOk result (λ s. s ≡ record { airport = airport; journal = [] }) }
-{
-    match DayState::new(alloc, airport) {
-        Ok(state) => Ok(state),
-        Err(_) => Err(AllocError),
-    }
-}
-
-// A day after a feed, and the feed's refused records.
-#[derive(Drop)]
-struct Judged {
-    state: DayState,
-    refused: Vec<(u32, RefusalWord)>,
-}
-
-// The day of an airport after a feed.
-fn judge<R: Threads + Sync, G: Gate>(
-    rt: &R,
-    alloc: Global,
-    airport: Airport,
-    feed: &[u8],
-    workers: Workers,
-    gate: &G,
-) -> Result<Judged, AllocError>
-    requires { length feed.now ≤ input_limit }
-    ensures state { IfOk result (λ judged. judged.state ≡ record { airport = airport; journal = accepted_in airport feed.now }) }
-    ensures refused { IfOk result (λ judged. judged.refused.items ≡ refusals_in airport feed.now) }
-{
-    let parsed = read_feed(alloc, airport.day(), feed)?;
-    let updates = updates_of(alloc, &parsed)?;
-    let mut state = day_of(alloc, airport)?;
-    let replies = state.apply_all(rt, alloc, &updates, workers, gate)?;
-    let refused = refusals_of(alloc, &parsed, &replies)?;
-    Ok(Judged { state, refused })
-}
-
 // The report of a feed at an airport, and the answers to scenarios.
 fn report_of<R: Threads + Sync, G: Gate>(
     rt: &R,
@@ -97,7 +57,7 @@ fn report_of<R: Threads + Sync, G: Gate>(
     ensures text { IfOk result (λ report. IsReport airport feed.now scenarios.now report.text.items) }
     ensures counts { IfOk result (λ report. report.counts ≡ counts_in airport feed.now scenarios.now) }
 {
-    let Judged { state, refused } = judge(rt, alloc, airport, feed, workers, gate)?;
+    let Judged { state, refused, .. } = judge(rt, alloc, airport, feed, workers, gate)?;
     let mut text = report_text(alloc, state.day(), state.plan(), &refused)?;
     let base = indicators(state.plan());
     push_answers(rt, alloc, &state, base, scenarios, workers, gate, &mut text)?;

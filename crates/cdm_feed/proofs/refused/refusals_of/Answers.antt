@@ -79,15 +79,16 @@ loop-spelled-preserved c =
     ]
 
 pub returns : goal.returns
-returns c = λ g is.
+returns c = λ g a is.
     let rs = c.args.replies.now in
     let xs = c.args.parsed.now in
-    let a = c.loop-spelled.answered in
+    let first = c.args.before + 1 in
+    let answered = c.loop-spelled.answered in
     let n = c.loop-spelled.number + 1 in
     let items = c.loop-spelled.refused.items in
     let ended = drop_of_length-le xs c.loop-spelled-test.false in
-    let all : refused_by 1 xs rs ≡ items ++ [] =
-    c.loop-spelled.invariant.all ∙ ap (λ (ys : List Spelled). items ++ refused_by n ys (drop a rs)) ended in
+    let all : refused_by first xs rs ≡ items ++ [] =
+    c.loop-spelled.invariant.all ∙ ap (λ (ys : List Spelled). items ++ refused_by n ys (drop answered rs)) ended in
     sym (all ∙ append-nil items)
-    ∙ ap (refused_by 1 xs) is
-    ∙ refused_by-replies g [] 1 xs
+    ∙ ap (refused_by first xs) is
+    ∙ refused_by-replies g a first xs
