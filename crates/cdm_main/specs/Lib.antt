@@ -1,1 +1,4 @@
+pub mod Live
+pub mod LiveFaults
 pub mod Statuses
+pub mod inner

@@ -2,7 +2,7 @@
 ghost use Rattle.std.specs.Prelude.{◌≡◌};
 ghost use Rattle.cdm_main.specs.declared.command.CommandFault.TheVariants as command;
 
-use crate::manual::{ABOUT, HELP_ABOUT, MANUAL, PLAN_ABOUT, SHORT_HELP, VERSION};
+use crate::manual::{ABOUT, HELP_ABOUT, LIVE_ABOUT, MANUAL, PLAN_ABOUT, SHORT_HELP, VERSION};
 use cdm_phase::Workers;
 use clap::error::ErrorKind;
 use clap::{Arg, ArgMatches, Command as Parser, Error as ParseError, value_parser};
@@ -19,6 +19,12 @@ pub enum Command<'a> {
         feed: &'a str,
         scenarios: Option<&'a str>,
         workers: Workers,
+    },
+    /// Let two desks post a feed each to one board, at an airport.
+    Live {
+        airport: &'a str,
+        feed1: &'a str,
+        feed2: &'a str,
     },
     /// Print this text, the help or the version.
     Print(String),
@@ -57,6 +63,7 @@ pub fn command_of<'a, S: AsStr>(
     };
     let command = match matches.subcommand() {
         Some(("plan", plan)) => plan_of(plan),
+        Some(("live", live)) => live_of(live),
         Some(_) => Some(Command::Print(parser(alloc)?.render_long_help()?)),
         None => None,
     };
@@ -88,7 +95,17 @@ fn plan_of<'a>(plan: &ArgMatches<'a>) -> Option<Command<'a>> {
     })
 }
 
-fn parser<'a>(alloc: Global) -> Result<Parser<'a>, AllocError> {
+// The words of `live`, all of which the parser has seen to.
+fn live_of<'a>(live: &ArgMatches<'a>) -> Option<Command<'a>> {
+    Some(Command::Live {
+        airport: live.get_str("AIRPORT")?,
+        feed1: live.get_str("FEED1")?,
+        feed2: live.get_str("FEED2")?,
+    })
+}
+
+// The words that `plan` takes.
+fn plan_parser<'a>(alloc: Global) -> Result<Parser<'a>, AllocError> {
     let airport = Arg::new(alloc, "AIRPORT")
         .required(true)
         .help("Airport file: the day, the runways, the taxi times");
@@ -105,14 +122,37 @@ fn parser<'a>(alloc: Global) -> Result<Parser<'a>, AllocError> {
         .value_parser(value_parser!(usize).range(1..=64))
         .default_value("1")
         .help("1 to 64 threads; the output is the same");
-    let plan = Parser::new(alloc, "plan")
+    Parser::new(alloc, "plan")
         .about(PLAN_ABOUT)
         .after_help(SHORT_HELP)
         .after_long_help(MANUAL)
         .arg(airport)?
         .arg(feed)?
         .arg(scenarios)?
-        .arg(workers)?;
+        .arg(workers)
+}
+
+// The words that `live` takes.
+fn live_parser<'a>(alloc: Global) -> Result<Parser<'a>, AllocError> {
+    let airport = Arg::new(alloc, "AIRPORT")
+        .required(true)
+        .help("Airport file: the day, the runways, the taxi times");
+    let feed1 = Arg::new(alloc, "FEED1")
+        .required(true)
+        .help("Feed of the first desk, in the order of its updates");
+    let feed2 = Arg::new(alloc, "FEED2")
+        .required(true)
+        .help("Feed of the second desk");
+    Parser::new(alloc, "live")
+        .about(LIVE_ABOUT)
+        .after_help(SHORT_HELP)
+        .after_long_help(MANUAL)
+        .arg(airport)?
+        .arg(feed1)?
+        .arg(feed2)
+}
+
+fn parser<'a>(alloc: Global) -> Result<Parser<'a>, AllocError> {
     let help = Parser::new(alloc, "help")
         .about(HELP_ABOUT)
         .visible_alias("manual")?;
@@ -126,6 +166,7 @@ fn parser<'a>(alloc: Global) -> Result<Parser<'a>, AllocError> {
         .disable_help_subcommand(true)
         .subcommand_required(true)
         .arg_required_else_help(true)
-        .subcommand(plan)?
+        .subcommand(plan_parser(alloc)?)?
+        .subcommand(live_parser(alloc)?)?
         .subcommand(help)
 }

@@ -2,6 +2,7 @@
 ghost use Rattle.std.specs.Prelude.{◌≡◌};
 ghost use Rattle.cdm_main.specs.Statuses.{status_of_error, status_of_fault};
 
+use crate::live_error::LiveError;
 use cdm_feed::{Device, Input, RunError};
 use std::io::Write;
 use thiserror::Error;
@@ -18,18 +19,28 @@ pub enum Fault {
     /// The run has not written its whole text.
     #[error(transparent)]
     Run(#[from] RunError),
+    /// The live run has not written its whole text.
+    #[error(transparent)]
+    Live(#[from] LiveError),
 }
 
 impl Fault {
-    /// The exit status: 3 where an input is refused, and 1 where a device fails or memory is short.
+    /// The exit status: 3 where an input is refused, and 1 where a device fails, memory is short or the
+    /// board gives a wrong answer.
     pub fn status(&self) -> u8
         ensures { result ≡ status_of_fault self.now }
     {
         match self {
-            Fault::Run(RunError::TooLong(_) | RunError::Airport(..) | RunError::Scenario(..)) => 3,
+            Fault::Run(RunError::TooLong(_) | RunError::Airport(..) | RunError::Scenario(..))
+            | Fault::Live(
+                LiveError::TooLong(_) | LiveError::Airport(..) | LiveError::HistoryFull,
+            ) => 3,
             Fault::CannotOpen(_)
             | Fault::NoMemory
-            | Fault::Run(RunError::Read(_) | RunError::Memory | RunError::Write) => 1,
+            | Fault::Run(RunError::Read(_) | RunError::Memory | RunError::Write)
+            | Fault::Live(
+                LiveError::Read(_) | LiveError::Memory | LiveError::Write | LiveError::Mismatch,
+            ) => 1,
         }
     }
 }

@@ -4,17 +4,24 @@
 ghost use Rattle.std.specs.Prelude.{◌≡◌, false};
 
 mod command;
+mod desk_report;
+mod desks;
 mod fault;
+mod live_error;
+mod live_inputs;
+mod live_run;
 mod manual;
 
 use cdm_feed::{Device, Input, RunError, WriteFault, run, write_text};
 use cdm_phase::{OpenGate, Workers};
 use command::{Command, CommandFault, command_of};
 use fault::{Fault, report_fault};
+use live_run::run_live;
 use std::alloc::AllocError;
 use std::io::{ErrorKind, Read, Write};
 use std::process::ExitCode;
 use std::rt::{Env, Files};
+use std::sync::Wait;
 use std::thread::Threads;
 use std::{env, fs, io};
 
@@ -32,7 +39,7 @@ fn main(rt: HostRuntime) -> ExitCode {
 
 // Runs the command that the program's words name, and answers the exit status. Texts go to `out`,
 // and what stops the program is told on `errors`.
-fn status_of<R: AllocGlobal + Env + Files + Threads + Sync, O: Write, E: Write>(
+fn status_of<R: AllocGlobal + Env + Files + Threads + Wait + Sync, O: Write, E: Write>(
     rt: &R,
     out: &mut Device<O>,
     errors: &mut Device<E>,
@@ -93,7 +100,7 @@ fn report_command_fault<W: Write>(fault: &CommandFault, device: &mut Device<W>) 
     }
 }
 
-fn run_command<R: AllocGlobal + Files + Threads + Sync, W: Write>(
+fn run_command<R: AllocGlobal + Files + Threads + Wait + Sync, W: Write>(
     rt: &R,
     command: &Command<'_>,
     out: &mut Device<W>,
@@ -116,6 +123,16 @@ fn run_command<R: AllocGlobal + Files + Threads + Sync, W: Write>(
                 }
                 None => plan(rt, airport, feed, &[][..], *workers, out),
             }
+        }
+        Command::Live {
+            airport,
+            feed1,
+            feed2,
+        } => {
+            let airport = open(rt, airport, Input::Airport)?;
+            let feed1 = open(rt, feed1, Input::Feed1)?;
+            let feed2 = open(rt, feed2, Input::Feed2)?;
+            live(rt, airport, feed1, feed2, out)
         }
         Command::Print(text) => write_text(out, text.as_bytes()).map_err(|_: WriteFault| Fault::Run(
             RunError::Write,
@@ -146,6 +163,28 @@ fn plan<R: AllocGlobal + Threads + Sync, F: Read + Drop, S: Read + Drop, W: Writ
         &mut Device::new(feed),
         &mut Device::new(scenarios),
         workers,
+        &OpenGate,
+        out,
+    )?;
+    Ok(())
+}
+
+// Writes the day that two desks make.
+fn live<R: AllocGlobal + Threads + Wait + Sync, A: Read + Drop, F: Read + Drop, W: Write>(
+    rt: &R,
+    airport: A,
+    feed1: F,
+    feed2: F,
+    out: &mut Device<W>,
+) -> Result<(), Fault>
+    requires { out.old.failed ≡ false }
+{
+    run_live(
+        rt,
+        rt.alloc(),
+        &mut Device::new(airport),
+        &mut Device::new(feed1),
+        &mut Device::new(feed2),
         &OpenGate,
         out,
     )?;

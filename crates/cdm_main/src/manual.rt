@@ -11,6 +11,9 @@ each departure of an airport the time at which its start-up can be approved.";
 /// What `plan` does.
 pub const PLAN_ABOUT: &str = "Plan a feed of updates, and print the sequence of each runway";
 
+/// What `live` does.
+pub const LIVE_ABOUT: &str = "Let two desks post a feed each to one board, and print its day";
+
 /// What `help` does.
 pub const HELP_ABOUT: &str = "Print all of the help on standard output";
 
@@ -19,6 +22,7 @@ pub const SHORT_HELP: &str = "\
 For example:
   cdmseq plan airport.csv feed.csv
   cdmseq plan airport.csv feed.csv --scenarios what_if.csv
+  cdmseq live airport.csv desk_1.csv desk_2.csv
 What the files hold and what the output says:
   cdmseq help | less";
 
@@ -77,7 +81,8 @@ TAXI,A1,27L,10
                                * for the stands without a row; of two rows for
                                one stand and runway the last counts
 
-  FEED, a record a line, in the order in which the updates came:
+  FEED, and FEED1 and FEED2 of live, a record a line, in the order in which the
+  updates came:
 
 AP,FLT,AB1,5
 ATC,RWY,AB1,27L
@@ -206,11 +211,28 @@ THE OUTPUT
            its first update that can't be, by its number in the scenario, from
            1, and the cause, from UNKNOWN to FULL.
 
+  live has two desks, which post FEED1 and FEED2 at the same time to one board,
+  in batches of 256 updates, and each looks at the board after its last batch.
+  It prints the plan of the day that they made together, from DAY to TOTAL, and
+  for each desk
+
+    DESK 1 POSTS 1 REFUSED 1
+    REFUSED 5 AUTHORITY
+
+  DESK     the desk, the batches that it posted, and how many records of its
+           feed were refused; then their numbers in that feed, and the causes
+  Where both feeds touch the same flights, runways or the clock, it depends on
+  which batches came first, and two runs may print different texts. Each is
+  right: it is the text of one order of the batches that keeps each feed's own.
+  There is room for 4096 calls, which are the batches and the two looks.
+
 STATUS
   0  done: standard output has the whole text, also where records were refused
-  1  a file can't be read, the text can't be written, or memory is short
+  1  a file can't be read, the text can't be written, memory is short, or the
+     board gave a wrong answer
   2  the words are wrong, or asked for help by -h or --help
-  3  a file has more than 8388608 bytes, or AIRPORT or SCENARIOS is refused
+  3  a file has more than 8388608 bytes, AIRPORT or SCENARIOS is refused, or
+     FEED1 and FEED2 need more than 4096 calls
   For 1 and 3 one line on standard error names the cause, as
   cdmseq: AIRPORT record 5: UNKNOWN. The help of status 2 goes there too.
 ";

@@ -1,5 +1,8 @@
-//! What no clause says: the command line, and the lines of faults.
+//! What no clause says: the command line, the lines of faults, and that two desks run side by side.
+mod live;
+
 use super::*;
+use crate::live_error::LiveError;
 use cdm_feed::RunError;
 use cdm_flight::RefusalWord;
 use std::alloc::Global;
@@ -95,11 +98,33 @@ fn plans_with_one_worker_or_as_many_as_asked_for(rt: HostRuntime) -> Result<(), 
 }
 
 #[test]
+fn two_desks_have_a_feed_each(rt: HostRuntime) -> Result<(), Fail> {
+    let words = ["live", "a.csv", "f.csv", "g.csv"];
+    let Ok(command) = command_of(rt.alloc(), &words) else {
+        return Err("no command".into());
+    };
+    let expected = Command::Live {
+        airport: "a.csv",
+        feed1: "f.csv",
+        feed2: "g.csv",
+    };
+    assert_eq!(rt; command, expected);
+    Ok(())
+}
+
+#[test]
 fn wrong_words_are_told(rt: HostRuntime) -> Result<(), Fail> {
-    let cases: [(&[&str], &str); 16] = [
+    let cases: [(&[&str], &str); 20] = [
         (&["fly"], "unrecognized subcommand 'fly'"),
         (&["Plan", "a", "f"], "unrecognized subcommand 'Plan'"),
-        (&["live", "a", "f", "g"], "unrecognized subcommand 'live'"),
+        (&["live"], "<AIRPORT>"),
+        (&["live", "a"], "<FEED1>"),
+        (&["live", "a", "f"], "<FEED2>"),
+        (&["live", "a", "f", "g", "h"], "unexpected argument 'h'"),
+        (
+            &["live", "a", "f", "g", "--workers", "2"],
+            "unexpected argument '--workers'",
+        ),
         (&["plan"], "<AIRPORT>"),
         (&["plan", "a"], "<FEED>"),
         (&["plan", "a", "f", "g"], "unexpected argument 'g'"),
@@ -160,7 +185,8 @@ AP,FLT,|AO,TOBT,|AP,STAND,|ATC,RWY,|NM,CTOT,|GH,ICE,|ATC,PRIO,|ATC,OFF,|ATC,AIR,
 ATC,RATE,|ATC,CLOSE,|ATC,OPEN,|ATC,TAXI,|ATC,CLOCK,|P  planned|O  off-block|A  airborne|\
 PLACED|DELAY|MAX|LATE|BLOCKED|FIELDS |ROLE |KIND |TEXT |RANGE |AUTHORITY |UNKNOWN |EXISTS |\
 ENDED |OFFBLOCK |ORDER |NOTREADY |FULL |TOBT     it|RUNWAY   it|EXOT     no|HORIZON  it|\
-CTOT     no|CLOSURE  all|RATE     those|0  done|1  a file|2  the words|3  a file";
+CTOT     no|CLOSURE  all|RATE     those|0  done|1  a file|2  the words|3  a file|\
+FEED1 and FEED2|DESK     the|two runs may print different texts";
 
 // The short help: what it says, and that its lines are short and few.
 fn check_short(rt: &impl Abort, text: &str, usage: &str) {
@@ -189,16 +215,22 @@ fn check_lines(rt: &impl Abort, text: &str) {
 fn help_is_short_or_complete(rt: HostRuntime) -> Result<(), Fail> {
     const ALL: &str = "Usage: cdmseq <COMMAND>";
     const PLAN: &str = "Usage: cdmseq plan [OPTIONS] <AIRPORT> <FEED>";
-    let short: [(&[&str], &str); 4] = [
+    const LIVE: &str = "Usage: cdmseq live <AIRPORT> <FEED1> <FEED2>";
+    let short: [(&[&str], &str); 5] = [
         (&[], ALL),
         (&["-h"], ALL),
         (&["plan", "-h"], PLAN),
         (&["plan", "a", "-h"], PLAN),
+        (&["live", "-h"], LIVE),
     ];
     for (words, usage) in short {
         check_short(&rt, usage_of(rt.alloc(), words)?.as_str(), usage);
     }
-    let long: [(&[&str], &str); 2] = [(&["--help"], ALL), (&["plan", "--help"], PLAN)];
+    let long: [(&[&str], &str); 3] = [
+        (&["--help"], ALL),
+        (&["plan", "--help"], PLAN),
+        (&["live", "--help"], LIVE),
+    ];
     for (words, usage) in long {
         check_long(&rt, usage_of(rt.alloc(), words)?.as_str(), usage);
     }
@@ -229,18 +261,19 @@ fn help_and_version_can_be_printed(rt: HostRuntime) -> Result<(), Fail> {
 
 #[test]
 fn faults_have_lines_and_statuses(rt: HostRuntime) -> Result<(), Fail> {
-    use Fault::{CannotOpen, NoMemory, Run};
+    use Fault::{CannotOpen, Live, NoMemory, Run};
     use cdm_feed::Input::{Airport, Feed, Feed1, Feed2, Scenarios};
     let unknown = RunError::Airport(5, RefusalWord::Unknown);
     let disordered = RunError::Scenario(1, RefusalWord::Order);
+    let live_unknown = LiveError::Airport(5, RefusalWord::Unknown);
     let cases = [
         (CannotOpen(Airport), "cannot read AIRPORT", 1),
         (CannotOpen(Feed), "cannot read FEED", 1),
         (CannotOpen(Scenarios), "cannot read SCENARIOS", 1),
         (NoMemory, "out of memory", 1),
         (Run(RunError::Read(Feed)), "cannot read FEED", 1),
-        (Run(RunError::Read(Feed1)), "cannot read FEED1", 1),
-        (Run(RunError::Read(Feed2)), "cannot read FEED2", 1),
+        (CannotOpen(Feed1), "cannot read FEED1", 1),
+        (CannotOpen(Feed2), "cannot read FEED2", 1),
         (
             Run(RunError::TooLong(Feed)),
             "FEED is longer than 8388608 bytes",
@@ -250,6 +283,22 @@ fn faults_have_lines_and_statuses(rt: HostRuntime) -> Result<(), Fail> {
         (Run(disordered), "SCENARIOS record 1: ORDER", 3),
         (Run(RunError::Memory), "out of memory", 1),
         (Run(RunError::Write), "cannot write", 1),
+        (Live(LiveError::Read(Airport)), "cannot read AIRPORT", 1),
+        (Live(LiveError::Read(Feed1)), "cannot read FEED1", 1),
+        (
+            Live(LiveError::TooLong(Feed2)),
+            "FEED2 is longer than 8388608 bytes",
+            3,
+        ),
+        (Live(live_unknown), "AIRPORT record 5: UNKNOWN", 3),
+        (
+            Live(LiveError::HistoryFull),
+            "board is full after 4096 calls",
+            3,
+        ),
+        (Live(LiveError::Memory), "out of memory", 1),
+        (Live(LiveError::Write), "cannot write", 1),
+        (Live(LiveError::Mismatch), "board and desk differ", 1),
     ];
     for (fault, line, status) in cases {
         let (text, answer) = told(&rt, rt.alloc(), &fault);
@@ -260,6 +309,11 @@ fn faults_have_lines_and_statuses(rt: HostRuntime) -> Result<(), Fail> {
         assert_eq!(rt; report_fault(&fault, &mut full), status, "{line}");
         assert!(rt; full.failed());
     }
+    Ok(())
+}
+
+#[test]
+fn faults_of_words_have_texts_and_statuses(rt: HostRuntime) -> Result<(), Fail> {
     let usage = CommandFault::Usage(String::from_str(rt.alloc(), "error: so and so\n")?);
     let cases = [
         (usage, "error: so and so\n", 2),
@@ -284,6 +338,8 @@ fn a_device_that_is_full_stops_the_program(rt: HostRuntime) -> Result<(), Fail> 
     let none = &[][..];
     let fault = plan(&rt, day, none, none, workers, &mut Device::new(Full)).err();
     assert_eq!(rt; fault, Some(Fault::Run(RunError::Write)));
+    let fault = live(&rt, day, none, none, &mut Device::new(Full)).err();
+    assert_eq!(rt; fault, Some(Fault::Live(LiveError::Write)));
     let version = command_of(rt.alloc(), &["--version"])
         .ok()
         .ok_or("no version")?;

@@ -1,0 +1,4 @@
+pub mod BatchLemmas
+pub mod DeskLemmas
+pub mod LiveLemmas
+pub mod RefusalLemmas
