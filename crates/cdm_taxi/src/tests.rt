@@ -24,31 +24,25 @@ fn two_rows(alloc: Global) -> Result<TaxiTable, Fail> {
     Ok(table)
 }
 
-#[test]
-fn taxi_out_times(rt: HostRuntime) -> Result<(), Fail> {
-    let table = two_rows(rt.alloc())?;
-    let (own, other) = (Some(stand(b"A1")?), Some(stand(b"A2")?));
-    let (west, east) = (runway(b"27L")?, runway(b"09")?);
-    let minutes = IceMinutes::new(12).ok_or("no de-icing time")?;
-    assert!(rt; table.exot(own, west, Ice::NoIce) == Some(10));
-    assert!(rt; table.exot(own, west, Ice::Remote(minutes)) == Some(22));
-    assert!(rt; table.exot(own, west, Ice::AtStand(minutes)) == Some(10));
-    assert!(rt; table.exot(other, west, Ice::NoIce) == Some(15));
-    assert!(rt; table.exot(None, west, Ice::NoIce) == Some(15));
-    assert!(rt; table.exot(own, east, Ice::NoIce) == None);
-    Ok(())
+// The taxi-out time from a stand, or from none, where the names are names.
+fn exot(table: &TaxiTable, from: &str, to: &str, ice: Ice) -> Option<u16> {
+    let stand = StandName::new(from.as_bytes());
+    table.exot(stand, RunwayName::new(to.as_bytes())?, ice)
 }
 
 #[test]
-fn the_last_row_stands(rt: HostRuntime) -> Result<(), Fail> {
-    let mut table = two_rows(rt.alloc())?;
-    let place = Place::Stand(stand(b"A1")?);
-    table.set(place, runway(b"09")?, taxi(7)?)?;
-    table.set(place, runway(b"27L")?, taxi(120)?)?;
-    for table in [&table, &table.copy(rt.alloc())?] {
-        assert!(rt; table.minutes(place, runway(b"27L")?) == Some(taxi(120)?));
-        assert!(rt; table.minutes(place, runway(b"09")?) == Some(taxi(7)?));
-        assert!(rt; table.minutes(Place::Default, runway(b"27L")?) == Some(taxi(15)?));
+fn taxi_out_times(rt: HostRuntime) -> Result<(), Fail> {
+    let table = two_rows(rt.alloc())?;
+    let minutes = IceMinutes::new(12).ok_or("no de-icing time")?;
+    for (from, to, ice, wanted) in [
+        ("A1", "27L", Ice::NoIce, Some(10)),
+        ("A1", "27L", Ice::Remote(minutes), Some(22)),
+        ("A1", "27L", Ice::AtStand(minutes), Some(10)),
+        ("A2", "27L", Ice::NoIce, Some(15)),
+        ("", "27L", Ice::NoIce, Some(15)),
+        ("A1", "09", Ice::NoIce, None),
+    ] {
+        assert_eq!(rt; exot(&table, from, to, ice), wanted, "{from} {to}");
     }
     Ok(())
 }
@@ -62,26 +56,6 @@ fn digit(number: u16) -> u8 {
 fn numbered(number: u16) -> Result<Place, Fail> {
     let text = [b'S', digit(number / 100), digit(number / 10), digit(number)];
     Ok(Place::Stand(stand(&text)?))
-}
-
-#[test]
-fn at_most_400_stands_have_rows(rt: HostRuntime) -> Result<(), Fail> {
-    let mut table = TaxiTable::empty(rt.alloc());
-    let name = runway(b"27L")?;
-    for number in 0..400 {
-        let place = numbered(number)?;
-        assert!(rt; table.fits(place));
-        table.set(place, name, taxi(10)?)?;
-    }
-    let (first, another) = (numbered(0)?, numbered(400)?);
-    assert!(rt; !table.fits(another));
-    assert!(rt; table.set(another, name, taxi(10)?) == Err(TaxiFault::Full));
-    assert!(rt; table.minutes(another, name) == None);
-    assert!(rt; !table.copy(rt.alloc())?.fits(another));
-    assert!(rt; table.fits(first) && table.fits(Place::Default));
-    table.set(first, runway(b"09")?, taxi(10)?)?;
-    table.set(Place::Default, name, taxi(15)?)?;
-    Ok(())
 }
 
 // A row from the stand of the number to the runway, with minutes of its own.
@@ -121,7 +95,8 @@ fn set_all(rt: &impl Abort, table: &mut TaxiTable, name: RunwayName) -> Result<(
     Ok(())
 }
 
-/// Where a request for memory is refused, the table is as before, and the same call then succeeds.
+/// Where a request for memory is refused, the table is as before, and the same call then succeeds. With
+/// rows of 400 stands another stand finds it full, but not one of them, nor the default.
 #[test]
 fn refused_memory_leaves_taxi_times(rt: HostRuntime) -> Result<(), Fail> {
     let alloc = rt.alloc();
@@ -129,11 +104,17 @@ fn refused_memory_leaves_taxi_times(rt: HostRuntime) -> Result<(), Fail> {
     let mut table = TaxiTable::empty(alloc);
     set_all(&rt, &mut table, first)?;
     set_all(&rt, &mut table, second)?;
-    let copied = table.copy(alloc).or_else(|_| table.copy(alloc))?;
+    let (another, minutes) = numbered_row(400)?;
+    assert!(rt; table.set(another, first, minutes) == Err(TaxiFault::Full));
+    let mut copied = table.copy(alloc).or_else(|_| table.copy(alloc))?;
     for table in [&table, &copied] {
         assert!(rt; has_rows(table, first, 400)?);
         assert!(rt; has_rows(table, second, 400)?);
-        assert!(rt; !table.fits(numbered(400)?));
+        assert!(rt; !table.fits(another));
     }
+    if copied.set(Place::Default, first, minutes).is_err() {
+        copied.set(Place::Default, first, minutes)?;
+    }
+    assert!(rt; copied.minutes(Place::Default, first) == Some(minutes));
     Ok(())
 }
