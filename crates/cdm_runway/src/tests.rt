@@ -218,7 +218,7 @@ fn refused_memory_leaves_the_runway(rt: HostRuntime) -> Result<(), Fail> {
         held: [0; 2880],
     };
     fill(&mut tables.held, 370, 380, 2);
-    for hour in 0..47 {
+    for hour in 0..12 {
         let from = 60 * hour;
         for change in [
             ("RATE", from, from + 30),
