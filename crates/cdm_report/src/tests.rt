@@ -42,6 +42,9 @@ fn slot(row: Row) -> Option<Slot> {
 
 fn slots_of(alloc: Global, rows: &[Row]) -> Result<Vec<Slot>, Fail> {
     let mut slots = Vec::new(alloc);
+    if slots.reserve(rows.len()).is_err() {
+        slots.reserve(rows.len())?;
+    }
     for row in rows {
         slots.push(slot(*row).ok_or("no slot")?)?;
     }
@@ -64,6 +67,9 @@ fn are_in_order(slots: &[Slot]) -> bool
 
 fn blocked_of(alloc: Global, rows: &[(&str, Rule)]) -> Result<Vec<BlockedFlight>, Fail> {
     let mut blocked = Vec::new(alloc);
+    if blocked.reserve(rows.len()).is_err() {
+        blocked.reserve(rows.len())?;
+    }
     for (name, rule) in rows {
         let name = FlightName::new(name.as_bytes()).ok_or("no flight name")?;
         blocked.push(BlockedFlight { name, rule: *rule })?;
@@ -81,7 +87,7 @@ fn by_name(flights: Vec<BlockedFlight>) -> Vec<BlockedFlight>
     ordered
 }
 
-// A plan of runway 27L alone.
+// A plan of runway 27L alone. Its room is asked for once more where memory was refused.
 fn plan_of_27l(
     alloc: Global,
     now: u16,
@@ -94,6 +100,9 @@ fn plan_of_27l(
         return Err("no plan".into());
     }
     let mut runways = Vec::new(alloc);
+    if runways.reserve(1).is_err() {
+        runways.reserve(1)?;
+    }
     runways.push(RunwayPlan {
         runway: RunwayName::new(b"27L").ok_or("no runway name")?,
         slots: Listed::new(slots),
@@ -138,6 +147,11 @@ REFUSED 7 EXISTS
 REFUSED 1000 FULL
 ";
 
+// From a day without flights.
+const DELTA: &str =
+    "DELTA PLACED +3 DELAY +1111 MAX +1080 LATE +2 BLOCKED +4 TOBT +2 CLOSURE +1 RATE +1
+";
+
 #[test]
 fn report_and_indicators(rt: HostRuntime) -> Result<(), Fail> {
     let day = Day::of_text(b"2025-03-10").map_err(|_| "no day")?;
@@ -157,6 +171,26 @@ fn report_and_indicators(rt: HostRuntime) -> Result<(), Fail> {
         ..Counts::default()
     };
     assert_eq!(rt; indicators(&plan), counts);
+    Ok(())
+}
+
+/// Where a request for memory is refused, there is no text, and the same call then succeeds.
+#[test]
+fn refused_memory_in_a_text(rt: HostRuntime) -> Result<(), Fail> {
+    let alloc = rt.alloc();
+    let day = Day::of_text(b"2025-03-10").map_err(|_| "no day")?;
+    let plan = plan_of_27l(alloc, 2879, &SLOTS, &BLOCKED)?;
+    let refused = [(7, RefusalWord::Exists), (1000, RefusalWord::Full)];
+    let text = report_text(alloc, &day, &plan, &refused);
+    let text = text.or_else(|_| report_text(alloc, &day, &plan, &refused))?;
+    assert_eq!(rt; text.as_slice(), REPORT.as_bytes());
+    let (base, counts) = (Counts::default(), indicators(&plan));
+    let text = delta_text(alloc, &base, &counts);
+    let text = text.or_else(|_| delta_text(alloc, &base, &counts))?;
+    assert_eq!(rt; text.as_slice(), DELTA.as_bytes());
+    let line = refused_text(alloc, 7, RefusalWord::Exists);
+    let line = line.or_else(|_| refused_text(alloc, 7, RefusalWord::Exists))?;
+    assert_eq!(rt; line.as_slice(), b"REFUSED 7 EXISTS\n".as_slice());
     Ok(())
 }
 

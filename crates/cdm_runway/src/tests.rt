@@ -201,3 +201,67 @@ fn refused_memory_leaves_the_runway(rt: HostRuntime) -> Result<(), Fail> {
     assert!(rt; agree(&copied, &tables)?);
     Ok(())
 }
+
+// Sets a rate, closes or opens.
+fn set_window(
+    runway: &mut Runway,
+    word: &str,
+    from: Minute,
+    to: Bound,
+    cap: Cap,
+) -> Result<(), RunwayFault> {
+    match word {
+        "RATE" => runway.rate(from, to, cap),
+        "CLOSE" => runway.close(from, to),
+        _ => runway.reopen(from, to),
+    }
+}
+
+// Makes a change of both, once more where there was no memory for it. The runway is as before then.
+fn set_both(
+    rt: &impl Abort,
+    runway: &mut Runway,
+    tables: &mut Tables,
+    change: (&str, u16, u16),
+) -> Result<(), Fail> {
+    let (word, from, to) = change;
+    let (first, end, cap) = (minute_of(from)?, bound_of(to)?, cap_of(from / 10 % 2)?);
+    if set_window(runway, word, first, end, cap).is_err() {
+        assert!(rt; agree(runway, tables)?, "{word} {from}");
+        set_window(runway, word, first, end, cap)?;
+    }
+    match word {
+        "RATE" => fill(&mut tables.caps, from, to, from / 10 % 2),
+        _ => fill(&mut tables.closed, from, to, word == "CLOSE"),
+    }
+    Ok(())
+}
+
+/// Where a request for memory is refused, the runway is as before, and the same call then succeeds.
+#[test]
+fn refused_memory_leaves_the_runway(rt: HostRuntime) -> Result<(), Fail> {
+    let alloc = rt.alloc();
+    let mut runway = two_in_ten(alloc)?;
+    let mut tables = Tables {
+        caps: [2; 2880],
+        closed: [false; 2880],
+        held: [0; 2880],
+    };
+    fill(&mut tables.held, 370, 380, 2);
+    for hour in 0..12 {
+        let from = 60 * hour;
+        for change in [
+            ("RATE", from, from + 30),
+            ("RATE", from + 10, from + 20),
+            ("CLOSE", from + 5, from + 25),
+            ("OPEN", from + 12, from + 15),
+        ] {
+            set_both(&rt, &mut runway, &mut tables, change)?;
+        }
+    }
+    assert!(rt; agree(&runway, &tables)?);
+    let copied = runway.copy(alloc).or_else(|_| runway.copy(alloc))?;
+    assert!(rt; agree(&copied, &tables)?);
+    assert!(rt; copied.name() == runway.name() && copied.cell() == runway.cell());
+    Ok(())
+}

@@ -3,4 +3,5 @@
 mod answers;
 mod full_cell;
 mod meeting;
+mod memory;
 mod names;

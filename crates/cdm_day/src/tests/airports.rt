@@ -1,6 +1,6 @@
 //! Airports row by row.
 use super::days::{add_row, day_of, no_runway};
-use crate::{Airport, AirportFault};
+use crate::{Airport, AirportFault, DayState};
 use cdm_flight::{Place, RunwayName};
 use std::test::Fail;
 
@@ -45,5 +45,44 @@ fn rows_of_an_airport(rt: HostRuntime) -> Result<(), Fail> {
     assert_eq!(rt; day.day().date_text(), *b"2025-03-10");
     assert!(rt; day.journal().is_empty());
     assert_eq!(rt; day.plan().runways.len(), 8);
+    Ok(())
+}
+
+/// Where a request for memory is refused, the airport is as before, and it comes back where its day
+/// can't begin. The same call then succeeds.
+#[test]
+fn refused_memory_leaves_the_airport(rt: HostRuntime) -> Result<(), Fail> {
+    let alloc = rt.alloc();
+    let mut airport = no_runway(alloc)?;
+    for (stand, runway) in [
+        ("", "01"),
+        ("*", "01"),
+        ("A1", "01"),
+        ("", "02"),
+        ("", "03"),
+        ("", "04"),
+        ("", "05"),
+        ("A1", "05"),
+    ] {
+        let before = airport.copy(alloc).or_else(|_| airport.copy(alloc))?;
+        let mut found = add_row(&mut airport, stand, runway);
+        if found == Some(Err(AirportFault::Memory)) {
+            assert!(rt; airport.is_same(&before));
+            found = add_row(&mut airport, stand, runway);
+        }
+        assert_eq!(rt; found, Some(Ok(())), "{stand} {runway}");
+    }
+    let copied = airport.copy(alloc).or_else(|_| airport.copy(alloc))?;
+    assert_eq!(rt; copied.runways().len(), 5);
+    assert_eq!(rt; taxi_time(&copied, "01"), Some(15));
+    let day = match DayState::new(alloc, airport) {
+        Ok(day) => day,
+        Err(airport) => {
+            assert!(rt; airport.is_same(&copied));
+            day_of(alloc, airport)?
+        }
+    };
+    assert!(rt; day.airport().is_same(&copied));
+    assert_eq!(rt; day.plan().runways.len(), 5);
     Ok(())
 }

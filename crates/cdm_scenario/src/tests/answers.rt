@@ -1,14 +1,17 @@
 //! What becomes of a day by scenarios: worked answers, by one worker and by many.
+ghost use Rattle.std.specs.Prelude.{◌≤◌, length};
+
 use super::full_cell::{closed, full_cell, priority, ready};
 use super::meeting::Meeting;
-use crate::{Outcome, Overlay, Scenario, ScenarioName, answer_all};
-use cdm_day::{Reply, judge, plan_of};
+use crate::{Outcome, Overlay, Scenario, ScenarioName, answer, answer_all};
+use cdm_day::{DayState, Reply, judge, plan_of};
 use cdm_flight::{RefusalWord, Update};
-use cdm_phase::Workers;
+use cdm_phase::{OpenGate, Workers};
 use cdm_sequence::Plan;
-use std::alloc::Global;
+use std::alloc::{AllocError, Global};
 use std::process::Abort;
 use std::test::Fail;
+use std::thread::Threads;
 
 // What a scenario is to be answered.
 #[derive(Clone, Copy)]
@@ -26,8 +29,8 @@ const WANTED: [Wanted; 4] = [
     Wanted::Planned([375, 375, 380], (5, 5, 0)),
 ];
 
-// The take-off minutes of the one runway.
-fn assert_minutes(rt: &impl Abort, plan: &Plan, minutes: &[u16]) {
+/// The take-off minutes of the one runway.
+pub fn assert_minutes(rt: &impl Abort, plan: &Plan, minutes: &[u16]) {
     assert_eq!(rt; plan.runways.len(), 1);
     for runway in plan.runways.as_slice() {
         assert_eq!(rt; runway.slots.len(), minutes.len());
@@ -51,17 +54,31 @@ fn assert_outcome(rt: &impl Abort, outcome: &Outcome, wanted: &Wanted) {
     }
 }
 
+// The answers are those that are wanted.
+fn assert_outcomes(rt: &impl Abort, outcomes: &[Outcome]) {
+    assert_eq!(rt; outcomes.len(), 4);
+    for (outcome, wanted) in outcomes.iter().zip(WANTED.iter()) {
+        assert_outcome(rt, outcome, wanted);
+    }
+}
+
+// The scenario of the updates. Each is added once more where memory was refused.
 fn scenario(alloc: Global, name: &str, updates: &[Option<Update>]) -> Result<Scenario, Fail> {
     let name = ScenarioName::new(name.as_bytes()).ok_or("no name")?;
     let mut scenario = Scenario::empty(alloc, name);
     for update in updates {
-        scenario.add(update.ok_or("no update")?)?;
+        let update = update.ok_or("no update")?;
+        let added = scenario.add(update);
+        added.or_else(|_| scenario.add(update))?;
     }
     Ok(scenario)
 }
 
 fn four_scenarios(alloc: Global) -> Result<Vec<Scenario>, Fail> {
     let mut scenarios = Vec::new(alloc);
+    if scenarios.reserve(4).is_err() {
+        scenarios.reserve(4)?;
+    }
     scenarios.push(scenario(alloc, "SHUT", &[closed()])?)?;
     scenarios.push(scenario(alloc, "SHUT2", &[closed()])?)?;
     scenarios.push(scenario(alloc, "BAD", &[priority("AB3", 1), ready("XY9")])?)?;
@@ -95,11 +112,46 @@ fn scenarios_are_answered_side_by_side(rt: HostRuntime) -> Result<(), Fail> {
         let workers = Workers::new(count).ok_or("no workers")?;
         let gate = Meeting::new(turns);
         let outcomes = answer_all(&rt, rt.alloc(), &base, &scenarios, workers, &gate)?;
-        assert_eq!(rt; outcomes.len(), 4);
-        for (outcome, wanted) in outcomes.iter().zip(WANTED.iter()) {
-            assert_outcome(&rt, outcome, wanted);
-        }
+        assert_outcomes(&rt, &outcomes);
         assert_eq!(rt; gate.is_missed(), count == 1, "{count} workers");
     }
+    Ok(())
+}
+
+// The answers one by one, or by two workers.
+fn answers<R: Threads + Sync>(
+    rt: &R,
+    alloc: Global,
+    base: &DayState,
+    scenarios: &[Scenario],
+    workers: usize,
+) -> Result<Vec<Outcome>, AllocError>
+    requires { length scenarios.now ≤ 64 }
+{
+    if let Some(workers) = Workers::new(workers) {
+        return answer_all(rt, alloc, base, scenarios, workers, &OpenGate);
+    }
+    let mut outcomes = Vec::new(alloc);
+    for scenario in scenarios {
+        outcomes.push(answer(alloc, base, scenario)?)?;
+    }
+    Ok(outcomes)
+}
+
+/// Where a request for memory is refused, there are no answers or all, and the same call then succeeds.
+#[test]
+fn refused_memory_in_answers(rt: HostRuntime) -> Result<(), Fail> {
+    let alloc = rt.alloc();
+    let base = full_cell(alloc)?;
+    let scenarios = four_scenarios(alloc)?;
+    assert_eq!(rt; scenarios.len(), 4);
+    for workers in [0, 2] {
+        let outcomes = match answers(&rt, alloc, &base, &scenarios, workers) {
+            Ok(outcomes) => outcomes,
+            Err(_) => answers(&rt, alloc, &base, &scenarios, workers)?,
+        };
+        assert_outcomes(&rt, &outcomes);
+    }
+    assert_minutes(&rt, base.plan(), &[375, 375, 380]);
     Ok(())
 }

@@ -34,8 +34,8 @@ pub fn closed() -> Option<Update> {
     Some(Update::Close { runway, from, to })
 }
 
-// The updates that plan a flight for 06:00.
-fn planned(name: &str) -> Option<[(Role, Update); 3]> {
+/// The updates that plan a flight for 06:00.
+pub fn planned(name: &str) -> Option<[(Role, Update); 3]> {
     let flight = FlightName::new(name.as_bytes())?;
     let priority = Priority::new(5)?;
     let runway = runway_27l()?;
@@ -46,7 +46,8 @@ fn planned(name: &str) -> Option<[(Role, Update); 3]> {
     ])
 }
 
-/// The day after the updates that plan AB1, AB2 and AB3 for 06:00.
+/// The day after the updates that plan AB1, AB2 and AB3 for 06:00. Each call is made once more where
+/// memory was refused.
 pub fn full_cell(alloc: Global) -> Result<DayState, Fail> {
     let day = Day::of_text(b"2025-03-10").map_err(|_| "no day")?;
     let runway = runway_27l().ok_or("no runway")?;
@@ -54,12 +55,17 @@ pub fn full_cell(alloc: Global) -> Result<DayState, Fail> {
     let cap = Cap::new(2).ok_or("no capacity")?;
     let minutes = TaxiMinutes::new(15).ok_or("no minutes")?;
     let mut airport = Airport::new(alloc, day);
-    airport.add_runway(runway, cell, cap)?;
-    airport.add_taxi(Place::Default, runway, minutes)?;
-    let mut state = DayState::new(alloc, airport).map_err(|_| "no memory")?;
+    let added = airport.add_runway(runway, cell, cap);
+    added.or_else(|_| airport.add_runway(runway, cell, cap))?;
+    let added = airport.add_taxi(Place::Default, runway, minutes);
+    added.or_else(|_| airport.add_taxi(Place::Default, runway, minutes))?;
+    let state = DayState::new(alloc, airport).or_else(|airport| DayState::new(alloc, airport));
+    let mut state = state.map_err(|_| "no memory")?;
     for name in ["AB1", "AB2", "AB3"] {
         let batch = planned(name).ok_or("no flight")?;
-        state.apply(alloc, &batch)?;
+        if state.apply(alloc, &batch).is_err() {
+            state.apply(alloc, &batch)?;
+        }
     }
     Ok(state)
 }
