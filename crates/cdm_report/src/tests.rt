@@ -152,28 +152,6 @@ const DELTA: &str =
     "DELTA PLACED +3 DELAY +1111 MAX +1080 LATE +2 BLOCKED +4 TOBT +2 CLOSURE +1 RATE +1
 ";
 
-#[test]
-fn report_and_indicators(rt: HostRuntime) -> Result<(), Fail> {
-    let day = Day::of_text(b"2025-03-10").map_err(|_| "no day")?;
-    let plan = plan_of_27l(rt.alloc(), 2879, &SLOTS, &BLOCKED)?;
-    let refused = [(7, RefusalWord::Exists), (1000, RefusalWord::Full)];
-    let text = report_text(rt.alloc(), &day, &plan, &refused)?;
-    assert_eq!(rt; text.as_slice(), REPORT.as_bytes());
-    let counts = Counts {
-        placed: 3,
-        delay: 1111,
-        greatest: 1080,
-        late: 2,
-        blocked: 4,
-        tobt: 2,
-        closure: 1,
-        rate: 1,
-        ..Counts::default()
-    };
-    assert_eq!(rt; indicators(&plan), counts);
-    Ok(())
-}
-
 /// Where a request for memory is refused, there is no text, and the same call then succeeds.
 #[test]
 fn refused_memory_in_a_text(rt: HostRuntime) -> Result<(), Fail> {
@@ -191,51 +169,5 @@ fn refused_memory_in_a_text(rt: HostRuntime) -> Result<(), Fail> {
     let line = refused_text(alloc, 7, RefusalWord::Exists);
     let line = line.or_else(|_| refused_text(alloc, 7, RefusalWord::Exists))?;
     assert_eq!(rt; line.as_slice(), b"REFUSED 7 EXISTS\n".as_slice());
-    Ok(())
-}
-
-#[test]
-fn report_of_a_runway_without_flights(rt: HostRuntime) -> Result<(), Fail> {
-    let day = Day::of_text(b"2025-03-10").map_err(|_| "no day")?;
-    let plan = plan_of_27l(rt.alloc(), 0, &[], &[])?;
-    let expected = b"DAY 2025-03-10 NOW 100000
-RUNWAY 27L
-TOTAL PLACED 0 DELAY 0 MAX 0 LATE 0 BLOCKED 0
-";
-    let text = report_text(rt.alloc(), &day, &plan, &[])?;
-    assert_eq!(rt; text.as_slice(), expected.as_slice());
-    Ok(())
-}
-
-#[test]
-fn changes_have_signs(rt: HostRuntime) -> Result<(), Fail> {
-    let base = Counts {
-        placed: 3,
-        delay: 5,
-        greatest: 5,
-        blocked: 1,
-        tobt: 1,
-        ..Counts::default()
-    };
-    let other = Counts {
-        placed: 2,
-        delay: 55,
-        greatest: 25,
-        late: 1,
-        blocked: 1,
-        rate: 1,
-        ..Counts::default()
-    };
-    for (scenario, line) in [
-        (base, "PLACED +0 DELAY +0 MAX +0 LATE +0 BLOCKED +0"),
-        (
-            other,
-            "PLACED -1 DELAY +50 MAX +20 LATE +1 BLOCKED +0 TOBT -1 RATE +1",
-        ),
-    ] {
-        let text = delta_text(rt.alloc(), &base, &scenario)?;
-        let expected = format!(in rt.alloc(); "DELTA {line}\n")?;
-        assert_eq!(rt; text.as_slice(), expected.as_bytes());
-    }
     Ok(())
 }
