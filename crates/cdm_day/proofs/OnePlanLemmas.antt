@@ -75,12 +75,11 @@ contains_from_lists f (x ∷ xs) y i = elim (Contains-append_cases (f x) (flat_m
 -- an element goes with one of the other list
 pub partner : {X Y : Type 0} (R : X → Y → Type 0) (xs : List X) (ys : List Y) (y : Y) → AllZip R xs ys → Contains ys y → (x : X) × R x y × Contains xs x
 partner R [] [] y all i = absurd (omega (arith, i.1))
-partner R [] (v ∷ ys) y all i = absurd all
-partner R (u ∷ xs) [] y all i = absurd all
 partner {X} {Y} R (u ∷ xs) (v ∷ ys) y all i = elim (contains_cases v ys y i) [
   | inl e ↦ (u, subst (λ (z : Y). R u z) e all.0, contains_head u xs)
   | inr j ↦ let w = partner R xs ys y all.1 j in (w.0, w.1, contains_tail u xs w.0 w.2)
 ]
+partner R _ _ y all i = absurd all
 
 -- Aims.
 
@@ -113,26 +112,24 @@ module _ (times : TaxiTimes) (now : ℕ) (fs : List Record) (own : IsDistinct sa
   -- the plans of the runways are determined
   made_one : (rs : List RunwayRules) (xs ys : List RunwayPlanRecord) → AllZip IsMade rs xs → AllZip IsMade rs ys → xs ≡ ys
   made_one [] [] [] a b = refl
-  made_one [] [] (y ∷ ys) a b = absurd b
-  made_one [] (x ∷ xs) ys a b = absurd a
-  made_one (r ∷ rs) [] ys a b = absurd a
-  made_one (r ∷ rs) (x ∷ xs) [] a b = absurd b
   made_one (r ∷ rs) (x ∷ xs) (y ∷ ys) a b =
       let fixed = fixed_on r.name fs in
       let targets = targets_at r.name in
       let same : x ≡ y = sequence_one r fixed fixed targets targets x y (names_on r.name times now fs own) (IsPermutation-refl fixed) (IsPermutation-refl targets) a.0 b.0 in
       let rest = made_one rs xs ys a.1 b.1 in
       λ i. same i ∷ rest i
+  made_one [] [] (y ∷ ys) a b = absurd b
+  made_one (r ∷ rs) (x ∷ xs) [] a b = absurd b
+  made_one _ _ _ a b = absurd a
 
   -- and have the runways' names
   made_named : (rs : List RunwayRules) (ps : List RunwayPlanRecord) → AllZip IsMade rs ps → map (λ p. p.runway) ps ≡ map (λ r. r.name) rs
   made_named [] [] all = refl
-  made_named [] (p ∷ ps) all = absurd all
-  made_named (r ∷ rs) [] all = absurd all
   made_named (r ∷ rs) (p ∷ ps) all =
       let here = all.0.1.runway in
       let rest = made_named rs ps all.1 in
       λ i. here i ∷ rest i
+  made_named _ _ all = absurd all
 
   -- a flight that a runway blocks is the flight of a target on it
   record OnRunway (f : Record) (ps : List RunwayPlanRecord) (b : BlockedFlight) : Type 0 where

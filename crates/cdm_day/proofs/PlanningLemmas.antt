@@ -57,12 +57,11 @@ aim_list fs times now = map (λ f. aim_of f times now) (planned_of fs)
 -- the aims of flights are one list
 pub aims_are : (times : TaxiTimes) (now : ℕ) (fs : List Record) (aims : List AimResult) → AllZip (λ f a. IsAim f times now a) fs aims → map (λ f. aim_of f times now) fs ≡ aims
 aims_are times now [] [] all = refl
-aims_are times now [] (a ∷ aims) all = absurd all
-aims_are times now (f ∷ fs) [] all = absurd all
 aims_are times now (f ∷ fs) (a ∷ aims) all =
     let here = aim_is f times now a all.0 in
     let rest = aims_are times now fs aims all.1 in
     λ i. here i ∷ rest i
+aims_are times now _ _ all = absurd all
 
 pub aims_mean : (times : TaxiTimes) (now : ℕ) (fs : List Record) → AllZip (λ f a. IsAim f times now a) fs (map (λ f. aim_of f times now) fs)
 aims_mean times now [] = tt
@@ -72,13 +71,12 @@ aims_mean times now (f ∷ fs) = (aim_means f times now, aims_mean times now fs)
 pub aimed_are : (times : TaxiTimes) (now : ℕ) (fs : List Record) (aims : List Aimed) → AllZip (IsAimed times now) fs aims → aims ≡ map (aimed times now) fs
 unfolding aimed
 aimed_are times now [] [] all = refl
-aimed_are times now [] (a ∷ aims) all = absurd all
-aimed_are times now (f ∷ fs) [] all = absurd all
 aimed_are times now (f ∷ fs) (a ∷ aims) all =
     let name = all.0.name in
     let aim = sym (aim_is f times now a.aim all.0.aim) in
     let rest = aimed_are times now fs aims all.1 in
     λ i. record { name = name i; aim = aim i } ∷ rest i
+aimed_are times now _ _ all = absurd all
 
 -- the targets among the aims, and the flights that are blocked early
 pub targets-aims : (times : TaxiTimes) (now : ℕ) (fs : List Record) → targets_in (aim_list fs times now) ≡ targets_of fs times now
@@ -415,14 +413,13 @@ pub zipped_sizes : (fixed : List ℕ → List FixedRecord) (targets : List ℕ �
     → AllZip (λ r p. IsSequence r (fixed r.name) (targets r.name) p) runways plans
     → sum_by (λ p. length p.slots + length p.blocked) plans ≡ sum_by (λ r. length (fixed r) + length (targets r)) (map (λ (r : RunwayRules). r.name) runways)
 zipped_sizes fixed targets [] [] all = refl
-zipped_sizes fixed targets [] (p ∷ ps) all = absurd all
-zipped_sizes fixed targets (r ∷ rs) [] all = absurd all
 zipped_sizes fixed targets (r ∷ rs) (p ∷ ps) all =
     let a = sum_by-cons (λ p. length p.slots + length p.blocked) p ps in
     let b = sum_by-cons (λ r. length (fixed r) + length (targets r)) r.name (map (λ (r : RunwayRules). r.name) rs) in
     let size = all_shown r (fixed r.name) (targets r.name) p all.0 in
     let rest = zipped_sizes fixed targets rs ps all.1 in
     omega arith
+zipped_sizes fixed targets _ _ all = absurd all
 
 -- each runway can be sequenced
 pub can_sequence : (times : TaxiTimes) (now : ℕ) (fs : List Record) → IsDistinct same_name (map (λ f. f.name) fs) → length fs ≤ 2000 → (r : List ℕ)
@@ -439,17 +436,11 @@ planned_are fs = filter_passes (λ f. is_planned f.status) fs
 -- what goes together goes together in a weaker way
 pub AllZip-weaker : {X Y : Type 0} (R S : X → Y → Type 0) → ((x : X) (y : Y) → R x y → S x y) → (xs : List X) (ys : List Y) → AllZip R xs ys → AllZip S xs ys
 AllZip-weaker R S h [] [] all = tt
-AllZip-weaker R S h [] (y ∷ ys) all = absurd all
-AllZip-weaker R S h (x ∷ xs) [] all = absurd all
 AllZip-weaker R S h (x ∷ xs) (y ∷ ys) all = (h x y all.0, AllZip-weaker R S h xs ys all.1)
+AllZip-weaker R S h _ _ all = absurd all
 
 -- the flights of a runway among lent ones
 pub fixed_on-lent : (r : List ℕ) (fs : List (Bor Record)) → filter_map (λ f. fixed_flight f.now) (filter (λ f. is_on r f.now) fs) ≡ fixed_on r (map (λ f. f.now) fs)
-unfolding fixed_on
-fixed_on-lent r [] = refl
-fixed_on-lent r (f ∷ fs) = by (is_on r f.now) (fixed_on-lent r fs)
-  where
-    by : (b : Bool) → filter_map (λ f. fixed_flight f.now) (filter (λ f. is_on r f.now) fs) ≡ filter_map fixed_flight (filter (is_on r) (map (λ f. f.now) fs))
-        → filter_map (λ f. fixed_flight f.now) (cond b (f ∷ filter (λ f. is_on r f.now) fs) (filter (λ f. is_on r f.now) fs)) ≡ filter_map fixed_flight (cond b (f.now ∷ filter (is_on r) (map (λ f. f.now) fs)) (filter (is_on r) (map (λ f. f.now) fs)))
-    by true h = ap (cons_option (fixed_flight f.now)) h
-    by false h = h
+fixed_on-lent r fs =
+    filter_map-filter (λ (f : Bor Record). fixed_flight f.now) (λ f. is_on r f.now) fs
+    ∙ sym (fixed_on-given r (map (λ (f : Bor Record). f.now) fs) ∙ filter_map-map (fixed_at r) (λ (f : Bor Record). f.now) fs)
