@@ -1,8 +1,7 @@
 -- The table of flights says what the journal says after one more update.
 use Rattle.std.proofs.Common.{◌≡◌, ℕ, Bool, true, false, List, [], ◌∷◌, ◌++◌, Option, None, Some, refl, sym, ap, ◌∙◌, subst}
-use Rattle.std.specs.Prelude.{is_some, slice_get}
-use Rattle.std.specs.Option.{option_and_then, option_map, option_map_or}
-use Rattle.std.proofs.lemmas.Option.{slice_get-map}
+use Rattle.std.specs.Prelude.{is_some}
+use Rattle.std.specs.Option.{option_and_then, option_map_or}
 use Rattle.std.specs.List.{list_any, cons_option}
 use Rattle.std.specs.Map.{lookup, keys_of}
 use Rattle.std.specs.FinMap as map_of
@@ -128,20 +127,3 @@ flights_without_updates g m none = record {
   each = λ q. ap (λ es. lookup (same_name q) es) none;
   order = ap keys_of none;
 }
-
--- The order of the flights in the table.
-
-slice_get-keys : (es : List (List ℕ × Record)) (i : ℕ) → slice_get (keys_of es) i ≡ option_map (λ e. e.0) (slice_get es i)
-slice_get-keys es i = slice_get-map (λ (e : List ℕ × Record). e.0) es i
-
--- the flight at a place
-pub flight_at_place : (g : AirportRows) (a : List Update) (m : Flights) (i : ℕ) → TellFlights g a m → (k : List ℕ) (r : Record) → slice_get m.entries i ≡ Some (k, r) → get same_name m k ≡ Some r
-    → Some r ≡ option_and_then (flight_of g a) (slice_get (flights_in a) i)
-flight_at_place g a m i told k r at here =
-    let name : slice_get (flights_in a) i ≡ Some k = ap (λ l. slice_get l i) (sym told.order) ∙ (slice_get-keys m.entries i ∙ ap (option_map (λ (e : List ℕ × Record). e.0)) at) in
-    sym here ∙ (told.each k ∙ sym (ap (option_and_then (flight_of g a)) name))
-
-pub no_flight_at_place : (g : AirportRows) (a : List Update) (m : Flights) (i : ℕ) → TellFlights g a m → slice_get m.entries i ≡ None → None ≡ option_and_then (flight_of g a) (slice_get (flights_in a) i)
-no_flight_at_place g a m i told at =
-    let name : slice_get (flights_in a) i ≡ None = ap (λ l. slice_get l i) (sym told.order) ∙ (slice_get-keys m.entries i ∙ ap (option_map (λ (e : List ℕ × Record). e.0)) at) in
-    sym (ap (option_and_then (flight_of g a)) name)

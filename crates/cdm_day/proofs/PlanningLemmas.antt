@@ -277,56 +277,39 @@ one_named s (r ∷ rs) own = go (same_name s r) refl (one_named s rs (IsDistinct
 abbrev counted : TaxiTimes → ℕ → Record → List ℕ → ℕ
 counted times now f r = one_if (is_some (fixed_at r f)) + one_if (is_some (target_at r times now f))
 
--- a flight that has left counts on its own runway alone
-left_once : (f : Record) (rs : List (List ℕ)) (o : Option FixedRecord) → IsDistinct same_name rs → sum_by (λ r. one_if (is_some (if_so (is_on r f) o))) rs ≤ 1
-left_once f rs o own = by f.runway
-  where
-    le : (b : Bool) → one_if (is_some (if_so b o)) ≤ one_if b
-    le true = at_most o
-      where
-        at_most : (p : Option FixedRecord) → one_if (is_some p) ≤ 1
-        at_most None = omega arith
-        at_most (Some x) = omega arith
-    le false = omega arith
+-- what counts on one runway at the most counts once
+once : (s : Option (List ℕ)) (h : List ℕ → ℕ) (rs : List (List ℕ)) → IsDistinct same_name rs → ((r : List ℕ) → h r ≤ one_if (option_map_or (λ x. same_name x r) s false)) → sum_by h rs ≤ one_if (is_some s)
+once None h rs own le = let zero = sum_by-zero rs in let all = sum_by-le-sum_by h (λ r. 0) rs le in omega arith
+once (Some s) h rs own le = let one = one_named s rs own in let all = sum_by-le-sum_by h (λ r. one_if (same_name s r)) rs le in omega arith
 
-    by : (s : Option (List ℕ)) → sum_by (λ r. one_if (is_some (if_so (option_map_or (λ runway. same_name runway r) s false) o))) rs ≤ 1
-    by None = let z = sum_by-zero rs in let all = sum_by-le-sum_by (λ r. one_if (is_some (if_so false o))) (λ r. 0) rs (λ r. le false) in omega arith
-    by (Some s) = let a = sum_by-le-sum_by (λ r. one_if (is_some (if_so (same_name s r) o))) (λ r. one_if (same_name s r)) rs (λ r. le (same_name s r)) in let b = one_named s rs own in omega arith
-
--- a planned flight counts on its target's runway alone, or is blocked early
-planned_once : (f : Record) (rs : List (List ℕ)) (a : AimResult) → IsDistinct same_name rs → sum_by (λ r. one_if (is_some (if_on r (target_in a)))) rs + one_if (is_some (blocked_in f.name a)) ≤ 1
-planned_once f rs (Early rule) own = let z = sum_by-zero rs in omega arith
-planned_once f rs (Ready t) own =
-    let le : (r : List ℕ) → one_if (is_some (if_on r (Some t))) ≤ one_if (same_name t.runway r) = λ r. at_most (same_name t.runway r) in
-    let a = sum_by-le-sum_by (λ r. one_if (is_some (if_on r (Some t)))) (λ r. one_if (same_name t.runway r)) rs le in
-    let b = one_named t.runway rs own in
-    omega arith
-  where
-    at_most : (b : Bool) → one_if (is_some (cond b (Some t) None)) ≤ one_if b
-    at_most true = omega arith
-    at_most false = omega arith
-
-abbrev no_fixed : Option FixedRecord
-no_fixed = None
-
+-- a flight that has left counts on its own runway, a planned one on its target's, or it is blocked early
 once_with : (f : Record) (rs : List (List ℕ)) (p : Bool) (o : Option FixedRecord) (a : AimResult) → IsDistinct same_name rs → (is_some o ≡ true → p ≡ false)
     → sum_by (λ r. one_if (is_some (if_so (is_on r f) o)) + one_if (is_some (if_so p (if_on r (target_in a))))) rs + one_if (is_some (if_so p (blocked_in f.name a))) ≤ 1
-once_with f rs true None a own left =
-    let split = sum_by-add (λ r. one_if (is_some (if_so (is_on r f) no_fixed))) (λ r. one_if (is_some (if_on r (target_in a)))) rs in
-    let none = sum_by-le-sum_by (λ r. one_if (is_some (if_so (is_on r f) no_fixed))) (λ r. 0) rs (λ r. nothing (is_on r f)) in
-    let z = sum_by-zero rs in
-    let rest = planned_once f rs a own in
-    omega arith
+once_with f rs p o a own left = by p o a left
   where
-    nothing : (b : Bool) → one_if (is_some (if_so b no_fixed)) ≤ 0
-    nothing true = omega arith
-    nothing false = omega arith
-once_with f rs true (Some x) a own left = absurd (false≢true (sym (left refl)))
-once_with f rs false o a own left =
-    let split = sum_by-add (λ r. one_if (is_some (if_so (is_on r f) o))) (λ r. 0) rs in
-    let z = sum_by-zero rs in
-    let rest = left_once f rs o own in
-    omega arith
+    no_fixed : Bool → Option FixedRecord
+    no_fixed b = if_so b None
+
+    none : (b : Bool) → one_if (is_some (no_fixed b)) ≡ 0
+    none true = refl
+    none false = refl
+
+    one : {Y : Type 0} (b : Bool) (o : Option Y) → one_if (is_some (if_so b o)) ≤ one_if b
+    one true None = omega arith
+    one _ _ = omega arith
+
+    at_most : (s : Option (List ℕ)) → one_if (is_some s) ≤ 1
+    at_most None = omega arith
+    at_most (Some s) = omega arith
+
+    by : (p : Bool) (o : Option FixedRecord) (a : AimResult) → (is_some o ≡ true → p ≡ false)
+        → sum_by (λ r. one_if (is_some (if_so (is_on r f) o)) + one_if (is_some (if_so p (if_on r (target_in a))))) rs + one_if (is_some (if_so p (blocked_in f.name a))) ≤ 1
+    by true None (Ready t) left =
+        let all = once (Some t.runway) (λ r. one_if (is_some (no_fixed (is_on r f))) + one_if (is_some (if_on r (Some t)))) rs own (λ r. let n = none (is_on r f) in let m = one (same_name t.runway r) (Some t) in omega arith) in
+        omega arith
+    by true None (Early rule) left = let all = once None (λ r. one_if (is_some (no_fixed (is_on r f))) + 0) rs own (λ r. let n = none (is_on r f) in omega arith) in omega arith
+    by true (Some x) a left = absurd (false≢true (sym (left refl)))
+    by false o a left = let all = once f.runway (λ r. one_if (is_some (if_so (is_on r f) o)) + 0) rs own (λ r. let m = one (is_on r f) o in omega arith) in let few = at_most f.runway in omega arith
 
 -- each flight counts once at the most
 each_once : (times : TaxiTimes) (now : ℕ) (f : Record) (rs : List (List ℕ)) → IsDistinct same_name rs → sum_by (counted times now f) rs + one_if (is_some (early_at times now f)) ≤ 1

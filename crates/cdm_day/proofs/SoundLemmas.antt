@@ -1,5 +1,5 @@
 -- A day stays sound with every update that no word refuses.
-use Rattle.std.proofs.Common.{◌≡◌, ℕ, ◌≤◌, Bool, true, false, ◌||◌, List, [], ◌∷◌, ◌++◌, length, Option, None, Some, refl, sym, ap, ◌∙◌, subst, true≢false, arith, length-append}
+use Rattle.std.proofs.Common.{◌≡◌, ℕ, ◌≤◌, Bool, true, false, not, ◌||◌, List, [], ◌∷◌, ◌++◌, length, Option, None, Some, refl, sym, ap, ◌∙◌, subst, true≢false, arith, length-append}
 use Rattle.std.specs.Prelude.{nat_le, count_by, is_some}
 use Rattle.std.proofs.lemmas.Bool.{or_parts}
 use Rattle.std.proofs.lemmas.Bool.Decides.{nat_tests}
@@ -46,7 +46,10 @@ module _ (d : Day) (u : Update) (sound : IsSound d) (good : refusal_of d.airport
   pub known_update : is_unknown d.airport d.journal u ≡ false
   known_update = (accepted_is d.airport d.journal u good).known
 
-  -- another update than FLT is of a flight that is known
+  -- its flight is known, where it is another than FLT
+  pub unknown_as : (f : List ℕ) → flight_of_update u ≡ Some f → is_fresh u ≡ false → is_unknown d.airport d.journal u ≡ not (is_known d.journal f)
+  unknown_as f e old = known_update ∙ sym (ap not (known_from d.airport d.journal f u e old known_update))
+
   pub never_absent : (f : List ℕ) → flight_of_update u ≡ Some f → is_fresh u ≡ false → flight_of d.airport d.journal f ≡ None → ⊥
   never_absent f e old none = true≢false (sym (known_from d.airport d.journal f u e old known_update) ∙ (known_is d sound f ∙ ap is_some none))
 
