@@ -108,13 +108,13 @@ filter-filter_map r h (f ∷ fs) = go (h f) (filter-filter_map r h fs) where
   go (Some t) e = by (same_name t.runway r) t e
 
 -- the names of what flights give are those of the flights that give something
-names_given : {Y : Type 0} (name : Y → List ℕ) (h : Record → Option Y) → ((f : Record) (y : Y) → h f ≡ Some y → name y ≡ f.name) → (fs : List Record) → map name (filter_map h fs) ≡ map (λ f. f.name) (filter (λ f. is_some (h f)) fs)
-names_given name h own [] = refl
-names_given {Y} name h own (f ∷ fs) = go (h f) refl (names_given name h own fs) where
-  go : (o : Option Y) → h f ≡ o → map name (filter_map h fs) ≡ map (λ f. f.name) (filter (λ f. is_some (h f)) fs)
-      → map name (cons_option o (filter_map h fs)) ≡ map (λ f. f.name) (cond (is_some o) (f ∷ filter (λ f. is_some (h f)) fs) (filter (λ f. is_some (h f)) fs))
+pub names_given : {X Y : Type 0} (name : Y → List ℕ) (key : X → List ℕ) (h : X → Option Y) → ((f : X) (y : Y) → h f ≡ Some y → name y ≡ key f) → (fs : List X) → map name (filter_map h fs) ≡ map key (filter (λ f. is_some (h f)) fs)
+names_given name key h own [] = refl
+names_given {X} {Y} name key h own (f ∷ fs) = go (h f) refl (names_given name key h own fs) where
+  go : (o : Option Y) → h f ≡ o → map name (filter_map h fs) ≡ map key (filter (λ f. is_some (h f)) fs)
+      → map name (cons_option o (filter_map h fs)) ≡ map key (cond (is_some o) (f ∷ filter (λ f. is_some (h f)) fs) (filter (λ f. is_some (h f)) fs))
   go None e rest = rest
-  go (Some y) e rest = ap (λ (n : List ℕ). n ∷ map name (filter_map h fs)) (own f y e) ∙ ap (λ (ns : List (List ℕ)). f.name ∷ ns) rest
+  go (Some y) e rest = ap (λ (n : List ℕ). n ∷ map name (filter_map h fs)) (own f y e) ∙ ap (λ (ns : List (List ℕ)). key f ∷ ns) rest
 
 -- two tests of which at most one holds part what passes either
 parted : {X : Type 0} (a b : X → Bool) → ((x : X) → a x ≡ true → b x ≡ false) → (xs : List X) → IsPermutation (filter (λ x. a x || b x) xs) (filter a xs ++ filter b xs)
@@ -155,20 +155,18 @@ unfolding fixed_flight
 fixed_name f x e = go f.status e
   where
     go : (s : Status) → fixed_by f s ≡ Some x → x.name ≡ f.name
-    go status.Planned k = cc
     go (status.OffBlock aobt exot) k = sym (ap (λ (o : Option FixedRecord). option_map_or (λ y. y.name) o []) k)
     go (status.Airborne aobt atot) k = sym (ap (λ (o : Option FixedRecord). option_map_or (λ y. y.name) o []) k)
-    go status.Cancelled k = cc
+    go _ k = cc
 
 fixed_left : (f : Record) → is_some (fixed_flight f) ≡ true → is_planned f.status ≡ false
 unfolding fixed_flight
 fixed_left f e = go f.status e
   where
     go : (s : Status) → is_some (fixed_by f s) ≡ true → is_planned s ≡ false
-    go status.Planned k = absurd (false≢true k)
     go (status.OffBlock aobt exot) k = refl
     go (status.Airborne aobt atot) k = refl
-    go status.Cancelled k = absurd (false≢true k)
+    go _ k = absurd (false≢true k)
 
 -- What a flight gives to a runway.
 
@@ -229,8 +227,8 @@ names_on r times now fs own =
     let a : Record → Bool = λ f. is_some (fixed_at r f) in
     let b : Record → Bool = λ f. is_some (target_at r times now f) in
     let name : Record → List ℕ = λ f. f.name in
-    let fixed = ap (map (λ (x : FixedRecord). x.name)) (fixed_on-given r fs) ∙ names_given (λ x. x.name) (fixed_at r) (fixed_at_name r) fs in
-    let targets = ap (map (λ (t : TargetRecord). t.key.name)) (targets_on-given r times now fs) ∙ names_given (λ t. t.key.name) (target_at r times now) (λ f t e. target_name r f times now t e) fs in
+    let fixed = ap (map (λ (x : FixedRecord). x.name)) (fixed_on-given r fs) ∙ names_given (λ x. x.name) name (fixed_at r) (fixed_at_name r) fs in
+    let targets = ap (map (λ (t : TargetRecord). t.key.name)) (targets_on-given r times now fs) ∙ names_given (λ t. t.key.name) name (target_at r times now) (λ f t e. target_name r f times now t e) fs in
     let parts = IsPermutation-map name (filter (λ f. a f || b f) fs) (filter a fs ++ filter b fs) (parted a b (apart r times now) fs) in
     let whole = distinct_filter same_name name (λ f. a f || b f) fs own in
     let split = IsDistinct-IsPermutation same_name same_flips (map name (filter (λ f. a f || b f) fs)) (map name (filter a fs ++ filter b fs)) parts whole in
