@@ -1,38 +1,12 @@
 -- A runway that updates do not touch keeps its plan.
 use Rattle.std.proofs.Common.{◌≡◌, ℕ, Bool, true, false, cond, ◌&&◌, List, [], ◌∷◌, ◌++◌, Option, None, Some, refl, sym, ◌∙◌, ap, subst}
-use Rattle.std.specs.Option.{option_and_then, option_map_or}
-use Rattle.std.specs.Prelude.{if◌then◌else◌}
-use Rattle.std.specs.List.{Contains, cons_option, filter_map, find}
-use Rattle.std.proofs.lemmas.List.{append-nil}
-use Rattle.std.proofs.lemmas.List.Elements.{filter_map-append}
-use Rattle.std.proofs.lemmas.List.Sorted.{Contains-permutation, IsPermutation-sym}
-use Rattle.cdm_flight.specs.declared.airport.RunwayRow.{RunwayRow}
-use Rattle.cdm_flight.specs.declared.place.Place.{Place}
-use Rattle.cdm_flight.specs.declared.update.Update.{Update}
+use Rattle.cdm_day.proofs.ListWords.{option_and_then, option_map_or, if◌then◌else◌, Contains, cons_option, filter_map, find, append-nil, filter_map-append, Contains-permutation, IsPermutation-sym, contains_from_map, contains_map, if_so, one_of_key}
+use Rattle.cdm_day.proofs.DayWords.{RunwayRow, Place, Update, same_name, Record, is_planned, flight_of_update, taxi_out, flight_of, now_of, only_if, sets_cap, sets_closed, sets_now, sets_taxi, taxi_of, touches, flight_of-untouched, RunwayRules, TaxiTimes, IsAim, AimResult, FixedRecord, fixed_flight, IsSequence, IsSequenceBy}
+use Rattle.cdm_day.proofs.DayWords.{PlanRecord, RunwayPlanRecord, TargetRecord, aim_means, aim_of, aim_with, aim_with_exot, is_same, same_flips, same_is, if_on, Day, flights_in, new_flight, rows_by_name, rules_of, with_update, IsDayPlan, day_rules, records_in, is_on, target_in, targets_in, targets_on, Adds, AreKept, IsMade}
+use Rattle.cdm_day.proofs.DayWords.{IsPlanOn, IsSince, fixed_in, is_noted, is_touched}
 use Rattle.cdm_flight.specs.declared.update.Update.TheVariants.{Flt, Rate, Close, Reopen, Taxi, Clock}
-use Rattle.cdm_flight.specs.Names.{same_name}
-use Rattle.cdm_flight.specs.Record.{Record, is_planned}
-use Rattle.cdm_flight.specs.Step.{flight_of_update}
-use Rattle.cdm_flight.specs.Taxi.{taxi_out}
-use Rattle.cdm_flight.specs.Journal.{flight_of, now_of, only_if, sets_cap, sets_closed, sets_now, sets_taxi, taxi_of, touches}
-use Rattle.cdm_flight.proofs.JournalLemmas.{flight_of-untouched}
-use Rattle.cdm_flight.proofs.Lists.{contains_from_map, contains_map, if_so, one_of_key}
-use Rattle.cdm_runway.specs.Rules.{RunwayRules}
-use Rattle.cdm_sequence.specs.Aims.{TaxiTimes, IsAim}
-use Rattle.cdm_sequence.specs.declared.aims.AimResult.{AimResult}
 use Rattle.cdm_sequence.specs.declared.aims.AimResult.TheVariants.{Ready, Early}
-use Rattle.cdm_sequence.specs.Fixed.{FixedRecord, fixed_flight}
-use Rattle.cdm_sequence.specs.Sequence.{IsSequence, IsSequenceBy}
-use Rattle.cdm_sequence.specs.Slots.{PlanRecord, RunwayPlanRecord}
-use Rattle.cdm_sequence.specs.Targets.{TargetRecord}
-use Rattle.cdm_sequence.proofs.AimLemmas.{aim_means, aim_of, aim_with, aim_with_exot}
-use Rattle.cdm_sequence.proofs.OrderLemmas.{is_same, same_flips, same_is}
-use Rattle.cdm_day.specs.inner.Aimed.{if_on}
-use Rattle.cdm_day.specs.Day.{Day, flights_in, new_flight, rows_by_name, rules_of, with_update}
-use Rattle.cdm_day.specs.DayPlan.{IsDayPlan, day_rules, records_in}
 use Rattle.cdm_day.specs.declared.touched.Touched.{Touched}
-use Rattle.cdm_day.specs.Planning.{is_on, target_in, targets_in, targets_on}
-use Rattle.cdm_day.specs.inner.Kept.{Adds, AreKept, IsMade, IsPlanOn, IsSince, fixed_in, is_noted, is_touched}
 use Rattle.cdm_day.proofs.JournalFacts.{flights_in-push, now_of-same, taxi_of-same}
 use Rattle.cdm_day.proofs.DayPlanLemmas.{day_rules_differ, has_sequence, is_plan_on, targets_at}
 use Rattle.cdm_day.proofs.NameLemmas.{find_some, rows_permutation}

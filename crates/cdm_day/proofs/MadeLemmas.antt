@@ -1,28 +1,10 @@
 -- The steps to a plan: what planned flights could have, the plans of runways that stand, and the others.
-use Rattle.std.proofs.Common.{Bor, ◌≡◌, ℕ, ◌+◌, ◌≤◌, true, cond, List, [], ◌∷◌, ◌++◌, Option, None, Some, refl, sym, ◌∙◌, ap, subst, arith, map, filter, length, sum_by}
-use Rattle.std.specs.Prelude.{is_none}
+use Rattle.std.proofs.Common.{Bor, ◌≡◌, ℕ, ◌+◌, true, cond, List, [], ◌∷◌, ◌++◌, Option, None, Some, refl, sym, ◌∙◌, ap, subst, arith, map, filter, length}
+use Rattle.cdm_day.proofs.ListWords.{is_none, All, AllZip, Contains, cons_option, filter_map, IsPermutation, IsPermutation-append_right, IsPermutation-middle, IsPermutation-refl, IsPermutation-sym, IsPermutation-trans, contains_head, contains_map, contains_tail}
+use Rattle.cdm_day.proofs.DayWords.{Record, is_planned, TaxiRows, now_of, taxi_of, RunwayRules, TaxiTimes, IsSequence, RunwayPlanRecord, TargetRecord, BlockedFlight, CanSequence, IsAimed, early_among, target_for, Day, rules_in, records_in, HasParts, fixed_on, planned_of, IsSound, TellTaxi, AreKept, Together, kept_plan}
 use Rattle.std.specs.FinMap as finite
-use Rattle.std.specs.List.{All, AllZip, Contains, cons_option, filter_map}
-use Rattle.std.specs.List.Sorted.{IsPermutation}
-use Rattle.std.proofs.lemmas.List.Sorted.{IsPermutation-append_right, IsPermutation-middle, IsPermutation-refl, IsPermutation-sym, IsPermutation-trans}
-use Rattle.cdm_flight.specs.Record.{Record, is_planned}
-use Rattle.cdm_flight.specs.Taxi.{TaxiRows}
-use Rattle.cdm_flight.specs.Journal.{now_of, taxi_of}
-use Rattle.cdm_flight.proofs.Lists.{contains_head, contains_map, contains_tail}
-use Rattle.cdm_runway.specs.Rules.{RunwayRules}
-use Rattle.cdm_sequence.specs.Aims.{TaxiTimes}
-use Rattle.cdm_sequence.specs.Sequence.{IsSequence}
-use Rattle.cdm_sequence.specs.Slots.{PlanRecord, RunwayPlanRecord}
-use Rattle.cdm_sequence.specs.Targets.{TargetRecord}
-use Rattle.cdm_sequence.specs.declared.slot.BlockedFlight.{BlockedFlight}
-use Rattle.cdm_day.specs.inner.Aimed.{CanSequence, IsAimed, early_among, target_for}
 use Rattle.cdm_day.specs.declared.aimed.Aimed.{Aimed}
 use Rattle.cdm_day.specs.declared.touched.Touched.{Touched}
-use Rattle.cdm_day.specs.Day.{Day, rules_in}
-use Rattle.cdm_day.specs.DayPlan.{records_in}
-use Rattle.cdm_day.specs.Planning.{HasParts, fixed_on, planned_of}
-use Rattle.cdm_day.specs.Sound.{IsSound, TellTaxi}
-use Rattle.cdm_day.specs.inner.Kept.{AreKept, Together, kept_plan}
 use Rattle.cdm_day.proofs.DayPlanLemmas.{HasSequence, day_plan, few_records, has_sequence, record_names_differ, targets_at}
 use Rattle.cdm_day.proofs.NameLemmas.{rule_names_differ}
 use Rattle.cdm_day.proofs.OnePlanLemmas.{one_day_plan}

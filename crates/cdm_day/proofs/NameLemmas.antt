@@ -1,26 +1,9 @@
 -- The runways by name.
-use Rattle.std.proofs.Common.{◌≡◌, ℕ, ◌+◌, ◌<◌, ◌≤◌, Bool, true, false, cond, List, [], ◌∷◌, ◌++◌, length, take, drop, get_or, map, Option, None, Some, refl, sym, ap, ◌∙◌, subst, true≢false, zero, suc, add-one, arith}
-use Rattle.std.specs.Prelude.{fold, insert, is_some, slice_get, if◌then◌else◌}
-use Rattle.std.specs.Option.{option_map, option_or}
-use Rattle.std.specs.Ordering.{is_lt}
-use Rattle.std.specs.List.{AllByRecursion, Contains, cons_option, find, IsDistinct, position_or_len}
-use Rattle.std.specs.List.Sorted.{IsPermutation}
-use Rattle.std.specs.Cmp.Lexicographic.{same_text}
-use Rattle.std.proofs.lemmas.Bool.{false_from_ne_true}
-use Rattle.std.proofs.lemmas.List.{append_assoc, append-nil, length-map, take-append-drop, take_all}
-use Rattle.std.proofs.lemmas.List.Elements.{All-contains, All-from_recursion, All-more, recursion_from_All}
-use Rattle.std.proofs.lemmas.List.Folds.{find-append, list_any_at}
-use Rattle.std.proofs.lemmas.List.Sorted.{All-permutation, Contains-permutation, IsPermutation-refl, IsPermutation-sym, IsPermutation-trans, IsPermutation-append_left, IsPermutation-insert, IsPermutation-map, IsPermutation-to_front, length_permutation}
-use Rattle.std.proofs.lemmas.Map.Keys.{IsDistinct-IsPermutation}
-use Rattle.cdm_flight.specs.declared.airport.RunwayRow.{RunwayRow}
-use Rattle.cdm_flight.specs.declared.update.Update.{Update}
-use Rattle.cdm_flight.specs.Names.{same_name, name_cmp}
-use Rattle.cdm_flight.specs.Journal.{AirportRows, runway_row}
-use Rattle.cdm_runway.specs.Rules.{RunwayRules}
-use Rattle.cdm_flight.proofs.Lists.{contains_head, contains_tail, list_any-find, one_of_key}
-use Rattle.cdm_sequence.proofs.OrderLemmas.{same_flips}
-use Rattle.cdm_day.specs.Airport.{IsAirport, runway_names}
-use Rattle.cdm_day.specs.Day.{rules_of, put_by_name, rows_by_name, rules_in}
+use Rattle.std.proofs.Common.{◌≡◌, ℕ, ◌+◌, ◌<◌, ◌≤◌, Bool, true, false, cond, List, [], ◌∷◌, ◌++◌, length, take, drop, get_or, map, Option, None, Some, refl, sym, ap, ◌∙◌, subst, true≢false, zero, suc, add-one}
+use Rattle.cdm_day.proofs.ListWords.{fold, insert, is_some, slice_get, if◌then◌else◌, option_map, option_or, is_lt, AllByRecursion, Contains, cons_option, find, IsDistinct, position_or_len, IsPermutation, same_text, false_from_ne_true, append_assoc, append-nil, length-map, take-append-drop, take_all, All-contains}
+use Rattle.cdm_day.proofs.ListWords.{All-from_recursion, All-more, recursion_from_All, find-append, list_any_at, All-permutation, Contains-permutation, IsPermutation-refl, IsPermutation-sym, IsPermutation-trans, IsPermutation-append_left, IsPermutation-insert, IsPermutation-map, IsPermutation-to_front, length_permutation}
+use Rattle.cdm_day.proofs.ListWords.{IsDistinct-IsPermutation, contains_head, contains_tail, list_any-find, one_of_key}
+use Rattle.cdm_day.proofs.DayWords.{RunwayRow, Update, same_name, name_cmp, AirportRows, runway_row, RunwayRules, same_flips, IsAirport, runway_names, rules_of, put_by_name, rows_by_name, rules_in}
 
 -- What `find` finds.
 

@@ -2,38 +2,13 @@
 use Rattle.std.proofs.Common.{◌≡◌, ℕ, true, false, List, [], ◌∷◌, ◌++◌, Some, is_none, refl, sym, ◌∙◌, ap, subst, inl, inr, ◌⊎◌, map, arith}
 use Rattle.std.specs.declared.cmp.Ordering.{Ordering}
 use Rattle.std.specs.declared.cmp.Ordering.TheVariants.{Less, Equal, Greater}
-use Rattle.std.specs.Ordering.{is_lt, ordering_reverse}
+use Rattle.cdm_day.proofs.ListWords.{is_lt, ordering_reverse, All, AllZip, Contains, IsDistinct, flat_map, list_any, IsPermutation, IsSortedBy, false≢true, nat_list_cmp_total, All-contains, Contains-append_cases, filter_passes, Contains-permutation, IsPermutation-refl, IsPermutation-sym, ranks_by, sum_by-IsPermutation}
+use Rattle.cdm_day.proofs.ListWords.{IsDistinct-IsPermutation, contains_all, contains_from_given, contains_head, contains_tail, contains_cases, distinct_filter, distinct_right, list_any-find, list_any-map, one_of_key, sorted_one}
+use Rattle.cdm_day.proofs.DayWords.{name_cmp, same_name, Record, is_planned, RunwayRules, TaxiTimes, FixedRecord, takeoffs, IsRightlyBlocked, IsSequence, IsSequenceBy, names_left, PlanRecord, RunwayPlanRecord, TargetRecord, AimResult, BlockedFlight, Placing, IsEarlier, aim_of, is_same, same_flips, same_is, tied_names}
+use Rattle.cdm_day.proofs.DayWords.{runway_names, Day, flights_in, IsDayAllowed, IsDayPlan, IsDayPlanBy, day_rules, records_in, has_runway, now_of, taxi_of, RunwayRow, AreAims, HasParts, IsPlanOf, blocked_in, early_in, fixed_on, planned_of, target_in, targets_in, targets_on}
 use Rattle.std.specs.Cmp.{IsStrictWeakOrder}
-use Rattle.std.specs.List.{All, AllZip, Contains, IsDistinct, flat_map, list_any}
-use Rattle.std.specs.List.Sorted.{IsPermutation, IsSortedBy}
-use Rattle.std.proofs.lemmas.Bool.{false≢true}
-use Rattle.std.proofs.lemmas.Cmp.{nat_list_cmp_total}
-use Rattle.std.proofs.lemmas.List.Elements.{All-contains, Contains-append_cases, filter_passes}
-use Rattle.std.proofs.lemmas.List.Sorted.{Contains-permutation, IsPermutation-refl, IsPermutation-sym, ranks_by, sum_by-IsPermutation}
-use Rattle.std.proofs.lemmas.Map.Keys.{IsDistinct-IsPermutation}
-use Rattle.cdm_flight.specs.Names.{name_cmp, same_name}
-use Rattle.cdm_flight.specs.Record.{Record, is_planned}
-use Rattle.cdm_runway.specs.Rules.{RunwayRules}
-use Rattle.cdm_sequence.specs.Aims.{TaxiTimes}
-use Rattle.cdm_sequence.specs.Fixed.{FixedRecord, takeoffs}
-use Rattle.cdm_sequence.specs.Sequence.{IsRightlyBlocked, IsSequence, IsSequenceBy, names_left}
-use Rattle.cdm_sequence.specs.Slots.{PlanRecord, RunwayPlanRecord}
-use Rattle.cdm_sequence.specs.Targets.{TargetRecord}
-use Rattle.cdm_sequence.specs.declared.aims.AimResult.{AimResult}
 use Rattle.cdm_sequence.specs.declared.aims.AimResult.TheVariants.{Early, Ready}
-use Rattle.cdm_sequence.specs.declared.slot.BlockedFlight.{BlockedFlight}
-use Rattle.cdm_flight.proofs.Lists.{contains_all, contains_from_given, contains_head, contains_tail, contains_cases, distinct_filter, distinct_right, list_any-find, list_any-map, one_of_key, sorted_one}
-use Rattle.cdm_sequence.specs.Plan.{Placing, IsEarlier}
-use Rattle.cdm_sequence.proofs.AimLemmas.{aim_of}
 use Rattle.cdm_sequence.proofs.OneLemmas.{sequence_one}
-use Rattle.cdm_sequence.proofs.OrderLemmas.{is_same, same_flips, same_is, tied_names}
-use Rattle.cdm_day.specs.Airport.{runway_names}
-use Rattle.cdm_day.specs.Day.{Day, flights_in}
-use Rattle.cdm_day.specs.DayPlan.{IsDayAllowed, IsDayPlan, IsDayPlanBy, day_rules, records_in}
-use Rattle.cdm_flight.specs.Accepted.{has_runway}
-use Rattle.cdm_flight.specs.Journal.{now_of, taxi_of}
-use Rattle.cdm_flight.specs.declared.airport.RunwayRow.{RunwayRow}
-use Rattle.cdm_day.specs.Planning.{AreAims, HasParts, IsPlanOf, blocked_in, early_in, fixed_on, planned_of, target_in, targets_in, targets_on}
 use Rattle.cdm_day.proofs.DayPlanLemmas.{day_rules_differ, record_names_differ}
 use Rattle.cdm_day.proofs.NameLemmas.{runway-names}
 use Rattle.cdm_day.proofs.PartLemmas.{runways_make}

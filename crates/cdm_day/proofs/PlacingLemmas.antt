@@ -1,22 +1,10 @@
 -- One placing of a day, from those of its runways.
 use Rattle.std.proofs.Common.{◌≡◌, ℕ, Bool, true, false, cond, ◌||◌, List, [], ◌∷◌, None, sym, ◌∙◌, ap, refl, map}
-use Rattle.std.specs.List.{All, AllByRecursion, AllZip, Contains, IsDistinct, list_any}
-use Rattle.std.proofs.lemmas.Bool.{false≢true}
-use Rattle.std.proofs.lemmas.List.Elements.{All-cons, All-contains, All-head, All-nil, All-tail, filter_passes}
-use Rattle.std.proofs.lemmas.Map.Keys.{IsDistinct-head, IsDistinct-tail}
-use Rattle.cdm_flight.specs.Names.{same_name}
-use Rattle.cdm_runway.specs.Rules.{RunwayRules}
-use Rattle.cdm_sequence.specs.Fixed.{FixedRecord, takeoffs}
-use Rattle.cdm_sequence.specs.Plan.{Placing, IsAllowed, IsEarlier}
-use Rattle.cdm_sequence.specs.Sequence.{IsSequence, IsSequenceBy}
-use Rattle.cdm_sequence.specs.Slots.{RunwayPlanRecord}
-use Rattle.cdm_sequence.specs.Targets.{TargetRecord}
-use Rattle.cdm_flight.proofs.Lists.{contains_all, contains_kept}
+use Rattle.cdm_day.proofs.ListWords.{All, AllByRecursion, AllZip, Contains, IsDistinct, list_any, false≢true, All-cons, All-contains, All-head, All-nil, All-tail, filter_passes, IsDistinct-head, IsDistinct-tail, contains_all, contains_kept}
+use Rattle.cdm_day.proofs.DayWords.{same_name, RunwayRules, FixedRecord, takeoffs, Placing, IsAllowed, IsEarlier, IsSequence, IsSequenceBy, RunwayPlanRecord, TargetRecord, is_same, same_flips, same_is, targets_on}
 use Rattle.cdm_sequence.proofs.AllowedLemmas.{plan_allowed}
 use Rattle.cdm_sequence.proofs.OneLemmas.{sequence_agree}
-use Rattle.cdm_sequence.proofs.OrderLemmas.{is_same, same_flips, same_is}
 use Rattle.cdm_sequence.proofs.PlanLemmas.{none_earlier}
-use Rattle.cdm_day.specs.Planning.{targets_on}
 
 module _ (fixed : List ℕ → List FixedRecord) (targets : List TargetRecord) where
   abbrev on : List ℕ → List TargetRecord

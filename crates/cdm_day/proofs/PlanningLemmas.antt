@@ -1,39 +1,15 @@
 -- Each flight of a day stands once: as a fixed flight or a target of one runway, or blocked early.
 use Rattle.std.proofs.Common.{Bor, ◌≡◌, ℕ, ◌+◌, ◌≤◌, Bool, true, false, cond, ◌||◌, List, [], ◌∷◌, ◌++◌, Option, None, Some, refl, sym, ◌∙◌, ap, subst, arith, map, filter, length, sum_by}
-use Rattle.std.specs.Prelude.{is_none, is_some, zip}
-use Rattle.std.specs.Option.{option_map, option_map_or}
-use Rattle.std.specs.List.{All, cons_option, filter_map, IsDistinct, AllByRecursion}
-use Rattle.std.specs.List.Sorted.{IsPermutation}
-use Rattle.std.proofs.lemmas.Bool.{false≢true}
-use Rattle.std.proofs.lemmas.List.Sorted.{IsPermutation-refl, IsPermutation-trans, IsPermutation-append_right, IsPermutation-middle, IsPermutation-map, IsPermutation-sym}
+use Rattle.cdm_day.proofs.ListWords.{is_none, is_some, zip, option_map, option_map_or, All, cons_option, filter_map, IsDistinct, AllByRecursion, IsPermutation, false≢true, IsPermutation-refl, IsPermutation-trans, IsPermutation-append_right, IsPermutation-middle, IsPermutation-map, IsPermutation-sym, IsDistinct-IsPermutation}
+use Rattle.cdm_day.proofs.ListWords.{IsDistinct-cons, IsDistinct-head, IsDistinct-tail, length-map, map-append, All-given, distinct_filter, filter_map-map, filter_map-filter, if_so, sum_by-add, sum_by-zero, length_permutation, AllZip, filter_passes}
+use Rattle.cdm_day.proofs.DayWords.{same_name, Record, is_planned, TaxiTimes, IsAim, aim_of, aim_is, aim_means, same_flips, same_is, FixedRecord, fixed_flight, fixed_by, Placing, flight_names, fixed_slot, names_left, planned_slot, slots_by, IsSequence, TargetRecord, AimResult, BlockedFlight, SlotRecord, early_in, planned_of}
+use Rattle.cdm_day.proofs.DayWords.{target_in, targets_in, blocked_in, is_on, fixed_on, targets_on, IsAimed, if_on, target_for, CanSequence, RunwayRules, RunwayPlanRecord}
 use Rattle.std.proofs.lemmas.List.Sums.{sum_by-cons, sum_by-le-sum_by}
-use Rattle.std.proofs.lemmas.Map.Keys.{IsDistinct-IsPermutation, IsDistinct-cons, IsDistinct-head, IsDistinct-tail}
-use Rattle.cdm_flight.specs.Names.{same_name}
-use Rattle.cdm_flight.specs.Record.{Record, is_planned}
 use Rattle.cdm_flight.specs.declared.flight.Status.{Status}
 use Rattle.cdm_flight.specs.declared.flight.Status.TheVariants as status
-use Rattle.cdm_sequence.specs.Aims.{TaxiTimes, IsAim}
-use Rattle.cdm_sequence.proofs.AimLemmas.{aim_of, aim_is, aim_means}
-use Rattle.cdm_sequence.proofs.OrderLemmas.{same_flips, same_is}
-use Rattle.std.proofs.lemmas.List.{length-map, map-append}
 use Rattle.cdm_flight.specs.declared.key.Key.{Key}
-use Rattle.cdm_sequence.specs.Fixed.{FixedRecord, fixed_flight, fixed_by}
-use Rattle.cdm_sequence.specs.Plan.{Placing}
-use Rattle.cdm_sequence.specs.Sequence.{flight_names, fixed_slot, names_left, planned_slot, slots_by, IsSequence}
-use Rattle.cdm_sequence.specs.Targets.{TargetRecord}
-use Rattle.cdm_sequence.specs.declared.aims.AimResult.{AimResult}
 use Rattle.cdm_sequence.specs.declared.aims.AimResult.TheVariants.{Ready, Early}
-use Rattle.cdm_sequence.specs.declared.slot.BlockedFlight.{BlockedFlight}
-use Rattle.cdm_flight.proofs.Lists.{All-given, distinct_filter, filter_map-map, filter_map-filter, if_so, sum_by-add, sum_by-zero}
-use Rattle.cdm_sequence.specs.Slots.{SlotRecord}
 use Rattle.std.proofs.Common.{IfSome, length-append}
-use Rattle.std.proofs.lemmas.List.Sorted.{length_permutation}
-use Rattle.cdm_day.specs.Planning.{early_in, planned_of, target_in, targets_in, blocked_in, is_on, fixed_on, targets_on}
-use Rattle.cdm_day.specs.inner.Aimed.{IsAimed, if_on, target_for, CanSequence}
-use Rattle.cdm_runway.specs.Rules.{RunwayRules}
-use Rattle.cdm_sequence.specs.Slots.{RunwayPlanRecord}
-use Rattle.std.specs.List.{AllZip}
-use Rattle.std.proofs.lemmas.List.Elements.{filter_passes}
 use Rattle.cdm_day.specs.declared.aimed.Aimed.{Aimed}
 
 -- Aims.

@@ -1,25 +1,8 @@
 -- A day stays sound with every update that no word refuses.
 use Rattle.std.proofs.Common.{◌≡◌, ℕ, ◌≤◌, Bool, true, false, not, ◌||◌, List, [], ◌∷◌, ◌++◌, length, Option, None, Some, refl, sym, ap, ◌∙◌, subst, true≢false, arith, length-append}
-use Rattle.std.specs.Prelude.{nat_le, count_by, is_some}
-use Rattle.std.proofs.lemmas.Bool.{or_parts}
-use Rattle.std.proofs.lemmas.Bool.Decides.{nat_tests}
-use Rattle.std.specs.Option.{option_map_or, option_or}
-use Rattle.std.specs.List.{list_any, IsDistinct}
-use Rattle.std.specs.Cmp.Lexicographic.{same_text}
-use Rattle.std.proofs.lemmas.Cmp.{nat_list_eq_equiv}
-use Rattle.std.proofs.lemmas.List.{append-nil}
-use Rattle.std.proofs.lemmas.Map.Keys.{IsDistinct-push}
-use Rattle.cdm_flight.specs.declared.update.Update.{Update}
+use Rattle.cdm_day.proofs.ListWords.{nat_le, count_by, is_some, or_parts, nat_tests, option_map_or, option_or, list_any, IsDistinct, same_text, nat_list_eq_equiv, append-nil, IsDistinct-push, list_any-push}
+use Rattle.cdm_day.proofs.DayWords.{Update, same_name, flight_of_update, is_fresh, is_one_stand_too_many, AirportRows, touches, makes_known, sets_runway, is_known, flight_of, runway_of, has_runway, is_unknown, is_full, stands_with_rows, refusal_of, last_value-push, Day, flights_in, with_update, IsSound}
 use Rattle.cdm_flight.specs.declared.update.Update.TheVariants.{Flt, Taxi}
-use Rattle.cdm_flight.specs.Names.{same_name}
-use Rattle.cdm_flight.specs.Step.{flight_of_update, is_fresh}
-use Rattle.cdm_flight.specs.Taxi.{is_one_stand_too_many}
-use Rattle.cdm_flight.specs.Journal.{AirportRows, touches, makes_known, sets_runway, is_known, flight_of, runway_of}
-use Rattle.cdm_flight.specs.Accepted.{has_runway, is_unknown, is_full, stands_with_rows, refusal_of}
-use Rattle.cdm_flight.proofs.JournalLemmas.{last_value-push}
-use Rattle.cdm_flight.proofs.Lists.{list_any-push}
-use Rattle.cdm_day.specs.Day.{Day, flights_in, with_update}
-use Rattle.cdm_day.specs.Sound.{IsSound}
 use Rattle.cdm_day.proofs.JournalFacts.{accepted_is, flights_in-push}
 use Rattle.cdm_day.proofs.WordLemmas.{flt-accepted, known_from, known_is, named_runway}
 

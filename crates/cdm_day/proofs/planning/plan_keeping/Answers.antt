@@ -1,10 +1,6 @@
-use Rattle.std.proofs.Common.{Bor, ◌≡◌, List, Option, filter, map, sym, ◌∙◌, ap}
-use Rattle.std.specs.Prelude.{is_none, slice_index_or}
-use Rattle.cdm_flight.specs.Record.{Record}
-use Rattle.cdm_runway.specs.Rules.{RunwayRules}
-use Rattle.cdm_day.specs.DayPlan.{records_in}
-use Rattle.cdm_day.specs.Planning.{planned_of}
-use Rattle.cdm_day.specs.inner.Kept.{kept_plan}
+use Rattle.std.proofs.Common.{Bor, ◌≡◌, filter, map, sym, ◌∙◌, ap}
+use Rattle.cdm_day.proofs.ListWords.{is_none, slice_index_or}
+use Rattle.cdm_day.proofs.DayWords.{Record, RunwayRules, records_in, planned_of, kept_plan}
 use Rattle.cdm_day.proofs.MadeLemmas.{aims_are, all_planned, can_plan, together}
 use Rattle.cdm_day.proofs.planning.plan_keeping.Goals as goal
 
