@@ -7,7 +7,7 @@ use Rattle.cdm_day.proofs.DayWords.{IsPlanOn, IsSince, fixed_in, is_noted, is_to
 use Rattle.cdm_flight.specs.declared.update.Update.TheVariants.{Flt, Rate, Close, Reopen, Taxi, Clock}
 use Rattle.cdm_sequence.specs.declared.aims.AimResult.TheVariants.{Ready, Early}
 use Rattle.cdm_day.specs.declared.touched.Touched.{Touched}
-use Rattle.cdm_day.proofs.JournalFacts.{flights_in-push, now_of-same, taxi_of-same}
+use Rattle.cdm_day.proofs.JournalFacts.{flights_in-push, now_of-same, some_named, taxi_of-same}
 use Rattle.cdm_day.proofs.DayPlanLemmas.{day_rules_differ, has_sequence, is_plan_on, targets_at}
 use Rattle.cdm_day.proofs.NameLemmas.{find_some, rows_permutation}
 use Rattle.cdm_day.proofs.OnePlanLemmas.{partner}
@@ -53,13 +53,9 @@ same_target_at r s t now same f = by (is_on r f) refl
         go None = refl
         go (Some tobt) = λ i. aim_with_exot f now tobt r (taxi_out (λ place. same place i) f.stand f.ice)
 
-    own : (o : Option (List ℕ)) → option_map_or (λ q. same_name q r) o false ≡ true → o ≡ Some r
-    own None h = cc
-    own (Some q) h = ap Some (same_is q r h)
-
     by : (b : Bool) → is_on r f ≡ b → target_at r s now f ≡ target_at r t now f
     by false h = no_target_at r s now f h ∙ sym (no_target_at r t now f h)
-    by true h = ap (λ a. if_so (is_planned f.status) (if_on r (target_in a))) (aim_same (own f.runway h))
+    by true h = ap (λ a. if_so (is_planned f.status) (if_on r (target_in a))) (aim_same (some_named f.runway r h))
 
 -- What an update that is not of a runway leaves there.
 
@@ -101,13 +97,6 @@ fresh_is : (u : Update) (f : List ℕ) → new_flight u ≡ Some f → flight_of
 fresh_is (Flt g p) f e = e
 fresh_is _ f e = cc
 
-touched_is : (u : Update) (k : List ℕ) → touches k u ≡ true → flight_of_update u ≡ Some k
-touched_is u k h = by (flight_of_update u) h
-  where
-    by : (o : Option (List ℕ)) → option_map_or (λ g. same_name g k) o false ≡ true → o ≡ Some k
-    by None e = cc
-    by (Some g) e = ap Some (same_is g k e)
-
 module _ (d : Day) (u : Update) (row : RunwayRow) (before : is_noted d u row.name ≡ false) (after : is_noted (with_update d u) u row.name ≡ false) where
   -- what flights give to the runway
   module _ {Y : Type 0} (q p : Record → Option Y) (same : (f : Record) → q f ≡ p f) (off : (f : Record) → is_on row.name f ≡ false → q f ≡ None) where
@@ -125,7 +114,7 @@ module _ (d : Day) (u : Update) (row : RunwayRow) (before : is_noted d u row.nam
         by : (b : Bool) → touches k u ≡ b → option_and_then q (flight_of d.airport d.journal k) ≡ option_and_then p (flight_of d.airport (d.journal ++ u ∷ []) k)
         by false h = agree (flight_of d.airport d.journal k) ∙ ap (option_and_then p) (sym (flight_of-untouched k d.airport d.journal u h))
         by true h =
-            let of_it = touched_is u k h in
+            let of_it = some_named (flight_of_update u) k h in
             (nothing _ (elsewhere d row.name u k of_it before)).0 ∙ sym (nothing _ (elsewhere (with_update d u) row.name u k of_it after)).1
 
     given_same : filter_map q (records_in d.airport d.journal) ≡ filter_map p (records_in d.airport (d.journal ++ u ∷ []))

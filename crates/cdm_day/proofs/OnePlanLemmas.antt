@@ -1,4 +1,5 @@
 -- A day has one plan.
+use Rattle.std.proofs.lemmas.Option.{same_Some}
 use Rattle.std.proofs.Common.{◌≡◌, ℕ, true, false, List, [], ◌∷◌, ◌++◌, Some, is_none, refl, sym, ◌∙◌, ap, subst, inl, inr, ◌⊎◌, map, arith}
 use Rattle.std.specs.declared.cmp.Ordering.{Ordering}
 use Rattle.std.specs.declared.cmp.Ordering.TheVariants.{Less, Equal, Greater}
@@ -70,9 +71,6 @@ blocked_name n (Early rule) b e = cc
 not_both : (n : List ℕ) (a : AimResult) (b : BlockedFlight) (t : TargetRecord) → blocked_in n a ≡ Some b → target_in a ≡ Some t → ⊥
 not_both n (Ready s) b t h k = cc
 not_both n (Early rule) b t h k = cc
-
-some_same : {X : Type 0} (x y : X) → Some x ≡ Some y → x ≡ y
-some_same x y e = cc
 
 module _ (times : TaxiTimes) (now : ℕ) (fs : List Record) (own : IsDistinct same_name (map (λ f. f.name) fs)) where
   abbrev aim_at : Record → AimResult
@@ -195,11 +193,11 @@ module _ (times : TaxiTimes) (now : ℕ) (fs : List Record) (own : IsDistinct sa
         one = one_of_key same_name same_flips (λ (f : Record). f.name) fs x.flight y.flight own x.known y.known (is_same x.flight.name y.flight.name (sym x.named ∙ e ∙ y.named))
 
         by : (blocked_in x.flight.name (aim_at x.flight) ≡ Some a) ⊎ OnRunway x.flight ps a → (blocked_in y.flight.name (aim_at y.flight) ≡ Some b) ⊎ OnRunway y.flight ps b → a ≡ b
-        by (inl h) (inl k) = some_same a b (sym h ∙ ap (λ (f : Record). blocked_in f.name (aim_at f)) one ∙ k)
+        by (inl h) (inl k) = same_Some a b (sym h ∙ ap (λ (f : Record). blocked_in f.name (aim_at f)) one ∙ k)
         by (inl h) (inr k) = absurd (not_both x.flight.name (aim_at x.flight) a k.target h (ap (λ (f : Record). target_in (aim_at f)) one ∙ k.aimed))
         by (inr h) (inl k) = absurd (not_both y.flight.name (aim_at y.flight) b h.target k (sym (ap (λ (f : Record). target_in (aim_at f)) one) ∙ h.aimed))
         by (inr h) (inr k) =
-            let target : h.target ≡ k.target = some_same h.target k.target (sym h.aimed ∙ ap (λ (f : Record). target_in (aim_at f)) one ∙ k.aimed) in
+            let target : h.target ≡ k.target = same_Some h.target k.target (sym h.aimed ∙ ap (λ (f : Record). target_in (aim_at f)) one ∙ k.aimed) in
             let runway : h.plan.runway ≡ k.plan.runway = sym h.here ∙ ap (λ (t : TargetRecord). t.runway) target ∙ k.here in
             let plan : k.plan ≡ h.plan = plan_same k.plan h.plan (in_made k.plan k.among) (in_made h.plan h.among) (sym runway) in
             let shown : Contains h.plan.blocked b = subst (λ (p : RunwayPlanRecord). Contains p.blocked b) plan k.shown in

@@ -1,4 +1,5 @@
 -- Each flight of a day stands once: as a fixed flight or a target of one runway, or blocked early.
+use Rattle.std.proofs.lemmas.Slice.Zip.{AllZip-map}
 use Rattle.std.proofs.Common.{Bor, ◌≡◌, ℕ, ◌+◌, ◌≤◌, Bool, true, false, cond, ◌||◌, List, [], ◌∷◌, ◌++◌, Option, None, Some, refl, sym, ◌∙◌, ap, subst, arith, map, filter, length, sum_by}
 use Rattle.cdm_day.proofs.ListWords.{is_none, is_some, zip, option_map, option_map_or, All, cons_option, filter_map, IsDistinct, AllByRecursion, IsPermutation, false≢true, IsPermutation-refl, IsPermutation-trans, IsPermutation-append_right, IsPermutation-middle, IsPermutation-map, IsPermutation-sym, IsDistinct-IsPermutation}
 use Rattle.cdm_day.proofs.ListWords.{IsDistinct-cons, IsDistinct-head, IsDistinct-tail, length-map, map-append, All-given, distinct_filter, filter_map-map, filter_map-filter, if_so, sum_by-add, sum_by-zero, length_permutation, AllZip, filter_passes}
@@ -30,14 +31,15 @@ blocked_early flights times now = filter_map (λ f. blocked_in f.name (aim_of f 
 abbrev pub aim_list : List Record → TaxiTimes → ℕ → List AimResult
 aim_list fs times now = map (λ f. aim_of f times now) (planned_of fs)
 
+-- what goes together goes together in a weaker way
+pub AllZip-weaker : {X Y : Type 0} (R S : X → Y → Type 0) → ((x : X) (y : Y) → R x y → S x y) → (xs : List X) (ys : List Y) → AllZip R xs ys → AllZip S xs ys
+AllZip-weaker R S h [] [] all = tt
+AllZip-weaker R S h (x ∷ xs) (y ∷ ys) all = (h x y all.0, AllZip-weaker R S h xs ys all.1)
+AllZip-weaker R S h _ _ all = absurd all
+
 -- the aims of flights are one list
 pub aims_are : (times : TaxiTimes) (now : ℕ) (fs : List Record) (aims : List AimResult) → AllZip (λ f a. IsAim f times now a) fs aims → map (λ f. aim_of f times now) fs ≡ aims
-aims_are times now [] [] all = refl
-aims_are times now (f ∷ fs) (a ∷ aims) all =
-    let here = aim_is f times now a all.0 in
-    let rest = aims_are times now fs aims all.1 in
-    λ i. here i ∷ rest i
-aims_are times now _ _ all = absurd all
+aims_are times now fs aims all = sym (AllZip-map (λ f. aim_of f times now) fs aims (AllZip-weaker (λ f a. IsAim f times now a) (λ f a. a ≡ aim_of f times now) (λ f a h. sym (aim_is f times now a h)) fs aims all))
 
 pub aims_mean : (times : TaxiTimes) (now : ℕ) (fs : List Record) → AllZip (λ f a. IsAim f times now a) fs (map (λ f. aim_of f times now) fs)
 aims_mean times now [] = tt
@@ -46,13 +48,7 @@ aims_mean times now (f ∷ fs) = (aim_means f times now, aims_mean times now fs)
 -- and so they are with the names
 pub aimed_are : (times : TaxiTimes) (now : ℕ) (fs : List Record) (aims : List Aimed) → AllZip (IsAimed times now) fs aims → aims ≡ map (aimed times now) fs
 unfolding aimed
-aimed_are times now [] [] all = refl
-aimed_are times now (f ∷ fs) (a ∷ aims) all =
-    let name = all.0.name in
-    let aim = sym (aim_is f times now a.aim all.0.aim) in
-    let rest = aimed_are times now fs aims all.1 in
-    λ i. record { name = name i; aim = aim i } ∷ rest i
-aimed_are times now _ _ all = absurd all
+aimed_are times now fs aims all = AllZip-map (aimed times now) fs aims (AllZip-weaker (IsAimed times now) (λ f a. a ≡ aimed times now f) (λ f a h. λ i. record { name = h.name i; aim = sym (aim_is f times now a.aim h.aim) i }) fs aims all)
 
 -- the targets among the aims, and the flights that are blocked early
 pub targets-aims : (times : TaxiTimes) (now : ℕ) (fs : List Record) → targets_in (aim_list fs times now) ≡ targets_of fs times now
@@ -389,12 +385,6 @@ can_sequence times now fs own few r = record {
 -- all the planned flights are planned
 pub planned_are : (fs : List Record) → All (λ f. is_planned f.status ≡ true) (planned_of fs)
 planned_are fs = filter_passes (λ f. is_planned f.status) fs
-
--- what goes together goes together in a weaker way
-pub AllZip-weaker : {X Y : Type 0} (R S : X → Y → Type 0) → ((x : X) (y : Y) → R x y → S x y) → (xs : List X) (ys : List Y) → AllZip R xs ys → AllZip S xs ys
-AllZip-weaker R S h [] [] all = tt
-AllZip-weaker R S h (x ∷ xs) (y ∷ ys) all = (h x y all.0, AllZip-weaker R S h xs ys all.1)
-AllZip-weaker R S h _ _ all = absurd all
 
 -- the flights of a runway among lent ones
 pub fixed_on-lent : (r : List ℕ) (fs : List (Bor Record)) → filter_map (λ f. fixed_flight f.now) (filter (λ f. is_on r f.now) fs) ≡ fixed_on r (map (λ f. f.now) fs)

@@ -1,9 +1,9 @@
 -- A day stays sound with every update that no word refuses.
 use Rattle.std.proofs.Common.{◌≡◌, ℕ, ◌≤◌, Bool, true, false, not, ◌||◌, List, [], ◌∷◌, ◌++◌, length, Option, None, Some, refl, sym, ap, ◌∙◌, subst, true≢false, arith, length-append}
-use Rattle.cdm_day.proofs.ListWords.{nat_le, count_by, is_some, or_parts, nat_tests, option_map_or, option_or, list_any, IsDistinct, same_text, nat_list_eq_equiv, append-nil, IsDistinct-push, list_any-push}
-use Rattle.cdm_day.proofs.DayWords.{Update, same_name, flight_of_update, is_fresh, is_one_stand_too_many, AirportRows, touches, makes_known, sets_runway, is_known, flight_of, runway_of, has_runway, is_unknown, is_full, stands_with_rows, refusal_of, last_value-push, Day, flights_in, with_update, IsSound}
+use Rattle.cdm_day.proofs.ListWords.{false_from_ne_true, nat_le, count_by, is_some, or_parts, nat_tests, option_or, list_any, IsDistinct, nat_list_eq_equiv, append-nil, IsDistinct-push, list_any-push}
+use Rattle.cdm_day.proofs.DayWords.{Update, same_name, flight_of_update, is_fresh, is_one_stand_too_many, AirportRows, touches, makes_known, sets_runway, is_known, flight_of, runway_of, same_name-refl, has_runway, is_unknown, is_full, stands_with_rows, refusal_of, last_value-push, Day, flights_in, with_update, IsSound}
 use Rattle.cdm_flight.specs.declared.update.Update.TheVariants.{Flt, Taxi}
-use Rattle.cdm_day.proofs.JournalFacts.{accepted_is, flights_in-push}
+use Rattle.cdm_day.proofs.JournalFacts.{accepted_is, flights_in-push, some_named}
 use Rattle.cdm_day.proofs.WordLemmas.{flt-accepted, known_from, known_is, named_runway}
 
 -- a flight is known where it is among those that were made known
@@ -37,22 +37,11 @@ module _ (d : Day) (u : Update) (sound : IsSound d) (good : refusal_of d.airport
   never_absent f e old none = true≢false (sym (known_from d.airport d.journal f u e old known_update) ∙ (known_is d sound f ∙ ap is_some none))
 
   untouched : (q : List ℕ) → makes_known q u ≡ false → is_known d.journal q ≡ false → touches q u ≡ false
-  untouched q new old = by (flight_of_update u) refl
+  untouched q new old = false_from_ne_true (touches q u) (λ e. by (some_named (flight_of_update u) q e) (is_fresh u) refl)
     where
-      of : (f : List ℕ) → flight_of_update u ≡ Some f → (b : Bool) → same_name f q ≡ b → b ≡ false
-      of f e false k = refl
-      of f e true k = by_kind (is_fresh u) refl
-        where
-          same : f ≡ q
-          same = same_text f q (sym k)
-
-          by_kind : (b : Bool) → is_fresh u ≡ b → true ≡ false
-          by_kind true h = sym k ∙ (sym (makes-fresh u f q e h) ∙ new)
-          by_kind false h = sym (known_from d.airport d.journal f u e h known_update) ∙ (ap (is_known d.journal) same ∙ old)
-
-      by : (o : Option (List ℕ)) → flight_of_update u ≡ o → option_map_or (λ g. same_name g q) o false ≡ false
-      by None e = refl
-      by (Some f) e = of f e (same_name f q) refl
+      by : flight_of_update u ≡ Some q → (b : Bool) → is_fresh u ≡ b → ⊥
+      by e true h = true≢false (sym (makes-fresh u q q e h ∙ same_name-refl q) ∙ new)
+      by e false h = true≢false (sym (known_from d.airport d.journal q u e h known_update) ∙ old)
 
   pub sound_after : IsSound (with_update d u)
   sound_after = record {
