@@ -38,3 +38,5 @@ pub use Rattle.cdm_sequence.specs.Targets.{TargetRecord}
 pub use Rattle.cdm_sequence.specs.declared.aims.AimResult.{AimResult}
 pub use Rattle.cdm_sequence.specs.declared.slot.BlockedFlight.{BlockedFlight}
 pub use Rattle.cdm_taxi.proofs.StandLemmas.{distinct_count-same, has_row-insert, is_stand_of, stand_count-empty, stand_count-insert}
+pub use Rattle.cdm_flight.specs.declared.update.Update.TheVariants.{Clock, Close, Flt, Off, Rate, Reopen, Rwy, Taxi}
+pub use Rattle.cdm_sequence.specs.declared.aims.AimResult.TheVariants.{Early, Ready}

@@ -3,9 +3,7 @@ use Rattle.std.proofs.Common.{◌≡◌, ℕ, Bool, true, false, cond, ◌&&◌,
 use Rattle.cdm_day.proofs.ListWords.{option_and_then, option_map_or, if◌then◌else◌, Contains, cons_option, filter_map, find, append-nil, filter_map-append, Contains-permutation, IsPermutation-sym, contains_from_map, contains_map, if_so, one_of_key}
 use Rattle.cdm_day.proofs.DayWords.{RunwayRow, Place, Update, same_name, Record, is_planned, flight_of_update, taxi_out, flight_of, now_of, only_if, sets_cap, sets_closed, sets_now, sets_taxi, taxi_of, touches, flight_of-untouched, RunwayRules, TaxiTimes, IsAim, AimResult, FixedRecord, fixed_flight, IsSequence, IsSequenceBy}
 use Rattle.cdm_day.proofs.DayWords.{PlanRecord, RunwayPlanRecord, TargetRecord, aim_means, aim_of, aim_with, aim_with_exot, is_same, same_flips, same_is, if_on, Day, flights_in, new_flight, rows_by_name, rules_of, with_update, IsDayPlan, day_rules, records_in, is_on, target_in, targets_in, targets_on, Adds, AreKept, IsMade}
-use Rattle.cdm_day.proofs.DayWords.{IsPlanOn, IsSince, fixed_in, is_noted, is_touched}
-use Rattle.cdm_flight.specs.declared.update.Update.TheVariants.{Flt, Rate, Close, Reopen, Taxi, Clock}
-use Rattle.cdm_sequence.specs.declared.aims.AimResult.TheVariants.{Ready, Early}
+use Rattle.cdm_day.proofs.DayWords.{IsPlanOn, IsSince, fixed_in, is_noted, is_touched, Flt, Rate, Close, Reopen, Taxi, Clock, Ready, Early}
 use Rattle.cdm_day.specs.declared.touched.Touched.{Touched}
 use Rattle.cdm_day.proofs.JournalFacts.{flights_in-push, now_of-same, some_named, taxi_of-same}
 use Rattle.cdm_day.proofs.DayPlanLemmas.{day_rules_differ, has_sequence, is_plan_on, targets_at}
@@ -24,9 +22,6 @@ given_twice {K} {R} {Y} q h (k ∷ ks) = by (h k) (given_twice q h ks)
     by : (o : Option R) → filter_map q (filter_map h ks) ≡ filter_map (λ k. option_and_then q (h k)) ks → filter_map q (cons_option o (filter_map h ks)) ≡ cons_option (option_and_then q o) (filter_map (λ k. option_and_then q (h k)) ks)
     by None e = e
     by (Some r) e = ap (λ (ys : List Y). cons_option (q r) ys) e
-
-no_fixed_at : (r : List ℕ) (f : Record) → is_on r f ≡ false → fixed_at r f ≡ None
-no_fixed_at r f h = ap (λ b. if_so b (fixed_flight f)) h
 
 no_target_at : (r : List ℕ) (times : TaxiTimes) (now : ℕ) (f : Record) → is_on r f ≡ false → target_at r times now f ≡ None
 no_target_at r times now f h = in_any (is_planned f.status) (by (aim_of f times now) refl)
@@ -141,7 +136,7 @@ module _ (d : Day) (u : Update) (row : RunwayRow) (before : is_noted d u row.nam
       let now : now_of a ≡ now_of b = sym (now_of-same a u (no_clock d r u before)) in
       let rules : rules_of g a row ≡ rules_of g b row = rules-same g a row u (λ m. no_cap d r m u before) (λ m. no_closed d r m u before) in
       let fixed : fixed_in d r ≡ fixed_in (with_update d u) r =
-      fixed_on-given r (records_in g a) ∙ (given_same (fixed_at r) (fixed_at r) (λ f. refl) (no_fixed_at r) ∙ sym (fixed_on-given r (records_in g b))) in
+      fixed_on-given r (records_in g a) ∙ (given_same (fixed_at r) (fixed_at r) (λ f. refl) (λ f h. ap (λ b. if_so b (fixed_flight f)) h) ∙ sym (fixed_on-given r (records_in g b))) in
       let targets : targets_at d r ≡ targets_at (with_update d u) r =
       targets_on-given r (taxi_of g a) (now_of a) (records_in g a)
       ∙ (given_same (target_at r (taxi_of g a) (now_of a)) (target_at r (taxi_of g b) (now_of b)) (λ f. same_target_at r (taxi_of g a) (taxi_of g b) (now_of a) taxi f ∙ ap (λ n. target_at r (taxi_of g b) n f) now) (no_target_at r (taxi_of g a) (now_of a))

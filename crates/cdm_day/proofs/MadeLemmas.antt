@@ -11,6 +11,9 @@ use Rattle.cdm_day.proofs.OnePlanLemmas.{one_day_plan}
 use Rattle.cdm_day.proofs.PartLemmas.{All-lent, AllZip-lent, few_parts}
 use Rattle.cdm_day.proofs.PlanningLemmas.{AllZip-weaker, aimed, aimed_are, blocked-among, blocked_early, can_sequence, planned_are, targets-among}
 
+abbrev pub now : Bor Record → Record
+now f = f.now
+
 abbrev times_of : Day → TaxiTimes
 times_of d = taxi_of d.airport d.journal
 

@@ -6,9 +6,8 @@ use Rattle.std.specs.declared.cmp.Ordering.TheVariants.{Less, Equal, Greater}
 use Rattle.cdm_day.proofs.ListWords.{is_lt, ordering_reverse, All, AllZip, Contains, IsDistinct, flat_map, list_any, IsPermutation, IsSortedBy, false≢true, nat_list_cmp_total, All-contains, Contains-append_cases, filter_passes, Contains-permutation, IsPermutation-refl, IsPermutation-sym, ranks_by, sum_by-IsPermutation}
 use Rattle.cdm_day.proofs.ListWords.{IsDistinct-IsPermutation, contains_all, contains_from_given, contains_head, contains_tail, contains_cases, distinct_filter, distinct_right, list_any-find, list_any-map, one_of_key, sorted_one}
 use Rattle.cdm_day.proofs.DayWords.{name_cmp, same_name, Record, is_planned, RunwayRules, TaxiTimes, FixedRecord, takeoffs, IsRightlyBlocked, IsSequence, IsSequenceBy, names_left, PlanRecord, RunwayPlanRecord, TargetRecord, AimResult, BlockedFlight, Placing, IsEarlier, aim_of, is_same, same_flips, same_is, tied_names}
-use Rattle.cdm_day.proofs.DayWords.{runway_names, Day, flights_in, IsDayAllowed, IsDayPlan, IsDayPlanBy, day_rules, records_in, has_runway, now_of, taxi_of, RunwayRow, AreAims, HasParts, IsPlanOf, blocked_in, early_in, fixed_on, planned_of, target_in, targets_in, targets_on}
+use Rattle.cdm_day.proofs.DayWords.{runway_names, Day, flights_in, IsDayAllowed, IsDayPlan, IsDayPlanBy, day_rules, records_in, has_runway, now_of, taxi_of, RunwayRow, AreAims, HasParts, IsPlanOf, blocked_in, early_in, fixed_on, planned_of, target_in, targets_in, targets_on, Early, Ready}
 use Rattle.std.specs.Cmp.{IsStrictWeakOrder}
-use Rattle.cdm_sequence.specs.declared.aims.AimResult.TheVariants.{Early, Ready}
 use Rattle.cdm_sequence.proofs.OneLemmas.{sequence_one}
 use Rattle.cdm_day.proofs.DayPlanLemmas.{day_rules_differ, record_names_differ}
 use Rattle.cdm_day.proofs.NameLemmas.{runway-names}

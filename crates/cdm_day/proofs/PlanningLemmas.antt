@@ -4,12 +4,11 @@ use Rattle.std.proofs.Common.{Bor, ◌≡◌, ℕ, ◌+◌, ◌≤◌, Bool, tru
 use Rattle.cdm_day.proofs.ListWords.{is_none, is_some, zip, option_map, option_map_or, All, cons_option, filter_map, IsDistinct, AllByRecursion, IsPermutation, false≢true, IsPermutation-refl, IsPermutation-trans, IsPermutation-append_right, IsPermutation-middle, IsPermutation-map, IsPermutation-sym, IsDistinct-IsPermutation}
 use Rattle.cdm_day.proofs.ListWords.{IsDistinct-cons, IsDistinct-head, IsDistinct-tail, length-map, map-append, All-given, distinct_filter, filter_map-map, filter_map-filter, if_so, sum_by-add, sum_by-zero, length_permutation, AllZip, filter_passes}
 use Rattle.cdm_day.proofs.DayWords.{same_name, Record, is_planned, TaxiTimes, IsAim, aim_of, aim_is, aim_means, same_flips, same_is, FixedRecord, fixed_flight, fixed_by, Placing, flight_names, fixed_slot, names_left, planned_slot, slots_by, IsSequence, TargetRecord, AimResult, BlockedFlight, SlotRecord, early_in, planned_of}
-use Rattle.cdm_day.proofs.DayWords.{target_in, targets_in, blocked_in, is_on, fixed_on, targets_on, IsAimed, if_on, target_for, CanSequence, RunwayRules, RunwayPlanRecord}
+use Rattle.cdm_day.proofs.DayWords.{target_in, targets_in, blocked_in, is_on, fixed_on, targets_on, IsAimed, if_on, target_for, CanSequence, RunwayRules, RunwayPlanRecord, Ready, Early}
 use Rattle.std.proofs.lemmas.List.Sums.{sum_by-cons, sum_by-le-sum_by}
 use Rattle.cdm_flight.specs.declared.flight.Status.{Status}
 use Rattle.cdm_flight.specs.declared.flight.Status.TheVariants as status
 use Rattle.cdm_flight.specs.declared.key.Key.{Key}
-use Rattle.cdm_sequence.specs.declared.aims.AimResult.TheVariants.{Ready, Early}
 use Rattle.std.proofs.Common.{IfSome, length-append}
 use Rattle.cdm_day.specs.declared.aimed.Aimed.{Aimed}
 

@@ -1,11 +1,8 @@
 use Rattle.std.proofs.Common.{Bor, ◌≡◌, filter, map, sym, ◌∙◌, ap}
 use Rattle.cdm_day.proofs.ListWords.{is_none, slice_index_or}
-use Rattle.cdm_day.proofs.DayWords.{Record, RunwayRules, records_in, planned_of, kept_plan}
-use Rattle.cdm_day.proofs.MadeLemmas.{aims_are, all_planned, can_plan, together}
+use Rattle.cdm_day.proofs.DayWords.{RunwayRules, records_in, planned_of, kept_plan}
+use Rattle.cdm_day.proofs.MadeLemmas.{aims_are, all_planned, can_plan, now, together}
 use Rattle.cdm_day.proofs.runner.Runner.plan_keeping.Goals as goal
-
-abbrev now : Bor Record → Record
-now f = f.now
 
 pub run_phase-requires-clause-can : goal.run_phase-requires-clause-can
 run_phase-requires-clause-can g c κs within =
