@@ -39,16 +39,16 @@ impl Gate for UntilPosted {
     }
 }
 
-// That the runway is closed from 06:10 to 06:30.
-fn closed() -> Option<Update> {
+/// That the runway is closed from 06:10 to 06:30.
+pub fn closed() -> Option<Update> {
     let runway = RunwayName::new(b"27L")?;
     let from = Minute::new(370)?;
     let to = Bound::new(390)?;
     Some(Update::Close { runway, from, to })
 }
 
-// Whether the day has so many updates, and these take-off minutes on its one runway.
-fn is_day(day: &DayState, updates: usize, minutes: &[u16]) -> bool {
+/// Whether the day has so many updates, and these take-off minutes on its one runway.
+pub fn is_day(day: &DayState, updates: usize, minutes: &[u16]) -> bool {
     let [runway] = day.plan().runways.as_slice() else {
         return false;
     };
@@ -75,8 +75,8 @@ fn finds_day<R: Wait>(
     }
 }
 
-// The question what becomes of a day by the update.
-fn question(alloc: Global, update: Update) -> Option<Scenario> {
+/// The question what becomes of a day by the update.
+pub fn question(alloc: Global, update: Update) -> Option<Scenario> {
     let mut scenario = Scenario::empty(alloc, ScenarioName::new(b"SHUT")?);
     scenario.add(update).ok()?;
     Some(scenario)
