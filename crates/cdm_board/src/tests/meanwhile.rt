@@ -39,8 +39,8 @@ impl Gate for UntilPosted {
     }
 }
 
-/// That the runway is closed from 06:10 to 06:30.
-pub fn closed() -> Option<Update> {
+// That the runway is closed from 06:10 to 06:30.
+fn closed() -> Option<Update> {
     let runway = RunwayName::new(b"27L")?;
     let from = Minute::new(370)?;
     let to = Bound::new(390)?;
@@ -75,11 +75,20 @@ fn finds_day<R: Wait>(
     }
 }
 
-/// The question what becomes of a day by the update.
-pub fn question(alloc: Global, update: Update) -> Option<Scenario> {
+// The question what becomes of a day by the update.
+fn question(alloc: Global, update: Update) -> Option<Scenario> {
     let mut scenario = Scenario::empty(alloc, ScenarioName::new(b"SHUT")?);
     scenario.add(update).ok()?;
     Some(scenario)
+}
+
+/// The question what becomes of a day by the closure, asked for once more where memory was refused.
+pub fn asked(alloc: Global) -> Option<Scenario> {
+    let closure = closed()?;
+    match question(alloc, closure) {
+        Some(scenario) => Some(scenario),
+        None => question(alloc, closure),
+    }
 }
 
 // Whether two workers answer what becomes of the snapshot's day by the closure.

@@ -2,7 +2,7 @@
 //! the same call then succeeds.
 use super::days::{day_of, planned};
 use super::desks::entries;
-use super::meanwhile::{closed, is_day, question};
+use super::meanwhile::{asked, is_day};
 use crate::{Board, BoardError, BoardState, Desk, OpenFault, Snapshot, what_if};
 use cdm_day::DayState;
 use cdm_phase::{OpenGate, Workers};
@@ -139,14 +139,6 @@ fn refused_memory_leaves_a_board_and_its_desks(rt: HostRuntime) -> Result<(), Fa
     desks.push(desk)?;
     assert_eq!(rt; entries(board, desks), Some(2));
     Ok(())
-}
-
-// The question what becomes of a day by a closure.
-fn asked(alloc: Global) -> Option<Scenario> {
-    match question(alloc, closed()?) {
-        Some(scenario) => Some(scenario),
-        None => question(alloc, closed()?),
-    }
 }
 
 // Whether both outcomes have the flight 15 minutes late, behind the closure.
