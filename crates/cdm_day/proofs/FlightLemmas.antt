@@ -1,27 +1,14 @@
 -- The table of flights says what the journal says after one more update.
 use Rattle.std.proofs.Common.{◌≡◌, ℕ, Bool, true, false, List, [], ◌∷◌, ◌++◌, Option, None, Some, refl, sym, ap, ◌∙◌, subst}
-use Rattle.std.specs.Prelude.{is_some, slice_get}
-use Rattle.std.specs.Option.{option_and_then, option_map, option_map_or}
-use Rattle.std.proofs.lemmas.Option.{slice_get-map}
-use Rattle.std.specs.List.{list_any, cons_option}
+use Rattle.cdm_day.proofs.ListWords.{is_some, option_and_then, option_map_or, list_any, cons_option, same_text, append-nil, map-append}
+use Rattle.cdm_day.proofs.DayWords.{Place, Update, same_name, Record, fresh, flight_of_update, is_fresh, step_of, TaxiRows, taxi_out, AirportRows, touches, is_known, is_cancelled, runway_of, aobt_of, atot_of, exot_now, exot_of, record_with, flight_of, taxi_of, flight_of-untouched, flight_of-fresh, before_off-all}
+use Rattle.cdm_day.proofs.DayWords.{status_of-record, planned_says, flights_in, Flt, Off}
 use Rattle.std.specs.Map.{lookup, keys_of}
 use Rattle.std.specs.FinMap as map_of
-use Rattle.std.specs.Cmp.Lexicographic.{same_text}
-use Rattle.std.proofs.lemmas.List.{append-nil, map-append}
 use Rattle.indexmap.specs.IndexMap.{get, keys, insert_entry}
 use Rattle.indexmap.proofs.CallerLemmas.{insert_entry-new, keys-insert_entry-present}
 use Rattle.cdm_flight.specs.declared.flight.Status.{Status}
 use Rattle.cdm_flight.specs.declared.flight.Status.TheVariants.{Planned, OffBlock, Airborne, Cancelled}
-use Rattle.cdm_flight.specs.declared.place.Place.{Place}
-use Rattle.cdm_flight.specs.declared.update.Update.{Update}
-use Rattle.cdm_flight.specs.declared.update.Update.TheVariants.{Flt, Off}
-use Rattle.cdm_flight.specs.Names.{same_name}
-use Rattle.cdm_flight.specs.Record.{Record, fresh}
-use Rattle.cdm_flight.specs.Step.{flight_of_update, is_fresh, step_of}
-use Rattle.cdm_flight.specs.Taxi.{TaxiRows, taxi_out}
-use Rattle.cdm_flight.specs.Journal.{AirportRows, touches, is_known, is_cancelled, runway_of, aobt_of, atot_of, exot_now, exot_of, record_with, flight_of, taxi_of}
-use Rattle.cdm_flight.proofs.JournalLemmas.{flight_of-untouched, flight_of-fresh, before_off-all, status_of-record, planned_says}
-use Rattle.cdm_day.specs.Day.{flights_in}
 use Rattle.cdm_day.specs.inner.Tables.{Flights, Sets, TellFlights}
 use Rattle.cdm_day.proofs.JournalFacts.{new_flight-old, flights_in-push}
 
@@ -128,20 +115,3 @@ flights_without_updates g m none = record {
   each = λ q. ap (λ es. lookup (same_name q) es) none;
   order = ap keys_of none;
 }
-
--- The order of the flights in the table.
-
-slice_get-keys : (es : List (List ℕ × Record)) (i : ℕ) → slice_get (keys_of es) i ≡ option_map (λ e. e.0) (slice_get es i)
-slice_get-keys es i = slice_get-map (λ (e : List ℕ × Record). e.0) es i
-
--- the flight at a place
-pub flight_at_place : (g : AirportRows) (a : List Update) (m : Flights) (i : ℕ) → TellFlights g a m → (k : List ℕ) (r : Record) → slice_get m.entries i ≡ Some (k, r) → get same_name m k ≡ Some r
-    → Some r ≡ option_and_then (flight_of g a) (slice_get (flights_in a) i)
-flight_at_place g a m i told k r at here =
-    let name : slice_get (flights_in a) i ≡ Some k = ap (λ l. slice_get l i) (sym told.order) ∙ (slice_get-keys m.entries i ∙ ap (option_map (λ (e : List ℕ × Record). e.0)) at) in
-    sym here ∙ (told.each k ∙ sym (ap (option_and_then (flight_of g a)) name))
-
-pub no_flight_at_place : (g : AirportRows) (a : List Update) (m : Flights) (i : ℕ) → TellFlights g a m → slice_get m.entries i ≡ None → None ≡ option_and_then (flight_of g a) (slice_get (flights_in a) i)
-no_flight_at_place g a m i told at =
-    let name : slice_get (flights_in a) i ≡ None = ap (λ l. slice_get l i) (sym told.order) ∙ (slice_get-keys m.entries i ∙ ap (option_map (λ (e : List ℕ × Record). e.0)) at) in
-    sym (ap (option_and_then (flight_of g a)) name)

@@ -1,39 +1,11 @@
 -- A runway that updates do not touch keeps its plan.
 use Rattle.std.proofs.Common.{◌≡◌, ℕ, Bool, true, false, cond, ◌&&◌, List, [], ◌∷◌, ◌++◌, Option, None, Some, refl, sym, ◌∙◌, ap, subst}
-use Rattle.std.specs.Option.{option_and_then, option_map_or}
-use Rattle.std.specs.Prelude.{if◌then◌else◌}
-use Rattle.std.specs.List.{Contains, cons_option, filter_map, find}
-use Rattle.std.proofs.lemmas.List.{append-nil}
-use Rattle.std.proofs.lemmas.List.Elements.{filter_map-append}
-use Rattle.std.proofs.lemmas.List.Sorted.{Contains-permutation, IsPermutation-sym}
-use Rattle.cdm_flight.specs.declared.airport.RunwayRow.{RunwayRow}
-use Rattle.cdm_flight.specs.declared.place.Place.{Place}
-use Rattle.cdm_flight.specs.declared.update.Update.{Update}
-use Rattle.cdm_flight.specs.declared.update.Update.TheVariants.{Flt, Rate, Close, Reopen, Taxi, Clock}
-use Rattle.cdm_flight.specs.Names.{same_name}
-use Rattle.cdm_flight.specs.Record.{Record, is_planned}
-use Rattle.cdm_flight.specs.Step.{flight_of_update}
-use Rattle.cdm_flight.specs.Taxi.{taxi_out}
-use Rattle.cdm_flight.specs.Journal.{flight_of, now_of, only_if, sets_cap, sets_closed, sets_now, sets_taxi, taxi_of, touches}
-use Rattle.cdm_flight.proofs.JournalLemmas.{flight_of-untouched}
-use Rattle.cdm_flight.proofs.Lists.{contains_from_map, contains_map, if_so, one_of_key}
-use Rattle.cdm_runway.specs.Rules.{RunwayRules}
-use Rattle.cdm_sequence.specs.Aims.{TaxiTimes, IsAim}
-use Rattle.cdm_sequence.specs.declared.aims.AimResult.{AimResult}
-use Rattle.cdm_sequence.specs.declared.aims.AimResult.TheVariants.{Ready, Early}
-use Rattle.cdm_sequence.specs.Fixed.{FixedRecord, fixed_flight}
-use Rattle.cdm_sequence.specs.Sequence.{IsSequence, IsSequenceBy}
-use Rattle.cdm_sequence.specs.Slots.{PlanRecord, RunwayPlanRecord}
-use Rattle.cdm_sequence.specs.Targets.{TargetRecord}
-use Rattle.cdm_sequence.proofs.AimLemmas.{aim_means, aim_of, aim_with, aim_with_exot}
-use Rattle.cdm_sequence.proofs.OrderLemmas.{is_same, same_flips, same_is}
-use Rattle.cdm_day.specs.inner.Aimed.{if_on}
-use Rattle.cdm_day.specs.Day.{Day, flights_in, new_flight, rows_by_name, rules_of, with_update}
-use Rattle.cdm_day.specs.DayPlan.{IsDayPlan, day_rules, records_in}
+use Rattle.cdm_day.proofs.ListWords.{option_and_then, option_map_or, if◌then◌else◌, Contains, cons_option, filter_map, find, append-nil, filter_map-append, Contains-permutation, IsPermutation-sym, contains_from_map, contains_map, if_so, one_of_key}
+use Rattle.cdm_day.proofs.DayWords.{RunwayRow, Place, Update, same_name, Record, is_planned, flight_of_update, taxi_out, flight_of, now_of, only_if, sets_cap, sets_closed, sets_now, sets_taxi, taxi_of, touches, flight_of-untouched, RunwayRules, TaxiTimes, IsAim, AimResult, FixedRecord, fixed_flight, IsSequence, IsSequenceBy}
+use Rattle.cdm_day.proofs.DayWords.{PlanRecord, RunwayPlanRecord, TargetRecord, aim_means, aim_of, aim_with, aim_with_exot, is_same, same_flips, same_is, if_on, Day, flights_in, new_flight, rows_by_name, rules_of, with_update, IsDayPlan, day_rules, records_in, is_on, target_in, targets_in, targets_on, Adds, AreKept, IsMade}
+use Rattle.cdm_day.proofs.DayWords.{IsPlanOn, IsSince, fixed_in, is_noted, is_touched, Flt, Rate, Close, Reopen, Taxi, Clock, Ready, Early}
 use Rattle.cdm_day.specs.declared.touched.Touched.{Touched}
-use Rattle.cdm_day.specs.Planning.{is_on, target_in, targets_in, targets_on}
-use Rattle.cdm_day.specs.inner.Kept.{Adds, AreKept, IsMade, IsPlanOn, IsSince, fixed_in, is_noted, is_touched}
-use Rattle.cdm_day.proofs.JournalFacts.{flights_in-push, now_of-same, taxi_of-same}
+use Rattle.cdm_day.proofs.JournalFacts.{flights_in-push, now_of-same, some_named, taxi_of-same}
 use Rattle.cdm_day.proofs.DayPlanLemmas.{day_rules_differ, has_sequence, is_plan_on, targets_at}
 use Rattle.cdm_day.proofs.NameLemmas.{find_some, rows_permutation}
 use Rattle.cdm_day.proofs.OnePlanLemmas.{partner}
@@ -50,9 +22,6 @@ given_twice {K} {R} {Y} q h (k ∷ ks) = by (h k) (given_twice q h ks)
     by : (o : Option R) → filter_map q (filter_map h ks) ≡ filter_map (λ k. option_and_then q (h k)) ks → filter_map q (cons_option o (filter_map h ks)) ≡ cons_option (option_and_then q o) (filter_map (λ k. option_and_then q (h k)) ks)
     by None e = e
     by (Some r) e = ap (λ (ys : List Y). cons_option (q r) ys) e
-
-no_fixed_at : (r : List ℕ) (f : Record) → is_on r f ≡ false → fixed_at r f ≡ None
-no_fixed_at r f h = ap (λ b. if_so b (fixed_flight f)) h
 
 no_target_at : (r : List ℕ) (times : TaxiTimes) (now : ℕ) (f : Record) → is_on r f ≡ false → target_at r times now f ≡ None
 no_target_at r times now f h = in_any (is_planned f.status) (by (aim_of f times now) refl)
@@ -79,13 +48,9 @@ same_target_at r s t now same f = by (is_on r f) refl
         go None = refl
         go (Some tobt) = λ i. aim_with_exot f now tobt r (taxi_out (λ place. same place i) f.stand f.ice)
 
-    own : (o : Option (List ℕ)) → option_map_or (λ q. same_name q r) o false ≡ true → o ≡ Some r
-    own None h = cc
-    own (Some q) h = ap Some (same_is q r h)
-
     by : (b : Bool) → is_on r f ≡ b → target_at r s now f ≡ target_at r t now f
     by false h = no_target_at r s now f h ∙ sym (no_target_at r t now f h)
-    by true h = ap (λ a. if_so (is_planned f.status) (if_on r (target_in a))) (aim_same (own f.runway h))
+    by true h = ap (λ a. if_so (is_planned f.status) (if_on r (target_in a))) (aim_same (some_named f.runway r h))
 
 -- What an update that is not of a runway leaves there.
 
@@ -127,13 +92,6 @@ fresh_is : (u : Update) (f : List ℕ) → new_flight u ≡ Some f → flight_of
 fresh_is (Flt g p) f e = e
 fresh_is _ f e = cc
 
-touched_is : (u : Update) (k : List ℕ) → touches k u ≡ true → flight_of_update u ≡ Some k
-touched_is u k h = by (flight_of_update u) h
-  where
-    by : (o : Option (List ℕ)) → option_map_or (λ g. same_name g k) o false ≡ true → o ≡ Some k
-    by None e = cc
-    by (Some g) e = ap Some (same_is g k e)
-
 module _ (d : Day) (u : Update) (row : RunwayRow) (before : is_noted d u row.name ≡ false) (after : is_noted (with_update d u) u row.name ≡ false) where
   -- what flights give to the runway
   module _ {Y : Type 0} (q p : Record → Option Y) (same : (f : Record) → q f ≡ p f) (off : (f : Record) → is_on row.name f ≡ false → q f ≡ None) where
@@ -151,7 +109,7 @@ module _ (d : Day) (u : Update) (row : RunwayRow) (before : is_noted d u row.nam
         by : (b : Bool) → touches k u ≡ b → option_and_then q (flight_of d.airport d.journal k) ≡ option_and_then p (flight_of d.airport (d.journal ++ u ∷ []) k)
         by false h = agree (flight_of d.airport d.journal k) ∙ ap (option_and_then p) (sym (flight_of-untouched k d.airport d.journal u h))
         by true h =
-            let of_it = touched_is u k h in
+            let of_it = some_named (flight_of_update u) k h in
             (nothing _ (elsewhere d row.name u k of_it before)).0 ∙ sym (nothing _ (elsewhere (with_update d u) row.name u k of_it after)).1
 
     given_same : filter_map q (records_in d.airport d.journal) ≡ filter_map p (records_in d.airport (d.journal ++ u ∷ []))
@@ -178,7 +136,7 @@ module _ (d : Day) (u : Update) (row : RunwayRow) (before : is_noted d u row.nam
       let now : now_of a ≡ now_of b = sym (now_of-same a u (no_clock d r u before)) in
       let rules : rules_of g a row ≡ rules_of g b row = rules-same g a row u (λ m. no_cap d r m u before) (λ m. no_closed d r m u before) in
       let fixed : fixed_in d r ≡ fixed_in (with_update d u) r =
-      fixed_on-given r (records_in g a) ∙ (given_same (fixed_at r) (fixed_at r) (λ f. refl) (no_fixed_at r) ∙ sym (fixed_on-given r (records_in g b))) in
+      fixed_on-given r (records_in g a) ∙ (given_same (fixed_at r) (fixed_at r) (λ f. refl) (λ f h. ap (λ b. if_so b (fixed_flight f)) h) ∙ sym (fixed_on-given r (records_in g b))) in
       let targets : targets_at d r ≡ targets_at (with_update d u) r =
       targets_on-given r (taxi_of g a) (now_of a) (records_in g a)
       ∙ (given_same (target_at r (taxi_of g a) (now_of a)) (target_at r (taxi_of g b) (now_of b)) (λ f. same_target_at r (taxi_of g a) (taxi_of g b) (now_of a) taxi f ∙ ap (λ n. target_at r (taxi_of g b) n f) now) (no_target_at r (taxi_of g a) (now_of a))

@@ -1,33 +1,18 @@
 -- The steps to a plan: what planned flights could have, the plans of runways that stand, and the others.
-use Rattle.std.proofs.Common.{Bor, ◌≡◌, ℕ, ◌+◌, ◌≤◌, true, cond, List, [], ◌∷◌, ◌++◌, Option, None, Some, refl, sym, ◌∙◌, ap, subst, arith, map, filter, length, sum_by}
-use Rattle.std.specs.Prelude.{is_none}
+use Rattle.std.proofs.Common.{Bor, ◌≡◌, ℕ, ◌+◌, true, cond, List, [], ◌∷◌, ◌++◌, Option, None, Some, refl, sym, ◌∙◌, ap, subst, arith, map, filter, length}
+use Rattle.cdm_day.proofs.ListWords.{is_none, All, AllZip, Contains, cons_option, filter_map, IsPermutation, IsPermutation-append_right, IsPermutation-middle, IsPermutation-refl, IsPermutation-sym, IsPermutation-trans, contains_head, contains_map, contains_tail}
+use Rattle.cdm_day.proofs.DayWords.{Record, is_planned, TaxiRows, now_of, taxi_of, RunwayRules, TaxiTimes, IsSequence, RunwayPlanRecord, TargetRecord, BlockedFlight, CanSequence, IsAimed, early_among, target_for, Day, rules_in, records_in, HasParts, fixed_on, planned_of, IsSound, TellTaxi, AreKept, Together, kept_plan}
 use Rattle.std.specs.FinMap as finite
-use Rattle.std.specs.List.{All, AllZip, Contains, cons_option, filter_map}
-use Rattle.std.specs.List.Sorted.{IsPermutation}
-use Rattle.std.proofs.lemmas.List.Sorted.{IsPermutation-append_right, IsPermutation-middle, IsPermutation-refl, IsPermutation-sym, IsPermutation-trans}
-use Rattle.cdm_flight.specs.Record.{Record, is_planned}
-use Rattle.cdm_flight.specs.Taxi.{TaxiRows}
-use Rattle.cdm_flight.specs.Journal.{now_of, taxi_of}
-use Rattle.cdm_flight.proofs.Lists.{contains_head, contains_map, contains_tail}
-use Rattle.cdm_runway.specs.Rules.{RunwayRules}
-use Rattle.cdm_sequence.specs.Aims.{TaxiTimes}
-use Rattle.cdm_sequence.specs.Sequence.{IsSequence}
-use Rattle.cdm_sequence.specs.Slots.{PlanRecord, RunwayPlanRecord}
-use Rattle.cdm_sequence.specs.Targets.{TargetRecord}
-use Rattle.cdm_sequence.specs.declared.slot.BlockedFlight.{BlockedFlight}
-use Rattle.cdm_day.specs.inner.Aimed.{CanSequence, IsAimed, early_among, target_for}
 use Rattle.cdm_day.specs.declared.aimed.Aimed.{Aimed}
 use Rattle.cdm_day.specs.declared.touched.Touched.{Touched}
-use Rattle.cdm_day.specs.Day.{Day, rules_in}
-use Rattle.cdm_day.specs.DayPlan.{records_in}
-use Rattle.cdm_day.specs.Planning.{HasParts, fixed_on, planned_of}
-use Rattle.cdm_day.specs.Sound.{IsSound, TellTaxi}
-use Rattle.cdm_day.specs.inner.Kept.{AreKept, IsMade, kept_plan}
 use Rattle.cdm_day.proofs.DayPlanLemmas.{HasSequence, day_plan, few_records, has_sequence, record_names_differ, targets_at}
 use Rattle.cdm_day.proofs.NameLemmas.{rule_names_differ}
 use Rattle.cdm_day.proofs.OnePlanLemmas.{one_day_plan}
 use Rattle.cdm_day.proofs.PartLemmas.{All-lent, AllZip-lent, few_parts}
 use Rattle.cdm_day.proofs.PlanningLemmas.{AllZip-weaker, aimed, aimed_are, blocked-among, blocked_early, can_sequence, planned_are, targets-among}
+
+abbrev pub now : Bor Record → Record
+now f = f.now
 
 abbrev times_of : Day → TaxiTimes
 times_of d = taxi_of d.airport d.journal
@@ -69,11 +54,6 @@ module _ {X Y : Type 0} (R : X → Y → Type 0) (stands : X → Option Y) where
           let kept = filter_map stands xs in
           (y ∷ w.0, (each.0, w.1), IsPermutation-trans (y ∷ w.0) (y ∷ (kept ++ made)) (kept ++ y ∷ made) (IsPermutation-append_right (y ∷ []) w.0 (kept ++ made) w.2) (IsPermutation-sym (kept ++ y ∷ made) (y ∷ (kept ++ made)) (IsPermutation-middle kept y made)))
 
--- few enough plans, which make the plan of the day
-pub record Together (d : Day) (aims : List Aimed) (plans : List RunwayPlanRecord) : Type 0 where
-  pub few : sum_by (λ p. length p.slots + length p.blocked) plans + length (early_among aims) ≤ 2000
-  pub made : (plan : PlanRecord) → plan.clock ≡ now_of d.journal → HasParts (early_among aims) plans plan → IsMade d plan
-
 module _ (d : Day) (sound : IsSound d) (fs : List (Bor Record)) (fs_are : map (λ f. f.now) fs ≡ flights_of d) (aims : List Aimed) (aims_is : aims ≡ aims_of d) where
   targets_are : (r : List ℕ) → filter_map (target_for r) aims ≡ targets_at d r
   targets_are r = ap (filter_map (target_for r)) aims_is ∙ targets-among r (times_of d) (now_of d.journal) (flights_of d)
@@ -85,12 +65,12 @@ module _ (d : Day) (sound : IsSound d) (fs : List (Bor Record)) (fs_are : map (�
       (subst (λ (l : List Record). CanSequence (fixed_on r l) (targets_at d r)) (sym fs_are)
       (can_sequence (times_of d) (now_of d.journal) (flights_of d) (record_names_differ d sound.names) (few_records d sound) r))
 
-  -- the plans that stand and the others
-  pub together : (runways left : List (Bor RunwayRules)) (t : Touched) (old copies made : List RunwayPlanRecord) → map (λ r. r.now) runways ≡ rules_in d.airport d.journal
-      → left ≡ filter (λ r. is_none (kept_plan t old r.now.name)) runways → copies ≡ filter_map (λ r. kept_plan t old r.now.name) runways → AreKept d t old
+  -- the plans that stand and the others, where the same list of aims was asked
+  pub together : (asked : List Aimed) (runways left : List (Bor RunwayRules)) (t : Touched) (old made : List RunwayPlanRecord) → asked ≡ aims_of d → map (λ r. r.now) runways ≡ rules_in d.airport d.journal
+      → left ≡ filter (λ r. is_none (kept_plan t old r.now.name)) runways → AreKept d t old
       → AllZip (λ r p. IsSequence r.now (fixed_on r.now.name (map (λ f. f.now) fs)) (filter_map (target_for r.now.name) aims) p) left made
-      → Together d aims (copies ++ made)
-  together runways left t old copies made rules left_is copies_is kept each =
+      → Together d asked (filter_map (λ r. kept_plan t old r.now.name) runways ++ made)
+  together asked runways left t old made asked_is rules left_is kept each =
       let R : Bor RunwayRules → RunwayPlanRecord → Type 0 = λ r p. HasSequence d r.now p in
       let stands : Bor RunwayRules → Option RunwayPlanRecord = λ r. kept_plan t old r.now.name in
       let right : (r : Bor RunwayRules) (p : RunwayPlanRecord) → IsSequence r.now (fixed_on r.now.name (map (λ f. f.now) fs)) (filter_map (target_for r.now.name) aims) p → R r p = λ r p h.
@@ -100,17 +80,11 @@ module _ (d : Day) (sound : IsSound d) (fs : List (Bor Record)) (fs_are : map (�
       let all = merged R stands runways made
       (λ r p i e. has_sequence d r.now p (kept r.now p (subst (λ (l : List RunwayRules). Contains l r.now) rules (contains_map (λ (x : Bor RunwayRules). x.now) runways r i)) e)) new in
       let zipped = subst (λ (l : List RunwayRules). AllZip (HasSequence d) l all.0) rules (AllZip-lent (HasSequence d) runways all.0 all.1) in
-      let same = subst (λ (l : List RunwayPlanRecord). IsPermutation all.0 (l ++ made)) (sym copies_is) all.2 in
-      let early : early_among aims ≡ blocked_early (flights_of d) (times_of d) (now_of d.journal) = ap early_among aims_is ∙ blocked-among (times_of d) (now_of d.journal) (flights_of d) in
+      let early : early_among asked ≡ blocked_early (flights_of d) (times_of d) (now_of d.journal) = ap early_among asked_is ∙ blocked-among (times_of d) (now_of d.journal) (flights_of d) in
       record {
-        few = let few = few_parts (times_of d) (now_of d.journal) (flights_of d) (rules_in d.airport d.journal) all.0 (copies ++ made) zipped same (rule_names_differ d.airport d.journal sound.airport) in
+        few = let few = few_parts (times_of d) (now_of d.journal) (flights_of d) (rules_in d.airport d.journal) all.0 (filter_map stands runways ++ made) zipped all.2 (rule_names_differ d.airport d.journal sound.airport) in
             let most = few_records d sound in let long = ap length early in omega arith;
         made = λ plan clock parts.
-            let shown : HasParts (blocked_early (flights_of d) (times_of d) (now_of d.journal)) (copies ++ made) plan = subst (λ (bs : List BlockedFlight). HasParts bs (copies ++ made) plan) early parts in
-            let plan_is = day_plan d all.0 (copies ++ made) plan sound.airport zipped same clock shown in
-            record {
-              airport = sound.airport;
-              of_day = plan_is;
-              only = λ other is. one_day_plan d other plan sound.airport.names sound.names is plan_is;
-            };
+            let plan_is = day_plan d all.0 (filter_map stands runways ++ made) plan sound.airport zipped all.2 clock (subst (λ (bs : List BlockedFlight). HasParts bs (filter_map stands runways ++ made) plan) early parts) in
+            record { airport = sound.airport; of_day = plan_is; only = λ other is. one_day_plan d other plan sound.airport.names sound.names is plan_is };
       }

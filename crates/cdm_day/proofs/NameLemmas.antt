@@ -1,24 +1,9 @@
 -- The runways by name.
-use Rattle.std.proofs.Common.{◌≡◌, ℕ, ◌+◌, ◌<◌, ◌≤◌, Bool, true, false, cond, List, [], ◌∷◌, ◌++◌, length, take, drop, get_or, map, Option, None, Some, refl, sym, ap, ◌∙◌, subst, inl, inr, ◌⊎◌, true≢false, zero, suc, add-one, arith}
-use Rattle.std.specs.Prelude.{fold, insert, slice_get, if◌then◌else◌}
-use Rattle.std.specs.Option.{option_map, option_or}
-use Rattle.std.specs.Ordering.{is_lt}
-use Rattle.std.specs.List.{AllByRecursion, Contains, cons_option, find, IsDistinct, position_or_len}
-use Rattle.std.specs.List.Sorted.{IsPermutation}
-use Rattle.std.specs.Cmp.Lexicographic.{same_text}
-use Rattle.std.proofs.lemmas.List.{append_assoc, append-nil, length-map, take-append-drop}
-use Rattle.std.proofs.lemmas.List.Folds.{find-append}
-use Rattle.std.proofs.lemmas.List.Sorted.{Contains-permutation, IsPermutation-refl, IsPermutation-sym, IsPermutation-trans, IsPermutation-append_left, IsPermutation-insert, IsPermutation-map, IsPermutation-to_front, length_permutation}
-use Rattle.std.proofs.lemmas.Map.Keys.{IsDistinct-IsPermutation}
-use Rattle.cdm_flight.specs.declared.airport.RunwayRow.{RunwayRow}
-use Rattle.cdm_flight.specs.declared.update.Update.{Update}
-use Rattle.cdm_flight.specs.Names.{same_name, name_cmp}
-use Rattle.cdm_flight.specs.Journal.{AirportRows, runway_row}
-use Rattle.cdm_runway.specs.Rules.{RunwayRules}
-use Rattle.cdm_flight.proofs.Lists.{contains_cases, contains_head, contains_tail, one_of_key}
-use Rattle.cdm_sequence.proofs.OrderLemmas.{same_flips}
-use Rattle.cdm_day.specs.Airport.{IsAirport, runway_names}
-use Rattle.cdm_day.specs.Day.{rules_of, put_by_name, rows_by_name, rules_in}
+use Rattle.std.proofs.Common.{◌≡◌, ℕ, ◌+◌, ◌<◌, ◌≤◌, Bool, true, false, cond, List, [], ◌∷◌, ◌++◌, length, take, drop, get_or, map, Option, None, Some, refl, sym, ap, ◌∙◌, subst, true≢false, zero, suc, add-one}
+use Rattle.cdm_day.proofs.ListWords.{fold, insert, is_some, slice_get, if◌then◌else◌, option_map, option_or, is_lt, AllByRecursion, Contains, cons_option, find, IsDistinct, position_or_len, IsPermutation, same_text, false_from_ne_true, append_assoc, append-nil, length-map, take-append-drop, take_all, All-contains}
+use Rattle.cdm_day.proofs.ListWords.{All-from_recursion, All-more, recursion_from_All, find-append, list_any_at, All-permutation, Contains-permutation, IsPermutation-refl, IsPermutation-sym, IsPermutation-trans, IsPermutation-append_left, IsPermutation-insert, IsPermutation-map, IsPermutation-to_front, length_permutation}
+use Rattle.cdm_day.proofs.ListWords.{IsDistinct-IsPermutation, contains_head, contains_tail, list_any-find, one_of_key}
+use Rattle.cdm_day.proofs.DayWords.{RunwayRow, Update, same_name, name_cmp, AirportRows, runway_row, RunwayRules, same_flips, IsAirport, runway_names, rules_of, put_by_name, rows_by_name, rules_in}
 
 -- What `find` finds.
 
@@ -31,32 +16,35 @@ find_some {X} p (y ∷ ys) x h = by (find_some p ys x) (p y) refl h
     by rest false e k = let later = rest k in (contains_tail y ys x later.0, later.1)
 
 pub find_none : {X : Type 0} (p : X → Bool) (xs : List X) → find p xs ≡ None → (x : X) → Contains xs x → p x ≡ false
-find_none p [] h x i = absurd (omega (arith, i.1))
-find_none {X} p (y ∷ ys) h x i = by (find_none p ys) (p y) refl h
+find_none p xs h x i = false_from_ne_true (p x) (λ e. true≢false (sym (list_any_at p xs i.0 x i.1 (ap p i.2 ∙ e)) ∙ (list_any-find p xs ∙ ap is_some h)))
+
+-- it finds what alone passes
+pub find_only : {X : Type 0} (p : X → Bool) (xs : List X) (x : X) → Contains xs x → p x ≡ true → ((y : X) → Contains xs y → p y ≡ true → y ≡ x) → find p xs ≡ Some x
+find_only {X} p xs x i h one = by (find p xs) refl
   where
-    by : (find p ys ≡ None → (x : X) → Contains ys x → p x ≡ false) → (b : Bool) → p y ≡ b → cond b (Some y) (find p ys) ≡ None → p x ≡ false
-    by rest true e k = cc
-    by rest false e k = elim (contains_cases y ys x i) [
-      | inl same ↦ subst (λ (z : X). p z ≡ false) same e
-      | inr later ↦ rest k x later
-    ]
+    by : (o : Option X) → find p xs ≡ o → o ≡ Some x
+    by None e = absurd (true≢false (sym h ∙ find_none p xs e x i))
+    by (Some y) e = let there = find_some p xs y e in ap Some (one y there.0 there.1)
 
 -- in another order it finds the same, where it can find only one
-pub find-permutation : {X : Type 0} (p : X → Bool) (xs ys : List X) → IsPermutation xs ys → ((x y : X) → Contains xs x → Contains xs y → p x ≡ true → p y ≡ true → x ≡ y) → find p ys ≡ find p xs
-find-permutation {X} p xs ys same one = by (find p ys) (find p xs) refl refl
+find-permutation : {X : Type 0} (p : X → Bool) (xs ys : List X) → IsPermutation xs ys → ((x y : X) → Contains xs x → Contains xs y → p x ≡ true → p y ≡ true → x ≡ y) → find p ys ≡ find p xs
+find-permutation {X} p xs ys same one = by (find p xs) refl
   where
-    by : (o q : Option X) → find p ys ≡ o → find p xs ≡ q → o ≡ q
-    by None None h k = refl
-    by None (Some x) h k =
-        let there = find_some p xs x k in
-        absurd (true≢false (sym there.1 ∙ find_none p ys h x (Contains-permutation xs ys x same there.0)))
-    by (Some y) None h k =
-        let there = find_some p ys y h in
-        absurd (true≢false (sym there.1 ∙ find_none p xs k y (Contains-permutation ys xs y (IsPermutation-sym xs ys same) there.0)))
-    by (Some y) (Some x) h k =
-        let here = find_some p ys y h in
-        let there = find_some p xs x k in
-        ap Some (one y x (Contains-permutation ys xs y (IsPermutation-sym xs ys same) here.0) there.0 here.1 there.1)
+    back : (y : X) → Contains ys y → Contains xs y
+    back y = Contains-permutation ys xs y (IsPermutation-sym xs ys same)
+
+    none : (o : Option X) → find p ys ≡ o → find p xs ≡ None → o ≡ None
+    none None h k = refl
+    none (Some y) h k = let there = find_some p ys y h in absurd (true≢false (sym there.1 ∙ find_none p xs k y (back y there.0)))
+
+    by : (q : Option X) → find p xs ≡ q → find p ys ≡ q
+    by None k = none (find p ys) refl k
+    by (Some x) k = let there = find_some p xs x k in find_only p ys x (Contains-permutation xs ys x same there.0) there.1 (λ y i h. one y x (back y i) there.0 h there.1)
+
+-- rows of one name are one
+pub one_row : (rows : List RunwayRow) → IsDistinct same_name (map (λ row. row.name) rows) → (r : List ℕ) (x y : RunwayRow) → Contains rows x → Contains rows y → same_name x.name r ≡ true → same_name y.name r ≡ true → x ≡ y
+one_row rows own r x y i j h k =
+    one_of_key same_name same_flips (λ (row : RunwayRow). row.name) rows x y own i j (subst (λ (n : List ℕ). same_name x.name n ≡ true) (sym (same_text y.name r (sym k))) h)
 
 -- Rows by name.
 
@@ -93,11 +81,7 @@ runway-names g a (row ∷ rows) = ap (λ (ns : List (List ℕ)). row.name ∷ ns
 pub find-rules : (g : AirportRows) (a : List Update) (r : List ℕ) → IsAirport g → find (λ x. same_name x.name r) (rules_in g a) ≡ option_map (rules_of g a) (runway_row g r)
 find-rules g a r airport =
     find-map g a r (rows_by_name g.runways)
-    ∙ ap (option_map (rules_of g a)) (find-permutation (λ (row : RunwayRow). same_name row.name r) g.runways (rows_by_name g.runways) (rows_permutation g.runways) one)
-  where
-    one : (x y : RunwayRow) → Contains g.runways x → Contains g.runways y → same_name x.name r ≡ true → same_name y.name r ≡ true → x ≡ y
-    one x y i j h k = one_of_key same_name same_flips (λ (row : RunwayRow). row.name) g.runways x y airport.names i j
-        (subst (λ (n : List ℕ). same_name x.name n ≡ true) (sym (same_text y.name r (sym k))) h)
+    ∙ ap (option_map (rules_of g a)) (find-permutation (λ (row : RunwayRow). same_name row.name r) g.runways (rows_by_name g.runways) (rows_permutation g.runways) (one_row g.runways airport.names r))
 
 pub length-rules_in : (g : AirportRows) (a : List Update) → length (rules_in g a) ≡ length g.runways
 length-rules_in g a = length-map (rows_by_name g.runways) (rules_of g a) ∙ length_permutation g.runways (rows_by_name g.runways) (rows_permutation g.runways)
@@ -111,20 +95,11 @@ rule_names_differ g a airport =
 
 -- what holds of all holds of each
 pub all_at : {X : Type 0} (P : X → Type 0) (xs : List X) → AllByRecursion P xs → (y : X) → Contains xs y → P y
-all_at P [] all y i = absurd (omega (arith, i.1))
-all_at {X} P (x ∷ xs) all y i = in_one (all_at P xs all.1 y) (contains_cases x xs y i)
-  where
-    in_one : (Contains xs y → P y) → (x ≡ y) ⊎ Contains xs y → P y
-    in_one rest (inl e) = subst P e all.0
-    in_one rest (inr i) = rest i
-
-all_from_each : {X : Type 0} (P : X → Type 0) (xs : List X) → ((y : X) → Contains xs y → P y) → AllByRecursion P xs
-all_from_each P [] each = tt
-all_from_each P (x ∷ xs) each = (each x (contains_head x xs), all_from_each P xs (λ y i. each y (contains_tail x xs y i)))
+all_at P xs all y = All-contains P xs y (All-from_recursion P xs all)
 
 -- what holds of all rows holds of them in another order
 pub all_by_permutation : {X : Type 0} (P : X → Type 0) (xs ys : List X) → IsPermutation xs ys → AllByRecursion P xs → AllByRecursion P ys
-all_by_permutation P xs ys same all = all_from_each P ys (λ y i. all_at P xs all y (Contains-permutation ys xs y (IsPermutation-sym xs ys same) i))
+all_by_permutation P xs ys same all = recursion_from_All P ys (All-permutation P xs ys same (All-from_recursion P xs all))
 
 -- One more element of a list that is searched.
 
@@ -138,10 +113,7 @@ pub take-next : {X : Type 0} (xs : List X) (i : ℕ) → take (i + 1) xs ≡ tak
 take-next xs i = rw add-one (next_taken xs i)
 
 pub all_taken : {X : Type 0} (xs : List X) (i : ℕ) → length xs ≤ i → take i xs ≡ xs
-all_taken [] zero h = refl
-all_taken [] (suc i) h = refl
-all_taken (x ∷ xs) zero h = absurd (omega arith)
-all_taken (x ∷ xs) (suc i) h = ap (λ l. x ∷ l) (all_taken xs i (omega arith))
+all_taken xs i h = take_all i xs h
 
 module _ {X : Type 0} (p : X → Bool) (xs : List X) (i : ℕ) (before : find p (take i xs) ≡ None) where
   found_so_far : (o : Option X) → slice_get xs i ≡ o → find p (take (i + 1) xs) ≡ find p (cons_option o [])
@@ -166,14 +138,4 @@ module _ {X : Type 0} (p : X → Bool) (xs : List X) (i : ℕ) (before : find p 
 
 -- what holds of the elements so far and of the next one
 pub all_next : {X : Type 0} (P : X → Type 0) (xs : List X) (k : ℕ) (x : X) → k < length xs → x ≡ get_or xs k x → AllByRecursion P (take k xs) → P x → AllByRecursion P (take (k + 1) xs)
-all_next {X} P xs k x below at all here = rw add-one (go xs k below at all)
-  where
-    go : (xs : List X) (k : ℕ) → k < length xs → x ≡ get_or xs k x → AllByRecursion P (take k xs) → AllByRecursion P (take (suc k) xs)
-    go [] k below at all = absurd (omega arith)
-    go (z ∷ xs) zero below at all = (subst P at here, tt)
-    go (z ∷ xs) (suc k) below at all = (all.0, go xs k (omega arith) at all.1)
-
-pub get_or-default : {X : Type 0} (xs : List X) (k : ℕ) (d e : X) → k < length xs → get_or xs k d ≡ get_or xs k e
-get_or-default [] k d e below = absurd (omega arith)
-get_or-default (x ∷ xs) zero d e below = refl
-get_or-default (x ∷ xs) (suc k) d e below = get_or-default xs k d e (omega arith)
+all_next P xs k x below at all here = recursion_from_All P (take (k + 1) xs) (All-more P xs k x below (All-from_recursion P (take k xs) all) (subst P at here))

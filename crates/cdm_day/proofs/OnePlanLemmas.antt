@@ -1,39 +1,14 @@
 -- A day has one plan.
+use Rattle.std.proofs.lemmas.Option.{same_Some}
 use Rattle.std.proofs.Common.{◌≡◌, ℕ, true, false, List, [], ◌∷◌, ◌++◌, Some, is_none, refl, sym, ◌∙◌, ap, subst, inl, inr, ◌⊎◌, map, arith}
 use Rattle.std.specs.declared.cmp.Ordering.{Ordering}
 use Rattle.std.specs.declared.cmp.Ordering.TheVariants.{Less, Equal, Greater}
-use Rattle.std.specs.Ordering.{is_lt, ordering_reverse}
+use Rattle.cdm_day.proofs.ListWords.{is_lt, ordering_reverse, All, AllZip, Contains, IsDistinct, flat_map, list_any, IsPermutation, IsSortedBy, false≢true, nat_list_cmp_total, All-contains, Contains-append_cases, filter_passes, Contains-permutation, IsPermutation-refl, IsPermutation-sym, ranks_by, sum_by-IsPermutation}
+use Rattle.cdm_day.proofs.ListWords.{IsDistinct-IsPermutation, contains_all, contains_from_given, contains_head, contains_tail, contains_cases, distinct_filter, distinct_right, list_any-find, list_any-map, one_of_key, sorted_one}
+use Rattle.cdm_day.proofs.DayWords.{name_cmp, same_name, Record, is_planned, RunwayRules, TaxiTimes, FixedRecord, takeoffs, IsRightlyBlocked, IsSequence, IsSequenceBy, names_left, PlanRecord, RunwayPlanRecord, TargetRecord, AimResult, BlockedFlight, Placing, IsEarlier, aim_of, is_same, same_flips, same_is, tied_names}
+use Rattle.cdm_day.proofs.DayWords.{runway_names, Day, flights_in, IsDayAllowed, IsDayPlan, IsDayPlanBy, day_rules, records_in, has_runway, now_of, taxi_of, RunwayRow, AreAims, HasParts, IsPlanOf, blocked_in, early_in, fixed_on, planned_of, target_in, targets_in, targets_on, Early, Ready}
 use Rattle.std.specs.Cmp.{IsStrictWeakOrder}
-use Rattle.std.specs.List.{All, AllZip, Contains, IsDistinct, flat_map, list_any}
-use Rattle.std.specs.List.Sorted.{IsPermutation, IsSortedBy}
-use Rattle.std.proofs.lemmas.Bool.{false≢true}
-use Rattle.std.proofs.lemmas.Cmp.{nat_list_cmp_total}
-use Rattle.std.proofs.lemmas.List.Elements.{All-contains, Contains-append_cases, filter_passes}
-use Rattle.std.proofs.lemmas.List.Sorted.{Contains-permutation, IsPermutation-refl, IsPermutation-sym, ranks_by, sum_by-IsPermutation}
-use Rattle.std.proofs.lemmas.Map.Keys.{IsDistinct-IsPermutation}
-use Rattle.cdm_flight.specs.Names.{name_cmp, same_name}
-use Rattle.cdm_flight.specs.Record.{Record, is_planned}
-use Rattle.cdm_runway.specs.Rules.{RunwayRules}
-use Rattle.cdm_sequence.specs.Aims.{TaxiTimes}
-use Rattle.cdm_sequence.specs.Fixed.{FixedRecord, takeoffs}
-use Rattle.cdm_sequence.specs.Sequence.{IsRightlyBlocked, IsSequence, IsSequenceBy, names_left}
-use Rattle.cdm_sequence.specs.Slots.{PlanRecord, RunwayPlanRecord}
-use Rattle.cdm_sequence.specs.Targets.{TargetRecord}
-use Rattle.cdm_sequence.specs.declared.aims.AimResult.{AimResult}
-use Rattle.cdm_sequence.specs.declared.aims.AimResult.TheVariants.{Early, Ready}
-use Rattle.cdm_sequence.specs.declared.slot.BlockedFlight.{BlockedFlight}
-use Rattle.cdm_flight.proofs.Lists.{contains_all, contains_from_given, contains_head, contains_tail, contains_cases, distinct_filter, distinct_right, list_any-find, list_any-map, one_of_key, sorted_one}
-use Rattle.cdm_sequence.specs.Plan.{Placing, IsEarlier}
-use Rattle.cdm_sequence.proofs.AimLemmas.{aim_of}
 use Rattle.cdm_sequence.proofs.OneLemmas.{sequence_one}
-use Rattle.cdm_sequence.proofs.OrderLemmas.{is_same, same_flips, same_is, tied_names}
-use Rattle.cdm_day.specs.Airport.{runway_names}
-use Rattle.cdm_day.specs.Day.{Day, flights_in}
-use Rattle.cdm_day.specs.DayPlan.{IsDayAllowed, IsDayPlan, IsDayPlanBy, day_rules, records_in}
-use Rattle.cdm_flight.specs.Accepted.{has_runway}
-use Rattle.cdm_flight.specs.Journal.{now_of, taxi_of}
-use Rattle.cdm_flight.specs.declared.airport.RunwayRow.{RunwayRow}
-use Rattle.cdm_day.specs.Planning.{AreAims, HasParts, IsPlanOf, blocked_in, early_in, fixed_on, planned_of, target_in, targets_in, targets_on}
 use Rattle.cdm_day.proofs.DayPlanLemmas.{day_rules_differ, record_names_differ}
 use Rattle.cdm_day.proofs.NameLemmas.{runway-names}
 use Rattle.cdm_day.proofs.PartLemmas.{runways_make}
@@ -75,12 +50,11 @@ contains_from_lists f (x ∷ xs) y i = elim (Contains-append_cases (f x) (flat_m
 -- an element goes with one of the other list
 pub partner : {X Y : Type 0} (R : X → Y → Type 0) (xs : List X) (ys : List Y) (y : Y) → AllZip R xs ys → Contains ys y → (x : X) × R x y × Contains xs x
 partner R [] [] y all i = absurd (omega (arith, i.1))
-partner R [] (v ∷ ys) y all i = absurd all
-partner R (u ∷ xs) [] y all i = absurd all
 partner {X} {Y} R (u ∷ xs) (v ∷ ys) y all i = elim (contains_cases v ys y i) [
   | inl e ↦ (u, subst (λ (z : Y). R u z) e all.0, contains_head u xs)
   | inr j ↦ let w = partner R xs ys y all.1 j in (w.0, w.1, contains_tail u xs w.0 w.2)
 ]
+partner R _ _ y all i = absurd all
 
 -- Aims.
 
@@ -97,9 +71,6 @@ not_both : (n : List ℕ) (a : AimResult) (b : BlockedFlight) (t : TargetRecord)
 not_both n (Ready s) b t h k = cc
 not_both n (Early rule) b t h k = cc
 
-some_same : {X : Type 0} (x y : X) → Some x ≡ Some y → x ≡ y
-some_same x y e = cc
-
 module _ (times : TaxiTimes) (now : ℕ) (fs : List Record) (own : IsDistinct same_name (map (λ f. f.name) fs)) where
   abbrev aim_at : Record → AimResult
   aim_at f = aim_of f times now
@@ -113,26 +84,24 @@ module _ (times : TaxiTimes) (now : ℕ) (fs : List Record) (own : IsDistinct sa
   -- the plans of the runways are determined
   made_one : (rs : List RunwayRules) (xs ys : List RunwayPlanRecord) → AllZip IsMade rs xs → AllZip IsMade rs ys → xs ≡ ys
   made_one [] [] [] a b = refl
-  made_one [] [] (y ∷ ys) a b = absurd b
-  made_one [] (x ∷ xs) ys a b = absurd a
-  made_one (r ∷ rs) [] ys a b = absurd a
-  made_one (r ∷ rs) (x ∷ xs) [] a b = absurd b
   made_one (r ∷ rs) (x ∷ xs) (y ∷ ys) a b =
       let fixed = fixed_on r.name fs in
       let targets = targets_at r.name in
       let same : x ≡ y = sequence_one r fixed fixed targets targets x y (names_on r.name times now fs own) (IsPermutation-refl fixed) (IsPermutation-refl targets) a.0 b.0 in
       let rest = made_one rs xs ys a.1 b.1 in
       λ i. same i ∷ rest i
+  made_one [] [] (y ∷ ys) a b = absurd b
+  made_one (r ∷ rs) (x ∷ xs) [] a b = absurd b
+  made_one _ _ _ a b = absurd a
 
   -- and have the runways' names
   made_named : (rs : List RunwayRules) (ps : List RunwayPlanRecord) → AllZip IsMade rs ps → map (λ p. p.runway) ps ≡ map (λ r. r.name) rs
   made_named [] [] all = refl
-  made_named [] (p ∷ ps) all = absurd all
-  made_named (r ∷ rs) [] all = absurd all
   made_named (r ∷ rs) (p ∷ ps) all =
       let here = all.0.1.runway in
       let rest = made_named rs ps all.1 in
       λ i. here i ∷ rest i
+  made_named _ _ all = absurd all
 
   -- a flight that a runway blocks is the flight of a target on it
   record OnRunway (f : Record) (ps : List RunwayPlanRecord) (b : BlockedFlight) : Type 0 where
@@ -223,11 +192,11 @@ module _ (times : TaxiTimes) (now : ℕ) (fs : List Record) (own : IsDistinct sa
         one = one_of_key same_name same_flips (λ (f : Record). f.name) fs x.flight y.flight own x.known y.known (is_same x.flight.name y.flight.name (sym x.named ∙ e ∙ y.named))
 
         by : (blocked_in x.flight.name (aim_at x.flight) ≡ Some a) ⊎ OnRunway x.flight ps a → (blocked_in y.flight.name (aim_at y.flight) ≡ Some b) ⊎ OnRunway y.flight ps b → a ≡ b
-        by (inl h) (inl k) = some_same a b (sym h ∙ ap (λ (f : Record). blocked_in f.name (aim_at f)) one ∙ k)
+        by (inl h) (inl k) = same_Some a b (sym h ∙ ap (λ (f : Record). blocked_in f.name (aim_at f)) one ∙ k)
         by (inl h) (inr k) = absurd (not_both x.flight.name (aim_at x.flight) a k.target h (ap (λ (f : Record). target_in (aim_at f)) one ∙ k.aimed))
         by (inr h) (inl k) = absurd (not_both y.flight.name (aim_at y.flight) b h.target k (sym (ap (λ (f : Record). target_in (aim_at f)) one) ∙ h.aimed))
         by (inr h) (inr k) =
-            let target : h.target ≡ k.target = some_same h.target k.target (sym h.aimed ∙ ap (λ (f : Record). target_in (aim_at f)) one ∙ k.aimed) in
+            let target : h.target ≡ k.target = same_Some h.target k.target (sym h.aimed ∙ ap (λ (f : Record). target_in (aim_at f)) one ∙ k.aimed) in
             let runway : h.plan.runway ≡ k.plan.runway = sym h.here ∙ ap (λ (t : TargetRecord). t.runway) target ∙ k.here in
             let plan : k.plan ≡ h.plan = plan_same k.plan h.plan (in_made k.plan k.among) (in_made h.plan h.among) (sym runway) in
             let shown : Contains h.plan.blocked b = subst (λ (p : RunwayPlanRecord). Contains p.blocked b) plan k.shown in

@@ -1,22 +1,10 @@
 -- One placing of a day, from those of its runways.
 use Rattle.std.proofs.Common.{◌≡◌, ℕ, Bool, true, false, cond, ◌||◌, List, [], ◌∷◌, None, sym, ◌∙◌, ap, refl, map}
-use Rattle.std.specs.List.{All, AllByRecursion, AllZip, Contains, IsDistinct, list_any}
-use Rattle.std.proofs.lemmas.Bool.{false≢true}
-use Rattle.std.proofs.lemmas.List.Elements.{All-cons, All-contains, All-head, All-nil, All-tail, filter_passes}
-use Rattle.std.proofs.lemmas.Map.Keys.{IsDistinct-head, IsDistinct-tail}
-use Rattle.cdm_flight.specs.Names.{same_name}
-use Rattle.cdm_runway.specs.Rules.{RunwayRules}
-use Rattle.cdm_sequence.specs.Fixed.{FixedRecord, takeoffs}
-use Rattle.cdm_sequence.specs.Plan.{Placing, IsAllowed, IsEarlier}
-use Rattle.cdm_sequence.specs.Sequence.{IsSequence, IsSequenceBy}
-use Rattle.cdm_sequence.specs.Slots.{RunwayPlanRecord}
-use Rattle.cdm_sequence.specs.Targets.{TargetRecord}
-use Rattle.cdm_flight.proofs.Lists.{contains_all, contains_kept}
+use Rattle.cdm_day.proofs.ListWords.{All, AllByRecursion, AllZip, Contains, IsDistinct, list_any, false≢true, All-cons, All-contains, All-head, All-nil, All-tail, filter_passes, IsDistinct-head, IsDistinct-tail, contains_all, contains_kept}
+use Rattle.cdm_day.proofs.DayWords.{same_name, RunwayRules, FixedRecord, takeoffs, Placing, IsAllowed, IsEarlier, IsSequence, IsSequenceBy, RunwayPlanRecord, TargetRecord, is_same, same_flips, same_is, targets_on}
 use Rattle.cdm_sequence.proofs.AllowedLemmas.{plan_allowed}
 use Rattle.cdm_sequence.proofs.OneLemmas.{sequence_agree}
-use Rattle.cdm_sequence.proofs.OrderLemmas.{is_same, same_flips, same_is}
 use Rattle.cdm_sequence.proofs.PlanLemmas.{none_earlier}
-use Rattle.cdm_day.specs.Planning.{targets_on}
 
 module _ (fixed : List ℕ → List FixedRecord) (targets : List TargetRecord) where
   abbrev on : List ℕ → List TargetRecord
@@ -41,19 +29,16 @@ module _ (fixed : List ℕ → List FixedRecord) (targets : List TargetRecord) w
   others_keep : (p q : Placing) (name : List ℕ) (rs : List RunwayRules) (ps : List RunwayPlanRecord) → AllByRecursion (λ n. same_name name n ≡ false) (map (λ r. r.name) rs)
       → ((f : TargetRecord) → same_name f.runway name ≡ false → p f ≡ q f) → AllZip (HasSequenceBy p) rs ps → AllZip (HasSequenceBy q) rs ps
   others_keep p q name [] [] apart same all = tt
-  others_keep p q name [] (x ∷ ps) apart same all = absurd all
-  others_keep p q name (r ∷ rs) [] apart same all = absurd all
   others_keep p q name (r ∷ rs) (x ∷ ps) apart same all = (
     sequence_agree p q r (fixed r.name) (on r.name) x (λ f i. same f (ap (λ (n : List ℕ). same_name n name) (on_it r.name f i) ∙ same_flips r.name name ∙ apart.0)) all.0,
     others_keep p q name rs ps apart.1 same all.1,
   )
+  others_keep p q name _ _ apart same all = absurd all
 
   -- sequences of the runways are sequences by it
   pub placed : (rs : List RunwayRules) (ps : List RunwayPlanRecord) → IsDistinct same_name (map (λ r. r.name) rs) → (all : AllZip HasSequence rs ps) → AllZip (HasSequenceBy (placing_of rs ps all)) rs ps
   unfolding placing_of
   placed [] [] own all = tt
-  placed [] (x ∷ ps) own all = absurd all
-  placed (r ∷ rs) [] own all = absurd all
   placed (r ∷ rs) (x ∷ ps) own all =
       let rest = placing_of rs ps all.1 in
       let here = all.0.0 in
@@ -62,6 +47,7 @@ module _ (fixed : List ℕ → List FixedRecord) (targets : List TargetRecord) w
         sequence_agree here whole r (fixed r.name) (on r.name) x (λ f i. sym (ap (λ (b : Bool). cond b (here f) (rest f)) (is_same f.runway r.name (on_it r.name f i)))) all.0.1,
         others_keep rest whole r.name rs ps (IsDistinct-head same_name r.name names own) (λ f e. sym (ap (λ (b : Bool). cond b (here f) (rest f)) e)) (placed rs ps (IsDistinct-tail same_name r.name names own) all.1),
       )
+  placed _ _ own all = absurd all
 
   -- the placing is allowed on each runway
   pub allowed_on : (p : Placing) (rs : List RunwayRules) (ps : List RunwayPlanRecord) → ((r : List ℕ) → IsDistinct same_name (map (λ f. f.key.name) (on r))) → AllZip (HasSequenceBy p) rs ps

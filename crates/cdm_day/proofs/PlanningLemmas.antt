@@ -1,39 +1,15 @@
 -- Each flight of a day stands once: as a fixed flight or a target of one runway, or blocked early.
+use Rattle.std.proofs.lemmas.Slice.Zip.{AllZip-map}
 use Rattle.std.proofs.Common.{Bor, ◌≡◌, ℕ, ◌+◌, ◌≤◌, Bool, true, false, cond, ◌||◌, List, [], ◌∷◌, ◌++◌, Option, None, Some, refl, sym, ◌∙◌, ap, subst, arith, map, filter, length, sum_by}
-use Rattle.std.specs.Prelude.{is_none, is_some, zip}
-use Rattle.std.specs.Option.{option_map, option_map_or}
-use Rattle.std.specs.List.{All, cons_option, filter_map, IsDistinct, AllByRecursion}
-use Rattle.std.specs.List.Sorted.{IsPermutation}
-use Rattle.std.proofs.lemmas.Bool.{false≢true}
-use Rattle.std.proofs.lemmas.List.Sorted.{IsPermutation-refl, IsPermutation-trans, IsPermutation-append_right, IsPermutation-middle, IsPermutation-map, IsPermutation-sym}
+use Rattle.cdm_day.proofs.ListWords.{is_none, is_some, zip, option_map, option_map_or, All, cons_option, filter_map, IsDistinct, AllByRecursion, IsPermutation, false≢true, IsPermutation-refl, IsPermutation-trans, IsPermutation-append_right, IsPermutation-middle, IsPermutation-map, IsPermutation-sym, IsDistinct-IsPermutation}
+use Rattle.cdm_day.proofs.ListWords.{IsDistinct-cons, IsDistinct-head, IsDistinct-tail, length-map, map-append, All-given, distinct_filter, filter_map-map, filter_map-filter, if_so, sum_by-add, sum_by-zero, length_permutation, AllZip, filter_passes}
+use Rattle.cdm_day.proofs.DayWords.{same_name, Record, is_planned, TaxiTimes, IsAim, aim_of, aim_is, aim_means, same_flips, same_is, FixedRecord, fixed_flight, fixed_by, Placing, flight_names, fixed_slot, names_left, planned_slot, slots_by, IsSequence, TargetRecord, AimResult, BlockedFlight, SlotRecord, early_in, planned_of}
+use Rattle.cdm_day.proofs.DayWords.{target_in, targets_in, blocked_in, is_on, fixed_on, targets_on, IsAimed, if_on, target_for, CanSequence, RunwayRules, RunwayPlanRecord, Ready, Early}
 use Rattle.std.proofs.lemmas.List.Sums.{sum_by-cons, sum_by-le-sum_by}
-use Rattle.std.proofs.lemmas.Map.Keys.{IsDistinct-IsPermutation, IsDistinct-cons, IsDistinct-head, IsDistinct-tail}
-use Rattle.cdm_flight.specs.Names.{same_name}
-use Rattle.cdm_flight.specs.Record.{Record, is_planned}
 use Rattle.cdm_flight.specs.declared.flight.Status.{Status}
 use Rattle.cdm_flight.specs.declared.flight.Status.TheVariants as status
-use Rattle.cdm_sequence.specs.Aims.{TaxiTimes, IsAim}
-use Rattle.cdm_sequence.proofs.AimLemmas.{aim_of, aim_is, aim_means}
-use Rattle.cdm_sequence.proofs.OrderLemmas.{same_flips, same_is}
-use Rattle.std.proofs.lemmas.List.{length-map, map-append}
 use Rattle.cdm_flight.specs.declared.key.Key.{Key}
-use Rattle.cdm_sequence.specs.Fixed.{FixedRecord, fixed_flight, fixed_by}
-use Rattle.cdm_sequence.specs.Plan.{Placing}
-use Rattle.cdm_sequence.specs.Sequence.{flight_names, fixed_slot, names_left, planned_slot, slots_by, IsSequence}
-use Rattle.cdm_sequence.specs.Targets.{TargetRecord}
-use Rattle.cdm_sequence.specs.declared.aims.AimResult.{AimResult}
-use Rattle.cdm_sequence.specs.declared.aims.AimResult.TheVariants.{Ready, Early}
-use Rattle.cdm_sequence.specs.declared.slot.BlockedFlight.{BlockedFlight}
-use Rattle.cdm_flight.proofs.Lists.{All-given, distinct_filter, filter_map-map, filter_map-filter, if_so, sum_by-add, sum_by-zero}
-use Rattle.cdm_sequence.specs.Slots.{SlotRecord}
 use Rattle.std.proofs.Common.{IfSome, length-append}
-use Rattle.std.proofs.lemmas.List.Sorted.{length_permutation}
-use Rattle.cdm_day.specs.Planning.{early_in, planned_of, target_in, targets_in, blocked_in, is_on, fixed_on, targets_on}
-use Rattle.cdm_day.specs.inner.Aimed.{IsAimed, if_on, target_for, CanSequence}
-use Rattle.cdm_runway.specs.Rules.{RunwayRules}
-use Rattle.cdm_sequence.specs.Slots.{RunwayPlanRecord}
-use Rattle.std.specs.List.{AllZip}
-use Rattle.std.proofs.lemmas.List.Elements.{filter_passes}
 use Rattle.cdm_day.specs.declared.aimed.Aimed.{Aimed}
 
 -- Aims.
@@ -54,15 +30,15 @@ blocked_early flights times now = filter_map (λ f. blocked_in f.name (aim_of f 
 abbrev pub aim_list : List Record → TaxiTimes → ℕ → List AimResult
 aim_list fs times now = map (λ f. aim_of f times now) (planned_of fs)
 
+-- what goes together goes together in a weaker way
+pub AllZip-weaker : {X Y : Type 0} (R S : X → Y → Type 0) → ((x : X) (y : Y) → R x y → S x y) → (xs : List X) (ys : List Y) → AllZip R xs ys → AllZip S xs ys
+AllZip-weaker R S h [] [] all = tt
+AllZip-weaker R S h (x ∷ xs) (y ∷ ys) all = (h x y all.0, AllZip-weaker R S h xs ys all.1)
+AllZip-weaker R S h _ _ all = absurd all
+
 -- the aims of flights are one list
 pub aims_are : (times : TaxiTimes) (now : ℕ) (fs : List Record) (aims : List AimResult) → AllZip (λ f a. IsAim f times now a) fs aims → map (λ f. aim_of f times now) fs ≡ aims
-aims_are times now [] [] all = refl
-aims_are times now [] (a ∷ aims) all = absurd all
-aims_are times now (f ∷ fs) [] all = absurd all
-aims_are times now (f ∷ fs) (a ∷ aims) all =
-    let here = aim_is f times now a all.0 in
-    let rest = aims_are times now fs aims all.1 in
-    λ i. here i ∷ rest i
+aims_are times now fs aims all = sym (AllZip-map (λ f. aim_of f times now) fs aims (AllZip-weaker (λ f a. IsAim f times now a) (λ f a. a ≡ aim_of f times now) (λ f a h. sym (aim_is f times now a h)) fs aims all))
 
 pub aims_mean : (times : TaxiTimes) (now : ℕ) (fs : List Record) → AllZip (λ f a. IsAim f times now a) fs (map (λ f. aim_of f times now) fs)
 aims_mean times now [] = tt
@@ -71,14 +47,7 @@ aims_mean times now (f ∷ fs) = (aim_means f times now, aims_mean times now fs)
 -- and so they are with the names
 pub aimed_are : (times : TaxiTimes) (now : ℕ) (fs : List Record) (aims : List Aimed) → AllZip (IsAimed times now) fs aims → aims ≡ map (aimed times now) fs
 unfolding aimed
-aimed_are times now [] [] all = refl
-aimed_are times now [] (a ∷ aims) all = absurd all
-aimed_are times now (f ∷ fs) [] all = absurd all
-aimed_are times now (f ∷ fs) (a ∷ aims) all =
-    let name = all.0.name in
-    let aim = sym (aim_is f times now a.aim all.0.aim) in
-    let rest = aimed_are times now fs aims all.1 in
-    λ i. record { name = name i; aim = aim i } ∷ rest i
+aimed_are times now fs aims all = AllZip-map (aimed times now) fs aims (AllZip-weaker (IsAimed times now) (λ f a. a ≡ aimed times now f) (λ f a h. λ i. record { name = h.name i; aim = sym (aim_is f times now a.aim h.aim) i }) fs aims all)
 
 -- the targets among the aims, and the flights that are blocked early
 pub targets-aims : (times : TaxiTimes) (now : ℕ) (fs : List Record) → targets_in (aim_list fs times now) ≡ targets_of fs times now
@@ -110,13 +79,13 @@ filter-filter_map r h (f ∷ fs) = go (h f) (filter-filter_map r h fs) where
   go (Some t) e = by (same_name t.runway r) t e
 
 -- the names of what flights give are those of the flights that give something
-names_given : {Y : Type 0} (name : Y → List ℕ) (h : Record → Option Y) → ((f : Record) (y : Y) → h f ≡ Some y → name y ≡ f.name) → (fs : List Record) → map name (filter_map h fs) ≡ map (λ f. f.name) (filter (λ f. is_some (h f)) fs)
-names_given name h own [] = refl
-names_given {Y} name h own (f ∷ fs) = go (h f) refl (names_given name h own fs) where
-  go : (o : Option Y) → h f ≡ o → map name (filter_map h fs) ≡ map (λ f. f.name) (filter (λ f. is_some (h f)) fs)
-      → map name (cons_option o (filter_map h fs)) ≡ map (λ f. f.name) (cond (is_some o) (f ∷ filter (λ f. is_some (h f)) fs) (filter (λ f. is_some (h f)) fs))
+pub names_given : {X Y : Type 0} (name : Y → List ℕ) (key : X → List ℕ) (h : X → Option Y) → ((f : X) (y : Y) → h f ≡ Some y → name y ≡ key f) → (fs : List X) → map name (filter_map h fs) ≡ map key (filter (λ f. is_some (h f)) fs)
+names_given name key h own [] = refl
+names_given {X} {Y} name key h own (f ∷ fs) = go (h f) refl (names_given name key h own fs) where
+  go : (o : Option Y) → h f ≡ o → map name (filter_map h fs) ≡ map key (filter (λ f. is_some (h f)) fs)
+      → map name (cons_option o (filter_map h fs)) ≡ map key (cond (is_some o) (f ∷ filter (λ f. is_some (h f)) fs) (filter (λ f. is_some (h f)) fs))
   go None e rest = rest
-  go (Some y) e rest = ap (λ (n : List ℕ). n ∷ map name (filter_map h fs)) (own f y e) ∙ ap (λ (ns : List (List ℕ)). f.name ∷ ns) rest
+  go (Some y) e rest = ap (λ (n : List ℕ). n ∷ map name (filter_map h fs)) (own f y e) ∙ ap (λ (ns : List (List ℕ)). key f ∷ ns) rest
 
 -- two tests of which at most one holds part what passes either
 parted : {X : Type 0} (a b : X → Bool) → ((x : X) → a x ≡ true → b x ≡ false) → (xs : List X) → IsPermutation (filter (λ x. a x || b x) xs) (filter a xs ++ filter b xs)
@@ -157,20 +126,18 @@ unfolding fixed_flight
 fixed_name f x e = go f.status e
   where
     go : (s : Status) → fixed_by f s ≡ Some x → x.name ≡ f.name
-    go status.Planned k = cc
     go (status.OffBlock aobt exot) k = sym (ap (λ (o : Option FixedRecord). option_map_or (λ y. y.name) o []) k)
     go (status.Airborne aobt atot) k = sym (ap (λ (o : Option FixedRecord). option_map_or (λ y. y.name) o []) k)
-    go status.Cancelled k = cc
+    go _ k = cc
 
 fixed_left : (f : Record) → is_some (fixed_flight f) ≡ true → is_planned f.status ≡ false
 unfolding fixed_flight
 fixed_left f e = go f.status e
   where
     go : (s : Status) → is_some (fixed_by f s) ≡ true → is_planned s ≡ false
-    go status.Planned k = absurd (false≢true k)
     go (status.OffBlock aobt exot) k = refl
     go (status.Airborne aobt atot) k = refl
-    go status.Cancelled k = absurd (false≢true k)
+    go _ k = absurd (false≢true k)
 
 -- What a flight gives to a runway.
 
@@ -231,8 +198,8 @@ names_on r times now fs own =
     let a : Record → Bool = λ f. is_some (fixed_at r f) in
     let b : Record → Bool = λ f. is_some (target_at r times now f) in
     let name : Record → List ℕ = λ f. f.name in
-    let fixed = ap (map (λ (x : FixedRecord). x.name)) (fixed_on-given r fs) ∙ names_given (λ x. x.name) (fixed_at r) (fixed_at_name r) fs in
-    let targets = ap (map (λ (t : TargetRecord). t.key.name)) (targets_on-given r times now fs) ∙ names_given (λ t. t.key.name) (target_at r times now) (λ f t e. target_name r f times now t e) fs in
+    let fixed = ap (map (λ (x : FixedRecord). x.name)) (fixed_on-given r fs) ∙ names_given (λ x. x.name) name (fixed_at r) (fixed_at_name r) fs in
+    let targets = ap (map (λ (t : TargetRecord). t.key.name)) (targets_on-given r times now fs) ∙ names_given (λ t. t.key.name) name (target_at r times now) (λ f t e. target_name r f times now t e) fs in
     let parts = IsPermutation-map name (filter (λ f. a f || b f) fs) (filter a fs ++ filter b fs) (parted a b (apart r times now) fs) in
     let whole = distinct_filter same_name name (λ f. a f || b f) fs own in
     let split = IsDistinct-IsPermutation same_name same_flips (map name (filter (λ f. a f || b f) fs)) (map name (filter a fs ++ filter b fs)) parts whole in
@@ -279,56 +246,39 @@ one_named s (r ∷ rs) own = go (same_name s r) refl (one_named s rs (IsDistinct
 abbrev counted : TaxiTimes → ℕ → Record → List ℕ → ℕ
 counted times now f r = one_if (is_some (fixed_at r f)) + one_if (is_some (target_at r times now f))
 
--- a flight that has left counts on its own runway alone
-left_once : (f : Record) (rs : List (List ℕ)) (o : Option FixedRecord) → IsDistinct same_name rs → sum_by (λ r. one_if (is_some (if_so (is_on r f) o))) rs ≤ 1
-left_once f rs o own = by f.runway
-  where
-    le : (b : Bool) → one_if (is_some (if_so b o)) ≤ one_if b
-    le true = at_most o
-      where
-        at_most : (p : Option FixedRecord) → one_if (is_some p) ≤ 1
-        at_most None = omega arith
-        at_most (Some x) = omega arith
-    le false = omega arith
+-- what counts on one runway at the most counts once
+once : (s : Option (List ℕ)) (h : List ℕ → ℕ) (rs : List (List ℕ)) → IsDistinct same_name rs → ((r : List ℕ) → h r ≤ one_if (option_map_or (λ x. same_name x r) s false)) → sum_by h rs ≤ one_if (is_some s)
+once None h rs own le = let zero = sum_by-zero rs in let all = sum_by-le-sum_by h (λ r. 0) rs le in omega arith
+once (Some s) h rs own le = let one = one_named s rs own in let all = sum_by-le-sum_by h (λ r. one_if (same_name s r)) rs le in omega arith
 
-    by : (s : Option (List ℕ)) → sum_by (λ r. one_if (is_some (if_so (option_map_or (λ runway. same_name runway r) s false) o))) rs ≤ 1
-    by None = let z = sum_by-zero rs in let all = sum_by-le-sum_by (λ r. one_if (is_some (if_so false o))) (λ r. 0) rs (λ r. le false) in omega arith
-    by (Some s) = let a = sum_by-le-sum_by (λ r. one_if (is_some (if_so (same_name s r) o))) (λ r. one_if (same_name s r)) rs (λ r. le (same_name s r)) in let b = one_named s rs own in omega arith
-
--- a planned flight counts on its target's runway alone, or is blocked early
-planned_once : (f : Record) (rs : List (List ℕ)) (a : AimResult) → IsDistinct same_name rs → sum_by (λ r. one_if (is_some (if_on r (target_in a)))) rs + one_if (is_some (blocked_in f.name a)) ≤ 1
-planned_once f rs (Early rule) own = let z = sum_by-zero rs in omega arith
-planned_once f rs (Ready t) own =
-    let le : (r : List ℕ) → one_if (is_some (if_on r (Some t))) ≤ one_if (same_name t.runway r) = λ r. at_most (same_name t.runway r) in
-    let a = sum_by-le-sum_by (λ r. one_if (is_some (if_on r (Some t)))) (λ r. one_if (same_name t.runway r)) rs le in
-    let b = one_named t.runway rs own in
-    omega arith
-  where
-    at_most : (b : Bool) → one_if (is_some (cond b (Some t) None)) ≤ one_if b
-    at_most true = omega arith
-    at_most false = omega arith
-
-abbrev no_fixed : Option FixedRecord
-no_fixed = None
-
+-- a flight that has left counts on its own runway, a planned one on its target's, or it is blocked early
 once_with : (f : Record) (rs : List (List ℕ)) (p : Bool) (o : Option FixedRecord) (a : AimResult) → IsDistinct same_name rs → (is_some o ≡ true → p ≡ false)
     → sum_by (λ r. one_if (is_some (if_so (is_on r f) o)) + one_if (is_some (if_so p (if_on r (target_in a))))) rs + one_if (is_some (if_so p (blocked_in f.name a))) ≤ 1
-once_with f rs true None a own left =
-    let split = sum_by-add (λ r. one_if (is_some (if_so (is_on r f) no_fixed))) (λ r. one_if (is_some (if_on r (target_in a)))) rs in
-    let none = sum_by-le-sum_by (λ r. one_if (is_some (if_so (is_on r f) no_fixed))) (λ r. 0) rs (λ r. nothing (is_on r f)) in
-    let z = sum_by-zero rs in
-    let rest = planned_once f rs a own in
-    omega arith
+once_with f rs p o a own left = by p o a left
   where
-    nothing : (b : Bool) → one_if (is_some (if_so b no_fixed)) ≤ 0
-    nothing true = omega arith
-    nothing false = omega arith
-once_with f rs true (Some x) a own left = absurd (false≢true (sym (left refl)))
-once_with f rs false o a own left =
-    let split = sum_by-add (λ r. one_if (is_some (if_so (is_on r f) o))) (λ r. 0) rs in
-    let z = sum_by-zero rs in
-    let rest = left_once f rs o own in
-    omega arith
+    no_fixed : Bool → Option FixedRecord
+    no_fixed b = if_so b None
+
+    none : (b : Bool) → one_if (is_some (no_fixed b)) ≡ 0
+    none true = refl
+    none false = refl
+
+    one : {Y : Type 0} (b : Bool) (o : Option Y) → one_if (is_some (if_so b o)) ≤ one_if b
+    one true None = omega arith
+    one _ _ = omega arith
+
+    at_most : (s : Option (List ℕ)) → one_if (is_some s) ≤ 1
+    at_most None = omega arith
+    at_most (Some s) = omega arith
+
+    by : (p : Bool) (o : Option FixedRecord) (a : AimResult) → (is_some o ≡ true → p ≡ false)
+        → sum_by (λ r. one_if (is_some (if_so (is_on r f) o)) + one_if (is_some (if_so p (if_on r (target_in a))))) rs + one_if (is_some (if_so p (blocked_in f.name a))) ≤ 1
+    by true None (Ready t) left =
+        let all = once (Some t.runway) (λ r. one_if (is_some (no_fixed (is_on r f))) + one_if (is_some (if_on r (Some t)))) rs own (λ r. let n = none (is_on r f) in let m = one (same_name t.runway r) (Some t) in omega arith) in
+        omega arith
+    by true None (Early rule) left = let all = once None (λ r. one_if (is_some (no_fixed (is_on r f))) + 0) rs own (λ r. let n = none (is_on r f) in omega arith) in omega arith
+    by true (Some x) a left = absurd (false≢true (sym (left refl)))
+    by false o a left = let all = once f.runway (λ r. one_if (is_some (if_so (is_on r f) o)) + 0) rs own (λ r. let m = one (is_on r f) o in omega arith) in let few = at_most f.runway in omega arith
 
 -- each flight counts once at the most
 each_once : (times : TaxiTimes) (now : ℕ) (f : Record) (rs : List (List ℕ)) → IsDistinct same_name rs → sum_by (counted times now f) rs + one_if (is_some (early_at times now f)) ≤ 1
@@ -415,14 +365,13 @@ pub zipped_sizes : (fixed : List ℕ → List FixedRecord) (targets : List ℕ �
     → AllZip (λ r p. IsSequence r (fixed r.name) (targets r.name) p) runways plans
     → sum_by (λ p. length p.slots + length p.blocked) plans ≡ sum_by (λ r. length (fixed r) + length (targets r)) (map (λ (r : RunwayRules). r.name) runways)
 zipped_sizes fixed targets [] [] all = refl
-zipped_sizes fixed targets [] (p ∷ ps) all = absurd all
-zipped_sizes fixed targets (r ∷ rs) [] all = absurd all
 zipped_sizes fixed targets (r ∷ rs) (p ∷ ps) all =
     let a = sum_by-cons (λ p. length p.slots + length p.blocked) p ps in
     let b = sum_by-cons (λ r. length (fixed r) + length (targets r)) r.name (map (λ (r : RunwayRules). r.name) rs) in
     let size = all_shown r (fixed r.name) (targets r.name) p all.0 in
     let rest = zipped_sizes fixed targets rs ps all.1 in
     omega arith
+zipped_sizes fixed targets _ _ all = absurd all
 
 -- each runway can be sequenced
 pub can_sequence : (times : TaxiTimes) (now : ℕ) (fs : List Record) → IsDistinct same_name (map (λ f. f.name) fs) → length fs ≤ 2000 → (r : List ℕ)
@@ -436,20 +385,8 @@ can_sequence times now fs own few r = record {
 pub planned_are : (fs : List Record) → All (λ f. is_planned f.status ≡ true) (planned_of fs)
 planned_are fs = filter_passes (λ f. is_planned f.status) fs
 
--- what goes together goes together in a weaker way
-pub AllZip-weaker : {X Y : Type 0} (R S : X → Y → Type 0) → ((x : X) (y : Y) → R x y → S x y) → (xs : List X) (ys : List Y) → AllZip R xs ys → AllZip S xs ys
-AllZip-weaker R S h [] [] all = tt
-AllZip-weaker R S h [] (y ∷ ys) all = absurd all
-AllZip-weaker R S h (x ∷ xs) [] all = absurd all
-AllZip-weaker R S h (x ∷ xs) (y ∷ ys) all = (h x y all.0, AllZip-weaker R S h xs ys all.1)
-
 -- the flights of a runway among lent ones
 pub fixed_on-lent : (r : List ℕ) (fs : List (Bor Record)) → filter_map (λ f. fixed_flight f.now) (filter (λ f. is_on r f.now) fs) ≡ fixed_on r (map (λ f. f.now) fs)
-unfolding fixed_on
-fixed_on-lent r [] = refl
-fixed_on-lent r (f ∷ fs) = by (is_on r f.now) (fixed_on-lent r fs)
-  where
-    by : (b : Bool) → filter_map (λ f. fixed_flight f.now) (filter (λ f. is_on r f.now) fs) ≡ filter_map fixed_flight (filter (is_on r) (map (λ f. f.now) fs))
-        → filter_map (λ f. fixed_flight f.now) (cond b (f ∷ filter (λ f. is_on r f.now) fs) (filter (λ f. is_on r f.now) fs)) ≡ filter_map fixed_flight (cond b (f.now ∷ filter (is_on r) (map (λ f. f.now) fs)) (filter (is_on r) (map (λ f. f.now) fs)))
-    by true h = ap (cons_option (fixed_flight f.now)) h
-    by false h = h
+fixed_on-lent r fs =
+    filter_map-filter (λ (f : Bor Record). fixed_flight f.now) (λ f. is_on r f.now) fs
+    ∙ sym (fixed_on-given r (map (λ (f : Bor Record). f.now) fs) ∙ filter_map-map (fixed_at r) (λ (f : Bor Record). f.now) fs)

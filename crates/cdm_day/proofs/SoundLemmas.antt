@@ -1,26 +1,8 @@
 -- A day stays sound with every update that no word refuses.
-use Rattle.std.proofs.Common.{◌≡◌, ℕ, ◌+◌, ◌≤◌, Bool, true, false, not, ◌&&◌, ◌||◌, List, [], ◌∷◌, ◌++◌, length, Option, None, Some, refl, sym, ap, ◌∙◌, subst, true≢false, arith, length-append}
-use Rattle.std.specs.Prelude.{if◌then◌else◌, nat_le, count_by, is_some}
-use Rattle.std.proofs.lemmas.Bool.Decides.{nat_tests}
-use Rattle.std.specs.Option.{option_map_or, option_or}
-use Rattle.std.specs.List.{list_any, IsDistinct}
-use Rattle.std.specs.Cmp.Lexicographic.{same_text}
-use Rattle.std.proofs.lemmas.Cmp.{nat_list_eq_equiv}
-use Rattle.std.proofs.lemmas.List.{append-nil}
-use Rattle.std.proofs.lemmas.Map.Keys.{IsDistinct-push}
-use Rattle.cdm_flight.specs.declared.update.Update.{Update}
-use Rattle.cdm_flight.specs.declared.update.Update.TheVariants.{Flt, Taxi}
-use Rattle.cdm_flight.specs.declared.word.RefusalWord.TheVariants.{Unknown, Exists, Ended, OffBlock, Order, NotReady, Full}
-use Rattle.cdm_flight.specs.Names.{same_name}
-use Rattle.cdm_flight.specs.Step.{flight_of_update, is_fresh, is_air}
-use Rattle.cdm_flight.specs.Taxi.{is_one_stand_too_many}
-use Rattle.cdm_flight.specs.Journal.{AirportRows, touches, makes_known, sets_runway, is_known, flight_of, runway_of}
-use Rattle.cdm_flight.specs.Accepted.{has_runway, has_ended, has_left, of_flight, is_unknown, is_known_already, is_disordered, is_unready, is_full, stands_with_rows, refusal_of}
-use Rattle.cdm_flight.proofs.JournalLemmas.{last_value-push}
-use Rattle.cdm_flight.proofs.Lists.{list_any-push}
-use Rattle.cdm_day.specs.Day.{Day, flights_in, with_update}
-use Rattle.cdm_day.specs.Sound.{IsSound}
-use Rattle.cdm_day.proofs.JournalFacts.{flights_in-push}
+use Rattle.std.proofs.Common.{◌≡◌, ℕ, ◌≤◌, Bool, true, false, not, ◌||◌, List, [], ◌∷◌, ◌++◌, length, Option, None, Some, refl, sym, ap, ◌∙◌, subst, true≢false, arith, length-append}
+use Rattle.cdm_day.proofs.ListWords.{false_from_ne_true, nat_le, count_by, is_some, or_parts, nat_tests, option_or, list_any, IsDistinct, nat_list_eq_equiv, append-nil, IsDistinct-push, list_any-push}
+use Rattle.cdm_day.proofs.DayWords.{Update, same_name, flight_of_update, is_fresh, is_one_stand_too_many, AirportRows, touches, makes_known, sets_runway, is_known, flight_of, runway_of, same_name-refl, has_runway, is_unknown, is_full, stands_with_rows, refusal_of, last_value-push, Day, flights_in, with_update, IsSound, Flt, Taxi}
+use Rattle.cdm_day.proofs.JournalFacts.{accepted_is, flights_in-push, some_named}
 use Rattle.cdm_day.proofs.WordLemmas.{flt-accepted, known_from, known_is, named_runway}
 
 -- a flight is known where it is among those that were made known
@@ -30,34 +12,13 @@ known-among (Flt g p ∷ a) f = λ i. nat_list_eq_equiv.symm g f i || known-amon
 known-among (_ ∷ a) f = known-among a f
 
 -- what no word refuses finds room in the journal
-room_left : (g : AirportRows) (a : List Update) (u : Update) → refusal_of g a u ≡ None → length a + 1 ≤ 20000
-unfolding refusal_of
-room_left g a u good = last (is_unknown g a u) (is_known_already a u) (of_flight (has_ended a) u) (of_flight (has_left a) u && not (is_air u)) (is_disordered g a u) (is_unready g a u) (is_full g a u) (nat_le 20000 (length a)) (full_if u) refl good
-  where
-    full_if : (v : Update) → nat_le 20000 (length a) ≡ true → is_full g a v ≡ true
-    full_if (Flt f p) h = ap (λ b. b || nat_le 2000 (count_by is_fresh a)) h
-    full_if (Taxi place r minutes) h = ap (λ b. b || is_one_stand_too_many (stands_with_rows g a) place) h
-    full_if _ h = h
+room_left : (g : AirportRows) (a : List Update) (u : Update) → is_full g a u ≡ false → nat_le 20000 (length a) ≡ false
+room_left g a (Flt f p) h = (or_parts (nat_le 20000 (length a)) (nat_le 2000 (count_by is_fresh a)) h).0
+room_left g a (Taxi place r minutes) h = (or_parts (nat_le 20000 (length a)) (is_one_stand_too_many (stands_with_rows g a) place) h).0
+room_left g a _ h = h
 
-    last : (b1 b2 b3 b4 b5 b6 b7 b : Bool) → (b ≡ true → b7 ≡ true) → nat_le 20000 (length a) ≡ b
-        → (if b1 then Some Unknown else if b2 then Some Exists else if b3 then Some Ended else if b4 then Some OffBlock else if b5 then Some Order else if b6 then Some NotReady else if b7 then Some Full else None) ≡ None → length a + 1 ≤ 20000
-    last true b2 b3 b4 b5 b6 b7 b full e h = cc
-    last false true b3 b4 b5 b6 b7 b full e h = cc
-    last false false true b4 b5 b6 b7 b full e h = cc
-    last false false false true b5 b6 b7 b full e h = cc
-    last false false false false true b6 b7 b full e h = cc
-    last false false false false false true b7 b full e h = cc
-    last false false false false false false true b full e h = cc
-    last false false false false false false false true full e h = absurd (true≢false (sym (full refl)))
-    last false false false false false false false false full e h = grind (arith, nat_tests)
-
-first_none : {X : Type 0} (b : Bool) (w : X) (rest : Option X) → (if b then Some w else rest) ≡ None → b ≡ false
-first_none true w rest h = cc
-first_none false w rest h = refl
-
-none_of : (b c : Bool) → (b || c) ≡ false → (b ≡ false) × (c ≡ false)
-none_of true c h = cc
-none_of false c h = (refl, h)
+push_short : (a : List Update) (u : Update) → nat_le 20000 (length a) ≡ false → length (a ++ u ∷ []) ≤ 20000
+push_short a u h = grind (arith, nat_tests, length-append)
 
 makes-fresh : (u : Update) (f q : List ℕ) → flight_of_update u ≡ Some f → is_fresh u ≡ true → makes_known q u ≡ same_name f q
 makes-fresh (Flt g p) f q e h = let same : g ≡ f = cc in ap (λ x. same_name x q) same
@@ -65,36 +26,27 @@ makes-fresh _ f q e h = absurd (true≢false (sym h))
 
 module _ (d : Day) (u : Update) (sound : IsSound d) (good : refusal_of d.airport d.journal u ≡ None) where
   pub known_update : is_unknown d.airport d.journal u ≡ false
-  unfolding refusal_of
-  known_update = first_none (is_unknown d.airport d.journal u) Unknown _ good
+  known_update = (accepted_is d.airport d.journal u good).known
 
-  -- another update than FLT is of a flight that is known
+  -- its flight is known, where it is another than FLT
+  pub unknown_as : (f : List ℕ) → flight_of_update u ≡ Some f → is_fresh u ≡ false → is_unknown d.airport d.journal u ≡ not (is_known d.journal f)
+  unknown_as f e old = known_update ∙ sym (ap not (known_from d.airport d.journal f u e old known_update))
+
   pub never_absent : (f : List ℕ) → flight_of_update u ≡ Some f → is_fresh u ≡ false → flight_of d.airport d.journal f ≡ None → ⊥
   never_absent f e old none = true≢false (sym (known_from d.airport d.journal f u e old known_update) ∙ (known_is d sound f ∙ ap is_some none))
 
   untouched : (q : List ℕ) → makes_known q u ≡ false → is_known d.journal q ≡ false → touches q u ≡ false
-  untouched q new old = by (flight_of_update u) refl
+  untouched q new old = false_from_ne_true (touches q u) (λ e. by (some_named (flight_of_update u) q e) (is_fresh u) refl)
     where
-      of : (f : List ℕ) → flight_of_update u ≡ Some f → (b : Bool) → same_name f q ≡ b → b ≡ false
-      of f e false k = refl
-      of f e true k = by_kind (is_fresh u) refl
-        where
-          same : f ≡ q
-          same = same_text f q (sym k)
-
-          by_kind : (b : Bool) → is_fresh u ≡ b → true ≡ false
-          by_kind true h = sym k ∙ (sym (makes-fresh u f q e h) ∙ new)
-          by_kind false h = sym (known_from d.airport d.journal f u e h known_update) ∙ (ap (is_known d.journal) same ∙ old)
-
-      by : (o : Option (List ℕ)) → flight_of_update u ≡ o → option_map_or (λ g. same_name g q) o false ≡ false
-      by None e = refl
-      by (Some f) e = of f e (same_name f q) refl
+      by : flight_of_update u ≡ Some q → (b : Bool) → is_fresh u ≡ b → ⊥
+      by e true h = true≢false (sym (makes-fresh u q q e h ∙ same_name-refl q) ∙ new)
+      by e false h = true≢false (sym (known_from d.airport d.journal q u e h known_update) ∙ old)
 
   pub sound_after : IsSound (with_update d u)
   sound_after = record {
     airport = sound.airport;
-    silent = λ q h. silent q (none_of (makes_known q u) (is_known d.journal q) (sym (list_any-push (makes_known q) d.journal u) ∙ h));
-    short = rw (length-push d.journal u) (room_left d.airport d.journal u good);
+    silent = λ q h. silent q (or_parts (makes_known q u) (is_known d.journal q) (sym (list_any-push (makes_known q) d.journal u) ∙ h));
+    short = push_short d.journal u (room_left d.airport d.journal u (accepted_is d.airport d.journal u good).room);
     names = names u good;
     few = few u good;
     runways = λ q s h. by (sets_runway q u) q refl s (sym (last_value-push (sets_runway q) d.journal u) ∙ h);
@@ -102,9 +54,6 @@ module _ (d : Day) (u : Update) (sound : IsSound d) (good : refusal_of d.airport
     where
       silent : (q : List ℕ) → (makes_known q u ≡ false) × (is_known d.journal q ≡ false) → list_any (touches q) (d.journal ++ u ∷ []) ≡ false
       silent q h = list_any-push (touches q) d.journal u ∙ rw (untouched q h.0 h.1) (sound.silent q h.1)
-
-      length-push : (a : List Update) (v : Update) → length (a ++ v ∷ []) ≡ length a + 1
-      length-push a v = simp length-append (omega arith)
 
       names : (v : Update) → refusal_of d.airport d.journal v ≡ None → IsDistinct same_name (flights_in (d.journal ++ v ∷ []))
       names (Flt f p) ok =

@@ -9,7 +9,7 @@ ghost use Rattle.cdm_day.specs.Day.{rules_in};
 ghost use Rattle.cdm_day.specs.DayPlan.{IsDayPlan, records_in};
 ghost use Rattle.cdm_day.specs.Sound.{IsSound};
 ghost use Rattle.cdm_day.specs.inner.Aimed.{CanSequence, early_among, target_for};
-ghost use Rattle.cdm_day.specs.inner.Kept.{AreKept, IsMade};
+ghost use Rattle.cdm_day.specs.inner.Kept.{AreKept, IsMade, Together, kept_plan};
 
 use crate::aimed::{Aimed, blocked, planned_flights, targets_on_runway};
 use crate::jobs::{RunwayJob, TargetJob};
@@ -93,7 +93,7 @@ fn by_name(plans: Vec<RunwayPlan>) -> Vec<RunwayPlan>
 
 // The plan of a day, from what its planned flights could have, and from plans of runways that stand
 // and others that were made.
-pub(crate) fn joined(
+fn joined(
     alloc: Global,
     aims: &[Aimed],
     kept: Vec<RunwayPlan>,
@@ -114,6 +114,25 @@ pub(crate) fn joined(
         runways: Listed::new(plans),
         blocked: Listed::new(blocked),
     })
+}
+
+/// The plan of the day, from what its planned flights could have, from the plans of runways that stand
+/// and from those that were made.
+pub(crate) fn plan_together<D: Records>(
+    alloc: Global,
+    records: &D,
+    kept: &Kept,
+    runways: &[&Runway],
+    aims: &[Aimed],
+    made: Vec<RunwayPlan>,
+) -> Result<Plan, AllocError>
+    requires { Together (D.day records.now) aims.now
+        (filter_map (λ r. kept_plan kept.now.touched.now kept.now.plans.now r.now.name) runways.now ++ made.items) }
+    ensures { IfOk result (λ plan. IsMade (D.day records.now) plan) }
+{
+    let copies = kept.copied_plans(alloc, runways)?;
+    let plan = joined(alloc, aims, copies, made, records.now())?;
+    Ok(plan)
 }
 
 // All flights in the order of first appearance.
@@ -185,7 +204,6 @@ pub(crate) fn plan_keeping<D: Records>(
         aims: &aims,
     };
     let made = run_here(alloc, &job, &left)?;
-    let copies = kept.copied_plans(alloc, &runways)?;
-    let plan = joined(alloc, &aims, copies, made, records.now())?;
+    let plan = plan_together(alloc, records, kept, &runways, &aims, made)?;
     Ok(plan)
 }

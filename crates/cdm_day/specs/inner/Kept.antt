@@ -1,5 +1,5 @@
 -- Which runways updates touch, and the plans of the others, which stand.
-use Rattle.std.specs.Prelude.{◌≡◌, ℕ, ◌||◌, Bool, true, false, List, Contains, Option, None, Some, if◌then◌else◌}
+use Rattle.std.specs.Prelude.{◌≡◌, ℕ, ◌+◌, ◌≤◌, ◌||◌, Bool, true, false, List, Contains, length, sum_by, Option, None, Some, if◌then◌else◌}
 use Rattle.std.specs.List.{find, list_any}
 use Rattle.std.specs.Option.{option_map_or}
 use Rattle.cdm_flight.specs.declared.airport.RunwayRow.{RunwayRow}
@@ -13,11 +13,13 @@ use Rattle.cdm_sequence.specs.Fixed.{FixedRecord}
 use Rattle.cdm_sequence.specs.Sequence.{IsSequence}
 use Rattle.cdm_sequence.specs.Slots.{PlanRecord, RunwayPlanRecord}
 use Rattle.cdm_sequence.specs.declared.aims.AimResult.{AimResult}
+use Rattle.cdm_day.specs.declared.aimed.Aimed.{Aimed}
 use Rattle.cdm_day.specs.declared.touched.Touched.{Touched}
+use Rattle.cdm_day.specs.inner.Aimed.{early_among}
 use Rattle.cdm_day.specs.Airport.{IsAirport}
 use Rattle.cdm_day.specs.Day.{Day, rules_in, rules_of}
 use Rattle.cdm_day.specs.DayPlan.{IsDayPlan, records_in}
-use Rattle.cdm_day.specs.Planning.{AreAims, fixed_on, is_on, targets_in, targets_on}
+use Rattle.cdm_day.specs.Planning.{AreAims, HasParts, fixed_on, is_on, targets_in, targets_on}
 
 -- the runway is one of those that were touched
 abbrev pub is_touched : Touched → List ℕ → Bool
@@ -65,3 +67,8 @@ pub record IsMade (d : Day) (plan : PlanRecord) : Type 0 where
   pub airport : IsAirport d.airport
   pub of_day : IsDayPlan d plan
   pub only : (other : PlanRecord) → IsDayPlan d other → other ≡ plan
+
+-- few enough plans, which make the day's
+pub record Together (d : Day) (aims : List Aimed) (plans : List RunwayPlanRecord) : Type 0 where
+  pub few : sum_by (λ p. length p.slots + length p.blocked) plans + length (early_among aims) ≤ 2000
+  pub made : (plan : PlanRecord) → plan.clock ≡ now_of d.journal → HasParts (early_among aims) plans plan → IsMade d plan

@@ -1,6 +1,5 @@
 use Rattle.std.proofs.Common.{sym, ◌∙◌, subst}
-use Rattle.cdm_day.specs.Day.{Day}
-use Rattle.cdm_day.specs.inner.Kept.{IsSince}
+use Rattle.cdm_day.proofs.DayWords.{Day, IsSince}
 use Rattle.cdm_day.proofs.KeptLemmas.{since_itself}
 use Rattle.cdm_day.proofs.day.DayState.draft.Goals as goal
 

@@ -1,8 +1,6 @@
 use Rattle.std.proofs.Common.{sym, ap, ◌∙◌, subst, List}
-use Rattle.std.specs.Arc.{arc_value}
-use Rattle.cdm_sequence.specs.Slots.{PlanRecord, RunwayPlanRecord}
-use Rattle.cdm_day.specs.Day.{Day}
-use Rattle.cdm_day.specs.inner.Kept.{AreKept, IsSince}
+use Rattle.cdm_day.proofs.ListWords.{arc_value}
+use Rattle.cdm_day.proofs.DayWords.{PlanRecord, RunwayPlanRecord, Day, AreKept, IsSince}
 use Rattle.cdm_day.proofs.KeptLemmas.{kept_since}
 use Rattle.cdm_day.proofs.day.DayState.kept.Goals as goal
 

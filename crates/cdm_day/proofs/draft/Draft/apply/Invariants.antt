@@ -1,6 +1,5 @@
 use Rattle.std.proofs.Common.{drop}
-use Rattle.cdm_day.specs.Day.{Day}
-use Rattle.cdm_day.specs.inner.Kept.{IsSince}
+use Rattle.cdm_day.proofs.DayWords.{Day, IsSince}
 use Rattle.cdm_day.proofs.BatchLemmas.{SoFar}
 use Rattle.cdm_day.proofs.draft.Draft.apply.Given as goal
 

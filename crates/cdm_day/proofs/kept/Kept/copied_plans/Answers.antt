@@ -1,11 +1,6 @@
 use Rattle.std.proofs.Common.{Bor, ◌<◌, ◌++◌, ◌∷◌, [], Option, length, take, sym, ◌∙◌, ap, arith}
-use Rattle.std.specs.List.{cons_option, filter_map}
-use Rattle.std.specs.Option.{option_copied}
-use Rattle.std.proofs.lemmas.List.{append-nil, take_more}
-use Rattle.std.proofs.lemmas.List.Elements.{filter_map-append}
-use Rattle.cdm_runway.specs.Rules.{RunwayRules}
-use Rattle.cdm_sequence.specs.Slots.{RunwayPlanRecord}
-use Rattle.cdm_day.specs.inner.Kept.{kept_plan}
+use Rattle.cdm_day.proofs.ListWords.{cons_option, filter_map, option_copied, append-nil, take_more, filter_map-append}
+use Rattle.cdm_day.proofs.DayWords.{RunwayRules, RunwayPlanRecord, kept_plan}
 use Rattle.cdm_day.proofs.kept.Kept.copied_plans.Goals.{in-Some+in_ok-copied+in_ok-push, in_default}
 use Rattle.cdm_day.proofs.kept.Kept.copied_plans.Goals as goal
 

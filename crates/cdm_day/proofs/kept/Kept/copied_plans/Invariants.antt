@@ -1,6 +1,6 @@
 use Rattle.std.proofs.Common.{◌≡◌, take}
-use Rattle.std.specs.List.{filter_map}
-use Rattle.cdm_day.specs.inner.Kept.{kept_plan}
+use Rattle.cdm_day.proofs.ListWords.{filter_map}
+use Rattle.cdm_day.proofs.DayWords.{kept_plan}
 use Rattle.cdm_day.proofs.kept.Kept.copied_plans.Given as goal
 
 abbrev pub invariant-loop-runway : goal.invariant-loop-runway

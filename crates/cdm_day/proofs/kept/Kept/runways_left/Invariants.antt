@@ -1,5 +1,5 @@
 use Rattle.std.proofs.Common.{◌≡◌, filter, is_none, take}
-use Rattle.cdm_day.specs.inner.Kept.{kept_plan}
+use Rattle.cdm_day.proofs.DayWords.{kept_plan}
 use Rattle.cdm_day.proofs.kept.Kept.runways_left.Given as goal
 
 abbrev pub invariant-loop-runway : goal.invariant-loop-runway

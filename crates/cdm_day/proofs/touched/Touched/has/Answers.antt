@@ -1,9 +1,9 @@
 use Rattle.std.proofs.Common.{rules, List, ℕ, sym, ap, ◌∙◌, ◌||◌}
 use borrow.Author.Tests.{tests}
-use Rattle.std.specs.List.{list_any}
+use Rattle.cdm_day.proofs.ListWords.{list_any}
+use Rattle.cdm_day.proofs.DayWords.{same_name}
 use Rattle.std.proofs.lemmas.Iterator.{YieldsList-from_slice}
 use Rattle.std.proofs.lemmas.Iterator.Search.{any_from_yields_List}
-use Rattle.cdm_flight.specs.Names.{same_name}
 use Rattle.cdm_day.proofs.touched.Touched.has.Goals as goal
 
 pub returns-else-self : goal.returns-else-self
