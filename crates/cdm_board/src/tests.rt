@@ -1,6 +1,7 @@
-//! Desks on two threads, the limits of a board, and what-if questions over a snapshot.
+//! Desks on two threads, the limits of a board, what-if questions over a snapshot, and refused memory.
 
 pub mod days;
 pub mod desks;
 mod limits;
 mod meanwhile;
+mod memory;

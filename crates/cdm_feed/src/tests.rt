@@ -1,4 +1,6 @@
-//! What files can't show: devices that give or take little or fail, the limits, workers that meet.
+//! What files can't show: devices that give or take little or fail, the limits, workers that meet, refused
+//! memory.
+mod memory;
 mod runs;
 
 use crate::{Device, FileFault, Input, InputFault, RunError, WriteFault, read_input, write_text};

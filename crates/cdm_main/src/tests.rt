@@ -1,5 +1,7 @@
-//! What no clause says: the command line, the lines of faults, and that two desks run side by side.
+//! What no clause says: the command line, the lines of faults, that two desks run side by side, and what is
+//! answered where memory is refused.
 mod live;
+mod memory;
 
 use super::*;
 use crate::live_error::LiveError;

@@ -130,7 +130,7 @@ fn desks_and_batches_are_counted(rt: HostRuntime) -> Result<(), Fail> {
     Ok(())
 }
 
-/// Sixteen desks on two threads make 4,096 calls, and one more is refused.
+/// Sixteen desks on two threads make 4,096 calls, and one more is refused, a look or a post.
 #[test]
 fn a_history_is_full(rt: HostRuntime) -> Result<(), Fail> {
     let alloc = rt.alloc();
@@ -139,6 +139,9 @@ fn a_history_is_full(rt: HostRuntime) -> Result<(), Fail> {
     let mut last = desks.pop().ok_or("no desk")?;
     let refusal = look_refusal(&rt, alloc, &board, &mut last);
     assert_eq!(rt; refusal, Some(BoardError::HistoryFull(4_096)));
+    let refusal = replies(&rt, alloc, &board, &mut last, 0).err();
+    assert_eq!(rt; refusal, Some(BoardError::HistoryFull(4_096)));
+    assert_eq!(rt; last.calls(), 256);
     desks.push(last)?;
     assert_eq!(rt; entries(board, desks), Some(4_096));
     Ok(())

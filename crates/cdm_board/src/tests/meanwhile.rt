@@ -47,8 +47,8 @@ fn closed() -> Option<Update> {
     Some(Update::Close { runway, from, to })
 }
 
-// Whether the day has so many updates, and these take-off minutes on its one runway.
-fn is_day(day: &DayState, updates: usize, minutes: &[u16]) -> bool {
+/// Whether the day has so many updates, and these take-off minutes on its one runway.
+pub fn is_day(day: &DayState, updates: usize, minutes: &[u16]) -> bool {
     let [runway] = day.plan().runways.as_slice() else {
         return false;
     };
@@ -80,6 +80,15 @@ fn question(alloc: Global, update: Update) -> Option<Scenario> {
     let mut scenario = Scenario::empty(alloc, ScenarioName::new(b"SHUT")?);
     scenario.add(update).ok()?;
     Some(scenario)
+}
+
+/// The question what becomes of a day by the closure, asked for once more where memory was refused.
+pub fn asked(alloc: Global) -> Option<Scenario> {
+    let closure = closed()?;
+    match question(alloc, closure) {
+        Some(scenario) => Some(scenario),
+        None => question(alloc, closure),
+    }
 }
 
 // Whether two workers answer what becomes of the snapshot's day by the closure.

@@ -9,8 +9,8 @@ use std::sync::atomic::{AtomicBool, AtomicUsize, Ordering};
 use std::test::Fail;
 use std::thread::{Threads, yield_now};
 
-// An airport with two runways, on each of which two flights take off in ten minutes.
-const AIRPORT: &str = "\
+/// An airport with two runways, on each of which two flights take off in ten minutes.
+pub const AIRPORT: &str = "\
 DAY,2025-03-10
 RUNWAY,27L,10,2
 TAXI,*,27L,15
@@ -18,8 +18,8 @@ RUNWAY,09,10,2
 TAXI,*,09,15
 ";
 
-// A flight on each runway, ready at 06:00, and a CTOT of an operator.
-const FEED: &str = "\
+/// A flight on each runway, ready at 06:00, and a CTOT of an operator.
+pub const FEED: &str = "\
 AP,FLT,AB1,5
 ATC,RWY,AB1,27L
 AO,TOBT,AB1,2025-03-10T06:00Z
@@ -29,8 +29,8 @@ AO,TOBT,AB2,2025-03-10T06:00Z
 AO,CTOT,AB1,2025-03-10T06:40Z
 ";
 
-// Their report.
-const REPORT: &str = "\
+/// Their report.
+pub const REPORT: &str = "\
 DAY 2025-03-10 NOW 100000
 RUNWAY 09
 AB2     100600   15 ------ 100600 100615 P    0
@@ -40,8 +40,8 @@ TOTAL PLACED 2 DELAY 0 MAX 0 LATE 0 BLOCKED 0
 REFUSED 7 AUTHORITY
 ";
 
-// Two questions, of which the second can't be answered.
-const SCENARIOS: &str = "\
+/// Two questions, of which the second can't be answered.
+pub const SCENARIOS: &str = "\
 SCENARIO,SHUT
 CLOSE,27L,2025-03-10T06:10Z,2025-03-10T06:30Z
 SCENARIO,BAD
@@ -49,8 +49,8 @@ PRIO,AB2,1
 TOBT,XY9,2025-03-10T06:00Z
 ";
 
-// Their answers.
-const ANSWERS: &str = "\
+/// Their answers.
+pub const ANSWERS: &str = "\
 SCENARIO SHUT
 DAY 2025-03-10 NOW 100000
 RUNWAY 09
@@ -214,7 +214,6 @@ fn fault_with<R: AllocGlobal + Threads + Sync + Abort>(
 
 #[test]
 fn failing_reads_and_refused_inputs(rt: HostRuntime) -> Result<(), Fail> {
-    let long = vec![in rt.alloc(); b'\n'; 8_388_609]?;
     let table = [
         (Input::Airport, AIRPORT),
         (Input::Feed, FEED),
@@ -227,8 +226,16 @@ fn failing_reads_and_refused_inputs(rt: HostRuntime) -> Result<(), Fail> {
             let fault = (read > 0).then_some(RunError::Read(input));
             assert_eq!(rt; fault_with(&rt, input, source), fault, "at read {read}");
         }
+        // Blank lines follow it up to one byte more than an input may have, and then without that byte.
+        let mut long = vec![in rt.alloc(); b'\n'; 8_388_609]?;
+        for (place, byte) in long.iter_mut().zip(text.as_bytes()) {
+            *place = *byte;
+        }
         let fault = fault_with(&rt, input, Source::new(&long, usize::MAX, 0));
         assert_eq!(rt; fault, Some(RunError::TooLong(input)));
+        long.pop();
+        let fault = fault_with(&rt, input, Source::new(&long, usize::MAX, 0));
+        assert_eq!(rt; fault, None);
     }
     let source = Source::new(b"CNL,AB1\n", usize::MAX, 0);
     let fault = RunError::Scenario(1, RefusalWord::Order);

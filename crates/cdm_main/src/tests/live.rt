@@ -1,4 +1,4 @@
-//! Live runs: two desks that meet, and feeds that fill a board.
+//! Live runs: two desks that meet, feeds that fill a board, devices that fail.
 use crate::live_error::LiveError;
 use crate::live_run::{LiveCounts, run_live};
 use cdm_feed::{Device, Input};
@@ -12,26 +12,26 @@ use std::sync::atomic::{AtomicBool, AtomicUsize, Ordering};
 use std::test::Fail;
 use std::thread::{Threads, yield_now};
 
-const AIRPORT: &str = "\
+pub const AIRPORT: &str = "\
 DAY,2025-03-10
 RUNWAY,27L,10,2
 TAXI,*,27L,15
 TAXI,A1,27L,10
 ";
 
-const FEED1: &str = "\
+pub const FEED1: &str = "\
 AP,FLT,AB1,5
 ATC,RWY,AB1,27L
 AO,TOBT,AB1,2025-03-10T06:00Z
 ";
 
-const FEED2: &str = "\
+pub const FEED2: &str = "\
 AP,FLT,CD2,5
 ATC,RWY,CD2,27L
 AO,TOBT,CD2,2025-03-10T06:00Z
 ";
 
-const TEXT: &str = "\
+pub const TEXT: &str = "\
 DAY 2025-03-10 NOW 100000
 RUNWAY 27L
 AB1     100600   15 ------ 100600 100615 P    0
@@ -74,20 +74,31 @@ impl Read for Source<'_> {
     }
 }
 
-// A writer that takes a byte at a time, fails at its write of this number, from 1, and may fail at its flush.
+// Where a writer stops: at a write of this number, from 1, by an error or by no byte, or at its flush.
+#[derive(Clone, Copy, PartialEq, Eq, Debug)]
+enum Stop {
+    Never,
+    Error(usize),
+    NoByte(usize),
+    Flush,
+}
+
+// A writer that takes a byte at a time.
 #[derive(Drop)]
 struct Sink {
     text: Vec<u8>,
-    fails_at: usize,
-    flush_fails: bool,
+    stop: Stop,
     writes: usize,
 }
 
 impl Write for Sink {
     fn write(&mut self, buf: &[u8]) -> io::Result<usize> {
         self.writes = self.writes.saturating_add(1);
-        if self.writes == self.fails_at {
+        if self.stop == Stop::Error(self.writes) {
             return Err(Error::from(ErrorKind::Interrupted));
+        }
+        if self.stop == Stop::NoByte(self.writes) {
+            return Ok(0);
         }
         let count = buf.len().min(1);
         self.text.extend_from_slice(&buf[..count])?;
@@ -95,21 +106,16 @@ impl Write for Sink {
     }
 
     fn flush(&mut self) -> io::Result<()> {
-        if self.flush_fails {
+        if self.stop == Stop::Flush {
             return Err(Error::from(ErrorKind::Interrupted));
         }
         Ok(())
     }
 }
 
-// The files of two desks, of which the input of this place, if there is one, fails at this read.
-fn files(failing: usize, fails_at: usize) -> [Source<'static>; 3] {
-    let at = |place: usize| if place == failing { fails_at } else { 0 };
-    [
-        Source::new(AIRPORT.as_bytes(), 1, at(0)),
-        Source::new(FEED1.as_bytes(), 1, at(1)),
-        Source::new(FEED2.as_bytes(), 1, at(2)),
-    ]
+// The files of two desks.
+fn files() -> [Source<'static>; 3] {
+    [AIRPORT, FEED1, FEED2].map(|text| Source::new(text.as_bytes(), 1, 0))
 }
 
 // What a live run answers, and what it has written.
@@ -117,14 +123,12 @@ fn run_of<R: AllocGlobal + Threads + Wait + Sync + Abort>(
     rt: &R,
     files: [Source<'_>; 3],
     gate: &impl Gate,
-    fails_at: usize,
-    flush_fails: bool,
+    stop: Stop,
 ) -> (Result<LiveCounts, LiveError>, Vec<u8>) {
     let [airport, feed1, feed2] = files;
     let mut out = Device::new(Sink {
         text: Vec::new(rt.alloc()),
-        fails_at,
-        flush_fails,
+        stop,
         writes: 0,
     });
     let answer = run_live(
@@ -147,7 +151,7 @@ fn run_feeds<R: AllocGlobal + Threads + Wait + Sync + Abort>(
     gate: &impl Gate,
 ) -> (Result<LiveCounts, LiveError>, Vec<u8>) {
     let files = [AIRPORT.as_bytes(), feed1, feed2].map(|text| Source::new(text, usize::MAX, 0));
-    run_of(rt, files, gate, 0, false)
+    run_of(rt, files, gate, Stop::Never)
 }
 
 // Holds each of two desks until the other has come, for so many turns at most.
@@ -217,36 +221,69 @@ fn feeds_may_fill_the_board(rt: HostRuntime) -> Result<(), Fail> {
     Ok(())
 }
 
-// Each read of each input fails in turn, the one at its end too, and nothing is written.
+// The fault of a run with this input in the place of the desks' own, before which nothing was written.
+// Without one, the desks' text was.
+fn fault_with<R: AllocGlobal + Threads + Wait + Sync + Abort>(
+    rt: &R,
+    input: Input,
+    source: Source<'_>,
+) -> Option<LiveError> {
+    let [airport, feed1, feed2] = files();
+    let files = match input {
+        Input::Airport => [source, feed1, feed2],
+        Input::Feed1 => [airport, source, feed2],
+        _ => [airport, feed1, source],
+    };
+    let (answer, text) = run_of(rt, files, &OpenGate, Stop::Never);
+    let wanted = if answer.is_ok() { TEXT } else { "" };
+    assert_eq!(rt; text.as_slice(), wanted.as_bytes());
+    answer.err()
+}
+
+// Each read of each input fails in turn, the one at its end too. Blank lines follow the input up to one
+// byte more than it may have, and then without that byte.
 #[test]
-fn failing_reads(rt: HostRuntime) {
+fn failing_reads(rt: HostRuntime) -> Result<(), Fail> {
     let table = [
         (Input::Airport, AIRPORT),
         (Input::Feed1, FEED1),
         (Input::Feed2, FEED2),
     ];
-    for (place, (input, text)) in table.iter().enumerate() {
-        for read in 1..text.len().saturating_add(2) {
-            let (answer, text) = run_of(&rt, files(place, read), &OpenGate, 0, false);
-            assert_eq!(rt;
-                answer.err(),
-                Some(LiveError::Read(*input)),
-                "at read {read}"
-            );
-            assert!(rt; text.is_empty());
+    for (input, text) in table {
+        for read in 0..=text.len().saturating_add(1) {
+            let source = Source::new(text.as_bytes(), 1, read);
+            let fault = (read > 0).then_some(LiveError::Read(input));
+            assert_eq!(rt; fault_with(&rt, input, source), fault, "at read {read}");
         }
+        let mut long = vec![in rt.alloc(); b'\n'; 8_388_609]?;
+        for (place, byte) in long.iter_mut().zip(text.as_bytes()) {
+            *place = *byte;
+        }
+        let fault = fault_with(&rt, input, Source::new(&long, usize::MAX, 0));
+        assert_eq!(rt; fault, Some(LiveError::TooLong(input)));
+        long.pop();
+        let fault = fault_with(&rt, input, Source::new(&long, usize::MAX, 0));
+        assert_eq!(rt; fault, None);
     }
+    Ok(())
 }
 
-// Each write fails in turn, and then the flush: a prefix was written.
+// Asserts that a run on a writer that stops here leaves this text, whole or a prefix.
+fn assert_writes<R: AllocGlobal + Threads + Wait + Sync + Abort>(rt: &R, stop: Stop, text: &[u8]) {
+    let (answer, written) = run_of(rt, files(), &OpenGate, stop);
+    let fault = (stop != Stop::Never).then_some(LiveError::Write);
+    assert_eq!(rt; answer.err(), fault, "{stop:?}");
+    assert_eq!(rt; written.as_slice(), text, "{stop:?}");
+}
+
+// Each write fails in turn or takes no byte, and then the flush fails: a prefix was written.
 #[test]
 fn failing_writes(rt: HostRuntime) {
-    for at in 0..TEXT.len() {
-        let (answer, text) = run_of(&rt, files(3, 0), &OpenGate, at + 1, false);
-        assert_eq!(rt; answer.err(), Some(LiveError::Write), "behind {at} bytes");
-        assert_eq!(rt; text.as_slice(), &TEXT.as_bytes()[..at]);
+    let text = TEXT.as_bytes();
+    assert_writes(&rt, Stop::Never, text);
+    assert_writes(&rt, Stop::Flush, text);
+    for at in 0..text.len() {
+        assert_writes(&rt, Stop::Error(at + 1), &text[..at]);
+        assert_writes(&rt, Stop::NoByte(at + 1), &text[..at]);
     }
-    let (answer, text) = run_of(&rt, files(3, 0), &OpenGate, 0, true);
-    assert_eq!(rt; answer.err(), Some(LiveError::Write));
-    assert_eq!(rt; text.as_slice(), TEXT.as_bytes());
 }
