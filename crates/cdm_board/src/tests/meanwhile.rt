@@ -76,18 +76,17 @@ fn finds_day<R: Wait>(
 }
 
 // The question what becomes of a day by the update.
-fn question(alloc: Global, update: Update) -> Option<Scenario> {
+fn question(alloc: Global, update: &Update) -> Option<Scenario> {
     let mut scenario = Scenario::empty(alloc, ScenarioName::new(b"SHUT")?);
-    scenario.add(update).ok()?;
+    scenario.add(*update).ok()?;
     Some(scenario)
 }
 
-/// The question what becomes of a day by the closure, asked for once more where memory was refused.
-pub fn asked(alloc: Global) -> Option<Scenario> {
-    let closure = closed()?;
-    match question(alloc, closure) {
-        Some(scenario) => Some(scenario),
-        None => question(alloc, closure),
+/// Asks what becomes of a day by the closure. False for want of memory.
+pub fn ask(scenario: &mut Scenario) -> bool {
+    match closed() {
+        Some(closure) => scenario.add(closure).is_ok(),
+        None => false,
     }
 }
 
@@ -99,7 +98,7 @@ fn is_answered<R: Threads + Sync>(
     closure: Update,
     gate: &UntilPosted,
 ) -> bool {
-    let (Some(workers), Some(scenario)) = (Workers::new(2), question(alloc, closure)) else {
+    let (Some(workers), Some(scenario)) = (Workers::new(2), question(alloc, &closure)) else {
         return false;
     };
     let Ok(outcomes) = what_if(rt, alloc, snapshot, &[scenario], workers, gate) else {

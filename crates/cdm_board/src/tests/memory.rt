@@ -2,11 +2,11 @@
 //! the same call then succeeds.
 use super::days::{day_of, planned};
 use super::desks::entries;
-use super::meanwhile::{asked, is_day};
+use super::meanwhile::{ask, is_day};
 use crate::{Board, BoardError, BoardState, Desk, OpenFault, Snapshot, what_if};
 use cdm_day::DayState;
 use cdm_phase::{OpenGate, Workers};
-use cdm_scenario::{Outcome, Scenario};
+use cdm_scenario::{Outcome, Scenario, ScenarioName};
 use std::alloc::Global;
 use std::process::Abort;
 use std::sync::Wait;
@@ -176,9 +176,12 @@ fn refused_memory_leaves_a_snapshot(rt: HostRuntime) -> Result<(), Fail> {
     let alloc = rt.alloc();
     let mut state = BoardState::new(alloc, day(alloc).ok_or("no day")?);
     let snapshot = state.look(alloc, 1).or_else(|_| state.look(alloc, 1))?;
-    let first = asked(alloc).ok_or("no question")?;
-    let second = asked(alloc).ok_or("no question")?;
-    let scenarios = [first, second];
+    let name = ScenarioName::new(b"SHUT").ok_or("no name")?;
+    let mut scenarios = [Scenario::empty(alloc, name), Scenario::empty(alloc, name)];
+    for scenario in &mut scenarios {
+        let asked = ask(scenario) || ask(scenario);
+        assert!(rt; asked);
+    }
     let answered = is_answered(&rt, alloc, &snapshot, &scenarios)
         || is_answered(&rt, alloc, &snapshot, &scenarios);
     assert!(rt; answered);
