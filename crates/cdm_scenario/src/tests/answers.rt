@@ -138,6 +138,25 @@ fn answers<R: Threads + Sync>(
     Ok(outcomes)
 }
 
+// Whether there are answers. Without them there was no memory.
+fn are_answered<R: Threads + Sync + Abort>(
+    rt: &R,
+    alloc: Global,
+    base: &DayState,
+    scenarios: &[Scenario],
+    workers: usize,
+) -> bool
+    requires { length scenarios.now ≤ 64 }
+{
+    match answers(rt, alloc, base, scenarios, workers) {
+        Ok(outcomes) => {
+            assert_outcomes(rt, &outcomes);
+            true
+        }
+        Err(_) => false,
+    }
+}
+
 /// Where a request for memory is refused, there are no answers or all, and the same call then succeeds.
 #[test]
 fn refused_memory_in_answers(rt: HostRuntime) -> Result<(), Fail> {
@@ -146,11 +165,9 @@ fn refused_memory_in_answers(rt: HostRuntime) -> Result<(), Fail> {
     let scenarios = four_scenarios(alloc)?;
     assert_eq!(rt; scenarios.len(), 4);
     for workers in [0, 2] {
-        let outcomes = match answers(&rt, alloc, &base, &scenarios, workers) {
-            Ok(outcomes) => outcomes,
-            Err(_) => answers(&rt, alloc, &base, &scenarios, workers)?,
-        };
-        assert_outcomes(&rt, &outcomes);
+        let answered = are_answered(&rt, alloc, &base, &scenarios, workers)
+            || are_answered(&rt, alloc, &base, &scenarios, workers);
+        assert!(rt; answered);
     }
     assert_minutes(&rt, base.plan(), &[375, 375, 380]);
     Ok(())
