@@ -1,5 +1,5 @@
 -- The steps to a plan: what planned flights could have, the plans of runways that stand, and the others.
-use Rattle.std.proofs.Common.{Bor, ◌≡◌, ℕ, ◌+◌, true, cond, List, [], ◌∷◌, ◌++◌, Option, None, Some, refl, sym, ◌∙◌, ap, subst, arith, map, filter, length}
+use Rattle.std.proofs.Common.{Bor, ◌≡◌, ℕ, true, cond, List, [], ◌∷◌, ◌++◌, Option, None, Some, refl, sym, ◌∙◌, ap, subst, arith, map, filter, length}
 use Rattle.cdm_day.proofs.ListWords.{is_none, All, AllZip, Contains, cons_option, filter_map, IsPermutation, IsPermutation-append_right, IsPermutation-middle, IsPermutation-refl, IsPermutation-sym, IsPermutation-trans, contains_head, contains_map, contains_tail}
 use Rattle.cdm_day.proofs.DayWords.{Record, is_planned, TaxiRows, now_of, taxi_of, RunwayRules, TaxiTimes, IsSequence, RunwayPlanRecord, TargetRecord, BlockedFlight, CanSequence, IsAimed, early_among, target_for, Day, rules_in, records_in, HasParts, fixed_on, planned_of, IsSound, TellTaxi, AreKept, Together, kept_plan}
 use Rattle.std.specs.FinMap as finite
