@@ -31,9 +31,9 @@ FillsBoard airport feed1 feed2 =
     × (4096 < calls_needed (updates_count g feed1) (updates_count g feed2))
 
 -- the first fault of a live run: the inputs are read in this order, then the airport's records are
--- asked, then the calls are counted, and then the desks run and the text is written. Want of memory
+-- judged, then the calls are counted, and then the desks run and the text is written. Want of memory
 -- may come anywhere before the writing, but not in place of a failed read or of an input that is too
--- long. A mismatch is an answer of the board that the feeds can't cause.
+-- long. Of a mismatch it says only that all was read and that a board takes the calls.
 abbrev pub IsFirstFault : Reading → Reading → Reading → LiveError → Type 0
 IsFirstFault a f s (error.Read Airport) = IsFailed a
 IsFirstFault a f s (error.Read Feed) = ⊥
