@@ -4,7 +4,7 @@ use Rattle.std.proofs.lemmas.List.Elements.{All-append, All-nil}
 use Rattle.std.specs.List.{All}
 use Rattle.cdm_flight.specs.declared.update.Update.{Update}
 use Rattle.cdm_flight.specs.Journal.{AirportRows}
-use Rattle.cdm_day.specs.Day.{Day}
+use Rattle.cdm_day.specs.Day.{DayRecord}
 use Rattle.cdm_board.specs.History.{day_of}
 use Rattle.cdm_board.specs.declared.receipt.Entry.{Entry}
 use Rattle.cdm_board.specs.History.{Call, BoardRecord, board_of, journal_by, journal_of, IsLegal, IsAnswered, IsDesk, with_call}
@@ -36,12 +36,12 @@ pub entries-snoc : (es fs : List Entry) (e : Entry) (d : ℕ) (c : Call) → fs 
 entries-snoc es fs e d c more is = ap (map entry_of) more ∙ (map-append entry_of es (e ∷ []) ∙ ap (λ x. map entry_of es ++ x ∷ []) is)
 
 -- a board after one more call, by which its day became t
-abbrev pub Grows : Day → Day → ℕ → BoardRecord → List Entry → List Entry → ℕ → Call → Type 0
+abbrev pub Grows : DayRecord → DayRecord → ℕ → BoardRecord → List Entry → List Entry → ℕ → Call → Type 0
 Grows s t n b es fs desk call =
     ((n ≤ length t.journal) × IsBoard t.airport (take n t.journal) (map entry_of fs) t.journal)
     × (board_of t.airport (take n t.journal) (map entry_of fs) ≡ with_call b desk call)
 
-pub grows : (s t : Day) (n : ℕ) (b : BoardRecord) (es fs : List Entry) (e : Entry) (desk : ℕ) (call : Call)
+pub grows : (s t : DayRecord) (n : ℕ) (b : BoardRecord) (es fs : List Entry) (e : Entry) (desk : ℕ) (call : Call)
     → n ≤ length s.journal → IsBoard s.airport (take n s.journal) (map entry_of es) s.journal → board_of s.airport (take n s.journal) (map entry_of es) ≡ b
     → t ≡ day_of s.airport (journal_by s.airport s.journal call) → IsAnswered s.airport s.journal call
     → n ≤ length (journal_by s.airport s.journal call) → take n (journal_by s.airport s.journal call) ≡ take n s.journal
@@ -51,8 +51,8 @@ grows s t n b es fs e desk call le board view next answered longer same more is 
     let entries = entries-snoc es fs e desk call more is in
     let h = map entry_of es in
     let few : length h < 4096 = omega (arith, ap (λ (x : BoardRecord). length x.history) view) in
-    let after : Day = day_of s.airport (journal_by s.airport s.journal call) in
-    let P : Day → Type 0 = λ d. Grows s d n b es fs desk call in
+    let after : DayRecord = day_of s.airport (journal_by s.airport s.journal call) in
+    let P : DayRecord → Type 0 = λ d. Grows s d n b es fs desk call in
     let kept : IsBoard s.airport (take n s.journal) (h ++ (desk, call) ∷ []) (journal_by s.airport s.journal call) = IsBoard-snoc s.airport (take n s.journal) h s.journal desk call number few answered board in
     let grown : P after = (
       (longer, rw (entries, same) kept),

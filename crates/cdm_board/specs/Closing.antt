@@ -1,6 +1,6 @@
 -- What closing a board answers.
 use Rattle.std.specs.Prelude.{ℕ, List, ◌≡◌}
-use Rattle.cdm_day.specs.Day.{Day}
+use Rattle.cdm_day.specs.Day.{DayRecord}
 use Rattle.cdm_board.specs.declared.close.Closed.{Closed}
 use Rattle.cdm_board.specs.declared.close.Closed.TheVariants.{MissingDesk, Opening, Mismatch}
 use Rattle.cdm_board.specs.History.{Call, DeskRecord, BoardRecord, Opened, AreNumbered, IsMismatch, IsMerge, IsLegal, day_of, journal_of}
@@ -17,5 +17,5 @@ IsCloseFault b ks (Mismatch state desks desk receipt) = (desks.items ≡ ks) × 
 
 -- a closed board: its history is legal from the board's opening and is the merge of the desks, and the
 -- day is that of the history
-abbrev pub IsClosed : Opened → List DeskRecord → List (ℕ × Call) → Day → Type 0
+abbrev pub IsClosed : Opened → List DeskRecord → List (ℕ × Call) → DayRecord → Type 0
 IsClosed b ks h d = IsLegal b.airport b.opening h × IsMerge h ks × (d ≡ day_of b.airport (journal_of b.airport b.opening h)) × AreNumbered b.desks ks

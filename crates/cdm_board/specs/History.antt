@@ -7,7 +7,7 @@ use Rattle.cdm_flight.specs.declared.update.Update.{Update}
 use Rattle.cdm_flight.specs.Journal.{AirportRows}
 use Rattle.cdm_flight.specs.Accepted.{accepted, replies_to}
 use Rattle.cdm_day.specs.declared.reply.Reply.{Reply}
-use Rattle.cdm_day.specs.Day.{Day}
+use Rattle.cdm_day.specs.Day.{DayRecord}
 use Rattle.cdm_day.specs.Replies.{reply_of}
 
 -- a call of a desk, with what it was answered: a batch with its replies, or an airport with a journal
@@ -64,11 +64,11 @@ board_of g a h = record { airport = g; opening = a; history = h }
 abbrev pub journal_now : BoardRecord → List Update
 journal_now b = journal_of b.airport b.opening b.history
 
-abbrev pub day_of : AirportRows → List Update → Day
+abbrev pub day_of : AirportRows → List Update → DayRecord
 day_of g a = record { airport = g; journal = a }
 
 -- the day of a board
-abbrev pub day_now : BoardRecord → Day
+abbrev pub day_now : BoardRecord → DayRecord
 day_now b = day_of b.airport (journal_now b)
 
 -- the board after one more call
@@ -121,5 +121,5 @@ abbrev pub with_receipt : DeskRecord → Call → DeskRecord
 with_receipt k call = record { number = k.number; receipts = k.receipts ++ call ∷ [] }
 
 -- the board that is opened on a day with n desks
-abbrev pub opened_of : Day → ℕ → Opened
+abbrev pub opened_of : DayRecord → ℕ → Opened
 opened_of d n = record { airport = d.airport; opening = d.journal; desks = n }

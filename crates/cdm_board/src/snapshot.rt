@@ -19,9 +19,9 @@ pub struct Snapshot {
 impl Model for Snapshot {
     ghost use Rattle.std.specs.Coded.{codes};
     ghost use Rattle.cdm_day.specs.inner.AirportCode.{airport_code};
-    ghost use Rattle.cdm_day.specs.Day.{Day};
+    ghost use Rattle.cdm_day.specs.Day.{DayRecord};
 
-    ghost Value = { Day };
+    ghost Value = { DayRecord };
 
     ghost coded = { Prim.hlevel (codes, airport_code) };
 

@@ -16,14 +16,16 @@ use Rattle.cdm_day.proofs.JournalFacts.{new_flight-old, flights_in-push}
 
 -- only OFF of a planned flight asks for the taxi-out time
 pub step_of-same : (r : Record) (u : Update) (e h : Option ℕ) → (r.status ≡ Planned → e ≡ h) → step_of r u e ≡ step_of r u h
-step_of-same r (Off f m) e h same = by r.status refl
+step_of-same r u e h same = by u r.status refl
   where
-    by : (s : Status) → r.status ≡ s → step_of r (Off f m) e ≡ step_of r (Off f m) h
-    by Planned k = ap (λ o. step_of r (Off f m) o) (same k)
-    by (OffBlock aobt exot) k = rw k refl
-    by (Airborne aobt atot) k = rw k refl
-    by Cancelled k = rw k refl
-step_of-same r _ e h same = refl
+    by : (v : Update) (s : Status) → r.status ≡ s → step_of r v e ≡ step_of r v h
+    by v Planned k = ap (λ o. step_of r v o) (same k)
+    by (Off f m) (OffBlock aobt exot) k = rw k refl
+    by _ (OffBlock aobt exot) k = rw k refl
+    by (Off f m) (Airborne aobt atot) k = rw k refl
+    by _ (Airborne aobt atot) k = rw k refl
+    by (Off f m) Cancelled k = rw k refl
+    by _ Cancelled k = rw k refl
 
 -- the taxi-out time to the runway of the record, from the table
 abbrev pub exot_by : TaxiRows → Record → Option ℕ

@@ -1,8 +1,8 @@
 -- A runway that updates do not touch keeps its plan.
 use Rattle.std.proofs.Common.{◌≡◌, ℕ, Bool, true, false, cond, ◌&&◌, List, [], ◌∷◌, ◌++◌, Option, None, Some, refl, sym, ◌∙◌, ap, subst}
 use Rattle.cdm_day.proofs.ListWords.{option_and_then, option_map_or, if◌then◌else◌, Contains, cons_option, filter_map, find, append-nil, filter_map-append, Contains-permutation, IsPermutation-sym, contains_from_map, contains_map, if_so, one_of_key}
-use Rattle.cdm_day.proofs.DayWords.{RunwayRow, Place, Update, same_name, Record, is_planned, flight_of_update, taxi_out, flight_of, now_of, only_if, sets_cap, sets_closed, sets_now, sets_taxi, taxi_of, touches, flight_of-untouched, RunwayRules, TaxiTimes, IsAim, AimResult, FixedRecord, fixed_flight, IsSequence, IsSequenceBy}
-use Rattle.cdm_day.proofs.DayWords.{PlanRecord, RunwayPlanRecord, TargetRecord, aim_means, aim_of, aim_with, aim_with_exot, is_same, same_flips, same_is, if_on, Day, flights_in, new_flight, rows_by_name, rules_of, with_update, IsDayPlan, day_rules, records_in, is_on, target_in, targets_in, targets_on, Adds, AreKept, IsMade}
+use Rattle.cdm_day.proofs.DayWords.{RunwayRow, Place, Update, same_name, Record, is_planned, flight_of_update, taxi_out, flight_of, now_of, only_if, sets_cap, sets_closed, sets_now, sets_taxi, taxi_of, touches, flight_of-untouched, RunwayRules, TaxiTimes, IsAim, AimResult, SlotRecord, fixed_slot, IsSequence, IsSequenceBy}
+use Rattle.cdm_day.proofs.DayWords.{PlanRecord, RunwayPlanRecord, TargetRecord, aim_means, aim_of, aim_with, aim_with_exot, is_same, same_flips, same_is, if_on, DayRecord, flights_in, new_flight, rows_by_name, rules_of, with_update, IsDayPlan, day_rules, records_in, is_on, target_in, targets_in, targets_on, Adds, AreKept, IsMade}
 use Rattle.cdm_day.proofs.DayWords.{IsPlanOn, IsSince, fixed_in, is_noted, is_touched, Flt, Rate, Close, Reopen, Taxi, Clock, Ready, Early}
 use Rattle.cdm_day.specs.declared.touched.Touched.{Touched}
 use Rattle.cdm_day.proofs.JournalFacts.{flights_in-push, now_of-same, some_named, taxi_of-same}
@@ -54,7 +54,7 @@ same_target_at r s t now same f = by (is_on r f) refl
 
 -- What an update that is not of a runway leaves there.
 
-module _ (d : Day) (r : List ℕ) where
+module _ (d : DayRecord) (r : List ℕ) where
   no_clock : (u : Update) → is_noted d u r ≡ false → sets_now u ≡ None
   no_clock (Clock m) h = cc
   no_clock _ h = refl
@@ -84,7 +84,7 @@ module _ (d : Day) (r : List ℕ) where
   elsewhere (Taxi p s minutes) f e h = cc
   elsewhere u f e h = ap (λ o. option_map_or (λ k. option_map_or (is_on r) (flight_of d.airport d.journal k) false) o false) (sym e) ∙ h
 
-rules_name : (d : Day) (row : RunwayRow) → (rules_of d.airport d.journal row).name ≡ row.name
+rules_name : (d : DayRecord) (row : RunwayRow) → (rules_of d.airport d.journal row).name ≡ row.name
 unfolding rules_of
 rules_name d row = refl
 
@@ -92,7 +92,7 @@ fresh_is : (u : Update) (f : List ℕ) → new_flight u ≡ Some f → flight_of
 fresh_is (Flt g p) f e = e
 fresh_is _ f e = cc
 
-module _ (d : Day) (u : Update) (row : RunwayRow) (before : is_noted d u row.name ≡ false) (after : is_noted (with_update d u) u row.name ≡ false) where
+module _ (d : DayRecord) (u : Update) (row : RunwayRow) (before : is_noted d u row.name ≡ false) (after : is_noted (with_update d u) u row.name ≡ false) where
   -- what flights give to the runway
   module _ {Y : Type 0} (q p : Record → Option Y) (same : (f : Record) → q f ≡ p f) (off : (f : Record) → is_on row.name f ≡ false → q f ≡ None) where
     nothing : (o : Option Record) → option_map_or (is_on row.name) o false ≡ false → (option_and_then q o ≡ None) × (option_and_then p o ≡ None)
@@ -136,7 +136,7 @@ module _ (d : Day) (u : Update) (row : RunwayRow) (before : is_noted d u row.nam
       let now : now_of a ≡ now_of b = sym (now_of-same a u (no_clock d r u before)) in
       let rules : rules_of g a row ≡ rules_of g b row = rules-same g a row u (λ m. no_cap d r m u before) (λ m. no_closed d r m u before) in
       let fixed : fixed_in d r ≡ fixed_in (with_update d u) r =
-      fixed_on-given r (records_in g a) ∙ (given_same (fixed_at r) (fixed_at r) (λ f. refl) (λ f h. ap (λ b. if_so b (fixed_flight f)) h) ∙ sym (fixed_on-given r (records_in g b))) in
+      fixed_on-given r (records_in g a) ∙ (given_same (fixed_at r) (fixed_at r) (λ f. refl) (λ f h. ap (λ b. if_so b (fixed_slot f)) h) ∙ sym (fixed_on-given r (records_in g b))) in
       let targets : targets_at d r ≡ targets_at (with_update d u) r =
       targets_on-given r (taxi_of g a) (now_of a) (records_in g a)
       ∙ (given_same (target_at r (taxi_of g a) (now_of a)) (target_at r (taxi_of g b) (now_of b)) (λ f. same_target_at r (taxi_of g a) (taxi_of g b) (now_of a) taxi f ∙ ap (λ n. target_at r (taxi_of g b) n f) now) (no_target_at r (taxi_of g a) (now_of a))
@@ -144,14 +144,14 @@ module _ (d : Day) (u : Update) (row : RunwayRow) (before : is_noted d u row.nam
       let x = rules_of g a row in
       let there : IsSequence x (fixed_in (with_update d u) x.name) (targets_at (with_update d u) x.name) p =
       subst (λ (ts : List TargetRecord). IsSequence x (fixed_in (with_update d u) x.name) ts p) (subst (λ (n : List ℕ). targets_at d n ≡ targets_at (with_update d u) n) (sym (rules_name d row)) targets)
-      (subst (λ (xs : List FixedRecord). IsSequence x xs (targets_at d x.name) p) (subst (λ (n : List ℕ). fixed_in d n ≡ fixed_in (with_update d u) n) (sym (rules_name d row)) fixed)
+      (subst (λ (xs : List SlotRecord). IsSequence x xs (targets_at d x.name) p) (subst (λ (n : List ℕ). fixed_in d n ≡ fixed_in (with_update d u) n) (sym (rules_name d row)) fixed)
       (has_sequence d x p old)) in
       subst (λ (y : RunwayRules). IsPlanOn (with_update d u) y p) rules (is_plan_on (with_update d u) x p there)
 
 -- since the first day, after one more update
-pub since_taken : (first d next : Day) (s m t : Touched) (u : Update) → next ≡ with_update d u → Adds s (is_noted d u) m → Adds m (is_noted next u) t → IsSince first s d → IsSince first t next
+pub since_taken : (first d next : DayRecord) (s m t : Touched) (u : Update) → next ≡ with_update d u → Adds s (is_noted d u) m → Adds m (is_noted next u) t → IsSince first s d → IsSince first t next
 since_taken first d next s m t u is more later since =
-    let further : Adds m (is_noted (with_update d u) u) t = subst (λ (x : Day). Adds m (is_noted x u) t) is later in
+    let further : Adds m (is_noted (with_update d u) u) t = subst (λ (x : DayRecord). Adds m (is_noted x u) t) is later in
     subst (IsSince first t) (sym is) (record {
       airport = since.airport;
       keeps = λ row p h old.
@@ -161,11 +161,11 @@ since_taken first d next s m t u is more later since =
     })
 
 -- at first nothing changed
-pub since_itself : (d : Day) (t : Touched) → IsSince d t d
+pub since_itself : (d : DayRecord) (t : Touched) → IsSince d t d
 since_itself d t = record { airport = refl; keeps = λ row p h old. old }
 
 -- the plans of the runways that were not touched stand
-pub kept_since : (first d : Day) (t : Touched) (plan : PlanRecord) → IsMade first plan → IsSince first t d → AreKept d t plan.runways
+pub kept_since : (first d : DayRecord) (t : Touched) (plan : PlanRecord) → IsMade first plan → IsSince first t d → AreKept d t plan.runways
 unfolding IsDayPlan
 kept_since first d t plan made since r p i e = by (is_touched t r.name) refl e
   where

@@ -1,7 +1,7 @@
 -- The steps to a plan: what planned flights could have, the plans of runways that stand, and the others.
 use Rattle.std.proofs.Common.{Bor, ◌≡◌, ℕ, true, cond, List, [], ◌∷◌, ◌++◌, Option, None, Some, refl, sym, ◌∙◌, ap, subst, arith, map, filter, length}
 use Rattle.cdm_day.proofs.ListWords.{is_none, All, AllZip, Contains, cons_option, filter_map, IsPermutation, IsPermutation-append_right, IsPermutation-middle, IsPermutation-refl, IsPermutation-sym, IsPermutation-trans, contains_head, contains_map, contains_tail}
-use Rattle.cdm_day.proofs.DayWords.{Record, is_planned, TaxiRows, now_of, taxi_of, RunwayRules, TaxiTimes, IsSequence, RunwayPlanRecord, TargetRecord, BlockedFlight, CanSequence, IsAimed, early_among, target_for, Day, rules_in, records_in, HasParts, fixed_on, planned_of, IsSound, TellTaxi, AreKept, Together, kept_plan}
+use Rattle.cdm_day.proofs.DayWords.{Record, is_planned, TaxiRows, now_of, taxi_of, RunwayRules, TaxiTimes, IsSequence, RunwayPlanRecord, TargetRecord, BlockedFlight, CanSequence, IsAimed, early_among, target_for, DayRecord, rules_in, records_in, HasParts, fixed_on, planned_of, IsSound, TellTaxi, AreKept, Together, kept_plan}
 use Rattle.std.specs.FinMap as finite
 use Rattle.cdm_day.specs.declared.aimed.Aimed.{Aimed}
 use Rattle.cdm_day.specs.declared.touched.Touched.{Touched}
@@ -14,20 +14,20 @@ use Rattle.cdm_day.proofs.PlanningLemmas.{AllZip-weaker, aimed, aimed_are, block
 abbrev pub now : Bor Record → Record
 now f = f.now
 
-abbrev times_of : Day → TaxiTimes
+abbrev times_of : DayRecord → TaxiTimes
 times_of d = taxi_of d.airport d.journal
 
-abbrev flights_of : Day → List Record
+abbrev flights_of : DayRecord → List Record
 flights_of d = records_in d.airport d.journal
 
 -- what the planned flights of the day could have
-abbrev pub aims_of : Day → List Aimed
+abbrev pub aims_of : DayRecord → List Aimed
 aims_of d = map (aimed (times_of d) (now_of d.journal)) (planned_of (flights_of d))
 
 pub all_planned : (fs : List Record) (ps : List (Bor Record)) → map (λ f. f.now) ps ≡ planned_of fs → All (λ f. is_planned f.now.status ≡ true) ps
 all_planned fs ps is = All-lent (λ (f : Record). is_planned f.status ≡ true) ps (subst (λ (l : List Record). All (λ f. is_planned f.status ≡ true) l) (sym is) (planned_are fs))
 
-pub aims_are : (d : Day) (rows : TaxiRows) (clock : ℕ) (ps : List (Bor Record)) (aims : List Aimed) → TellTaxi d.airport d.journal rows → clock ≡ now_of d.journal
+pub aims_are : (d : DayRecord) (rows : TaxiRows) (clock : ℕ) (ps : List (Bor Record)) (aims : List Aimed) → TellTaxi d.airport d.journal rows → clock ≡ now_of d.journal
     → map (λ f. f.now) ps ≡ planned_of (flights_of d) → AllZip (λ f out. IsAimed (λ place r. finite.get rows (place, r)) clock f.now out) ps aims → aims ≡ aims_of d
 aims_are d rows clock ps aims told now is zipped =
     let read : TaxiTimes = λ place r. finite.get rows (place, r) in
@@ -54,7 +54,7 @@ module _ {X Y : Type 0} (R : X → Y → Type 0) (stands : X → Option Y) where
           let kept = filter_map stands xs in
           (y ∷ w.0, (each.0, w.1), IsPermutation-trans (y ∷ w.0) (y ∷ (kept ++ made)) (kept ++ y ∷ made) (IsPermutation-append_right (y ∷ []) w.0 (kept ++ made) w.2) (IsPermutation-sym (kept ++ y ∷ made) (y ∷ (kept ++ made)) (IsPermutation-middle kept y made)))
 
-module _ (d : Day) (sound : IsSound d) (fs : List (Bor Record)) (fs_are : map (λ f. f.now) fs ≡ flights_of d) (aims : List Aimed) (aims_is : aims ≡ aims_of d) where
+module _ (d : DayRecord) (sound : IsSound d) (fs : List (Bor Record)) (fs_are : map (λ f. f.now) fs ≡ flights_of d) (aims : List Aimed) (aims_is : aims ≡ aims_of d) where
   targets_are : (r : List ℕ) → filter_map (target_for r) aims ≡ targets_at d r
   targets_are r = ap (filter_map (target_for r)) aims_is ∙ targets-among r (times_of d) (now_of d.journal) (flights_of d)
 

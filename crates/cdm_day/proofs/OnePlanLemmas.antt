@@ -5,8 +5,8 @@ use Rattle.std.specs.declared.cmp.Ordering.{Ordering}
 use Rattle.std.specs.declared.cmp.Ordering.TheVariants.{Less, Equal, Greater}
 use Rattle.cdm_day.proofs.ListWords.{is_lt, ordering_reverse, All, AllZip, Contains, IsDistinct, flat_map, list_any, IsPermutation, IsSortedBy, false≢true, nat_list_cmp_total, All-contains, Contains-append_cases, filter_passes, Contains-permutation, IsPermutation-refl, IsPermutation-sym, ranks_by, sum_by-IsPermutation}
 use Rattle.cdm_day.proofs.ListWords.{IsDistinct-IsPermutation, contains_all, contains_from_given, contains_head, contains_tail, contains_cases, distinct_filter, distinct_right, list_any-find, list_any-map, one_of_key, sorted_one}
-use Rattle.cdm_day.proofs.DayWords.{name_cmp, same_name, Record, is_planned, RunwayRules, TaxiTimes, FixedRecord, takeoffs, IsRightlyBlocked, IsSequence, IsSequenceBy, names_left, PlanRecord, RunwayPlanRecord, TargetRecord, AimResult, BlockedFlight, Placing, IsEarlier, aim_of, is_same, same_flips, same_is, tied_names}
-use Rattle.cdm_day.proofs.DayWords.{runway_names, Day, flights_in, IsDayAllowed, IsDayPlan, IsDayPlanBy, day_rules, records_in, has_runway, now_of, taxi_of, RunwayRow, AreAims, HasParts, IsPlanOf, blocked_in, early_in, fixed_on, planned_of, target_in, targets_in, targets_on, Early, Ready}
+use Rattle.cdm_day.proofs.DayWords.{name_cmp, same_name, Record, is_planned, RunwayRules, TaxiTimes, SlotRecord, takeoffs, IsRightlyBlocked, IsSequence, IsSequenceBy, names_left, PlanRecord, RunwayPlanRecord, TargetRecord, AimResult, BlockedFlight, Placing, IsEarlier, aim_of, is_same, same_flips, same_is, tied_names}
+use Rattle.cdm_day.proofs.DayWords.{runway_names, DayRecord, flights_in, IsDayAllowed, IsDayPlan, IsDayPlanBy, day_rules, records_in, has_runway, now_of, taxi_of, RunwayRow, AreAims, HasParts, IsPlanOf, blocked_in, early_in, fixed_on, planned_of, target_in, targets_in, targets_on, Early, Ready}
 use Rattle.std.specs.Cmp.{IsStrictWeakOrder}
 use Rattle.cdm_sequence.proofs.OneLemmas.{sequence_one}
 use Rattle.cdm_day.proofs.DayPlanLemmas.{day_rules_differ, record_names_differ}
@@ -157,7 +157,7 @@ module _ (times : TaxiTimes) (now : ℕ) (fs : List Record) (own : IsDistinct sa
   blocked_differ : (r : RunwayRules) (p : RunwayPlanRecord) → IsMade r p → IsDistinct same_name (map (λ b. b.name) p.blocked)
   blocked_differ r p made =
       let targets = targets_at r.name in
-      let all = distinct_right same_name (map (λ (x : FixedRecord). x.name) (fixed_on r.name fs)) (map (λ (t : TargetRecord). t.key.name) targets) (names_on r.name times now fs own) in
+      let all = distinct_right same_name (map (λ (x : SlotRecord). x.name) (fixed_on r.name fs)) (map (λ (t : TargetRecord). t.key.name) targets) (names_on r.name times now fs own) in
       let left = distinct_filter same_name (λ (t : TargetRecord). t.key.name) (λ t. is_none (made.0 t)) targets all in
       IsDistinct-IsPermutation same_name same_flips (names_left made.0 targets) (map (λ (b : BlockedFlight). b.name) p.blocked) made.1.blocked left
 
@@ -238,13 +238,13 @@ module _ (times : TaxiTimes) (now : ℕ) (fs : List Record) (own : IsDistinct sa
 
 -- Days.
 
-pub one_day_plan : (d : Day) (p q : PlanRecord) → IsDistinct same_name (runway_names d.airport) → IsDistinct same_name (flights_in d.journal) → IsDayPlan d p → IsDayPlan d q → p ≡ q
+pub one_day_plan : (d : DayRecord) (p q : PlanRecord) → IsDistinct same_name (runway_names d.airport) → IsDistinct same_name (flights_in d.journal) → IsDayPlan d p → IsDayPlan d q → p ≡ q
 unfolding IsDayPlan
 one_day_plan d p q runways flights a b =
     one_plan (taxi_of d.airport d.journal) (now_of d.journal) (records_in d.airport d.journal) (record_names_differ d flights) (day_rules d) (day_rules_differ d runways) p q a b
 
 -- plans of the runways make the day's
-pub day_made : (d : Day) (aims : List AimResult) (made : List RunwayPlanRecord) (plan : PlanRecord) → IsDistinct same_name (runway_names d.airport)
+pub day_made : (d : DayRecord) (aims : List AimResult) (made : List RunwayPlanRecord) (plan : PlanRecord) → IsDistinct same_name (runway_names d.airport)
     → AreAims (records_in d.airport d.journal) (taxi_of d.airport d.journal) (now_of d.journal) aims
     → AllZip (λ r p. IsSequence r (fixed_on r.name (records_in d.airport d.journal)) (targets_on r.name (targets_in aims)) p) (day_rules d) made
     → plan.clock ≡ now_of d.journal → HasParts (early_in (records_in d.airport d.journal) aims) made plan → IsDayPlan d plan
@@ -253,7 +253,7 @@ day_made d aims made plan own are all clock parts =
     runways_make (taxi_of d.airport d.journal) (now_of d.journal) (records_in d.airport d.journal) (day_rules d) aims made plan are (day_rules_differ d own) all clock parts
 
 -- it is allowed
-pub day_allowed : (d : Day) (aims : List AimResult) (placing : Placing) (plan : PlanRecord) → IsDistinct same_name (flights_in d.journal) → IsDayPlanBy placing aims d plan → IsDayAllowed aims d placing
+pub day_allowed : (d : DayRecord) (aims : List AimResult) (placing : Placing) (plan : PlanRecord) → IsDistinct same_name (flights_in d.journal) → IsDayPlanBy placing aims d plan → IsDayAllowed aims d placing
 unfolding IsDayPlanBy
 day_allowed d aims placing plan own e =
     let fs = records_in d.airport d.journal in
@@ -263,11 +263,11 @@ day_allowed d aims placing plan own e =
     allowed_on (λ r. fixed_on r fs) (targets_in aims) placing (day_rules d) e.made
     (λ r.
     subst (λ (ts : List TargetRecord). IsDistinct same_name (map (λ f. f.key.name) (targets_on r ts))) targets
-    (distinct_right same_name (map (λ (x : FixedRecord). x.name) (fixed_on r fs)) (map (λ (t : TargetRecord). t.key.name) (targets_on r (targets_of fs times now))) (names_on r times now fs (record_names_differ d own))))
+    (distinct_right same_name (map (λ (x : SlotRecord). x.name) (fixed_on r fs)) (map (λ (t : TargetRecord). t.key.name) (targets_on r (targets_of fs times now))) (names_on r times now fs (record_names_differ d own))))
     e.sequences
 
 -- and none that is allowed is earlier
-pub day_none_earlier : (d : Day) (aims : List AimResult) (placing other : Placing) (plan : PlanRecord) → All (λ f. has_runway d.airport f.runway ≡ true) (targets_in aims)
+pub day_none_earlier : (d : DayRecord) (aims : List AimResult) (placing other : Placing) (plan : PlanRecord) → All (λ f. has_runway d.airport f.runway ≡ true) (targets_in aims)
     → IsDayPlanBy placing aims d plan → IsDayAllowed aims d other → IsEarlier (targets_in aims) other placing → ⊥
 unfolding IsDayPlanBy
 day_none_earlier d aims placing other plan known e allowed sooner =

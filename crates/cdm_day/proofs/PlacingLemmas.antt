@@ -1,12 +1,12 @@
 -- One placing of a day, from those of its runways.
 use Rattle.std.proofs.Common.{◌≡◌, ℕ, Bool, true, false, cond, ◌||◌, List, [], ◌∷◌, None, sym, ◌∙◌, ap, refl, map}
 use Rattle.cdm_day.proofs.ListWords.{All, AllByRecursion, AllZip, Contains, IsDistinct, list_any, false≢true, All-cons, All-contains, All-head, All-nil, All-tail, filter_passes, IsDistinct-head, IsDistinct-tail, contains_all, contains_kept}
-use Rattle.cdm_day.proofs.DayWords.{same_name, RunwayRules, FixedRecord, takeoffs, Placing, IsAllowed, IsEarlier, IsSequence, IsSequenceBy, RunwayPlanRecord, TargetRecord, is_same, same_flips, same_is, targets_on}
+use Rattle.cdm_day.proofs.DayWords.{same_name, RunwayRules, SlotRecord, takeoffs, Placing, IsAllowed, IsEarlier, IsSequence, IsSequenceBy, RunwayPlanRecord, TargetRecord, is_same, same_flips, same_is, targets_on}
 use Rattle.cdm_sequence.proofs.AllowedLemmas.{plan_allowed}
 use Rattle.cdm_sequence.proofs.OneLemmas.{sequence_agree}
 use Rattle.cdm_sequence.proofs.PlanLemmas.{none_earlier}
 
-module _ (fixed : List ℕ → List FixedRecord) (targets : List TargetRecord) where
+module _ (fixed : List ℕ → List SlotRecord) (targets : List TargetRecord) where
   abbrev on : List ℕ → List TargetRecord
   on r = targets_on r targets
 

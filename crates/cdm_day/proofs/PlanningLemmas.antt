@@ -3,7 +3,7 @@ use Rattle.std.proofs.lemmas.Slice.Zip.{AllZip-map}
 use Rattle.std.proofs.Common.{Bor, ◌≡◌, ℕ, ◌+◌, ◌≤◌, Bool, true, false, cond, ◌||◌, List, [], ◌∷◌, ◌++◌, Option, None, Some, refl, sym, ◌∙◌, ap, subst, arith, map, filter, length, sum_by}
 use Rattle.cdm_day.proofs.ListWords.{is_none, is_some, zip, option_map, option_map_or, All, cons_option, filter_map, IsDistinct, AllByRecursion, IsPermutation, false≢true, IsPermutation-refl, IsPermutation-trans, IsPermutation-append_right, IsPermutation-middle, IsPermutation-map, IsPermutation-sym, IsDistinct-IsPermutation}
 use Rattle.cdm_day.proofs.ListWords.{IsDistinct-cons, IsDistinct-head, IsDistinct-tail, length-map, map-append, All-given, distinct_filter, filter_map-map, filter_map-filter, if_so, sum_by-add, sum_by-zero, length_permutation, AllZip, filter_passes}
-use Rattle.cdm_day.proofs.DayWords.{same_name, Record, is_planned, TaxiTimes, IsAim, aim_of, aim_is, aim_means, same_flips, same_is, FixedRecord, fixed_flight, fixed_by, Placing, flight_names, fixed_slot, names_left, planned_slot, slots_by, IsSequence, TargetRecord, AimResult, BlockedFlight, SlotRecord, early_in, planned_of}
+use Rattle.cdm_day.proofs.DayWords.{same_name, Record, is_planned, TaxiTimes, IsAim, aim_of, aim_is, aim_means, same_flips, same_is, SlotRecord, fixed_slot, slot_by, Placing, flight_names, names_left, planned_slot, slots_by, IsSequence, TargetRecord, AimResult, BlockedFlight, early_in, planned_of}
 use Rattle.cdm_day.proofs.DayWords.{target_in, targets_in, blocked_in, is_on, fixed_on, targets_on, IsAimed, if_on, target_for, CanSequence, RunwayRules, RunwayPlanRecord, Ready, Early}
 use Rattle.std.proofs.lemmas.List.Sums.{sum_by-cons, sum_by-le-sum_by}
 use Rattle.cdm_flight.specs.declared.flight.Status.{Status}
@@ -121,28 +121,28 @@ target_name r f times now t e = go (is_planned f.status) (aim_of f times now) re
     go false a is k = cc
 
 -- a fixed flight has its flight's name, and has left
-fixed_name : (f : Record) (x : FixedRecord) → fixed_flight f ≡ Some x → x.name ≡ f.name
-unfolding fixed_flight
+fixed_name : (f : Record) (x : SlotRecord) → fixed_slot f ≡ Some x → x.name ≡ f.name
+unfolding fixed_slot
 fixed_name f x e = go f.status e
   where
-    go : (s : Status) → fixed_by f s ≡ Some x → x.name ≡ f.name
-    go (status.OffBlock aobt exot) k = sym (ap (λ (o : Option FixedRecord). option_map_or (λ y. y.name) o []) k)
-    go (status.Airborne aobt atot) k = sym (ap (λ (o : Option FixedRecord). option_map_or (λ y. y.name) o []) k)
+    go : (s : Status) → slot_by f s ≡ Some x → x.name ≡ f.name
+    go (status.OffBlock aobt exot) k = sym (ap (λ (o : Option SlotRecord). option_map_or (λ y. y.name) o []) k)
+    go (status.Airborne aobt atot) k = sym (ap (λ (o : Option SlotRecord). option_map_or (λ y. y.name) o []) k)
     go _ k = cc
 
-fixed_left : (f : Record) → is_some (fixed_flight f) ≡ true → is_planned f.status ≡ false
-unfolding fixed_flight
+fixed_left : (f : Record) → is_some (fixed_slot f) ≡ true → is_planned f.status ≡ false
+unfolding fixed_slot
 fixed_left f e = go f.status e
   where
-    go : (s : Status) → is_some (fixed_by f s) ≡ true → is_planned s ≡ false
+    go : (s : Status) → is_some (slot_by f s) ≡ true → is_planned s ≡ false
     go (status.OffBlock aobt exot) k = refl
     go (status.Airborne aobt atot) k = refl
     go _ k = absurd (false≢true k)
 
 -- What a flight gives to a runway.
 
-abbrev pub fixed_at : List ℕ → Record → Option FixedRecord
-fixed_at r f = if_so (is_on r f) (fixed_flight f)
+abbrev pub fixed_at : List ℕ → Record → Option SlotRecord
+fixed_at r f = if_so (is_on r f) (fixed_slot f)
 
 abbrev pub target_at : List ℕ → TaxiTimes → ℕ → Record → Option TargetRecord
 target_at r times now f = if_so (is_planned f.status) (if_on r (target_in (aim_of f times now)))
@@ -152,7 +152,7 @@ early_at times now f = if_so (is_planned f.status) (blocked_in f.name (aim_of f 
 
 pub fixed_on-given : (r : List ℕ) (fs : List Record) → fixed_on r fs ≡ filter_map (fixed_at r) fs
 unfolding fixed_on
-fixed_on-given r fs = filter_map-filter fixed_flight (is_on r) fs
+fixed_on-given r fs = filter_map-filter fixed_slot (is_on r) fs
 
 pub targets_on-given : (r : List ℕ) (times : TaxiTimes) (now : ℕ) (fs : List Record) → targets_on r (targets_of fs times now) ≡ filter_map (target_at r times now) fs
 unfolding targets_of
@@ -182,13 +182,13 @@ some_inside false o h = absurd (false≢true h)
 
 apart : (r : List ℕ) (times : TaxiTimes) (now : ℕ) (f : Record) → is_some (fixed_at r f) ≡ true → is_some (target_at r times now f) ≡ false
 apart r times now f h =
-    let left = fixed_left f (some_inside (is_on r f) (fixed_flight f) h) in
+    let left = fixed_left f (some_inside (is_on r f) (fixed_slot f) h) in
     ap (λ (b : Bool). is_some (if_so b (if_on r (target_in (aim_of f times now))))) left
 
-fixed_at_name : (r : List ℕ) (f : Record) (x : FixedRecord) → fixed_at r f ≡ Some x → x.name ≡ f.name
+fixed_at_name : (r : List ℕ) (f : Record) (x : SlotRecord) → fixed_at r f ≡ Some x → x.name ≡ f.name
 fixed_at_name r f x e = go (is_on r f) e
   where
-    go : (b : Bool) → if_so b (fixed_flight f) ≡ Some x → x.name ≡ f.name
+    go : (b : Bool) → if_so b (fixed_slot f) ≡ Some x → x.name ≡ f.name
     go true k = fixed_name f x k
     go false k = cc
 
@@ -198,12 +198,12 @@ names_on r times now fs own =
     let a : Record → Bool = λ f. is_some (fixed_at r f) in
     let b : Record → Bool = λ f. is_some (target_at r times now f) in
     let name : Record → List ℕ = λ f. f.name in
-    let fixed = ap (map (λ (x : FixedRecord). x.name)) (fixed_on-given r fs) ∙ names_given (λ x. x.name) name (fixed_at r) (fixed_at_name r) fs in
+    let fixed = ap (map (λ (x : SlotRecord). x.name)) (fixed_on-given r fs) ∙ names_given (λ x. x.name) name (fixed_at r) (fixed_at_name r) fs in
     let targets = ap (map (λ (t : TargetRecord). t.key.name)) (targets_on-given r times now fs) ∙ names_given (λ t. t.key.name) name (target_at r times now) (λ f t e. target_name r f times now t e) fs in
     let parts = IsPermutation-map name (filter (λ f. a f || b f) fs) (filter a fs ++ filter b fs) (parted a b (apart r times now) fs) in
     let whole = distinct_filter same_name name (λ f. a f || b f) fs own in
     let split = IsDistinct-IsPermutation same_name same_flips (map name (filter (λ f. a f || b f) fs)) (map name (filter a fs ++ filter b fs)) parts whole in
-    subst (λ (ns : List (List ℕ)). IsDistinct same_name ns) (map-append name (filter a fs) (filter b fs) ∙ (ap (λ (ns : List (List ℕ)). ns ++ map name (filter b fs)) (sym fixed) ∙ ap (λ (ns : List (List ℕ)). map (λ (x : FixedRecord). x.name) (fixed_on r fs) ++ ns) (sym targets))) split
+    subst (λ (ns : List (List ℕ)). IsDistinct same_name ns) (map-append name (filter a fs) (filter b fs) ∙ (ap (λ (ns : List (List ℕ)). ns ++ map name (filter b fs)) (sym fixed) ∙ ap (λ (ns : List (List ℕ)). map (λ (x : SlotRecord). x.name) (fixed_on r fs) ++ ns) (sym targets))) split
 
 -- How many flights a day's plan has.
 
@@ -252,11 +252,11 @@ once None h rs own le = let zero = sum_by-zero rs in let all = sum_by-le-sum_by 
 once (Some s) h rs own le = let one = one_named s rs own in let all = sum_by-le-sum_by h (λ r. one_if (same_name s r)) rs le in omega arith
 
 -- a flight that has left counts on its own runway, a planned one on its target's, or it is blocked early
-once_with : (f : Record) (rs : List (List ℕ)) (p : Bool) (o : Option FixedRecord) (a : AimResult) → IsDistinct same_name rs → (is_some o ≡ true → p ≡ false)
+once_with : (f : Record) (rs : List (List ℕ)) (p : Bool) (o : Option SlotRecord) (a : AimResult) → IsDistinct same_name rs → (is_some o ≡ true → p ≡ false)
     → sum_by (λ r. one_if (is_some (if_so (is_on r f) o)) + one_if (is_some (if_so p (if_on r (target_in a))))) rs + one_if (is_some (if_so p (blocked_in f.name a))) ≤ 1
 once_with f rs p o a own left = by p o a left
   where
-    no_fixed : Bool → Option FixedRecord
+    no_fixed : Bool → Option SlotRecord
     no_fixed b = if_so b None
 
     none : (b : Bool) → one_if (is_some (no_fixed b)) ≡ 0
@@ -271,7 +271,7 @@ once_with f rs p o a own left = by p o a left
     at_most None = omega arith
     at_most (Some s) = omega arith
 
-    by : (p : Bool) (o : Option FixedRecord) (a : AimResult) → (is_some o ≡ true → p ≡ false)
+    by : (p : Bool) (o : Option SlotRecord) (a : AimResult) → (is_some o ≡ true → p ≡ false)
         → sum_by (λ r. one_if (is_some (if_so (is_on r f) o)) + one_if (is_some (if_so p (if_on r (target_in a))))) rs + one_if (is_some (if_so p (blocked_in f.name a))) ≤ 1
     by true None (Ready t) left =
         let all = once (Some t.runway) (λ r. one_if (is_some (no_fixed (is_on r f))) + one_if (is_some (if_on r (Some t)))) rs own (λ r. let n = none (is_on r f) in let m = one (same_name t.runway r) (Some t) in omega arith) in
@@ -282,7 +282,7 @@ once_with f rs p o a own left = by p o a left
 
 -- each flight counts once at the most
 each_once : (times : TaxiTimes) (now : ℕ) (f : Record) (rs : List (List ℕ)) → IsDistinct same_name rs → sum_by (counted times now f) rs + one_if (is_some (early_at times now f)) ≤ 1
-each_once times now f rs own = once_with f rs (is_planned f.status) (fixed_flight f) (aim_of f times now) own (fixed_left f)
+each_once times now f rs own = once_with f rs (is_planned f.status) (fixed_slot f) (aim_of f times now) own (fixed_left f)
 
 all_once : (times : TaxiTimes) (now : ℕ) (rs : List (List ℕ)) → IsDistinct same_name rs → (fs : List Record)
     → sum_by (λ r. sum_by (λ f. counted times now f r) fs) rs + sum_by (λ f. one_if (is_some (early_at times now f))) fs ≤ length fs
@@ -348,12 +348,11 @@ given_or_left slot p (t ∷ ts) = by (p t) (given_or_left slot p ts)
     by (Some m) e = omega arith
 
 -- so a sequence shows all flights
-all_shown : (r : RunwayRules) (fixed : List FixedRecord) (targets : List TargetRecord) (plan : RunwayPlanRecord) → IsSequence r fixed targets plan → length plan.slots + length plan.blocked ≡ length fixed + length targets
+all_shown : (r : RunwayRules) (fixed : List SlotRecord) (targets : List TargetRecord) (plan : RunwayPlanRecord) → IsSequence r fixed targets plan → length plan.slots + length plan.blocked ≡ length fixed + length targets
 all_shown r fixed targets plan (p, e) =
     let slots = length_permutation (slots_by p fixed targets) plan.slots e.slots in
     let blocked = length_permutation (names_left p targets) (map (λ (b : BlockedFlight). b.name) plan.blocked) e.blocked in
-    let a = length-append (map fixed_slot fixed) (filter_map (λ t. option_map (planned_slot t) (p t)) targets) in
-    let b = length-map fixed fixed_slot in
+    let a = length-append fixed (filter_map (λ t. option_map (planned_slot t) (p t)) targets) in
     let c = length-map (filter (λ (t : TargetRecord). is_none (p t)) targets) (λ (t : TargetRecord). t.key.name) in
     let d = length-map plan.blocked (λ (b : BlockedFlight). b.name) in
     let each = given_or_left planned_slot p targets in
@@ -361,7 +360,7 @@ all_shown r fixed targets plan (p, e) =
 
 -- The whole day.
 
-pub zipped_sizes : (fixed : List ℕ → List FixedRecord) (targets : List ℕ → List TargetRecord) (runways : List RunwayRules) (plans : List RunwayPlanRecord)
+pub zipped_sizes : (fixed : List ℕ → List SlotRecord) (targets : List ℕ → List TargetRecord) (runways : List RunwayRules) (plans : List RunwayPlanRecord)
     → AllZip (λ r p. IsSequence r (fixed r.name) (targets r.name) p) runways plans
     → sum_by (λ p. length p.slots + length p.blocked) plans ≡ sum_by (λ r. length (fixed r) + length (targets r)) (map (λ (r : RunwayRules). r.name) runways)
 zipped_sizes fixed targets [] [] all = refl
@@ -386,7 +385,7 @@ pub planned_are : (fs : List Record) → All (λ f. is_planned f.status ≡ true
 planned_are fs = filter_passes (λ f. is_planned f.status) fs
 
 -- the flights of a runway among lent ones
-pub fixed_on-lent : (r : List ℕ) (fs : List (Bor Record)) → filter_map (λ f. fixed_flight f.now) (filter (λ f. is_on r f.now) fs) ≡ fixed_on r (map (λ f. f.now) fs)
+pub fixed_on-lent : (r : List ℕ) (fs : List (Bor Record)) → filter_map (λ f. fixed_slot f.now) (filter (λ f. is_on r f.now) fs) ≡ fixed_on r (map (λ f. f.now) fs)
 fixed_on-lent r fs =
-    filter_map-filter (λ (f : Bor Record). fixed_flight f.now) (λ f. is_on r f.now) fs
+    filter_map-filter (λ (f : Bor Record). fixed_slot f.now) (λ f. is_on r f.now) fs
     ∙ sym (fixed_on-given r (map (λ (f : Bor Record). f.now) fs) ∙ filter_map-map (fixed_at r) (λ (f : Bor Record). f.now) fs)

@@ -1,7 +1,7 @@
 //! A day that a batch of updates is changing.
 ghost use Rattle.std.specs.Prelude.{◌≡◌, map, IfOk};
 ghost use Rattle.cdm_flight.specs.Accepted.{refusal, after_one, accepted, replies_to};
-ghost use Rattle.cdm_day.specs.Day.{Day};
+ghost use Rattle.cdm_day.specs.Day.{DayRecord};
 ghost use Rattle.cdm_day.specs.Replies.{reply_of};
 ghost use Rattle.cdm_day.specs.inner.Kept.{IsSince};
 
@@ -29,7 +29,7 @@ impl Draft {
     ) -> Result<(Draft, Reply), AllocError>
         ensures day { IfOk result (λ r. r.0.tables ≡ record self.tables { journal = after_one self.tables.airport self.tables.journal (role, update.now) }) }
         ensures reply { IfOk result (λ r. r.1 ≡ reply_of (refusal self.tables.airport self.tables.journal role update.now)) }
-        ensures since { IfOk result (λ r. (first : Day) → IsSince first self.touched self.tables → IsSince first r.0.touched r.0.tables) }
+        ensures since { IfOk result (λ r. (first : DayRecord) → IsSince first self.touched self.tables → IsSince first r.0.touched r.0.tables) }
     {
         let Draft {
             tables,
@@ -58,7 +58,7 @@ impl Draft {
     ) -> Result<(Draft, Vec<Reply>), AllocError>
         ensures day { IfOk result (λ r. r.0.tables ≡ record self.tables { journal = accepted self.tables.airport self.tables.journal batch.now }) }
         ensures replies { IfOk result (λ r. r.1.items ≡ map reply_of (replies_to self.tables.airport self.tables.journal batch.now)) }
-        ensures since { IfOk result (λ r. (first : Day) → IsSince first self.touched self.tables → IsSince first r.0.touched r.0.tables) }
+        ensures since { IfOk result (λ r. (first : DayRecord) → IsSince first self.touched self.tables → IsSince first r.0.touched r.0.tables) }
     {
         let mut draft = self;
         let mut replies = Vec::new(alloc);

@@ -1,14 +1,14 @@
 //! The plan of a day.
 ghost use Rattle.std.specs.Prelude.{filter, ◌≡◌, ◌+◌, ◌≤◌, ◌++◌, length, map, IfOk, IsPermutation, IsSorted, sum_by};
 ghost use Rattle.std.specs.List.{filter_map, flat_map};
-ghost use Rattle.cdm_sequence.specs.Fixed.{fixed_flight};
+ghost use Rattle.cdm_sequence.specs.Fixed.{fixed_slot};
 ghost use Rattle.cdm_sequence.specs.Sequence.{IsSequence};
 ghost use Rattle.cdm_sequence.specs.Slots.{runway_cmp, blocked_cmp};
-ghost use Rattle.cdm_day.specs.Planning.{HasParts, fixed_on, is_on};
+ghost use Rattle.cdm_day.specs.Planning.{HasParts, fixed_on};
 ghost use Rattle.cdm_day.specs.Day.{rules_in};
 ghost use Rattle.cdm_day.specs.DayPlan.{IsDayPlan, records_in};
 ghost use Rattle.cdm_day.specs.Sound.{IsSound};
-ghost use Rattle.cdm_day.specs.inner.Aimed.{CanSequence, early_among, target_for};
+ghost use Rattle.cdm_day.specs.inner.Aimed.{CanSequence, early_among, is_on, target_for};
 ghost use Rattle.cdm_day.specs.inner.Kept.{AreKept, IsMade, Together, kept_plan};
 
 use crate::aimed::{Aimed, blocked, planned_flights, targets_on_runway};
@@ -19,7 +19,7 @@ use crate::touched::Touched;
 use cdm_flight::{Flight, Listed, RunwayName, push_last};
 use cdm_phase::run_here;
 use cdm_runway::Runway;
-use cdm_sequence::{BlockedFlight, Fixed, Plan, RunwayPlan, fixed_of, sequence};
+use cdm_sequence::{BlockedFlight, Plan, RunwayPlan, Slot, fixed_of, sequence};
 use cdm_time::Minute;
 use std::alloc::{AllocError, Global};
 
@@ -38,8 +38,8 @@ fn fixed_on_runway(
     alloc: Global,
     runway: RunwayName,
     flights: &[&Flight],
-) -> Result<Vec<Fixed>, AllocError>
-    ensures { IfOk result (λ v. v.items ≡ filter_map (λ f. fixed_flight f.now) (filter (λ f. is_on runway f.now) flights.now)) }
+) -> Result<Vec<Slot>, AllocError>
+    ensures { IfOk result (λ v. v.items ≡ filter_map (λ f. fixed_slot f.now) (filter (λ f. is_on runway f.now) flights.now)) }
 {
     flights
         .iter()

@@ -5,3 +5,5 @@ pub mod RunLemmas
 pub mod OutputLemmas
 pub mod ScenarioLemmas
 pub mod StretchLemmas
+pub mod RowLemmas
+pub mod KindLemmas

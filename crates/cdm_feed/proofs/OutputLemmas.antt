@@ -1,7 +1,7 @@
 -- A run has one text.
 use Rattle.std.proofs.Common.{◌≡◌, ◌++◌, ◌∙◌, ◌||◌, ℕ, ◌+◌, Bool, true, false, List, [], ◌∷◌, Option, None, Some, Result, Ok, Err, IfOk, refl, sym, ap, subst}
 use Rattle.std.specs.Prelude.{⊤, if◌then◌else◌, is_none, unwrap_or}
-use Rattle.std.specs.Result.{result_ok}
+use Rattle.std.specs.Result.{result_map_both, result_ok}
 use Rattle.std.specs.List.{AllZip, concat, cons_option, list_any, IsDistinct}
 use Rattle.std.specs.Option.{option_map_or}
 use Rattle.std.proofs.lemmas.Cmp.{nat_list_eq_equiv}
@@ -17,14 +17,16 @@ use Rattle.cdm_flight.specs.declared.update.Update.TheVariants.{Flt}
 use Rattle.cdm_flight.specs.declared.word.RefusalWord.{RefusalWord}
 use Rattle.cdm_flight.specs.declared.word.RefusalWord.TheVariants as word
 use Rattle.cdm_sequence.proofs.OrderLemmas.{same_flips}
-use Rattle.cdm_day.specs.Airport.{IsAirport, runway_word, runway_names, taxi_word, with_runway, with_taxi}
-use Rattle.cdm_day.specs.Day.{Day as JournalOfDay, flights_in, new_flight}
+use Rattle.cdm_day.specs.Airport.{IsAirport, runway_names, with_runway, with_taxi}
+use Rattle.cdm_day.specs.Day.{DayRecord, flights_in}
+use Rattle.cdm_day.specs.inner.Tables.{new_flight}
 use Rattle.cdm_day.proofs.OnePlanLemmas.{one_day_plan}
 use Rattle.cdm_day.proofs.AirportLemmas.{airport_after_runway, airport_after_taxi, airport_without_rows}
 use Rattle.cdm_day.proofs.JournalFacts.{flights_in-push}
-use Rattle.cdm_feed.specs.AirportFile.{airport_after, airport_in, begun, unless, with_record}
+use Rattle.cdm_feed.specs.AirportFile.{airport_in, begun, with_record}
 use Rattle.cdm_feed.specs.AirportRecords.{airport_record_of}
-use Rattle.cdm_feed.specs.Files.{after_records, go_on}
+use Rattle.cdm_feed.specs.Fields.{and_then, of_one}
+use Rattle.cdm_feed.specs.Files.{after_records}
 use Rattle.cdm_feed.specs.Answers.{IsAnswer}
 use Rattle.cdm_feed.specs.Output.{IsOutput, IsReport, accepted_in, day_in, refusals_in, spelled_in}
 use Rattle.cdm_feed.specs.ScenarioFile.{scenarios_in}
@@ -35,6 +37,7 @@ use Rattle.cdm_feed.specs.Records.{records_of}
 use Rattle.cdm_feed.specs.Refused.{updates_in}
 use Rattle.cdm_report.specs.Report.{report_bytes}
 use Rattle.cdm_sequence.specs.Slots.{PlanRecord}
+use Rattle.cdm_feed.specs.declared.runs.RunCounts.{RunCounts}
 use Rattle.cdm_feed.specs.declared.airport_record.AirportRecord.{AirportRecord}
 use Rattle.cdm_feed.specs.declared.airport_record.AirportRecord.TheVariants.{Day, Runway, Taxi}
 
@@ -91,9 +94,13 @@ abbrev pub Keeps : Option AirportRows → Type 0
 Keeps None = ⊤
 Keeps (Some g) = IsAirport g
 
-unless-kept : (o : Option RefusalWord) (g : AirportRows) → (o ≡ None → IsAirport g) → IfOk (unless o g) Keeps
-unless-kept None g k = k refl
-unless-kept (Some word) g k = tt
+row-kept : (r : Result AirportRows RefusalWord) → IfOk r IsAirport → IfOk (of_one Some r) Keeps
+row-kept (Ok g) k = k
+row-kept (Err word) k = tt
+
+if_made : (r : Result AirportRows RefusalWord) → ((h : AirportRows) → r ≡ Ok h → IsAirport h) → IfOk r IsAirport
+if_made (Ok h) k = k h refl
+if_made (Err word) k = tt
 
 record-kept : (s : Option AirportRows) (said : AirportRecord) → Keeps s → IfOk (with_record s said) Keeps
 unfolding with_record
@@ -101,25 +108,24 @@ record-kept None (Day day) k = airport_without_rows _ refl refl
 record-kept None (Runway r cell cap) k = tt
 record-kept None (Taxi place r minutes) k = tt
 record-kept (Some g) (Day day) k = tt
-record-kept (Some g) (Runway r cell cap) k = unless-kept (runway_word g r) (with_runway g r cell cap) (airport_after_runway g r cell cap k)
-record-kept (Some g) (Taxi place r minutes) k = unless-kept (taxi_word g place r) (with_taxi g place r minutes) (airport_after_taxi g place r minutes k)
+record-kept (Some g) (Runway r cell cap) k = row-kept (with_runway g r cell cap) (if_made (with_runway g r cell cap) (λ h. airport_after_runway g h r cell cap k))
+record-kept (Some g) (Taxi place r minutes) k = row-kept (with_taxi g place r minutes) (if_made (with_taxi g place r minutes) (λ h. airport_after_taxi g h place r minutes k))
 
-fields-kept : (s : Option AirportRows) (fields : List (List ℕ)) → Keeps s → IfOk (airport_after s fields) Keeps
-unfolding airport_after
-fields-kept s fields k = by (airport_record_of fields) refl
+fields-kept : (s : Option AirportRows) (fields : List (List ℕ)) → Keeps s → IfOk (and_then (airport_record_of fields) (with_record s)) Keeps
+fields-kept s fields k = by (airport_record_of fields)
   where
-    by : (r : Result AirportRecord RefusalWord) → airport_record_of fields ≡ r → IfOk (airport_after s fields) Keeps
-    by (Ok said) e = rw e (record-kept s said k)
-    by (Err word) e = rw e tt
+    by : (r : Result AirportRecord RefusalWord) → IfOk (and_then r (with_record s)) Keeps
+    by (Ok said) = record-kept s said k
+    by (Err word) = tt
 
-records-kept : (s : Option AirportRows) (number : ℕ) (records : List (List (List ℕ))) → Keeps s → IfOk (after_records airport_after s number records) Keeps
+records-kept : (s : Option AirportRows) (number : ℕ) (records : List (List (List ℕ))) → Keeps s → IfOk (after_records airport_record_of with_record s number records) Keeps
 unfolding after_records
 records-kept s number [] k = k
-records-kept s number (fields ∷ later) k = by (λ next. records-kept next (number + 1) later) (airport_after s fields) (fields-kept s fields k)
+records-kept s number (fields ∷ later) k = by (λ next. records-kept next (number + 1) later) (and_then (airport_record_of fields) (with_record s)) (fields-kept s fields k)
   where
-    by : ((next : Option AirportRows) → Keeps next → IfOk (after_records airport_after next (number + 1) later) Keeps)
+    by : ((next : Option AirportRows) → Keeps next → IfOk (after_records airport_record_of with_record next (number + 1) later) Keeps)
         → (r : Result (Option AirportRows) RefusalWord) → IfOk r Keeps
-        → IfOk (go_on number r (λ next. after_records airport_after next (number + 1) later)) Keeps
+        → IfOk (and_then (result_map_both (λ next. next) (λ word. (number, word)) r) (λ next. after_records airport_record_of with_record next (number + 1) later)) Keeps
     by more (Ok next) h = more next h
     by more (Err word) h = tt
 
@@ -131,7 +137,7 @@ begun-kept (Err fault) h = tt
 pub own_runways : (text : List ℕ) (g : AirportRows) → airport_in text ≡ Ok g → IsDistinct same_name (runway_names g)
 unfolding airport_in
 own_runways text g h =
-    let kept = begun-kept (after_records airport_after None 1 (records_of text)) (records-kept None 1 (records_of text) tt) in
+    let kept = begun-kept (after_records airport_record_of with_record None 1 (records_of text)) (records-kept None 1 (records_of text) tt) in
     let airport : IsAirport g = subst (λ (r : Result AirportRows (ℕ × RefusalWord)). IfOk r IsAirport) h kept in
     airport.names
 
@@ -162,7 +168,7 @@ one-answers R one (s ∷ ss) (x ∷ xs) (y ∷ ys) a b = λ i. one s x y a.0 b.0
 one-report : (airport : List ℕ) (g : AirportRows) (feed : List ℕ) (questions : List ScenarioRecord) (x y : List ℕ) → airport_in airport ≡ Ok g
     → IsReport g feed questions x → IsReport g feed questions y → x ≡ y
 one-report airport g feed questions x y is a b =
-    let day : JournalOfDay = day_in g feed in
+    let day : DayRecord = day_in g feed in
     let runways = own_runways airport g is in
     let flights = own_journal g feed in
     let plans : a.plan ≡ b.plan = one_day_plan day a.plan b.plan runways flights a.of_day b.of_day in
@@ -177,8 +183,8 @@ same-scenarios r x y a b =
     let said : Result (List ScenarioRecord) (ℕ × RefusalWord) → List ScenarioRecord = λ q. unwrap_or (result_ok q) x in
     sym (ap said a) ∙ ap said b
 
-pub one-output : (airport feed scenarios x y : List ℕ) → IsOutput airport feed scenarios x → IsOutput airport feed scenarios y → x ≡ y
-one-output airport feed scenarios x y a b =
+pub one-output : (airport feed scenarios x y : List ℕ) (c d : RunCounts) → IsOutput airport feed scenarios x c → IsOutput airport feed scenarios y d → x ≡ y
+one-output airport feed scenarios x y c d a b =
     let same : b.rows ≡ a.rows = same-airport (airport_in airport) b.rows a.rows b.airport_file a.airport_file in
     let file : scenarios_in a.rows.day scenarios ≡ Ok b.questions =
     subst (λ (g : AirportRows). scenarios_in g.day scenarios ≡ Ok b.questions) same b.scenario_file in

@@ -1,5 +1,6 @@
 -- The refused records of a feed, from the replies to its updates.
 use Rattle.std.proofs.Common.{◌≡◌, ◌+◌, ◌∙◌, ℕ, suc, List, [], ◌∷◌, ◌++◌, Option, None, Some, Ok, Err, refl, sym, ap, drop, length, map}
+use Rattle.std.specs.Option.{option_map, option_to_list}
 use Rattle.cdm_flight.specs.Accepted.{after_one, refusal, replies_to}
 use Rattle.cdm_flight.specs.Journal.{AirportRows}
 use Rattle.cdm_flight.specs.declared.role.Role.{Role}
@@ -8,7 +9,11 @@ use Rattle.cdm_flight.specs.declared.word.RefusalWord.{RefusalWord}
 use Rattle.cdm_day.specs.Replies.{reply_of}
 use Rattle.cdm_day.specs.declared.reply.Reply.{Reply}
 use Rattle.cdm_day.specs.declared.reply.Reply.TheVariants.{Accepted, Refused}
-use Rattle.cdm_feed.specs.Refused.{Spelled, if_refused, refused_in, updates_in}
+use Rattle.cdm_feed.specs.Refused.{Spelled, refused_in, updates_in}
+
+-- a record by its number, if a word refuses it
+abbrev pub if_refused : ℕ → Option RefusalWord → List (ℕ × RefusalWord)
+if_refused number refusal = option_to_list (option_map (λ word. (number, word)) refusal)
 
 -- a record by its number, if the reply refuses it
 abbrev pub if_replied : ℕ → Reply → List (ℕ × RefusalWord)

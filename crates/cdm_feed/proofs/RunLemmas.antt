@@ -1,13 +1,18 @@
 -- Faults of a run.
-use Rattle.std.proofs.Common.{◌≡◌, ℕ, suc, Bool, arith, List, [], ◌∷◌, Option, None, Some, IfSome, Ok, Err, false, refl, sym, ap, subst, ◌∙◌, length}
+use Rattle.std.proofs.Common.{◌≡◌, ℕ, suc, Bool, arith, List, [], ◌∷◌, Option, None, Some, IfSome, Result, Ok, Err, false, refl, sym, ap, subst, ◌∙◌, length}
+use Rattle.std.specs.Result.{IsOkAnd, is_ok, IsOk}
 use Rattle.cdm_flight.specs.Accepted.{after_one, replies_to}
 use Rattle.cdm_flight.specs.Journal.{AirportRows}
 use Rattle.cdm_flight.specs.declared.role.Role.{Role}
 use Rattle.cdm_flight.specs.declared.update.Update.{Update}
+use Rattle.cdm_flight.specs.declared.word.RefusalWord.{RefusalWord}
+use Rattle.cdm_scenario.specs.Scenarios.{ScenarioRecord}
 use Rattle.std.proofs.lemmas.Option.{IfSome_then}
 use Rattle.std.specs.Io.KnownBytes.{Consumes}
 use Rattle.cdm_feed.specs.AirportFile.{airport_in}
-use Rattle.cdm_feed.specs.RunFaults.{AreFiles, AreRead, IsBeforeWriting, IsFaultyScenario, IsFirstFault, IsInputFault, IsRead, IsRecordFault, IsScenarioFault, IsUnfailed, Reading, is_write_fault}
+use Rattle.cdm_feed.specs.RunFaults.{AreRead, IsFirstFault, IsRead, IsUnfailed, Reading, is_write_fault}
+use Rattle.cdm_feed.specs.ScenarioFile.{scenarios_in}
+use Rattle.cdm_feed.specs.inner.Faults.{AreFiles, IsBeforeWriting, IsFaultyScenario, IsInputFault, IsRecordFault, IsScenarioFault}
 use Rattle.cdm_feed.specs.declared.run_error.Input.{Input}
 use Rattle.cdm_feed.specs.declared.run_error.Input.TheVariants.{Airport, Feed, Scenarios}
 use Rattle.cdm_feed.specs.declared.run_error.RunError.{RunError}
@@ -51,12 +56,12 @@ record_fault-first a f s airport scenarios (error.Scenario number word) read as_
       subst (λ (bytes : List ℕ). IsFaultyScenario bytes y number word) is (subst (λ (bytes : List ℕ). IsFaultyScenario airport bytes number word) also fault))),
 )
 record_fault-first a f s airport scenarios error.Memory read as_airport as_scenarios fault =
-    (read.airport_read.unfailed, read.feed_read.unfailed, read.scenarios_read.unfailed)
+    (read.0.unfailed, read.1.unfailed, read.2.unfailed)
 record_fault-first a f s airport scenarios error.Write read as_airport as_scenarios fault = absurd fault
 
 -- an input that isn't read yet is unfailed
 pub unread-unfailed : (left : Option (List ℕ)) (failed : Bool) → failed ≡ false → IsUnfailed (record { before = left; after = left; failed = failed })
-unread-unfailed left failed sound = record { sound = sound; within = (0, ([], kept left, refl), omega arith) } where
+unread-unfailed left failed sound = record { sound = sound; within = ([], kept left, omega arith) } where
   kept : (o : Option (List ℕ)) → Consumes o o []
   kept None = tt
   kept (Some bytes) = refl
@@ -101,9 +106,15 @@ pub scenario_fault-record : (airport scenarios : List ℕ) (g : AirportRows) (e 
 scenario_fault-record airport scenarios g (error.Read input) file fault = absurd fault
 scenario_fault-record airport scenarios g (error.TooLong input) file fault = absurd fault
 scenario_fault-record airport scenarios g (error.Airport number word) file fault = absurd fault
-scenario_fault-record airport scenarios g (error.Scenario number word) file fault = (g, file, fault)
+scenario_fault-record airport scenarios g (error.Scenario number word) file fault =
+    subst (λ (r : Result AirportRows (ℕ × RefusalWord)). IsOkAnd r (λ h. scenarios_in h.day scenarios ≡ Err (number, word))) (sym file) fault
 scenario_fault-record airport scenarios g error.Memory file fault = cc
 scenario_fault-record airport scenarios g error.Write file fault = absurd fault
+
+-- files that make an airport and scenarios are accepted
+pub files-accepted : (airport scenarios : List ℕ) (g : AirportRows) (questions : List ScenarioRecord) → airport_in airport ≡ Ok g → scenarios_in g.day scenarios ≡ Ok questions → AreFiles airport scenarios
+files-accepted airport scenarios g questions file asked =
+    subst (λ (r : Result AirportRows (ℕ × RefusalWord)). IsOkAnd r (λ h. IsOk (scenarios_in h.day scenarios))) (sym file) (ap is_ok asked)
 
 -- what is said of the bytes that were read is said of the inputs
 pub of_inputs : (P : List ℕ → List ℕ → List ℕ → Type 0) (a f s : Option (List ℕ)) (airport feed scenarios : List ℕ)

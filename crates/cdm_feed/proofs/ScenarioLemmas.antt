@@ -1,12 +1,21 @@
 -- The last scenario of a list, by its place.
-use Rattle.std.proofs.Common.{◌≡◌, ◌∙◌, ◌≤◌, ◌<◌, ◌++◌, ℕ, zero, suc, ◌-◌, true, nat_lt, List, [], ◌∷◌, Result, Ok, Err, refl, sym, ap, arith, length, get_or, set}
+use Rattle.std.proofs.Common.{◌≡◌, ◌∙◌, ◌≤◌, ◌<◌, ◌++◌, ℕ, zero, suc, ◌-◌, Bool, true, false, nat_le, nat_lt, List, [], ◌∷◌, Result, Ok, Err, refl, sym, ap, arith, length, get_or, set}
+use Rattle.std.specs.Prelude.{if◌then◌else◌}
 use Rattle.std.proofs.lemmas.Bool.{false≢true}
 use Rattle.cdm_flight.specs.declared.update.Update.{Update}
 use Rattle.cdm_flight.specs.declared.word.RefusalWord.{RefusalWord}
 use Rattle.cdm_flight.specs.declared.word.RefusalWord.TheVariants.{Full}
 use Rattle.cdm_scenario.specs.Scenarios.{ScenarioRecord}
 use Rattle.cdm_feed.specs.Fields.{of_one}
-use Rattle.cdm_feed.specs.ScenarioFile.{with_next, with_update}
+use Rattle.cdm_feed.specs.ScenarioFile.{with_next}
+
+-- a scenario with one more update, if it has room
+abbrev with_update : ScenarioRecord → Update → Result ScenarioRecord RefusalWord
+with_update s update = if nat_le 64 (length s.updates) then Err Full else Ok (record s { updates = s.updates ++ update ∷ [] })
+
+alone : (b : Bool) (s : ScenarioRecord) → (if b then Err Full else Ok (s ∷ [])) ≡ of_one (λ last. last ∷ []) (if b then Err Full else Ok s)
+alone true s = refl
+alone false s = refl
 
 of_one-twice : {A B C : Type 0} (f : A → B) (g : B → C) (r : Result A RefusalWord) → of_one g (of_one f r) ≡ of_one (λ a. g (f a)) r
 of_one-twice f g (Ok a) = refl
@@ -17,7 +26,8 @@ next_at : (xs : List ScenarioRecord) (n : ℕ) (d s : ScenarioRecord) (u : Updat
     → with_next xs u ≡ of_one (λ after. set xs n after) (with_update s u)
 unfolding with_next
 next_at [] n d s u count is = absurd (omega (arith, count))
-next_at (x ∷ []) zero d s u count is = ap (λ (y : ScenarioRecord). of_one (λ last. last ∷ []) (with_update y u)) is
+next_at (x ∷ []) zero d s u count is =
+    alone (nat_le 64 (length x.updates)) (record x { updates = x.updates ++ u ∷ [] }) ∙ ap (λ (y : ScenarioRecord). of_one (λ last. last ∷ []) (with_update y u)) is
 next_at (x ∷ []) (suc n) d s u count is = absurd (omega (arith, count))
 next_at (x ∷ y ∷ later) zero d s u count is = absurd (omega (arith, count))
 next_at (x ∷ y ∷ later) (suc n) d s u count is =

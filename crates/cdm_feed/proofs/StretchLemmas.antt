@@ -1,16 +1,17 @@
 -- A feed is judged stretch by stretch.
 use Rattle.std.proofs.Common.{◌≡◌, ◌<◌, ◌+◌, ◌∙◌, ℕ, zero, suc, List, [], ◌∷◌, ◌++◌, Ok, Err, refl, sym, ap, length, map, arith, append_assoc, append-nil, length-append, ◌≤◌}
+use Rattle.std.specs.Option.{option_map, option_to_list}
 use Rattle.std.proofs.lemmas.List.{length-map}
 use Rattle.cdm_flight.specs.Accepted.{accepted, after_one, refusal}
 use Rattle.cdm_flight.specs.Journal.{AirportRows}
 use Rattle.cdm_flight.specs.declared.update.Update.{Update}
 use Rattle.cdm_flight.specs.declared.word.RefusalWord.{RefusalWord}
 use Rattle.cdm_time.specs.declared.calendar.CalendarDate.{CalendarDate}
-use Rattle.cdm_day.specs.Day.{Day}
+use Rattle.cdm_day.specs.Day.{DayRecord}
 use Rattle.cdm_feed.specs.Output.{accepted_in, refusals_in, spelled_in}
 use Rattle.cdm_feed.specs.Parsing.{parse_of}
 use Rattle.cdm_feed.specs.Records.{records_of}
-use Rattle.cdm_feed.specs.Refused.{Spelled, if_refused, refused_in, updates_in}
+use Rattle.cdm_feed.specs.Refused.{Spelled, refused_in, updates_in}
 
 -- the journal after two stretches
 pub accepted-both : (g : AirportRows) (a : List Update) (xs ys : List Spelled)
@@ -31,7 +32,7 @@ refused-both g a n (Err word ∷ xs) ys =
     (refused-both g a (n + 1) xs ys ∙ ap (λ (k : ℕ). refused_in g a (n + 1) xs ++ refused_in g (accepted g a (updates_in xs)) k ys) same)
 refused-both g a n (Ok p ∷ xs) ys =
     let b = after_one g a p in
-    let here = if_refused n (refusal g a p.0 p.1) in
+    let here = option_to_list (option_map (λ (word : RefusalWord). (n, word)) (refusal g a p.0 p.1)) in
     let same : n + 1 + length xs ≡ n + suc (length xs) = omega arith in
     ap (λ (rs : List (ℕ × RefusalWord)). here ++ rs)
     (refused-both g b (n + 1) xs ys ∙ ap (λ (k : ℕ). refused_in g b (n + 1) xs ++ refused_in g (accepted g b (updates_in xs)) k ys) same)
@@ -56,27 +57,27 @@ none-after f old new parsed most few split all = by (length new) refl
     by (suc k) some = let fewer = fewer-left f old new parsed split in all (omega (arith, few, fewer, some))
 
 -- the records that are left of a feed tell, after those that were judged, what the whole feed tells
-pub record IsLeft (g : AirportRows) (day : CalendarDate) (feed : List ℕ) (s : Day) (refused : List (ℕ × RefusalWord)) (judged : ℕ) (left : List (List (List ℕ))) : Type 0 where
+pub record IsLeft (g : AirportRows) (day : CalendarDate) (feed : List ℕ) (s : DayRecord) (refused : List (ℕ × RefusalWord)) (judged : ℕ) (left : List (List (List ℕ))) : Type 0 where
   pub airport : s.airport ≡ g
   pub count : judged + length left ≤ length feed
   pub journal : accepted_in g feed ≡ accepted g s.journal (updates_in (map (parse_of day) left))
   pub all : refusals_in g feed ≡ refused ++ refused_in g s.journal (judged + 1) (map (parse_of day) left)
 
-pub all-left : (g : AirportRows) (day : CalendarDate) (feed : List ℕ) (s : Day) (refused : List (ℕ × RefusalWord)) (left : List (List (List ℕ)))
+pub all-left : (g : AirportRows) (day : CalendarDate) (feed : List ℕ) (s : DayRecord) (refused : List (ℕ × RefusalWord)) (left : List (List (List ℕ)))
     → day ≡ g.day → s ≡ record { airport = g; journal = [] } → refused ≡ [] → left ≡ records_of feed → length left ≤ length feed
     → IsLeft g day feed s refused 0 left
 unfolding accepted_in refusals_in
 all-left g day feed s refused left is fresh none all few =
     let spelled : spelled_in g feed ≡ map (parse_of day) left = λ i. map (parse_of (sym is i)) (sym all i) in
-    let first : s.journal ≡ [] = ap (λ (x : Day). x.journal) fresh in
+    let first : s.journal ≡ [] = ap (λ (x : DayRecord). x.journal) fresh in
     record {
-      airport = ap (λ (x : Day). x.airport) fresh;
+      airport = ap (λ (x : DayRecord). x.airport) fresh;
       count = omega (arith, few);
       journal = λ i. accepted g (sym first i) (updates_in (spelled i));
       all = λ i. sym none i ++ refused_in g (sym first i) 1 (spelled i);
     }
 
-pub next-left : (g : AirportRows) (day : CalendarDate) (feed : List ℕ) (s t : Day) (refused after : List (ℕ × RefusalWord)) (n m : ℕ)
+pub next-left : (g : AirportRows) (day : CalendarDate) (feed : List ℕ) (s t : DayRecord) (refused after : List (ℕ × RefusalWord)) (n m : ℕ)
     (old new : List (List (List ℕ))) (parsed : List Spelled) → IsLeft g day feed s refused n old
     → map (parse_of day) old ≡ parsed ++ map (parse_of day) new
     → t ≡ record s { journal = accepted s.airport s.journal (updates_in parsed) }
@@ -85,7 +86,7 @@ pub next-left : (g : AirportRows) (day : CalendarDate) (feed : List ℕ) (s t : 
 next-left g day feed s t refused after n m old new parsed left split made told more =
     let rest = map (parse_of day) new in
     let journal : t.journal ≡ accepted g s.journal (updates_in parsed) =
-    ap (λ (x : Day). x.journal) made ∙ ap (λ (h : AirportRows). accepted h s.journal (updates_in parsed)) left.airport in
+    ap (λ (x : DayRecord). x.journal) made ∙ ap (λ (h : AirportRows). accepted h s.journal (updates_in parsed)) left.airport in
     let fewer = fewer-left (parse_of day) old new parsed split in
     let few = left.count in
     let these : after ≡ refused ++ refused_in g s.journal (n + 1) parsed =
@@ -94,7 +95,7 @@ next-left g day feed s t refused after n m old new parsed left split made told m
     let both : refused_in g s.journal (n + 1) (parsed ++ rest) ≡ refused_in g s.journal (n + 1) parsed ++ refused_in g t.journal (m + 1) rest =
     refused-both g s.journal (n + 1) parsed rest ∙ (λ i. refused_in g s.journal (n + 1) parsed ++ refused_in g (sym journal i) (number i) rest) in
     record {
-      airport = ap (λ (x : Day). x.airport) made ∙ left.airport;
+      airport = ap (λ (x : DayRecord). x.airport) made ∙ left.airport;
       count = omega (arith, few, fewer, more);
       journal = left.journal
           ∙ ap (λ (xs : List Spelled). accepted g s.journal (updates_in xs)) split
@@ -107,7 +108,7 @@ next-left g day feed s t refused after n m old new parsed left split made told m
           ∙ ap (λ (rs : List (ℕ × RefusalWord)). rs ++ refused_in g t.journal (m + 1) rest) (sym these);
     }
 
-pub none-left : (g : AirportRows) (day : CalendarDate) (feed : List ℕ) (s : Day) (refused : List (ℕ × RefusalWord)) (n : ℕ)
+pub none-left : (g : AirportRows) (day : CalendarDate) (feed : List ℕ) (s : DayRecord) (refused : List (ℕ × RefusalWord)) (n : ℕ)
     (old new : List (List (List ℕ))) (parsed : List Spelled) → IsLeft g day feed s refused n old
     → map (parse_of day) old ≡ parsed ++ map (parse_of day) new → length parsed ≡ 0 → new ≡ []
     → (s ≡ record { airport = g; journal = accepted_in g feed }) × (refused ≡ refusals_in g feed)

@@ -4,18 +4,13 @@ use Rattle.std.specs.FinMap as map
 use Rattle.cdm_flight.specs.declared.word.RefusalWord.{RefusalWord}
 use Rattle.cdm_flight.specs.declared.word.RefusalWord.TheVariants as word
 use Rattle.cdm_flight.specs.Journal.{AirportRows}
-use Rattle.cdm_day.specs.Airport.{runway_word, taxi_word, with_runway, with_taxi}
-use Rattle.cdm_feed.specs.Fields.{and_then}
+use Rattle.cdm_day.specs.Airport.{with_runway, with_taxi}
+use Rattle.cdm_feed.specs.Fields.{of_one}
 use Rattle.cdm_feed.specs.AirportRecords.{airport_record_of}
 use Rattle.cdm_feed.specs.Files.{after_records}
 use Rattle.cdm_feed.specs.Records.{records_of}
 use Rattle.cdm_feed.specs.declared.airport_record.AirportRecord.{AirportRecord}
 use Rattle.cdm_feed.specs.declared.airport_record.AirportRecord.TheVariants.{Day, Runway, Taxi}
-
--- a row that a word refuses can't be added to the airport
-abbrev pub unless : Option RefusalWord → AirportRows → Result (Option AirportRows) RefusalWord
-unless None g = Ok (Some g)
-unless (Some refusal) g = Err refusal
 
 -- the airport after one more record, where there is none before the first; or the word that refuses
 -- the record: UNKNOWN, EXISTS, ORDER or FULL, the first that holds
@@ -24,12 +19,8 @@ with_record None (Day day) = Ok (Some (record { day = day; runways = []; taxi = 
 with_record None (Runway r cell cap) = Err word.Order
 with_record None (Taxi place r minutes) = Err word.Unknown
 with_record (Some g) (Day day) = Err word.Order
-with_record (Some g) (Runway r cell cap) = unless (runway_word g r) (with_runway g r cell cap)
-with_record (Some g) (Taxi place r minutes) = unless (taxi_word g place r) (with_taxi g place r minutes)
-
--- the airport after one more record of the file, as its fields spell it
-unfoldable pub airport_after : Option AirportRows → List (List ℕ) → Result (Option AirportRows) RefusalWord
-airport_after g fields = and_then (airport_record_of fields) (with_record g)
+with_record (Some g) (Runway r cell cap) = of_one Some (with_runway g r cell cap)
+with_record (Some g) (Taxi place r minutes) = of_one Some (with_taxi g place r minutes)
 
 -- a file without records has no DAY
 abbrev pub begun : Result (Option AirportRows) (ℕ × RefusalWord) → Result AirportRows (ℕ × RefusalWord)
@@ -39,4 +30,4 @@ begun (Err fault) = Err fault
 
 -- the airport that a file says, or the number and the word of its first faulty record
 unfoldable pub airport_in : List ℕ → Result AirportRows (ℕ × RefusalWord)
-airport_in text = begun (after_records airport_after None 1 (records_of text))
+airport_in text = begun (after_records airport_record_of with_record None 1 (records_of text))

@@ -5,15 +5,11 @@ use Rattle.cdm_time.specs.declared.calendar.CalendarDate.{CalendarDate}
 use Rattle.cdm_report.specs.Delta.{delta_line}
 use Rattle.cdm_report.specs.Report.{line_end, refused_line, report_bytes}
 use Rattle.cdm_report.specs.declared.counts.Counts.{Counts}
-use Rattle.cdm_day.specs.Day.{Day}
+use Rattle.cdm_day.specs.Day.{DayRecord}
 use Rattle.cdm_scenario.specs.Outcome.{IsOutcome}
 use Rattle.cdm_scenario.specs.Scenarios.{ScenarioRecord}
 use Rattle.cdm_scenario.specs.declared.outcome.Outcome.{Outcome}
 use Rattle.cdm_scenario.specs.declared.outcome.Outcome.TheVariants.{Planned, Refused}
-
--- the line that names a scenario
-unfoldable pub scenario_line : List ℕ → List ℕ
-scenario_line name = concat (codes "SCENARIO " ∷ name ∷ line_end ∷ [])
 
 -- what becomes of a day, beside what the day itself counts: the report with all updates of a scenario, and
 -- by how much each indicator grew; or the number of the first update that is refused, and its word
@@ -22,7 +18,7 @@ outcome_text day base (Planned plan counts) = report_bytes day plan [] ++ delta_
 outcome_text day base (Refused number word) = refused_line (number, word)
 
 -- the text names the scenario and says what becomes of the day by it, where the day itself counts `base`
-pub record IsAnswer (d : Day) (base : Counts) (scenario : ScenarioRecord) (text : List ℕ) : Type 0 where
+pub record IsAnswer (d : DayRecord) (base : Counts) (scenario : ScenarioRecord) (text : List ℕ) : Type 0 where
   pub outcome : Outcome
   pub of_day : IsOutcome d scenario.updates outcome
-  pub bytes : text ≡ scenario_line scenario.name ++ outcome_text d.airport.day base outcome
+  pub bytes : text ≡ concat (codes "SCENARIO " ∷ scenario.name ∷ line_end ∷ []) ++ outcome_text d.airport.day base outcome

@@ -1,14 +1,13 @@
 -- What the fields of a record spell: a value, or the word that refuses it. A field that hasn't its
 -- form is refused by TEXT, one out of its range by RANGE.
-use Rattle.std.specs.Prelude.{ℕ, Bool, ◌&&◌, ◌==◌, nat_le, List, [], length, codes, bytes_eq, Option, Some, None, unwrap_or, Result, Ok, Err, if◌then◌else◌}
+use Rattle.std.specs.Prelude.{ℕ, Bool, ◌&&◌, ◌==◌, not, nat_le, List, [], length, codes, bytes_eq, Option, Some, None, unwrap_or, Result, Ok, Err, if◌then◌else◌}
 use Rattle.std.specs.Result.{result_map_both}
 use Rattle.csv.specs.Records.{field_at}
 use Rattle.cdm_time.specs.Digits.{are_digits, number_in}
-use Rattle.cdm_time.specs.Times.{bound_of, day_of, minute_of}
+use Rattle.cdm_time.specs.Times.{minute_up_to}
 use Rattle.cdm_time.specs.declared.calendar.CalendarDate.{CalendarDate}
 use Rattle.cdm_time.specs.declared.day.TimeFault.{TimeFault}
 use Rattle.cdm_time.specs.declared.day.TimeFault.TheVariants as fault
-use Rattle.cdm_flight.specs.Cells.{is_cell_length}
 use Rattle.cdm_flight.specs.Names.{is_name}
 use Rattle.cdm_flight.specs.declared.ice.Ice.{Ice}
 use Rattle.cdm_flight.specs.declared.ice.Ice.TheVariants.{NoIce, AtStand, Remote}
@@ -21,14 +20,14 @@ use Rattle.cdm_flight.specs.declared.word.RefusalWord.TheVariants.{Fields, Text,
 abbrev pub field : List (List ℕ) → ℕ → List ℕ
 field fields place = unwrap_or (field_at fields place) []
 
--- what a record with so many fields spells; with another number of them FIELDS refuses it
-abbrev pub of_fields : {X : Type 0} → ℕ → List (List ℕ) → Result X RefusalWord → Result X RefusalWord
-of_fields count fields r = if length fields == count then r else Err Fields
+-- what so many fields spell; another number of them is refused by FIELDS
+abbrev pub counted : {X : Type 0} → ℕ → ℕ → Result X RefusalWord → Result X RefusalWord
+counted wanted count r = if count == wanted then r else Err Fields
 
 -- goes on with a good value, and keeps the word that refuses a faulty one
-abbrev pub and_then : {A X : Type 0} → Result A RefusalWord → (A → Result X RefusalWord) → Result X RefusalWord
+abbrev pub and_then : {A X E : Type 0} → Result A E → (A → Result X E) → Result X E
 and_then (Ok a) more = more a
-and_then (Err word) more = Err word
+and_then (Err fault) more = Err fault
 
 -- what a good field's value makes
 abbrev pub of_one : {A X : Type 0} → (A → X) → Result A RefusalWord → Result X RefusalWord
@@ -53,10 +52,6 @@ both (Err one) (Err other) = Err (first_word one other)
 unfoldable pub all_three : {A B C : Type 0} → Result A RefusalWord → Result B RefusalWord → Result C RefusalWord → Result (A × B × C) RefusalWord
 all_three a b c = of_one (λ p. (p.0, p.1.0, p.1.1)) (both a (both b c))
 
--- four values, or the word that refuses them
-unfoldable pub all_four : {A B C D : Type 0} → Result A RefusalWord → Result B RefusalWord → Result C RefusalWord → Result D RefusalWord → Result (A × B × C × D) RefusalWord
-all_four a b c d = of_one (λ p. (p.0, p.1.0, p.1.1, p.1.2)) (both a (all_three b c d))
-
 -- what the values of two good fields make
 abbrev pub of_two : {A B X : Type 0} → (A → B → X) → Result A RefusalWord → Result B RefusalWord → Result X RefusalWord
 of_two f a b = of_one (λ p. f p.0 p.1) (both a b)
@@ -65,24 +60,20 @@ of_two f a b = of_one (λ p. f p.0 p.1) (both a b)
 abbrev pub of_three : {A B C X : Type 0} → (A → B → C → X) → Result A RefusalWord → Result B RefusalWord → Result C RefusalWord → Result X RefusalWord
 of_three f a b c = of_one (λ p. f p.0 p.1 p.2) (all_three a b c)
 
--- what the values of four good fields make
-abbrev pub of_four : {A B C D X : Type 0} → (A → B → C → D → X) → Result A RefusalWord → Result B RefusalWord → Result C RefusalWord → Result D RefusalWord → Result X RefusalWord
-of_four f a b c d = of_one (λ p. f p.0 p.1 p.2 p.3) (all_four a b c d)
-
 -- Names.
 
--- 1 to `most` letters and digits
-abbrev pub name_field : ℕ → List ℕ → Result (List ℕ) RefusalWord
-name_field most text = if is_name most text then Ok text else Err Text
+-- a name of such a form
+abbrev pub name_field : (List ℕ → Bool) → List ℕ → Result (List ℕ) RefusalWord
+name_field is_good text = if is_good text then Ok text else Err Text
 
 abbrev pub flight_field : List ℕ → Result (List ℕ) RefusalWord
-flight_field = name_field 7
+flight_field = name_field (is_name 7)
 
 abbrev pub runway_field : List ℕ → Result (List ℕ) RefusalWord
-runway_field = name_field 3
+runway_field = name_field (is_name 3)
 
 abbrev pub stand_field : List ℕ → Result (List ℕ) RefusalWord
-stand_field = name_field 5
+stand_field = name_field (is_name 5)
 
 -- a stand, or `*` for the runway's default
 abbrev pub place_field : List ℕ → Result Place RefusalWord
@@ -90,14 +81,11 @@ place_field text = if bytes_eq text (codes "*") then Ok place.Default else of_on
 
 -- Numbers.
 
--- 1 to 4 digits
-abbrev pub is_number : List ℕ → Bool
-is_number text = nat_le 1 (length text) && nat_le (length text) 4 && are_digits text
-
--- a number that is in a range
+-- a number of 1 to 4 digits that is in a range
 abbrev pub number_field : (ℕ → Bool) → List ℕ → Result ℕ RefusalWord
 number_field in_range text =
-    if is_number text then (if in_range (number_in text) then Ok (number_in text) else Err Range) else Err Text
+    if not (nat_le 1 (length text) && nat_le (length text) 4 && are_digits text) then Err Text
+    else if in_range (number_in text) then Ok (number_in text) else Err Range
 
 -- a priority
 abbrev pub priority_field : List ℕ → Result ℕ RefusalWord
@@ -107,10 +95,6 @@ priority_field = number_field (λ n. nat_le n 9)
 abbrev pub cap_field : List ℕ → Result ℕ RefusalWord
 cap_field = number_field (λ n. nat_le n 60)
 
--- the length of a cell
-abbrev pub cell_field : List ℕ → Result ℕ RefusalWord
-cell_field = number_field is_cell_length
-
 -- the minutes of a taxi time
 abbrev pub taxi_field : List ℕ → Result ℕ RefusalWord
 taxi_field = number_field (λ n. nat_le 1 n && nat_le n 120)
@@ -119,14 +103,10 @@ taxi_field = number_field (λ n. nat_le 1 n && nat_le n 120)
 abbrev pub ice_minutes : List ℕ → Result ℕ RefusalWord
 ice_minutes = number_field (λ n. nat_le 1 n && nat_le n 60)
 
--- the 0 minutes of a flight that isn't de-iced
-abbrev pub no_minutes : List ℕ → Result ℕ RefusalWord
-no_minutes = number_field (λ n. n == 0)
-
 -- NONE with 0 minutes, STAND or REMOTE with its minutes
 unfoldable pub ice_field : List ℕ → List ℕ → Result Ice RefusalWord
 ice_field kind minutes =
-    if bytes_eq kind (codes "NONE") then of_one (λ n. NoIce) (no_minutes minutes)
+    if bytes_eq kind (codes "NONE") then of_one (λ n. NoIce) (number_field (λ n. n == 0) minutes)
     else if bytes_eq kind (codes "STAND") then of_one AtStand (ice_minutes minutes)
     else if bytes_eq kind (codes "REMOTE") then of_one Remote (ice_minutes minutes)
     else Err Text
@@ -141,17 +121,13 @@ word_of fault.Range = Range
 abbrev pub refused_by_word : {X : Type 0} → Result X TimeFault → Result X RefusalWord
 refused_by_word r = result_map_both (λ x. x) word_of r
 
--- an airport's day
-abbrev pub day_field : List ℕ → Result CalendarDate RefusalWord
-day_field text = refused_by_word (day_of text)
-
 -- a time, as the minute of the horizon
 abbrev pub time_field : CalendarDate → List ℕ → Result ℕ RefusalWord
-time_field day text = refused_by_word (minute_of day text)
+time_field day text = refused_by_word (minute_up_to 2879 day text)
 
 -- the end of a window
 abbrev pub bound_field : CalendarDate → List ℕ → Result ℕ RefusalWord
-bound_field day text = refused_by_word (bound_of day text)
+bound_field day text = refused_by_word (minute_up_to 2880 day text)
 
 -- a CTOT, or `-` for none any more
 abbrev pub ctot_field : CalendarDate → List ℕ → Result (Option ℕ) RefusalWord

@@ -1,6 +1,5 @@
--- What a read of a whole input takes from its reader.
-use Rattle.std.specs.Prelude.{◌≡◌, ℕ, Bool, true, false, List, length, Option, Result, Ok, Err}
-use Rattle.std.specs.Io.KnownBytes.{Consumes}
+-- The limit of an input, and how the read of one fails.
+use Rattle.std.specs.Prelude.{ℕ, Bool, true, false, Result, Ok, Err}
 use Rattle.cdm_feed.specs.declared.input.InputFault.{InputFault}
 use Rattle.cdm_feed.specs.declared.input.InputFault.TheVariants as fault
 
@@ -14,7 +13,3 @@ is_failed_input (Ok input) = false
 is_failed_input (Err fault.Failed) = true
 is_failed_input (Err fault.TooLong) = false
 is_failed_input (Err fault.Memory) = false
-
--- a reader that had `old` left has given so many of these bytes, and has `new` left
-abbrev pub GivesBytes : Option (List ℕ) → Option (List ℕ) → ℕ → Type 0
-GivesBytes old new n = (given : List ℕ) × Consumes old new given × (length given ≡ n)

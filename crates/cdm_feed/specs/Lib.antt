@@ -3,7 +3,6 @@ pub mod Input
 pub mod Records
 pub mod Quoted
 pub mod Roles
-pub mod Kinds
 pub mod Fields
 pub mod Parsing
 pub mod AirportRecords

@@ -8,7 +8,7 @@ use Rattle.cdm_flight.specs.declared.word.RefusalWord.{RefusalWord}
 use Rattle.cdm_sequence.specs.Slots.{PlanRecord}
 use Rattle.cdm_report.specs.Counts.{counts_of}
 use Rattle.cdm_report.specs.Report.{report_bytes}
-use Rattle.cdm_day.specs.Day.{Day}
+use Rattle.cdm_day.specs.Day.{DayRecord}
 use Rattle.cdm_day.specs.DayPlan.{IsDayPlan}
 use Rattle.cdm_scenario.specs.Scenarios.{ScenarioRecord}
 use Rattle.cdm_feed.specs.AirportFile.{airport_in}
@@ -32,7 +32,7 @@ unfoldable pub refusals_in : AirportRows → List ℕ → List (ℕ × RefusalWo
 refusals_in g feed = refused_in g [] 1 (spelled_in g feed)
 
 -- the day that an airport and the accepted updates of a feed make
-abbrev pub day_in : AirportRows → List ℕ → Day
+abbrev pub day_in : AirportRows → List ℕ → DayRecord
 day_in g feed = record { airport = g; journal = accepted_in g feed }
 
 -- the text is the report of the day and of the feed's refused records, and then the answer to each
@@ -44,30 +44,19 @@ pub record IsReport (g : AirportRows) (feed : List ℕ) (scenarios : List Scenar
   pub of_scenarios : AllZip (IsAnswer (day_in g feed) (counts_of plan)) scenarios answers
   pub bytes : text ≡ report_bytes g.day plan (refusals_in g feed) ++ concat answers
 
--- the text that is written for the bytes of an airport file, of a feed and of a scenario file
-pub record IsOutput (airport feed scenarios text : List ℕ) : Type 0 where
+-- the text that is written for the bytes of an airport file, of a feed and of a scenario file, and what is
+-- counted: the accepted updates, the refused records and the scenarios
+pub record IsOutput (airport feed scenarios text : List ℕ) (counts : RunCounts) : Type 0 where
   pub rows : AirportRows
   pub airport_file : airport_in airport ≡ Ok rows
   pub questions : List ScenarioRecord
   pub scenario_file : scenarios_in rows.day scenarios ≡ Ok questions
   pub report : IsReport rows feed questions text
-
--- the counts of a run: the accepted updates, the refused records, and the scenarios
-abbrev pub counts_in : AirportRows → List ℕ → List ScenarioRecord → RunCounts
-counts_in g feed questions = record {
-  accepted = length (accepted_in g feed);
-  refused = length (refusals_in g feed);
-  scenarios = length questions;
-}
-
--- what the bytes of an airport file, of a feed and of a scenario file make a run count
-abbrev pub AreCounts : List ℕ → List ℕ → List ℕ → RunCounts → Type 0
-AreCounts airport feed scenarios counts =
-    (g : AirportRows) × (airport_in airport ≡ Ok g)
-    × (questions : List ScenarioRecord) × (scenarios_in g.day scenarios ≡ Ok questions)
-    × (counts ≡ counts_in g feed questions)
+  pub accepted : counts.accepted ≡ length (accepted_in rows feed)
+  pub refused : counts.refused ≡ length (refusals_in rows feed)
+  pub asked : counts.scenarios ≡ length questions
 
 -- the bytes of an airport file, of a feed and of a scenario file have one text at most
 abbrev pub HaveOneText : List ℕ → List ℕ → List ℕ → Type 0
 HaveOneText airport feed scenarios =
-    (text other : List ℕ) → IsOutput airport feed scenarios text → IsOutput airport feed scenarios other → text ≡ other
+    (text other : List ℕ) (c d : RunCounts) → IsOutput airport feed scenarios text c → IsOutput airport feed scenarios other d → text ≡ other

@@ -1,49 +1,45 @@
 -- What a record of the feed spells: a role and an update, or the first word that refuses it.
-use Rattle.std.specs.Prelude.{ℕ, ◌+◌, Bool, ◌==◌, not, nat_lt, List, length, Option, Some, None, Result, Err, if◌then◌else◌}
+use Rattle.std.specs.Prelude.{ℕ, ◌-◌, nat_lt, List, length, codes, bytes_eq, Option, Some, None, Result, Err, if◌then◌else◌}
 use Rattle.cdm_time.specs.declared.calendar.CalendarDate.{CalendarDate}
 use Rattle.cdm_flight.specs.declared.role.Role.{Role}
 use Rattle.cdm_flight.specs.declared.update.Update.{Update}
 use Rattle.cdm_flight.specs.declared.update.Update.TheVariants as update
 use Rattle.cdm_flight.specs.declared.word.RefusalWord.{RefusalWord}
 use Rattle.cdm_flight.specs.declared.word.RefusalWord.TheVariants as word
-use Rattle.cdm_feed.specs.Fields.{bound_field, cap_field, ctot_field, field, flight_field, ice_field, of_four, of_one, of_three, of_two, place_field, priority_field, runway_field, stand_field, taxi_field, time_field}
-use Rattle.cdm_feed.specs.Kinds.{field_count, kind_of}
+use Rattle.cdm_feed.specs.Fields.{all_three, bound_field, cap_field, counted, ctot_field, field, flight_field, ice_field, of_one, of_three, of_two, place_field, priority_field, runway_field, stand_field, taxi_field, time_field}
 use Rattle.cdm_feed.specs.Roles.{role_of}
-use Rattle.cdm_feed.specs.declared.kind.Kind.{Kind}
-use Rattle.cdm_feed.specs.declared.kind.Kind.TheVariants as kind
 
--- the update of a kind that the fields after the kind spell
-unfoldable pub update_of : CalendarDate → Kind → List ℕ → List ℕ → List ℕ → List ℕ → Result Update RefusalWord
-update_of day kind.Flt flight priority _ _ = of_two update.Flt (flight_field flight) (priority_field priority)
-update_of day kind.Tobt flight tobt _ _ = of_two update.Tobt (flight_field flight) (time_field day tobt)
-update_of day kind.Stand flight stand _ _ = of_two update.Stand (flight_field flight) (stand_field stand)
-update_of day kind.Rwy flight runway _ _ = of_two update.Rwy (flight_field flight) (runway_field runway)
-update_of day kind.Ctot flight ctot _ _ = of_two update.Ctot (flight_field flight) (ctot_field day ctot)
-update_of day kind.Ice flight ice minutes _ = of_two update.Ice (flight_field flight) (ice_field ice minutes)
-update_of day kind.Prio flight priority _ _ = of_two update.Prio (flight_field flight) (priority_field priority)
-update_of day kind.Off flight aobt _ _ = of_two update.Off (flight_field flight) (time_field day aobt)
-update_of day kind.Air flight atot _ _ = of_two update.Air (flight_field flight) (time_field day atot)
-update_of day kind.Cnl flight _ _ _ = of_one update.Cnl (flight_field flight)
-update_of day kind.Rate runway from to cap = of_four update.Rate (runway_field runway) (time_field day from) (bound_field day to) (cap_field cap)
-update_of day kind.Close runway from to _ = of_three update.Close (runway_field runway) (time_field day from) (bound_field day to)
-update_of day kind.Reopen runway from to _ = of_three update.Reopen (runway_field runway) (time_field day from) (bound_field day to)
-update_of day kind.Taxi place runway minutes _ = of_three update.Taxi (place_field place) (runway_field runway) (taxi_field minutes)
-update_of day kind.Clock now _ _ _ = of_one update.Clock (time_field day now)
+-- the update of the kind that a field names, which so many fields follow, the first four of them these: how many
+-- a kind wants, and what they spell
+unfoldable pub update_of : CalendarDate → List ℕ → ℕ → List ℕ → List ℕ → List ℕ → List ℕ → Result Update RefusalWord
+update_of day kind n a b c d =
+    if bytes_eq kind (codes "FLT") then counted 2 n (of_two update.Flt (flight_field a) (priority_field b))
+    else if bytes_eq kind (codes "TOBT") then counted 2 n (of_two update.Tobt (flight_field a) (time_field day b))
+    else if bytes_eq kind (codes "STAND") then counted 2 n (of_two update.Stand (flight_field a) (stand_field b))
+    else if bytes_eq kind (codes "RWY") then counted 2 n (of_two update.Rwy (flight_field a) (runway_field b))
+    else if bytes_eq kind (codes "CTOT") then counted 2 n (of_two update.Ctot (flight_field a) (ctot_field day b))
+    else if bytes_eq kind (codes "ICE") then counted 3 n (of_two update.Ice (flight_field a) (ice_field b c))
+    else if bytes_eq kind (codes "PRIO") then counted 2 n (of_two update.Prio (flight_field a) (priority_field b))
+    else if bytes_eq kind (codes "OFF") then counted 2 n (of_two update.Off (flight_field a) (time_field day b))
+    else if bytes_eq kind (codes "AIR") then counted 2 n (of_two update.Air (flight_field a) (time_field day b))
+    else if bytes_eq kind (codes "CNL") then counted 1 n (of_one update.Cnl (flight_field a))
+    else if bytes_eq kind (codes "RATE") then
+    counted 4 n (of_two (λ r w. update.Rate r w.0 w.1 w.2) (runway_field a) (all_three (time_field day b) (bound_field day c) (cap_field d)))
+    else if bytes_eq kind (codes "CLOSE") then counted 3 n (of_three update.Close (runway_field a) (time_field day b) (bound_field day c))
+    else if bytes_eq kind (codes "OPEN") then counted 3 n (of_three update.Reopen (runway_field a) (time_field day b) (bound_field day c))
+    else if bytes_eq kind (codes "TAXI") then counted 3 n (of_three update.Taxi (place_field a) (runway_field b) (taxi_field c))
+    else if bytes_eq kind (codes "CLOCK") then counted 1 n (of_one update.Clock (time_field day a))
+    else Err word.Kind
 
--- fewer than two fields, or not as many as a record of the kind has
-abbrev pub has_wrong_count : Option Kind → ℕ → Bool
-has_wrong_count None n = nat_lt n 2
-has_wrong_count (Some kind) n = not (n == 2 + field_count kind)
-
--- what a record with the right number of fields spells, by its role and its kind
-abbrev pub spelled : CalendarDate → Option Role → Option Kind → List (List ℕ) → Result (Role × Update) RefusalWord
-spelled day None kind fields = Err word.Role
-spelled day (Some role) None fields = Err word.Kind
-spelled day (Some role) (Some kind) fields =
-    of_one (λ u. (role, u)) (update_of day kind (field fields 2) (field fields 3) (field fields 4) (field fields 5))
+-- with the role that a field names; FIELDS comes before ROLE, and ROLE before the other words
+abbrev pub with_role : Option Role → Result Update RefusalWord → Result (Role × Update) RefusalWord
+with_role (Some role) r = of_one (λ u. (role, u)) r
+with_role None (Err word.Fields) = Err word.Fields
+with_role None r = Err word.Role
 
 -- what a record spells
 unfoldable pub parse_of : CalendarDate → List (List ℕ) → Result (Role × Update) RefusalWord
 parse_of day fields =
-    if has_wrong_count (kind_of (field fields 1)) (length fields) then Err word.Fields
-    else spelled day (role_of (field fields 0)) (kind_of (field fields 1)) fields
+    if nat_lt (length fields) 2 then Err word.Fields
+    else with_role (role_of (field fields 0))
+    (update_of day (field fields 1) (length fields - 2) (field fields 2) (field fields 3) (field fields 4) (field fields 5))

@@ -1,2 +1,4 @@
+pub mod Faults
 pub mod OneAnswer
 pub mod RecordsLeft
+pub mod Kinds

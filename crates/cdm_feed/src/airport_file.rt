@@ -1,7 +1,9 @@
 //! Airport files.
 ghost use Rattle.std.specs.Prelude.{◌≡◌, Ok, Some, IfOk, IfErr};
 ghost use Rattle.csv.specs.Records.{fields_of};
-ghost use Rattle.cdm_feed.specs.AirportFile.{airport_after, airport_in, with_record};
+ghost use Rattle.cdm_feed.specs.AirportFile.{airport_in, with_record};
+ghost use Rattle.cdm_feed.specs.AirportRecords.{airport_record_of};
+ghost use Rattle.cdm_feed.specs.Fields.{and_then};
 ghost use Rattle.cdm_feed.specs.Files.{IsFaultOf, IsRecordFaultOf};
 ghost use Rattle.cdm_feed.specs.FileFaults.{row_fault};
 
@@ -24,7 +26,7 @@ fn row_fault(fault: AirportFault) -> RecordFault
 }
 
 // The airport after one more record.
-#[tactic(auto, unfolding(crate::specs::AirportFile::with_record))]
+#[tactic(auto, unfolding(crate::specs::AirportFile::with_record), using(crate::proofs::RowLemmas::row_refused))]
 fn add(alloc: Global, airport: Option<Airport>, said: AirportRecord) -> Result<Airport, RecordFault>
     ensures added { IfOk result (λ g. with_record airport said ≡ Ok (Some g)) }
     ensures refused { IfErr result (λ e. IsRecordFaultOf (with_record airport said) e) }
@@ -36,8 +38,10 @@ fn add(alloc: Global, airport: Option<Airport>, said: AirportRecord) -> Result<A
             Err(RecordFault::Refused(RefusalWord::Order))
         }
         (Some(mut airport), AirportRecord::Runway { runway, cell, cap }) => {
-            airport.add_runway(runway, cell, cap).map_err(row_fault)?;
-            Ok(airport)
+            match airport.add_runway(runway, cell, cap) {
+                Ok(()) => Ok(airport),
+                Err(fault) => Err(row_fault(fault)),
+            }
         }
         (
             Some(mut airport),
@@ -46,22 +50,21 @@ fn add(alloc: Global, airport: Option<Airport>, said: AirportRecord) -> Result<A
                 runway,
                 minutes,
             },
-        ) => {
-            airport.add_taxi(place, runway, minutes).map_err(row_fault)?;
-            Ok(airport)
-        }
+        ) => match airport.add_taxi(place, runway, minutes) {
+            Ok(()) => Ok(airport),
+            Err(fault) => Err(row_fault(fault)),
+        },
     }
 }
 
 // The airport after one more record, as its fields spell it.
-#[tactic(auto, unfolding(crate::specs::AirportFile::airport_after))]
 fn add_record(
     alloc: Global,
     airport: Option<Airport>,
     row: &ByteRecord,
 ) -> Result<Airport, RecordFault>
-    ensures added { IfOk result (λ g. airport_after airport (fields_of row.now) ≡ Ok (Some g)) }
-    ensures refused { IfErr result (λ e. IsRecordFaultOf (airport_after airport (fields_of row.now)) e) }
+    ensures added { IfOk result (λ g. and_then (airport_record_of (fields_of row.now)) (with_record airport) ≡ Ok (Some g)) }
+    ensures refused { IfErr result (λ e. IsRecordFaultOf (and_then (airport_record_of (fields_of row.now)) (with_record airport)) e) }
 {
     match airport_record(row) {
         Ok(said) => add(alloc, airport, said),

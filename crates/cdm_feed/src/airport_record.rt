@@ -71,6 +71,3 @@ pub(crate) fn airport_record(row: &ByteRecord) -> Result<AirportRecord, RefusalW
         Err(RefusalWord::Kind)
     }
 }
-
-#[cfg(test)]
-mod tests;

@@ -1,9 +1,10 @@
 //! What is written of scenarios.
-ghost use Rattle.std.specs.Prelude.{◌≡◌, ◌++◌, ℕ, List, IfOk, OnOk};
+ghost use Rattle.std.specs.Prelude.{◌≡◌, ◌++◌, ℕ, List, [], ◌∷◌, codes, IfOk, OnOk};
 ghost use Rattle.std.specs.List.{AllZip, concat};
 ghost use Rattle.cdm_phase.specs.declared.job.PhaseName.TheVariants.{Scenarios};
+ghost use Rattle.cdm_report.specs.Report.{line_end};
 ghost use Rattle.cdm_day.specs.Sound.{IsSound};
-ghost use Rattle.cdm_feed.specs.Answers.{IsAnswer, outcome_text, scenario_line};
+ghost use Rattle.cdm_feed.specs.Answers.{IsAnswer, outcome_text};
 ghost use Rattle.cdm_feed.specs.inner.OneAnswer.{one_answer};
 
 use cdm_day::{DayState, Records};
@@ -16,9 +17,8 @@ use std::alloc::{AllocError, Global};
 use std::thread::Threads;
 
 // The line that names a scenario.
-#[tactic(auto, unfolding(crate::specs::Answers::scenario_line))]
 fn scenario_line(alloc: Global, name: &ScenarioName) -> Result<Vec<u8>, AllocError>
-    ensures { IfOk result (λ text. text.items ≡ scenario_line name.now) }
+    ensures { IfOk result (λ text. text.items ≡ concat (codes "SCENARIO " ∷ name.now ∷ line_end ∷ [])) }
 {
     let mut text = Vec::from_slice(alloc, b"SCENARIO ")?;
     text.extend_from_slice(name.bytes())?;

@@ -49,6 +49,3 @@ pub(crate) fn read_stretch(
     }
     Ok(parsed)
 }
-
-#[cfg(test)]
-mod tests;

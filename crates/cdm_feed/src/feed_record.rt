@@ -2,6 +2,7 @@
 ghost use Rattle.std.specs.Prelude.{◌≡◌};
 ghost use Rattle.csv.specs.Records.{fields_of};
 ghost use Rattle.cdm_feed.specs.Parsing.{parse_of, update_of};
+ghost use Rattle.cdm_feed.specs.inner.Kinds.{named, update_by};
 
 use crate::field::{
     all_four, all_three, both, bound_field, cap_field, ctot_field, field, ice_field, name_field,
@@ -32,10 +33,10 @@ macro_rules! update {
     };
 }
 
-/// The update of a kind that the fields after the kind spell. A kind with fewer than four fields
-/// leaves the last ones alone.
-#[tactic(auto, unfolding(crate::specs::Parsing::update_of))]
-pub(crate) fn update_of(
+// The update of a kind that the fields after the kind spell. A kind with fewer than four fields
+// leaves the last ones alone.
+#[tactic(auto, unfolding(crate::specs::inner::Kinds::update_by))]
+fn update_by(
     day: Day,
     kind: Kind,
     first: &[u8],
@@ -43,7 +44,7 @@ pub(crate) fn update_of(
     third: &[u8],
     fourth: &[u8],
 ) -> Result<Update, RefusalWord>
-    ensures { result ≡ update_of day kind first.now second.now third.now fourth.now }
+    ensures { result ≡ update_by day kind first.now second.now third.now fourth.now }
 {
     match kind {
         Kind::Flt => update!(Flt, flight: name_field(first), priority: priority_field(second)),
@@ -68,24 +69,75 @@ pub(crate) fn update_of(
     }
 }
 
+// The update of a kind, if there is one, that so many fields spell.
+fn named(
+    day: Day,
+    kind: Option<Kind>,
+    count: usize,
+    first: &[u8],
+    second: &[u8],
+    third: &[u8],
+    fourth: &[u8],
+) -> Result<Update, RefusalWord>
+    ensures { result ≡ named day kind count first.now second.now third.now fourth.now }
+{
+    let Some(kind) = kind else {
+        return Err(RefusalWord::Kind);
+    };
+    if count != kind.field_count() {
+        return Err(RefusalWord::Fields);
+    }
+    update_by(day, kind, first, second, third, fourth)
+}
+
+/// The update of the kind that a field names. `count` fields follow the kind, the first four of them
+/// these; one that the record hasn't is empty.
+pub(crate) fn update_of(
+    day: Day,
+    kind: &[u8],
+    count: usize,
+    first: &[u8],
+    second: &[u8],
+    third: &[u8],
+    fourth: &[u8],
+) -> Result<Update, RefusalWord>
+    ensures { result ≡ update_of day kind.now count first.now second.now third.now fourth.now }
+{
+    named(
+        day,
+        Kind::of_text(kind),
+        count,
+        first,
+        second,
+        third,
+        fourth,
+    )
+}
+
 /// What a record of the feed spells, the role and the update, or the first word that refuses it: the
 /// words Fields to Range, which are seen in the record alone (local profile).
 #[tactic(auto, unfolding(crate::specs::Parsing::parse_of))]
 pub(crate) fn parse_record(day: Day, row: &ByteRecord) -> Result<(Role, Update), RefusalWord>
     ensures { result ≡ parse_of day (fields_of row.now) }
 {
-    let kind = Kind::of_text(field(row, 1));
-    let is_counted = match kind {
-        Some(kind) => row.len() == 2 + kind.field_count(),
-        None => row.len() >= 2,
-    };
-    if !is_counted {
+    if row.len() < 2 {
         return Err(RefusalWord::Fields);
     }
-    let role = role_of(field(row, 0)).ok_or(RefusalWord::Role)?;
-    let kind = kind.ok_or(RefusalWord::Kind)?;
     let (first, second) = (field(row, 2), field(row, 3));
     let (third, fourth) = (field(row, 4), field(row, 5));
-    let update = update_of(day, kind, first, second, third, fourth)?;
-    Ok((role, update))
+    let update = update_of(
+        day,
+        field(row, 1),
+        row.len() - 2,
+        first,
+        second,
+        third,
+        fourth,
+    );
+    match (role_of(field(row, 0)), update) {
+        (Some(role), Ok(update)) => Ok((role, update)),
+        (Some(_), Err(word)) => Err(word),
+        (None, Err(RefusalWord::Fields)) => Err(RefusalWord::Fields),
+        (None, _) => Err(RefusalWord::Role),
+    }
 }

@@ -1,10 +1,14 @@
 //! The fields of a record. Each has a form, else it is refused by Text, and may have a range, else it
 //! is refused by Range.
-ghost use Rattle.std.specs.Prelude.{◌≤◌, ◌≡◌, Ok, Err, if◌then◌else◌};
+ghost use Rattle.std.specs.Prelude.{◌≤◌, ◌≡◌, ◌&&◌, nat_le, not, length, Ok, Err, if◌then◌else◌};
 ghost use Rattle.csv.specs.Records.{fields_of};
-ghost use Rattle.cdm_time.specs.Digits.{number_in};
+ghost use Rattle.cdm_time.specs.Digits.{are_digits, number_in};
+ghost use Rattle.cdm_time.specs.Times.{day_of};
+ghost use Rattle.cdm_flight.specs.Cells.{is_cell_length};
+ghost use Rattle.cdm_flight.specs.Names.{is_name};
 ghost use Rattle.cdm_flight.specs.declared.word.RefusalWord.TheVariants as word;
-ghost use Rattle.cdm_feed.specs.Fields.{all_four, all_three, both, bound_field, cap_field, cell_field, ctot_field, day_field, field, first_word, ice_field, ice_minutes, is_number, name_field, place_field, priority_field, taxi_field, time_field, word_of};
+ghost use Rattle.cdm_feed.specs.inner.Kinds.{all_four};
+ghost use Rattle.cdm_feed.specs.Fields.{all_three, both, bound_field, cap_field, ctot_field, field, first_word, ice_field, ice_minutes, name_field, number_field, place_field, priority_field, refused_by_word, taxi_field, time_field, word_of};
 
 use cdm_flight::{
     Cap, CellLength, Ice, IceMinutes, Name, Place, Priority, RefusalWord, TaxiMinutes,
@@ -22,7 +26,7 @@ pub(crate) fn field(row: &ByteRecord, place: usize) -> &[u8]
 /// The name of a flight, a runway or a stand: 1 to `MOST` bytes of `A-Z0-9`.
 pub(crate) fn name_field<const MOST: usize>(text: &[u8]) -> Result<Name<MOST>, RefusalWord>
     requires { MOST ≤ 255 }
-    ensures { result ≡ name_field MOST text.now }
+    ensures { result ≡ name_field (is_name MOST) text.now }
 {
     Name::new(text).ok_or(RefusalWord::Text)
 }
@@ -39,7 +43,7 @@ pub(crate) fn place_field(text: &[u8]) -> Result<Place, RefusalWord>
 
 // A number of 1 to 4 digits, with leading zeros or without.
 fn number_field(text: &[u8]) -> Result<u16, RefusalWord>
-    ensures { result ≡ (if is_number text.now then Ok (number_in text.now) else Err word.Text) }
+    ensures { result ≡ (if not (nat_le 1 (length text.now) && nat_le (length text.now) 4 && are_digits text.now) then Err word.Text else Ok (number_in text.now)) }
 {
     if text.is_empty() || text.len() > 4 {
         return Err(RefusalWord::Text);
@@ -63,7 +67,7 @@ pub(crate) fn cap_field(text: &[u8]) -> Result<Cap, RefusalWord>
 
 /// The length of a runway's cells, a divisor of the hour.
 pub(crate) fn cell_field(text: &[u8]) -> Result<CellLength, RefusalWord>
-    ensures { result ≡ cell_field text.now }
+    ensures { result ≡ number_field is_cell_length text.now }
 {
     CellLength::new(number_field(text)?).ok_or(RefusalWord::Range)
 }
@@ -114,7 +118,7 @@ fn word_of(fault: TimeFault) -> RefusalWord
 
 /// A date of the form YYYY-MM-DD, of the years 2000 to 2099.
 pub(crate) fn day_field(text: &[u8]) -> Result<Day, RefusalWord>
-    ensures { result ≡ day_field text.now }
+    ensures { result ≡ refused_by_word (day_of text.now) }
 {
     Day::of_text(text).map_err(word_of)
 }
@@ -182,7 +186,7 @@ pub(crate) fn all_three<A: Drop, B: Drop, C: Drop>(
 }
 
 /// Four values, or the word that refuses them.
-#[tactic(auto, unfolding(crate::specs::Fields::all_four))]
+#[tactic(auto, unfolding(crate::specs::inner::Kinds::all_four))]
 pub(crate) fn all_four<A: Drop, B: Drop, C: Drop, D: Drop>(
     one: Result<A, RefusalWord>,
     two: Result<B, RefusalWord>,

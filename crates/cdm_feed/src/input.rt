@@ -1,7 +1,7 @@
 //! Whole inputs.
-ghost use Rattle.std.specs.Prelude.{◌≡◌, ◌≤◌, ◌+◌, ℕ, false, vec_len, IfOk, OnOk, IfSome, IsErrOf};
-ghost use Rattle.std.specs.Io.KnownBytes.{IsAtEnd};
-ghost use Rattle.cdm_feed.specs.Input.{GivesBytes, input_limit, is_failed_input};
+ghost use Rattle.std.specs.Prelude.{◌≡◌, ◌≤◌, ◌+◌, ℕ, List, length, false, vec_len, IfOk, OnOk, IfSome, IsErrOf};
+ghost use Rattle.std.specs.Io.KnownBytes.{Consumes, IsAtEnd};
+ghost use Rattle.cdm_feed.specs.Input.{input_limit, is_failed_input};
 ghost use Rattle.cdm_feed.specs.declared.input.InputFault.TheVariants as fault;
 
 use crate::device::Device;
@@ -53,10 +53,11 @@ pub fn read_input<R: Read>(alloc: Global, device: &mut Device<R>) -> Result<Vec<
 
     // One byte past the limit was given, or else no byte past it.
     ensures too_long { IsErrOf result InputFault.TooLong →
-        GivesBytes (R.remaining device.old.inner) (R.remaining device.new.inner) (input_limit + 1) }
+        (given : List ℕ) × Consumes (R.remaining device.old.inner) (R.remaining device.new.inner) given
+        × (length given ≡ input_limit + 1) }
     ensures within { ¬ IsErrOf result InputFault.TooLong →
-        (n : ℕ) × GivesBytes (R.remaining device.old.inner) (R.remaining device.new.inner) n
-        × (n ≤ input_limit) }
+        (given : List ℕ) × Consumes (R.remaining device.old.inner) (R.remaining device.new.inner) given
+        × (length given ≤ input_limit) }
 {
     let mut input = Vec::new(alloc);
     let mut chunk = [0u8; CHUNK];

@@ -1,7 +1,8 @@
 //! The inputs of a run, read whole and in order.
 ghost use Rattle.std.specs.Prelude.{◌≡◌, ◌≤◌, false, vec_len, IfOk, IfErr, OnOk, IfSome};
 ghost use Rattle.cdm_feed.specs.Input.{input_limit};
-ghost use Rattle.cdm_feed.specs.RunFaults.{AreRead, IsBeforeWriting, IsFirstFault, IsInputFault, IsRead};
+ghost use Rattle.cdm_feed.specs.RunFaults.{AreRead, IsFirstFault, IsRead};
+ghost use Rattle.cdm_feed.specs.inner.Faults.{IsBeforeWriting, IsInputFault};
 
 use crate::device::Device;
 use crate::input::{InputFault, read_input};

@@ -23,10 +23,10 @@ pub(crate) enum Kind {
 }
 
 impl Kind {
-    ghost use Rattle.cdm_feed.specs.Kinds.{field_count, kind_of};
+    ghost use Rattle.cdm_feed.specs.inner.Kinds.{field_count, kind_of};
 
     /// The kind that a field names, byte by byte.
-    #[tactic(auto, unfolding(crate::specs::Kinds::kind_of))]
+    #[tactic(auto, unfolding(crate::specs::inner::Kinds::kind_of))]
     pub(crate) fn of_text(text: &[u8]) -> Option<Kind>
         ensures { result ≡ kind_of text.now }
     {

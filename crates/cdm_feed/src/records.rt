@@ -70,6 +70,3 @@ impl<'a> RecordReader<'a> {
         }
     }
 }
-
-#[cfg(test)]
-mod tests;

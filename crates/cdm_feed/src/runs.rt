@@ -1,11 +1,13 @@
 //! A whole run, from the bytes of its inputs to the bytes of its text.
-ghost use Rattle.std.specs.Prelude.{◌≡◌, ◌≤◌, ℕ, [], List, Ok, length, take, false, IfOk, IfErr, OnOk, IfSome, IsErrOf};
+ghost use Rattle.std.specs.Prelude.{◌≡◌, ◌≤◌, ℕ, List, Ok, length, take, false, IfOk, IfErr, OnOk, OnErr, IfSome, IsErrOf};
 ghost use Rattle.std.specs.Io.KnownBytes.{Appends};
 ghost use Rattle.cdm_feed.specs.Input.{input_limit};
-ghost use Rattle.cdm_feed.specs.Output.{AreCounts, HaveOneText, IsOutput, IsReport, accepted_in, counts_in, refusals_in};
+ghost use Rattle.cdm_feed.specs.Output.{HaveOneText, IsOutput, IsReport, accepted_in, refusals_in};
 ghost use Rattle.cdm_feed.specs.AirportFile.{airport_in};
 ghost use Rattle.cdm_feed.specs.ScenarioFile.{scenarios_in};
-ghost use Rattle.cdm_feed.specs.RunFaults.{AreRead, IsAirportFault, IsBeforeWriting, IsFirstFault, IsRecordFault, IsScenarioFault, is_write_fault};
+ghost use Rattle.cdm_feed.specs.RunFaults.{AreRead, IsFirstFault, is_write_fault};
+ghost use Rattle.cdm_feed.specs.inner.Faults.{IsAirportFault, IsRecordFault, IsScenarioFault};
+ghost use Rattle.cdm_feed.specs.declared.runs.RunCounts.{RunCounts};
 
 use crate::airport_file::read_airport;
 use crate::answers::push_answers;
@@ -55,7 +57,11 @@ fn report_of<R: Threads + Sync, G: Gate>(
 ) -> Result<Report, AllocError>
     requires { length feed.now ≤ input_limit }
     ensures text { IfOk result (λ report. IsReport airport feed.now scenarios.now report.text.items) }
-    ensures counts { IfOk result (λ report. report.counts ≡ counts_in airport feed.now scenarios.now) }
+    ensures counts { IfOk result (λ report. report.counts ≡ record {
+      accepted = length (accepted_in airport feed.now);
+      refused = length (refusals_in airport feed.now);
+      scenarios = length scenarios.now;
+    }) }
 {
     let Judged { state, refused, .. } = judge(rt, alloc, airport, feed, workers, gate)?;
     let mut text = report_text(alloc, state.day(), state.plan(), &refused)?;
@@ -102,10 +108,8 @@ fn answer<R: Threads + Sync, G: Gate>(
     gate: &G,
 ) -> Result<Report, RunError>
     requires { length inputs.now.feed.items ≤ input_limit }
-    ensures text { IfOk result (λ report.
-        IsOutput inputs.now.airport.items inputs.now.feed.items inputs.now.scenarios.items report.text.items) }
-    ensures counts { IfOk result (λ report.
-        AreCounts inputs.now.airport.items inputs.now.feed.items inputs.now.scenarios.items report.counts) }
+    ensures made { IfOk result (λ report.
+        IsOutput inputs.now.airport.items inputs.now.feed.items inputs.now.scenarios.items report.text.items report.counts) }
     ensures fault { IfErr result (IsRecordFault inputs.now.airport.items inputs.now.scenarios.items) }
 {
     let airport = airport_of(alloc, &inputs.airport)?;
@@ -140,13 +144,11 @@ pub fn run<R: Threads + Sync, A: Read, F: Read, S: Read, G: Gate, W: Write>(
     requires out { out.old.failed ≡ false }
 
     // The one text of the three inputs was written, and its counts are the answer.
-    ensures written { OnOk result (IfSome (A.remaining airport.old.inner) (λ airport_file. IfSome (F.remaining feed.old.inner) (λ feed_file.
+    ensures written { IfOk result (λ counts. IfSome (A.remaining airport.old.inner) (λ airport_file. IfSome (F.remaining feed.old.inner) (λ feed_file.
         IfSome (S.remaining scenarios.old.inner) (λ scenario_file.
-        (text : List ℕ) × IsOutput airport_file feed_file scenario_file text × Appends (W.contents out.old.inner) (W.contents out.new.inner) text)))) }
+        (text : List ℕ) × IsOutput airport_file feed_file scenario_file text counts × Appends (W.contents out.old.inner) (W.contents out.new.inner) text)))) }
     ensures one { OnOk result (IfSome (A.remaining airport.old.inner) (λ airport_file. IfSome (F.remaining feed.old.inner) (λ feed_file.
         IfSome (S.remaining scenarios.old.inner) (λ scenario_file. HaveOneText airport_file feed_file scenario_file)))) }
-    ensures counts { IfOk result (λ counts. IfSome (A.remaining airport.old.inner) (λ airport_file. IfSome (F.remaining feed.old.inner) (λ feed_file.
-        IfSome (S.remaining scenarios.old.inner) (λ scenario_file. AreCounts airport_file feed_file scenario_file counts)))) }
 
     // The first fault is the answer, and Ok where there was none.
     ensures read { OnOk result (AreRead
@@ -157,11 +159,11 @@ pub fn run<R: Threads + Sync, A: Read, F: Read, S: Read, G: Gate, W: Write>(
         (record { before = A.remaining airport.old.inner; after = A.remaining airport.new.inner; failed = airport.new.failed })
         (record { before = F.remaining feed.old.inner; after = F.remaining feed.new.inner; failed = feed.new.failed })
         (record { before = S.remaining scenarios.old.inner; after = S.remaining scenarios.new.inner; failed = scenarios.new.failed })) }
-    ensures nothing { IfErr result (λ e. IsBeforeWriting e → out.new ≡ out.old) }
+    ensures nothing { OnErr result (is_write_fault result ≡ false → out.new ≡ out.old) }
     ensures failed { out.new.failed ≡ is_write_fault result }
     ensures prefix { IsErrOf result RunError.Write → IfSome (A.remaining airport.old.inner) (λ airport_file. IfSome (F.remaining feed.old.inner) (λ feed_file.
         IfSome (S.remaining scenarios.old.inner) (λ scenario_file.
-        (text : List ℕ) × IsOutput airport_file feed_file scenario_file text × (n : ℕ) × Appends (W.contents out.old.inner) (W.contents out.new.inner) (take n text)))) }
+        (text : List ℕ) × (counts : RunCounts) × IsOutput airport_file feed_file scenario_file text counts × (n : ℕ) × Appends (W.contents out.old.inner) (W.contents out.new.inner) (take n text)))) }
 {
     let inputs = read_inputs(alloc, airport, feed, scenarios)?;
     let report = answer(rt, alloc, &inputs, workers, gate)?;

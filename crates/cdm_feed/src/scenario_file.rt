@@ -2,7 +2,12 @@
 ghost use Rattle.std.specs.Prelude.{◌≡◌, Ok, IfOk, IfErr, OnOk};
 ghost use Rattle.csv.specs.Records.{fields_of};
 ghost use Rattle.cdm_feed.specs.Files.{IsFaultOf, IsRecordFaultOf};
-ghost use Rattle.cdm_feed.specs.ScenarioFile.{begun_with, has_name, scenarios_after, scenarios_in, with_line, with_next};
+ghost use Rattle.std.specs.List.{list_any};
+ghost use Rattle.cdm_flight.specs.Names.{same_name};
+ghost use Rattle.cdm_feed.specs.Fields.{and_then};
+ghost use Rattle.cdm_feed.specs.ScenarioFile.{scenarios_in, with_line, with_next};
+ghost use Rattle.cdm_feed.specs.ScenarioRecords.{scenario_line_of};
+ghost use Rattle.cdm_feed.specs.declared.scenario_record.ScenarioLine.TheVariants.{Begin};
 
 use crate::file_fault::{FileFault, RecordFault};
 use crate::records::RecordReader;
@@ -18,20 +23,20 @@ const MOST_SCENARIOS: usize = 64;
 
 // Whether one of the scenarios has the name.
 fn has_name(scenarios: &[Scenario], name: ScenarioName) -> bool
-    ensures { result ≡ has_name scenarios.now name }
+    ensures { result ≡ list_any (λ s. same_name s.name name) scenarios.now }
 {
     scenarios.iter().any(|scenario| *scenario.name() == name)
 }
 
 // Begins a scenario behind the others.
-#[tactic(auto, unfolding(crate::specs::ScenarioFile::begun_with))]
+#[tactic(auto, unfolding(crate::specs::ScenarioFile::with_line))]
 fn begin(
     alloc: Global,
     scenarios: &mut Vec<Scenario>,
     name: ScenarioName,
 ) -> Result<(), RecordFault>
-    ensures begun { OnOk result (begun_with scenarios.old.items name ≡ Ok scenarios.new.items) }
-    ensures refused { IfErr result (IsRecordFaultOf (begun_with scenarios.old.items name)) }
+    ensures begun { OnOk result (with_line scenarios.old.items (Begin name) ≡ Ok scenarios.new.items) }
+    ensures refused { IfErr result (IsRecordFaultOf (with_line scenarios.old.items (Begin name))) }
 {
     if has_name(scenarios, name) {
         return Err(RecordFault::Refused(RefusalWord::Exists));
@@ -62,6 +67,7 @@ fn add(scenarios: &mut [Scenario], update: Update) -> Result<(), RecordFault>
 }
 
 // Takes what one more record of the file says.
+#[tactic(auto, unfolding(crate::specs::ScenarioFile::with_line))]
 fn add_line(
     alloc: Global,
     scenarios: &mut Vec<Scenario>,
@@ -77,15 +83,14 @@ fn add_line(
 }
 
 // Takes one more record of the file, as its fields spell it.
-#[tactic(auto, unfolding(crate::specs::ScenarioFile::scenarios_after))]
 fn add_record(
     alloc: Global,
     scenarios: &mut Vec<Scenario>,
     day: Day,
     row: &ByteRecord,
 ) -> Result<(), RecordFault>
-    ensures added { OnOk result (scenarios_after day scenarios.old.items (fields_of row.now) ≡ Ok scenarios.new.items) }
-    ensures refused { IfErr result (IsRecordFaultOf (scenarios_after day scenarios.old.items (fields_of row.now))) }
+    ensures added { OnOk result (and_then (scenario_line_of day (fields_of row.now)) (with_line scenarios.old.items) ≡ Ok scenarios.new.items) }
+    ensures refused { IfErr result (IsRecordFaultOf (and_then (scenario_line_of day (fields_of row.now)) (with_line scenarios.old.items))) }
 {
     match scenario_line(day, row) {
         Ok(line) => add_line(alloc, scenarios, line),
@@ -118,6 +123,3 @@ pub fn read_scenarios(alloc: Global, day: &Day, text: &[u8]) -> Result<Vec<Scena
     }
     Ok(scenarios)
 }
-
-#[cfg(test)]
-mod tests;

@@ -1,11 +1,10 @@
 //! Records of the scenario file.
 ghost use Rattle.std.specs.Prelude.{◌≡◌};
 ghost use Rattle.csv.specs.Records.{fields_of};
-ghost use Rattle.cdm_feed.specs.ScenarioRecords.{scenario_field, scenario_line_of};
+ghost use Rattle.cdm_feed.specs.ScenarioRecords.{scenario_line_of};
 
 use crate::feed_record::update_of;
 use crate::field::field;
-use crate::kind::Kind;
 use cdm_flight::{RefusalWord, Update};
 use cdm_scenario::ScenarioName;
 use cdm_time::Day;
@@ -18,13 +17,6 @@ pub(crate) enum ScenarioLine {
     Begin(ScenarioName),
     /// An update of the scenario that began last.
     Next(Update),
-}
-
-// The name of a scenario.
-fn scenario_field(text: &[u8]) -> Result<ScenarioName, RefusalWord>
-    ensures { result ≡ scenario_field text.now }
-{
-    ScenarioName::new(text).ok_or(RefusalWord::Text)
 }
 
 /// What a record of the scenario file spells, or the first word that refuses it: Fields where it is
@@ -40,12 +32,10 @@ pub(crate) fn scenario_line(day: Day, row: &ByteRecord) -> Result<ScenarioLine, 
         if row.len() != 2 {
             return Err(RefusalWord::Fields);
         }
-        return Ok(ScenarioLine::Begin(scenario_field(first)?));
+        let name = ScenarioName::new(first).ok_or(RefusalWord::Text)?;
+        return Ok(ScenarioLine::Begin(name));
     }
-    let kind = Kind::of_text(word).ok_or(RefusalWord::Kind)?;
-    if row.len() != 1 + kind.field_count() {
-        return Err(RefusalWord::Fields);
-    }
-    let update = update_of(day, kind, first, second, third, fourth)?;
+    let count = row.len().saturating_sub(1);
+    let update = update_of(day, word, count, first, second, third, fourth)?;
     Ok(ScenarioLine::Next(update))
 }

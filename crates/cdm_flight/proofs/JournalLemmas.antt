@@ -1,7 +1,7 @@
 -- What one more update changes in what a journal says.
 use Rattle.std.proofs.Common.{◌≡◌, ℕ, ◌+◌, Bool, true, false, ◌||◌, ◌&&◌, List, [], ◌∷◌, ◌++◌, Option, None, Some, refl, sym, ap, ◌∙◌, subst, rules}
-use Rattle.std.specs.Prelude.{nat_lt, is_none, unwrap_or, if◌then◌else◌}
-use Rattle.std.specs.Option.{option_map, option_map_or, option_or}
+use Rattle.std.specs.Prelude.{unwrap_or}
+use Rattle.std.specs.Option.{option_map, option_or}
 use Rattle.std.specs.List.{list_any}
 use Rattle.std.proofs.lemmas.Grind.{common_steps}
 use Rattle.cdm_flight.proofs.Lists.{option_or-none, option_or-assoc, list_any-push}
@@ -12,9 +12,8 @@ use Rattle.cdm_flight.specs.declared.update.Update.{Update}
 use Rattle.cdm_flight.specs.declared.update.Update.TheVariants.{Flt, Tobt, Stand, Rwy, Ctot, Ice as IceOf, Prio, Off, Air, Cnl, Rate, Close, Reopen, Taxi, Clock}
 use Rattle.cdm_flight.specs.Names.{same_name}
 use Rattle.cdm_flight.specs.Record.{Record, fresh}
-use Rattle.cdm_flight.specs.declared.word.RefusalWord.TheVariants.{Ended, OffBlock as OffBlockWord, Order, NotReady}
-use Rattle.cdm_flight.specs.Step.{flight_of_update, is_fresh, stepped, step_refusal, is_ended, is_off_block, airborne_out_of_order}
-use Rattle.cdm_flight.specs.Journal.{AirportRows, last_value, touches, sets_tobt, sets_stand, sets_runway, sets_ctot, sets_ice, sets_priority, sets_aobt, sets_atot, makes_known, cancels, tobt_of, stand_of, runway_of, aobt_of, atot_of, is_known, is_cancelled, exot_now, before_off, exot_of, status_from, status_of, record_with, flight_of}
+use Rattle.cdm_flight.specs.Step.{flight_of_update, is_fresh, stepped, step_refusal}
+use Rattle.cdm_flight.specs.Journal.{AirportRows, last_value, touches, sets_tobt, sets_stand, sets_runway, sets_ctot, sets_ice, sets_priority, sets_aobt, sets_atot, makes_known, cancels, stand_of, runway_of, aobt_of, atot_of, is_known, is_cancelled, exot_now, before_off, exot_of, status_from, status_of, record_with, flight_of}
 
 -- one more update sets the value, or leaves it
 pub last_value-push : {U X : Type 0} (sets : U → Option X) (a : List U) (u : U) → last_value sets (a ++ u ∷ []) ≡ option_or (sets u) (last_value sets a)
@@ -125,7 +124,7 @@ module _ (f : List ℕ) where
   pub record_with-push : (a : List Update) (u : Update) (s : Status) → record_with (a ++ u ∷ []) f s ≡ record {
     name = f;
     priority = unwrap_or (option_or (sets_priority f u) (last_value (sets_priority f) a)) 0;
-    tobt = option_or (sets_tobt f u) (tobt_of a f);
+    tobt = option_or (sets_tobt f u) (last_value (sets_tobt f) a);
     stand = option_or (sets_stand f u) (stand_of a f);
     runway = option_or (sets_runway f u) (runway_of a f);
     ctot = unwrap_or (option_or (sets_ctot f u) (last_value (sets_ctot f) a)) None;
@@ -227,40 +226,30 @@ unfolding flight_of
 sets_status f g a u r s e changes h = rw e (ap Some (changes s ∙ ap (λ (x : Record). record x { status = s }) (status_of-record f g a r h).1))
 
 abbrev pub Steps : AirportRows → List Update → Update → List ℕ → Type 0
-Steps g a u f = (r : Record) → flight_of g a f ≡ Some r → step_refusal r u (exot_of g a f) ≡ None → flight_of g (a ++ u ∷ []) f ≡ Some (stepped r u (exot_of g a f))
+Steps g a u f = (r : Record) → flight_of g a f ≡ Some r → step_refusal r.status r.runway u (exot_of g a f) ≡ None → flight_of g (a ++ u ∷ []) f ≡ Some (stepped r u (exot_of g a f))
 
--- no word holds, so no test does
-none_holds : (b1 b2 b3 b4 : Bool) → (if b1 then Some Ended else if b2 then Some OffBlockWord else if b3 then Some Order else if b4 then Some NotReady else None) ≡ None → (b1 ≡ false) × (b2 ≡ false) × (b3 ≡ false) × (b4 ≡ false)
-none_holds true b2 b3 b4 h = cc
-none_holds false true b3 b4 h = cc
-none_holds false false true b4 h = cc
-none_holds false false false true h = cc
-none_holds false false false false h = (refl, refl, refl, refl)
+-- a planned flight leaves with a taxi-out time
+ready_off : (s : Status) (runway : Option (List ℕ)) (f : List ℕ) (m : ℕ) (e : Option ℕ) → step_refusal s runway (Off f m) e ≡ None → (s ≡ Planned) × ((x : ℕ) × (e ≡ Some x))
+ready_off Planned (Some r) f m (Some x) h = (refl, (x, refl))
+ready_off Planned (Some r) f m None h = cc
+ready_off Planned None f m e h = cc
+ready_off (OffBlock b x) runway f m e h = cc
+ready_off (Airborne b t) runway f m e h = cc
+ready_off Cancelled runway f m e h = cc
 
-planned_from : (s : Status) → is_ended s ≡ false → (is_off_block s && true) ≡ false → s ≡ Planned
-planned_from Planned h k = refl
-planned_from (OffBlock m e) h k = cc
-planned_from (Airborne m t) h k = cc
-planned_from Cancelled h k = cc
-
-off_block_from_order : (s : Status) (t : ℕ) → is_ended s ≡ false → airborne_out_of_order s t ≡ false → (m : ℕ) × (e : ℕ) × (s ≡ OffBlock m e)
-off_block_from_order Planned t h k = cc
-off_block_from_order (OffBlock m e) t h k = (m, e, refl)
-off_block_from_order (Airborne m x) t h k = cc
-off_block_from_order Cancelled t h k = cc
-
-ready_exot : (b : Bool) (late : ℕ → Bool) (e : Option ℕ) → (b || option_map_or late e true) ≡ false → (x : ℕ) × (e ≡ Some x)
-ready_exot true late e h = cc
-ready_exot false late None h = cc
-ready_exot false late (Some x) h = (x, refl)
+-- a flight that takes off has left
+left_air : (s : Status) (runway : Option (List ℕ)) (f : List ℕ) (t : ℕ) (e : Option ℕ) → step_refusal s runway (Air f t) e ≡ None → (m : ℕ) × (x : ℕ) × (s ≡ OffBlock m x)
+left_air (OffBlock m x) runway f t e h = (m, x, refl)
+left_air Planned runway f t e h = cc
+left_air (Airborne m x) runway f t e h = cc
+left_air Cancelled runway f t e h = cc
 
 steps_off : (g : AirportRows) (a : List Update) (f : List ℕ) (m : ℕ) → Steps g a (Off f m) f
 unfolding exot_of
 steps_off g a f m r h ok =
-    let tests = none_holds (is_ended r.status) (is_off_block r.status && true) false _ ok in
-    let planned = planned_from r.status tests.0 tests.1 in
-    let there = ready_exot (is_none r.runway) (λ minutes. nat_lt 2879 (m + minutes)) (exot_of g a f) tests.3 in
-    let says = planned_says (is_cancelled a f) (atot_of a f) (aobt_of a f) (exot_of g a f) (is_known a f) ((status_of-record f g a r h).0 ∙ ap Some planned) in
+    let ready = ready_off r.status r.runway f m (exot_of g a f) ok in
+    let there = ready.1 in
+    let says = planned_says (is_cancelled a f) (atot_of a f) (aobt_of a f) (exot_of g a f) (is_known a f) ((status_of-record f g a r h).0 ∙ ap Some ready.0) in
     let sets : sets_aobt f (Off f m) ≡ Some m = rw (same_name-refl f) refl in
     let all = before_off-all f a says.2 in
     let cut = before_off-leaves f a (Off f m) m says.2 sets in
@@ -271,8 +260,7 @@ steps_off g a f m r h ok =
 
 steps_air : (g : AirportRows) (a : List Update) (f : List ℕ) (t : ℕ) → Steps g a (Air f t) f
 steps_air g a f t r h ok =
-    let tests = none_holds (is_ended r.status) (is_off_block r.status && false) (airborne_out_of_order r.status t) false ok in
-    let left = off_block_from_order r.status t tests.0 tests.2 in
+    let left = left_air r.status r.runway f t (exot_of g a f) ok in
     let says = off_block_says (is_cancelled a f) (atot_of a f) (aobt_of a f) (exot_of g a f) (is_known a f) left.0 left.1 ((status_of-record f g a r h).0 ∙ ap Some left.2) in
     let status : status_of g (a ++ Air f t ∷ []) f ≡ Some (Airborne left.0 t) =
     rw (list_any-push (cancels f) a (Air f t), last_value-push (sets_atot f) a (Air f t), last_value-push (sets_aobt f) a (Air f t), same_name-refl f, says.0, says.2) refl in

@@ -114,23 +114,14 @@ sets_closed r m _ = None
 
 -- Last values of a flight.
 
-abbrev pub tobt_of : List Update → List ℕ → Option ℕ
-tobt_of a f = last_value (sets_tobt f) a
-
 abbrev pub stand_of : List Update → List ℕ → Option (List ℕ)
 stand_of a f = last_value (sets_stand f) a
 
 abbrev pub runway_of : List Update → List ℕ → Option (List ℕ)
 runway_of a f = last_value (sets_runway f) a
 
-abbrev pub ctot_of : List Update → List ℕ → Option ℕ
-ctot_of a f = unwrap_or (last_value (sets_ctot f) a) None
-
 abbrev pub ice_of : List Update → List ℕ → Ice
 ice_of a f = unwrap_or (last_value (sets_ice f) a) NoIce
-
-abbrev pub priority_of : List Update → List ℕ → ℕ
-priority_of a f = unwrap_or (last_value (sets_priority f) a) 0
 
 abbrev pub aobt_of : List Update → List ℕ → Option ℕ
 aobt_of a f = last_value (sets_aobt f) a
@@ -198,11 +189,11 @@ status_of g a f = status_from (is_cancelled a f) (atot_of a f) (aobt_of a f) (ex
 abbrev pub record_with : List Update → List ℕ → Status → Record
 record_with a f status = record {
   name = f;
-  priority = priority_of a f;
-  tobt = tobt_of a f;
+  priority = unwrap_or (last_value (sets_priority f) a) 0;
+  tobt = last_value (sets_tobt f) a;
   stand = stand_of a f;
   runway = runway_of a f;
-  ctot = ctot_of a f;
+  ctot = unwrap_or (last_value (sets_ctot f) a) None;
   ice = ice_of a f;
   status = status;
 }

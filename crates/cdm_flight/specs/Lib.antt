@@ -8,3 +8,4 @@ pub mod Step
 pub mod Taxi
 pub mod Journal
 pub mod Accepted
+pub mod inner

@@ -1,5 +1,5 @@
 -- Names made of capital letters and digits, seen as the lists of their bytes.
-use Rattle.std.specs.Prelude.{ℕ, ◌-◌, ◌≤◌, Bool, ◌&&◌, ◌||◌, nat_le, List, ◌++◌, length, replicate, IsTrue, nat_eq}
+use Rattle.std.specs.Prelude.{ℕ, Bool, ◌&&◌, ◌||◌, nat_le, List, length, nat_eq}
 use Rattle.std.specs.declared.cmp.Ordering.{Ordering}
 use Rattle.std.specs.Ordering.{nat_cmp}
 use Rattle.std.specs.Cmp.Lexicographic.{pointwise, slice_cmp}
@@ -12,13 +12,6 @@ is_letter_or_digit byte = (nat_le 65 byte && nat_le byte 90) || (nat_le 48 byte 
 -- 1 to `most` letters and digits
 abbrev pub is_name : ℕ → List ℕ → Bool
 is_name most text = nat_le 1 (length text) && nat_le (length text) most && list_all is_letter_or_digit text
-
-abbrev pub IsName : ℕ → List ℕ → Type 0
-IsName most text = (1 ≤ length text) × (length text ≤ most) × IsTrue (list_all is_letter_or_digit text)
-
--- a text with zeros behind it, `most` bytes in all
-abbrev pub padded : ℕ → List ℕ → List ℕ
-padded most text = text ++ replicate (most - length text) 0
 
 -- two names are the same
 abbrev pub same_name : List ℕ → List ℕ → Bool

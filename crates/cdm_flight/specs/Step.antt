@@ -1,6 +1,5 @@
 -- One update of one flight.
-use Rattle.std.specs.Prelude.{ℕ, ◌+◌, Bool, true, false, not, ◌&&◌, ◌||◌, nat_lt, if◌then◌else◌, List, Option, None, Some, Result, Ok, Err, is_none}
-use Rattle.std.specs.Option.{option_map_or}
+use Rattle.std.specs.Prelude.{ℕ, ◌+◌, Bool, true, false, nat_lt, if◌then◌else◌, List, Option, None, Some, Result, Ok, Err}
 use Rattle.cdm_flight.specs.declared.flight.Status.{Status}
 use Rattle.cdm_flight.specs.declared.flight.Status.TheVariants.{Planned, OffBlock, Airborne, Cancelled}
 use Rattle.cdm_flight.specs.declared.update.Update.{Update}
@@ -41,37 +40,18 @@ abbrev pub is_air : Update → Bool
 is_air (Air f m) = true
 is_air _ = false
 
-abbrev pub is_ended : Status → Bool
-is_ended (Airborne aobt atot) = true
-is_ended Cancelled = true
-is_ended _ = false
-
-abbrev pub is_off_block : Status → Bool
-is_off_block (OffBlock aobt exot) = true
-is_off_block _ = false
-
--- a take-off of a flight that has not left, or before it left
-abbrev pub airborne_out_of_order : Status → ℕ → Bool
-airborne_out_of_order (OffBlock aobt exot) atot = nat_lt atot aobt
-airborne_out_of_order _ atot = true
-
-abbrev pub is_out_of_order : Status → Update → Bool
-is_out_of_order status (Air f atot) = airborne_out_of_order status atot
-is_out_of_order status _ = false
-
--- it leaves without a runway or a taxi time, or takes off past the horizon
-abbrev pub is_not_ready : Option (List ℕ) → Update → Option ℕ → Bool
-is_not_ready runway (Off f aobt) exot = is_none runway || option_map_or (λ minutes. nat_lt 2879 (aobt + minutes)) exot true
-is_not_ready runway _ exot = false
-
--- the first word that holds
-abbrev pub step_refusal : Record → Update → Option ℕ → Option RefusalWord
-step_refusal r u exot =
-    if is_ended r.status then Some Ended
-    else if is_off_block r.status && not (is_air u) then Some OffBlockWord
-    else if is_out_of_order r.status u then Some Order
-    else if is_not_ready r.runway u exot then Some NotReady
-    else None
+-- the first word with which a flight of this status and runway refuses an update: it has ended, or left its
+-- stand; AIR of one that hasn't left, or before it left; OFF without a runway or a taxi-out time, or with a
+-- take-off past the horizon
+abbrev pub step_refusal : Status → Option (List ℕ) → Update → Option ℕ → Option RefusalWord
+step_refusal Cancelled runway u exot = Some Ended
+step_refusal (Airborne aobt atot) runway u exot = Some Ended
+step_refusal (OffBlock aobt taxi) runway (Air f atot) exot = if nat_lt atot aobt then Some Order else None
+step_refusal (OffBlock aobt taxi) runway u exot = Some OffBlockWord
+step_refusal Planned runway (Air f atot) exot = Some Order
+step_refusal Planned (Some runway) (Off f aobt) (Some exot) = if nat_lt 2879 (aobt + exot) then Some NotReady else None
+step_refusal Planned runway (Off f aobt) exot = Some NotReady
+step_refusal Planned runway u exot = None
 
 abbrev pub off_block_from : ℕ → Option ℕ → Status
 off_block_from aobt (Some exot) = OffBlock aobt exot
@@ -99,4 +79,4 @@ or_refused r None = Ok r
 or_refused r (Some word) = Err word
 
 abbrev pub step_of : Record → Update → Option ℕ → Result Record RefusalWord
-step_of r u exot = or_refused (stepped r u exot) (step_refusal r u exot)
+step_of r u exot = or_refused (stepped r u exot) (step_refusal r.status r.runway u exot)

@@ -2,7 +2,7 @@
 use Rattle.std.specs.Prelude.{ℕ, ◌+◌, Bool, false, not, ◌&&◌, nat_le, List, Option, None, Some}
 use Rattle.std.specs.declared.cmp.Ordering.{Ordering}
 use Rattle.std.specs.Ordering.{ordering_then}
-use Rattle.std.specs.Option.{option_cmp, option_map, option_map_or, option_or}
+use Rattle.std.specs.Option.{option_and_then, option_cmp, option_map, option_map_or, option_or}
 use Rattle.std.specs.List.{filter_map, list_any}
 use Rattle.std.specs.Set.{distinct_count}
 use Rattle.std.specs.FinMap.{FinMap, keys}
@@ -37,16 +37,12 @@ is_new_stand stands place = option_map_or (λ stand. not (list_any (same_name st
 abbrev pub is_one_stand_too_many : List (List ℕ) → Place → Bool
 is_one_stand_too_many stands place = is_new_stand stands place && nat_le 400 (distinct_count same_name stands)
 
--- the taxi time from the stand that the flight has, else the default
-abbrev pub taxi_time : (Place → Option ℕ) → Option (List ℕ) → Option ℕ
-taxi_time minutes None = minutes place.Default
-taxi_time minutes (Some stand) = option_or (minutes (place.Stand stand)) (minutes place.Default)
-
 -- the minutes of remote de-icing
 abbrev pub remote_minutes : Ice → ℕ
 remote_minutes (Remote minutes) = minutes
 remote_minutes _ = 0
 
--- the taxi-out time: from the stand, with remote de-icing
+-- the taxi-out time: from the stand that the flight has, else the default, with remote de-icing
 abbrev pub taxi_out : (Place → Option ℕ) → Option (List ℕ) → Ice → Option ℕ
-taxi_out minutes stand ice = option_map (λ taxi. taxi + remote_minutes ice) (taxi_time minutes stand)
+taxi_out minutes stand ice =
+    option_map (λ taxi. taxi + remote_minutes ice) (option_or (option_and_then (λ s. minutes (place.Stand s)) stand) (minutes place.Default))

@@ -1,5 +1,5 @@
 //! Names made of capital letters and digits.
-ghost use Rattle.std.specs.Prelude.{◌≡◌, ℕ, ◌<◌, ◌≤◌, ◌-◌, List, [], ◌++◌, length, take, drop, replicate, slice_index, Some, None, if◌then◌else◌, nat_eq, refl};
+ghost use Rattle.std.specs.Prelude.{◌≡◌, ℕ, ◌<◌, ◌≤◌, ◌-◌, List, [], ◌++◌, length, take, drop, replicate, slice_index, Some, None, if◌then◌else◌, nat_eq, refl, IsTrue};
 ghost use Rattle.std.specs.Ordering.{nat_cmp};
 ghost use Rattle.std.specs.Cmp.{on_equiv, on_total, on_po, on_per, partial_equiv_from_equiv};
 ghost use Rattle.std.specs.Cmp.Lexicographic.{slice_cmp, nat_list_eq_equiv, nat_list_cmp_total, texts_po, texts_ties};
@@ -7,7 +7,8 @@ ghost use Rattle.std.specs.Cmp.Rules.{hashing};
 ghost use Rattle.std.specs.Hash as fed;
 ghost use Rattle.std.proofs.Common.{rules};
 ghost use Rattle.std.specs.List.{list_all};
-ghost use Rattle.cdm_flight.specs.Names.{IsName, is_name, is_letter_or_digit, padded, name_cmp, same_name};
+ghost use Rattle.cdm_flight.specs.Names.{is_name, is_letter_or_digit, name_cmp, same_name};
+ghost use Rattle.cdm_flight.specs.inner.Padded.{padded};
 
 use std::cmp::Ordering;
 use std::hash::{Hash, Hasher};
@@ -24,7 +25,7 @@ pub struct Name<const MOST: usize> {
 impl<const MOST: usize> Model for Name<MOST> {
     ghost use Rattle.std.specs.Prelude.{◌≡◌, ℕ, List, ◌≤◌, ◌-◌, ◌++◌, length, take, drop, replicate};
     ghost use Rattle.std.proofs.Common.{arith, sym, length-take-le};
-    ghost use Rattle.cdm_flight.specs.Names.{IsName, padded};
+    ghost use Rattle.cdm_flight.specs.inner.Padded.{IsName, padded};
 
     ghost Value = { List ℕ };
 
@@ -79,7 +80,7 @@ impl<const MOST: usize> Name<MOST> {
     /// The name's bytes.
     pub fn bytes(&self) -> &[u8]
         ensures value { result.now ≡ self.now }
-        ensures name { IsName MOST self.now }
+        ensures name { IsTrue (is_name MOST self.now) }
     {
         &self.text[..usize::from(self.len)]
     }

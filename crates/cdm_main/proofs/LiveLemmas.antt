@@ -5,7 +5,7 @@ use Rattle.cdm_flight.specs.Journal.{AirportRows}
 use Rattle.cdm_flight.specs.declared.role.Role.{Role}
 use Rattle.cdm_flight.specs.declared.update.Update.{Update}
 use Rattle.cdm_report.specs.Report.{report_bytes}
-use Rattle.cdm_day.specs.Day.{Day}
+use Rattle.cdm_day.specs.Day.{DayRecord}
 use Rattle.cdm_day.specs.DayPlan.{IsDayPlan}
 use Rattle.cdm_day.specs.declared.reply.Reply.{Reply}
 use Rattle.cdm_board.specs.History.{Call, calls_of}
@@ -23,7 +23,7 @@ use Rattle.cdm_main.specs.declared.live_run.LiveCounts.{LiveCounts}
 use Rattle.cdm_main.specs.inner.LiveSteps.{HasMerged, IsBoardFault, IsInputFault, IsMergedText, IsRecordFault, merged_counts}
 
 -- the report of two desks that have worked is that of their history
-pub counted_text : (g : AirportRows) (feed1 feed2 : List Spelled) (us vs : List (Role × Update)) (h : List (ℕ × Call)) (d : Day) (rs ss : List Reply)
+pub counted_text : (g : AirportRows) (feed1 feed2 : List Spelled) (us vs : List (Role × Update)) (h : List (ℕ × Call)) (d : DayRecord) (rs ss : List Reply)
     (m n : ℕ) (text : List ℕ) (counts : LiveCounts)
     → us ≡ updates_in feed1 → vs ≡ updates_in feed2 → HasMerged g us vs h d rs ss → m ≡ batch_count (length us) → n ≡ batch_count (length vs)
     → IsMergedText feed1 feed2 d rs ss m n text → counts ≡ merged_counts feed1 feed2 d h rs ss
@@ -41,7 +41,7 @@ counted_text g feed1 feed2 us vs h d rs ss m n text counts first second merged p
       };
       of_history = record {
         plan = told.plan;
-        of_day = subst (λ (x : Day). IsDayPlan x told.plan) merged.day told.of_day;
+        of_day = subst (λ (x : DayRecord). IsDayPlan x told.plan) merged.day told.of_day;
         bytes = told.bytes
             ∙ (λ i. report_bytes (merged.day i).airport.day told.plan []
             ++ desk_text 1 (all1 i) (refused_by 1 feed1 (merged.replied1 i))
@@ -127,7 +127,7 @@ record_fault-first a f s airport feed1 feed2 (error.Airport number word) read as
 record_fault-first a f s airport feed1 feed2 error.HistoryFull read as_airport as_feed1 as_feed2 fault =
     (read, of_bytes FillsBoard a f s airport feed1 feed2 as_airport as_feed1 as_feed2 fault)
 record_fault-first a f s airport feed1 feed2 error.Memory read as_airport as_feed1 as_feed2 fault =
-    (read.airport_read.unfailed, read.feed_read.unfailed, read.scenarios_read.unfailed)
+    (read.0.unfailed, read.1.unfailed, read.2.unfailed)
 record_fault-first a f s airport feed1 feed2 error.Write read as_airport as_feed1 as_feed2 fault = absurd fault
 record_fault-first a f s airport feed1 feed2 error.Mismatch read as_airport as_feed1 as_feed2 fault =
     (read, of_bytes FitsBoard a f s airport feed1 feed2 as_airport as_feed1 as_feed2 fault)

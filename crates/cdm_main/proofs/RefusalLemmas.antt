@@ -6,9 +6,9 @@ use Rattle.cdm_flight.specs.declared.update.Update.{Update}
 use Rattle.cdm_flight.specs.declared.word.RefusalWord.{RefusalWord}
 use Rattle.cdm_day.specs.declared.reply.Reply.{Reply}
 use Rattle.cdm_day.specs.declared.reply.Reply.TheVariants.{Accepted, Refused}
-use Rattle.cdm_feed.specs.Refused.{Spelled, if_refused}
+use Rattle.cdm_feed.specs.Refused.{Spelled}
 use Rattle.cdm_main.specs.Live.{refused_by}
-use Rattle.cdm_main.specs.inner.LiveSteps.{count_of_replies, refused_here}
+use Rattle.cdm_main.specs.inner.LiveSteps.{count_of_replies, if_refused, refused_here}
 
 step-ok : (n : ℕ) (u : Role × Update) (later : List Spelled) (rs : List Reply) (a : ℕ)
     → refused_by n (Ok u ∷ later) (drop a rs) ≡ if_refused n (refused_here (Ok u) (slice_get rs a)) ++ refused_by (n + 1) later (drop (suc a) rs)

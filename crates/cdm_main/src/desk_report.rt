@@ -1,9 +1,9 @@
 //! What is told of a desk and of its feed.
 ghost use Rattle.std.specs.Prelude.{◌≡◌, ◌≤◌, ◌++◌, IfOk, OnOk, length};
 ghost use Rattle.std.specs.List.{slice_get};
-ghost use Rattle.cdm_feed.specs.Refused.{if_refused, updates_in};
+ghost use Rattle.cdm_feed.specs.Refused.{updates_in};
 ghost use Rattle.cdm_main.specs.Live.{desk_line, desk_text, refused_by};
-ghost use Rattle.cdm_main.specs.inner.LiveSteps.{count_of_replies, refused_here};
+ghost use Rattle.cdm_main.specs.inner.LiveSteps.{count_of_replies, if_refused, refused_here};
 
 use cdm_day::Reply;
 use cdm_flight::{RefusalWord, Role, Update, push_last};

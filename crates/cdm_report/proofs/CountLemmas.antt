@@ -1,13 +1,14 @@
 -- How the indicators grow by one more slot or runway.
 use Rattle.std.proofs.Common.{ℕ, suc, ◌≡◌, ◌+◌, ◌<◌, List, [], ◌∷◌, ◌++◌, length, get_or, take, Option, ap, sym, ◌∙◌, arith, fold, max, cond, add-zero, zero-add, ◌≤◌}
+use Rattle.std.specs.Prelude.{nat_lt}
 use Rattle.std.specs.List.{cons_option, flat_map}
 use Rattle.std.proofs.lemmas.List.{take_more, take_all}
 use Rattle.std.proofs.lemmas.List.Elements.{filter_map-append}
 use Rattle.std.proofs.lemmas.List.Sums.{fold-append}
 use Rattle.cdm_sequence.specs.Slots.{SlotRecord, RunwayPlanRecord, PlanRecord}
 use Rattle.cdm_report.specs.declared.counts.Counts.{Counts}
-use Rattle.cdm_report.specs.Counts.{counts_of, delays_in, delays_of, is_late}
-use Rattle.cdm_report.specs.inner.Counting.{only_blocked, with_delay}
+use Rattle.cdm_report.specs.Counts.{counts_of, delays_of}
+use Rattle.cdm_report.specs.inner.Counting.{delays_in, only_blocked, with_delay}
 
 -- one more slot
 pub fold-delays_in_more : (counts : Counts) (slots : List SlotRecord) (i : ℕ) (slot : SlotRecord) (delay : Option ℕ) → i < length slots → slot ≡ get_or slots i slot → slot.delay ≡ delay
@@ -22,14 +23,14 @@ pub fold-with_delay : (c : Counts) (ds : List ℕ) → fold with_delay c ds ≡ 
   placed = c.placed + length ds;
   delay = fold (λ a x. a + x) c.delay ds;
   greatest = fold max c.greatest ds;
-  late = fold (λ a x. a + cond (is_late x) 1 0) c.late ds;
+  late = fold (λ a x. a + cond (nat_lt 15 x) 1 0) c.late ds;
 }
 fold-with_delay c [] = λ i. record c { placed = sym (add-zero c.placed) i }
 fold-with_delay c (d ∷ ds) = fold-with_delay (with_delay c d) ds ∙ (λ i. record (with_delay c d) {
   placed = one_more c.placed (length ds) i;
   delay = fold (λ a x. a + x) (c.delay + d) ds;
   greatest = fold max (max c.greatest d) ds;
-  late = fold (λ a x. a + cond (is_late x) 1 0) (c.late + cond (is_late d) 1 0) ds;
+  late = fold (λ a x. a + cond (nat_lt 15 x) 1 0) (c.late + cond (nat_lt 15 d) 1 0) ds;
 })
   where
     one_more : (a n : ℕ) → a + 1 + n ≡ a + suc n

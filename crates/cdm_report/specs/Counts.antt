@@ -1,10 +1,10 @@
 -- The indicators of a plan.
-use Rattle.std.specs.Prelude.{ℕ, Bool, List, length, max, sum, fold, count_by, bytes_eq, flat_map, nat_lt}
+use Rattle.std.specs.Prelude.{ℕ, List, length, max, sum, fold, count_by, bytes_eq, flat_map, nat_lt}
 use Rattle.std.specs.List.{filter_map}
 use Rattle.cdm_sequence.specs.declared.rule.Rule.{Rule}
 use Rattle.cdm_sequence.specs.declared.rule.Rule.TheVariants as rules
 use Rattle.cdm_sequence.specs.declared.slot.BlockedFlight.{BlockedFlight}
-use Rattle.cdm_sequence.specs.Slots.{SlotRecord, PlanRecord}
+use Rattle.cdm_sequence.specs.Slots.{PlanRecord}
 use Rattle.cdm_sequence.specs.Words.{rule_text}
 use Rattle.cdm_report.specs.declared.counts.Counts.{Counts}
 
@@ -18,30 +18,22 @@ count_of counts rules.Ctot = counts.ctot
 count_of counts rules.Closure = counts.closure
 count_of counts rules.Rate = counts.rate
 
--- the delays of the planned flights among the slots
-abbrev pub delays_in : List SlotRecord → List ℕ
-delays_in slots = filter_map (λ slot. slot.delay) slots
-
 -- the delays of all planned flights that get a minute
 abbrev pub delays_of : PlanRecord → List ℕ
-delays_of plan = flat_map (λ runway. delays_in runway.slots) plan.runways
-
--- more than 15 minutes
-abbrev pub is_late : ℕ → Bool
-is_late delay = nat_lt 15 delay
+delays_of plan = flat_map (λ runway. filter_map (λ slot. slot.delay) runway.slots) plan.runways
 
 -- how many of the flights the rule blocks
 abbrev pub blocked_by : Rule → List BlockedFlight → ℕ
 blocked_by rule blocked = count_by (λ flight. bytes_eq (rule_text flight.rule) (rule_text rule)) blocked
 
--- the indicators: how many delays there are, their sum, the greatest, those of late flights, and the blocked
+-- the indicators: how many delays there are, their sum, the greatest, those of more than 15 minutes, and the blocked
 -- flights, also by rule
 unfoldable pub counts_of : PlanRecord → Counts
 counts_of plan = record {
   placed = length (delays_of plan);
   delay = sum (delays_of plan);
   greatest = fold max 0 (delays_of plan);
-  late = count_by is_late (delays_of plan);
+  late = count_by (λ delay. nat_lt 15 delay) (delays_of plan);
   blocked = length plan.blocked;
   tobt = blocked_by rules.Tobt plan.blocked;
   runway = blocked_by rules.Runway plan.blocked;

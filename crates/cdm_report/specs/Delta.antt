@@ -6,7 +6,7 @@ use Rattle.cdm_sequence.specs.declared.rule.Rule.{Rule}
 use Rattle.cdm_sequence.specs.Words.{all_rules, rule_text}
 use Rattle.cdm_report.specs.declared.counts.Counts.{Counts}
 use Rattle.cdm_report.specs.Counts.{count_of}
-use Rattle.cdm_report.specs.Report.{line_end}
+use Rattle.cdm_report.specs.Report.{indicators_told, line_end}
 
 -- by how much a number grew, with its sign
 unfoldable pub change : ℕ → ℕ → List ℕ
@@ -20,12 +20,5 @@ rule_change base scenario rule =
 
 -- by how much each indicator grew from the base to the scenario
 unfoldable pub delta_line : Counts → Counts → List ℕ
-delta_line base scenario = concat (
-    codes "DELTA PLACED " ∷ change base.placed scenario.placed
-    ∷ codes " DELAY " ∷ change base.delay scenario.delay
-    ∷ codes " MAX " ∷ change base.greatest scenario.greatest
-    ∷ codes " LATE " ∷ change base.late scenario.late
-    ∷ codes " BLOCKED " ∷ change base.blocked scenario.blocked
-    ∷ flat_map (rule_change base scenario) all_rules
-    ∷ line_end
-    ∷ [])
+delta_line base scenario =
+    indicators_told (codes "DELTA") (λ of. change (of base) (of scenario)) ++ flat_map (rule_change base scenario) all_rules ++ line_end

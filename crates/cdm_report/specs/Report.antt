@@ -8,7 +8,7 @@ use Rattle.cdm_flight.specs.declared.word.RefusalWord.{RefusalWord}
 use Rattle.cdm_flight.specs.Words.{text_of}
 use Rattle.cdm_sequence.specs.declared.rule.Rule.{Rule}
 use Rattle.cdm_sequence.specs.declared.slot.BlockedFlight.{BlockedFlight}
-use Rattle.cdm_sequence.specs.Slots.{SlotRecord, RunwayPlanRecord, PlanRecord}
+use Rattle.cdm_sequence.specs.Slots.{RunwayPlanRecord, PlanRecord}
 use Rattle.cdm_sequence.specs.Words.{all_rules, rule_text}
 use Rattle.cdm_report.specs.declared.counts.Counts.{Counts}
 use Rattle.cdm_report.specs.Columns.{left_in, flight_line}
@@ -22,13 +22,9 @@ line_end = 10 ∷ []
 unfoldable pub day_line : CalendarDate → ℕ → List ℕ
 day_line day clock = concat (codes "DAY " ∷ date_text day ∷ codes " NOW " ∷ stamp day clock ∷ line_end ∷ [])
 
--- a flight's line and its end
-abbrev pub slot_line : CalendarDate → SlotRecord → List ℕ
-slot_line day slot = flight_line day slot ++ line_end
-
 -- a runway's heading and its flights
 unfoldable pub runway_lines : CalendarDate → RunwayPlanRecord → List ℕ
-runway_lines day plan = concat (codes "RUNWAY " ∷ plan.runway ∷ line_end ∷ []) ++ flat_map (slot_line day) plan.slots
+runway_lines day plan = concat (codes "RUNWAY " ∷ plan.runway ∷ line_end ∷ []) ++ flat_map (λ slot. flight_line day slot ++ line_end) plan.slots
 
 -- a blocked flight and the rule that leaves it no minute
 unfoldable pub blocked_line : BlockedFlight → List ℕ
@@ -40,19 +36,18 @@ rule_count counts rule =
     if count_of counts rule == 0 then []
     else concat (codes " " ∷ rule_text rule ∷ codes " " ∷ decimal (count_of counts rule) ∷ [])
 
--- the indicators without the rules
-unfoldable pub total_head : Counts → List ℕ
-total_head counts = concat (
-    codes "TOTAL PLACED " ∷ decimal counts.placed
-    ∷ codes " DELAY " ∷ decimal counts.delay
-    ∷ codes " MAX " ∷ decimal counts.greatest
-    ∷ codes " LATE " ∷ decimal counts.late
-    ∷ codes " BLOCKED " ∷ decimal counts.blocked
-    ∷ [])
+-- the indicators without the rules: a title, and what is told of each
+unfoldable pub indicators_told : List ℕ → ((Counts → ℕ) → List ℕ) → List ℕ
+indicators_told title told = concat (
+    title ∷ codes " PLACED " ∷ told (λ c. c.placed)
+    ∷ codes " DELAY " ∷ told (λ c. c.delay)
+    ∷ codes " MAX " ∷ told (λ c. c.greatest)
+    ∷ codes " LATE " ∷ told (λ c. c.late)
+    ∷ codes " BLOCKED " ∷ told (λ c. c.blocked) ∷ [])
 
 -- the indicators, with each rule that blocks a flight
 unfoldable pub total_line : Counts → List ℕ
-total_line counts = total_head counts ++ flat_map (rule_count counts) all_rules ++ line_end
+total_line counts = indicators_told (codes "TOTAL") (λ of. decimal (of counts)) ++ flat_map (rule_count counts) all_rules ++ line_end
 
 -- a refused record, by its number, and why it was refused
 unfoldable pub refused_line : (ℕ × RefusalWord) → List ℕ

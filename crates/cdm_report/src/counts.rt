@@ -1,7 +1,7 @@
 //! The indicators of a plan.
 ghost use Rattle.std.specs.Prelude.{◌≡◌, ◌+◌, ◌*◌, ◌^◌, ◌<◌, ◌≤◌, length, fold};
-ghost use Rattle.cdm_report.specs.Counts.{blocked_by, count_of, counts_of, delays_in};
-ghost use Rattle.cdm_report.specs.inner.Counting.{only_blocked, with_delay};
+ghost use Rattle.cdm_report.specs.Counts.{blocked_by, count_of, counts_of};
+ghost use Rattle.cdm_report.specs.inner.Counting.{delays_in, only_blocked, with_delay};
 
 use cdm_sequence::{BlockedFlight, Plan, Rule, Slot};
 

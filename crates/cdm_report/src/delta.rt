@@ -32,7 +32,7 @@ impl fmt::Display for Change {
 
 /// The line that tells by how much each indicator grew from the base to a scenario, each number with
 /// its sign (local profile). Only want of memory makes it fail.
-#[tactic(auto, unfolding(crate::specs::Delta::delta_line))]
+#[tactic(auto, unfolding(crate::specs::Delta::delta_line, crate::specs::Report::indicators_told))]
 pub fn delta_text(alloc: Global, base: &Counts, scenario: &Counts) -> Result<Vec<u8>, AllocError>
     ensures { IfOk result (λ text. text.items ≡ delta_line base.now scenario.now) }
 {

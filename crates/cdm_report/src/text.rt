@@ -1,7 +1,8 @@
 //! The text of a report.
-ghost use Rattle.std.specs.Prelude.{◌≡◌, ◌++◌, IfOk, OnOk, flat_map};
+ghost use Rattle.std.specs.Prelude.{◌≡◌, ◌++◌, codes, IfOk, OnOk, flat_map};
+ghost use Rattle.std.specs.Fmt.{decimal};
 ghost use Rattle.std.specs.String.{string_bytes};
-ghost use Rattle.cdm_report.specs.Report.{blocked_line, day_line, refused_line, report_bytes, rule_count, runway_lines, total_head, total_line};
+ghost use Rattle.cdm_report.specs.Report.{blocked_line, day_line, indicators_told, refused_line, report_bytes, rule_count, runway_lines, total_line};
 
 use crate::counts::{Counts, indicators};
 use crate::line::{FlightLine, TimeColumn};
@@ -100,9 +101,9 @@ fn push_total(text: &mut String, counts: &Counts) -> Result<(), AllocError>
     writeln!(text)
 }
 
-#[tactic(auto, unfolding(crate::specs::Report::total_head))]
+#[tactic(auto, unfolding(crate::specs::Report::indicators_told))]
 fn push_total_head(text: &mut String, counts: &Counts) -> Result<(), AllocError>
-    ensures { OnOk result (string_bytes text.new ≡ string_bytes text.old ++ total_head counts.now) }
+    ensures { OnOk result (string_bytes text.new ≡ string_bytes text.old ++ indicators_told (codes "TOTAL") (λ of. decimal (of counts.now))) }
 {
     let Counts {
         placed,

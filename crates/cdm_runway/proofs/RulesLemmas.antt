@@ -25,7 +25,7 @@ pub rate_window-says : (cell from to : ℕ) → is_rate_window cell from to ≡ 
 rate_window-says cell from to h = grind (arith, nat_tests)
 
 -- it is what no word refuses
-pub rate_window-in_order : (cell from to : ℕ) → not (is_rate_window cell from to) ≡ (nat_le to from || not (from % cell == 0) || not (to % cell == 0))
+pub rate_window-in_order : (cell from to : ℕ) → not (is_rate_window cell from to) ≡ (nat_le to from || (not (from % cell == 0) || not (to % cell == 0)))
 rate_window-in_order cell from to = grind (arith, nat_tests)
 
 -- its cells are cells of the horizon

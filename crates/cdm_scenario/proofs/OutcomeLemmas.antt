@@ -10,7 +10,7 @@ use Rattle.cdm_sequence.specs.Slots.{PlanRecord}
 use Rattle.cdm_report.specs.Counts.{counts_of}
 use Rattle.cdm_report.specs.declared.counts.Counts.{Counts}
 use Rattle.cdm_day.specs.declared.reply.Reply.TheVariants as reply
-use Rattle.cdm_day.specs.Day.{Day, with_update}
+use Rattle.cdm_day.specs.Day.{DayRecord, with_update}
 use Rattle.cdm_day.specs.DayPlan.{IsDayPlan}
 use Rattle.cdm_day.specs.Replies.{reply_of}
 use Rattle.cdm_day.proofs.NameLemmas.{all_taken}
@@ -20,7 +20,7 @@ use Rattle.cdm_scenario.specs.inner.OneOutcome.{no_more, one_more}
 use Rattle.cdm_scenario.specs.declared.outcome.Outcome.TheVariants.{Planned, Refused}
 
 -- the day has the first k updates, and no word refused one of them
-pub record HasTaken (d : Day) (updates : List Update) (k : ℕ) (day : Day) : Type 0 where
+pub record HasTaken (d : DayRecord) (updates : List Update) (k : ℕ) (day : DayRecord) : Type 0 where
   pub same : day ≡ with_updates d (take k updates)
   pub taken : AreTaken d updates k
 
@@ -32,25 +32,25 @@ refused_word : (o : Option RefusalWord) (w : RefusalWord) → reply.Refused w �
 refused_word None w h = cc
 refused_word (Some v) w h = cc
 
-module _ (d : Day) (us : List Update) where
-  pub none_taken : (day : Day) → day ≡ d → HasTaken d us 0 day
+module _ (d : DayRecord) (us : List Update) where
+  pub none_taken : (day : DayRecord) → day ≡ d → HasTaken d us 0 day
   none_taken day same = record { same = same ∙ no_more d us; taken = λ k h. absurd (omega arith) }
 
-  module _ (k : ℕ) (u : Update) (at : slice_get us k ≡ Some u) (day : Day) (so_far : HasTaken d us k day) where
+  module _ (k : ℕ) (u : Update) (at : slice_get us k ≡ Some u) (day : DayRecord) (so_far : HasTaken d us k day) where
     word_here : word_at d us k ≡ refusal_of day.airport day.journal u
-    word_here = ap (option_and_then (refusal_of d.airport (d.journal ++ take k us))) at ∙ sym (ap (λ (x : Day). refusal_of x.airport x.journal u) so_far.same)
+    word_here = ap (option_and_then (refusal_of d.airport (d.journal ++ take k us))) at ∙ sym (ap (λ (x : DayRecord). refusal_of x.airport x.journal u) so_far.same)
 
-    pub one_more_taken : (next : Day) → reply.Accepted ≡ reply_of (refusal_of day.airport day.journal u) → next ≡ after_judged day u → HasTaken d us (k + 1) next
+    pub one_more_taken : (next : DayRecord) → reply.Accepted ≡ reply_of (refusal_of day.airport day.journal u) → next ≡ after_judged day u → HasTaken d us (k + 1) next
     one_more_taken next accepted after =
         let none = accepted_word (refusal_of day.airport day.journal u) accepted in
         record {
-          same = after ∙ (ap (λ o. if is_none o then with_update day u else day) none ∙ (ap (λ (x : Day). with_update x u) so_far.same ∙ one_more d us k u at));
+          same = after ∙ (ap (λ o. if is_none o then with_update day u else day) none ∙ (ap (λ (x : DayRecord). with_update x u) so_far.same ∙ one_more d us k u at));
           taken = below_more (λ j. word_at d us j ≡ None) k so_far.taken (word_here ∙ none);
         }
 
     pub refused_here : (w : RefusalWord) → reply.Refused w ≡ reply_of (refusal_of day.airport day.journal u) → IsOutcome d us (Refused (k + 1) w)
     refused_here w refused = (k, (refl, so_far.taken, word_here ∙ refused_word (refusal_of day.airport day.journal u) w refused))
 
-  pub all_taken_here : (k : ℕ) (day : Day) (plan : PlanRecord) (counts : Counts) → HasTaken d us k day → length us ≤ k → IsDayPlan day plan → counts ≡ counts_of plan → IsOutcome d us (Planned plan counts)
+  pub all_taken_here : (k : ℕ) (day : DayRecord) (plan : PlanRecord) (counts : Counts) → HasTaken d us k day → length us ≤ k → IsDayPlan day plan → counts ≡ counts_of plan → IsOutcome d us (Planned plan counts)
   all_taken_here k day plan counts so_far all made is =
-      (λ j h. so_far.taken j (omega arith), subst (λ (x : Day). IsDayPlan x plan) (so_far.same ∙ ap (with_updates d) (all_taken us k (omega arith))) made, is)
+      (λ j h. so_far.taken j (omega arith), subst (λ (x : DayRecord). IsDayPlan x plan) (so_far.same ∙ ap (with_updates d) (all_taken us k (omega arith))) made, is)

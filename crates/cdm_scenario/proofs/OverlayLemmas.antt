@@ -23,7 +23,7 @@ use Rattle.cdm_flight.specs.Journal.{AirportRows, is_known, sets_cap, sets_close
 use Rattle.cdm_flight.specs.Accepted.{is_unknown, refusal_of, stand_with_taxi}
 use Rattle.cdm_flight.proofs.JournalLemmas.{last_value-push, flight_of-untouched, flight_of-fresh, same_name-refl}
 use Rattle.cdm_runway.specs.Rules.{RunwayRules}
-use Rattle.cdm_day.specs.Day.{Day, flights_in, rules_of, rules_in, rows_by_name}
+use Rattle.cdm_day.specs.Day.{DayRecord, flights_in, rules_of, rules_in, rows_by_name}
 use Rattle.cdm_day.specs.Runways.{has_window, is_of_runway, with_change, window_end, window_runway}
 use Rattle.cdm_day.specs.Sound.{IsSound, TellTaxi}
 use Rattle.cdm_day.specs.inner.Tables.{Flights}
@@ -58,7 +58,7 @@ slice_get-back (x ∷ xs) ys (suc i) h = let same : i - length xs ≡ suc i - le
 
 -- The names of a day's flights are those of their records.
 
-name_at_place : (d : Day) → IsSound d → (i : ℕ) (o : Option Record) → o ≡ option_and_then (flight_of d.airport d.journal) (slice_get (flights_in d.journal) i) → option_map (λ r. r.name) o ≡ slice_get (flights_in d.journal) i
+name_at_place : (d : DayRecord) → IsSound d → (i : ℕ) (o : Option Record) → o ≡ option_and_then (flight_of d.airport d.journal) (slice_get (flights_in d.journal) i) → option_map (λ r. r.name) o ≡ slice_get (flights_in d.journal) i
 name_at_place d sound i o at = ap (option_map (λ (r : Record). r.name)) at ∙ by (slice_get (flights_in d.journal) i) refl
   where
     by_record : (k : List ℕ) (q : Option Record) → flight_of d.airport d.journal k ≡ q → is_some q ≡ true → option_map (λ r. r.name) q ≡ Some k
@@ -71,7 +71,7 @@ name_at_place d sound i o at = ap (option_map (λ (r : Record). r.name)) at ∙ 
 
 -- Nothing laid over.
 
-pub over_nothing : (d : Day) (items : List Update) (m : Flights) (new : List (List ℕ)) (own : Runways) (now : ℕ) → IsSound d → items ≡ [] → m.entries ≡ [] → new ≡ [] → own.entries ≡ [] → now ≡ now_of d.journal
+pub over_nothing : (d : DayRecord) (items : List Update) (m : Flights) (new : List (List ℕ)) (own : Runways) (now : ℕ) → IsSound d → items ≡ [] → m.entries ≡ [] → new ≡ [] → own.entries ≡ [] → now ≡ now_of d.journal
     → TellChanged d.airport d.journal (d.journal ++ items) m new own None now
 over_nothing d items m new own now sound none no_flights no_new no_runways clock =
     let same : d.journal ++ items ≡ d.journal = ap (λ l. d.journal ++ l) none ∙ append-nil d.journal in
@@ -96,11 +96,11 @@ module _ {g : AirportRows} {a e : List Update} {m : Flights} {new : List (List �
 
   -- The runway at a place.
 
-  pub over_runway : {d : Day} → record { airport = g; journal = e } ≡ d → (i : ℕ) (x : RunwayRules) (o : Option RunwayRules) → Some x ≡ slice_get (rules_in g a) i → o ≡ get same_name own x.name
+  pub over_runway : {d : DayRecord} → record { airport = g; journal = e } ≡ d → (i : ℕ) (x : RunwayRules) (o : Option RunwayRules) → Some x ≡ slice_get (rules_in g a) i → o ≡ get same_name own x.name
       → Some (unwrap_or o x) ≡ slice_get (rules_in d.airport d.journal) i
   over_runway is i x o at mine =
       sym (slice_get-map (rules_of g e) (rows_by_name g.runways) i ∙ by (slice_get (rows_by_name g.runways) i) refl (sym (slice_get-map (rules_of g a) (rows_by_name g.runways) i) ∙ sym at))
-      ∙ ap (λ (d : Day). slice_get (rules_in d.airport d.journal) i) is
+      ∙ ap (λ (d : DayRecord). slice_get (rules_in d.airport d.journal) i) is
     where
       by : (q : Option RunwayRow) → slice_get (rows_by_name g.runways) i ≡ q → option_map (rules_of g a) q ≡ Some x → option_map (rules_of g e) q ≡ Some (unwrap_or o x)
       by None h k = cc
@@ -112,14 +112,14 @@ module _ {g : AirportRows} {a e : List Update} {m : Flights} {new : List (List �
 
   -- The name of the flight at a place.
 
-  pub old_name : {d : Day} → record { airport = g; journal = e } ≡ d → IsSound (record { airport = g; journal = a }) → (i : ℕ) → i < length (flights_in a)
+  pub old_name : {d : DayRecord} → record { airport = g; journal = e } ≡ d → IsSound (record { airport = g; journal = a }) → (i : ℕ) → i < length (flights_in a)
       → (o : Option Record) → o ≡ option_and_then (flight_of g a) (slice_get (flights_in a) i) → option_map (λ r. r.name) o ≡ slice_get (flights_in d.journal) i
   old_name is sound i below o at =
       name_at_place (record { airport = g; journal = a }) sound i o at
-      ∙ (sym (ap (λ l. slice_get l i) told.order ∙ slice_get-front (flights_in a) new i below) ∙ ap (λ (d : Day). slice_get (flights_in d.journal) i) is)
+      ∙ (sym (ap (λ l. slice_get l i) told.order ∙ slice_get-front (flights_in a) new i below) ∙ ap (λ (d : DayRecord). slice_get (flights_in d.journal) i) is)
 
-  pub new_name : {d : Day} → record { airport = g; journal = e } ≡ d → (i k : ℕ) → length (flights_in a) ≤ i → k ≡ i - length (flights_in a) → slice_get new k ≡ slice_get (flights_in d.journal) i
-  new_name is i k past at = ap (slice_get new) at ∙ (sym (ap (λ l. slice_get l i) told.order ∙ slice_get-back (flights_in a) new i past) ∙ ap (λ (d : Day). slice_get (flights_in d.journal) i) is)
+  pub new_name : {d : DayRecord} → record { airport = g; journal = e } ≡ d → (i k : ℕ) → length (flights_in a) ≤ i → k ≡ i - length (flights_in a) → slice_get new k ≡ slice_get (flights_in d.journal) i
+  new_name is i k past at = ap (slice_get new) at ∙ (sym (ap (λ l. slice_get l i) told.order ∙ slice_get-back (flights_in a) new i past) ∙ ap (λ (d : DayRecord). slice_get (flights_in d.journal) i) is)
 
   -- What an update that no word refuses leaves.
 
@@ -146,9 +146,9 @@ module _ {g : AirportRows} {a e : List Update} {m : Flights} {new : List (List �
   taxi_left u none stand None over = λ base tell. taxi_after_other g e u base none stand (over base tell)
   taxi_left u none stand (Some t) over = taxi_after_other g e u t none stand over
 
-  module _ {d : Day} (is : record { airport = g; journal = e } ≡ d) (u : Update) (good : refusal_of d.airport d.journal u ≡ None) where
+  module _ {d : DayRecord} (is : record { airport = g; journal = e } ≡ d) (u : Update) (good : refusal_of d.airport d.journal u ≡ None) where
     fine : refusal_of g e u ≡ None
-    fine = subst (λ (x : Day). refusal_of x.airport x.journal u ≡ None) (sym is) good
+    fine = subst (λ (x : DayRecord). refusal_of x.airport x.journal u ≡ None) (sym is) good
 
     sound : IsSound (record { airport = g; journal = e ++ u ∷ [] })
     sound = sound_after (record { airport = g; journal = e }) u told.sound fine
@@ -159,13 +159,13 @@ module _ {g : AirportRows} {a e : List Update} {m : Flights} {new : List (List �
     -- Another update than FLT, of a flight.
 
     pub step_known : (f : List ℕ) → flight_of_update u ≡ Some f → is_fresh u ≡ false → is_unknown d.airport d.journal u ≡ not (is_known d.journal f)
-    step_known f k old = subst (λ (x : Day). is_unknown x.airport x.journal u ≡ not (is_known x.journal f)) is (there ∙ sym (ap not (known_from g e f u k old there)))
+    step_known f k old = subst (λ (x : DayRecord). is_unknown x.airport x.journal u ≡ not (is_known x.journal f)) is (there ∙ sym (ap not (known_from g e f u k old there)))
 
     pub over_step : (f : List ℕ) (r : Record) (n : Flights) → flight_of_update u ≡ Some f → is_fresh u ≡ false
         → flight_of d.airport (d.journal ++ u ∷ []) f ≡ Some r → Updates same_name m n f (Some r) → TellChanged g a (e ++ u ∷ []) n new own rows now
     over_step f r n k old says put = record {
       sound = sound;
-      flights = flights_put u f r n k put (subst (λ (x : Day). flight_of x.airport (x.journal ++ u ∷ []) f ≡ Some r) (sym is) says);
+      flights = flights_put u f r n k put (subst (λ (x : DayRecord). flight_of x.airport (x.journal ++ u ∷ []) f ≡ Some r) (sym is) says);
       order = flights-old e u old ∙ told.order;
       runways = runways_left u (λ s t. cap-of_flight f s t u k) (λ s t. closed-of_flight f s t u k);
       taxi = taxi_left u (λ place s. taxi-of_flight f place s u k) (stand-of_flight f u k) rows told.taxi;
@@ -253,7 +253,7 @@ module _ {g : AirportRows} {a e : List Update} {m : Flights} {new : List (List �
                 ∙ (told.runways row i ∙ ap (λ o. unwrap_or o (rules_of g a row)) (sym (put.2 row.name h))))
 
   -- After an FLT.
-  pub over_flt : {d : Day} (is : record { airport = g; journal = e } ≡ d) (f : List ℕ) (p : ℕ) (n : Flights) → refusal_of d.airport d.journal (Flt f p) ≡ None → Updates same_name m n f (Some (fresh f p))
+  pub over_flt : {d : DayRecord} (is : record { airport = g; journal = e } ≡ d) (f : List ℕ) (p : ℕ) (n : Flights) → refusal_of d.airport d.journal (Flt f p) ≡ None → Updates same_name m n f (Some (fresh f p))
       → TellChanged g a (e ++ Flt f p ∷ []) n (new ++ f ∷ []) own rows now
   over_flt is f p n good put =
       let unknown = (flt-accepted (record { airport = g; journal = e }) told.sound f p (fine is (Flt f p) good)).0 in
@@ -267,7 +267,7 @@ module _ {g : AirportRows} {a e : List Update} {m : Flights} {new : List (List �
       }
 
   -- After a CLOCK.
-  pub over_clock : {d : Day} (is : record { airport = g; journal = e } ≡ d) (t : ℕ) → refusal_of d.airport d.journal (Clock t) ≡ None → TellChanged g a (e ++ Clock t ∷ []) m new own rows t
+  pub over_clock : {d : DayRecord} (is : record { airport = g; journal = e } ≡ d) (t : ℕ) → refusal_of d.airport d.journal (Clock t) ≡ None → TellChanged g a (e ++ Clock t ∷ []) m new own rows t
   over_clock is t good = record {
     sound = sound is (Clock t) good;
     flights = flights_left (Clock t) refl;
@@ -278,7 +278,7 @@ module _ {g : AirportRows} {a e : List Update} {m : Flights} {new : List (List �
   }
 
   -- After a TAXI.
-  pub over_taxi : {d : Day} (is : record { airport = g; journal = e } ≡ d) (u : Update) (base : TaxiRows) → refusal_of d.airport d.journal u ≡ None → is_taxi u ≡ true → TellTaxi g a base
+  pub over_taxi : {d : DayRecord} (is : record { airport = g; journal = e } ≡ d) (u : Update) (base : TaxiRows) → refusal_of d.airport d.journal u ≡ None → is_taxi u ≡ true → TellTaxi g a base
       → TellChanged g a (e ++ u ∷ []) m new own (Some (with_row u (unwrap_or rows base))) now
   over_taxi is (Taxi p s x) base good taxi tell = record {
     sound = sound is (Taxi p s x) good;

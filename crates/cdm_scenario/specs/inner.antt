@@ -1,2 +1,3 @@
 pub mod Changed
 pub mod OneOutcome
+pub mod Padded

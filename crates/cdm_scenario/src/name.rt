@@ -1,10 +1,11 @@
 //! Names of scenarios.
-ghost use Rattle.std.specs.Prelude.{◌≡◌, ◌≤◌, Some, None, if◌then◌else◌, length};
+ghost use Rattle.std.specs.Prelude.{◌≡◌, ◌≤◌, ◌==◌, ◌||◌, IsTrue, Some, None, if◌then◌else◌, length};
 ghost use Rattle.std.specs.Cmp.{partial_equiv_from_equiv};
 ghost use Rattle.std.specs.Cmp.Lexicographic.{nat_list_eq_equiv};
 ghost use Rattle.std.specs.List.{list_all};
-ghost use Rattle.cdm_flight.specs.Names.{padded, same_name};
-ghost use Rattle.cdm_scenario.specs.Names.{IsScenarioName, is_name_byte, is_scenario_name};
+ghost use Rattle.cdm_flight.specs.Names.{is_letter_or_digit, same_name};
+ghost use Rattle.cdm_scenario.specs.Names.{is_scenario_name};
+ghost use Rattle.cdm_scenario.specs.inner.Padded.{padded};
 
 use std::marker::Model;
 
@@ -21,16 +22,15 @@ pub struct ScenarioName {
 impl Model for ScenarioName {
     ghost use Rattle.std.specs.Prelude.{◌≡◌, ℕ, List, ◌≤◌, length, take};
     ghost use Rattle.std.proofs.Common.{arith, sym, length-take-le};
-    ghost use Rattle.cdm_flight.specs.Names.{padded};
-    ghost use Rattle.cdm_scenario.specs.Names.{IsScenarioName};
+    ghost use Rattle.cdm_scenario.specs.inner.Padded.{IsScenarioName, padded};
 
     ghost Value = { List ℕ };
 
     ghost view = { λ n. take n.len n.text };
 
-    ghost invariant = { λ n. (n.len ≤ 16) × (length n.text ≡ 16) × (n.text ≡ padded 16 (take n.len n.text)) × IsScenarioName (take n.len n.text) };
+    ghost invariant = { λ n. (n.len ≤ 16) × (length n.text ≡ 16) × (n.text ≡ padded (take n.len n.text)) × IsScenarioName (take n.len n.text) };
 
-    ghost inverse = { λ xs. record { text = padded 16 xs; len = length xs } };
+    ghost inverse = { λ xs. record { text = padded xs; len = length xs } };
 
     ghost inverse_ok = { λ n h i. record {
       text = sym h.2 i;
@@ -39,20 +39,20 @@ impl Model for ScenarioName {
 }
 
 fn name_byte(byte: u8) -> bool
-    ensures { result ≡ is_name_byte byte }
+    ensures { result ≡ (is_letter_or_digit byte || (byte == 45)) }
 {
     byte.is_ascii_uppercase() || byte.is_ascii_digit() || byte == b'-'
 }
 
 fn all_name_bytes(text: &[u8]) -> bool
-    ensures { result ≡ list_all is_name_byte text.now }
+    ensures { result ≡ list_all (λ byte. is_letter_or_digit byte || (byte == 45)) text.now }
 {
     text.iter().all(|byte| name_byte(*byte))
 }
 
 fn pad(text: &[u8]) -> [u8; 16]
     requires { length text.now ≤ 16 }
-    ensures { result ≡ padded 16 text.now }
+    ensures { result ≡ padded text.now }
 {
     let mut row = [0; LONGEST];
     row[..text.len()].copy_from_slice(text);
@@ -76,7 +76,7 @@ impl ScenarioName {
     /// The name's bytes.
     pub fn bytes(&self) -> &[u8]
         ensures value { result.now ≡ self.now }
-        ensures name { IsScenarioName self.now }
+        ensures name { IsTrue (is_scenario_name self.now) }
     {
         &self.text[..self.len]
     }

@@ -42,9 +42,9 @@ impl<'a> Model for Overlay<'a> {
     ghost use Rattle.std.specs.Prelude.{◌++◌};
     ghost use Rattle.std.specs.Coded.{codes};
     ghost use Rattle.cdm_day.specs.inner.AirportCode.{airport_code};
-    ghost use Rattle.cdm_day.specs.Day.{Day};
+    ghost use Rattle.cdm_day.specs.Day.{DayRecord};
 
-    ghost Value = { Day };
+    ghost Value = { DayRecord };
 
     ghost coded = { Prim.hlevel (codes, airport_code) };
 

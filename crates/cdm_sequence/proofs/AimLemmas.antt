@@ -1,6 +1,6 @@
 -- There is one answer of an aim.
-use Rattle.std.proofs.Common.{◌≡◌, ℕ, ◌+◌, ◌-◌, ◌<◌, ◌≤◌, Bool, true, false, nat_le, nat_lt, max, min, List, Option, Some, None, IsSome, sym, ◌∙◌, refl, arith, ap}
-use Rattle.std.specs.Option.{option_map}
+use Rattle.std.proofs.Common.{◌≡◌, ℕ, ◌+◌, ◌-◌, ◌<◌, ◌≤◌, Bool, true, false, nat_le, nat_lt, max, min, List, Option, Some, None, IsSome, subst, sym, ◌∙◌, refl, arith, ap}
+use Rattle.std.specs.Option.{IsSomeAnd, option_map}
 use Rattle.std.proofs.lemmas.Bool.Decides.{nat_tests}
 use Rattle.std.specs.Prelude.{if◌then◌else◌}
 use Rattle.cdm_time.specs.Windows.{Interval, has_minute, tolerance_before, tolerance_after}
@@ -101,17 +101,45 @@ aim_with f times now (Some tobt) (Some runway) = aim_with_exot f now tobt runway
 unfoldable pub aim_of : Record → TaxiTimes → ℕ → AimResult
 aim_of f times now = aim_with f times now f.tobt f.runway
 
+-- what a flight reaches this minute by
+pub record Reach (f : Record) (times : TaxiTimes) (now earliest : ℕ) : Type 0 where
+  pub tobt : ℕ
+  pub runway : List ℕ
+  pub exot : ℕ
+  pub tobt_is : f.tobt ≡ Some tobt
+  pub runway_is : f.runway ≡ Some runway
+  pub exot_is : exot_to times f runway ≡ Some exot
+  pub earliest_is : earliest ≡ ready_at f tobt now + exot
+
+pub reaches : (f : Record) (times : TaxiTimes) (now m : ℕ) (P : ℕ → Type 0) → Reach f times now m → P m → ReachesAt f times now P
+reaches f times now m P r p =
+    subst (λ o. IsSomeAnd o (λ t. IsSomeAnd f.runway (λ q. IsSomeAnd (exot_to times f q) (λ x. P (ready_at f t now + x))))) (sym r.tobt_is)
+    (subst (λ o. IsSomeAnd o (λ q. IsSomeAnd (exot_to times f q) (λ x. P (ready_at f r.tobt now + x)))) (sym r.runway_is)
+    (subst (λ o. IsSomeAnd o (λ x. P (ready_at f r.tobt now + x))) (sym r.exot_is) (subst P r.earliest_is p)))
+
+reach_of : (f : Record) (times : TaxiTimes) (now : ℕ) (P : ℕ → Type 0) → ReachesAt f times now P → (m : ℕ) × Reach f times now m × P m
+reach_of f times now P e = by f.tobt f.runway refl refl e where
+  by : (o : Option ℕ) (r : Option (List ℕ)) → f.tobt ≡ o → f.runway ≡ r
+      → IsSomeAnd o (λ tobt. IsSomeAnd r (λ runway. IsSomeAnd (exot_to times f runway) (λ exot. P (ready_at f tobt now + exot)))) → (m : ℕ) × Reach f times now m × P m
+  by None r d k e = absurd e
+  by (Some tobt) None d k e = absurd e
+  by (Some tobt) (Some runway) d k e = go (exot_to times f runway) refl e where
+    go : (x : Option ℕ) → exot_to times f runway ≡ x → IsSomeAnd x (λ exot. P (ready_at f tobt now + exot)) → (m : ℕ) × Reach f times now m × P m
+    go None h e = absurd e
+    go (Some exot) h e =
+        (ready_at f tobt now + exot, record { tobt = tobt; runway = runway; exot = exot; tobt_is = d; runway_is = k; exot_is = h; earliest_is = refl }, e)
+
 -- it is right
 pub aim_means : (f : Record) (times : TaxiTimes) (now : ℕ) → IsAim f times now (aim_of f times now)
 unfolding aim_of
 aim_means f times now = go f.tobt f.runway refl refl where
-  reaches : (tobt exot : ℕ) (runway : List ℕ) → f.tobt ≡ Some tobt → f.runway ≡ Some runway → exot_to times f runway ≡ Some exot → ReachesAt f times now (ready_at f tobt now + exot)
-  reaches tobt exot runway d e h = record { tobt = tobt; runway = runway; exot = exot; tobt_is = d; runway_is = e; exot_is = h; earliest_is = refl }
+  reach : (tobt exot : ℕ) (runway : List ℕ) → f.tobt ≡ Some tobt → f.runway ≡ Some runway → exot_to times f runway ≡ Some exot → Reach f times now (ready_at f tobt now + exot)
+  reach tobt exot runway d e h = record { tobt = tobt; runway = runway; exot = exot; tobt_is = d; runway_is = e; exot_is = h; earliest_is = refl }
 
   possible : (tobt exot : ℕ) (runway : List ℕ) → f.tobt ≡ Some tobt → f.runway ≡ Some runway → exot_to times f runway ≡ Some exot → (b c : Bool)
       → nat_le 2880 (ready_at f tobt now + exot) ≡ b → nat_lt (window_from (ready_at f tobt now + exot) f.ctot) (window_to f.ctot) ≡ c
       → IsAim f times now (if_possible b c (target_of f now tobt runway exot))
-  possible tobt exot runway d e h true c p q = (ready_at f tobt now + exot, reaches tobt exot runway d e h, grind (arith, nat_tests))
+  possible tobt exot runway d e h true c p q = reaches f times now _ (λ m. 2880 ≤ m) (reach tobt exot runway d e h) (grind (arith, nat_tests))
   possible tobt exot runway d e h false true p q = record {
     key = ap (option_map (λ (tobt : ℕ). record { priority = f.priority; tobt = tobt; name = f.name })) d;
     runway = e;
@@ -121,9 +149,7 @@ aim_means f times now = go f.tobt f.runway refl refl where
     some_minute = grind (arith, nat_tests);
     minutes = window_minutes (ready_at f tobt now + exot) f.ctot;
   }
-  possible tobt exot runway d e h false false p q = (
-    ready_at f tobt now + exot,
-    reaches tobt exot runway d e h,
+  possible tobt exot runway d e h false false p q = reaches f times now _ (λ m. (m < 2880) × ((k : ℕ) → is_candidate m f.ctot k ≡ false)) (reach tobt exot runway d e h) (
     grind (arith, nat_tests),
     λ m. sym (window_minutes (ready_at f tobt now + exot) f.ctot m) ∙ empty_window (window_from (ready_at f tobt now + exot) f.ctot) (window_to f.ctot) m q,
   )
@@ -160,16 +186,18 @@ aim_is f times now a e = by a e where
   by (Early Tobt) e = ap (λ o. aim_with f times now o f.runway) e
   by (Early Runway) e = no_runway f.tobt e.0 e.1
   by (Early Exot) e = no_exot f.tobt e.0 e.1.0 e.1.1 e.1.2
-  by (Early Horizon) (m, h, out_of) =
+  by (Early Horizon) e =
+      let (m, h, out_of) = reach_of f times now (λ m. 2880 ≤ m) e in
       let t = target_of f now h.tobt h.runway h.exot in
       let out : nat_le 2880 (ready_at f h.tobt now + h.exot) ≡ true = ap (nat_le 2880) (sym h.earliest_is) ∙ out_of_reach m out_of in
       with_times h.tobt h.exot h.runway h.tobt_is h.runway_is h.exot_is ∙ ap (λ b. if_possible b (nat_lt t.window.from t.window.to) t) out
-  by (Early Ctot) (m, h, some, none) =
+  by (Early Ctot) e =
+      let (m, h, held) = reach_of f times now (λ m. (m < 2880) × ((k : ℕ) → is_candidate m f.ctot k ≡ false)) e in
       let t = target_of f now h.tobt h.runway h.exot in
-      let out : nat_le 2880 (ready_at f h.tobt now + h.exot) ≡ false = ap (nat_le 2880) (sym h.earliest_is) ∙ in_reach m some in
+      let out : nat_le 2880 (ready_at f h.tobt now + h.exot) ≡ false = ap (nat_le 2880) (sym h.earliest_is) ∙ in_reach m held.0 in
       let empty : nat_lt (window_from (ready_at f h.tobt now + h.exot) f.ctot) (window_to f.ctot) ≡ false =
       ap (λ k. nat_lt (window_from k f.ctot) (window_to f.ctot)) (sym h.earliest_is)
-      ∙ window_empty (window_from m f.ctot) (window_to f.ctot) (window_minutes m f.ctot (window_from m f.ctot) ∙ none (window_from m f.ctot)) in
+      ∙ window_empty (window_from m f.ctot) (window_to f.ctot) (window_minutes m f.ctot (window_from m f.ctot) ∙ held.1 (window_from m f.ctot)) in
       with_times h.tobt h.exot h.runway h.tobt_is h.runway_is h.exot_is
       ∙ ap (λ b. if_possible b (nat_lt t.window.from t.window.to) t) out
       ∙ ap (λ b. if_possible false b t) empty

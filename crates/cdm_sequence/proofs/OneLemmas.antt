@@ -14,15 +14,16 @@ use Rattle.std.proofs.lemmas.List.Sorted.{ranks_by, Contains-permutation, sum_by
 use Rattle.cdm_flight.specs.Names.{name_cmp, same_name}
 use Rattle.cdm_runway.specs.Rules.{RunwayRules}
 use Rattle.cdm_runway.specs.Room.{held_in_cell}
-use Rattle.cdm_sequence.specs.Fixed.{FixedRecord, takeoffs}
+use Rattle.cdm_sequence.specs.Fixed.{takeoffs}
 use Rattle.cdm_sequence.specs.Plan.{Placing, taken_before, IsLeast}
-use Rattle.cdm_sequence.specs.Sequence.{planned_slot, fixed_slot, slots_by, names_left, flight_names, Blocks, IsRightlyBlocked, IsSequenceBy, IsSequence}
+use Rattle.cdm_sequence.specs.Sequence.{planned_slot, flight_names, Blocks, IsRightlyBlocked, IsSequenceBy, IsSequence}
+use Rattle.cdm_sequence.specs.inner.Shown.{slots_by, names_left}
 use Rattle.cdm_sequence.specs.Slots.{SlotRecord, RunwayPlanRecord, slot_cmp}
 use Rattle.cdm_sequence.specs.Targets.{TargetRecord}
 use Rattle.cdm_sequence.specs.declared.rule.Rule.{Rule}
 use Rattle.cdm_sequence.specs.declared.rule.Rule.TheVariants.{Closure, Rate}
 use Rattle.cdm_sequence.specs.declared.slot.BlockedFlight.{BlockedFlight}
-use Rattle.cdm_flight.proofs.Lists.{contains_map, contains_from_map, contains_from_given, filter_map_same, filter_same, sum_map, sorted_one, IsPermutation-filter_map, IsPermutation-filter, distinct_left, distinct_right, apart_from_rest, one_of_key}
+use Rattle.cdm_flight.proofs.Lists.{contains_map, contains_from_given, filter_map_same, filter_same, sum_map, sorted_one, IsPermutation-filter_map, IsPermutation-filter, distinct_left, distinct_right, apart_from_rest, one_of_key}
 use Rattle.cdm_sequence.proofs.OrderLemmas.{same_flips, is_same, tied_names, last_ties}
 use Rattle.cdm_sequence.proofs.PlanLemmas.{in_cell, load_of, held_before, held_agree, least_same, plan_agree, plan_one}
 
@@ -43,11 +44,11 @@ blocks_same r xs ys f Rate h e = record { some_open = e.some_open; full = λ k a
 blocks_same r xs ys f _ h e = absurd e
 
 -- the sequence of flights is that of the same flights in another order
-reordered_by : (p : Placing) (r : RunwayRules) (fixed fixed' : List FixedRecord) (ts us : List TargetRecord) (plan : RunwayPlanRecord) → IsPermutation fixed fixed' → IsPermutation ts us → IsSequenceBy p r fixed ts plan → IsSequenceBy p r fixed' us plan
+reordered_by : (p : Placing) (r : RunwayRules) (fixed fixed' : List SlotRecord) (ts us : List TargetRecord) (plan : RunwayPlanRecord) → IsPermutation fixed fixed' → IsPermutation ts us → IsSequenceBy p r fixed ts plan → IsSequenceBy p r fixed' us plan
 reordered_by p r fixed fixed' ts us plan same order e =
     let xs = takeoffs fixed in
     let ys = takeoffs fixed' in
-    let minutes : IsPermutation xs ys = IsPermutation-map (λ (x : FixedRecord). x.takeoff) fixed fixed' same in
+    let minutes : IsPermutation xs ys = IsPermutation-map (λ (x : SlotRecord). x.ttot) fixed fixed' same in
     let held : (f : TargetRecord) (m : ℕ) → held_in_cell r.cell (taken_before xs ts p f) m ≡ held_in_cell r.cell (taken_before ys us p f) m = λ f m. held_reordered r.cell m xs ys ts us p f minutes order in
     let back : IsPermutation us ts = IsPermutation-sym ts us order in
     let slot : TargetRecord → Option SlotRecord = λ f. option_map (planned_slot f) (p f) in
@@ -59,8 +60,8 @@ reordered_by p r fixed fixed' ts us plan same order e =
           let i = Contains-permutation us ts f back (Contains-get_or us k d l) in
           least_same r (taken_before xs ts p f) (taken_before ys us p f) f (p f) (held f) (All-contains (λ f. IsLeast r (taken_before xs ts p f) f (p f)) ts f e.minutes i);
       slots = IsPermutation-trans (slots_by p fixed' us) (slots_by p fixed ts) plan.slots
-          (IsPermutation-append (map fixed_slot fixed') (map fixed_slot fixed) (filter_map slot us) (filter_map slot ts)
-          (IsPermutation-map fixed_slot fixed' fixed (IsPermutation-sym fixed fixed' same)) (IsPermutation-filter_map slot us ts back))
+          (IsPermutation-append fixed' fixed (filter_map slot us) (filter_map slot ts)
+          (IsPermutation-sym fixed fixed' same) (IsPermutation-filter_map slot us ts back))
           e.slots;
       slot_order = e.slot_order;
       blocked = IsPermutation-trans (names_left p us) (names_left p ts) (map (λ (b : BlockedFlight). b.name) plan.blocked)
@@ -72,16 +73,16 @@ reordered_by p r fixed fixed' ts us plan same order e =
       blocked_order = e.blocked_order;
     }
 
-pub reordered : (r : RunwayRules) (fixed fixed' : List FixedRecord) (ts us : List TargetRecord) (plan : RunwayPlanRecord) → IsPermutation fixed fixed' → IsPermutation ts us → IsSequence r fixed ts plan → IsSequence r fixed' us plan
+pub reordered : (r : RunwayRules) (fixed fixed' : List SlotRecord) (ts us : List TargetRecord) (plan : RunwayPlanRecord) → IsPermutation fixed fixed' → IsPermutation ts us → IsSequence r fixed ts plan → IsSequence r fixed' us plan
 reordered r fixed fixed' ts us plan same order (p, e) = (p, reordered_by p r fixed fixed' ts us plan same order e)
 
 -- Any placing.
 
 -- a placing that agrees with a sequence's on its targets is the sequence's
-pub sequence_agree : (p q : Placing) (r : RunwayRules) (fixed : List FixedRecord) (ts : List TargetRecord) (plan : RunwayPlanRecord) → ((f : TargetRecord) → Contains ts f → p f ≡ q f) → IsSequenceBy p r fixed ts plan → IsSequenceBy q r fixed ts plan
+pub sequence_agree : (p q : Placing) (r : RunwayRules) (fixed : List SlotRecord) (ts : List TargetRecord) (plan : RunwayPlanRecord) → ((f : TargetRecord) → Contains ts f → p f ≡ q f) → IsSequenceBy p r fixed ts plan → IsSequenceBy q r fixed ts plan
 sequence_agree p q r fixed ts plan agree e =
     let xs = takeoffs fixed in
-    let shown : slots_by p fixed ts ≡ slots_by q fixed ts = ap (λ (ss : List SlotRecord). map fixed_slot fixed ++ ss)
+    let shown : slots_by p fixed ts ≡ slots_by q fixed ts = ap (λ (ss : List SlotRecord). fixed ++ ss)
     (filter_map_same (λ f. option_map (planned_slot f) (p f)) (λ f. option_map (planned_slot f) (q f)) ts (λ f i. ap (option_map (planned_slot f)) (agree f i))) in
     let left : names_left p ts ≡ names_left q ts = ap (map (λ (f : TargetRecord). f.key.name)) (filter_same (λ f. is_none (p f)) (λ f. is_none (q f)) ts (λ f i. ap is_none (agree f i))) in
     record {
@@ -121,14 +122,14 @@ some_same : {X : Type 0} (x y : X) → Some x ≡ Some y → x ≡ y
 some_same x y e = cc
 
 -- the slots of a placing show each name once
-slot_one : (p : Placing) (fixed : List FixedRecord) (ts : List TargetRecord) (a b : SlotRecord) → IsDistinct same_name (flight_names fixed ts) → Contains (slots_by p fixed ts) a → Contains (slots_by p fixed ts) b → a.name ≡ b.name → a ≡ b
+slot_one : (p : Placing) (fixed : List SlotRecord) (ts : List TargetRecord) (a b : SlotRecord) → IsDistinct same_name (flight_names fixed ts) → Contains (slots_by p fixed ts) a → Contains (slots_by p fixed ts) b → a.name ≡ b.name → a ≡ b
 slot_one p fixed ts a b own i j e =
-    go (Contains-append_cases (map fixed_slot fixed) (filter_map slot ts) a i) (Contains-append_cases (map fixed_slot fixed) (filter_map slot ts) b j) where
+    go (Contains-append_cases fixed (filter_map slot ts) a i) (Contains-append_cases fixed (filter_map slot ts) b j) where
       slot : TargetRecord → Option SlotRecord
       slot f = option_map (planned_slot f) (p f)
 
       fixed_names : List (List ℕ)
-      fixed_names = map (λ (x : FixedRecord). x.name) fixed
+      fixed_names = map (λ (x : SlotRecord). x.name) fixed
 
       target_names : List (List ℕ)
       target_names = map (λ (f : TargetRecord). f.key.name) ts
@@ -139,20 +140,16 @@ slot_one p fixed ts a b own i j e =
         by None k = cc
         by (Some m) k = ap (λ (x : SlotRecord). x.name) (some_same (planned_slot f m) s k)
 
-      crossed : (s t : SlotRecord) → Contains (map fixed_slot fixed) s → Contains (filter_map slot ts) t → s.name ≡ t.name → ⊥
+      crossed : (s t : SlotRecord) → Contains fixed s → Contains (filter_map slot ts) t → s.name ≡ t.name → ⊥
       crossed s t k l h =
-          let x = contains_from_map fixed_slot fixed s k in
           let f = contains_from_given slot ts t l in
-          let apart : same_name x.0.name f.0.key.name ≡ false = apart_from_rest same_name fixed_names target_names x.0.name f.0.key.name own (contains_map (λ (x : FixedRecord). x.name) fixed x.0 x.1) (contains_map (λ (f : TargetRecord). f.key.name) ts f.0 f.1) in
-          let same : x.0.name ≡ f.0.key.name = ap (λ (y : SlotRecord). y.name) x.2 ∙ h ∙ sym (slot_named f.0 t f.2) in
-          false≢true (sym apart ∙ is_same x.0.name f.0.key.name same)
+          let apart : same_name s.name f.0.key.name ≡ false = apart_from_rest same_name fixed_names target_names s.name f.0.key.name own (contains_map (λ (x : SlotRecord). x.name) fixed s k) (contains_map (λ (f : TargetRecord). f.key.name) ts f.0 f.1) in
+          let same : s.name ≡ f.0.key.name = h ∙ sym (slot_named f.0 t f.2) in
+          false≢true (sym apart ∙ is_same s.name f.0.key.name same)
 
-      go : Contains (map fixed_slot fixed) a ⊎ Contains (filter_map slot ts) a → Contains (map fixed_slot fixed) b ⊎ Contains (filter_map slot ts) b → a ≡ b
+      go : Contains fixed a ⊎ Contains (filter_map slot ts) a → Contains fixed b ⊎ Contains (filter_map slot ts) b → a ≡ b
       go (inl k) (inl l) =
-          let x = contains_from_map fixed_slot fixed a k in
-          let y = contains_from_map fixed_slot fixed b l in
-          let same : x.0.name ≡ y.0.name = ap (λ (s : SlotRecord). s.name) x.2 ∙ e ∙ sym (ap (λ (s : SlotRecord). s.name) y.2) in
-          sym x.2 ∙ ap fixed_slot (one_of_key same_name same_flips (λ (x : FixedRecord). x.name) fixed x.0 y.0 (distinct_left same_name fixed_names target_names own) x.1 y.1 (is_same x.0.name y.0.name same)) ∙ y.2
+          one_of_key same_name same_flips (λ (x : SlotRecord). x.name) fixed a b (distinct_left same_name fixed_names target_names own) k l (is_same a.name b.name e)
       go (inl k) (inr l) = absurd (crossed a b k l e)
       go (inr k) (inl l) = absurd (crossed b a l k (sym e))
       go (inr k) (inr l) =
@@ -173,7 +170,7 @@ rule_one r taken f Rate _ h k = absurd k
 rule_one r taken f _ b h k = absurd h
 
 -- two sequences by one placing are the same
-same_plan : (p : Placing) (r : RunwayRules) (fixed : List FixedRecord) (ts : List TargetRecord) (x y : RunwayPlanRecord) → IsDistinct same_name (flight_names fixed ts) → IsSequenceBy p r fixed ts x → IsSequenceBy p r fixed ts y → x ≡ y
+same_plan : (p : Placing) (r : RunwayRules) (fixed : List SlotRecord) (ts : List TargetRecord) (x y : RunwayPlanRecord) → IsDistinct same_name (flight_names fixed ts) → IsSequenceBy p r fixed ts x → IsSequenceBy p r fixed ts y → x ≡ y
 same_plan p r fixed ts x y own a b =
     let xs = takeoffs fixed in
     let slots : x.slots ≡ y.slots =
@@ -192,7 +189,7 @@ same_plan p r fixed ts x y own a b =
     let v : IsRightlyBlocked r xs ts p c = All-contains (IsRightlyBlocked r xs ts p) x.blocked c a.rules i in
     let w : IsRightlyBlocked r xs ts p d = All-contains (IsRightlyBlocked r xs ts p) y.blocked d b.rules j in
     let named : w.0.key.name ≡ v.0.key.name = sym w.2 ∙ sym same ∙ v.2 in
-    let target : w.0 ≡ v.0 = one_of_key same_name same_flips (λ (f : TargetRecord). f.key.name) ts w.0 v.0 (distinct_right same_name (map (λ (x : FixedRecord). x.name) fixed) (map (λ (f : TargetRecord). f.key.name) ts) own) w.1 v.1 (is_same w.0.key.name v.0.key.name named) in
+    let target : w.0 ≡ v.0 = one_of_key same_name same_flips (λ (f : TargetRecord). f.key.name) ts w.0 v.0 (distinct_right same_name (map (λ (x : SlotRecord). x.name) fixed) (map (λ (f : TargetRecord). f.key.name) ts) own) w.1 v.1 (is_same w.0.key.name v.0.key.name named) in
     let other : Blocks r (taken_before xs ts p v.0) v.0 d.rule = subst (λ (f : TargetRecord). Blocks r (taken_before xs ts p f) f d.rule) target w.3 in
     let rule : c.rule ≡ d.rule = rule_one r (taken_before xs ts p v.0) v.0 c.rule d.rule v.3 other in
     λ i. record { name = same i; rule = rule i })
@@ -204,7 +201,7 @@ same_plan p r fixed ts x y own a b =
     λ i. record { runway = runway i; slots = slots i; blocked = blocked i }
 
 -- a runway has one sequence
-pub sequence_one : (r : RunwayRules) (fixed fixed' : List FixedRecord) (ts us : List TargetRecord) (x y : RunwayPlanRecord) → IsDistinct same_name (flight_names fixed ts) → IsPermutation fixed fixed' → IsPermutation ts us → IsSequence r fixed ts x → IsSequence r fixed' us y → x ≡ y
+pub sequence_one : (r : RunwayRules) (fixed fixed' : List SlotRecord) (ts us : List TargetRecord) (x y : RunwayPlanRecord) → IsDistinct same_name (flight_names fixed ts) → IsPermutation fixed fixed' → IsPermutation ts us → IsSequence r fixed ts x → IsSequence r fixed' us y → x ≡ y
 sequence_one r fixed fixed' ts us x y own same order (p, a) (q, b) =
     let back = reordered_by q r fixed' fixed us ts y (IsPermutation-sym fixed fixed' same) (IsPermutation-sym ts us order) b in
     same_plan p r fixed ts x y own a (sequence_agree q p r fixed ts y (plan_one r (takeoffs fixed) ts q p back.minutes a.minutes) back)

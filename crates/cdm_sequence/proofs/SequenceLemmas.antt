@@ -3,7 +3,6 @@ use Rattle.std.proofs.Common.{◌≡◌, ℕ, suc, ◌+◌, Bool, false, cond, L
 use Rattle.std.specs.List.{filter_map, cons_option, Contains, IsDistinct}
 use Rattle.std.specs.List.Sorted.{IsPermutation, IsSortedByKey, IsSorted}
 use Rattle.std.specs.Option.{option_map}
-use Rattle.std.proofs.lemmas.List.{length-map}
 use Rattle.std.proofs.lemmas.List.Sorted.{All-permutation, Contains-permutation, length_permutation, IsPermutation-refl, IsPermutation-cons, IsPermutation-middle, IsPermutation-sym, IsPermutation-trans, IsPermutation-append, IsPermutation-append_right, IsPermutation-map}
 use Rattle.std.proofs.lemmas.Map.Keys.{IsDistinct-IsPermutation, IsDistinct-tail}
 use Rattle.cdm_flight.specs.Names.{same_name}
@@ -12,9 +11,10 @@ use Rattle.cdm_runway.specs.Rules.{RunwayRules}
 use Rattle.cdm_runway.specs.Room.{Gives}
 use Rattle.cdm_runway.specs.declared.load.Blocked.{Blocked}
 use Rattle.cdm_runway.specs.declared.load.Blocked.TheVariants.{Closure, Rate}
-use Rattle.cdm_sequence.specs.Fixed.{FixedRecord, takeoffs}
+use Rattle.cdm_sequence.specs.Fixed.{takeoffs}
 use Rattle.cdm_sequence.specs.Plan.{Placing, taken_before}
-use Rattle.cdm_sequence.specs.Sequence.{planned_slot, fixed_slot, slots_by, names_left, flight_names, Blocks, IsRightlyBlocked, IsSequence}
+use Rattle.cdm_sequence.specs.Sequence.{planned_slot, flight_names, Blocks, IsRightlyBlocked, IsSequence}
+use Rattle.cdm_sequence.specs.inner.Shown.{slots_by, names_left}
 use Rattle.cdm_sequence.specs.Slots.{SlotRecord, RunwayPlanRecord, slot_cmp, blocked_cmp}
 use Rattle.cdm_sequence.specs.Targets.{TargetRecord}
 use Rattle.cdm_sequence.specs.inner.Turns.{placed_at, slot_from, blocked_from, AreDecided}
@@ -41,12 +41,12 @@ abbrev blocked_names : List BlockedFlight → List (List ℕ)
 blocked_names bs = map (λ (b : BlockedFlight). b.name) bs
 
 -- the decisions of all targets, made in the order of sequence, and what is shown of them
-pub record IsMade (r : RunwayRules) (fixed : List FixedRecord) (targets : List TargetRecord) (ds : List Decision) (ss : List SlotRecord) (bs : List BlockedFlight) : Type 0 where
+pub record IsMade (r : RunwayRules) (fixed : List SlotRecord) (targets : List TargetRecord) (ds : List Decision) (ss : List SlotRecord) (bs : List BlockedFlight) : Type 0 where
   pub names : IsDistinct same_name (flight_names fixed targets)
   pub same : IsPermutation targets (map (λ (d : Decision). d.target) ds)
   pub sorted : IsSortedByKey (λ (t : TargetRecord). t.key) key_cmp (map (λ (d : Decision). d.target) ds)
   pub decided : AreDecided r (takeoffs fixed) ds
-  pub slots : IsPermutation (map fixed_slot fixed ++ slots_given ds) ss
+  pub slots : IsPermutation (fixed ++ slots_given ds) ss
   pub slot_order : IsSorted slot_cmp ss
   pub blocked : IsPermutation (blocked_given ds) bs
   pub blocked_order : IsSorted blocked_cmp bs
@@ -75,26 +75,26 @@ names_of_targets : (ds : List Decision) → map (λ (f : TargetRecord). f.key.na
 names_of_targets [] = refl
 names_of_targets (d ∷ ds) = ap (λ (ns : List (List ℕ)). d.target.key.name ∷ ns) (names_of_targets ds)
 
-names_of_fixed : (fixed : List FixedRecord) (ss : List SlotRecord) → map (λ (x : FixedRecord). x.name) fixed ++ slot_names ss ≡ slot_names (map fixed_slot fixed ++ ss)
+names_of_fixed : (fixed ss : List SlotRecord) → map (λ (x : SlotRecord). x.name) fixed ++ slot_names ss ≡ slot_names (fixed ++ ss)
 names_of_fixed [] ss = refl
 names_of_fixed (x ∷ xs) ss = ap (λ (ns : List (List ℕ)). x.name ∷ ns) (names_of_fixed xs ss)
 
 -- each flight stands once, among the slots or among the blocked flights
-pub names_once : (r : RunwayRules) (fixed : List FixedRecord) (targets : List TargetRecord) (ds : List Decision) (ss : List SlotRecord) (bs : List BlockedFlight) → IsMade r fixed targets ds ss bs
+pub names_once : (r : RunwayRules) (fixed : List SlotRecord) (targets : List TargetRecord) (ds : List Decision) (ss : List SlotRecord) (bs : List BlockedFlight) → IsMade r fixed targets ds ss bs
     → IsPermutation (flight_names fixed targets) (map (λ s. s.name) ss ++ map (λ b. b.name) bs)
 names_once r fixed targets ds ss bs made =
-    let fs = map (λ (x : FixedRecord). x.name) fixed in
+    let fs = map (λ (x : SlotRecord). x.name) fixed in
     let ts = map (λ (f : TargetRecord). f.key.name) targets in
     let us = map (λ (d : Decision). d.target.key.name) ds in
     let sn = slot_names (slots_given ds) in
     let bn = blocked_names (blocked_given ds) in
     let order : IsPermutation ts us = subst (IsPermutation ts) (names_of_targets ds) (IsPermutation-map (λ (f : TargetRecord). f.key.name) targets (targets_of ds) made.same) in
     let split : IsPermutation (fs ++ ts) (fs ++ (sn ++ bn)) = IsPermutation-append_right fs ts (sn ++ bn) (IsPermutation-trans ts us (sn ++ bn) order (names_split ds)) in
-    let grouped : fs ++ (sn ++ bn) ≡ slot_names (map fixed_slot fixed ++ slots_given ds) ++ bn = sym (append_assoc fs sn bn) ∙ ap (λ (ns : List (List ℕ)). ns ++ bn) (names_of_fixed fixed (slots_given ds)) in
-    IsPermutation-trans (fs ++ ts) (slot_names (map fixed_slot fixed ++ slots_given ds) ++ bn) (slot_names ss ++ blocked_names bs)
+    let grouped : fs ++ (sn ++ bn) ≡ slot_names (fixed ++ slots_given ds) ++ bn = sym (append_assoc fs sn bn) ∙ ap (λ (ns : List (List ℕ)). ns ++ bn) (names_of_fixed fixed (slots_given ds)) in
+    IsPermutation-trans (fs ++ ts) (slot_names (fixed ++ slots_given ds) ++ bn) (slot_names ss ++ blocked_names bs)
     (subst (IsPermutation (fs ++ ts)) grouped split)
-    (IsPermutation-append (slot_names (map fixed_slot fixed ++ slots_given ds)) (slot_names ss) bn (blocked_names bs)
-    (IsPermutation-map (λ (s : SlotRecord). s.name) (map fixed_slot fixed ++ slots_given ds) ss made.slots)
+    (IsPermutation-append (slot_names (fixed ++ slots_given ds)) (slot_names ss) bn (blocked_names bs)
+    (IsPermutation-map (λ (s : SlotRecord). s.name) (fixed ++ slots_given ds) ss made.slots)
     (IsPermutation-map (λ (b : BlockedFlight). b.name) (blocked_given ds) bs made.blocked))
 
 -- as many slots and blocked flights as decisions
@@ -106,12 +106,11 @@ given_lengths (d ∷ ds) = go d.outcome (given_lengths ds) where
   go (Err reason) e = omega arith
 
 -- so as many as flights
-pub as_many : (fixed : List FixedRecord) (ds : List Decision) (ss : List SlotRecord) (bs : List BlockedFlight) → IsPermutation (map fixed_slot fixed ++ slots_given ds) ss → IsPermutation (blocked_given ds) bs → length ss + length bs ≡ length fixed + length ds
+pub as_many : (fixed : List SlotRecord) (ds : List Decision) (ss : List SlotRecord) (bs : List BlockedFlight) → IsPermutation (fixed ++ slots_given ds) ss → IsPermutation (blocked_given ds) bs → length ss + length bs ≡ length fixed + length ds
 as_many fixed ds ss bs slots blocked =
-    let a = length_permutation (map fixed_slot fixed ++ slots_given ds) ss slots in
+    let a = length_permutation (fixed ++ slots_given ds) ss slots in
     let b = length_permutation (blocked_given ds) bs blocked in
-    let c = length-append (map fixed_slot fixed) (slots_given ds) in
-    let d = length-map fixed fixed_slot in
+    let c = length-append fixed (slots_given ds) in
     let e = given_lengths ds in
     omega arith
 
@@ -160,7 +159,7 @@ rightly r taken f Closure e = e
 rightly r taken f Rate e = e
 
 -- so they show the runway's sequence
-pub sequence_made : (r : RunwayRules) (fixed : List FixedRecord) (targets : List TargetRecord) (ds : List Decision) (plan : RunwayPlanRecord) → plan.runway ≡ r.name → IsMade r fixed targets ds plan.slots plan.blocked
+pub sequence_made : (r : RunwayRules) (fixed : List SlotRecord) (targets : List TargetRecord) (ds : List Decision) (plan : RunwayPlanRecord) → plan.runway ≡ r.name → IsMade r fixed targets ds plan.slots plan.blocked
     → IsSequence r fixed targets plan
 sequence_made r fixed targets ds plan named made =
     let ss = plan.slots in
@@ -170,7 +169,7 @@ sequence_made r fixed targets ds plan named made =
     let name : TargetRecord → List ℕ = λ f. f.key.name in
     let own : IsDistinct same_name (map name us) =
     IsDistinct-IsPermutation same_name same_flips (map name targets) (map name us) (IsPermutation-map name targets us made.same)
-    (distinct_right same_name (map (λ (x : FixedRecord). x.name) fixed) (map name targets) made.names) in
+    (distinct_right same_name (map (λ (x : SlotRecord). x.name) fixed) (map name targets) made.names) in
     let agree = minute_agrees ds (subst (IsDistinct same_name) (names_of_targets ds) own) in
     let up : Rising us = rising_from_sorted us made.sorted (distinct_by same_name name us own) in
     let slot : TargetRecord → Option SlotRecord = λ f. option_map (planned_slot f) (p f) in
@@ -187,7 +186,7 @@ sequence_made r fixed targets ds plan named made =
       record {
         runway = named;
         minutes = plan_made r (takeoffs fixed) targets p ds made.same made.decided up agree;
-        slots = IsPermutation-trans (slots_by p fixed targets) (map fixed_slot fixed ++ slots_given ds) ss (IsPermutation-append_right (map fixed_slot fixed) (filter_map slot targets) (slots_given ds) slots) made.slots;
+        slots = IsPermutation-trans (slots_by p fixed targets) (fixed ++ slots_given ds) ss (IsPermutation-append_right fixed (filter_map slot targets) (slots_given ds) slots) made.slots;
         slot_order = made.slot_order;
         blocked = IsPermutation-trans (names_left p targets) (blocked_names (blocked_given ds)) (blocked_names bs) blocked (IsPermutation-map (λ (b : BlockedFlight). b.name) (blocked_given ds) bs made.blocked);
         rules = All-permutation (IsRightlyBlocked r (takeoffs fixed) targets p) (blocked_given ds) bs made.blocked (All-given (λ d. blocked_from d.target d.outcome) (IsRightlyBlocked r (takeoffs fixed) targets p) ds each);

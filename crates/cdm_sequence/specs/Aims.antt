@@ -1,5 +1,6 @@
 -- Whether a planned flight can be sequenced, and when it may take off.
 use Rattle.std.specs.Prelude.{◌≡◌, ℕ, ◌+◌, ◌<◌, ◌≤◌, max, Bool, true, false, ◌&&◌, nat_le, nat_lt, List, Option, Some, None, IsSome}
+use Rattle.std.specs.Option.{IsSomeAnd, option_map_or}
 use Rattle.cdm_time.specs.Windows.{has_minute, horizon, is_in_tolerance}
 use Rattle.cdm_flight.specs.declared.ice.Ice.{Ice}
 use Rattle.cdm_flight.specs.declared.ice.Ice.TheVariants.{AtStand}
@@ -28,14 +29,9 @@ ready_at f tobt now = max (tobt + stand_minutes f.ice) now
 abbrev pub exot_to : TaxiTimes → Record → List ℕ → Option ℕ
 exot_to times f runway = taxi_out (λ place. times place runway) f.stand f.ice
 
--- a take-off at this minute keeps the CTOT tolerance, if there is a CTOT
-abbrev pub keeps_ctot : Option ℕ → ℕ → Bool
-keeps_ctot None m = true
-keeps_ctot (Some ctot) m = is_in_tolerance ctot m
-
--- a minute of the horizon from the earliest on, within the CTOT tolerance
+-- a minute of the horizon from the earliest on, within the tolerance of the CTOT, if there is one
 abbrev pub is_candidate : ℕ → Option ℕ → ℕ → Bool
-is_candidate earliest ctot m = nat_le earliest m && nat_lt m horizon && keeps_ctot ctot m
+is_candidate earliest ctot m = nat_le earliest m && nat_lt m horizon && option_map_or (λ c. is_in_tolerance c m) ctot true
 
 -- the target is that of the flight, and the minutes of its window are the candidates
 pub record IsTarget (f : Record) (times : TaxiTimes) (now : ℕ) (t : TargetRecord) : Type 0 where
@@ -47,15 +43,11 @@ pub record IsTarget (f : Record) (times : TaxiTimes) (now : ℕ) (t : TargetReco
   pub some_minute : t.window.from < t.window.to
   pub minutes : (m : ℕ) → has_minute t.window m ≡ is_candidate (t.ready + t.exot) t.ctot m
 
--- the flight has a TOBT, a runway and a taxi-out time, and by them it could take off from this minute on
-pub record ReachesAt (f : Record) (times : TaxiTimes) (now earliest : ℕ) : Type 0 where
-  pub tobt : ℕ
-  pub runway : List ℕ
-  pub exot : ℕ
-  pub tobt_is : f.tobt ≡ Some tobt
-  pub runway_is : f.runway ≡ Some runway
-  pub exot_is : exot_to times f runway ≡ Some exot
-  pub earliest_is : earliest ≡ ready_at f tobt now + exot
+-- the flight has a TOBT, a runway and a taxi-out time, and P holds of the minute from which on it could take
+-- off by them
+abbrev pub ReachesAt : Record → TaxiTimes → ℕ → (ℕ → Type 0) → Type 0
+ReachesAt f times now P =
+    IsSomeAnd f.tobt (λ tobt. IsSomeAnd f.runway (λ runway. IsSomeAnd (exot_to times f runway) (λ exot. P (ready_at f tobt now + exot))))
 
 -- what a planned flight could have: its target, or the first rule that leaves it none: it has no TOBT,
 -- no runway or no taxi-out time, or no minute of the horizon is in reach, or none of those keeps its CTOT
@@ -64,6 +56,6 @@ IsAim f times now (Ready t) = IsTarget f times now t
 IsAim f times now (Early Tobt) = f.tobt ≡ None
 IsAim f times now (Early Runway) = IsSome f.tobt × (f.runway ≡ None)
 IsAim f times now (Early Exot) = IsSome f.tobt × ((runway : List ℕ) × (f.runway ≡ Some runway) × (exot_to times f runway ≡ None))
-IsAim f times now (Early Horizon) = (m : ℕ) × ReachesAt f times now m × (horizon ≤ m)
-IsAim f times now (Early Ctot) = (m : ℕ) × ReachesAt f times now m × (m < horizon) × ((k : ℕ) → is_candidate m f.ctot k ≡ false)
+IsAim f times now (Early Horizon) = ReachesAt f times now (λ m. horizon ≤ m)
+IsAim f times now (Early Ctot) = ReachesAt f times now (λ m. (m < horizon) × ((k : ℕ) → is_candidate m f.ctot k ≡ false))
 IsAim f times now (Early rule) = ⊥

@@ -4,7 +4,7 @@ use Rattle.std.specs.List.{filter_map}
 use Rattle.std.specs.Option.{option_map}
 use Rattle.cdm_runway.specs.Rules.{RunwayRules}
 use Rattle.cdm_runway.specs.Room.{AllClosed, AllFull}
-use Rattle.cdm_sequence.specs.Fixed.{FixedRecord, takeoffs}
+use Rattle.cdm_sequence.specs.Fixed.{takeoffs}
 use Rattle.cdm_sequence.specs.Plan.{Placing, taken_before, IsPlan}
 use Rattle.cdm_sequence.specs.Slots.{SlotRecord, RunwayPlanRecord, slot_cmp, blocked_cmp}
 use Rattle.cdm_sequence.specs.Targets.{TargetRecord}
@@ -26,29 +26,8 @@ planned_slot f ttot = record {
   delay = Some (ttot - f.exot - f.key.tobt);
 }
 
--- a fixed flight's slot
-abbrev pub fixed_slot : FixedRecord → SlotRecord
-fixed_slot x = record {
-  name = x.name;
-  tobt = x.tobt;
-  exot = x.exot;
-  ctot = x.ctot;
-  tsat = x.off;
-  ttot = x.takeoff;
-  mark = x.mark;
-  delay = None;
-}
-
--- the slots of the fixed flights, and of the targets that have a minute
-abbrev pub slots_by : Placing → List FixedRecord → List TargetRecord → List SlotRecord
-slots_by placing fixed targets = map fixed_slot fixed ++ filter_map (λ f. option_map (planned_slot f) (placing f)) targets
-
--- the names of the targets that have no minute
-abbrev pub names_left : Placing → List TargetRecord → List (List ℕ)
-names_left placing targets = map (λ f. f.key.name) (filter (λ f. is_none (placing f)) targets)
-
 -- the names of all flights
-abbrev pub flight_names : List FixedRecord → List TargetRecord → List (List ℕ)
+abbrev pub flight_names : List SlotRecord → List TargetRecord → List (List ℕ)
 flight_names fixed targets = map (λ x. x.name) fixed ++ map (λ f. f.key.name) targets
 
 -- the first rule that leaves the flight no minute: the runway is closed at all minutes of its
@@ -66,15 +45,15 @@ IsRightlyBlocked r fixed targets placing b =
 -- the sequence of a runway by a placing, in which each target has the earliest minute that the fixed
 -- flights and the targets before it leave: it shows the fixed flights and the targets with a minute by
 -- take-off and name, and the other targets with the rules that block them by name
-pub record IsSequenceBy (placing : Placing) (r : RunwayRules) (fixed : List FixedRecord) (targets : List TargetRecord) (plan : RunwayPlanRecord) : Type 0 where
+pub record IsSequenceBy (placing : Placing) (r : RunwayRules) (fixed : List SlotRecord) (targets : List TargetRecord) (plan : RunwayPlanRecord) : Type 0 where
   pub runway : plan.runway ≡ r.name
   pub minutes : IsPlan r (takeoffs fixed) targets placing
-  pub slots : IsPermutation (slots_by placing fixed targets) plan.slots
+  pub slots : IsPermutation (fixed ++ filter_map (λ f. option_map (planned_slot f) (placing f)) targets) plan.slots
   pub slot_order : IsSorted slot_cmp plan.slots
-  pub blocked : IsPermutation (names_left placing targets) (map (λ b. b.name) plan.blocked)
+  pub blocked : IsPermutation (map (λ f. f.key.name) (filter (λ f. is_none (placing f)) targets)) (map (λ b. b.name) plan.blocked)
   pub rules : All (IsRightlyBlocked r (takeoffs fixed) targets placing) plan.blocked
   pub blocked_order : IsSorted blocked_cmp plan.blocked
 
 -- the sequence of a runway: there is such a placing
-abbrev pub IsSequence : RunwayRules → List FixedRecord → List TargetRecord → RunwayPlanRecord → Type 0
+abbrev pub IsSequence : RunwayRules → List SlotRecord → List TargetRecord → RunwayPlanRecord → Type 0
 IsSequence r fixed targets plan = (placing : Placing) × IsSequenceBy placing r fixed targets plan

@@ -1,99 +1,34 @@
 //! Flights whose take-off is fixed.
 ghost use Rattle.std.specs.Prelude.{◌≡◌};
+ghost use Rattle.cdm_sequence.specs.Fixed.{fixed_slot};
 
 use crate::{Mark, Slot};
-use cdm_flight::{Flight, FlightName, Status};
+use cdm_flight::{Flight, Status};
 use cdm_time::Minute;
-use std::marker::Model;
 
-/// A flight that has left its stand. Its take-off is fixed, whatever the rate of its runway.
-#[derive(Clone, Copy, Debug, PartialEq, Eq)]
-pub struct Fixed {
-    pub name: FlightName,
-    pub tobt: Option<Minute>,
-    pub ctot: Option<Minute>,
-    /// The estimated taxi-out time that was fixed at off-block, or once it is airborne the actual
-    /// one (AXOT, ATOT - AOBT), in minutes.
-    pub exot: u16,
-    /// Actual off-block time (AOBT).
-    pub off: Minute,
-    /// AOBT plus EXOT, or once it is airborne the actual take-off time (ATOT).
-    pub takeoff: Minute,
-    /// Off-block or airborne.
-    pub mark: Mark,
-}
-
-impl Model for Fixed {
-    ghost use Rattle.cdm_sequence.specs.Fixed.{FixedRecord, KeepsTakeoff};
-
-    ghost Value = { FixedRecord };
-
-    ghost view = { λ x. record {
-      name = x.name;
-      tobt = x.tobt;
-      ctot = x.ctot;
-      exot = x.exot;
-      off = x.off;
-      takeoff = x.takeoff;
-      mark = x.mark;
-    } };
-
-    ghost invariant = { λ x. KeepsTakeoff x.exot x.off x.takeoff x.mark };
-
-    ghost inverse = { λ x. record {
-      name = x.name;
-      tobt = x.tobt;
-      ctot = x.ctot;
-      exot = x.exot;
-      off = x.off;
-      takeoff = x.takeoff;
-      mark = x.mark;
-    } };
-}
-
-impl Fixed {
-    ghost use Rattle.cdm_sequence.specs.Sequence.{fixed_slot};
-
-    /// The flight's slot.
-    pub(crate) fn slot(&self) -> Slot
-        ensures { result ≡ fixed_slot self.now }
-    {
-        Slot {
-            name: self.name,
-            tobt: self.tobt,
-            exot: self.exot,
-            ctot: self.ctot,
-            tsat: self.off,
-            ttot: self.takeoff,
-            mark: self.mark,
-            delay: None,
-        }
-    }
-}
-
-ghost use Rattle.cdm_sequence.specs.Fixed.{fixed_flight};
-
-/// The flight as the sequence takes it once it has left its stand, or None where it is planned or
-/// cancelled.
-#[tactic(auto, unfolding(crate::specs::Fixed::fixed_flight))]
-pub fn fixed_of(flight: &Flight) -> Option<Fixed>
-    ensures { result ≡ fixed_flight flight.now }
+/// The slot of a flight that has left its stand, or None where it is planned or cancelled. Its
+/// take-off is fixed, whatever the rate of its runway: off-block it is the AOBT plus the EXOT that
+/// was fixed then, airborne it is the ATOT.
+#[tactic(auto, unfolding(crate::specs::Fixed::fixed_slot))]
+pub fn fixed_of(flight: &Flight) -> Option<Slot>
+    ensures { result ≡ fixed_slot flight.now }
 {
-    let (exot, off, takeoff, mark) = match flight.status {
+    let (exot, tsat, ttot, mark) = match flight.status {
         Status::OffBlock { aobt, exot } => {
-            let takeoff = Minute::new(aobt.get() + exot).unwrap();
-            (exot, aobt, takeoff, Mark::OffBlock)
+            let ttot = Minute::new(aobt.get() + exot).unwrap();
+            (exot, aobt, ttot, Mark::OffBlock)
         }
         Status::Airborne { aobt, atot } => (atot.get() - aobt.get(), aobt, atot, Mark::Airborne),
         Status::Planned | Status::Cancelled => return None,
     };
-    Some(Fixed {
+    Some(Slot {
         name: flight.name,
         tobt: flight.tobt,
-        ctot: flight.ctot,
         exot,
-        off,
-        takeoff,
+        ctot: flight.ctot,
+        tsat,
+        ttot,
         mark,
+        delay: None,
     })
 }

@@ -5,10 +5,9 @@ ghost use Rattle.cdm_flight.specs.Names.{same_name};
 ghost use Rattle.cdm_flight.specs.Record.{Record};
 ghost use Rattle.cdm_runway.specs.Rules.{RunwayRules};
 ghost use Rattle.cdm_sequence.specs.Aims.{TaxiTimes, IsAim};
-ghost use Rattle.cdm_sequence.specs.Fixed.{FixedRecord};
 ghost use Rattle.cdm_sequence.specs.Plan.{Placing, IsPlan, IsAllowed, IsEarlier};
 ghost use Rattle.cdm_sequence.specs.Sequence.{IsSequence, flight_names};
-ghost use Rattle.cdm_sequence.specs.Slots.{RunwayPlanRecord};
+ghost use Rattle.cdm_sequence.specs.Slots.{RunwayPlanRecord, SlotRecord};
 ghost use Rattle.cdm_sequence.specs.Targets.{TargetRecord};
 ghost use Rattle.cdm_sequence.specs.declared.aims.AimResult.{AimResult};
 
@@ -51,7 +50,7 @@ pub fn one_is_earlier()
 
 /// A runway has one sequence, in whatever order its flights are given.
 pub fn one_sequence()
-    ensures { (r : RunwayRules) (fixed others : List FixedRecord) (targets reordered : List TargetRecord) (x y : RunwayPlanRecord) →
+    ensures { (r : RunwayRules) (fixed others : List SlotRecord) (targets reordered : List TargetRecord) (x y : RunwayPlanRecord) →
         IsDistinct same_name (flight_names fixed targets) →
         IsPermutation fixed others → IsPermutation targets reordered →
         IsSequence r fixed targets x → IsSequence r others reordered y → x ≡ y }
@@ -59,7 +58,7 @@ pub fn one_sequence()
 
 /// The sequence of flights is that of the same flights in another order.
 pub fn any_order()
-    ensures { (r : RunwayRules) (fixed others : List FixedRecord) (targets reordered : List TargetRecord) (plan : RunwayPlanRecord) →
+    ensures { (r : RunwayRules) (fixed others : List SlotRecord) (targets reordered : List TargetRecord) (plan : RunwayPlanRecord) →
         IsPermutation fixed others → IsPermutation targets reordered →
         IsSequence r fixed targets plan → IsSequence r others reordered plan }
 {}

@@ -14,7 +14,7 @@ mod target;
 mod turns;
 
 pub use aims::{AimResult, aim};
-pub use fixed::{Fixed, fixed_of};
+pub use fixed::fixed_of;
 pub use laws::{
     any_order, none_is_earlier, one_aim, one_is_earlier, one_plan, one_sequence, plans_are_allowed,
     some_aim,

@@ -4,31 +4,24 @@ ghost use Rattle.std.specs.List.{filter_map, IsDistinct};
 ghost use Rattle.cdm_flight.specs.Names.{same_name};
 ghost use Rattle.cdm_sequence.specs.Fixed.{takeoffs};
 ghost use Rattle.cdm_sequence.specs.Plan.{Placing, IsAllowed, IsEarlier};
-ghost use Rattle.cdm_sequence.specs.Sequence.{IsSequence, IsSequenceBy, fixed_slot, flight_names};
+ghost use Rattle.cdm_sequence.specs.Sequence.{IsSequence, IsSequenceBy, flight_names};
 ghost use Rattle.cdm_sequence.specs.Slots.{slot_cmp, blocked_cmp};
 ghost use Rattle.cdm_sequence.specs.inner.Turns.{slot_from, blocked_from};
 
 use crate::decision::Decision;
 use crate::turns::{decide_all, in_order, load_of};
-use crate::{BlockedFlight, Fixed, RunwayPlan, Slot, Target};
+use crate::{BlockedFlight, RunwayPlan, Slot, Target};
 use cdm_flight::{Listed, RunwayName, push_last};
 use cdm_runway::Runway;
 use std::alloc::{AllocError, Global};
 
-// The slots of the fixed flights.
-fn fixed_slots(alloc: Global, fixed: &[Fixed]) -> Result<Vec<Slot>, AllocError>
-    ensures { IfOk result (λ v. v.items ≡ map fixed_slot fixed.now) }
-{
-    fixed.iter().map(|flight| flight.slot()).collect(alloc)
-}
-
 // The slots of the fixed flights and of the decisions that gave a minute.
-fn slots_of(alloc: Global, fixed: &[Fixed], decisions: &[Decision]) -> Result<Vec<Slot>, AllocError>
+fn slots_of(alloc: Global, fixed: &[Slot], decisions: &[Decision]) -> Result<Vec<Slot>, AllocError>
     ensures same { IfOk result (λ v. IsPermutation
-        (map fixed_slot fixed.now ++ filter_map (λ d. slot_from d.target d.outcome) decisions.now) v.items) }
+        (fixed.now ++ filter_map (λ d. slot_from d.target d.outcome) decisions.now) v.items) }
     ensures sorted { IfOk result (λ v. IsSorted slot_cmp v.items) }
 {
-    let mut slots = fixed_slots(alloc, fixed)?;
+    let mut slots = Vec::from_slice(alloc, fixed)?;
     for decision in decisions {
         if let Ok(minute) = decision.outcome {
             push_last(&mut slots, decision.target.slot(minute))?;
@@ -61,13 +54,13 @@ fn blocked_of(alloc: Global, decisions: &[Decision]) -> Result<Vec<BlockedFlight
 fn shown(
     alloc: Global,
     runway: RunwayName,
-    fixed: &[Fixed],
+    fixed: &[Slot],
     decisions: &[Decision],
 ) -> Result<RunwayPlan, AllocError>
     requires { length fixed.now + length decisions.now ≤ 2000 }
     ensures runway { IfOk result (λ plan. plan.runway ≡ runway) }
     ensures slots { IfOk result (λ plan. IsPermutation
-        (map fixed_slot fixed.now ++ filter_map (λ d. slot_from d.target d.outcome) decisions.now) plan.slots) }
+        (fixed.now ++ filter_map (λ d. slot_from d.target d.outcome) decisions.now) plan.slots) }
     ensures slot_order { IfOk result (λ plan. IsSorted slot_cmp plan.slots) }
     ensures blocked { IfOk result (λ plan. IsPermutation
         (filter_map (λ d. blocked_from d.target d.outcome) decisions.now) plan.blocked) }
@@ -84,12 +77,12 @@ fn shown(
 
 /// The sequence of one runway: each planned flight, in the order of priority, TOBT and name, gets
 /// the earliest minute of its window at which the runway is open and whose cell has room, after
-/// the fixed flights and the flights before it. The others are blocked. The targets may come in
-/// any order.
+/// the fixed flights, which have left their stands, and the flights before it. The others are
+/// blocked. The targets may come in any order.
 pub fn sequence(
     alloc: Global,
     runway: &Runway,
-    fixed: &[Fixed],
+    fixed: &[Slot],
     targets: &[Target],
 ) -> Result<RunwayPlan, AllocError>
     requires runway { All (λ f. f.runway ≡ runway.now.name) targets.now }

@@ -6,7 +6,7 @@ ghost use Rattle.cdm_sequence.specs.Fixed.{takeoffs};
 ghost use Rattle.cdm_sequence.specs.inner.Turns.{placed_at, IsDecided, AreDecided};
 
 use crate::decision::Decision;
-use crate::{Fixed, Target};
+use crate::{Slot, Target};
 use cdm_flight::push_last;
 use cdm_runway::{Runway, RunwayLoad};
 use std::alloc::{AllocError, Global};
@@ -22,13 +22,13 @@ pub(crate) fn in_order(alloc: Global, targets: &[Target]) -> Result<Vec<Target>,
 }
 
 /// A load of the runway that has taken the minutes of the fixed flights.
-pub(crate) fn load_of(runway: &Runway, fixed: &[Fixed]) -> RunwayLoad
+pub(crate) fn load_of(runway: &Runway, fixed: &[Slot]) -> RunwayLoad
     requires { length fixed.now ≤ 2000 }
     ensures { result ≡ record { cell = runway.now.cell; taken = takeoffs fixed.now } }
 {
     let mut load = RunwayLoad::empty(runway);
     for flight in fixed {
-        load.take(runway, flight.takeoff);
+        load.take(runway, flight.ttot);
     }
     load
 }

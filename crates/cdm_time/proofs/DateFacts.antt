@@ -4,7 +4,7 @@ use Rattle.std.proofs.lemmas.Bool.Decides.{nat_tests}
 use Rattle.std.proofs.lemmas.Int.{ints}
 use Rattle.jiff.specs.Words.{days_in_month}
 use Rattle.jiff.proofs.Family.{days_from_civil-day, days_from_civil-next_month, days_from_civil-next_year}
-use Rattle.cdm_time.specs.Dates.{day_number, is_date}
+use Rattle.cdm_time.specs.Dates.{day_number, is_date, is_first_day}
 use Rattle.cdm_time.specs.Times.{date_at, next_date}
 use Rattle.cdm_time.specs.declared.calendar.CalendarDate.{CalendarDate}
 
@@ -42,6 +42,13 @@ day_number-next_date d date = by (nat_lt d.day (days_in_month (pos d.year) d.mon
         let day : d.day ≡ 31 = last ∙ ap (days_in_month (pos d.year)) december in
         let next = days_from_civil-next_year (pos d.year) (pos (d.year + 1)) (omega (arith, ints)) (omega (arith, ints)) in
         rw (e, f, december, day) next
+
+-- a first day is a date
+pub is_date-first_day : (d : CalendarDate) → is_first_day d ≡ true → is_date d ≡ true
+is_date-first_day d h = second (nat_le 2000 d.year && nat_le d.year 2099) (is_date d) h where
+  second : (a b : Bool) → (a && b) ≡ true → b ≡ true
+  second true b h = h
+  second false b h = cc
 
 -- the minutes of the second day are on the next date
 pub day_number-date_at : (d : CalendarDate) (minute : ℕ) → minute ≤ 2879 → is_date d ≡ true → day_number (date_at d minute) ≡ day_number d +ℤ pos (minute / 1440)

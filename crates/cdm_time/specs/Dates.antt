@@ -1,5 +1,5 @@
 -- Dates of the Gregorian calendar, taken back without end.
-use Rattle.std.specs.Prelude.{◌≡◌, ℕ, ◌≤◌, Bool, true, ◌&&◌, ◌==◌, nat_le, List, length, slice_index, slice_range, ℤ, pos}
+use Rattle.std.specs.Prelude.{ℕ, Bool, ◌&&◌, ◌==◌, nat_le, List, length, slice_index, slice_range, ℤ, pos}
 use Rattle.std.specs.Str.{byte}
 use Rattle.jiff.specs.Words.{days_in_month}
 use Rattle.jiff_core.specs.Calendar.{days_from_civil}
@@ -28,7 +28,5 @@ unfoldable pub is_date_text : List ℕ → Bool
 is_date_text text = has_date_form text && is_date (date_in text)
 
 -- a date of the years 2000 to 2099, on which a horizon may begin
-pub record IsFirstDay (d : CalendarDate) : Type 0 where
-  pub from : 2000 ≤ d.year
-  pub to : d.year ≤ 2099
-  pub date : is_date d ≡ true
+abbrev pub is_first_day : CalendarDate → Bool
+is_first_day d = nat_le 2000 d.year && nat_le d.year 2099 && is_date d

@@ -1,5 +1,5 @@
 -- Numbers in texts.
-use Rattle.std.specs.Prelude.{ℕ, ◌+◌, ◌-◌, ◌*◌, ◌/◌, ◌%◌, Bool, true, ◌&&◌, List, [], ◌∷◌, ◌++◌}
+use Rattle.std.specs.Prelude.{ℕ, ◌+◌, ◌-◌, ◌*◌, ◌/◌, ◌%◌, Bool, true, ◌&&◌, List, [], ◌∷◌}
 use Rattle.std.specs.Char.{is_ascii_digit}
 use Rattle.std.specs.Str.{byte}
 
@@ -20,7 +20,3 @@ number_in text = number_after 0 text
 -- a number below 100 in two digits
 abbrev pub two_digits : ℕ → List ℕ
 two_digits n = (byte "0" + n / 10) ∷ (byte "0" + n % 10) ∷ []
-
--- a number below 10000 in four digits
-abbrev pub four_digits : ℕ → List ℕ
-four_digits n = two_digits (n / 100) ++ two_digits (n % 100)

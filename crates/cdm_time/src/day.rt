@@ -25,7 +25,8 @@ pub struct Day {
 
 impl Model for Day {
     ghost use Rattle.cdm_time.specs.declared.calendar.CalendarDate.{CalendarDate};
-    ghost use Rattle.cdm_time.specs.Dates.{IsFirstDay};
+    ghost use Rattle.std.specs.Prelude.{◌≡◌, true};
+    ghost use Rattle.cdm_time.specs.Dates.{is_first_day};
 
     ghost Value = { CalendarDate };
 
@@ -33,7 +34,7 @@ impl Model for Day {
 
     ghost inverse = { λ date. record { date = date } };
 
-    ghost invariant = { λ d. IsFirstDay d.date };
+    ghost invariant = { λ d. is_first_day d.date ≡ true };
 }
 
 // The minutes from the start of the first day to a minute of another day, both by day number.
@@ -48,7 +49,7 @@ impl Day {
     ghost use Rattle.std.specs.Prelude.{◌<◌, ◌/◌, Some, None, true};
     ghost use Rattle.std.specs.Str.{IsAscii};
     ghost use Rattle.cdm_time.specs.Dates.{day_number, is_date};
-    ghost use Rattle.cdm_time.specs.Times.{bound_of, date_at, date_text, day_of, is_time_text, minute_of, minutes_between, stamp};
+    ghost use Rattle.cdm_time.specs.Times.{date_at, date_text, day_of, is_time_text, minute_up_to, minutes_between, stamp};
 
     /// The day that a text of the form YYYY-MM-DD names.
     ///
@@ -86,9 +87,9 @@ impl Day {
     ///
     /// `Text` where the text has another form, the calendar has no such date or the day no such time,
     /// `Range` where the time is before the horizon or after its last minute.
-    #[tactic(auto, unfolding(crate::specs::Times::minute_of))]
+    #[tactic(auto, unfolding(crate::specs::Times::minute_up_to))]
     pub fn minute_of(self, text: &[u8]) -> Result<Minute, TimeFault>
-        ensures { result ≡ minute_of self text.now }
+        ensures { result ≡ minute_up_to 2879 self text.now }
     {
         let minutes = self.minutes_to(text).ok_or(TimeFault::Text)?;
         let number = u16::try_from(minutes).map_err(|_| TimeFault::Range)?;
@@ -97,9 +98,9 @@ impl Day {
 
     /// The end of a window that a text of the form YYYY-MM-DDTHH:MMZ names: as [`Day::minute_of`],
     /// and the time at which the horizon ends is bound 2880.
-    #[tactic(auto, unfolding(crate::specs::Times::bound_of))]
+    #[tactic(auto, unfolding(crate::specs::Times::minute_up_to))]
     pub fn bound_of(self, text: &[u8]) -> Result<Bound, TimeFault>
-        ensures { result ≡ bound_of self text.now }
+        ensures { result ≡ minute_up_to 2880 self text.now }
     {
         let minutes = self.minutes_to(text).ok_or(TimeFault::Text)?;
         let number = u16::try_from(minutes).map_err(|_| TimeFault::Range)?;

@@ -9,24 +9,23 @@ use Rattle.cdm_flight.specs.Names.{same_name}
 use Rattle.cdm_flight.specs.Step.{flight_of_update}
 use Rattle.cdm_flight.specs.Journal.{flight_of, now_of, taxi_of}
 use Rattle.cdm_runway.specs.Rules.{RunwayRules}
-use Rattle.cdm_sequence.specs.Fixed.{FixedRecord}
 use Rattle.cdm_sequence.specs.Sequence.{IsSequence}
-use Rattle.cdm_sequence.specs.Slots.{PlanRecord, RunwayPlanRecord}
+use Rattle.cdm_sequence.specs.Slots.{PlanRecord, RunwayPlanRecord, SlotRecord}
 use Rattle.cdm_sequence.specs.declared.aims.AimResult.{AimResult}
 use Rattle.cdm_day.specs.declared.aimed.Aimed.{Aimed}
 use Rattle.cdm_day.specs.declared.touched.Touched.{Touched}
-use Rattle.cdm_day.specs.inner.Aimed.{early_among}
+use Rattle.cdm_day.specs.inner.Aimed.{early_among, is_on}
 use Rattle.cdm_day.specs.Airport.{IsAirport}
-use Rattle.cdm_day.specs.Day.{Day, rules_in, rules_of}
+use Rattle.cdm_day.specs.Day.{DayRecord, rules_in, rules_of}
 use Rattle.cdm_day.specs.DayPlan.{IsDayPlan, records_in}
-use Rattle.cdm_day.specs.Planning.{AreAims, HasParts, fixed_on, is_on, targets_in, targets_on}
+use Rattle.cdm_day.specs.Planning.{AreAims, HasParts, fixed_on, targets_in, targets_on}
 
 -- the runway is one of those that were touched
 abbrev pub is_touched : Touched → List ℕ → Bool
 is_touched t r = t.all || list_any (λ n. same_name n r) t.runways.items
 
 -- the update is of the runway or of all, or of a flight that has the runway
-abbrev pub is_noted : Day → Update → List ℕ → Bool
+abbrev pub is_noted : DayRecord → Update → List ℕ → Bool
 is_noted d (Clock m) r = true
 is_noted d (Rate s from to cap) r = same_name s r
 is_noted d (Close s from to) r = same_name s r
@@ -39,17 +38,17 @@ abbrev pub Adds : Touched → (List ℕ → Bool) → Touched → Type 0
 Adds before others after = (r : List ℕ) → is_touched after r ≡ false → (is_touched before r ≡ false) × (others r ≡ false)
 
 -- the runway's fixed flights on a day
-abbrev pub fixed_in : Day → List ℕ → List FixedRecord
+abbrev pub fixed_in : DayRecord → List ℕ → List SlotRecord
 fixed_in d r = fixed_on r (records_in d.airport d.journal)
 
 -- the plan is the runway's sequence on a day
-pub record IsPlanOn (d : Day) (r : RunwayRules) (p : RunwayPlanRecord) : Type 0 where
+pub record IsPlanOn (d : DayRecord) (r : RunwayRules) (p : RunwayPlanRecord) : Type 0 where
   pub aims : List AimResult
   pub aimed : AreAims (records_in d.airport d.journal) (taxi_of d.airport d.journal) (now_of d.journal) aims
   pub sequence : IsSequence r (fixed_in d r.name) (targets_on r.name (targets_in aims)) p
 
 -- a runway that was not touched since the first day keeps its sequence
-pub record IsSince (first : Day) (t : Touched) (d : Day) : Type 0 where
+pub record IsSince (first : DayRecord) (t : Touched) (d : DayRecord) : Type 0 where
   pub airport : d.airport ≡ first.airport
   pub keeps : (row : RunwayRow) (p : RunwayPlanRecord) → is_touched t row.name ≡ false
       → IsPlanOn first (rules_of first.airport first.journal row) p → IsPlanOn d (rules_of d.airport d.journal row) p
@@ -59,16 +58,16 @@ abbrev pub kept_plan : Touched → List RunwayPlanRecord → List ℕ → Option
 kept_plan t plans r = if is_touched t r then None else find (λ p. same_name p.runway r) plans
 
 -- the plans that stand are those of the day
-abbrev pub AreKept : Day → Touched → List RunwayPlanRecord → Type 0
+abbrev pub AreKept : DayRecord → Touched → List RunwayPlanRecord → Type 0
 AreKept d t plans = (r : RunwayRules) (p : RunwayPlanRecord) → Contains (rules_in d.airport d.journal) r → kept_plan t plans r.name ≡ Some p → IsPlanOn d r p
 
 -- the plan is the day's, and no other is
-pub record IsMade (d : Day) (plan : PlanRecord) : Type 0 where
+pub record IsMade (d : DayRecord) (plan : PlanRecord) : Type 0 where
   pub airport : IsAirport d.airport
   pub of_day : IsDayPlan d plan
   pub only : (other : PlanRecord) → IsDayPlan d other → other ≡ plan
 
 -- few enough plans, which make the day's
-pub record Together (d : Day) (aims : List Aimed) (plans : List RunwayPlanRecord) : Type 0 where
+pub record Together (d : DayRecord) (aims : List Aimed) (plans : List RunwayPlanRecord) : Type 0 where
   pub few : sum_by (λ p. length p.slots + length p.blocked) plans + length (early_among aims) ≤ 2000
   pub made : (plan : PlanRecord) → plan.clock ≡ now_of d.journal → HasParts (early_among aims) plans plan → IsMade d plan

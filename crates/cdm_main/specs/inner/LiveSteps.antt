@@ -1,12 +1,13 @@
 -- What the steps of a live run answer.
 use Rattle.std.specs.Prelude.{◌≡◌, ◌≢◌, ◌+◌, ◌<◌, ◌≤◌, ⊤, ℕ, List, [], ◌++◌, length, flat_map, Option, None, Some, Ok, Err}
+use Rattle.std.specs.Option.{option_map, option_to_list}
 use Rattle.cdm_flight.specs.Journal.{AirportRows}
 use Rattle.cdm_flight.specs.declared.role.Role.{Role}
 use Rattle.cdm_flight.specs.declared.update.Update.{Update}
 use Rattle.cdm_flight.specs.declared.word.RefusalWord.{RefusalWord}
 use Rattle.cdm_sequence.specs.Slots.{PlanRecord}
 use Rattle.cdm_report.specs.Report.{report_bytes}
-use Rattle.cdm_day.specs.Day.{Day}
+use Rattle.cdm_day.specs.Day.{DayRecord}
 use Rattle.cdm_day.specs.DayPlan.{IsDayPlan}
 use Rattle.cdm_day.specs.declared.reply.Reply.{Reply}
 use Rattle.cdm_day.specs.declared.reply.Reply.TheVariants.{Refused}
@@ -28,6 +29,10 @@ abbrev pub fault_of_call : BoardError → LiveError
 fault_of_call board.Memory = error.Memory
 fault_of_call _ = error.Mismatch
 
+-- a record by its number, if a word refuses it
+abbrev pub if_refused : ℕ → Option RefusalWord → List (ℕ × RefusalWord)
+if_refused number refusal = option_to_list (option_map (λ word. (number, word)) refusal)
+
 -- why desks that began don't end
 abbrev pub IsDeskFault : LiveError → Type 0
 IsDeskFault error.Memory = ⊤
@@ -42,7 +47,7 @@ pub record HasWorked (number : ℕ) (updates : List (Role × Update)) (desk : De
 
 -- two desks have done the work of these updates, from the airport's day without updates: their history,
 -- the day after it, and the replies to each
-pub record HasMerged (g : AirportRows) (updates1 updates2 : List (Role × Update)) (h : List (ℕ × Call)) (d : Day) (replies1 replies2 : List Reply) : Type 0 where
+pub record HasMerged (g : AirportRows) (updates1 updates2 : List (Role × Update)) (h : List (ℕ × Call)) (d : DayRecord) (replies1 replies2 : List Reply) : Type 0 where
   pub legal : IsLegal g [] h
   pub first : IsWorkOf updates1 (calls_of 1 h)
   pub second : IsWorkOf updates2 (calls_of 2 h)
@@ -92,7 +97,7 @@ count_of_replies (Err word) = 0
 
 -- the text of a day, without refused records, and of two desks that posted so many batches and were
 -- given these replies
-pub record IsMergedText (feed1 feed2 : List Spelled) (d : Day) (replies1 replies2 : List Reply) (posts1 posts2 : ℕ) (text : List ℕ) : Type 0 where
+pub record IsMergedText (feed1 feed2 : List Spelled) (d : DayRecord) (replies1 replies2 : List Reply) (posts1 posts2 : ℕ) (text : List ℕ) : Type 0 where
   pub plan : PlanRecord
   pub of_day : IsDayPlan d plan
   pub bytes : text
@@ -101,7 +106,7 @@ pub record IsMergedText (feed1 feed2 : List Spelled) (d : Day) (replies1 replies
       ++ desk_text 2 posts2 (refused_by 1 feed2 replies2)
 
 -- the counts of such a day, of such desks, and of a history
-abbrev pub merged_counts : List Spelled → List Spelled → Day → List (ℕ × Call) → List Reply → List Reply → LiveCounts
+abbrev pub merged_counts : List Spelled → List Spelled → DayRecord → List (ℕ × Call) → List Reply → List Reply → LiveCounts
 merged_counts feed1 feed2 d h replies1 replies2 = record {
   accepted = length d.journal;
   refused = length (refused_by 1 feed1 replies1) + length (refused_by 1 feed2 replies2);

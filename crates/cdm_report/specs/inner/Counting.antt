@@ -1,9 +1,15 @@
 -- Indicators that are counted one delay after another.
-use Rattle.std.specs.Prelude.{ℕ, ◌+◌, List, length, max, if◌then◌else◌}
+use Rattle.std.specs.Prelude.{ℕ, ◌+◌, List, length, max, nat_lt, if◌then◌else◌}
+use Rattle.std.specs.List.{filter_map}
 use Rattle.cdm_sequence.specs.declared.rule.Rule.TheVariants as rules
 use Rattle.cdm_sequence.specs.declared.slot.BlockedFlight.{BlockedFlight}
+use Rattle.cdm_sequence.specs.Slots.{SlotRecord}
 use Rattle.cdm_report.specs.declared.counts.Counts.{Counts}
-use Rattle.cdm_report.specs.Counts.{blocked_by, is_late}
+use Rattle.cdm_report.specs.Counts.{blocked_by}
+
+-- the delays of the planned flights among the slots
+abbrev pub delays_in : List SlotRecord → List ℕ
+delays_in slots = filter_map (λ slot. slot.delay) slots
 
 -- the indicators where these flights are blocked and no other is planned
 abbrev pub only_blocked : List BlockedFlight → Counts
@@ -28,5 +34,5 @@ with_delay counts delay = record counts {
   placed = counts.placed + 1;
   delay = counts.delay + delay;
   greatest = max counts.greatest delay;
-  late = counts.late + (if is_late delay then 1 else 0);
+  late = counts.late + (if nat_lt 15 delay then 1 else 0);
 }

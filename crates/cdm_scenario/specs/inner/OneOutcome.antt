@@ -17,7 +17,7 @@ use Rattle.cdm_flight.specs.Journal.{AirportRows, is_known}
 use Rattle.cdm_flight.specs.Accepted.{refusal_of}
 use Rattle.cdm_report.specs.Counts.{counts_of}
 use Rattle.cdm_day.specs.Airport.{runway_names}
-use Rattle.cdm_day.specs.Day.{Day, flights_in, with_update}
+use Rattle.cdm_day.specs.Day.{DayRecord, flights_in, with_update}
 use Rattle.cdm_day.proofs.JournalFacts.{flights_in-push}
 use Rattle.cdm_day.proofs.NameLemmas.{all_taken, take-next}
 use Rattle.cdm_day.proofs.OnePlanLemmas.{one_day_plan}
@@ -43,7 +43,7 @@ names_after g a (Flt f p) good own =
     (IsDistinct-push nat_list_eq_equiv (flights_in a) f own (sym (known-among a f) ∙ first_none (is_known a f) Exists _ good))
 names_after g a u good own = subst (λ (l : List (List ℕ)). IsDistinct same_name l) (sym (flights_in-push a u ∙ append-nil (flights_in a))) own
 
-module _ (d : Day) (us : List Update) where
+module _ (d : DayRecord) (us : List Update) where
   pub no_more : d ≡ with_updates d (take 0 us)
   no_more = λ i. record { airport = d.airport; journal = sym (append-nil d.journal) i }
 
@@ -55,12 +55,12 @@ module _ (d : Day) (us : List Update) where
 
   -- the flights of the day with updates that no word refuses have names of their own
   names_so_far : IsDistinct same_name (flights_in d.journal) → AreTaken d us (length us) → (k : ℕ) → k ≤ length us → IsDistinct same_name (flights_in (d.journal ++ take k us))
-  names_so_far own taken zero h = subst (λ (x : Day). IsDistinct same_name (flights_in x.journal)) no_more own
+  names_so_far own taken zero h = subst (λ (x : DayRecord). IsDistinct same_name (flights_in x.journal)) no_more own
   names_so_far own taken (suc k) h =
       let u = get_or us k (Clock 0) in
       let at : slice_get us k ≡ Some u = slice_get-get_or us k (Clock 0) (omega arith) in
       let none : refusal_of d.airport (d.journal ++ take k us) u ≡ None = sym (ap (option_and_then (refusal_of d.airport (d.journal ++ take k us))) at) ∙ taken k (omega arith) in
-      subst (λ (x : Day). IsDistinct same_name (flights_in x.journal)) (one_more k u at ∙ ap (λ n. with_updates d (take n us)) (add-one k)) (names_after d.airport (d.journal ++ take k us) u none (names_so_far own taken k (omega arith)))
+      subst (λ (x : DayRecord). IsDistinct same_name (flights_in x.journal)) (one_more k u at ∙ ap (λ n. with_updates d (take n us)) (add-one k)) (names_after d.airport (d.journal ++ take k us) u none (names_so_far own taken k (omega arith)))
 
   within : (f : Update → Option RefusalWord) (xs : List Update) (k : ℕ) (w : RefusalWord) → option_and_then f (slice_get xs k) ≡ Some w → k < length xs
   within f [] k w h = cc

@@ -1,11 +1,12 @@
-use Rattle.std.proofs.Common.{◌≡◌, ◌∙◌, List, ℕ, Ok, ap, sym, subst}
+use Rattle.std.proofs.Common.{◌≡◌, ◌∙◌, List, length, ℕ, Ok, ap, sym, subst}
 use Rattle.std.proofs.lemmas.Result.{err_from_is_err_and}
 use Rattle.cdm_time.specs.declared.calendar.CalendarDate.{CalendarDate}
 use Rattle.cdm_scenario.specs.Scenarios.{ScenarioRecord}
 use Rattle.cdm_feed.specs.AirportFile.{airport_in}
-use Rattle.cdm_feed.specs.Output.{IsReport, counts_in}
-use Rattle.cdm_feed.specs.RunFaults.{IsScenarioFault}
+use Rattle.cdm_feed.specs.Output.{IsReport, accepted_in, refusals_in}
+use Rattle.cdm_feed.specs.inner.Faults.{IsScenarioFault}
 use Rattle.cdm_feed.specs.ScenarioFile.{scenarios_in}
+use Rattle.cdm_feed.specs.declared.runs.RunCounts.{RunCounts}
 use Rattle.cdm_feed.proofs.RunLemmas.{scenario_fault-record}
 use Rattle.cdm_feed.proofs.runs.answer.Goals as goal
 
@@ -21,25 +22,21 @@ returns-in_err-scenarios-clause-fault over c =
     let p = err_from_is_err_and c.from_residual-in_err-scenarios.result c.from_residual-in_err-scenarios.ensures.1 in
     rw (p.1, p.2) (scenario_fault-record _ _ g e file fault)
 
-pub returns-clause-text : goal.returns-clause-text
-returns-clause-text over c =
+pub returns-clause-made : goal.returns-clause-made
+returns-clause-made over c =
     let g = c.in_ok-airport.airport in
     let text = c.in_ok-report.report.text.items in
     let report : IsReport g c.args.inputs.now.feed.items c.deref-4.result.now text =
     subst (λ (feed : List ℕ). IsReport g feed c.deref-4.result.now text) c.deref-3.ensures.value c.in_ok-report.ensures.text in
+    let counts = c.in_ok-report.ensures.counts
+    ∙ (λ i. record { accepted = length (accepted_in g (c.deref-3.ensures.value i)); refused = length (refusals_in g (c.deref-3.ensures.value i)); scenarios = length (c.deref-4.ensures.value i) }) in
     record {
       rows = g;
       airport_file = sym (ap airport_in c.deref.ensures.value) ∙ c.in_ok-airport.ensures.said;
       questions = c.in_ok-scenarios.scenarios.items;
       scenario_file = sym (λ i. scenarios_in (c.day.ensures i) (c.deref-2.ensures.value i)) ∙ c.in_ok-scenarios.ensures.said;
       report = subst (λ (questions : List ScenarioRecord). IsReport g c.args.inputs.now.feed.items questions text) c.deref-4.ensures.value report;
+      accepted = ap (λ (k : RunCounts). k.accepted) counts;
+      refused = ap (λ (k : RunCounts). k.refused) counts;
+      asked = ap (λ (k : RunCounts). k.scenarios) counts;
     }
-
-pub returns-clause-counts : goal.returns-clause-counts
-returns-clause-counts over c = (
-  c.in_ok-airport.airport,
-  sym (ap airport_in c.deref.ensures.value) ∙ c.in_ok-airport.ensures.said,
-  c.in_ok-scenarios.scenarios.items,
-  sym (λ i. scenarios_in (c.day.ensures i) (c.deref-2.ensures.value i)) ∙ c.in_ok-scenarios.ensures.said,
-  c.in_ok-report.ensures.counts ∙ (λ i. counts_in c.in_ok-airport.airport (c.deref-3.ensures.value i) (c.deref-4.ensures.value i)),
-)

@@ -1,7 +1,6 @@
 use Rattle.std.proofs.lemmas.Result.{err_from_is_err_and}
-use Rattle.cdm_feed.specs.Output.{AreCounts}
 use Rattle.cdm_feed.proofs.OutputLemmas.{one-output}
-use Rattle.cdm_feed.proofs.RunLemmas.{of_inputs, of_known, record_fault-first, write_fault-first}
+use Rattle.cdm_feed.proofs.RunLemmas.{files-accepted, of_known, record_fault-first, write_fault-first}
 use Rattle.cdm_feed.proofs.runs.run.Goals as goal
 
 pub returns-in_err-report-clause-fault : goal.returns-in_err-report-clause-fault
@@ -13,16 +12,9 @@ returns-in_err-report-clause-fault g c =
 pub returns-in_err-write_text-clause-fault : goal.returns-in_err-write_text-clause-fault
 returns-in_err-write_text-clause-fault g c =
     let inputs = c.in_ok-inputs.ensures in
-    let text = c.in_ok-report.ensures.text in
+    let text = c.in_ok-report.ensures.made in
     let p = err_from_is_err_and c.from_residual-in_err-write_text.result c.from_residual-in_err-write_text.ensures.1 in
-    rw (p.1, p.2) (write_fault-first _ _ _ _ _ inputs.read inputs.airport inputs.scenarios (text.rows, text.airport_file, text.questions, text.scenario_file))
-
-pub returns-clause-counts : goal.returns-clause-counts
-returns-clause-counts g c =
-    let inputs = c.in_ok-inputs.ensures in
-    of_inputs (λ x y z. AreCounts x y z c.in_ok-report.report.counts)
-    (g.A.Read.remaining c.args.airport.now.inner) (g.F.Read.remaining c.args.feed.now.inner) (g.S.Read.remaining c.args.scenarios.now.inner)
-    _ _ _ inputs.airport inputs.feed inputs.scenarios c.in_ok-report.ensures.counts
+    rw (p.1, p.2) (write_fault-first _ _ _ _ _ inputs.read inputs.airport inputs.scenarios (files-accepted _ _ _ _ text.airport_file text.scenario_file))
 
 pub returns-clause-one : goal.returns-clause-one
 returns-clause-one g c = of_known (g.A.Read.remaining c.args.airport.now.inner) (λ airport.

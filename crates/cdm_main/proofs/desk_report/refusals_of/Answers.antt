@@ -3,9 +3,9 @@ use Rattle.std.specs.List.{slice_get}
 use Rattle.std.proofs.Math.Seq.{drop-cons}
 use Rattle.std.proofs.Math.ListN.{drop_of_length-le}
 use Rattle.cdm_flight.specs.declared.word.RefusalWord.{RefusalWord}
-use Rattle.cdm_feed.specs.Refused.{Spelled, if_refused}
+use Rattle.cdm_feed.specs.Refused.{Spelled}
 use Rattle.cdm_main.specs.Live.{refused_by}
-use Rattle.cdm_main.specs.inner.LiveSteps.{refused_here}
+use Rattle.cdm_main.specs.inner.LiveSteps.{if_refused, refused_here}
 use Rattle.cdm_main.proofs.RefusalLemmas.{at_most_one, count-most, refused-step}
 use Rattle.cdm_main.proofs.desk_report.refusals_of.Goals as goal
 

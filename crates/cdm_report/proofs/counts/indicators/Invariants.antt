@@ -1,7 +1,6 @@
 use Rattle.std.proofs.Common.{◌≡◌, ◌*◌, ◌≤◌, length, take, fold, sum_by}
 use Rattle.std.specs.List.{flat_map}
-use Rattle.cdm_report.specs.Counts.{delays_in}
-use Rattle.cdm_report.specs.inner.Counting.{with_delay}
+use Rattle.cdm_report.specs.inner.Counting.{delays_in, with_delay}
 use Rattle.cdm_report.proofs.counts.indicators.Given as goal
 
 abbrev pub invariant-loop-runway : goal.invariant-loop-runway

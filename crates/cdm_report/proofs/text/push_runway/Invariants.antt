@@ -1,8 +1,9 @@
 use Rattle.std.proofs.Common.{◌≡◌, ◌++◌, take}
 use Rattle.std.specs.Prelude.{flat_map}
 use Rattle.std.specs.String.{string_bytes}
-use Rattle.cdm_report.specs.Report.{slot_line}
+use Rattle.cdm_report.specs.Columns.{flight_line}
+use Rattle.cdm_report.specs.Report.{line_end}
 use Rattle.cdm_report.proofs.text.push_runway.Given as goal
 
 abbrev pub invariant-loop-slot : goal.invariant-loop-slot
-invariant-loop-slot l = string_bytes l.text ≡ string_bytes l.initial.text ++ flat_map (slot_line l.day) (take l.slot-index l.slot-items)
+invariant-loop-slot l = string_bytes l.text ≡ string_bytes l.initial.text ++ flat_map (λ slot. flight_line l.day slot ++ line_end) (take l.slot-index l.slot-items)

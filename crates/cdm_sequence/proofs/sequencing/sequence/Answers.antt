@@ -6,8 +6,8 @@ use Rattle.cdm_flight.specs.Order.{key_cmp}
 use Rattle.cdm_flight.specs.Names.{same_name}
 use Rattle.cdm_runway.specs.Load.{Load}
 use Rattle.cdm_sequence.specs.declared.decision.Decision.{Decision}
-use Rattle.cdm_sequence.specs.Fixed.{FixedRecord, takeoffs}
-use Rattle.cdm_sequence.specs.Sequence.{fixed_slot}
+use Rattle.cdm_sequence.specs.Fixed.{takeoffs}
+use Rattle.cdm_sequence.specs.Slots.{SlotRecord}
 use Rattle.cdm_sequence.specs.Targets.{TargetRecord}
 use Rattle.cdm_sequence.specs.inner.Turns.{AreDecided}
 use Rattle.cdm_sequence.proofs.AllowedLemmas.{plan_allowed}
@@ -21,7 +21,7 @@ decide_all-requires-clause-room c =
     let a = length_permutation c.args.targets.now c.in_ok-ordered.ordered.items c.in_ok-ordered.ensures.same in
     let taken : c.load_of-load.result.taken ≡ takeoffs c.args.fixed.now = ap (λ (l : Load). l.taken) c.load_of-load.ensures in
     let b = ap length taken in
-    let n = length-map c.args.fixed.now (λ (x : FixedRecord). x.takeoff) in
+    let n = length-map c.args.fixed.now (λ (x : SlotRecord). x.ttot) in
     let d = ap length c.deref.ensures.value in
     let e = c.requires.few in
     omega arith
@@ -47,7 +47,7 @@ made c =
       same = subst (λ (fs : List TargetRecord). IsPermutation c.args.targets.now fs) (sym (decided_targets c)) c.in_ok-ordered.ensures.same;
       sorted = subst (IsSortedByKey (λ (t : TargetRecord). t.key) key_cmp) (sym (decided_targets c)) c.in_ok-ordered.ensures.sorted;
       decided = subst (λ (xs : List ℕ). AreDecided c.args.runway.now xs c.in_ok-decisions.decisions.items) taken c.in_ok-decisions.ensures.decided;
-      slots = subst (λ (ds : List Decision). IsPermutation (map fixed_slot c.args.fixed.now ++ slots_given ds) c.in_ok-plan.plan.slots) c.deref-2.ensures.value c.in_ok-plan.ensures.slots;
+      slots = subst (λ (ds : List Decision). IsPermutation (c.args.fixed.now ++ slots_given ds) c.in_ok-plan.plan.slots) c.deref-2.ensures.value c.in_ok-plan.ensures.slots;
       slot_order = c.in_ok-plan.ensures.slot_order;
       blocked = subst (λ (ds : List Decision). IsPermutation (blocked_given ds) c.in_ok-plan.plan.blocked) c.deref-2.ensures.value c.in_ok-plan.ensures.blocked;
       blocked_order = c.in_ok-plan.ensures.blocked_order;
@@ -63,7 +63,7 @@ returns-clause-each_once c = names_once c.args.runway.now c.args.fixed.now c.arg
 pub returns-clause-allowed : goal.returns-clause-allowed
 returns-clause-allowed c = λ placing made.
     plan_allowed c.args.runway.now (takeoffs c.args.fixed.now) c.args.targets.now placing
-    (distinct_right same_name (map (λ (x : FixedRecord). x.name) c.args.fixed.now) (map (λ (f : TargetRecord). f.key.name) c.args.targets.now) c.requires.names) made.minutes
+    (distinct_right same_name (map (λ (x : SlotRecord). x.name) c.args.fixed.now) (map (λ (f : TargetRecord). f.key.name) c.args.targets.now) c.requires.names) made.minutes
 
 pub returns-clause-first : goal.returns-clause-first
 returns-clause-first c = λ placing other made allowed sooner.

@@ -1,8 +1,7 @@
-use Rattle.std.proofs.Common.{◌≡◌, ◌++◌, map, take}
+use Rattle.std.proofs.Common.{◌≡◌, ◌++◌, take}
 use Rattle.std.specs.List.{filter_map}
-use Rattle.cdm_sequence.specs.Sequence.{fixed_slot}
 use Rattle.cdm_sequence.specs.inner.Turns.{slot_from}
 use Rattle.cdm_sequence.proofs.sequencing.slots_of.Given as goal
 
 abbrev pub invariant-loop-decision : goal.invariant-loop-decision
-invariant-loop-decision l = l.slots.items ≡ map fixed_slot l.fixed ++ filter_map (λ d. slot_from d.target d.outcome) (take l.decision-index l.decisions)
+invariant-loop-decision l = l.slots.items ≡ l.fixed ++ filter_map (λ d. slot_from d.target d.outcome) (take l.decision-index l.decisions)

@@ -1,7 +1,7 @@
 use Rattle.std.proofs.Common.{◌≡◌, ℕ, List, refl, sym, ap, ◌∙◌, MatchOption, Some, Option, subst}
 use Rattle.std.specs.Global.{Vec}
 use Rattle.cdm_flight.specs.Journal.{AirportRows}
-use Rattle.cdm_day.specs.Day.{Day}
+use Rattle.cdm_day.specs.Day.{DayRecord}
 use Rattle.cdm_board.specs.History.{day_of}
 use Rattle.cdm_flight.specs.declared.update.Update.{Update}
 use Rattle.cdm_board.specs.History.{Call, DeskRecord, Opened, BoardRecord, AreNumbered, IsLegal, IsMerge, IsMismatch, journal_of, day_now}
@@ -18,7 +18,7 @@ same_desks n m ks js e f h =
 found : (o : Option (ℕ × ℕ)) (p : ℕ × ℕ) (P : Type 0) (Q : ℕ × ℕ → Type 0) → MatchOption o P Q → o ≡ Some p → Q p
 found o p P Q h e = let F : Option (ℕ × ℕ) → Type 0 = λ x. MatchOption x P Q in subst F e h
 
-closed : (b : Opened) (ks : List DeskRecord) (s : BoardRecord) (h : List (ℕ × Call)) (d : Day) → AreNumbered b.desks ks → s.airport ≡ b.airport → s.opening ≡ b.opening → h ≡ s.history → d ≡ day_now s → IsLegal s.airport s.opening s.history → IsMerge s.history ks → IsClosed b ks h d
+closed : (b : Opened) (ks : List DeskRecord) (s : BoardRecord) (h : List (ℕ × Call)) (d : DayRecord) → AreNumbered b.desks ks → s.airport ≡ b.airport → s.opening ≡ b.opening → h ≡ s.history → d ≡ day_now s → IsLegal s.airport s.opening s.history → IsMerge s.history ks → IsClosed b ks h d
 closed b ks s h d numbered e f g k legal merge =
     let L : AirportRows → Type 0 = λ x. IsLegal x s.opening s.history in
     let M : List Update → Type 0 = λ x. IsLegal b.airport x s.history in

@@ -1,9 +1,9 @@
 use Rattle.std.proofs.Common.{sym, ◌∙◌, subst}
-use Rattle.cdm_day.proofs.DayWords.{Day, IsSince}
+use Rattle.cdm_day.proofs.DayWords.{DayRecord, IsSince}
 use Rattle.cdm_day.proofs.KeptLemmas.{since_itself}
 use Rattle.cdm_day.proofs.day.DayState.draft.Goals as goal
 
 pub returns-clause-since : goal.returns-clause-since
 returns-clause-since c =
     let first = c.args.self.now in
-    c.in_ok-taken.ensures.since first (subst (λ (x : Day). IsSince first c.none-touched.result x) (sym (c.in_ok-tables.ensures ∙ c.self.view_is)) (since_itself first c.none-touched.result))
+    c.in_ok-taken.ensures.since first (subst (λ (x : DayRecord). IsSince first c.none-touched.result x) (sym (c.in_ok-tables.ensures ∙ c.self.view_is)) (since_itself first c.none-touched.result))

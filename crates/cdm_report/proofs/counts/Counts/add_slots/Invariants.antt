@@ -1,6 +1,5 @@
 use Rattle.std.proofs.Common.{◌≡◌, ◌+◌, ◌*◌, ◌≤◌, take, fold}
-use Rattle.cdm_report.specs.Counts.{delays_in}
-use Rattle.cdm_report.specs.inner.Counting.{with_delay}
+use Rattle.cdm_report.specs.inner.Counting.{delays_in, with_delay}
 use Rattle.cdm_report.proofs.counts.Counts.add_slots.Given as goal
 
 abbrev pub invariant-loop-slot : goal.invariant-loop-slot

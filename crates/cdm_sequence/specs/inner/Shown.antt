@@ -1,0 +1,16 @@
+-- What a placing shows of the flights.
+use Rattle.std.specs.Prelude.{ℕ, ◌++◌, List, is_none, filter, map}
+use Rattle.std.specs.List.{filter_map}
+use Rattle.std.specs.Option.{option_map}
+use Rattle.cdm_sequence.specs.Plan.{Placing}
+use Rattle.cdm_sequence.specs.Sequence.{planned_slot}
+use Rattle.cdm_sequence.specs.Slots.{SlotRecord}
+use Rattle.cdm_sequence.specs.Targets.{TargetRecord}
+
+-- the slots of the fixed flights, and of the targets that have a minute
+abbrev pub slots_by : Placing → List SlotRecord → List TargetRecord → List SlotRecord
+slots_by placing fixed targets = fixed ++ filter_map (λ f. option_map (planned_slot f) (placing f)) targets
+
+-- the names of the targets that have no minute
+abbrev pub names_left : Placing → List TargetRecord → List (List ℕ)
+names_left placing targets = map (λ f. f.key.name) (filter (λ f. is_none (placing f)) targets)
