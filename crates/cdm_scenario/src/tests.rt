@@ -1,4 +1,4 @@
-//! Names and scenarios at their edges, a day with further updates, and answers by many workers.
+//! Answers by many workers, and what is refused memory.
 
 mod answers;
 mod full_cell;

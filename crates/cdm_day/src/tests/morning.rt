@@ -1,13 +1,11 @@
-//! A worked morning: what each update is answered, and the journal and the whole plan after it.
-ghost use Rattle.std.specs.Prelude.{◌≡◌};
-
+//! A worked morning where a request for memory is refused: what each update is answered, and the plan.
 use super::days::two_runways;
 use super::updates::{Short, batch_of};
 use crate::{DayState, Reply, plan_of};
 use RefusalWord::{Authority, NotReady, OffBlock, Order, Unknown};
 use cdm_flight::{RefusalWord, Role, Update};
 use cdm_phase::{OpenGate, Workers};
-use cdm_sequence::{Mark, Plan, Rule, RunwayPlan};
+use cdm_sequence::{Mark, Rule, RunwayPlan};
 use std::alloc::{AllocError, Global};
 use std::process::Abort;
 use std::test::Fail;
@@ -117,62 +115,16 @@ fn apply_by<R: Abort + Threads + Sync>(
     }
 }
 
-fn replies_of(alloc: Global, updates: &[Short]) -> Result<Vec<Reply>, AllocError> {
-    let mut replies = Vec::new(alloc);
-    for (_, _, _, _, refused) in updates {
-        replies.push(match refused {
+// Each update is answered as it says.
+fn assert_replies(rt: &impl Abort, replies: &[Reply], updates: &[Short]) {
+    assert_eq!(rt; replies.len(), updates.len());
+    for (reply, (_, name, _, _, refused)) in replies.iter().zip(updates) {
+        let wanted = match refused {
             Some(word) => Reply::Refused(*word),
             None => Reply::Accepted,
-        })?;
+        };
+        assert_eq!(rt; *reply, wanted, "{name}");
     }
-    Ok(replies)
-}
-
-fn assert_step<R: Abort + Threads + Sync>(
-    rt: &R,
-    alloc: Global,
-    day: &mut DayState,
-    step: &Step,
-    workers: usize,
-) -> Result<(), Fail> {
-    let batch = batch_of(alloc, step.updates)?;
-    let wanted = replies_of(alloc, step.updates)?;
-    let mut journal = day.journal().to_vec(alloc)?;
-    for ((_, update), reply) in batch.iter().zip(&wanted) {
-        if *reply == Reply::Accepted {
-            journal.push(*update)?;
-        }
-    }
-    let replies = apply_by(rt, alloc, day, &batch, workers)?;
-    assert_eq!(rt; replies.as_slice(), wanted.as_slice(), "by {workers}");
-    assert_eq!(rt; day.journal(), journal.as_slice(), "by {workers}");
-    assert_plan(rt, day, step);
-    Ok(())
-}
-
-// The plans of two states of one journal are one.
-fn plans_of<'a>(day: &'a DayState, other: &'a DayState) -> (&'a Plan, &'a Plan)
-    requires { day.now ≡ other.now }
-    ensures { result.0.now ≡ result.1.now }
-{
-    (day.plan(), other.plan())
-}
-
-/// The caller alone and any number of workers make one plan. A copy has the same, and stays as it was
-/// while the day goes on.
-#[test]
-fn morning_of_two_runways(rt: HostRuntime) -> Result<(), Fail> {
-    for workers in [0, 1, 2, 7, 64] {
-        let mut day = two_runways(rt.alloc())?;
-        assert_step(&rt, rt.alloc(), &mut day, &FIRST, workers)?;
-        let copied = day.copy(rt.alloc())?;
-        let (plan, same) = plans_of(&day, &copied);
-        assert_eq!(rt; plan.blocked.as_slice(), same.blocked.as_slice());
-        assert_step(&rt, rt.alloc(), &mut day, &SECOND, workers)?;
-        assert_eq!(rt; copied.journal().len(), 7);
-        assert_plan(&rt, &copied, &FIRST);
-    }
-    Ok(())
 }
 
 /// Where a request for memory is refused, the day is as before, and the same call then succeeds.
@@ -182,18 +134,26 @@ fn refused_memory_changes_nothing(rt: HostRuntime) -> Result<(), Fail> {
     let mut day = two_runways(alloc)?;
     let first = batch_of(alloc, FIRST.updates)?;
     let second = batch_of(alloc, SECOND.updates)?;
-    if day.apply(alloc, &first).is_err() {
-        assert!(rt; day.journal().is_empty());
-        assert_slots(&rt, &day, &[]);
-        day.apply(alloc, &first)?;
-    }
+    let replies = match day.apply(alloc, &first) {
+        Ok(replies) => replies,
+        Err(_) => {
+            assert!(rt; day.journal().is_empty());
+            assert_slots(&rt, &day, &[]);
+            day.apply(alloc, &first)?
+        }
+    };
+    assert_replies(&rt, &replies, FIRST.updates);
     assert_plan(&rt, &day, &FIRST);
     let copied = day.copy(alloc).or_else(|_| day.copy(alloc))?;
-    if apply_by(&rt, alloc, &mut day, &second, 2).is_err() {
-        assert_eq!(rt; day.journal().len(), copied.journal().len());
-        assert_plan(&rt, &day, &FIRST);
-        apply_by(&rt, alloc, &mut day, &second, 2)?;
-    }
+    let replies = match apply_by(&rt, alloc, &mut day, &second, 2) {
+        Ok(replies) => replies,
+        Err(_) => {
+            assert_eq!(rt; day.journal().len(), copied.journal().len());
+            assert_plan(&rt, &day, &FIRST);
+            apply_by(&rt, alloc, &mut day, &second, 2)?
+        }
+    };
+    assert_replies(&rt, &replies, SECOND.updates);
     assert_plan(&rt, &day, &SECOND);
     let plan = plan_of(alloc, &day).or_else(|_| plan_of(alloc, &day))?;
     assert_eq!(rt; plan.blocked.as_slice(), day.plan().blocked.as_slice());

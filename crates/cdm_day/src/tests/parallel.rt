@@ -1,12 +1,14 @@
 //! A day that many workers plan: that the pieces of a phase run side by side, and which pieces there
 //! are.
+ghost use Rattle.std.specs.Prelude.{◌≡◌};
+
 use super::days::two_runways;
 use super::morning::{Line, assert_slots};
 use super::updates::{Short, batch_of};
 use crate::{DayState, Reply};
 use cdm_flight::{FlightName, Priority, Role, Update};
 use cdm_phase::{Gate, PhaseName, Workers};
-use cdm_sequence::Mark;
+use cdm_sequence::{Mark, Plan};
 use std::alloc::{AllocError, Global};
 use std::process::Abort;
 use std::sync::atomic::{AtomicBool, AtomicUsize, Ordering};
@@ -180,12 +182,22 @@ fn touched_runways_are_the_pieces(rt: HostRuntime) -> Result<(), Fail> {
     Ok(())
 }
 
+// The plans of two states of one journal are one.
+fn plans_of<'a>(day: &'a DayState, other: &'a DayState) -> (&'a Plan, &'a Plan)
+    requires { day.now ≡ other.now }
+    ensures { result.0.now ≡ result.1.now }
+{
+    (day.plan(), other.plan())
+}
+
 /// A copy shares its parts with the day, and stays as it was while 100 batches change it.
 #[test]
 fn copy_stays(rt: HostRuntime) -> Result<(), Fail> {
     let mut day = two_runways(rt.alloc())?;
     day.apply(rt.alloc(), &batch_of(rt.alloc(), &ON_TWO_RUNWAYS)?)?;
     let copied = day.copy(rt.alloc())?;
+    let (plan, same) = plans_of(&day, &copied);
+    assert_eq!(rt; plan.blocked.as_slice(), same.blocked.as_slice());
     for number in 0..100 {
         let updates = [
             ("TOBT", "AB1", "27L", 400 + number, None),

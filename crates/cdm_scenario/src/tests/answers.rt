@@ -3,8 +3,8 @@ ghost use Rattle.std.specs.Prelude.{◌≤◌, length};
 
 use super::full_cell::{closed, full_cell, priority, ready};
 use super::meeting::Meeting;
-use crate::{Outcome, Overlay, Scenario, ScenarioName, answer, answer_all};
-use cdm_day::{DayState, Reply, judge, plan_of};
+use crate::{Outcome, Scenario, ScenarioName, answer, answer_all};
+use cdm_day::DayState;
 use cdm_flight::{RefusalWord, Update};
 use cdm_phase::{OpenGate, Workers};
 use cdm_sequence::Plan;
@@ -84,21 +84,6 @@ fn four_scenarios(alloc: Global) -> Result<Vec<Scenario>, Fail> {
     scenarios.push(scenario(alloc, "BAD", &[priority("AB3", 1), ready("XY9")])?)?;
     scenarios.push(scenario(alloc, "SAME", &[])?)?;
     Ok(scenarios)
-}
-
-/// A closure moves the flights in the plan of what is laid over the day, and not in the day's own.
-#[test]
-fn a_closure_is_laid_over_a_day(rt: HostRuntime) -> Result<(), Fail> {
-    let base = full_cell(rt.alloc())?;
-    let mut overlay = Overlay::over(rt.alloc(), &base);
-    let unknown = ready("XY9").ok_or("no update")?;
-    assert_eq!(rt; judge(&overlay, &unknown), Some(RefusalWord::Unknown));
-    let closure = closed().ok_or("no update")?;
-    assert_eq!(rt; overlay.apply(rt.alloc(), &closure)?, Reply::Accepted);
-    let plan = plan_of(rt.alloc(), &overlay)?;
-    assert_minutes(&rt, &plan, &[390, 390, 400]);
-    assert_minutes(&rt, base.plan(), &[375, 375, 380]);
-    Ok(())
 }
 
 /// Any number of workers answer alike. Two or more meet at the first two scenarios, and one goes on

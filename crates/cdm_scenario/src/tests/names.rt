@@ -1,41 +1,7 @@
-//! Names and scenarios at their edges.
+//! A scenario where a request for memory is refused.
 use crate::{Scenario, ScenarioFault, ScenarioName};
 use cdm_flight::{Name, Priority, Update};
 use std::test::Fail;
-
-#[test]
-fn names_and_lists(rt: HostRuntime) -> Result<(), Fail> {
-    let cases = [
-        ("", false),
-        ("A", true),
-        ("-", true),
-        ("RATE-TO-ZERO-27L", true),
-        ("RATE-TO-ZERO-27LR", false),
-        ("shut", false),
-        ("SHUT_2", false),
-        ("SHUT 2", false),
-    ];
-    for (text, good) in cases {
-        let name = ScenarioName::new(text.as_bytes());
-        assert_eq!(rt; name.is_some(), good, "{text}");
-        if let Some(name) = name {
-            assert_eq!(rt; name.bytes(), text.as_bytes());
-        }
-    }
-    let name = ScenarioName::new(b"SHUT").ok_or("no name")?;
-    let flight = Name::new(b"AB1").ok_or("no flight")?;
-    for (count, good) in [(0, true), (1, true), (64, true), (65, false)] {
-        let mut updates = Vec::new(rt.alloc());
-        updates.resize(count, Update::Cnl { flight })?;
-        let scenario = Scenario::new(name, updates);
-        assert_eq!(rt; scenario.is_some(), good, "{count}");
-        if let Some(scenario) = scenario {
-            assert_eq!(rt; scenario.updates().len(), count);
-            assert_eq!(rt; *scenario.name(), name);
-        }
-    }
-    Ok(())
-}
 
 /// Where a request for memory is refused, the scenario is as before, and the same call then succeeds.
 #[test]
