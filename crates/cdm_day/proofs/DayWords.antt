@@ -6,10 +6,11 @@ pub use Rattle.cdm_day.specs.DayPlan.{IsDayAllowed, day_rules, records_in}
 unfoldable pub use Rattle.cdm_day.specs.DayPlan.{IsDayPlan, IsDayPlanBy}
 pub use Rattle.cdm_day.specs.Planning.{AreAims, HasParts, IsPlanOf, blocked_in, early_in, planned_of, target_in, targets_in, targets_on}
 unfoldable pub use Rattle.cdm_day.specs.Planning.{fixed_on}
-pub use Rattle.cdm_day.specs.Runways.{has_window, is_of_runway, plain_of, window_end, window_runway, with_change}
+pub use Rattle.cdm_day.specs.Runways.{has_window, plain_of, window_runway, with_change}
 pub use Rattle.cdm_day.specs.Sound.{IsSound, TellTaxi}
 pub use Rattle.cdm_day.specs.inner.Aimed.{CanSequence, IsAimed, early_among, if_on, is_on, target_for}
 pub use Rattle.cdm_day.specs.inner.Kept.{Adds, AreKept, IsMade, IsPlanOn, IsSince, Together, fixed_in, is_noted, is_touched, kept_plan}
+pub use Rattle.cdm_day.specs.inner.Kinds.{is_of_runway, window_end}
 pub use Rattle.cdm_day.specs.inner.Tables.{new_flight}
 pub use Rattle.cdm_flight.proofs.JournalLemmas.{aobt-untouched, atot-untouched, before_off-all, cancels-untouched, flight_of-fresh, flight_of-step, flight_of-untouched, last_value-push, last_value-silent, list_any-silent, planned_says, same_name-refl, status_of-record}
 pub use Rattle.cdm_flight.specs.Accepted.{after_one, flight_refusal, has_runway, is_disordered, is_full, is_unknown, stand_with_taxi, stands_with_rows}
@@ -18,7 +19,7 @@ pub use Rattle.cdm_flight.specs.Journal.{AirportRows, aobt_of, atot_of, cancels,
 unfoldable pub use Rattle.cdm_flight.specs.Journal.{exot_of, flight_of}
 pub use Rattle.cdm_flight.specs.Names.{name_cmp, same_name}
 pub use Rattle.cdm_flight.specs.Record.{Record, fresh, is_planned}
-pub use Rattle.cdm_flight.specs.Step.{flight_of_update, is_air, is_fresh, or_refused, runway_of_update, step_of, step_refusal}
+pub use Rattle.cdm_flight.specs.Step.{flight_of_update, is_fresh, or_refused, runway_of_update, step_of, step_refusal}
 pub use Rattle.cdm_flight.specs.Taxi.{TaxiRows, is_new_stand, is_one_stand_too_many, stand_of_place, stands_in, taxi_cmp, taxi_out}
 pub use Rattle.cdm_flight.specs.declared.airport.RunwayRow.{RunwayRow}
 pub use Rattle.cdm_flight.specs.declared.place.Place.{Place}

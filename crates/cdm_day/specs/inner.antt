@@ -1,4 +1,5 @@
 pub mod Aimed
 pub mod AirportCode
 pub mod Kept
+pub mod Kinds
 pub mod Tables

@@ -7,8 +7,7 @@ use Rattle.cdm_day.specs.Airport.{word_of}
 use Rattle.cdm_day.specs.declared.airport.AirportFault.{AirportFault}
 use Rattle.cdm_day.specs.declared.airport.AirportFault.TheVariants.{Unknown, Exists, Full, Memory}
 use Rattle.cdm_feed.specs.Fields.{of_one}
-use Rattle.cdm_feed.specs.FileFaults.{row_fault}
-use Rattle.cdm_feed.specs.Files.{IsRecordFaultOf}
+use Rattle.cdm_feed.specs.inner.RecordFaults.{IsRecordFaultOf, row_fault}
 
 pub row_refused : (r : Result AirportRows RefusalWord) (fault : AirportFault) → word_of fault ≡ result_err r → IsRecordFaultOf (of_one Some r) (row_fault fault)
 row_refused (Ok g) Memory h = tt

@@ -5,8 +5,6 @@ use Rattle.cdm_flight.specs.declared.word.RefusalWord.{RefusalWord}
 use Rattle.cdm_feed.specs.Fields.{and_then}
 use Rattle.cdm_feed.specs.declared.file_fault.FileFault.{FileFault}
 use Rattle.cdm_feed.specs.declared.file_fault.FileFault.TheVariants as file
-use Rattle.cdm_feed.specs.declared.file_fault.RecordFault.{RecordFault}
-use Rattle.cdm_feed.specs.declared.file_fault.RecordFault.TheVariants as row
 
 -- what the records of a file make, one after another, the first of them with this number: each says something,
 -- which is taken after the others; else the number and the word of the first faulty record
@@ -19,8 +17,3 @@ after_records says takes s number (fields ∷ later) =
 abbrev pub IsFaultOf : {S : Type 0} → Result S (ℕ × RefusalWord) → FileFault → Type 0
 IsFaultOf r (file.Refused number word) = r ≡ Err (number, word)
 IsFaultOf r file.Memory = ⊤
-
--- the fault tells why a record is refused, or is want of memory
-abbrev pub IsRecordFaultOf : {S : Type 0} → Result S RefusalWord → RecordFault → Type 0
-IsRecordFaultOf r (row.Refused word) = r ≡ Err word
-IsRecordFaultOf r row.Memory = ⊤

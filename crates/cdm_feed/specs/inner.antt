@@ -1,4 +1,5 @@
 pub mod Faults
+pub mod RecordFaults
 pub mod OneAnswer
 pub mod RecordsLeft
 pub mod Kinds

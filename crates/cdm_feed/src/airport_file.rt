@@ -4,8 +4,8 @@ ghost use Rattle.csv.specs.Records.{fields_of};
 ghost use Rattle.cdm_feed.specs.AirportFile.{airport_in, with_record};
 ghost use Rattle.cdm_feed.specs.AirportRecords.{airport_record_of};
 ghost use Rattle.cdm_feed.specs.Fields.{and_then};
-ghost use Rattle.cdm_feed.specs.Files.{IsFaultOf, IsRecordFaultOf};
-ghost use Rattle.cdm_feed.specs.FileFaults.{row_fault};
+ghost use Rattle.cdm_feed.specs.Files.{IsFaultOf};
+ghost use Rattle.cdm_feed.specs.inner.RecordFaults.{IsRecordFaultOf, row_fault};
 
 use crate::airport_record::{AirportRecord, airport_record};
 use crate::file_fault::{FileFault, RecordFault};

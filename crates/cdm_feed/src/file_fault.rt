@@ -53,4 +53,4 @@ impl RecordFault {
     }
 }
 
-ghost use Rattle.cdm_feed.specs.FileFaults.{fault_at};
+ghost use Rattle.cdm_feed.specs.inner.RecordFaults.{fault_at};

@@ -1,7 +1,8 @@
 //! Scenario files.
 ghost use Rattle.std.specs.Prelude.{◌≡◌, Ok, IfOk, IfErr, OnOk};
 ghost use Rattle.csv.specs.Records.{fields_of};
-ghost use Rattle.cdm_feed.specs.Files.{IsFaultOf, IsRecordFaultOf};
+ghost use Rattle.cdm_feed.specs.Files.{IsFaultOf};
+ghost use Rattle.cdm_feed.specs.inner.RecordFaults.{IsRecordFaultOf};
 ghost use Rattle.std.specs.List.{list_any};
 ghost use Rattle.cdm_flight.specs.Names.{same_name};
 ghost use Rattle.cdm_feed.specs.Fields.{and_then};

@@ -36,10 +36,6 @@ abbrev pub is_fresh : Update → Bool
 is_fresh (Flt f p) = true
 is_fresh _ = false
 
-abbrev pub is_air : Update → Bool
-is_air (Air f m) = true
-is_air _ = false
-
 -- the first word with which a flight of this status and runway refuses an update: it has ended, or left its
 -- stand; AIR of one that hasn't left, or before it left; OFF without a runway or a taxi-out time, or with a
 -- take-off past the horizon

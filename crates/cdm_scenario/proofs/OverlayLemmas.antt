@@ -24,10 +24,11 @@ use Rattle.cdm_flight.specs.Accepted.{is_unknown, refusal_of, stand_with_taxi}
 use Rattle.cdm_flight.proofs.JournalLemmas.{last_value-push, flight_of-untouched, flight_of-fresh, same_name-refl}
 use Rattle.cdm_runway.specs.Rules.{RunwayRules}
 use Rattle.cdm_day.specs.Day.{DayRecord, flights_in, rules_of, rules_in, rows_by_name}
-use Rattle.cdm_day.specs.Runways.{has_window, is_of_runway, with_change, window_end, window_runway}
+use Rattle.cdm_day.specs.Runways.{has_window, with_change, window_runway}
 use Rattle.cdm_day.specs.Sound.{IsSound, TellTaxi}
 use Rattle.cdm_day.specs.inner.Tables.{Flights}
-use Rattle.cdm_day.specs.TaxiRows.{is_taxi, row_fits, with_row}
+use Rattle.cdm_day.specs.inner.Kinds.{is_of_runway, is_taxi, window_end}
+use Rattle.cdm_day.specs.TaxiRows.{row_fits, with_row}
 use Rattle.cdm_day.proofs.AfterLemmas.{with_change-other}
 use Rattle.cdm_day.proofs.DayPlanLemmas.{record_name}
 use Rattle.cdm_day.proofs.FlightLemmas.{flights-old, fresh-none, touches-none}

@@ -1,5 +1,5 @@
--- Faults of records and of files.
-use Rattle.std.specs.Prelude.{ℕ, Option, None, Some}
+-- The faults of records, as the code tells them.
+use Rattle.std.specs.Prelude.{◌≡◌, ⊤, ℕ, Option, None, Some, Result, Err}
 use Rattle.cdm_day.specs.declared.airport.AirportFault.{AirportFault}
 use Rattle.cdm_day.specs.Airport.{word_of}
 use Rattle.cdm_flight.specs.declared.word.RefusalWord.{RefusalWord}
@@ -20,3 +20,8 @@ row_fault fault = by (word_of fault)
     by : Option RefusalWord → RecordFault
     by (Some word) = row.Refused word
     by None = row.Memory
+
+-- the fault tells why a record is refused, or is want of memory
+abbrev pub IsRecordFaultOf : {S : Type 0} → Result S RefusalWord → RecordFault → Type 0
+IsRecordFaultOf r (row.Refused word) = r ≡ Err word
+IsRecordFaultOf r row.Memory = ⊤
