@@ -33,6 +33,3 @@ pub type RunwayName = Name<3>;
 
 /// The name of a stand: 1 to 5 letters and digits.
 pub type StandName = Name<5>;
-
-#[cfg(test)]
-mod tests;

@@ -10,6 +10,3 @@ pub use counts::{Counts, indicators};
 pub use delta::delta_text;
 pub use line::line_has_47_bytes;
 pub use text::{refused_text, report_text};
-
-#[cfg(test)]
-mod tests;

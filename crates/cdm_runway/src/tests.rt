@@ -1,10 +1,7 @@
-ghost use Rattle.std.specs.Prelude.{◌<◌};
-
 use crate::{Blocked, Runway, RunwayFault, RunwayLoad};
 use cdm_flight::{Cap, CellLength, RunwayName};
 use cdm_time::{Bound, Minute, Window};
 use std::alloc::Global;
-use std::process::Abort;
 use std::test::Fail;
 
 fn minute_of(number: u16) -> Result<Minute, Fail> {
@@ -48,102 +45,12 @@ fn a_full_cell_and_a_closed_one(rt: HostRuntime) -> Result<(), Fail> {
     Ok(())
 }
 
-// A fixed list of numbers, by a linear congruential generator.
-#[derive(Drop)]
-struct Numbers {
-    state: u32,
+// The capacity of a minute's cell, and whether the minute is closed.
+fn allowed(runway: &Runway, minute: Minute) -> (u16, bool) {
+    (runway.cap_at(minute).get(), runway.closed(minute))
 }
 
-impl Numbers {
-    fn below(&mut self, limit: u16) -> u16
-        requires { 0 < limit }
-        ensures { result < limit }
-    {
-        self.state = self
-            .state
-            .wrapping_mul(1_664_525)
-            .wrapping_add(1_013_904_223);
-        (self.state / 65_536 % u32::from(limit)) as u16
-    }
-}
-
-// What a runway allows, minute by minute, and how many flights hold the cell of each minute.
-#[derive(Drop)]
-struct Tables {
-    caps: [u16; 2880],
-    closed: [bool; 2880],
-    held: [u16; 2880],
-}
-
-fn fill<T: Copy>(table: &mut [T], from: u16, to: u16, value: T) {
-    for place in from..to {
-        if let Some(entry) = table.get_mut(place as usize) {
-            *entry = value;
-        }
-    }
-}
-
-impl Tables {
-    fn earliest(&self, window: Window) -> Result<Minute, Blocked> {
-        let mut some_open = false;
-        for number in window.from().get()..window.to().get() {
-            let place = number as usize;
-            if !self.closed[place] {
-                some_open = true;
-                if self.held[place] < self.caps[place]
-                    && let Some(minute) = Minute::new(number)
-                {
-                    return Ok(minute);
-                }
-            }
-        }
-        if some_open {
-            Err(Blocked::Rate)
-        } else {
-            Err(Blocked::Closure)
-        }
-    }
-}
-
-// A change of a window: a rate of 0 to 3 flights, a closure or an opening.
-type Change = (&'static str, u16, u16, u16);
-
-fn change_of(numbers: &mut Numbers) -> Change {
-    let cells = 1 + numbers.below(30);
-    let from = 10 * numbers.below(288 - cells);
-    let to = from + 10 * cells;
-    let (early, late) = (from + numbers.below(5), to - numbers.below(5));
-    match numbers.below(4) {
-        0 => ("RATE", from, to, numbers.below(4)),
-        1 => ("OPEN", early, late, 0),
-        _ => ("CLOSE", early, late, 0),
-    }
-}
-
-// Whether the runway, with two flights at minute 375, answers as the tables do.
-fn agree(runway: &Runway, tables: &Tables) -> Result<bool, Fail> {
-    let mut load = RunwayLoad::empty(runway);
-    load.take(runway, minute_of(375)?);
-    load.take(runway, minute_of(375)?);
-    for number in 0..2880 {
-        let minute = minute_of(number)?;
-        let place = number as usize;
-        if runway.cap_at(minute).get() != tables.caps[place]
-            || runway.closed(minute) != tables.closed[place]
-        {
-            return Ok(false);
-        }
-        if number % 30 == 5 {
-            let window = window_of(number, (number + 70).min(2880))?;
-            if load.earliest(runway, window) != tables.earliest(window) {
-                return Ok(false);
-            }
-        }
-    }
-    Ok(true)
-}
-
-// Sets a rate, closes or opens.
+// Sets a rate of so many flights, closes or opens.
 fn set_window(
     runway: &mut Runway,
     word: &str,
@@ -158,46 +65,40 @@ fn set_window(
     }
 }
 
-// Makes a change of both, once more where there was no memory for it. The runway is as before then.
-fn set_both(
-    rt: &impl Abort,
-    runway: &mut Runway,
-    tables: &mut Tables,
-    change: Change,
-) -> Result<(), Fail> {
-    let (word, from, to, number) = change;
-    let (first, end, cap) = (minute_of(from)?, bound_of(to)?, cap_of(number)?);
-    if set_window(runway, word, first, end, cap).is_err() {
-        assert!(rt; agree(runway, tables)?, "before {word} {from} {to}");
-        set_window(runway, word, first, end, cap)?;
-    }
-    match word {
-        "RATE" => fill(&mut tables.caps, from, to, number),
-        _ => fill(&mut tables.closed, from, to, word == "CLOSE"),
-    }
-    assert!(rt; agree(runway, tables)?, "after {word} {from} {to}");
-    Ok(())
-}
-
-/// Where a request for memory is refused, the runway is as before, and the same call then succeeds. It
-/// agrees, minute by minute, with tables that are changed as it is.
+/// Where a request for memory is refused, the runway is as before, and the same call then succeeds. After
+/// each change stands what the runway allows at 06:15.
 #[test]
 fn refused_memory_leaves_the_runway(rt: HostRuntime) -> Result<(), Fail> {
     let mut runway = two_in_ten(rt.alloc())?;
-    let mut tables = Tables {
-        caps: [2; 2880],
-        closed: [false; 2880],
-        held: [0; 2880],
-    };
-    fill(&mut tables.held, 370, 380, 2);
-    let mut numbers = Numbers { state: 1 };
-    for _ in 0..200 {
-        set_both(&rt, &mut runway, &mut tables, change_of(&mut numbers))?;
+    let minute = minute_of(375)?;
+    let mut before = (2, false);
+    for (word, from, to, number, after) in [
+        ("CLOSE", 372, 391, 0, (2, true)),
+        ("RATE", 370, 400, 1, (1, true)),
+        ("OPEN", 375, 376, 0, (1, false)),
+        ("RATE", 380, 390, 3, (1, false)),
+        ("CLOSE", 0, 2880, 0, (1, true)),
+        ("OPEN", 360, 380, 0, (1, false)),
+        ("RATE", 0, 2880, 0, (0, false)),
+    ] {
+        let (first, end, cap) = (minute_of(from)?, bound_of(to)?, cap_of(number)?);
+        if set_window(&mut runway, word, first, end, cap).is_err() {
+            assert!(rt;
+                allowed(&runway, minute) == before,
+                "before {word} {from} {to}"
+            );
+            set_window(&mut runway, word, first, end, cap)?;
+        }
+        assert!(rt;
+            allowed(&runway, minute) == after,
+            "after {word} {from} {to}"
+        );
+        before = after;
     }
     let copied = runway
         .copy(rt.alloc())
         .or_else(|_| runway.copy(rt.alloc()))?;
     assert!(rt; copied.name() == runway.name() && copied.cell() == runway.cell());
-    assert!(rt; agree(&copied, &tables)?);
+    assert!(rt; allowed(&copied, minute) == before);
     Ok(())
 }

@@ -5,3 +5,4 @@ mod full_cell;
 mod meeting;
 mod memory;
 mod names;
+mod texts;

@@ -24,6 +24,3 @@ pub use rule::Rule;
 pub use sequencing::sequence;
 pub use slot::{BlockedFlight, Mark, Slot};
 pub use target::Target;
-
-#[cfg(test)]
-mod tests;

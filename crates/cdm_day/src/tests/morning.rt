@@ -5,7 +5,7 @@ use crate::{DayState, Reply, plan_of};
 use RefusalWord::{Authority, NotReady, OffBlock, Order, Unknown};
 use cdm_flight::{RefusalWord, Role, Update};
 use cdm_phase::{OpenGate, Workers};
-use cdm_sequence::{Mark, Rule, RunwayPlan};
+use cdm_sequence::{Mark, Plan, Rule, RunwayPlan};
 use std::alloc::{AllocError, Global};
 use std::process::Abort;
 use std::test::Fail;
@@ -115,6 +115,12 @@ fn apply_by<R: Abort + Threads + Sync>(
     }
 }
 
+// A copy of the day's plan, which is made once more. So is each call where memory was refused.
+fn copy_of_plan(alloc: Global, day: &DayState) -> Result<Plan, AllocError> {
+    let plan = plan_of(alloc, day).or_else(|_| plan_of(alloc, day))?;
+    plan.copy(alloc).or_else(|_| plan.copy(alloc))
+}
+
 // Each update is answered as it says.
 fn assert_replies(rt: &impl Abort, replies: &[Reply], updates: &[Short]) {
     assert_eq!(rt; replies.len(), updates.len());
@@ -155,7 +161,7 @@ fn refused_memory_changes_nothing(rt: HostRuntime) -> Result<(), Fail> {
     };
     assert_replies(&rt, &replies, SECOND.updates);
     assert_plan(&rt, &day, &SECOND);
-    let plan = plan_of(alloc, &day).or_else(|_| plan_of(alloc, &day))?;
+    let plan = copy_of_plan(alloc, &day)?;
     assert_eq!(rt; plan.blocked.as_slice(), day.plan().blocked.as_slice());
     assert_plan(&rt, &copied, &FIRST);
     Ok(())
