@@ -14,13 +14,21 @@ use std::thread::Threads;
 /// A slot: its runway, flight, EXOT, TSAT or AOBT, TTOT, mark and delay.
 pub type Line = (&'static str, &'static str, u16, u16, u16, Mark, Option<u16>);
 
-// A batch, and the clock and the slots after it. CD3, which has no TOBT, stays blocked.
+// A batch, and the clock, the slots and the flights that are blocked by TOBT after it.
 #[derive(Drop)]
 struct Step {
     updates: &'static [Short],
     now: u16,
     lines: &'static [Line],
+    blocked: &'static [&'static str],
 }
+
+const NOTHING: Step = Step {
+    updates: &[],
+    now: 0,
+    lines: &[],
+    blocked: &[],
+};
 
 // A flight on each runway, and what is refused.
 const FIRST: Step = Step {
@@ -41,6 +49,7 @@ const FIRST: Step = Step {
         ("09", "AB2", 15, 360, 375, Mark::Planned, Some(0)),
         ("27L", "AB1", 15, 360, 375, Mark::Planned, Some(0)),
     ],
+    blocked: &["CD3"],
 };
 
 // AB1 leaves its stand, and AB2 moves to its runway, where AB1 has the cell.
@@ -58,6 +67,7 @@ const SECOND: Step = Step {
         ("27L", "AB1", 15, 360, 375, Mark::OffBlock, None),
         ("27L", "AB2", 15, 365, 380, Mark::Planned, Some(5)),
     ],
+    blocked: &["CD3"],
 };
 
 // The first lines are those of the runway. Gives the others.
@@ -96,9 +106,11 @@ fn assert_plan(rt: &impl Abort, day: &DayState, step: &Step) {
     assert_slots(rt, day, step.lines);
     assert_eq!(rt; day.plan().now.get(), step.now);
     let blocked = day.plan().blocked.as_slice();
-    assert_eq!(rt; blocked.len(), 1);
-    assert_eq!(rt; blocked[0].name.text(), "CD3");
-    assert_eq!(rt; blocked[0].rule, Rule::Tobt);
+    assert_eq!(rt; blocked.len(), step.blocked.len());
+    for (flight, name) in blocked.iter().zip(step.blocked) {
+        assert_eq!(rt; flight.name.text(), *name);
+        assert_eq!(rt; flight.rule, Rule::Tobt);
+    }
 }
 
 // So many workers plan the batch, or the caller alone where there are none.
@@ -133,34 +145,54 @@ fn assert_replies(rt: &impl Abort, replies: &[Reply], updates: &[Short]) {
     }
 }
 
+// Whether the batch is answered as it says. Where it isn't, there was no memory.
+fn is_taken<R: Abort + Threads + Sync>(
+    rt: &R,
+    alloc: Global,
+    day: &mut DayState,
+    step: &Step,
+    batch: &[(Role, Update)],
+    workers: usize,
+) -> bool {
+    match apply_by(rt, alloc, day, batch, workers) {
+        Ok(replies) => {
+            assert_replies(rt, &replies, step.updates);
+            true
+        }
+        Err(_) => false,
+    }
+}
+
+// Takes the batch, once more where memory was refused. The day is as before then.
+fn take<R: Abort + Threads + Sync>(
+    rt: &R,
+    alloc: Global,
+    day: &mut DayState,
+    before: &Step,
+    step: &Step,
+    workers: usize,
+) -> Result<(), Fail> {
+    let batch = batch_of(alloc, step.updates)?;
+    let accepted = day.journal().len();
+    let mut taken = is_taken(rt, alloc, day, step, &batch, workers);
+    if !taken {
+        assert_eq!(rt; day.journal().len(), accepted);
+        assert_plan(rt, day, before);
+        taken = is_taken(rt, alloc, day, step, &batch, workers);
+    }
+    assert!(rt; taken);
+    assert_plan(rt, day, step);
+    Ok(())
+}
+
 /// Where a request for memory is refused, the day is as before, and the same call then succeeds.
 #[test]
 fn refused_memory_changes_nothing(rt: HostRuntime) -> Result<(), Fail> {
     let alloc = rt.alloc();
     let mut day = two_runways(alloc)?;
-    let first = batch_of(alloc, FIRST.updates)?;
-    let second = batch_of(alloc, SECOND.updates)?;
-    let replies = match day.apply(alloc, &first) {
-        Ok(replies) => replies,
-        Err(_) => {
-            assert!(rt; day.journal().is_empty());
-            assert_slots(&rt, &day, &[]);
-            day.apply(alloc, &first)?
-        }
-    };
-    assert_replies(&rt, &replies, FIRST.updates);
-    assert_plan(&rt, &day, &FIRST);
+    take(&rt, alloc, &mut day, &NOTHING, &FIRST, 0)?;
     let copied = day.copy(alloc).or_else(|_| day.copy(alloc))?;
-    let replies = match apply_by(&rt, alloc, &mut day, &second, 2) {
-        Ok(replies) => replies,
-        Err(_) => {
-            assert_eq!(rt; day.journal().len(), copied.journal().len());
-            assert_plan(&rt, &day, &FIRST);
-            apply_by(&rt, alloc, &mut day, &second, 2)?
-        }
-    };
-    assert_replies(&rt, &replies, SECOND.updates);
-    assert_plan(&rt, &day, &SECOND);
+    take(&rt, alloc, &mut day, &FIRST, &SECOND, 2)?;
     let plan = copy_of_plan(alloc, &day)?;
     assert_eq!(rt; plan.blocked.as_slice(), day.plan().blocked.as_slice());
     assert_plan(&rt, &copied, &FIRST);
