@@ -50,6 +50,13 @@ fn allowed(runway: &Runway, minute: Minute) -> (u16, bool) {
     (runway.cap_at(minute).get(), runway.closed(minute))
 }
 
+// Whether two runways allow the same at each minute.
+fn agree(runway: &Runway, other: &Runway) -> bool {
+    (0..2880)
+        .filter_map(Minute::new)
+        .all(|minute| allowed(runway, minute) == allowed(other, minute))
+}
+
 // Sets a rate of so many flights, closes or opens.
 fn set_window(
     runway: &mut Runway,
@@ -65,40 +72,33 @@ fn set_window(
     }
 }
 
-/// Where a request for memory is refused, the runway is as before, and the same call then succeeds. After
-/// each change stands what the runway allows at 06:15.
+/// Where a request for memory is refused, the runway is as before, minute by minute, and the same call
+/// then succeeds. With each change stands what the runway then allows at the first minute of its window.
 #[test]
 fn refused_memory_leaves_the_runway(rt: HostRuntime) -> Result<(), Fail> {
-    let mut runway = two_in_ten(rt.alloc())?;
-    let minute = minute_of(375)?;
-    let mut before = (2, false);
+    let alloc = rt.alloc();
+    let mut runway = two_in_ten(alloc)?;
     for (word, from, to, number, after) in [
         ("CLOSE", 372, 391, 0, (2, true)),
-        ("RATE", 370, 400, 1, (1, true)),
+        ("RATE", 370, 400, 1, (1, false)),
         ("OPEN", 375, 376, 0, (1, false)),
-        ("RATE", 380, 390, 3, (1, false)),
-        ("CLOSE", 0, 2880, 0, (1, true)),
-        ("OPEN", 360, 380, 0, (1, false)),
-        ("RATE", 0, 2880, 0, (0, false)),
+        ("RATE", 380, 390, 3, (3, true)),
+        ("CLOSE", 0, 2880, 0, (2, true)),
+        ("OPEN", 360, 380, 0, (2, false)),
+        ("RATE", 0, 2880, 0, (0, true)),
     ] {
         let (first, end, cap) = (minute_of(from)?, bound_of(to)?, cap_of(number)?);
+        let before = runway.copy(alloc).or_else(|_| runway.copy(alloc))?;
+        assert!(rt; before.name() == runway.name() && before.cell() == runway.cell());
+        assert!(rt; agree(&runway, &before), "copied before {word} {from} {to}");
         if set_window(&mut runway, word, first, end, cap).is_err() {
-            assert!(rt;
-                allowed(&runway, minute) == before,
-                "before {word} {from} {to}"
-            );
+            assert!(rt; agree(&runway, &before), "before {word} {from} {to}");
             set_window(&mut runway, word, first, end, cap)?;
         }
         assert!(rt;
-            allowed(&runway, minute) == after,
+            allowed(&runway, first) == after,
             "after {word} {from} {to}"
         );
-        before = after;
     }
-    let copied = runway
-        .copy(rt.alloc())
-        .or_else(|_| runway.copy(rt.alloc()))?;
-    assert!(rt; copied.name() == runway.name() && copied.cell() == runway.cell());
-    assert!(rt; allowed(&copied, minute) == before);
     Ok(())
 }
