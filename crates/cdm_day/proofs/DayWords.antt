@@ -6,9 +6,9 @@ pub use Rattle.cdm_day.specs.DayPlan.{IsDayAllowed, day_rules, records_in}
 unfoldable pub use Rattle.cdm_day.specs.DayPlan.{IsDayPlan, IsDayPlanBy}
 pub use Rattle.cdm_day.specs.Planning.{AreAims, HasParts, IsPlanOf, blocked_in, early_in, planned_of, target_in, targets_in, targets_on}
 unfoldable pub use Rattle.cdm_day.specs.Planning.{fixed_on}
-pub use Rattle.cdm_day.specs.Runways.{has_window, plain_of, window_runway, with_change}
+pub use Rattle.cdm_day.specs.Runways.{has_window, plain_of, with_change}
 pub use Rattle.cdm_day.specs.Sound.{IsSound, TellTaxi}
-pub use Rattle.cdm_day.specs.inner.Aimed.{CanSequence, IsAimed, early_among, if_on, is_on, target_for}
+pub use Rattle.cdm_day.specs.inner.Aimed.{CanSequence, IsAimed, early_among, if_on, if_passes, is_on, target_for}
 pub use Rattle.cdm_day.specs.inner.Kept.{Adds, AreKept, IsMade, IsPlanOn, IsSince, Together, fixed_in, is_noted, is_touched, kept_plan}
 pub use Rattle.cdm_day.specs.inner.Kinds.{is_of_runway, window_end}
 pub use Rattle.cdm_day.specs.inner.Tables.{new_flight}

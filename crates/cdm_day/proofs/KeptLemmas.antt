@@ -1,15 +1,15 @@
 -- A runway that updates do not touch keeps its plan.
-use Rattle.std.proofs.Common.{◌≡◌, ℕ, Bool, true, false, cond, ◌&&◌, List, [], ◌∷◌, ◌++◌, Option, None, Some, refl, sym, ◌∙◌, ap, subst}
+use Rattle.std.proofs.Common.{◌≡◌, ℕ, Bool, true, false, ◌&&◌, List, [], ◌∷◌, ◌++◌, Option, None, Some, refl, sym, ◌∙◌, ap, subst}
 use Rattle.cdm_day.proofs.ListWords.{option_and_then, option_map_or, if◌then◌else◌, Contains, cons_option, filter_map, find, append-nil, filter_map-append, Contains-permutation, IsPermutation-sym, contains_from_map, contains_map, if_so, one_of_key}
-use Rattle.cdm_day.proofs.DayWords.{RunwayRow, Place, Update, same_name, Record, is_planned, flight_of_update, taxi_out, flight_of, now_of, only_if, sets_cap, sets_closed, sets_now, sets_taxi, taxi_of, touches, flight_of-untouched, RunwayRules, TaxiTimes, IsAim, AimResult, SlotRecord, fixed_slot, IsSequence, IsSequenceBy}
-use Rattle.cdm_day.proofs.DayWords.{PlanRecord, RunwayPlanRecord, TargetRecord, aim_means, aim_of, aim_with, aim_with_exot, is_same, same_flips, same_is, if_on, DayRecord, flights_in, new_flight, rows_by_name, rules_of, with_update, IsDayPlan, day_rules, records_in, is_on, target_in, targets_in, targets_on, Adds, AreKept, IsMade}
-use Rattle.cdm_day.proofs.DayWords.{IsPlanOn, IsSince, fixed_in, is_noted, is_touched, Flt, Rate, Close, Reopen, Taxi, Clock, Ready, Early}
+use Rattle.cdm_day.proofs.DayWords.{RunwayRow, Place, Update, same_name, Record, is_planned, flight_of_update, taxi_out, flight_of, now_of, only_if, sets_cap, sets_closed, sets_now, sets_taxi, taxi_of, touches, flight_of-untouched, RunwayRules, TaxiTimes, SlotRecord, fixed_slot, IsSequence, IsSequenceBy}
+use Rattle.cdm_day.proofs.DayWords.{PlanRecord, RunwayPlanRecord, TargetRecord, aim_of, aim_with, aim_with_exot, is_same, same_flips, same_is, if_on, DayRecord, flights_in, new_flight, rows_by_name, rules_of, with_update, IsDayPlan, day_rules, records_in, is_on, target_in, targets_in, targets_on, Adds, AreKept, IsMade}
+use Rattle.cdm_day.proofs.DayWords.{IsPlanOn, IsSince, fixed_in, is_noted, is_touched, Flt, Rate, Close, Reopen, Taxi, Clock}
 use Rattle.cdm_day.specs.declared.touched.Touched.{Touched}
 use Rattle.cdm_day.proofs.JournalFacts.{flights_in-push, now_of-same, some_named, taxi_of-same}
 use Rattle.cdm_day.proofs.DayPlanLemmas.{day_rules_differ, has_sequence, is_plan_on, targets_at}
 use Rattle.cdm_day.proofs.NameLemmas.{find_some, rows_permutation}
 use Rattle.cdm_day.proofs.OnePlanLemmas.{partner}
-use Rattle.cdm_day.proofs.PlanningLemmas.{fixed_at, fixed_on-given, target_at, targets_on-given}
+use Rattle.cdm_day.proofs.PlanningLemmas.{fixed_at, fixed_on-given, no_target_at, target_at, targets_on-given}
 use Rattle.cdm_day.proofs.RunwayLemmas.{rules-same}
 
 -- What a flight gives to a runway.
@@ -22,19 +22,6 @@ given_twice {K} {R} {Y} q h (k ∷ ks) = by (h k) (given_twice q h ks)
     by : (o : Option R) → filter_map q (filter_map h ks) ≡ filter_map (λ k. option_and_then q (h k)) ks → filter_map q (cons_option o (filter_map h ks)) ≡ cons_option (option_and_then q o) (filter_map (λ k. option_and_then q (h k)) ks)
     by None e = e
     by (Some r) e = ap (λ (ys : List Y). cons_option (q r) ys) e
-
-no_target_at : (r : List ℕ) (times : TaxiTimes) (now : ℕ) (f : Record) → is_on r f ≡ false → target_at r times now f ≡ None
-no_target_at r times now f h = in_any (is_planned f.status) (by (aim_of f times now) refl)
-  where
-    by : (a : AimResult) → aim_of f times now ≡ a → if_on r (target_in a) ≡ None
-    by (Early rule) e = refl
-    by (Ready t) e =
-        let runway = (subst (IsAim f times now) e (aim_means f times now)).runway in
-        ap (λ b. cond b (Some t) None) (ap (λ o. option_map_or (λ s. same_name s r) o false) (sym runway) ∙ h)
-
-    in_any : (b : Bool) → if_on r (target_in (aim_of f times now)) ≡ None → if_so b (if_on r (target_in (aim_of f times now))) ≡ None
-    in_any true e = e
-    in_any false e = refl
 
 -- a flight's target depends on the taxi times to its own runway alone
 same_target_at : (r : List ℕ) (s t : TaxiTimes) (now : ℕ) → ((place : Place) → s place r ≡ t place r) → (f : Record) → target_at r s now f ≡ target_at r t now f

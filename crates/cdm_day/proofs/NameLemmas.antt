@@ -1,7 +1,7 @@
 -- The runways by name.
-use Rattle.std.proofs.Common.{◌≡◌, ℕ, ◌+◌, ◌<◌, ◌≤◌, Bool, true, false, cond, List, [], ◌∷◌, ◌++◌, length, take, drop, get_or, map, Option, None, Some, refl, sym, ap, ◌∙◌, subst, true≢false, zero, suc, add-one}
-use Rattle.cdm_day.proofs.ListWords.{fold, insert, is_some, slice_get, if◌then◌else◌, option_map, option_or, is_lt, AllByRecursion, Contains, cons_option, find, IsDistinct, position_or_len, IsPermutation, same_text, false_from_ne_true, append_assoc, append-nil, length-map, take-append-drop, take_all, All-contains}
-use Rattle.cdm_day.proofs.ListWords.{All-from_recursion, All-more, recursion_from_All, find-append, list_any_at, All-permutation, Contains-permutation, IsPermutation-refl, IsPermutation-sym, IsPermutation-trans, IsPermutation-append_left, IsPermutation-insert, IsPermutation-map, IsPermutation-to_front, length_permutation}
+use Rattle.std.proofs.Common.{◌≡◌, ℕ, ◌+◌, ◌≤◌, Bool, true, false, cond, List, [], ◌∷◌, ◌++◌, length, take, drop, map, Option, None, Some, refl, sym, ap, ◌∙◌, subst, true≢false, zero, suc, add-one}
+use Rattle.cdm_day.proofs.ListWords.{fold, insert, is_some, slice_get, if◌then◌else◌, option_map, is_lt, AllByRecursion, Contains, cons_option, find, IsDistinct, position_or_len, IsPermutation, same_text, false_from_ne_true, append_assoc, append-nil, length-map, take_all, All-contains}
+use Rattle.cdm_day.proofs.ListWords.{All-from_recursion, recursion_from_All, list_any_at, All-permutation, Contains-permutation, IsPermutation-refl, IsPermutation-sym, IsPermutation-trans, IsPermutation-append_left, IsPermutation-insert, IsPermutation-map, IsPermutation-to_front, length_permutation}
 use Rattle.cdm_day.proofs.ListWords.{IsDistinct-IsPermutation, contains_head, contains_tail, list_any-find, one_of_key}
 use Rattle.cdm_day.proofs.DayWords.{RunwayRow, Update, same_name, name_cmp, AirportRows, runway_row, RunwayRules, same_flips, IsAirport, runway_names, rules_of, put_by_name, rows_by_name, rules_in}
 
@@ -101,7 +101,7 @@ all_at P xs all y = All-contains P xs y (All-from_recursion P xs all)
 pub all_by_permutation : {X : Type 0} (P : X → Type 0) (xs ys : List X) → IsPermutation xs ys → AllByRecursion P xs → AllByRecursion P ys
 all_by_permutation P xs ys same all = recursion_from_All P ys (All-permutation P xs ys same (All-from_recursion P xs all))
 
--- One more element of a list that is searched.
+-- Lists from place to place.
 
 next_taken : {X : Type 0} (xs : List X) (i : ℕ) → take (suc i) xs ≡ take i xs ++ cons_option (slice_get xs i) []
 next_taken [] zero = refl
@@ -115,27 +115,12 @@ take-next xs i = rw add-one (next_taken xs i)
 pub all_taken : {X : Type 0} (xs : List X) (i : ℕ) → length xs ≤ i → take i xs ≡ xs
 all_taken xs i h = take_all i xs h
 
-module _ {X : Type 0} (p : X → Bool) (xs : List X) (i : ℕ) (before : find p (take i xs) ≡ None) where
-  found_so_far : (o : Option X) → slice_get xs i ≡ o → find p (take (i + 1) xs) ≡ find p (cons_option o [])
-  found_so_far o at = ap (find p) (take-next xs i) ∙ (find-append p (take i xs) (cons_option (slice_get xs i) []) ∙ (λ k. option_or (before k) (find p (cons_option (at k) []))))
+next_left : {X : Type 0} (xs : List X) (i : ℕ) → drop i xs ≡ cons_option (slice_get xs i) (drop (suc i) xs)
+next_left [] zero = refl
+next_left [] (suc i) = refl
+next_left (x ∷ xs) zero = refl
+next_left (x ∷ xs) (suc i) = next_left xs i
 
-  -- the one at the place is not it
-  pub find-other : (x : X) → slice_get xs i ≡ Some x → p x ≡ false → find p (take (i + 1) xs) ≡ None
-  find-other x at h = found_so_far (Some x) at ∙ ap (λ b. cond b (Some x) None) h
-
-  pub find-no_other : slice_get xs i ≡ None → find p (take (i + 1) xs) ≡ None
-  find-no_other at = found_so_far None at
-
-  -- the one at the place is it
-  pub find-here : (x : X) → slice_get xs i ≡ Some x → p x ≡ true → find p xs ≡ Some x
-  find-here x at h =
-      let more : find p (take (i + 1) xs) ≡ Some x = found_so_far (Some x) at ∙ ap (λ b. cond b (Some x) None) h in
-      ap (find p) (sym (take-append-drop (i + 1) xs)) ∙ (find-append p (take (i + 1) xs) (drop (i + 1) xs) ∙ ap (λ o. option_or o (find p (drop (i + 1) xs))) more)
-
-  -- there are no more
-  pub find-end : length xs ≤ i → find p xs ≡ None
-  find-end h = ap (find p) (sym (all_taken xs i h)) ∙ before
-
--- what holds of the elements so far and of the next one
-pub all_next : {X : Type 0} (P : X → Type 0) (xs : List X) (k : ℕ) (x : X) → k < length xs → x ≡ get_or xs k x → AllByRecursion P (take k xs) → P x → AllByRecursion P (take (k + 1) xs)
-all_next P xs k x below at all here = recursion_from_All P (take (k + 1) xs) (All-more P xs k x below (All-from_recursion P (take k xs) all) (subst P at here))
+-- the search from a place on
+pub find-next : {X : Type 0} (p : X → Bool) (xs : List X) (i : ℕ) (o : Option X) → slice_get xs i ≡ o → find p (drop i xs) ≡ find p (cons_option o (drop (i + 1) xs))
+find-next p xs i o at = rw add-one (ap (find p) (next_left xs i ∙ ap (λ q. cons_option q (drop (suc i) xs)) at))

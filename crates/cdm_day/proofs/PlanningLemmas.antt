@@ -1,16 +1,17 @@
 -- Each flight of a day stands once: as a fixed flight or a target of one runway, or blocked early.
 use Rattle.std.proofs.lemmas.Slice.Zip.{AllZip-map}
-use Rattle.std.proofs.Common.{Bor, ◌≡◌, ℕ, ◌+◌, ◌≤◌, Bool, true, false, cond, ◌||◌, List, [], ◌∷◌, ◌++◌, Option, None, Some, refl, sym, ◌∙◌, ap, subst, arith, map, filter, length, sum_by}
-use Rattle.cdm_day.proofs.ListWords.{is_none, is_some, zip, option_map, option_map_or, All, cons_option, filter_map, IsDistinct, AllByRecursion, IsPermutation, false≢true, IsPermutation-refl, IsPermutation-trans, IsPermutation-append_right, IsPermutation-middle, IsPermutation-map, IsPermutation-sym, IsDistinct-IsPermutation}
-use Rattle.cdm_day.proofs.ListWords.{IsDistinct-cons, IsDistinct-head, IsDistinct-tail, length-map, map-append, All-given, distinct_filter, filter_map-map, filter_map-filter, if_so, sum_by-add, sum_by-zero, length_permutation, AllZip, filter_passes}
-use Rattle.cdm_day.proofs.DayWords.{same_name, Record, is_planned, TaxiTimes, IsAim, aim_of, aim_is, aim_means, same_flips, same_is, SlotRecord, fixed_slot, slot_by, Placing, flight_names, names_left, planned_slot, slots_by, IsSequence, TargetRecord, AimResult, BlockedFlight, early_in, planned_of}
-use Rattle.cdm_day.proofs.DayWords.{target_in, targets_in, blocked_in, is_on, fixed_on, targets_on, IsAimed, if_on, target_for, CanSequence, RunwayRules, RunwayPlanRecord, Ready, Early}
-use Rattle.std.proofs.lemmas.List.Sums.{sum_by-cons, sum_by-le-sum_by}
+use Rattle.std.proofs.Common.{Bor, ◌≡◌, ℕ, ◌+◌, ◌≤◌, Bool, true, false, not, cond, ◌||◌, List, [], ◌∷◌, ◌++◌, Option, None, Some, refl, sym, ◌∙◌, ap, subst, arith, map, filter, length}
+use Rattle.cdm_day.proofs.ListWords.{is_none, is_some, zip, option_map, option_map_or, All, All-cons, All-head, All-nil, All-tail, append_assoc, cons_option, filter_map, flat_map, IsDistinct, AllByRecursion, IsPermutation, false_from_ne_true, false≢true, IsPermutation-append, IsPermutation-refl, IsPermutation-trans, IsPermutation-append_right, IsPermutation-middle, IsPermutation-map, IsPermutation-sym, IsDistinct-IsPermutation}
+use Rattle.cdm_day.proofs.ListWords.{IsDistinct-head, IsDistinct-tail, length-map, map-append, All-given, distinct_filter, filter_map-map, filter_map-filter, if_so, length_permutation, AllZip, filter_passes}
+use Rattle.cdm_day.proofs.DayWords.{same_name, Record, is_planned, TaxiTimes, IsAim, aim_of, aim_is, aim_means, same_flips, same_is, SlotRecord, fixed_slot, slot_by, Placing, flight_names, names_left, planned_slot, IsSequence, TargetRecord, AimResult, BlockedFlight, early_in, planned_of}
+use Rattle.cdm_day.proofs.DayWords.{target_in, targets_in, blocked_in, is_on, fixed_on, targets_on, IsAimed, if_on, if_passes, target_for, CanSequence, RunwayRules, RunwayPlanRecord, Ready, Early}
+use Rattle.std.proofs.lemmas.List.Filters.{length-filter_both}
 use Rattle.cdm_flight.specs.declared.flight.Status.{Status}
 use Rattle.cdm_flight.specs.declared.flight.Status.TheVariants as status
 use Rattle.cdm_flight.specs.declared.key.Key.{Key}
 use Rattle.std.proofs.Common.{IfSome, length-append}
 use Rattle.cdm_day.specs.declared.aimed.Aimed.{Aimed}
+use Rattle.cdm_day.proofs.JournalFacts.{some_named}
 
 -- Aims.
 
@@ -64,19 +65,17 @@ early-aims times now fs =
     let blocked : Record × AimResult → Option BlockedFlight = λ x. blocked_in x.0.name x.1 in
     ap (filter_map blocked) (zip-map (λ f. aim_of f times now) (planned_of fs)) ∙ filter_map-map blocked (λ f. (f, aim_of f times now)) (planned_of fs)
 
--- what is left of targets on a runway
-filter-filter_map : (r : List ℕ) (h : Record → Option TargetRecord) (fs : List Record) → filter (λ t. same_name t.runway r) (filter_map h fs) ≡ filter_map (λ f. if_on r (h f)) fs
-filter-filter_map r h [] = refl
-filter-filter_map r h (f ∷ fs) = go (h f) (filter-filter_map r h fs) where
-  by : (b : Bool) (t : TargetRecord) → filter (λ t. same_name t.runway r) (filter_map h fs) ≡ filter_map (λ f. if_on r (h f)) fs
-      → cond b (t ∷ filter (λ t. same_name t.runway r) (filter_map h fs)) (filter (λ t. same_name t.runway r) (filter_map h fs)) ≡ cons_option (cond b (Some t) None) (filter_map (λ f. if_on r (h f)) fs)
-  by true t e = ap (λ (ts : List TargetRecord). t ∷ ts) e
-  by false t e = e
+-- what passes a test of what flights give
+filter-filter_map : {X Y : Type 0} (q : Y → Bool) (h : X → Option Y) (fs : List X) → filter q (filter_map h fs) ≡ filter_map (λ f. if_passes q (h f)) fs
+filter-filter_map q h [] = refl
+filter-filter_map {X} {Y} q h (f ∷ fs) = go (h f) (filter-filter_map q h fs) where
+  by : (b : Bool) (y : Y) (us vs : List Y) → us ≡ vs → cond b (y ∷ us) us ≡ cons_option (cond b (Some y) None) vs
+  by true y us vs e = ap (λ (ys : List Y). y ∷ ys) e
+  by false y us vs e = e
 
-  go : (o : Option TargetRecord) → filter (λ t. same_name t.runway r) (filter_map h fs) ≡ filter_map (λ f. if_on r (h f)) fs
-      → filter (λ t. same_name t.runway r) (cons_option o (filter_map h fs)) ≡ cons_option (if_on r o) (filter_map (λ f. if_on r (h f)) fs)
+  go : (o : Option Y) → filter q (filter_map h fs) ≡ filter_map (λ f. if_passes q (h f)) fs → filter q (cons_option o (filter_map h fs)) ≡ cons_option (if_passes q o) (filter_map (λ f. if_passes q (h f)) fs)
   go None e = e
-  go (Some t) e = by (same_name t.runway r) t e
+  go (Some y) e = by (q y) y _ _ e
 
 -- the names of what flights give are those of the flights that give something
 pub names_given : {X Y : Type 0} (name : Y → List ℕ) (key : X → List ℕ) (h : X → Option Y) → ((f : X) (y : Y) → h f ≡ Some y → name y ≡ key f) → (fs : List X) → map name (filter_map h fs) ≡ map key (filter (λ f. is_some (h f)) fs)
@@ -86,6 +85,19 @@ names_given {X} {Y} name key h own (f ∷ fs) = go (h f) refl (names_given name 
       → map name (cons_option o (filter_map h fs)) ≡ map key (cond (is_some o) (f ∷ filter (λ f. is_some (h f)) fs) (filter (λ f. is_some (h f)) fs))
   go None e rest = rest
   go (Some y) e rest = ap (λ (n : List ℕ). n ∷ map name (filter_map h fs)) (own f y e) ∙ ap (λ (ns : List (List ℕ)). key f ∷ ns) rest
+
+-- and those of what passes a test are those of the flights that give such
+pub names_kept : {X Y : Type 0} (name : Y → List ℕ) (key : X → List ℕ) (q : Y → Bool) (h : X → Option Y) → ((f : X) (y : Y) → h f ≡ Some y → name y ≡ key f) → (fs : List X)
+    → map name (filter q (filter_map h fs)) ≡ map key (filter (λ f. is_some (if_passes q (h f))) fs)
+names_kept {X} {Y} name key q h own fs = ap (map name) (filter-filter_map q h fs) ∙ names_given name key (λ f. if_passes q (h f)) (λ f y e. own f y (by (h f) y e)) fs
+  where
+    by : (o : Option Y) (y : Y) → if_passes q o ≡ Some y → o ≡ Some y
+    by None y e = cc
+    by (Some x) y e = go (q x) e
+      where
+        go : (b : Bool) → cond b (Some x) None ≡ Some y → Some x ≡ Some y
+        go true k = k
+        go false k = cc
 
 -- two tests of which at most one holds part what passes either
 parted : {X : Type 0} (a b : X → Bool) → ((x : X) → a x ≡ true → b x ≡ false) → (xs : List X) → IsPermutation (filter (λ x. a x || b x) xs) (filter a xs ++ filter b xs)
@@ -108,8 +120,8 @@ key_name f times now t e = by f.tobt refl (subst (IsAim f times now) e (aim_mean
     by None g k = cc
     by (Some tobt) g k = sym (ap (λ (x : Option Key). option_map_or (λ y. y.name) x []) k)
 
-target_name : (r : List ℕ) (f : Record) (times : TaxiTimes) (now : ℕ) (t : TargetRecord) → if_so (is_planned f.status) (if_on r (target_in (aim_of f times now))) ≡ Some t → t.key.name ≡ f.name
-target_name r f times now t e = go (is_planned f.status) (aim_of f times now) refl e
+pub target_name : (r : List ℕ) (times : TaxiTimes) (now : ℕ) (f : Record) (t : TargetRecord) → if_so (is_planned f.status) (if_on r (target_in (aim_of f times now))) ≡ Some t → t.key.name ≡ f.name
+target_name r times now f t e = go (is_planned f.status) (aim_of f times now) refl e
   where
     on : (b : Bool) (s : TargetRecord) → aim_of f times now ≡ Ready s → cond b (Some s) None ≡ Some t → t.key.name ≡ f.name
     on true s is k = let same : s ≡ t = cc in key_name f times now t (is ∙ ap Ready same)
@@ -147,7 +159,7 @@ fixed_at r f = if_so (is_on r f) (fixed_slot f)
 abbrev pub target_at : List ℕ → TaxiTimes → ℕ → Record → Option TargetRecord
 target_at r times now f = if_so (is_planned f.status) (if_on r (target_in (aim_of f times now)))
 
-abbrev early_at : TaxiTimes → ℕ → Record → Option BlockedFlight
+abbrev pub early_at : TaxiTimes → ℕ → Record → Option BlockedFlight
 early_at times now f = if_so (is_planned f.status) (blocked_in f.name (aim_of f times now))
 
 pub fixed_on-given : (r : List ℕ) (fs : List Record) → fixed_on r fs ≡ filter_map (fixed_at r) fs
@@ -157,7 +169,7 @@ fixed_on-given r fs = filter_map-filter fixed_slot (is_on r) fs
 pub targets_on-given : (r : List ℕ) (times : TaxiTimes) (now : ℕ) (fs : List Record) → targets_on r (targets_of fs times now) ≡ filter_map (target_at r times now) fs
 unfolding targets_of
 targets_on-given r times now fs =
-    filter-filter_map r (λ f. target_in (aim_of f times now)) (planned_of fs)
+    filter-filter_map (λ (t : TargetRecord). same_name t.runway r) (λ f. target_in (aim_of f times now)) (planned_of fs)
     ∙ filter_map-filter (λ f. if_on r (target_in (aim_of f times now))) (λ f. is_planned f.status) fs
 
 early-given : (times : TaxiTimes) (now : ℕ) (fs : List Record) → blocked_early fs times now ≡ filter_map (early_at times now) fs
@@ -169,7 +181,7 @@ pub targets-among : (r : List ℕ) (times : TaxiTimes) (now : ℕ) (fs : List Re
 unfolding targets_of aimed
 targets-among r times now fs =
     filter_map-map (target_for r) (aimed times now) (planned_of fs)
-    ∙ sym (filter-filter_map r (λ f. target_in (aim_of f times now)) (planned_of fs))
+    ∙ sym (filter-filter_map (λ (t : TargetRecord). same_name t.runway r) (λ f. target_in (aim_of f times now)) (planned_of fs))
 
 pub blocked-among : (times : TaxiTimes) (now : ℕ) (fs : List Record) → filter_map (λ (a : Aimed). blocked_in a.name a.aim) (map (aimed times now) (planned_of fs)) ≡ blocked_early fs times now
 unfolding blocked_early aimed
@@ -192,136 +204,114 @@ fixed_at_name r f x e = go (is_on r f) e
     go true k = fixed_name f x k
     go false k = cc
 
--- the flights of a runway have names of their own
-pub names_on : (r : List ℕ) (times : TaxiTimes) (now : ℕ) (fs : List Record) → IsDistinct same_name (map (λ f. f.name) fs) → IsDistinct same_name (flight_names (fixed_on r fs) (targets_on r (targets_of fs times now)))
-names_on r times now fs own =
+-- what a flight gives, it gives to its own runway
+pub no_target_at : (r : List ℕ) (times : TaxiTimes) (now : ℕ) (f : Record) → is_on r f ≡ false → target_at r times now f ≡ None
+no_target_at r times now f h = in_any (is_planned f.status) (by (aim_of f times now) refl)
+  where
+    by : (a : AimResult) → aim_of f times now ≡ a → if_on r (target_in a) ≡ None
+    by (Early rule) e = refl
+    by (Ready t) e =
+        let runway = (subst (IsAim f times now) e (aim_means f times now)).runway in
+        ap (λ b. cond b (Some t) None) (ap (λ o. option_map_or (λ s. same_name s r) o false) (sym runway) ∙ h)
+
+    in_any : (b : Bool) → if_on r (target_in (aim_of f times now)) ≡ None → if_so b (if_on r (target_in (aim_of f times now))) ≡ None
+    in_any true e = e
+    in_any false e = refl
+
+-- a flight stands on a runway as a fixed flight or with its target
+abbrev pub stands : TaxiTimes → ℕ → List ℕ → Record → Bool
+stands times now r f = is_some (fixed_at r f) || is_some (target_at r times now f)
+
+pub stands_here : (times : TaxiTimes) (now : ℕ) (r : List ℕ) (f : Record) → stands times now r f ≡ true → (is_on r f ≡ true) × (is_some (early_at times now f) ≡ false)
+stands_here times now r f h = (by (is_on r f) refl, false_from_ne_true (is_some (early_at times now f)) (λ k. false≢true (sym (early (is_planned f.status) (aim_of f times now) refl k) ∙ h)))
+  where
+    by : (b : Bool) → is_on r f ≡ b → is_on r f ≡ true
+    by true e = e
+    by false e = absurd (false≢true (sym (λ i. is_some (if_so (e i) (fixed_slot f)) || is_some (no_target_at r times now f e i)) ∙ h))
+
+    early : (p : Bool) (a : AimResult) → is_planned f.status ≡ p → is_some (if_so p (blocked_in f.name a)) ≡ true → (is_some (fixed_at r f) || is_some (if_so p (if_on r (target_in a)))) ≡ false
+    early true (Early rule) e k = ap (λ b. b || false) (false_from_ne_true (is_some (fixed_at r f)) (λ l. false≢true (sym (fixed_left f (some_inside (is_on r f) (fixed_slot f) l)) ∙ e)))
+    early true (Ready t) e k = absurd (false≢true k)
+    early false a e k = absurd (false≢true k)
+
+-- the names of a runway's flights are those of the flights that stand on it
+pub names_stand : (r : List ℕ) (times : TaxiTimes) (now : ℕ) (fs : List Record) → IsPermutation (map (λ f. f.name) (filter (stands times now r) fs)) (flight_names (fixed_on r fs) (targets_on r (targets_of fs times now)))
+names_stand r times now fs =
     let a : Record → Bool = λ f. is_some (fixed_at r f) in
     let b : Record → Bool = λ f. is_some (target_at r times now f) in
     let name : Record → List ℕ = λ f. f.name in
     let fixed = ap (map (λ (x : SlotRecord). x.name)) (fixed_on-given r fs) ∙ names_given (λ x. x.name) name (fixed_at r) (fixed_at_name r) fs in
-    let targets = ap (map (λ (t : TargetRecord). t.key.name)) (targets_on-given r times now fs) ∙ names_given (λ t. t.key.name) name (target_at r times now) (λ f t e. target_name r f times now t e) fs in
-    let parts = IsPermutation-map name (filter (λ f. a f || b f) fs) (filter a fs ++ filter b fs) (parted a b (apart r times now) fs) in
-    let whole = distinct_filter same_name name (λ f. a f || b f) fs own in
-    let split = IsDistinct-IsPermutation same_name same_flips (map name (filter (λ f. a f || b f) fs)) (map name (filter a fs ++ filter b fs)) parts whole in
-    subst (λ (ns : List (List ℕ)). IsDistinct same_name ns) (map-append name (filter a fs) (filter b fs) ∙ (ap (λ (ns : List (List ℕ)). ns ++ map name (filter b fs)) (sym fixed) ∙ ap (λ (ns : List (List ℕ)). map (λ (x : SlotRecord). x.name) (fixed_on r fs) ++ ns) (sym targets))) split
+    let targets = ap (map (λ (t : TargetRecord). t.key.name)) (targets_on-given r times now fs) ∙ names_given (λ t. t.key.name) name (target_at r times now) (target_name r times now) fs in
+    subst (IsPermutation (map name (filter (stands times now r) fs))) (map-append name (filter a fs) (filter b fs) ∙ (λ i. sym fixed i ++ sym targets i))
+    (IsPermutation-map name (filter (stands times now r) fs) (filter a fs ++ filter b fs) (parted a b (apart r times now) fs))
 
--- How many flights a day's plan has.
+-- so they have names of their own
+pub names_on : (r : List ℕ) (times : TaxiTimes) (now : ℕ) (fs : List Record) → IsDistinct same_name (map (λ f. f.name) fs) → IsDistinct same_name (flight_names (fixed_on r fs) (targets_on r (targets_of fs times now)))
+names_on r times now fs own =
+    IsDistinct-IsPermutation same_name same_flips (map (λ (f : Record). f.name) (filter (stands times now r) fs)) (flight_names (fixed_on r fs) (targets_on r (targets_of fs times now)))
+    (names_stand r times now fs) (distinct_filter same_name (λ (f : Record). f.name) (stands times now r) fs own)
 
-abbrev one_if : Bool → ℕ
-one_if b = cond b 1 0
-
-count_given : {Y : Type 0} (h : Record → Option Y) (fs : List Record) → length (filter_map h fs) ≡ sum_by (λ f. one_if (is_some (h f))) fs
-count_given h [] = refl
-count_given {Y} h (f ∷ fs) = go (h f) (count_given h fs) ∙ sym (sum_by-cons (λ f. one_if (is_some (h f))) f fs) where
-  go : (o : Option Y) → length (filter_map h fs) ≡ sum_by (λ f. one_if (is_some (h f))) fs → length (cons_option o (filter_map h fs)) ≡ one_if (is_some o) + sum_by (λ f. one_if (is_some (h f))) fs
-  go None e = omega arith
-  go (Some y) e = omega arith
-
--- one runway has a name, at the most
-none_named : (s r : List ℕ) (rs : List (List ℕ)) → same_name s r ≡ true → AllByRecursion (λ q. same_name r q ≡ false) rs → sum_by (λ q. one_if (same_name s q)) rs ≡ 0
-none_named s r [] e all = refl
-none_named s r (q ∷ rs) e all =
-    let same : s ≡ r = same_is s r e in
-    let not : one_if (same_name s q) ≡ 0 = ap (λ (n : List ℕ). one_if (same_name n q)) same ∙ ap one_if all.0 in
-    let a = sum_by-cons (λ q. one_if (same_name s q)) q rs in
-    let b = none_named s r rs e all.1 in
+-- no more names than elements
+pub few_names : {X : Type 0} (name : X → List ℕ) (fs : List X) (p : X → Bool) (ns : List (List ℕ)) → IsPermutation (map name (filter p fs)) ns → length ns ≤ length fs
+few_names name fs p ns same =
+    let long = length_permutation (map name (filter p fs)) ns same in
+    let mapped = length-map (filter p fs) name in
+    let both = length-filter_both p (λ f. not (p f)) (λ f. refl) fs in
     omega arith
-
-one_named : (s : List ℕ) (rs : List (List ℕ)) → IsDistinct same_name rs → sum_by (λ q. one_if (same_name s q)) rs ≤ 1
-one_named s [] own = omega arith
-one_named s (r ∷ rs) own = go (same_name s r) refl (one_named s rs (IsDistinct-tail same_name r rs own))
-  where
-    go : (b : Bool) → same_name s r ≡ b → sum_by (λ q. one_if (same_name s q)) rs ≤ 1 → sum_by (λ q. one_if (same_name s q)) (r ∷ rs) ≤ 1
-    go true e rest =
-        let a = sum_by-cons (λ q. one_if (same_name s q)) r rs in
-        let one : one_if (same_name s r) ≡ 1 = ap one_if e in
-        let none = none_named s r rs e (IsDistinct-head same_name r rs own) in
-        omega arith
-    go false e rest =
-        let a = sum_by-cons (λ q. one_if (same_name s q)) r rs in
-        let zero : one_if (same_name s r) ≡ 0 = ap one_if e in
-        omega arith
-
--- what a flight counts on a runway: as a fixed flight or as a target
-abbrev counted : TaxiTimes → ℕ → Record → List ℕ → ℕ
-counted times now f r = one_if (is_some (fixed_at r f)) + one_if (is_some (target_at r times now f))
-
--- what counts on one runway at the most counts once
-once : (s : Option (List ℕ)) (h : List ℕ → ℕ) (rs : List (List ℕ)) → IsDistinct same_name rs → ((r : List ℕ) → h r ≤ one_if (option_map_or (λ x. same_name x r) s false)) → sum_by h rs ≤ one_if (is_some s)
-once None h rs own le = let zero = sum_by-zero rs in let all = sum_by-le-sum_by h (λ r. 0) rs le in omega arith
-once (Some s) h rs own le = let one = one_named s rs own in let all = sum_by-le-sum_by h (λ r. one_if (same_name s r)) rs le in omega arith
-
--- a flight that has left counts on its own runway, a planned one on its target's, or it is blocked early
-once_with : (f : Record) (rs : List (List ℕ)) (p : Bool) (o : Option SlotRecord) (a : AimResult) → IsDistinct same_name rs → (is_some o ≡ true → p ≡ false)
-    → sum_by (λ r. one_if (is_some (if_so (is_on r f) o)) + one_if (is_some (if_so p (if_on r (target_in a))))) rs + one_if (is_some (if_so p (blocked_in f.name a))) ≤ 1
-once_with f rs p o a own left = by p o a left
-  where
-    no_fixed : Bool → Option SlotRecord
-    no_fixed b = if_so b None
-
-    none : (b : Bool) → one_if (is_some (no_fixed b)) ≡ 0
-    none true = refl
-    none false = refl
-
-    one : {Y : Type 0} (b : Bool) (o : Option Y) → one_if (is_some (if_so b o)) ≤ one_if b
-    one true None = omega arith
-    one _ _ = omega arith
-
-    at_most : (s : Option (List ℕ)) → one_if (is_some s) ≤ 1
-    at_most None = omega arith
-    at_most (Some s) = omega arith
-
-    by : (p : Bool) (o : Option SlotRecord) (a : AimResult) → (is_some o ≡ true → p ≡ false)
-        → sum_by (λ r. one_if (is_some (if_so (is_on r f) o)) + one_if (is_some (if_so p (if_on r (target_in a))))) rs + one_if (is_some (if_so p (blocked_in f.name a))) ≤ 1
-    by true None (Ready t) left =
-        let all = once (Some t.runway) (λ r. one_if (is_some (no_fixed (is_on r f))) + one_if (is_some (if_on r (Some t)))) rs own (λ r. let n = none (is_on r f) in let m = one (same_name t.runway r) (Some t) in omega arith) in
-        omega arith
-    by true None (Early rule) left = let all = once None (λ r. one_if (is_some (no_fixed (is_on r f))) + 0) rs own (λ r. let n = none (is_on r f) in omega arith) in omega arith
-    by true (Some x) a left = absurd (false≢true (sym (left refl)))
-    by false o a left = let all = once f.runway (λ r. one_if (is_some (if_so (is_on r f) o)) + 0) rs own (λ r. let m = one (is_on r f) o in omega arith) in let few = at_most f.runway in omega arith
-
--- each flight counts once at the most
-each_once : (times : TaxiTimes) (now : ℕ) (f : Record) (rs : List (List ℕ)) → IsDistinct same_name rs → sum_by (counted times now f) rs + one_if (is_some (early_at times now f)) ≤ 1
-each_once times now f rs own = once_with f rs (is_planned f.status) (fixed_slot f) (aim_of f times now) own (fixed_left f)
-
-all_once : (times : TaxiTimes) (now : ℕ) (rs : List (List ℕ)) → IsDistinct same_name rs → (fs : List Record)
-    → sum_by (λ r. sum_by (λ f. counted times now f r) fs) rs + sum_by (λ f. one_if (is_some (early_at times now f))) fs ≤ length fs
-all_once times now rs own [] = let z = sum_by-zero rs in omega arith
-all_once times now rs own (f ∷ fs) =
-    let more = sum_by-le-sum_by (λ r. sum_by (λ g. counted times now g r) (f ∷ fs)) (λ r. counted times now f r + sum_by (λ g. counted times now g r) fs) rs (λ r. let a = sum_by-cons (λ g. counted times now g r) f fs in omega arith) in
-    let split = sum_by-add (counted times now f) (λ r. sum_by (λ g. counted times now g r) fs) rs in
-    let early = sum_by-cons (λ g. one_if (is_some (early_at times now g))) f fs in
-    let one = each_once times now f rs own in
-    let rest = all_once times now rs own fs in
-    omega arith
-
--- how many flights a runway has
-on_runway : (r : List ℕ) (times : TaxiTimes) (now : ℕ) (fs : List Record) → length (fixed_on r fs) + length (targets_on r (targets_of fs times now)) ≡ sum_by (λ f. counted times now f r) fs
-on_runway r times now fs =
-    let fixed = ap length (fixed_on-given r fs) ∙ count_given (fixed_at r) fs in
-    let targets = ap length (targets_on-given r times now fs) ∙ count_given (target_at r times now) fs in
-    let split = sum_by-add (λ f. one_if (is_some (fixed_at r f))) (λ f. one_if (is_some (target_at r times now f))) fs in
-    omega arith
-
--- the runways and the flights that are blocked early have no more flights than there are
-pub few_flights : (rs : List (List ℕ)) (times : TaxiTimes) (now : ℕ) (fs : List Record) → IsDistinct same_name rs
-    → sum_by (λ r. length (fixed_on r fs) + length (targets_on r (targets_of fs times now))) rs + length (blocked_early fs times now) ≤ length fs
-few_flights rs times now fs own =
-    let each = sum_by-le-sum_by (λ r. length (fixed_on r fs) + length (targets_on r (targets_of fs times now))) (λ r. sum_by (λ f. counted times now f r) fs) rs (λ r. let a = on_runway r times now fs in omega arith) in
-    let early = ap length (early-given times now fs) ∙ count_given (early_at times now) fs in
-    let all = all_once times now rs own fs in
-    omega arith
-
-IsDistinct-none : (e : List ℕ → List ℕ → Bool) → IsDistinct e []
-unfolding IsDistinct
-IsDistinct-none e = tt
 
 -- and so has each runway
 pub few_on : (r : List ℕ) (times : TaxiTimes) (now : ℕ) (fs : List Record) → length (fixed_on r fs) + length (targets_on r (targets_of fs times now)) ≤ length fs
 few_on r times now fs =
-    let all = few_flights (r ∷ []) times now fs (IsDistinct-cons same_name r [] tt (IsDistinct-none same_name)) in
-    let a = sum_by-cons (λ r. length (fixed_on r fs) + length (targets_on r (targets_of fs times now))) r [] in
+    let few = few_names (λ (f : Record). f.name) fs (stands times now r) (flight_names (fixed_on r fs) (targets_on r (targets_of fs times now))) (names_stand r times now fs) in
+    let parts = length-append (map (λ (x : SlotRecord). x.name) (fixed_on r fs)) (map (λ (t : TargetRecord). t.key.name) (targets_on r (targets_of fs times now))) in
+    let fixed = length-map (fixed_on r fs) (λ (x : SlotRecord). x.name) in
+    let targets = length-map (targets_on r (targets_of fs times now)) (λ (t : TargetRecord). t.key.name) in
     omega arith
+
+-- the flights that are blocked early, by name
+pub early_named : (times : TaxiTimes) (now : ℕ) (fs : List Record) → IsPermutation (map (λ f. f.name) (filter (λ f. is_some (early_at times now f)) fs)) (map (λ (b : BlockedFlight). b.name) (blocked_early fs times now))
+early_named times now fs =
+    let name : Record → List ℕ = λ f. f.name in
+    subst (IsPermutation (map name (filter (λ f. is_some (early_at times now f)) fs)))
+    (sym (ap (map (λ (b : BlockedFlight). b.name)) (early-given times now fs) ∙ names_given (λ b. b.name) name (early_at times now) (λ f b e. own f b (is_planned f.status) (aim_of f times now) e) fs))
+    (IsPermutation-refl _)
+  where
+    own : (f : Record) (b : BlockedFlight) (p : Bool) (a : AimResult) → if_so p (blocked_in f.name a) ≡ Some b → b.name ≡ f.name
+    own f b true (Early rule) e = cc
+    own f b true (Ready t) e = cc
+    own f b false a e = cc
+
+-- Each flight of a day once.
+
+module _ {Y : Type 0} (fs : List Record) (t : List ℕ → Record → Bool) (e : Record → Bool) (own : (r : List ℕ) (f : Record) → t r f ≡ true → (is_on r f ≡ true) × (e f ≡ false)) (runway : Y → List ℕ) (names : Y → List (List ℕ)) where
+  -- the flight passes the test of one of the runways, or the other test
+  abbrev pub any_of : List Y → Record → Bool
+  any_of [] f = e f
+  any_of (y ∷ ys) f = t (runway y) f || any_of ys f
+
+  none_of : (r : List ℕ) (f : Record) → t r f ≡ true → (ys : List Y) → AllByRecursion (λ n. same_name r n ≡ false) (map runway ys) → any_of ys f ≡ false
+  none_of r f h [] all = (own r f h).1
+  none_of r f h (y ∷ ys) all =
+      let on : same_name r (runway y) ≡ is_on (runway y) f = sym (ap (λ o. option_map_or (λ s. same_name s (runway y)) o false) (some_named f.runway r (own r f h).0)) in
+      let other = false_from_ne_true (t (runway y) f) (λ k. false≢true (sym all.0 ∙ (on ∙ (own (runway y) f k).0))) in
+      λ i. other i || none_of r f h ys all.1 i
+
+  abbrev pub Names : (Record → Bool) → List (List ℕ) → Type 0
+  Names p ns = IsPermutation (map (λ f. f.name) (filter p fs)) ns
+
+  -- lists of the names of those that pass a test each are together one of those that pass any
+  pub gathered : (ys : List Y) (rest : List (List ℕ)) → IsDistinct same_name (map runway ys) → Names e rest → All (λ y. Names (t (runway y)) (names y)) ys → Names (any_of ys) (flat_map names ys ++ rest)
+  gathered [] rest apart base all = base
+  gathered (y ∷ ys) rest apart base all =
+      let name : Record → List ℕ = λ f. f.name in
+      let p = t (runway y) in
+      let here = All-head (λ y. Names (t (runway y)) (names y)) y ys all in
+      let others = gathered ys rest (IsDistinct-tail same_name (runway y) (map runway ys) apart) base (All-tail (λ y. Names (t (runway y)) (names y)) y ys all) in
+      let split = IsPermutation-map name (filter (any_of (y ∷ ys)) fs) (filter p fs ++ filter (any_of ys) fs) (parted p (any_of ys) (λ f h. none_of (runway y) f h ys (IsDistinct-head same_name (runway y) (map runway ys) apart)) fs) in
+      let joined = IsPermutation-append (map name (filter p fs)) (names y) (map name (filter (any_of ys) fs)) (flat_map names ys ++ rest) here others in
+      subst (Names (any_of (y ∷ ys))) (sym (append_assoc (names y) (flat_map names ys) rest))
+      (IsPermutation-trans (map name (filter (any_of (y ∷ ys)) fs)) (map name (filter p fs) ++ map name (filter (any_of ys) fs)) (names y ++ (flat_map names ys ++ rest))
+      (subst (Names (any_of (y ∷ ys))) (map-append name (filter p fs) (filter (any_of ys) fs)) split) joined)
 
 -- Runway by runway.
 
@@ -338,39 +328,44 @@ on_it r aims = All-given (target_for r) (λ t. t.runway ≡ r) aims (λ a i. giv
     given (Some t) = by (same_name t.runway r) t refl
 
 -- each target has a slot, or is left without one
-given_or_left : (slot : TargetRecord → ℕ → SlotRecord) (p : Placing) (ts : List TargetRecord) → length (filter_map (λ t. option_map (slot t) (p t)) ts) + length (filter (λ t. is_none (p t)) ts) ≡ length ts
-given_or_left slot p [] = refl
-given_or_left slot p (t ∷ ts) = by (p t) (given_or_left slot p ts)
+given_or_left : (p : Placing) (ts : List TargetRecord) → IsPermutation (map (λ t. t.key.name) ts) (map (λ x. x.name) (filter_map (λ t. option_map (planned_slot t) (p t)) ts) ++ names_left p ts)
+given_or_left p [] = IsPermutation-refl []
+given_or_left p (t ∷ ts) = by (p t) (IsPermutation-append_right (t.key.name ∷ []) _ _ (given_or_left p ts))
   where
-    by : (o : Option ℕ) → length (filter_map (λ t. option_map (slot t) (p t)) ts) + length (filter (λ t. is_none (p t)) ts) ≡ length ts
-        → length (cons_option (option_map (slot t) o) (filter_map (λ t. option_map (slot t) (p t)) ts)) + length (cond (is_none o) (t ∷ filter (λ t. is_none (p t)) ts) (filter (λ t. is_none (p t)) ts)) ≡ length (t ∷ ts)
-    by None e = omega arith
-    by (Some m) e = omega arith
+    given : List (List ℕ)
+    given = map (λ x. x.name) (filter_map (λ t. option_map (planned_slot t) (p t)) ts)
 
--- so a sequence shows all flights
-all_shown : (r : RunwayRules) (fixed : List SlotRecord) (targets : List TargetRecord) (plan : RunwayPlanRecord) → IsSequence r fixed targets plan → length plan.slots + length plan.blocked ≡ length fixed + length targets
+    by : (o : Option ℕ) → IsPermutation (map (λ t. t.key.name) (t ∷ ts)) (t.key.name ∷ (given ++ names_left p ts))
+        → IsPermutation (map (λ t. t.key.name) (t ∷ ts)) (map (λ x. x.name) (cons_option (option_map (planned_slot t) o) (filter_map (λ t. option_map (planned_slot t) (p t)) ts)) ++ map (λ t. t.key.name) (cond (is_none o) (t ∷ filter (λ t. is_none (p t)) ts) (filter (λ t. is_none (p t)) ts)))
+    by (Some m) e = e
+    by None e = IsPermutation-trans _ (t.key.name ∷ (given ++ names_left p ts)) _ e (IsPermutation-sym _ _ (IsPermutation-middle given t.key.name (names_left p ts)))
+
+-- the names that the plan of a runway shows
+abbrev pub shown : RunwayPlanRecord → List (List ℕ)
+shown plan = map (λ x. x.name) plan.slots ++ map (λ b. b.name) plan.blocked
+
+-- they are those of all its flights
+pub all_shown : (r : RunwayRules) (fixed : List SlotRecord) (targets : List TargetRecord) (plan : RunwayPlanRecord) → IsSequence r fixed targets plan → IsPermutation (flight_names fixed targets) (shown plan)
 all_shown r fixed targets plan (p, e) =
-    let slots = length_permutation (slots_by p fixed targets) plan.slots e.slots in
-    let blocked = length_permutation (names_left p targets) (map (λ (b : BlockedFlight). b.name) plan.blocked) e.blocked in
-    let a = length-append fixed (filter_map (λ t. option_map (planned_slot t) (p t)) targets) in
-    let c = length-map (filter (λ (t : TargetRecord). is_none (p t)) targets) (λ (t : TargetRecord). t.key.name) in
-    let d = length-map plan.blocked (λ (b : BlockedFlight). b.name) in
-    let each = given_or_left planned_slot p targets in
-    omega arith
+    let slot_name : SlotRecord → List ℕ = λ x. x.name in
+    let given = filter_map (λ t. option_map (planned_slot t) (p t)) targets in
+    let whole : map slot_name fixed ++ (map slot_name given ++ names_left p targets) ≡ map slot_name (fixed ++ given) ++ names_left p targets =
+    sym (append_assoc (map slot_name fixed) (map slot_name given) (names_left p targets)) ∙ ap (λ (ns : List (List ℕ)). ns ++ names_left p targets) (sym (map-append slot_name fixed given)) in
+    IsPermutation-trans (flight_names fixed targets) (map slot_name (fixed ++ given) ++ names_left p targets) (shown plan)
+    (subst (IsPermutation (flight_names fixed targets)) whole (IsPermutation-append_right (map slot_name fixed) (map (λ (t : TargetRecord). t.key.name) targets) (map slot_name given ++ names_left p targets) (given_or_left p targets)))
+    (IsPermutation-append (map slot_name (fixed ++ given)) (map slot_name plan.slots) (names_left p targets) (map (λ (b : BlockedFlight). b.name) plan.blocked) (IsPermutation-map slot_name (fixed ++ given) plan.slots e.slots) e.blocked)
 
--- The whole day.
+-- what holds of all that goes with something
+pub all_zipped : {X Y : Type 0} (R : X → Y → Type 0) (P : Y → Type 0) → ((x : X) (y : Y) → R x y → P y) → (xs : List X) (ys : List Y) → AllZip R xs ys → All P ys
+all_zipped R P h [] [] all = All-nil P
+all_zipped R P h (x ∷ xs) (y ∷ ys) all = All-cons P y ys (h x y all.0) (all_zipped R P h xs ys all.1)
+all_zipped R P h _ _ all = absurd all
 
-pub zipped_sizes : (fixed : List ℕ → List SlotRecord) (targets : List ℕ → List TargetRecord) (runways : List RunwayRules) (plans : List RunwayPlanRecord)
-    → AllZip (λ r p. IsSequence r (fixed r.name) (targets r.name) p) runways plans
-    → sum_by (λ p. length p.slots + length p.blocked) plans ≡ sum_by (λ r. length (fixed r) + length (targets r)) (map (λ (r : RunwayRules). r.name) runways)
-zipped_sizes fixed targets [] [] all = refl
-zipped_sizes fixed targets (r ∷ rs) (p ∷ ps) all =
-    let a = sum_by-cons (λ p. length p.slots + length p.blocked) p ps in
-    let b = sum_by-cons (λ r. length (fixed r) + length (targets r)) r.name (map (λ (r : RunwayRules). r.name) rs) in
-    let size = all_shown r (fixed r.name) (targets r.name) p all.0 in
-    let rest = zipped_sizes fixed targets rs ps all.1 in
-    omega arith
-zipped_sizes fixed targets _ _ all = absurd all
+-- plans that were made runway by runway have the runways' names
+pub made_named : (fixed : List ℕ → List SlotRecord) (targets : List ℕ → List TargetRecord) (rs : List RunwayRules) (ps : List RunwayPlanRecord) → AllZip (λ r p. IsSequence r (fixed r.name) (targets r.name) p) rs ps → map (λ p. p.runway) ps ≡ map (λ r. r.name) rs
+made_named fixed targets [] [] all = refl
+made_named fixed targets (r ∷ rs) (p ∷ ps) all = λ i. all.0.1.runway i ∷ made_named fixed targets rs ps all.1 i
+made_named fixed targets _ _ all = absurd all
 
 -- each runway can be sequenced
 pub can_sequence : (times : TaxiTimes) (now : ℕ) (fs : List Record) → IsDistinct same_name (map (λ f. f.name) fs) → length fs ≤ 2000 → (r : List ℕ)

@@ -3,3 +3,4 @@ pub mod AirportCode
 pub mod Kept
 pub mod Kinds
 pub mod Tables
+pub mod Work

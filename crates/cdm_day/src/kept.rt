@@ -1,6 +1,6 @@
 //! Plans of runways that stand.
-ghost use Rattle.std.specs.Prelude.{◌≡◌, IfOk, filter, is_none, List, ℕ};
-ghost use Rattle.std.specs.List.{filter_map, find};
+ghost use Rattle.std.specs.Prelude.{◌≡◌, ◌++◌, [], IfOk, OnOk, filter, is_none, List, ℕ};
+ghost use Rattle.std.specs.List.{cons_option, filter_map, find};
 ghost use Rattle.std.specs.Option.{option_copied};
 ghost use Rattle.cdm_flight.specs.Names.{same_name};
 ghost use Rattle.cdm_day.specs.inner.Kept.{kept_plan};
@@ -23,6 +23,21 @@ fn plan_named(plans: &[RunwayPlan], name: RunwayName) -> Option<&RunwayPlan>
     ensures { option_copied result ≡ find (λ p. same_name p.runway name) plans.now }
 {
     plans.iter().find(|plan| plan.runway == name)
+}
+
+// Puts a copy of the plan behind the others, if there is one.
+fn push_copy(
+    alloc: Global,
+    copies: &mut Vec<RunwayPlan>,
+    plan: Option<&RunwayPlan>,
+) -> Result<(), AllocError>
+    ensures { OnOk result (copies.new.items ≡ copies.old.items ++ cons_option (option_copied plan.entry) []) }
+{
+    if let Some(plan) = plan {
+        let copied = plan.copy(alloc)?;
+        copies.push(copied)?;
+    }
+    Ok(())
 }
 
 impl Kept<'_> {
@@ -64,10 +79,7 @@ impl Kept<'_> {
     {
         let mut copies = Vec::new(alloc);
         for runway in runways {
-            if let Some(plan) = self.plan_on(runway.name()) {
-                let copied = plan.copy(alloc)?;
-                copies.push(copied)?;
-            }
+            push_copy(alloc, &mut copies, self.plan_on(runway.name()))?;
         }
         Ok(copies)
     }

@@ -5,18 +5,17 @@ ghost use Rattle.cdm_sequence.specs.Fixed.{fixed_slot};
 ghost use Rattle.cdm_sequence.specs.Sequence.{IsSequence};
 ghost use Rattle.cdm_sequence.specs.Slots.{runway_cmp, blocked_cmp};
 ghost use Rattle.cdm_day.specs.Planning.{HasParts, fixed_on};
-ghost use Rattle.cdm_day.specs.Day.{rules_in};
-ghost use Rattle.cdm_day.specs.DayPlan.{IsDayPlan, records_in};
-ghost use Rattle.cdm_day.specs.Sound.{IsSound};
+ghost use Rattle.cdm_day.specs.DayPlan.{IsDayPlan};
 ghost use Rattle.cdm_day.specs.inner.Aimed.{CanSequence, early_among, is_on, target_for};
 ghost use Rattle.cdm_day.specs.inner.Kept.{AreKept, IsMade, Together, kept_plan};
 
-use crate::aimed::{Aimed, blocked, planned_flights, targets_on_runway};
+use crate::aimed::{Aimed, blocked, targets_on_runway};
 use crate::jobs::{RunwayJob, TargetJob};
 use crate::kept::Kept;
 use crate::records::Records;
 use crate::touched::Touched;
-use cdm_flight::{Flight, Listed, RunwayName, push_last};
+use crate::work::work_of;
+use cdm_flight::{Flight, Listed, RunwayName};
 use cdm_phase::run_here;
 use cdm_runway::Runway;
 use cdm_sequence::{BlockedFlight, Plan, RunwayPlan, Slot, fixed_of, sequence};
@@ -135,39 +134,6 @@ pub(crate) fn plan_together<D: Records>(
     Ok(plan)
 }
 
-// All flights in the order of first appearance.
-pub(crate) fn all_flights<R: Records>(
-    alloc: Global,
-    records: &R,
-) -> Result<Vec<&Flight>, AllocError>
-    ensures sound { IsSound (R.day records.now) }
-    ensures all { IfOk result (λ v. let d = R.day records.now in map (λ f. f.now) v.items ≡ records_in d.airport d.journal) }
-{
-    let mut flights = Vec::new(alloc);
-    for place in 0..records.flights() {
-        if let Some(flight) = records.flight_at(place) {
-            push_last(&mut flights, flight)?;
-        }
-    }
-    Ok(flights)
-}
-
-// All runways by name.
-pub(crate) fn all_runways<R: Records>(
-    alloc: Global,
-    records: &R,
-) -> Result<Vec<&Runway>, AllocError>
-    ensures { IfOk result (λ v. let d = R.day records.now in map (λ r. r.now) v.items ≡ rules_in d.airport d.journal) }
-{
-    let mut runways = Vec::new(alloc);
-    for place in 0..records.runways() {
-        if let Some(runway) = records.runway_at(place) {
-            push_last(&mut runways, runway)?;
-        }
-    }
-    Ok(runways)
-}
-
 /// The plan of the day that the records tell.
 pub fn plan_of<D: Records>(alloc: Global, records: &D) -> Result<Plan, AllocError>
     ensures { IfOk result (λ plan. IsDayPlan (D.day records.now) plan) }
@@ -190,20 +156,17 @@ pub(crate) fn plan_keeping<D: Records>(
     requires { AreKept (D.day records.now) kept.now.touched.now kept.now.plans.now }
     ensures { IfOk result (λ plan. IsMade (D.day records.now) plan) }
 {
-    let flights = all_flights(alloc, records)?;
-    let planned = planned_flights(alloc, &flights)?;
+    let work = work_of(alloc, records, kept)?;
     let job = TargetJob {
         taxi: records.taxi(),
         clock: records.now(),
     };
-    let aims = run_here(alloc, &job, &planned)?;
-    let runways = all_runways(alloc, records)?;
-    let left = kept.runways_left(alloc, &runways)?;
+    let aims = run_here(alloc, &job, &work.planned)?;
     let job = RunwayJob {
-        flights: &flights,
+        flights: &work.flights,
         aims: &aims,
     };
-    let made = run_here(alloc, &job, &left)?;
-    let plan = plan_together(alloc, records, kept, &runways, &aims, made)?;
+    let made = run_here(alloc, &job, &work.left)?;
+    let plan = plan_together(alloc, records, kept, &work.runways, &aims, made)?;
     Ok(plan)
 }

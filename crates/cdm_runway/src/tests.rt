@@ -1,47 +1,52 @@
+ghost use Rattle.std.specs.Prelude.{◌≡◌};
+
 use crate::{Blocked, Runway, RunwayFault, RunwayLoad};
 use cdm_flight::{Cap, CellLength, RunwayName};
 use cdm_time::{Bound, Minute, Window};
 use std::alloc::Global;
 use std::test::Fail;
 
-fn minute_of(number: u16) -> Result<Minute, Fail> {
-    Ok(Minute::new(number).ok_or("no minute")?)
-}
-
-fn bound_of(number: u16) -> Result<Bound, Fail> {
-    Ok(Bound::new(number).ok_or("no bound")?)
-}
-
-fn window_of(from: u16, to: u16) -> Result<Window, Fail> {
-    Ok(Window::new(minute_of(from)?, bound_of(to)?).ok_or("no window")?)
-}
-
-fn cap_of(number: u16) -> Result<Cap, Fail> {
-    Ok(Cap::new(number).ok_or("no capacity")?)
+// A window and a capacity.
+fn window_of(from: u16, to: u16, cap: u16) -> Option<(Minute, Bound, Cap)> {
+    Some((Minute::new(from)?, Bound::new(to)?, Cap::new(cap)?))
 }
 
 // Runway 27L, with 2 flights in each cell of 10 minutes.
 fn two_in_ten(alloc: Global) -> Result<Runway, Fail> {
     let name = RunwayName::new(b"27L").ok_or("no name")?;
     let cell = CellLength::new(10).ok_or("no cell length")?;
-    Ok(Runway::new(alloc, name, cell, cap_of(2)?)?)
+    let cap = Cap::new(2).ok_or("no capacity")?;
+    Ok(Runway::new(alloc, name, cell, cap)?)
+}
+
+// The earliest minute of a window.
+fn earliest_in(
+    load: &RunwayLoad,
+    runway: &Runway,
+    from: u16,
+    to: u16,
+) -> Option<Result<u16, Blocked>>
+    requires { load.now.cell ≡ runway.now.cell }
+{
+    let window = Window::new(Minute::new(from)?, Bound::new(to)?)?;
+    Some(load.earliest(runway, window).map(Minute::get))
 }
 
 #[test]
 fn a_full_cell_and_a_closed_one(rt: HostRuntime) -> Result<(), Fail> {
+    let (first, end, cap) = window_of(370, 380, 2).ok_or("no window")?;
+    let (off_grid, ready) = Minute::new(365).zip(Minute::new(375)).ok_or("no minute")?;
     let mut runway = two_in_ten(rt.alloc())?;
     let mut load = RunwayLoad::empty(&runway);
-    load.take(&runway, minute_of(375)?);
-    assert!(rt; load.earliest(&runway, window_of(375, 380)?) == Ok(minute_of(375)?));
-    load.take(&runway, minute_of(375)?);
-    assert!(rt; load.earliest(&runway, window_of(375, 390)?) == Ok(minute_of(380)?));
-    assert!(rt; load.earliest(&runway, window_of(375, 380)?) == Err(Blocked::Rate));
-    runway.close(minute_of(370)?, bound_of(380)?)?;
-    assert!(rt; load.earliest(&runway, window_of(375, 380)?) == Err(Blocked::Closure));
-    assert!(rt; load.earliest(&runway, window_of(375, 390)?) == Ok(minute_of(380)?));
-    assert!(rt;
-        runway.rate(minute_of(365)?, bound_of(380)?, cap_of(2)?) == Err(RunwayFault::Order)
-    );
+    load.take(&runway, ready);
+    assert!(rt; earliest_in(&load, &runway, 375, 380) == Some(Ok(375)));
+    load.take(&runway, ready);
+    assert!(rt; earliest_in(&load, &runway, 375, 390) == Some(Ok(380)));
+    assert!(rt; earliest_in(&load, &runway, 375, 380) == Some(Err(Blocked::Rate)));
+    runway.close(first, end)?;
+    assert!(rt; earliest_in(&load, &runway, 375, 380) == Some(Err(Blocked::Closure)));
+    assert!(rt; earliest_in(&load, &runway, 375, 390) == Some(Ok(380)));
+    assert!(rt; runway.rate(off_grid, end, cap) == Err(RunwayFault::Order));
     Ok(())
 }
 
@@ -87,7 +92,7 @@ fn refused_memory_leaves_the_runway(rt: HostRuntime) -> Result<(), Fail> {
         ("OPEN", 360, 380, 0, (2, false)),
         ("RATE", 0, 2880, 0, (0, true)),
     ] {
-        let (first, end, cap) = (minute_of(from)?, bound_of(to)?, cap_of(number)?);
+        let (first, end, cap) = window_of(from, to, number).ok_or("no window")?;
         let before = runway.copy(alloc).or_else(|_| runway.copy(alloc))?;
         assert!(rt; before.name() == runway.name() && before.cell() == runway.cell());
         assert!(rt; agree(&runway, &before), "copied before {word} {from} {to}");

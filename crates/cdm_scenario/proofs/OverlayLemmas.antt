@@ -1,6 +1,6 @@
 -- What is laid over a day, after one more update.
 use Rattle.std.proofs.Common.{◌≡◌, ℕ, zero, suc, ◌-◌, ◌<◌, ◌≤◌, Bool, true, false, not, ◌||◌, List, [], ◌∷◌, ◌++◌, length, Option, None, Some, refl, sym, ap, ◌∙◌, subst, true≢false, arith}
-use Rattle.std.specs.Prelude.{unwrap_or, is_some, slice_get}
+use Rattle.std.specs.Prelude.{unwrap_or, is_some, slice_get, if◌then◌else◌}
 use Rattle.std.specs.Option.{option_and_then, option_map, option_map_or, option_or}
 use Rattle.std.specs.List.{Contains}
 use Rattle.std.specs.Map.{lookup}
@@ -22,14 +22,13 @@ use Rattle.cdm_flight.specs.Taxi.{TaxiRows}
 use Rattle.cdm_flight.specs.Journal.{AirportRows, is_known, sets_cap, sets_closed, sets_taxi, sets_now, flight_of, now_of, runway_row}
 use Rattle.cdm_flight.specs.Accepted.{is_unknown, refusal_of, stand_with_taxi}
 use Rattle.cdm_flight.proofs.JournalLemmas.{last_value-push, flight_of-untouched, flight_of-fresh, same_name-refl}
-use Rattle.cdm_runway.specs.Rules.{RunwayRules}
+use Rattle.cdm_runway.specs.Rules.{RunwayRules, with_closed, with_rate}
 use Rattle.cdm_day.specs.Day.{DayRecord, flights_in, rules_of, rules_in, rows_by_name}
-use Rattle.cdm_day.specs.Runways.{has_window, with_change, window_runway}
+use Rattle.cdm_day.specs.Runways.{has_window, with_change}
 use Rattle.cdm_day.specs.Sound.{IsSound, TellTaxi}
 use Rattle.cdm_day.specs.inner.Tables.{Flights}
 use Rattle.cdm_day.specs.inner.Kinds.{is_of_runway, is_taxi, window_end}
 use Rattle.cdm_day.specs.TaxiRows.{row_fits, with_row}
-use Rattle.cdm_day.proofs.AfterLemmas.{with_change-other}
 use Rattle.cdm_day.proofs.DayPlanLemmas.{record_name}
 use Rattle.cdm_day.proofs.FlightLemmas.{flights-old, fresh-none, touches-none}
 use Rattle.cdm_day.proofs.JournalFacts.{clock-of_flight, cap-of_flight, closed-of_flight, taxi-of_flight, stand-of_flight, flights_in-push, now_of-same}
@@ -39,7 +38,14 @@ use Rattle.cdm_day.proofs.SoundLemmas.{known-among, known_update, sound_after}
 use Rattle.cdm_day.proofs.TableLemmas.{row_there, taxi_after_other, taxi_after_taxi}
 use Rattle.cdm_day.proofs.WindowLemmas.{rules-after, windows_by_name, window-of_no_flight, window-no_clock, window-no_taxi, window-no_stand}
 use Rattle.cdm_day.proofs.WordLemmas.{flt-accepted, known_from, known_is}
-use Rattle.cdm_scenario.specs.inner.Changed.{Runways, TaxiOver, TellChanged}
+use Rattle.cdm_scenario.specs.inner.Changed.{Runways, TaxiOver, TellChanged, window_runway}
+
+-- an update of one runway leaves another
+with_change-other : (u : Update) (r : List ℕ) (rules : RunwayRules) → window_runway u ≡ Some r → same_name rules.name r ≡ false → with_change u rules ≡ rules
+with_change-other (Rate s from to cap) r rules h apart = let same : s ≡ r = cc in ap (λ b. if b then with_rate rules from to cap else rules) (ap (same_name rules.name) same ∙ apart)
+with_change-other (Close s from to) r rules h apart = let same : s ≡ r = cc in ap (λ b. if b then with_closed rules from to true else rules) (ap (same_name rules.name) same ∙ apart)
+with_change-other (Reopen s from to) r rules h apart = let same : s ≡ r = cc in ap (λ b. if b then with_closed rules from to false else rules) (ap (same_name rules.name) same ∙ apart)
+with_change-other _ r rules h apart = refl
 
 name_of_rules : (g : AirportRows) (a : List Update) (row : RunwayRow) → (rules_of g a row).name ≡ row.name
 unfolding rules_of

@@ -5,9 +5,9 @@ ghost use Rattle.cdm_flight.specs.Step.{flight_of_update, is_fresh};
 ghost use Rattle.cdm_flight.specs.Accepted.{refusal_of};
 ghost use Rattle.cdm_day.specs.Day.{with_update};
 ghost use Rattle.cdm_day.specs.Replies.{reply_of};
-ghost use Rattle.cdm_day.specs.Runways.{window_runway};
 ghost use Rattle.cdm_day.specs.inner.Kinds.{is_taxi, window_end};
 ghost use Rattle.cdm_scenario.specs.Overlay.{after_judged};
+ghost use Rattle.cdm_scenario.specs.inner.Changed.{window_runway};
 
 mod records;
 

@@ -99,7 +99,7 @@ sequence_agree p q r fixed ts plan agree e =
 
 -- One sequence.
 
-tie_from : {K : Type 0} {R : K → K → Ordering} → IsTotalOrder R → (a b : K) → is_lt (R a b) ≡ false → is_lt (R b a) ≡ false → R a b ≡ Equal
+pub tie_from : {K : Type 0} {R : K → K → Ordering} → IsTotalOrder R → (a b : K) → is_lt (R a b) ≡ false → is_lt (R b a) ≡ false → R a b ≡ Equal
 tie_from {K} {R} o a b h k = go (R a b) refl where
   go : (v : Ordering) → R a b ≡ v → v ≡ Equal
   go Less e = absurd (false≢true (sym h ∙ ap is_lt e))
@@ -112,7 +112,7 @@ slot_total = then_total (on_total (λ (s : SlotRecord). s.ttot) nat_cmp_total) (
 slots_weak : IsStrictWeakOrder (λ (a b : SlotRecord). is_lt (slot_cmp a b))
 slots_weak = ranks_by slot_total (λ (s : SlotRecord). s)
 
-names_weak : IsStrictWeakOrder (λ (m n : List ℕ). is_lt (name_cmp m n))
+pub names_weak : IsStrictWeakOrder (λ (m n : List ℕ). is_lt (name_cmp m n))
 names_weak = ranks_by nat_list_cmp_total (λ (n : List ℕ). n)
 
 name_of : TargetRecord → List ℕ

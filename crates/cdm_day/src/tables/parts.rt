@@ -1,16 +1,15 @@
 //! Parts that tables may share. A change makes a part anew, unless it has one owner.
-ghost use Rattle.std.specs.Prelude.{◌≡◌, ◌++◌, ◌∷◌, [], true, All, Some, map, OnOk, IfOk};
+ghost use Rattle.std.specs.Prelude.{◌≡◌, ◌++◌, ◌∷◌, [], true, All, map, OnOk, IfOk};
 ghost use Rattle.std.specs.Arc.{arc_value};
-ghost use Rattle.std.specs.List.{IsDistinct};
 ghost use Rattle.indexmap.specs.IndexMap.{insert_entry};
 ghost use Rattle.cdm_flight.specs.Names.{same_name};
-ghost use Rattle.cdm_day.specs.Runways.{has_window, window_runway, with_change};
+ghost use Rattle.cdm_day.specs.Runways.{has_window, with_change};
 ghost use Rattle.cdm_day.specs.inner.Tables.{Sets};
 ghost use Rattle.cdm_day.specs.TaxiRows.{row_fits, with_row};
 
-use super::runways::{change_named, copy_runways};
+use super::runways::{change_each, copy_runways};
 use crate::changes::set_taxi;
-use cdm_flight::{Flight, FlightName, RunwayName, Update, push_last};
+use cdm_flight::{Flight, FlightName, Update, push_last};
 use cdm_runway::Runway;
 use cdm_taxi::TaxiTable;
 use indexmap::IndexMap;
@@ -78,23 +77,20 @@ fn copy_flights(
     Ok(copy)
 }
 
-/// Changes the runway of this name, which the update is a RATE, CLOSE or OPEN of.
-pub fn change_runway(
+/// Changes the runways as a RATE, CLOSE or OPEN does.
+pub fn change_runways(
     alloc: Global,
     runways: &mut Arc<Vec<Runway>>,
-    name: RunwayName,
     update: &Update,
 ) -> Result<(), AllocError>
-    requires of_runway { window_runway update.now ≡ Some name }
-    requires window { All (λ rules. has_window update.now rules ≡ true) (arc_value runways.old).items }
-    requires names { IsDistinct same_name (map (λ rules. rules.name) (arc_value runways.old).items) }
+    requires { All (λ rules. has_window update.now rules ≡ true) (arc_value runways.old).items }
     ensures { OnOk result ((arc_value runways.new).items ≡ map (with_change update.now) (arc_value runways.old).items) }
 {
     if let Some(own) = Arc::get_mut(runways) {
-        return change_named(own, name, update);
+        return change_each(own, update);
     }
     let mut own = copy_runways(alloc, runways.as_slice())?;
-    change_named(&mut own, name, update)?;
+    change_each(&mut own, update)?;
     *runways = Arc::new(alloc, own)?;
     Ok(())
 }

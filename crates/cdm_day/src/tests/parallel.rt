@@ -83,6 +83,20 @@ fn other_flights(alloc: Global, count: u8) -> Result<Vec<(Role, Update)>, AllocE
     (0..count).filter_map(other_flight).collect(alloc)
 }
 
+/// The caller alone plans a batch of these updates.
+fn take_all(alloc: Global, day: &mut DayState, updates: &[Short]) -> Result<(), Fail> {
+    let batch = batch_of(alloc, updates)?;
+    day.apply(alloc, &batch)?;
+    Ok(())
+}
+
+/// The day with a flight on each of its two runways.
+fn planned_day(alloc: Global) -> Result<DayState, Fail> {
+    let mut day = two_runways(alloc)?;
+    take_all(alloc, &mut day, &ON_TWO_RUNWAYS)?;
+    Ok(day)
+}
+
 /// So many workers plan the batch behind the gate. All its updates are accepted.
 fn accept_all<R: Abort + Threads + Sync>(
     rt: &R,
@@ -169,8 +183,7 @@ fn touched_runways_are_the_pieces(rt: HostRuntime) -> Result<(), Fail> {
     ];
     for workers in [1, 2, 7, 64] {
         for (updates, counts) in table {
-            let mut day = two_runways(rt.alloc())?;
-            day.apply(rt.alloc(), &batch_of(rt.alloc(), &ON_TWO_RUNWAYS)?)?;
+            let mut day = planned_day(rt.alloc())?;
             let batch = batch_of(rt.alloc(), updates)?;
             let gate = Meeting::of(PhaseName::Desks);
             accept_all(&rt, rt.alloc(), &mut day, &batch, workers, &gate)?;
@@ -193,23 +206,17 @@ fn plans_of<'a>(day: &'a DayState, other: &'a DayState) -> (&'a Plan, &'a Plan)
 /// A copy shares its parts with the day, and stays as it was while 100 batches change it.
 #[test]
 fn copy_stays(rt: HostRuntime) -> Result<(), Fail> {
-    let mut day = two_runways(rt.alloc())?;
-    day.apply(rt.alloc(), &batch_of(rt.alloc(), &ON_TWO_RUNWAYS)?)?;
+    let mut day = planned_day(rt.alloc())?;
     let copied = day.copy(rt.alloc())?;
     let (plan, same) = plans_of(&day, &copied);
     assert_eq!(rt; plan.blocked.as_slice(), same.blocked.as_slice());
     for number in 0..100 {
+        let runway = if number % 2 == 0 { "27L" } else { "09" };
         let updates = [
             ("TOBT", "AB1", "27L", 400 + number, None),
-            (
-                "RWY",
-                "AB2",
-                if number % 2 == 0 { "27L" } else { "09" },
-                0,
-                None,
-            ),
+            ("RWY", "AB2", runway, 0, None),
         ];
-        day.apply(rt.alloc(), &batch_of(rt.alloc(), &updates)?)?;
+        take_all(rt.alloc(), &mut day, &updates)?;
     }
     assert_eq!(rt; day.journal().len(), 206);
     assert_eq!(rt; copied.journal().len(), 6);

@@ -7,6 +7,7 @@ use Rattle.std.specs.declared.hash.BuildHasherDefault.{BuildHasherDefault}
 use Rattle.indexmap.specs.IndexMap.{IndexMap, get}
 use Rattle.cdm_flight.specs.declared.airport.RunwayRow.{RunwayRow}
 use Rattle.cdm_flight.specs.declared.update.Update.{Update}
+use Rattle.cdm_flight.specs.declared.update.Update.TheVariants.{Rate, Close, Reopen}
 use Rattle.cdm_flight.specs.Names.{same_name}
 use Rattle.cdm_flight.specs.Taxi.{TaxiRows}
 use Rattle.cdm_flight.specs.Journal.{AirportRows, now_of, flight_of}
@@ -14,6 +15,13 @@ use Rattle.cdm_runway.specs.Rules.{RunwayRules}
 use Rattle.cdm_day.specs.Day.{flights_in, rules_of}
 use Rattle.cdm_day.specs.Sound.{IsSound, TellTaxi}
 use Rattle.cdm_day.specs.inner.Tables.{Flights}
+
+-- the runway that the update is a RATE, CLOSE or OPEN of
+abbrev pub window_runway : Update → Option (List ℕ)
+window_runway (Rate r from to cap) = Some r
+window_runway (Close r from to) = Some r
+window_runway (Reopen r from to) = Some r
+window_runway _ = None
 
 -- runways by name
 abbrev pub Runways : Type 0
