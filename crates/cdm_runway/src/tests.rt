@@ -1,8 +1,6 @@
-ghost use Rattle.std.specs.Prelude.{◌≡◌};
-
-use crate::{Blocked, Runway, RunwayFault, RunwayLoad};
+use crate::{Runway, RunwayFault};
 use cdm_flight::{Cap, CellLength, RunwayName};
-use cdm_time::{Bound, Minute, Window};
+use cdm_time::{Bound, Minute};
 use std::alloc::Global;
 use std::test::Fail;
 
@@ -17,37 +15,6 @@ fn two_in_ten(alloc: Global) -> Result<Runway, Fail> {
     let cell = CellLength::new(10).ok_or("no cell length")?;
     let cap = Cap::new(2).ok_or("no capacity")?;
     Ok(Runway::new(alloc, name, cell, cap)?)
-}
-
-// The earliest minute of a window.
-fn earliest_in(
-    load: &RunwayLoad,
-    runway: &Runway,
-    from: u16,
-    to: u16,
-) -> Option<Result<u16, Blocked>>
-    requires { load.now.cell ≡ runway.now.cell }
-{
-    let window = Window::new(Minute::new(from)?, Bound::new(to)?)?;
-    Some(load.earliest(runway, window).map(Minute::get))
-}
-
-#[test]
-fn a_full_cell_and_a_closed_one(rt: HostRuntime) -> Result<(), Fail> {
-    let (first, end, cap) = window_of(370, 380, 2).ok_or("no window")?;
-    let (off_grid, ready) = Minute::new(365).zip(Minute::new(375)).ok_or("no minute")?;
-    let mut runway = two_in_ten(rt.alloc())?;
-    let mut load = RunwayLoad::empty(&runway);
-    load.take(&runway, ready);
-    assert!(rt; earliest_in(&load, &runway, 375, 380) == Some(Ok(375)));
-    load.take(&runway, ready);
-    assert!(rt; earliest_in(&load, &runway, 375, 390) == Some(Ok(380)));
-    assert!(rt; earliest_in(&load, &runway, 375, 380) == Some(Err(Blocked::Rate)));
-    runway.close(first, end)?;
-    assert!(rt; earliest_in(&load, &runway, 375, 380) == Some(Err(Blocked::Closure)));
-    assert!(rt; earliest_in(&load, &runway, 375, 390) == Some(Ok(380)));
-    assert!(rt; runway.rate(off_grid, end, cap) == Err(RunwayFault::Order));
-    Ok(())
 }
 
 // The capacity of a minute's cell, and whether the minute is closed.

@@ -1,6 +1,5 @@
 use crate::{TaxiFault, TaxiTable};
-use cdm_flight::{Ice, IceMinutes, Place, RunwayName, StandName, TaxiMinutes};
-use std::alloc::Global;
+use cdm_flight::{Place, RunwayName, StandName, TaxiMinutes};
 use std::process::Abort;
 use std::test::Fail;
 
@@ -14,37 +13,6 @@ fn stand(text: &[u8]) -> Result<StandName, Fail> {
 
 fn taxi(number: u16) -> Result<TaxiMinutes, Fail> {
     Ok(TaxiMinutes::new(number).ok_or("no taxi time")?)
-}
-
-// From every stand to 27L 15 minutes, but from stand A1 10.
-fn two_rows(alloc: Global) -> Result<TaxiTable, Fail> {
-    let mut table = TaxiTable::empty(alloc);
-    table.set(Place::Default, runway(b"27L")?, taxi(15)?)?;
-    table.set(Place::Stand(stand(b"A1")?), runway(b"27L")?, taxi(10)?)?;
-    Ok(table)
-}
-
-// The taxi-out time from a stand, or from none, where the names are names.
-fn exot(table: &TaxiTable, from: &str, to: &str, ice: Ice) -> Option<u16> {
-    let stand = StandName::new(from.as_bytes());
-    table.exot(stand, RunwayName::new(to.as_bytes())?, ice)
-}
-
-#[test]
-fn taxi_out_times(rt: HostRuntime) -> Result<(), Fail> {
-    let table = two_rows(rt.alloc())?;
-    let minutes = IceMinutes::new(12).ok_or("no de-icing time")?;
-    for (from, to, ice, wanted) in [
-        ("A1", "27L", Ice::NoIce, Some(10)),
-        ("A1", "27L", Ice::Remote(minutes), Some(22)),
-        ("A1", "27L", Ice::AtStand(minutes), Some(10)),
-        ("A2", "27L", Ice::NoIce, Some(15)),
-        ("", "27L", Ice::NoIce, Some(15)),
-        ("A1", "09", Ice::NoIce, None),
-    ] {
-        assert_eq!(rt; exot(&table, from, to, ice), wanted, "{from} {to}");
-    }
-    Ok(())
 }
 
 // The last digit of a number.

@@ -19,6 +19,3 @@ pub use digits::number_of;
 pub use minute::Minute;
 pub use stamp::Stamp;
 pub use window::{TOLERANCE_AFTER, TOLERANCE_BEFORE, Window, ctot_window};
-
-#[cfg(test)]
-mod tests;
