@@ -100,21 +100,6 @@ fn plans_with_one_worker_or_as_many_as_asked_for(rt: HostRuntime) -> Result<(), 
 }
 
 #[test]
-fn two_desks_have_a_feed_each(rt: HostRuntime) -> Result<(), Fail> {
-    let words = ["live", "a.csv", "f.csv", "g.csv"];
-    let Ok(command) = command_of(rt.alloc(), &words) else {
-        return Err("no command".into());
-    };
-    let expected = Command::Live {
-        airport: "a.csv",
-        feed1: "f.csv",
-        feed2: "g.csv",
-    };
-    assert_eq!(rt; command, expected);
-    Ok(())
-}
-
-#[test]
 fn wrong_words_are_told(rt: HostRuntime) -> Result<(), Fail> {
     let cases: [(&[&str], &str); 20] = [
         (&["fly"], "unrecognized subcommand 'fly'"),
@@ -330,22 +315,5 @@ fn faults_of_words_have_texts_and_statuses(rt: HostRuntime) -> Result<(), Fail> 
             status
         );
     }
-    Ok(())
-}
-
-#[test]
-fn a_device_that_is_full_stops_the_program(rt: HostRuntime) -> Result<(), Fail> {
-    let workers = Workers::new(2).ok_or("workers")?;
-    let day = b"DAY,2025-03-10\n".as_slice();
-    let none = &[][..];
-    let fault = plan(&rt, day, none, none, workers, &mut Device::new(Full)).err();
-    assert_eq!(rt; fault, Some(Fault::Run(RunError::Write)));
-    let fault = live(&rt, day, none, none, &mut Device::new(Full)).err();
-    assert_eq!(rt; fault, Some(Fault::Live(LiveError::Write)));
-    let version = command_of(rt.alloc(), &["--version"])
-        .ok()
-        .ok_or("no version")?;
-    let fault = run_command(&rt, &version, &mut Device::new(Full)).err();
-    assert_eq!(rt; fault, Some(Fault::Run(RunError::Write)));
     Ok(())
 }
