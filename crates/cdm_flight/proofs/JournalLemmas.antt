@@ -1,162 +1,121 @@
 -- What one more update changes in what a journal says.
-use Rattle.std.proofs.Common.{◌≡◌, ℕ, ◌+◌, Bool, true, false, ◌||◌, ◌&&◌, List, [], ◌∷◌, ◌++◌, Option, None, Some, refl, sym, ap, ◌∙◌, subst, rules}
-use Rattle.std.specs.Prelude.{unwrap_or}
+use Rattle.std.proofs.Common.{◌≡◌, ℕ, Bool, true, false, cond, not, ◌&&◌, ◌||◌, List, [], ◌∷◌, ◌++◌, Option, None, Some, refl, sym, ap, ◌∙◌, rules}
+use Rattle.std.specs.Prelude.{is_some, unwrap_or, if◌then◌else◌}
 use Rattle.std.specs.Option.{option_map, option_or}
-use Rattle.std.specs.List.{list_any}
+use Rattle.std.specs.List.{list_all, list_any, take_while}
 use Rattle.std.proofs.lemmas.Grind.{common_steps}
-use Rattle.cdm_flight.proofs.Lists.{option_or-none, option_or-assoc, list_any-push}
+use Rattle.std.proofs.lemmas.List.{append-nil}
+use Rattle.std.proofs.lemmas.List.Elements.{filter-append}
+use Rattle.std.proofs.lemmas.List.Sums.{take_while-cons}
+use Rattle.cdm_flight.proofs.Lists.{option_or-none, option_or-assoc, list_any-push, take_while-all, take_while-append}
 use Rattle.cdm_flight.specs.declared.flight.Status.{Status}
 use Rattle.cdm_flight.specs.declared.flight.Status.TheVariants.{Planned, OffBlock, Airborne, Cancelled}
 use Rattle.cdm_flight.specs.declared.ice.Ice.TheVariants.{NoIce}
+use Rattle.cdm_flight.specs.declared.reach.Reach.{Reach}
+use Rattle.cdm_flight.specs.declared.reach.Reach.TheVariants as reach
 use Rattle.cdm_flight.specs.declared.update.Update.{Update}
-use Rattle.cdm_flight.specs.declared.update.Update.TheVariants.{Flt, Tobt, Stand, Rwy, Ctot, Ice as IceOf, Prio, Off, Air, Cnl, Rate, Close, Reopen, Taxi, Clock}
+use Rattle.cdm_flight.specs.declared.update.Update.TheVariants.{Flt, Off, Air, Cnl, Clock}
 use Rattle.cdm_flight.specs.Names.{same_name}
+use Rattle.cdm_flight.specs.Reach.{reach_of, same_reach, touching}
 use Rattle.cdm_flight.specs.Record.{Record, fresh}
-use Rattle.cdm_flight.specs.Step.{flight_of_update, is_fresh, stepped, step_refusal}
-use Rattle.cdm_flight.specs.Journal.{AirportRows, last_value, touches, sets_tobt, sets_stand, sets_runway, sets_ctot, sets_ice, sets_priority, sets_aobt, sets_atot, makes_known, cancels, stand_of, runway_of, aobt_of, atot_of, is_known, is_cancelled, exot_now, before_off, exot_of, status_from, status_of, record_with, flight_of}
+use Rattle.cdm_flight.specs.Step.{airborne_at, is_fresh, off_block_from, stepped, step_refusal}
+use Rattle.cdm_flight.specs.Journal.{AirportRows, last_value, tobt_given, stand_given, runway_given, ctot_given, ice_given, priority_given}
+use Rattle.cdm_flight.specs.Journal.{aobt_given, atot_given, is_cancel, clock_given, of_flight, aobt_of, atot_of, is_known, is_cancelled, exot_now}
+use Rattle.cdm_flight.specs.Journal.{before_off, status_from, status_of, record_with, exot_of, flight_of, values_of}
 
--- one more update sets the value, or leaves it
-pub last_value-push : {U X : Type 0} (sets : U → Option X) (a : List U) (u : U) → last_value sets (a ++ u ∷ []) ≡ option_or (sets u) (last_value sets a)
-last_value-push sets [] u = sym (option_or-none (sets u))
-last_value-push sets (v ∷ a) u = ap (λ o. option_or o (sets v)) (last_value-push sets a u) ∙ option_or-assoc (sets u) (last_value sets a) (sets v)
+-- one more update gives the value, or leaves it
+pub last_value-push : {U X : Type 0} (given : U → Option X) (a : List U) (u : U) → last_value given (a ++ u ∷ []) ≡ option_or (given u) (last_value given a)
+last_value-push given [] u = sym (option_or-none (given u))
+last_value-push given (v ∷ a) u =
+    ap (λ o. option_or o (given v)) (last_value-push given a u) ∙ option_or-assoc (given u) (last_value given a) (given v)
 
 -- a name is the same as itself
 pub same_name-refl : (f : List ℕ) → same_name f f ≡ true
 same_name-refl f = search (rules, common_steps)
 
--- nothing is set by an update of another flight
+-- What an update touches.
+
+-- an update is the last of those that touch the same
+pub touching-push : (what : Reach) (a : List Update) (u : Update) → same_reach (reach_of u) what ≡ true → touching what (a ++ u ∷ []) ≡ touching what a ++ u ∷ []
+touching-push what a u h = filter-append (λ v. same_reach (reach_of v) what) a (u ∷ []) ∙ ap (λ b. touching what a ++ cond b (u ∷ []) []) h
+
+-- and leaves what touches something else
+pub untouched : (what : Reach) (a : List Update) (u : Update) → same_reach (reach_of u) what ≡ false → touching what (a ++ u ∷ []) ≡ touching what a
+untouched what a u h =
+    filter-append (λ v. same_reach (reach_of v) what) a (u ∷ [])
+    ∙ (ap (λ b. touching what a ++ cond b (u ∷ []) []) h ∙ append-nil (touching what a))
+
+-- the day's values stay
+pub values_of-untouched : (a : List Update) (u : Update) → same_reach (reach_of u) reach.Day ≡ false → values_of (a ++ u ∷ []) ≡ values_of a
+unfolding values_of
+values_of-untouched a u h = rw (untouched reach.Day a u h) refl
+
+-- a CLOCK sets the clock
+pub values_of-clock : (a : List Update) (m : ℕ) → values_of (a ++ Clock m ∷ []) ≡ record (values_of a) { clock = m }
+unfolding values_of
+values_of-clock a m = rw (touching-push reach.Day a (Clock m) refl, last_value-push clock_given (touching reach.Day a) (Clock m)) refl
+
 module _ (f : List ℕ) where
-  pub tobt-untouched : (u : Update) → touches f u ≡ false → sets_tobt f u ≡ None
-  tobt-untouched (Tobt g t) h = rw h refl
-  tobt-untouched _ h = refl
+  -- The journal up to the flight's OFF.
 
-  pub stand-untouched : (u : Update) → touches f u ≡ false → sets_stand f u ≡ None
-  stand-untouched (Stand g s) h = rw h refl
-  stand-untouched _ h = refl
+  abbrev is_off : Update → Bool
+  is_off u = same_reach (reach_of u) (reach.Flight f) && is_some (aobt_given u)
 
-  pub runway-untouched : (u : Update) → touches f u ≡ false → sets_runway f u ≡ None
-  runway-untouched (Rwy g s) h = rw h refl
-  runway-untouched _ h = refl
+  no_off : (a : List Update) → list_all (λ u. not (is_off u)) a ≡ not (is_some (aobt_of a f))
+  no_off [] = refl
+  no_off (v ∷ a) = by (same_reach (reach_of v) (reach.Flight f)) (aobt_given v) refl (no_off a)
+    where
+      both : (o p : Option ℕ) → (not (is_some o) && not (is_some p)) ≡ not (is_some (option_or p o))
+      both None None = refl
+      both None (Some y) = refl
+      both (Some x) None = refl
+      both (Some x) (Some y) = refl
 
-  pub ctot-untouched : (u : Update) → touches f u ≡ false → sets_ctot f u ≡ None
-  ctot-untouched (Ctot g s) h = rw h refl
-  ctot-untouched _ h = refl
+      by : (b : Bool) (o : Option ℕ) → aobt_given v ≡ o → list_all (λ u. not (is_off u)) a ≡ not (is_some (aobt_of a f))
+          → (not (b && is_some o) && list_all (λ u. not (is_off u)) a) ≡ not (is_some (last_value aobt_given (cond b (v ∷ of_flight f a) (of_flight f a))))
+      by false o e later = later
+      by true o e later =
+          ap (λ c. not (is_some o) && c) later
+          ∙ (both o (aobt_of a f) ∙ ap (λ q. not (is_some (option_or (aobt_of a f) q))) (sym e))
 
-  pub ice-untouched : (u : Update) → touches f u ≡ false → sets_ice f u ≡ None
-  ice-untouched (IceOf g s) h = rw h refl
-  ice-untouched _ h = refl
-
-  pub priority-untouched : (u : Update) → touches f u ≡ false → sets_priority f u ≡ None
-  priority-untouched (Flt g s) h = rw h refl
-  priority-untouched (Prio g s) h = rw h refl
-  priority-untouched _ h = refl
-
-  pub aobt-untouched : (u : Update) → touches f u ≡ false → sets_aobt f u ≡ None
-  aobt-untouched (Off g s) h = rw h refl
-  aobt-untouched _ h = refl
-
-  pub atot-untouched : (u : Update) → touches f u ≡ false → sets_atot f u ≡ None
-  atot-untouched (Air g s) h = rw h refl
-  atot-untouched _ h = refl
-
-  pub known-untouched : (u : Update) → touches f u ≡ false → makes_known f u ≡ false
-  known-untouched (Flt g p) h = h
-  known-untouched _ h = refl
-
-  pub cancels-untouched : (u : Update) → touches f u ≡ false → cancels f u ≡ false
-  cancels-untouched (Cnl g) h = h
-  cancels-untouched _ h = refl
-
-  later_none : (o p : Option ℕ) (r : Option ℕ) → p ≡ None → option_or o p ≡ r → o ≡ r
-  later_none o p r e h = sym (option_or-none o) ∙ (sym (ap (λ q. option_or o q) e) ∙ h)
-
-  or_none : (b c : Bool) → (b || c) ≡ false → (b ≡ false) × (c ≡ false)
-  or_none true c h = cc
-  or_none false c h = (refl, h)
-
-  not_none : (o p : Option ℕ) (x : ℕ) → p ≡ Some x → option_or o p ≡ None → ⊥
-  not_none None p x e k = cc
-  not_none (Some y) p x e k = cc
-
-  -- the list up to the flight's OFF stays once it has left, and is the whole list until then
+  -- it stays once the flight has left
   pub before_off-left : (a : List Update) (u : Update) (m : ℕ) → aobt_of a f ≡ Some m → before_off f (a ++ u ∷ []) ≡ before_off f a
-  before_off-left [] u m h = cc
-  before_off-left (v ∷ a) u m h = by (sets_aobt f v) refl (λ later. before_off-left a u m later)
-    where
-      by : (o : Option ℕ) → sets_aobt f v ≡ o → (aobt_of a f ≡ Some m → before_off f (a ++ u ∷ []) ≡ before_off f a) → before_off f ((v ∷ a) ++ u ∷ []) ≡ before_off f (v ∷ a)
-      by None e rest = let later = later_none (aobt_of a f) (sets_aobt f v) (Some m) e h in rw e (ap (λ l. v ∷ l) (rest later))
-      by (Some x) e rest = rw e refl
+  before_off-left a u m h =
+      take_while-append (λ v. not (is_off v)) a (u ∷ [])
+      ∙ ap (λ b. if b then a ++ take_while (λ v. not (is_off v)) (u ∷ []) else before_off f a) (no_off a ∙ ap (λ o. not (is_some o)) h)
 
+  -- and is all of it until then
   pub before_off-all : (a : List Update) → aobt_of a f ≡ None → before_off f a ≡ a
-  before_off-all [] h = refl
-  before_off-all (v ∷ a) h = by (sets_aobt f v) refl (λ later. before_off-all a later)
-    where
-      by : (o : Option ℕ) → sets_aobt f v ≡ o → (aobt_of a f ≡ None → before_off f a ≡ a) → before_off f (v ∷ a) ≡ v ∷ a
-      by None e rest = let later = later_none (aobt_of a f) (sets_aobt f v) None e h in rw e (ap (λ l. v ∷ l) (rest later))
-      by (Some x) e rest = absurd (not_none (aobt_of a f) (sets_aobt f v) x e h)
+  before_off-all a h = take_while-all (λ v. not (is_off v)) a (no_off a ∙ ap (λ o. not (is_some o)) h)
 
-  pub before_off-leaves : (a : List Update) (u : Update) (m : ℕ) → aobt_of a f ≡ None → sets_aobt f u ≡ Some m → before_off f (a ++ u ∷ []) ≡ a
-  before_off-leaves [] u m h e = rw e refl
-  before_off-leaves (v ∷ a) u m h e = by (sets_aobt f v) refl (λ later. before_off-leaves a u m later e)
-    where
-      by : (o : Option ℕ) → sets_aobt f v ≡ o → (aobt_of a f ≡ None → before_off f (a ++ u ∷ []) ≡ a) → before_off f ((v ∷ a) ++ u ∷ []) ≡ v ∷ a
-      by None k rest = let later = later_none (aobt_of a f) (sets_aobt f v) None k h in rw k (ap (λ l. v ∷ l) (rest later))
-      by (Some x) k rest = absurd (not_none (aobt_of a f) (sets_aobt f v) x k h)
+  pub before_off-leaves : (a : List Update) (u : Update) → aobt_of a f ≡ None → is_off u ≡ true → before_off f (a ++ u ∷ []) ≡ a
+  before_off-leaves a u h e =
+      take_while-append (λ v. not (is_off v)) a (u ∷ [])
+      ∙ (ap (λ b. if b then a ++ take_while (λ v. not (is_off v)) (u ∷ []) else before_off f a) (no_off a ∙ ap (λ o. not (is_some o)) h)
+      ∙ (ap (λ l. a ++ l) (take_while-cons (λ v. not (is_off v)) u [] ∙ ap (λ b. cond (not b) (u ∷ []) []) e) ∙ append-nil a))
 
-  -- an update that sets neither OFF, AIR, CNL nor FLT of the flight leaves its status
-  pub status_of-same : (g : AirportRows) (a : List Update) (u : Update) → sets_aobt f u ≡ None → sets_atot f u ≡ None → cancels f u ≡ false → makes_known f u ≡ false → status_of g (a ++ u ∷ []) f ≡ status_of g a f
+  -- The status.
+
+  -- it stays where CNL, AIR, OFF and FLT of the flight are as before
+  status_of-same : (g : AirportRows) (a : List Update) (u : Update) → is_cancelled (a ++ u ∷ []) f ≡ is_cancelled a f → atot_of (a ++ u ∷ []) f ≡ atot_of a f
+      → aobt_of (a ++ u ∷ []) f ≡ aobt_of a f → is_known (a ++ u ∷ []) f ≡ is_known a f → status_of g (a ++ u ∷ []) f ≡ status_of g a f
   unfolding exot_of
-  status_of-same g a u aobt atot cancelled known =
-      rw (list_any-push (cancels f) a u, list_any-push (makes_known f) a u, last_value-push (sets_atot f) a u, last_value-push (sets_aobt f) a u, aobt, atot, cancelled, known)
-      (by (is_cancelled a f) (atot_of a f) (aobt_of a f) refl)
+  status_of-same g a u cancelled atot aobt known = rw (cancelled, atot, aobt, known) (by (is_cancelled a f) (atot_of a f) (aobt_of a f) refl (is_known a f))
     where
-      by_known : (k : Bool) → status_from false None None (exot_of g (a ++ u ∷ []) f) k ≡ status_from false None None (exot_of g a f) k
-      by_known true = refl
-      by_known false = refl
+      by : (c : Bool) (t b : Option ℕ) → aobt_of a f ≡ b → (k : Bool) → status_from c t b (exot_of g (a ++ u ∷ []) f) k ≡ status_from c t b (exot_of g a f) k
+      by true t b e k = refl
+      by false (Some t) b e k = refl
+      by false None None e true = refl
+      by false None None e false = refl
+      by false None (Some m) e k = ap (λ l. Some (OffBlock m (unwrap_or (exot_now g l f) 0))) (before_off-left a u m e)
 
-      by : (c : Bool) (t b : Option ℕ) → aobt_of a f ≡ b → status_from c t b (exot_of g (a ++ u ∷ []) f) (is_known a f) ≡ status_from c t b (exot_of g a f) (is_known a f)
-      by true t b e = refl
-      by false (Some t) b e = refl
-      by false None None e = by_known (is_known a f)
-      by false None (Some m) e = ap (λ l. Some (OffBlock m (unwrap_or (exot_now g l f) 0))) (before_off-left a u m e)
-
-  -- the fields after one more update
-  pub record_with-push : (a : List Update) (u : Update) (s : Status) → record_with (a ++ u ∷ []) f s ≡ record {
-    name = f;
-    priority = unwrap_or (option_or (sets_priority f u) (last_value (sets_priority f) a)) 0;
-    tobt = option_or (sets_tobt f u) (last_value (sets_tobt f) a);
-    stand = option_or (sets_stand f u) (stand_of a f);
-    runway = option_or (sets_runway f u) (runway_of a f);
-    ctot = unwrap_or (option_or (sets_ctot f u) (last_value (sets_ctot f) a)) None;
-    ice = unwrap_or (option_or (sets_ice f u) (last_value (sets_ice f) a)) NoIce;
-    status = s;
-  }
-  record_with-push a u s = rw (last_value-push (sets_priority f) a u, last_value-push (sets_tobt f) a u, last_value-push (sets_stand f) a u, last_value-push (sets_runway f) a u, last_value-push (sets_ctot f) a u, last_value-push (sets_ice f) a u) refl
-
-  -- what the list says of a flight stays at an update of another one
-  pub flight_of-untouched : (g : AirportRows) (a : List Update) (u : Update) → touches f u ≡ false → flight_of g (a ++ u ∷ []) f ≡ flight_of g a f
+  -- what the journal says of a flight stays at an update of something else
+  pub flight_of-untouched : (g : AirportRows) (a : List Update) (u : Update) → same_reach (reach_of u) (reach.Flight f) ≡ false → flight_of g (a ++ u ∷ []) f ≡ flight_of g a f
   unfolding flight_of
   flight_of-untouched g a u h =
-      rw (status_of-same g a u (aobt-untouched u h) (atot-untouched u h) (cancels-untouched u h) (known-untouched u h))
-      (by (status_of g a f))
-    where
-      same : (s : Status) → record_with (a ++ u ∷ []) f s ≡ record_with a f s
-      same s = record_with-push a u s ∙ rw (priority-untouched u h, tobt-untouched u h, stand-untouched u h, runway-untouched u h, ctot-untouched u h, ice-untouched u h) refl
-
-      by : (s : Option Status) → option_map (record_with (a ++ u ∷ []) f) s ≡ option_map (record_with a f) s
-      by None = refl
-      by (Some s) = ap Some (same s)
-
-  -- nothing touches the flight, so nothing of it is set
-  pub last_value-silent : {X : Type 0} (sets : Update → Option X) → ((u : Update) → touches f u ≡ false → sets u ≡ None) → (a : List Update) → list_any (touches f) a ≡ false → last_value sets a ≡ None
-  last_value-silent sets untouched [] h = refl
-  last_value-silent sets untouched (u ∷ a) h = let parts = or_none (touches f u) (list_any (touches f) a) h in
-      rw (last_value-silent sets untouched a parts.1, untouched u parts.0) refl
-
-  pub list_any-silent : (holds : Update → Bool) → ((u : Update) → touches f u ≡ false → holds u ≡ false) → (a : List Update) → list_any (touches f) a ≡ false → list_any holds a ≡ false
-  list_any-silent holds untouched [] h = refl
-  list_any-silent holds untouched (u ∷ a) h = let parts = or_none (touches f u) (list_any (touches f) a) h in
-      rw (list_any-silent holds untouched a parts.1, untouched u parts.0) refl
+      let same = untouched (reach.Flight f) a u h in
+      let status = status_of-same g a u (ap (list_any is_cancel) same) (ap (last_value atot_given) same) (ap (last_value aobt_given) same) (ap (list_any is_fresh) same) in
+      λ i. option_map (record_with f (same i)) (status i)
 
 -- What a status says of the list.
 
@@ -196,37 +155,18 @@ absent_says false None None e true h = cc
 absent_says false None None e false h = refl
 
 -- the record that the list says, by its status
-pub status_of-record : (f : List ℕ) (g : AirportRows) (a : List Update) (r : Record) → flight_of g a f ≡ Some r → (status_of g a f ≡ Some r.status) × (record_with a f r.status ≡ r)
+pub status_of-record : (f : List ℕ) (g : AirportRows) (a : List Update) (r : Record) → flight_of g a f ≡ Some r → (status_of g a f ≡ Some r.status) × (record_with f (of_flight f a) r.status ≡ r)
 unfolding flight_of
 status_of-record f g a r h = by (status_of g a f) refl h
   where
-    by : (s : Option Status) → status_of g a f ≡ s → option_map (record_with a f) s ≡ Some r → (status_of g a f ≡ Some r.status) × (record_with a f r.status ≡ r)
+    by : (s : Option Status) → status_of g a f ≡ s → option_map (record_with f (of_flight f a)) s ≡ Some r → (status_of g a f ≡ Some r.status) × (record_with f (of_flight f a) r.status ≡ r)
     by None e k = cc
     by (Some s) e k =
-        let same : record_with a f s ≡ r = cc in
+        let same : record_with f (of_flight f a) s ≡ r = cc in
         let status : s ≡ r.status = ap (λ x. x.status) same in
-        (e ∙ ap Some status, ap (record_with a f) (sym status) ∙ same)
+        (e ∙ ap Some status, ap (record_with f (of_flight f a)) (sym status) ∙ same)
 
--- The flight's own updates.
-
--- an update that leaves the status
-keeps_status : (f : List ℕ) (g : AirportRows) (a : List Update) (u : Update) (r : Record) (change : Record → Record) → sets_aobt f u ≡ None → sets_atot f u ≡ None → cancels f u ≡ false → makes_known f u ≡ false
-    → ((s : Status) → record_with (a ++ u ∷ []) f s ≡ change (record_with a f s)) → flight_of g a f ≡ Some r → flight_of g (a ++ u ∷ []) f ≡ Some (change r)
-unfolding flight_of
-keeps_status f g a u r change e1 e2 e3 e4 changes h = rw (status_of-same f g a u e1 e2 e3 e4) (by (status_of g a f) h)
-  where
-    by : (s : Option Status) → option_map (record_with a f) s ≡ Some r → option_map (record_with (a ++ u ∷ []) f) s ≡ Some (change r)
-    by None k = cc
-    by (Some s) k = let same : record_with a f s ≡ r = cc in ap Some (changes s ∙ ap change same)
-
--- an update that sets the status
-sets_status : (f : List ℕ) (g : AirportRows) (a : List Update) (u : Update) (r : Record) (s : Status) → status_of g (a ++ u ∷ []) f ≡ Some s → ((t : Status) → record_with (a ++ u ∷ []) f t ≡ record (record_with a f r.status) { status = t }) → flight_of g a f ≡ Some r
-    → flight_of g (a ++ u ∷ []) f ≡ Some (record r { status = s })
-unfolding flight_of
-sets_status f g a u r s e changes h = rw e (ap Some (changes s ∙ ap (λ (x : Record). record x { status = s }) (status_of-record f g a r h).1))
-
-abbrev pub Steps : AirportRows → List Update → Update → List ℕ → Type 0
-Steps g a u f = (r : Record) → flight_of g a f ≡ Some r → step_refusal r.status r.runway u (exot_of g a f) ≡ None → flight_of g (a ++ u ∷ []) f ≡ Some (stepped r u (exot_of g a f))
+-- An update of the flight itself.
 
 -- a planned flight leaves with a taxi-out time
 ready_off : (s : Status) (runway : Option (List ℕ)) (f : List ℕ) (m : ℕ) (e : Option ℕ) → step_refusal s runway (Off f m) e ≡ None → (s ≡ Planned) × ((x : ℕ) × (e ≡ Some x))
@@ -244,82 +184,75 @@ left_air Planned runway f t e h = cc
 left_air (Airborne m x) runway f t e h = cc
 left_air Cancelled runway f t e h = cc
 
-steps_off : (g : AirportRows) (a : List Update) (f : List ℕ) (m : ℕ) → Steps g a (Off f m) f
-unfolding exot_of
-steps_off g a f m r h ok =
-    let ready = ready_off r.status r.runway f m (exot_of g a f) ok in
-    let there = ready.1 in
-    let says = planned_says (is_cancelled a f) (atot_of a f) (aobt_of a f) (exot_of g a f) (is_known a f) ((status_of-record f g a r h).0 ∙ ap Some ready.0) in
-    let sets : sets_aobt f (Off f m) ≡ Some m = rw (same_name-refl f) refl in
-    let all = before_off-all f a says.2 in
-    let cut = before_off-leaves f a (Off f m) m says.2 sets in
-    let exot : exot_now g a f ≡ Some there.0 = ap (λ l. exot_now g l f) (sym all) ∙ there.1 in
-    let status : status_of g (a ++ Off f m ∷ []) f ≡ Some (OffBlock m there.0) =
-    rw (list_any-push (cancels f) a (Off f m), last_value-push (sets_atot f) a (Off f m), last_value-push (sets_aobt f) a (Off f m), same_name-refl f, cut, says.0, says.1, exot) refl in
-    rw there.1 (sets_status f g a (Off f m) r (OffBlock m there.0) status (λ t. record_with-push f a (Off f m) t) h)
+-- the fields take the update's value
+fields : (f : List ℕ) (own : List Update) (u : Update) (s t : Status) (exot : Option ℕ) → is_fresh u ≡ false
+    → record_with f (own ++ u ∷ []) t ≡ record (stepped (record_with f own s) u exot) { status = t }
+fields f own (Flt g p) s t exot old = cc
+fields f own u s t exot old = λ i. record {
+  name = f;
+  priority = unwrap_or (last_value-push priority_given own u i) 0;
+  tobt = last_value-push tobt_given own u i;
+  stand = last_value-push stand_given own u i;
+  runway = last_value-push runway_given own u i;
+  ctot = unwrap_or (last_value-push ctot_given own u i) None;
+  ice = unwrap_or (last_value-push ice_given own u i) NoIce;
+  status = t;
+}
 
-steps_air : (g : AirportRows) (a : List Update) (f : List ℕ) (t : ℕ) → Steps g a (Air f t) f
-steps_air g a f t r h ok =
-    let left = left_air r.status r.runway f t (exot_of g a f) ok in
-    let says = off_block_says (is_cancelled a f) (atot_of a f) (aobt_of a f) (exot_of g a f) (is_known a f) left.0 left.1 ((status_of-record f g a r h).0 ∙ ap Some left.2) in
-    let status : status_of g (a ++ Air f t ∷ []) f ≡ Some (Airborne left.0 t) =
-    rw (list_any-push (cancels f) a (Air f t), last_value-push (sets_atot f) a (Air f t), last_value-push (sets_aobt f) a (Air f t), same_name-refl f, says.0, says.2) refl in
-    rw left.2 (sets_status f g a (Air f t) r (Airborne left.0 t) status (λ x. record_with-push f a (Air f t) x) h)
+module _ (g : AirportRows) (a : List Update) (f : List ℕ) where
+  -- an update that touches the flight is the last of its own
+  one_more : (u : Update) → reach_of u ≡ reach.Flight f → of_flight f (a ++ u ∷ []) ≡ of_flight f a ++ u ∷ []
+  one_more u e = touching-push (reach.Flight f) a u (ap (λ what. same_reach what (reach.Flight f)) e ∙ same_name-refl f)
 
-steps_cnl : (g : AirportRows) (a : List Update) (f : List ℕ) → Steps g a (Cnl f) f
-steps_cnl g a f r h ok =
-    let status : status_of g (a ++ Cnl f ∷ []) f ≡ Some Cancelled =
-    rw (list_any-push (cancels f) a (Cnl f), same_name-refl f) refl in
-    sets_status f g a (Cnl f) r Cancelled status (λ t. record_with-push f a (Cnl f) t) h
+  cancelled : (u : Update) → reach_of u ≡ reach.Flight f → is_cancelled (a ++ u ∷ []) f ≡ (is_cancel u || is_cancelled a f)
+  cancelled u e = ap (list_any is_cancel) (one_more u e) ∙ list_any-push is_cancel (of_flight f a) u
 
--- after an update that no word refuses, the list says the record with the update's value
-abbrev pub StepsIf : AirportRows → List Update → Update → Option (List ℕ) → Type 0
-StepsIf g a u None = Unit {0}
-StepsIf g a u (Some f) = Steps g a u f
+  known : (u : Update) → reach_of u ≡ reach.Flight f → is_known (a ++ u ∷ []) f ≡ (is_fresh u || is_known a f)
+  known u e = ap (list_any is_fresh) (one_more u e) ∙ list_any-push is_fresh (of_flight f a) u
 
-steps : (g : AirportRows) (a : List Update) (u : Update) → is_fresh u ≡ false → StepsIf g a u (flight_of_update u)
-steps g a (Flt f p) k = cc
-steps g a (Tobt f t) k = λ r h ok. keeps_status f g a (Tobt f t) r (λ r. record r { tobt = Some t }) refl refl refl refl (λ s. record_with-push f a (Tobt f t) s ∙ rw (same_name-refl f) refl) h
-steps g a (Stand f t) k = λ r h ok. keeps_status f g a (Stand f t) r (λ r. record r { stand = Some t }) refl refl refl refl (λ s. record_with-push f a (Stand f t) s ∙ rw (same_name-refl f) refl) h
-steps g a (Rwy f t) k = λ r h ok. keeps_status f g a (Rwy f t) r (λ r. record r { runway = Some t }) refl refl refl refl (λ s. record_with-push f a (Rwy f t) s ∙ rw (same_name-refl f) refl) h
-steps g a (Ctot f t) k = λ r h ok. keeps_status f g a (Ctot f t) r (λ r. record r { ctot = t }) refl refl refl refl (λ s. record_with-push f a (Ctot f t) s ∙ rw (same_name-refl f) refl) h
-steps g a (IceOf f t) k = λ r h ok. keeps_status f g a (IceOf f t) r (λ r. record r { ice = t }) refl refl refl refl (λ s. record_with-push f a (IceOf f t) s ∙ rw (same_name-refl f) refl) h
-steps g a (Prio f t) k = λ r h ok. keeps_status f g a (Prio f t) r (λ r. record r { priority = t }) refl refl refl refl (λ s. record_with-push f a (Prio f t) s ∙ rw (same_name-refl f) refl) h
-steps g a (Off f m) k = steps_off g a f m
-steps g a (Air f t) k = steps_air g a f t
-steps g a (Cnl f) k = steps_cnl g a f
-steps g a (Rate s from to cap) k = tt
-steps g a (Close s from to) k = tt
-steps g a (Reopen s from to) k = tt
-steps g a (Taxi p s m) k = tt
-steps g a (Clock m) k = tt
+  atot : (u : Update) → reach_of u ≡ reach.Flight f → atot_of (a ++ u ∷ []) f ≡ option_or (atot_given u) (atot_of a f)
+  atot u e = ap (last_value atot_given) (one_more u e) ∙ last_value-push atot_given (of_flight f a) u
 
-pub flight_of-step : (g : AirportRows) (a : List Update) (u : Update) (f : List ℕ) → flight_of_update u ≡ Some f → is_fresh u ≡ false → Steps g a u f
-flight_of-step g a u f e k = subst (StepsIf g a u) e (steps g a u k)
+  aobt : (u : Update) → reach_of u ≡ reach.Flight f → aobt_of (a ++ u ∷ []) f ≡ option_or (aobt_given u) (aobt_of a f)
+  aobt u e = ap (last_value aobt_given) (one_more u e) ∙ last_value-push aobt_given (of_flight f a) u
+
+  -- the status that an update leaves, other than FLT, which no word refuses
+  status_after : (u : Update) (r : Record) → reach_of u ≡ reach.Flight f → status_of g a f ≡ Some r.status → is_fresh u ≡ false
+      → step_refusal r.status r.runway u (exot_of g a f) ≡ None → status_of g (a ++ u ∷ []) f ≡ Some (stepped r u (exot_of g a f)).status
+  unfolding exot_of
+  status_after (Off q m) r e told old ok =
+      let u = Off q m in
+      let ready = ready_off r.status r.runway q m (exot_of g a f) ok in
+      let says = planned_says (is_cancelled a f) (atot_of a f) (aobt_of a f) (exot_of g a f) (is_known a f) (told ∙ ap Some ready.0) in
+      let off : is_off f u ≡ true = ap (λ what. same_reach what (reach.Flight f) && true) e ∙ ap (λ b. b && true) (same_name-refl f) in
+      let cut : before_off f (a ++ u ∷ []) ≡ before_off f a = before_off-leaves f a u says.2 off ∙ sym (before_off-all f a says.2) in
+      let exot : exot_of g (a ++ u ∷ []) f ≡ Some ready.1.0 = ap (λ l. exot_now g l f) cut ∙ ready.1.1 in
+      (λ i. status_from ((cancelled u e ∙ says.0) i) ((atot u e ∙ says.1) i) (aobt u e i) (exot i) (is_known (a ++ u ∷ []) f))
+      ∙ ap (λ x. Some (off_block_from m x)) (sym ready.1.1)
+  status_after (Air q t) r e told old ok =
+      let u = Air q t in
+      let left = left_air r.status r.runway q t (exot_of g a f) ok in
+      let says = off_block_says (is_cancelled a f) (atot_of a f) (aobt_of a f) (exot_of g a f) (is_known a f) left.0 left.1 (told ∙ ap Some left.2) in
+      (λ i. status_from ((cancelled u e ∙ says.0) i) (atot u e i) ((aobt u e ∙ says.2) i) (exot_of g (a ++ u ∷ []) f) (is_known (a ++ u ∷ []) f))
+      ∙ ap (λ s. Some (airborne_at s t)) (sym left.2)
+  status_after (Cnl q) r e told old ok =
+      ap (λ c. status_from c (atot_of (a ++ Cnl q ∷ []) f) (aobt_of (a ++ Cnl q ∷ []) f) (exot_of g (a ++ Cnl q ∷ []) f) (is_known (a ++ Cnl q ∷ []) f)) (cancelled (Cnl q) e)
+  status_after (Flt q p) r e told old ok = cc
+  status_after u r e told old ok = status_of-same f g a u (cancelled u e) (atot u e) (aobt u e) (known u e) ∙ told
+
+  -- after an update, other than FLT, which no word refuses, the journal says the record with its value
+  pub flight_of-step : (u : Update) (r : Record) → reach_of u ≡ reach.Flight f → flight_of g a f ≡ Some r → is_fresh u ≡ false
+      → step_refusal r.status r.runway u (exot_of g a f) ≡ None → flight_of g (a ++ u ∷ []) f ≡ Some (stepped r u (exot_of g a f))
+  unfolding flight_of
+  flight_of-step u r e there old ok =
+      let told = status_of-record f g a r there in
+      let after = stepped r u (exot_of g a f) in
+      ap (option_map (record_with f (of_flight f (a ++ u ∷ [])))) (status_after u r e told.0 old ok)
+      ∙ ap Some (ap (λ own. record_with f own after.status) (one_more u e)
+      ∙ (fields f (of_flight f a) u r.status after.status (exot_of g a f) old
+      ∙ ap (λ (x : Record). record (stepped x u (exot_of g a f)) { status = after.status }) told.1))
 
 -- a flight that no update touched is a fresh record after its FLT
-pub flight_of-fresh : (g : AirportRows) (a : List Update) (f : List ℕ) (p : ℕ) → list_any (touches f) a ≡ false → flight_of g (a ++ Flt f p ∷ []) f ≡ Some (fresh f p)
+pub flight_of-fresh : (g : AirportRows) (a : List Update) (f : List ℕ) (p : ℕ) → of_flight f a ≡ [] → flight_of g (a ++ Flt f p ∷ []) f ≡ Some (fresh f p)
 unfolding flight_of
-flight_of-fresh g a f p h =
-    let u = Flt f p in
-    let status : status_of g (a ++ Flt f p ∷ []) f ≡ Some Planned =
-    rw (
-      list_any-push (cancels f) a (Flt f p),
-      list_any-push (makes_known f) a (Flt f p),
-      last_value-push (sets_atot f) a (Flt f p),
-      last_value-push (sets_aobt f) a (Flt f p),
-      same_name-refl f,
-      list_any-silent f (cancels f) (cancels-untouched f) a h,
-      last_value-silent f (sets_atot f) (atot-untouched f) a h,
-      last_value-silent f (sets_aobt f) (aobt-untouched f) a h,
-    ) refl in
-    let fields : record_with (a ++ Flt f p ∷ []) f Planned ≡ fresh f p =
-    record_with-push f a (Flt f p) Planned ∙ rw (
-      same_name-refl f,
-      last_value-silent f (sets_tobt f) (tobt-untouched f) a h,
-      last_value-silent f (sets_stand f) (stand-untouched f) a h,
-      last_value-silent f (sets_runway f) (runway-untouched f) a h,
-      last_value-silent f (sets_ctot f) (ctot-untouched f) a h,
-      last_value-silent f (sets_ice f) (ice-untouched f) a h,
-    ) refl in
-    rw status (ap Some fields)
+flight_of-fresh g a f p none = rw (one_more g a f (Flt f p) refl, none) refl

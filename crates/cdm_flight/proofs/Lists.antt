@@ -1,8 +1,9 @@
 -- Lists: their elements, their sums, and their permutations.
-use Rattle.std.proofs.Common.{◌≡◌, ℕ, zero, suc, ◌+◌, ◌<◌, ◌≤◌, Bool, true, false, cond, List, [], ◌∷◌, ◌++◌, Option, Some, None, IfSome, sym, ◌∙◌, ap, subst, refl, arith, inl, inr, ◌⊎◌, ◌||◌, sum_by, filter, map, set, get_or, length, append_assoc}
+use Rattle.std.proofs.Common.{◌≡◌, ℕ, zero, suc, ◌+◌, ◌<◌, ◌≤◌, Bool, true, false, cond, List, [], ◌∷◌, ◌++◌, Option, Some, None, IfSome, sym, ◌∙◌}
+use Rattle.std.proofs.Common.{ap, subst, refl, arith, inl, inr, ◌⊎◌, ◌||◌, ◌&&◌, sum_by, filter, map, set, get_or, length, append_assoc}
 use Rattle.std.specs.Cmp.{IsStrictWeakOrder}
 use Rattle.std.specs.Prelude.{is_some, if◌then◌else◌}
-use Rattle.std.specs.List.{filter_map, find, list_any, All, Contains, cons_option, swap, AllByRecursion, IsDistinct}
+use Rattle.std.specs.List.{filter_map, find, list_all, list_any, take_while, All, Contains, cons_option, swap, AllByRecursion, IsDistinct}
 use Rattle.std.specs.List.Sorted.{IsPermutation, IsSortedBy}
 use Rattle.std.specs.Option.{option_or, option_to_list}
 use Rattle.std.proofs.Math.Bool.{or-false, or_comm}
@@ -11,7 +12,7 @@ use Rattle.std.proofs.lemmas.List.Edits.{swap_is}
 use Rattle.std.proofs.lemmas.List.Elements.{Contains-append_right, All-from_recursion, All-contains}
 use Rattle.std.proofs.lemmas.List.Folds.{fold-map, list_any-append}
 use Rattle.std.proofs.lemmas.List.Sorted.{IsPermutation-refl, IsPermutation-trans, IsPermutation-append_left, IsPermutation-append_right, IsPermutation-append_comm, IsPermutation-keeps, sorted_far}
-use Rattle.std.proofs.lemmas.List.Sums.{sum_by-cons, sum_by-le-sum_by}
+use Rattle.std.proofs.lemmas.List.Sums.{sum_by-cons, sum_by-le-sum_by, take_while-cons}
 use Rattle.std.proofs.lemmas.Map.Keys.{IsDistinct-cons, IsDistinct-head, IsDistinct-tail}
 
 -- Elements.
@@ -65,7 +66,8 @@ contains_from_given {X} {Y} h (x ∷ xs) y i = go (h x) refl i (contains_from_gi
   later : (x : X) × Contains xs x × (h x ≡ Some y) → (z : X) × Contains (x ∷ xs) z × (h z ≡ Some y)
   later w = (w.0, contains_tail x xs w.0 w.1, w.2)
 
-  go : (o : Option Y) → h x ≡ o → Contains (cons_option o (filter_map h xs)) y → (Contains (filter_map h xs) y → (x : X) × Contains xs x × (h x ≡ Some y)) → (z : X) × Contains (x ∷ xs) z × (h z ≡ Some y)
+  go : (o : Option Y) → h x ≡ o → Contains (cons_option o (filter_map h xs)) y → (Contains (filter_map h xs) y → (x : X) × Contains xs x × (h x ≡ Some y))
+      → (z : X) × Contains (x ∷ xs) z × (h z ≡ Some y)
   go None e k rest = later (rest k)
   go (Some z) e k rest = elim (contains_cases z (filter_map h xs) y k) [
     | inl same ↦ (x, contains_head x xs, e ∙ ap Some same)
@@ -93,7 +95,8 @@ if_so b o = cond b o None
 pub filter_map-filter : {X Y : Type 0} (h : X → Option Y) (p : X → Bool) (xs : List X) → filter_map h (filter p xs) ≡ filter_map (λ x. if_so (p x) (h x)) xs
 filter_map-filter h p [] = refl
 filter_map-filter {X} {Y} h p (x ∷ xs) = go (p x) (filter_map-filter h p xs) where
-  go : (b : Bool) → filter_map h (filter p xs) ≡ filter_map (λ x. if_so (p x) (h x)) xs → filter_map h (cond b (x ∷ filter p xs) (filter p xs)) ≡ cons_option (if_so b (h x)) (filter_map (λ x. if_so (p x) (h x)) xs)
+  go : (b : Bool) → filter_map h (filter p xs) ≡ filter_map (λ x. if_so (p x) (h x)) xs
+      → filter_map h (cond b (x ∷ filter p xs) (filter p xs)) ≡ cons_option (if_so b (h x)) (filter_map (λ x. if_so (p x) (h x)) xs)
   go true e = ap (λ (ys : List Y). cons_option (h x) ys) e
   go false e = e
 
@@ -199,7 +202,8 @@ exchange {X} us vs ws =
     (IsPermutation-append_left ws (us ++ vs) (vs ++ us) (IsPermutation-append_comm us vs)))
 
 -- an element that changes places with another
-taken_out : {X Y : Type 0} (h : X → Option Y) (x : X) (xs : List X) (j : ℕ) (d : X) → j < length xs → IsPermutation (option_to_list (h x) ++ filter_map h xs) (option_to_list (h (get_or xs j d)) ++ filter_map h (set xs j x))
+taken_out : {X Y : Type 0} (h : X → Option Y) (x : X) (xs : List X) (j : ℕ) (d : X) → j < length xs
+    → IsPermutation (option_to_list (h x) ++ filter_map h xs) (option_to_list (h (get_or xs j d)) ++ filter_map h (set xs j x))
 taken_out h x [] j d l = absurd (omega arith)
 taken_out {X} {Y} h x (y ∷ ys) zero d l =
     let a = option_to_list (h x) in
@@ -219,7 +223,8 @@ taken_out {X} {Y} h x (y ∷ ys) (suc j) d l =
     (IsPermutation-trans (b ++ (a ++ us)) (b ++ (g ++ vs)) (g ++ (b ++ vs))
     (IsPermutation-append_right b (a ++ us) (g ++ vs) (taken_out h x ys j d (omega arith))) (exchange b g vs))))
 
-swapped : {X Y : Type 0} (h : X → Option Y) (xs : List X) (i j : ℕ) (d : X) → i < length xs → j < length xs → IsPermutation (filter_map h xs) (filter_map h (set (set xs i (get_or xs j d)) j (get_or xs i d)))
+swapped : {X Y : Type 0} (h : X → Option Y) (xs : List X) (i j : ℕ) (d : X) → i < length xs → j < length xs
+    → IsPermutation (filter_map h xs) (filter_map h (set (set xs i (get_or xs j d)) j (get_or xs i d)))
 swapped h [] i j d k l = absurd (omega arith)
 swapped h (x ∷ xs) zero zero d k l = IsPermutation-refl (filter_map h (x ∷ xs))
 swapped {X} {Y} h (x ∷ xs) zero (suc j) d k l =
@@ -267,7 +272,8 @@ sorted_rest {X} lt x xs up = λ k d a b.
     subst (λ (n : ℕ). lt (get_or (x ∷ xs) n d) (get_or xs k d) ≡ false) next (up (suc k) d (omega arith) (omega arith))
 
 -- the first of a sorted list is no greater than any of it
-none_below : {X K : Type 0} (lt : K → K → Bool) → IsStrictWeakOrder lt → (key : X → K) (x : X) (xs : List X) → IsSortedBy (λ a b. lt (key a) (key b)) (x ∷ xs) → (y : X) → Contains (x ∷ xs) y → lt (key y) (key x) ≡ false
+none_below : {X K : Type 0} (lt : K → K → Bool) → IsStrictWeakOrder lt → (key : X → K) (x : X) (xs : List X) → IsSortedBy (λ a b. lt (key a) (key b)) (x ∷ xs) → (y : X)
+    → Contains (x ∷ xs) y → lt (key y) (key x) ≡ false
 none_below {X} lt weak key x xs up y (k, l, e) =
     let o : IsStrictWeakOrder (λ (a b : X). lt (key a) (key b)) = record { one_way = λ a b. weak.one_way (key a) (key b); chain = λ a b c. weak.chain (key a) (key b) (key c) } in
     subst (λ (z : X). lt (key z) (key x) ≡ false) e (sorted_far (λ a b. lt (key a) (key b)) o (x ∷ xs) up 0 k y (omega arith) l)
@@ -366,7 +372,8 @@ distinct_filter {X} {K} e key test (x ∷ xs) h = go (test x) (distinct_filter e
   go false r = r
 
 -- two elements of the same key are one
-pub one_of_key : {X K : Type 0} (e : K → K → Bool) (flips : (x y : K) → e x y ≡ e y x) (key : X → K) (xs : List X) (x y : X) → IsDistinct e (map key xs) → Contains xs x → Contains xs y → e (key x) (key y) ≡ true → x ≡ y
+pub one_of_key : {X K : Type 0} (e : K → K → Bool) (flips : (x y : K) → e x y ≡ e y x) (key : X → K) (xs : List X) (x y : X) → IsDistinct e (map key xs) → Contains xs x
+    → Contains xs y → e (key x) (key y) ≡ true → x ≡ y
 one_of_key e flips key [] x y own i j h = absurd (omega (arith, i.1))
 one_of_key {X} {K} e flips key (z ∷ zs) x y own i j h = go (contains_cases z zs x i) (contains_cases z zs y j) (one_of_key e flips key zs x y (IsDistinct-tail e (key z) (map key zs) own)) where
   apart : (w : X) → Contains zs w → e (key z) (key w) ≡ false
@@ -397,3 +404,26 @@ contains_all {X} t (y ∷ ys) x i = go (t y) i (contains_all t ys x) where
   go : (b : Bool) → Contains (cond b (y ∷ filter t ys) (filter t ys)) x → (Contains (filter t ys) x → Contains ys x) → Contains (y ∷ ys) x
   go true k rec = elim (contains_cases y (filter t ys) x k) [ inl e ↦ subst (λ (z : X). Contains (y ∷ ys) z) e (contains_head y ys) | inr j ↦ contains_tail y ys x (rec j) ]
   go false k rec = contains_tail y ys x (rec k)
+
+-- Beginnings.
+
+pub take_while-all : {X : Type 0} (p : X → Bool) (xs : List X) → list_all p xs ≡ true → take_while p xs ≡ xs
+take_while-all p [] h = refl
+take_while-all p (x ∷ xs) h = take_while-cons p x xs ∙ by (p x) h (take_while-all p xs)
+  where
+    by : (b : Bool) → (b && list_all p xs) ≡ true → (list_all p xs ≡ true → take_while p xs ≡ xs) → cond b (x ∷ take_while p xs) [] ≡ x ∷ xs
+    by true h rest = ap (λ ys. x ∷ ys) (rest h)
+    by false h rest = cc
+
+-- the beginning ends in the first list, or goes on in the second
+pub take_while-append : {X : Type 0} (p : X → Bool) (xs ys : List X) → take_while p (xs ++ ys) ≡ (if list_all p xs then xs ++ take_while p ys else take_while p xs)
+take_while-append p [] ys = refl
+take_while-append {X} p (x ∷ xs) ys =
+    take_while-cons p x (xs ++ ys)
+    ∙ (by (p x) (list_all p xs) (take_while-append p xs ys) ∙ ap (λ (zs : List X). if p x && list_all p xs then x ∷ (xs ++ take_while p ys) else zs) (sym (take_while-cons p x xs)))
+  where
+    by : (b c : Bool) → take_while p (xs ++ ys) ≡ (if c then xs ++ take_while p ys else take_while p xs)
+        → cond b (x ∷ take_while p (xs ++ ys)) [] ≡ (if b && c then x ∷ (xs ++ take_while p ys) else cond b (x ∷ take_while p xs) [])
+    by false c h = refl
+    by true true h = ap (λ zs. x ∷ zs) h
+    by true false h = ap (λ zs. x ∷ zs) h

@@ -1,18 +1,20 @@
 -- The words of the journal are those of the flight's record.
-use Rattle.std.proofs.Common.{◌≡◌, false, List, ℕ, None, Some, refl}
+use Rattle.std.proofs.Common.{◌≡◌, false, List, ℕ, None, Some, refl, ap}
 use Rattle.std.specs.Prelude.{if◌then◌else◌}
 use Rattle.std.specs.Option.{option_or}
+use Rattle.cdm_flight.specs.declared.reach.Reach.TheVariants as reach
 use Rattle.cdm_flight.specs.declared.update.Update.{Update}
 use Rattle.cdm_flight.specs.declared.update.Update.TheVariants.{Rate, Close, Reopen, Clock}
 use Rattle.cdm_flight.specs.declared.word.RefusalWord.{RefusalWord}
 use Rattle.cdm_flight.specs.declared.word.RefusalWord.TheVariants.{Full}
+use Rattle.cdm_flight.specs.Reach.{flight_in, reach_of}
 use Rattle.cdm_flight.specs.Record.{Record}
-use Rattle.cdm_flight.specs.Step.{flight_of_update, is_fresh, step_refusal}
+use Rattle.cdm_flight.specs.Step.{is_fresh, step_refusal}
 use Rattle.cdm_flight.specs.Journal.{AirportRows, exot_of, flight_of}
 use Rattle.cdm_flight.specs.Accepted.{is_unknown, is_disordered, is_full, refusal_of}
 
 -- a flight's update is no clock and has no window
-pub ordered-flight : (g : AirportRows) (a : List Update) (u : Update) (f : List ℕ) → flight_of_update u ≡ Some f → is_disordered g a u ≡ false
+ordered-flight : (g : AirportRows) (a : List Update) (u : Update) (f : List ℕ) → reach_of u ≡ reach.Flight f → is_disordered g a u ≡ false
 ordered-flight g a (Clock m) f e = cc
 ordered-flight g a (Rate r from to cap) f e = cc
 ordered-flight g a (Close r from to) f e = cc
@@ -20,7 +22,8 @@ ordered-flight g a (Reopen r from to) f e = cc
 ordered-flight g a _ f e = refl
 
 -- the words on an update of a flight that is known
-pub refusal_of-flight : (g : AirportRows) (a : List Update) (u : Update) (f : List ℕ) (r : Record) → flight_of_update u ≡ Some f → is_fresh u ≡ false → is_unknown g a u ≡ false → flight_of g a f ≡ Some r
+pub refusal_of-flight : (g : AirportRows) (a : List Update) (u : Update) (f : List ℕ) (r : Record)
+    → reach_of u ≡ reach.Flight f → is_fresh u ≡ false → is_unknown g a u ≡ false → flight_of g a f ≡ Some r
     → refusal_of g a u ≡ option_or (step_refusal r.status r.runway u (exot_of g a f)) (if is_full g a u then Some Full else None)
 unfolding refusal_of
-refusal_of-flight g a u f r e fresh known there = rw (known, fresh, ordered-flight g a u f e, e, there) refl
+refusal_of-flight g a u f r e fresh known there = rw (known, fresh, ordered-flight g a u f e, ap flight_in e, there) refl

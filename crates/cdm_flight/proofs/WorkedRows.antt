@@ -10,7 +10,7 @@ use Rattle.cdm_flight.specs.declared.role.Role.TheVariants as role
 use Rattle.cdm_flight.specs.declared.update.Update.{Update}
 use Rattle.cdm_flight.specs.declared.update.Update.TheVariants as update
 use Rattle.cdm_flight.specs.declared.word.RefusalWord.TheVariants as word
-use Rattle.cdm_flight.specs.Journal.{AirportRows, cap_of, closed_of, exot_of, now_of, flight_of}
+use Rattle.cdm_flight.specs.Journal.{AirportRows, cap_of, closed_of, exot_of, flight_of, values_of}
 use Rattle.cdm_flight.specs.Accepted.{accepted, refusal, refusal_of, replies_to}
 use Rattle.cdm_flight.specs.Order.{is_before}
 
@@ -34,7 +34,7 @@ planned f t = (role.AirportOperator, update.Flt f 5) ∷ (role.AirTrafficControl
 -- a flight without a runway doesn't leave its stand
 before_off_block : (g : AirportRows) → IsBase g → replies_to g [] ((role.AirportOperator, update.Flt ab1 5) ∷ (role.AirTrafficControl, update.Air ab1 380)
     ∷ (role.AirTrafficControl, update.Off ab1 360) ∷ (role.AirTrafficControl, update.Rwy ab1 r27) ∷ []) ≡ None ∷ Some word.Order ∷ Some word.NotReady ∷ None ∷ []
-unfolding replies_to refusal refusal_of exot_of flight_of
+unfolding replies_to refusal refusal_of exot_of flight_of values_of
 before_off_block g base = rw base.0 refl
 
 -- with a runway and a taxi time it does
@@ -47,7 +47,7 @@ after_off_block : (g : AirportRows) → IsBase g → replies_to g (update.Flt ab
     ∷ (role.AirTrafficControl, update.Air ab1 359) ∷ (role.AirTrafficControl, update.Air ab1 380) ∷ (role.AircraftOperator, update.Cnl ab1)
     ∷ (role.AirportOperator, update.Flt cd2 5) ∷ (role.AircraftOperator, update.Cnl cd2) ∷ (role.AircraftOperator, update.Tobt cd2 360) ∷ (role.AirportOperator, update.Flt cd2 5) ∷ [])
     ≡ Some word.OffBlock ∷ Some word.Order ∷ None ∷ Some word.Ended ∷ None ∷ None ∷ Some word.Ended ∷ Some word.Exists ∷ []
-unfolding replies_to refusal refusal_of exot_of flight_of
+unfolding replies_to refusal refusal_of exot_of flight_of values_of
 after_off_block g base = refl
 
 -- a handler may not set a CTOT, a rate keeps the cells, the clock stays or goes on, and a TOBT needs a flight
@@ -57,12 +57,12 @@ refused = (role.AircraftOperator, update.Ctot ab1 (Some 400)) ∷ (role.AirTraff
 
 refused_replies : (g : AirportRows) → IsBase g → replies_to g [] (planned ab1 360 ++ refused) ≡
     None ∷ None ∷ None ∷ Some word.Authority ∷ Some word.Order ∷ None ∷ Some word.Order ∷ Some word.Unknown ∷ None ∷ []
-unfolding replies_to refusal refusal_of exot_of flight_of
+unfolding replies_to refusal refusal_of exot_of flight_of values_of
 refused_replies g base = rw base.0 refl
 
-now_after : (g : AirportRows) → IsBase g → now_of (accepted g [] (planned ab1 360 ++ refused)) ≡ 300
-unfolding accepted refusal refusal_of exot_of flight_of
-now_after g base = rw base.0 refl
+clock_after : (g : AirportRows) → IsBase g → (values_of (accepted g [] (planned ab1 360 ++ refused))).clock ≡ 300
+unfolding accepted refusal refusal_of exot_of flight_of values_of
+clock_after g base = rw base.0 refl
 
 -- OFF fixes the taxi-out time: a later TAXI changes that of the others
 abbrev left : List Update

@@ -8,9 +8,10 @@ use Rattle.cdm_flight.specs.declared.update.Update.TheVariants.{Flt, Rate, Close
 use Rattle.cdm_flight.specs.declared.word.RefusalWord.{RefusalWord}
 use Rattle.cdm_flight.specs.declared.word.RefusalWord.TheVariants.{Authority, Unknown, Exists, Order, Full}
 use Rattle.cdm_flight.specs.Authority.{may_make}
-use Rattle.cdm_flight.specs.Step.{flight_of_update, runway_of_update, is_fresh, step_refusal}
+use Rattle.cdm_flight.specs.Reach.{flight_of_update, runway_of_update}
+use Rattle.cdm_flight.specs.Step.{is_fresh, step_refusal}
 use Rattle.cdm_flight.specs.Taxi.{stand_of_place, stands_in, is_one_stand_too_many}
-use Rattle.cdm_flight.specs.Journal.{AirportRows, runway_row, is_known, exot_of, flight_of, now_of}
+use Rattle.cdm_flight.specs.Journal.{AirportRows, runway_row, is_known, exot_of, flight_of, values_of}
 
 -- the airport has the runway
 abbrev pub has_runway : AirportRows → List ℕ → Bool
@@ -30,7 +31,7 @@ flight_refusal g a u =
 
 -- ORDER: a clock that goes back, a window that has no minute or cuts a cell
 abbrev pub is_disordered : AirportRows → List Update → Update → Bool
-is_disordered g a (Clock m) = nat_lt m (now_of a)
+is_disordered g a (Clock m) = nat_lt m (values_of a).clock
 is_disordered g a (Rate r from to cap) =
     nat_le to from || option_map_or (λ row. not (from % row.cell == 0) || not (to % row.cell == 0)) (runway_row g r) false
 is_disordered g a (Close r from to) = nat_le to from

@@ -4,6 +4,7 @@ pub mod Words
 pub mod Authority
 pub mod Record
 pub mod Order
+pub mod Reach
 pub mod Step
 pub mod Taxi
 pub mod Journal

@@ -3,33 +3,10 @@ use Rattle.std.specs.Prelude.{ℕ, ◌+◌, Bool, true, false, nat_lt, if◌then
 use Rattle.cdm_flight.specs.declared.flight.Status.{Status}
 use Rattle.cdm_flight.specs.declared.flight.Status.TheVariants.{Planned, OffBlock, Airborne, Cancelled}
 use Rattle.cdm_flight.specs.declared.update.Update.{Update}
-use Rattle.cdm_flight.specs.declared.update.Update.TheVariants.{Flt, Tobt, Stand, Rwy, Ctot, Ice, Prio, Off, Air, Cnl, Rate, Close, Reopen, Taxi}
+use Rattle.cdm_flight.specs.declared.update.Update.TheVariants.{Flt, Tobt, Stand, Rwy, Ctot, Ice, Prio, Off, Air, Cnl}
 use Rattle.cdm_flight.specs.declared.word.RefusalWord.{RefusalWord}
 use Rattle.cdm_flight.specs.declared.word.RefusalWord.TheVariants.{Ended, OffBlock as OffBlockWord, Order, NotReady}
 use Rattle.cdm_flight.specs.Record.{Record}
-
--- the flight that an update is of
-abbrev pub flight_of_update : Update → Option (List ℕ)
-flight_of_update (Flt f p) = Some f
-flight_of_update (Tobt f t) = Some f
-flight_of_update (Stand f s) = Some f
-flight_of_update (Rwy f r) = Some f
-flight_of_update (Ctot f c) = Some f
-flight_of_update (Ice f i) = Some f
-flight_of_update (Prio f p) = Some f
-flight_of_update (Off f m) = Some f
-flight_of_update (Air f m) = Some f
-flight_of_update (Cnl f) = Some f
-flight_of_update _ = None
-
--- the runway that an update is of, or that it gives a flight
-abbrev pub runway_of_update : Update → Option (List ℕ)
-runway_of_update (Rwy f r) = Some r
-runway_of_update (Rate r from to cap) = Some r
-runway_of_update (Close r from to) = Some r
-runway_of_update (Reopen r from to) = Some r
-runway_of_update (Taxi place r minutes) = Some r
-runway_of_update _ = None
 
 -- it makes a flight known
 abbrev pub is_fresh : Update → Bool

@@ -1,7 +1,9 @@
 //! A flight's record.
-ghost use Rattle.std.specs.Prelude.{◌≡◌, ◌≤◌, Some, false};
+ghost use Rattle.std.specs.Prelude.{◌≡◌, ◌≤◌, false};
 ghost use Rattle.std.specs.Option.{ForSome};
-ghost use Rattle.cdm_flight.specs.Step.{step_of, flight_of_update, is_fresh};
+ghost use Rattle.cdm_flight.specs.declared.reach.Reach.TheVariants as reach;
+ghost use Rattle.cdm_flight.specs.Reach.{reach_of};
+ghost use Rattle.cdm_flight.specs.Step.{step_of, is_fresh};
 ghost use Rattle.cdm_flight.specs.Record.{fresh, key_of};
 
 use crate::{FlightName, Ice, Key, Priority, RefusalWord, RunwayName, StandName, Update};
@@ -103,7 +105,7 @@ impl Flight {
     /// is off-block; Order for AIR of one that isn't, or before the AOBT; NotReady for OFF of one
     /// without a runway or a taxi-out time, or that would take off past the horizon.
     pub fn step(&self, update: &Update, exot: Option<u16>) -> Result<Flight, RefusalWord>
-        requires of_this { flight_of_update update.now ≡ Some self.now.name }
+        requires of_this { reach_of update.now ≡ reach.Flight self.now.name }
         requires known { is_fresh update.now ≡ false }
         requires taxi { ForSome exot (λ minutes. minutes ≤ 180) }
         ensures { result ≡ step_of self.now update.now exot }

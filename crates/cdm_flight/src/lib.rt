@@ -8,9 +8,11 @@ mod key;
 mod list;
 mod name;
 mod place;
+mod reach;
 mod role;
 mod units;
 mod update;
+mod values;
 mod word;
 
 pub use airport::RunwayRow;
@@ -20,9 +22,11 @@ pub use key::{Key, before};
 pub use list::{Listed, push_last, push_reserved};
 pub use name::Name;
 pub use place::Place;
+pub use reach::Reach;
 pub use role::{Role, allows};
 pub use units::{Cap, CellLength, IceMinutes, Priority, TaxiMinutes};
 pub use update::Update;
+pub use values::DayValues;
 pub use word::RefusalWord;
 
 /// The name of a flight, its aircraft identification: 1 to 7 letters and digits.

@@ -1,8 +1,8 @@
 //! Updates of the day.
 ghost use Rattle.std.specs.Prelude.{◌≡◌};
-ghost use Rattle.cdm_flight.specs.Step.{flight_of_update};
+ghost use Rattle.cdm_flight.specs.Reach.{reach_of};
 
-use crate::{Cap, FlightName, Ice, Place, Priority, RunwayName, StandName, TaxiMinutes};
+use crate::{Cap, FlightName, Ice, Place, Priority, Reach, RunwayName, StandName, TaxiMinutes};
 use cdm_time::{Bound, Minute};
 
 /// An update that a partner makes, one variant for each kind of feed record. Windows run from a
@@ -90,9 +90,9 @@ pub enum Update {
 }
 
 impl Update {
-    /// The flight that the update is of, if it is of one.
-    pub fn flight(&self) -> Option<FlightName>
-        ensures { result ≡ flight_of_update self.now }
+    /// What the update touches.
+    pub fn reach(&self) -> Reach
+        ensures { result ≡ reach_of self.now }
     {
         match *self {
             Update::Flt { flight, .. }
@@ -104,12 +104,12 @@ impl Update {
             | Update::Prio { flight, .. }
             | Update::Off { flight, .. }
             | Update::Air { flight, .. }
-            | Update::Cnl { flight } => Some(flight),
-            Update::Rate { .. }
-            | Update::Close { .. }
-            | Update::Reopen { .. }
-            | Update::Taxi { .. }
-            | Update::Clock { .. } => None,
+            | Update::Cnl { flight } => Reach::Flight(flight),
+            Update::Rate { runway, .. }
+            | Update::Close { runway, .. }
+            | Update::Reopen { runway, .. } => Reach::Runway(runway),
+            Update::Taxi { runway, .. } => Reach::Taxi(runway),
+            Update::Clock { .. } => Reach::Day,
         }
     }
 }

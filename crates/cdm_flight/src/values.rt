@@ -1,0 +1,49 @@
+//! What is said of the whole day.
+ghost use Rattle.std.specs.Prelude.{◌≡◌, List, [], ◌∷◌, ◌++◌};
+ghost use Rattle.cdm_flight.specs.declared.update.Update.{Update as AnUpdate};
+ghost use Rattle.cdm_flight.specs.Journal.{values_of};
+
+use crate::Update;
+use cdm_time::Minute;
+
+/// The values of the whole day.
+#[derive(Clone, Copy, Debug, PartialEq, Eq, Hash)]
+pub struct DayValues {
+    /// The minute that it is now.
+    pub clock: Minute,
+}
+
+impl DayValues {
+    /// Those of a day without updates.
+    #[tactic(auto, unfolding(crate::specs::Journal::values_of))]
+    pub fn initial() -> DayValues
+        ensures { result ≡ values_of [] }
+    {
+        DayValues {
+            clock: Minute::FIRST,
+        }
+    }
+
+    /// The values after one more update.
+    pub fn after(self, update: &Update) -> DayValues
+        ensures { (a : List AnUpdate) → values_of a ≡ self → values_of (a ++ update.now ∷ []) ≡ result }
+    {
+        match *update {
+            Update::Clock { now } => DayValues { clock: now },
+            Update::Flt { .. }
+            | Update::Tobt { .. }
+            | Update::Stand { .. }
+            | Update::Rwy { .. }
+            | Update::Ctot { .. }
+            | Update::Ice { .. }
+            | Update::Prio { .. }
+            | Update::Off { .. }
+            | Update::Air { .. }
+            | Update::Cnl { .. }
+            | Update::Rate { .. }
+            | Update::Close { .. }
+            | Update::Reopen { .. }
+            | Update::Taxi { .. } => self,
+        }
+    }
+}
