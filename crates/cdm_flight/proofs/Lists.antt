@@ -338,10 +338,12 @@ distinct_right e (x ∷ xs) ys h = distinct_right e xs ys (IsDistinct-tail e x (
 pub distinct_by : {X K : Type 0} (e : K → K → Bool) (key : X → K) (xs : List X) → IsDistinct e (map key xs) → IsDistinct (λ a b. e (key a) (key b)) xs
 unfolding IsDistinct
 distinct_by e key [] h = tt
-distinct_by {X} {K} e key (x ∷ xs) h = IsDistinct-cons (λ a b. e (key a) (key b)) x xs (unmapped xs (IsDistinct-head e (key x) (map key xs) h)) (distinct_by e key xs (IsDistinct-tail e (key x) (map key xs) h)) where
-  unmapped : (ys : List X) → AllByRecursion (λ k. e (key x) k ≡ false) (map key ys) → AllByRecursion (λ y. e (key x) (key y) ≡ false) ys
-  unmapped [] a = tt
-  unmapped (y ∷ ys) a = (a.0, unmapped ys a.1)
+distinct_by {X} {K} e key (x ∷ xs) h =
+    IsDistinct-cons (λ a b. e (key a) (key b)) x xs (unmapped xs (IsDistinct-head e (key x) (map key xs) h))
+    (distinct_by e key xs (IsDistinct-tail e (key x) (map key xs) h)) where
+      unmapped : (ys : List X) → AllByRecursion (λ k. e (key x) k ≡ false) (map key ys) → AllByRecursion (λ y. e (key x) (key y) ≡ false) ys
+      unmapped [] a = tt
+      unmapped (y ∷ ys) a = (a.0, unmapped ys a.1)
 
 -- what stands after the first differs from it
 pub apart_from_head : {K : Type 0} (e : K → K → Bool) (k : K) (ks : List K) (x : K) → IsDistinct e (k ∷ ks) → Contains ks x → e k x ≡ false

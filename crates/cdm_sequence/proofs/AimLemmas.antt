@@ -5,6 +5,7 @@ use Rattle.std.proofs.lemmas.Bool.Decides.{nat_tests}
 use Rattle.std.specs.Prelude.{if◌then◌else◌}
 use Rattle.cdm_time.specs.Windows.{Interval, has_minute, tolerance_before, tolerance_after}
 use Rattle.cdm_flight.specs.declared.key.Key.{Key}
+use Rattle.cdm_flight.specs.declared.values.DayValues.{DayValues}
 use Rattle.cdm_flight.specs.Record.{Record}
 use Rattle.cdm_sequence.specs.Aims.{TaxiTimes, ready_at, exot_to, is_candidate, ReachesAt, IsAim}
 use Rattle.cdm_sequence.specs.Targets.{TargetRecord}
@@ -74,72 +75,72 @@ candidate_reach earliest ctot m h = grind (arith, nat_tests)
 
 -- The answer, step by step.
 
-abbrev target_of : Record → ℕ → ℕ → List ℕ → ℕ → TargetRecord
-target_of f now tobt runway exot = record {
+abbrev target_of : Record → DayValues → ℕ → List ℕ → ℕ → TargetRecord
+target_of f values tobt runway exot = record {
   key = record { priority = f.priority; tobt = tobt; name = f.name };
   runway = runway;
   ctot = f.ctot;
   exot = exot;
-  ready = ready_at f tobt now;
-  window = window_of (ready_at f tobt now + exot) f.ctot;
+  ready = ready_at f tobt values;
+  window = window_of (ready_at f tobt values + exot) f.ctot;
 }
 
 -- the target, unless no minute is in reach, or none of those is a candidate
 abbrev if_possible : Bool → Bool → TargetRecord → AimResult
 if_possible out some t = if out then Early Horizon else if some then Ready t else Early Ctot
 
-abbrev pub aim_with_exot : Record → ℕ → ℕ → List ℕ → Option ℕ → AimResult
-aim_with_exot f now tobt runway None = Early Exot
-aim_with_exot f now tobt runway (Some exot) =
-    if_possible (nat_le 2880 (ready_at f tobt now + exot)) (nat_lt (window_from (ready_at f tobt now + exot) f.ctot) (window_to f.ctot)) (target_of f now tobt runway exot)
+abbrev pub aim_with_exot : Record → DayValues → ℕ → List ℕ → Option ℕ → AimResult
+aim_with_exot f values tobt runway None = Early Exot
+aim_with_exot f values tobt runway (Some exot) =
+    if_possible (nat_le 2880 (ready_at f tobt values + exot)) (nat_lt (window_from (ready_at f tobt values + exot) f.ctot) (window_to f.ctot)) (target_of f values tobt runway exot)
 
-abbrev pub aim_with : Record → TaxiTimes → ℕ → Option ℕ → Option (List ℕ) → AimResult
-aim_with f times now None runway = Early Tobt
-aim_with f times now (Some tobt) None = Early Runway
-aim_with f times now (Some tobt) (Some runway) = aim_with_exot f now tobt runway (exot_to times f runway)
+abbrev pub aim_with : Record → TaxiTimes → DayValues → Option ℕ → Option (List ℕ) → AimResult
+aim_with f times values None runway = Early Tobt
+aim_with f times values (Some tobt) None = Early Runway
+aim_with f times values (Some tobt) (Some runway) = aim_with_exot f values tobt runway (exot_to times f runway)
 
-unfoldable pub aim_of : Record → TaxiTimes → ℕ → AimResult
-aim_of f times now = aim_with f times now f.tobt f.runway
+unfoldable pub aim_of : Record → TaxiTimes → DayValues → AimResult
+aim_of f times values = aim_with f times values f.tobt f.runway
 
 -- what a flight reaches this minute by
-pub record Reach (f : Record) (times : TaxiTimes) (now earliest : ℕ) : Type 0 where
+pub record Arrival (f : Record) (times : TaxiTimes) (values : DayValues) (earliest : ℕ) : Type 0 where
   pub tobt : ℕ
   pub runway : List ℕ
   pub exot : ℕ
   pub tobt_is : f.tobt ≡ Some tobt
   pub runway_is : f.runway ≡ Some runway
   pub exot_is : exot_to times f runway ≡ Some exot
-  pub earliest_is : earliest ≡ ready_at f tobt now + exot
+  pub earliest_is : earliest ≡ ready_at f tobt values + exot
 
-pub reaches : (f : Record) (times : TaxiTimes) (now m : ℕ) (P : ℕ → Type 0) → Reach f times now m → P m → ReachesAt f times now P
-reaches f times now m P r p =
-    subst (λ o. IsSomeAnd o (λ t. IsSomeAnd f.runway (λ q. IsSomeAnd (exot_to times f q) (λ x. P (ready_at f t now + x))))) (sym r.tobt_is)
-    (subst (λ o. IsSomeAnd o (λ q. IsSomeAnd (exot_to times f q) (λ x. P (ready_at f r.tobt now + x)))) (sym r.runway_is)
-    (subst (λ o. IsSomeAnd o (λ x. P (ready_at f r.tobt now + x))) (sym r.exot_is) (subst P r.earliest_is p)))
+pub reaches : (f : Record) (times : TaxiTimes) (values : DayValues) (m : ℕ) (P : ℕ → Type 0) → Arrival f times values m → P m → ReachesAt f times values P
+reaches f times values m P r p =
+    subst (λ o. IsSomeAnd o (λ t. IsSomeAnd f.runway (λ q. IsSomeAnd (exot_to times f q) (λ x. P (ready_at f t values + x))))) (sym r.tobt_is)
+    (subst (λ o. IsSomeAnd o (λ q. IsSomeAnd (exot_to times f q) (λ x. P (ready_at f r.tobt values + x)))) (sym r.runway_is)
+    (subst (λ o. IsSomeAnd o (λ x. P (ready_at f r.tobt values + x))) (sym r.exot_is) (subst P r.earliest_is p)))
 
-reach_of : (f : Record) (times : TaxiTimes) (now : ℕ) (P : ℕ → Type 0) → ReachesAt f times now P → (m : ℕ) × Reach f times now m × P m
-reach_of f times now P e = by f.tobt f.runway refl refl e where
+arrival_of : (f : Record) (times : TaxiTimes) (values : DayValues) (P : ℕ → Type 0) → ReachesAt f times values P → (m : ℕ) × Arrival f times values m × P m
+arrival_of f times values P e = by f.tobt f.runway refl refl e where
   by : (o : Option ℕ) (r : Option (List ℕ)) → f.tobt ≡ o → f.runway ≡ r
-      → IsSomeAnd o (λ tobt. IsSomeAnd r (λ runway. IsSomeAnd (exot_to times f runway) (λ exot. P (ready_at f tobt now + exot)))) → (m : ℕ) × Reach f times now m × P m
+      → IsSomeAnd o (λ tobt. IsSomeAnd r (λ runway. IsSomeAnd (exot_to times f runway) (λ exot. P (ready_at f tobt values + exot)))) → (m : ℕ) × Arrival f times values m × P m
   by None r d k e = absurd e
   by (Some tobt) None d k e = absurd e
   by (Some tobt) (Some runway) d k e = go (exot_to times f runway) refl e where
-    go : (x : Option ℕ) → exot_to times f runway ≡ x → IsSomeAnd x (λ exot. P (ready_at f tobt now + exot)) → (m : ℕ) × Reach f times now m × P m
+    go : (x : Option ℕ) → exot_to times f runway ≡ x → IsSomeAnd x (λ exot. P (ready_at f tobt values + exot)) → (m : ℕ) × Arrival f times values m × P m
     go None h e = absurd e
     go (Some exot) h e =
-        (ready_at f tobt now + exot, record { tobt = tobt; runway = runway; exot = exot; tobt_is = d; runway_is = k; exot_is = h; earliest_is = refl }, e)
+        (ready_at f tobt values + exot, record { tobt = tobt; runway = runway; exot = exot; tobt_is = d; runway_is = k; exot_is = h; earliest_is = refl }, e)
 
 -- it is right
-pub aim_means : (f : Record) (times : TaxiTimes) (now : ℕ) → IsAim f times now (aim_of f times now)
+pub aim_means : (f : Record) (times : TaxiTimes) (values : DayValues) → IsAim f times values (aim_of f times values)
 unfolding aim_of
-aim_means f times now = go f.tobt f.runway refl refl where
-  reach : (tobt exot : ℕ) (runway : List ℕ) → f.tobt ≡ Some tobt → f.runway ≡ Some runway → exot_to times f runway ≡ Some exot → Reach f times now (ready_at f tobt now + exot)
+aim_means f times values = go f.tobt f.runway refl refl where
+  reach : (tobt exot : ℕ) (runway : List ℕ) → f.tobt ≡ Some tobt → f.runway ≡ Some runway → exot_to times f runway ≡ Some exot → Arrival f times values (ready_at f tobt values + exot)
   reach tobt exot runway d e h = record { tobt = tobt; runway = runway; exot = exot; tobt_is = d; runway_is = e; exot_is = h; earliest_is = refl }
 
   possible : (tobt exot : ℕ) (runway : List ℕ) → f.tobt ≡ Some tobt → f.runway ≡ Some runway → exot_to times f runway ≡ Some exot → (b c : Bool)
-      → nat_le 2880 (ready_at f tobt now + exot) ≡ b → nat_lt (window_from (ready_at f tobt now + exot) f.ctot) (window_to f.ctot) ≡ c
-      → IsAim f times now (if_possible b c (target_of f now tobt runway exot))
-  possible tobt exot runway d e h true c p q = reaches f times now _ (λ m. 2880 ≤ m) (reach tobt exot runway d e h) (grind (arith, nat_tests))
+      → nat_le 2880 (ready_at f tobt values + exot) ≡ b → nat_lt (window_from (ready_at f tobt values + exot) f.ctot) (window_to f.ctot) ≡ c
+      → IsAim f times values (if_possible b c (target_of f values tobt runway exot))
+  possible tobt exot runway d e h true c p q = reaches f times values _ (λ m. 2880 ≤ m) (reach tobt exot runway d e h) (grind (arith, nat_tests))
   possible tobt exot runway d e h false true p q = record {
     key = ap (option_map (λ (tobt : ℕ). record { priority = f.priority; tobt = tobt; name = f.name })) d;
     runway = e;
@@ -147,55 +148,58 @@ aim_means f times now = go f.tobt f.runway refl refl where
     exot = h;
     ready = refl;
     some_minute = grind (arith, nat_tests);
-    minutes = window_minutes (ready_at f tobt now + exot) f.ctot;
+    minutes = window_minutes (ready_at f tobt values + exot) f.ctot;
   }
-  possible tobt exot runway d e h false false p q = reaches f times now _ (λ m. (m < 2880) × ((k : ℕ) → is_candidate m f.ctot k ≡ false)) (reach tobt exot runway d e h) (
+  possible tobt exot runway d e h false false p q = reaches f times values _ (λ m. (m < 2880) × ((k : ℕ) → is_candidate m f.ctot k ≡ false)) (reach tobt exot runway d e h) (
     grind (arith, nat_tests),
-    λ m. sym (window_minutes (ready_at f tobt now + exot) f.ctot m) ∙ empty_window (window_from (ready_at f tobt now + exot) f.ctot) (window_to f.ctot) m q,
+    λ m. sym (window_minutes (ready_at f tobt values + exot) f.ctot m) ∙ empty_window (window_from (ready_at f tobt values + exot) f.ctot) (window_to f.ctot) m q,
   )
 
   some_there : (o : Option ℕ) (x : ℕ) → o ≡ Some x → IsSome o
   some_there None x d = cc
   some_there (Some y) x d = refl
 
-  with_exot : (tobt : ℕ) (runway : List ℕ) → f.tobt ≡ Some tobt → f.runway ≡ Some runway → (o : Option ℕ) → exot_to times f runway ≡ o → IsAim f times now (aim_with_exot f now tobt runway o)
+  with_exot : (tobt : ℕ) (runway : List ℕ) → f.tobt ≡ Some tobt → f.runway ≡ Some runway → (o : Option ℕ) → exot_to times f runway ≡ o → IsAim f times values (aim_with_exot f values tobt runway o)
   with_exot tobt runway d e None h = (some_there f.tobt tobt d, (runway, e, h))
-  with_exot tobt runway d e (Some exot) h = possible tobt exot runway d e h (nat_le 2880 (ready_at f tobt now + exot)) (nat_lt (window_from (ready_at f tobt now + exot) f.ctot) (window_to f.ctot)) refl refl
+  with_exot tobt runway d e (Some exot) h =
+      let earliest = ready_at f tobt values + exot in
+      possible tobt exot runway d e h (nat_le 2880 earliest) (nat_lt (window_from earliest f.ctot) (window_to f.ctot)) refl refl
 
-  go : (o : Option ℕ) (r : Option (List ℕ)) → f.tobt ≡ o → f.runway ≡ r → IsAim f times now (aim_with f times now o r)
+  go : (o : Option ℕ) (r : Option (List ℕ)) → f.tobt ≡ o → f.runway ≡ r → IsAim f times values (aim_with f times values o r)
   go None r d e = d
   go (Some tobt) None d e = (some_there f.tobt tobt d, e)
   go (Some tobt) (Some runway) d e = with_exot tobt runway d e (exot_to times f runway) refl
 
 -- it is the only one
-pub aim_is : (f : Record) (times : TaxiTimes) (now : ℕ) (a : AimResult) → IsAim f times now a → aim_of f times now ≡ a
+pub aim_is : (f : Record) (times : TaxiTimes) (values : DayValues) (a : AimResult) → IsAim f times values a → aim_of f times values ≡ a
 unfolding aim_of
-aim_is f times now a e = by a e where
-  with_times : (tobt exot : ℕ) (runway : List ℕ) → f.tobt ≡ Some tobt → f.runway ≡ Some runway → exot_to times f runway ≡ Some exot → aim_with f times now f.tobt f.runway ≡ aim_with_exot f now tobt runway (Some exot)
-  with_times tobt exot runway d e h = ap (λ o. aim_with f times now o f.runway) d ∙ (ap (λ r. aim_with f times now (Some tobt) r) e ∙ ap (aim_with_exot f now tobt runway) h)
+aim_is f times values a e = by a e where
+  with_times : (tobt exot : ℕ) (runway : List ℕ) → f.tobt ≡ Some tobt → f.runway ≡ Some runway → exot_to times f runway ≡ Some exot
+      → aim_with f times values f.tobt f.runway ≡ aim_with_exot f values tobt runway (Some exot)
+  with_times tobt exot runway d e h = ap (λ o. aim_with f times values o f.runway) d ∙ (ap (λ r. aim_with f times values (Some tobt) r) e ∙ ap (aim_with_exot f values tobt runway) h)
 
-  no_runway : (o : Option ℕ) → IsSome o → f.runway ≡ None → aim_with f times now o f.runway ≡ Early Runway
+  no_runway : (o : Option ℕ) → IsSome o → f.runway ≡ None → aim_with f times values o f.runway ≡ Early Runway
   no_runway None d e = cc
-  no_runway (Some tobt) d e = ap (aim_with f times now (Some tobt)) e
+  no_runway (Some tobt) d e = ap (aim_with f times values (Some tobt)) e
 
-  no_exot : (o : Option ℕ) → IsSome o → (runway : List ℕ) → f.runway ≡ Some runway → exot_to times f runway ≡ None → aim_with f times now o f.runway ≡ Early Exot
+  no_exot : (o : Option ℕ) → IsSome o → (runway : List ℕ) → f.runway ≡ Some runway → exot_to times f runway ≡ None → aim_with f times values o f.runway ≡ Early Exot
   no_exot None d runway e h = cc
-  no_exot (Some tobt) d runway e h = ap (aim_with f times now (Some tobt)) e ∙ ap (aim_with_exot f now tobt runway) h
+  no_exot (Some tobt) d runway e h = ap (aim_with f times values (Some tobt)) e ∙ ap (aim_with_exot f values tobt runway) h
 
-  by : (a : AimResult) → IsAim f times now a → aim_with f times now f.tobt f.runway ≡ a
-  by (Early Tobt) e = ap (λ o. aim_with f times now o f.runway) e
+  by : (a : AimResult) → IsAim f times values a → aim_with f times values f.tobt f.runway ≡ a
+  by (Early Tobt) e = ap (λ o. aim_with f times values o f.runway) e
   by (Early Runway) e = no_runway f.tobt e.0 e.1
   by (Early Exot) e = no_exot f.tobt e.0 e.1.0 e.1.1 e.1.2
   by (Early Horizon) e =
-      let (m, h, out_of) = reach_of f times now (λ m. 2880 ≤ m) e in
-      let t = target_of f now h.tobt h.runway h.exot in
-      let out : nat_le 2880 (ready_at f h.tobt now + h.exot) ≡ true = ap (nat_le 2880) (sym h.earliest_is) ∙ out_of_reach m out_of in
+      let (m, h, out_of) = arrival_of f times values (λ m. 2880 ≤ m) e in
+      let t = target_of f values h.tobt h.runway h.exot in
+      let out : nat_le 2880 (ready_at f h.tobt values + h.exot) ≡ true = ap (nat_le 2880) (sym h.earliest_is) ∙ out_of_reach m out_of in
       with_times h.tobt h.exot h.runway h.tobt_is h.runway_is h.exot_is ∙ ap (λ b. if_possible b (nat_lt t.window.from t.window.to) t) out
   by (Early Ctot) e =
-      let (m, h, held) = reach_of f times now (λ m. (m < 2880) × ((k : ℕ) → is_candidate m f.ctot k ≡ false)) e in
-      let t = target_of f now h.tobt h.runway h.exot in
-      let out : nat_le 2880 (ready_at f h.tobt now + h.exot) ≡ false = ap (nat_le 2880) (sym h.earliest_is) ∙ in_reach m held.0 in
-      let empty : nat_lt (window_from (ready_at f h.tobt now + h.exot) f.ctot) (window_to f.ctot) ≡ false =
+      let (m, h, held) = arrival_of f times values (λ m. (m < 2880) × ((k : ℕ) → is_candidate m f.ctot k ≡ false)) e in
+      let t = target_of f values h.tobt h.runway h.exot in
+      let out : nat_le 2880 (ready_at f h.tobt values + h.exot) ≡ false = ap (nat_le 2880) (sym h.earliest_is) ∙ in_reach m held.0 in
+      let empty : nat_lt (window_from (ready_at f h.tobt values + h.exot) f.ctot) (window_to f.ctot) ≡ false =
       ap (λ k. nat_lt (window_from k f.ctot) (window_to f.ctot)) (sym h.earliest_is)
       ∙ window_empty (window_from m f.ctot) (window_to f.ctot) (window_minutes m f.ctot (window_from m f.ctot) ∙ held.1 (window_from m f.ctot)) in
       with_times h.tobt h.exot h.runway h.tobt_is h.runway_is h.exot_is
@@ -204,19 +208,19 @@ aim_is f times now a e = by a e where
   by (Early Closure) e = absurd e
   by (Early Rate) e = absurd e
   by (Ready t) e = of_key f.tobt refl e.key where
-    of_key : (o : Option ℕ) → f.tobt ≡ o → option_map (λ tobt. record { priority = f.priority; tobt = tobt; name = f.name }) o ≡ Some t.key → aim_with f times now f.tobt f.runway ≡ Ready t
+    of_key : (o : Option ℕ) → f.tobt ≡ o → option_map (λ tobt. record { priority = f.priority; tobt = tobt; name = f.name }) o ≡ Some t.key → aim_with f times values f.tobt f.runway ≡ Ready t
     of_key None d k = cc
     of_key (Some tobt) d k =
         let own : Key = record { priority = f.priority; tobt = tobt; name = f.name } in
         let key : own ≡ t.key = cc in
-        let ready : ready_at f tobt now ≡ t.ready = ap (λ (k : Key). ready_at f k.tobt now) key ∙ sym e.ready in
-        let window : window_of (ready_at f tobt now + t.exot) f.ctot ≡ t.window =
+        let ready : ready_at f tobt values ≡ t.ready = ap (λ (k : Key). ready_at f k.tobt values) key ∙ sym e.ready in
+        let window : window_of (ready_at f tobt values + t.exot) f.ctot ≡ t.window =
         ap (λ (m : ℕ). window_of (m + t.exot) f.ctot) ready ∙ ap (window_of (t.ready + t.exot)) (sym e.ctot)
         ∙ window_one (window_of (t.ready + t.exot) t.ctot) t.window (λ m. window_minutes (t.ready + t.exot) t.ctot m ∙ sym (e.minutes m)) e.some_minute in
         let first : is_candidate (t.ready + t.exot) t.ctot t.window.from ≡ true = sym (e.minutes t.window.from) ∙ has_first t.window e.some_minute in
-        let out : nat_le 2880 (ready_at f tobt now + t.exot) ≡ false =
+        let out : nat_le 2880 (ready_at f tobt values + t.exot) ≡ false =
         ap (λ (m : ℕ). nat_le 2880 (m + t.exot)) ready ∙ in_reach (t.ready + t.exot) (candidate_reach (t.ready + t.exot) t.ctot t.window.from first) in
-        let found = target_of f now tobt t.runway t.exot in
+        let found = target_of f values tobt t.runway t.exot in
         let some : nat_lt found.window.from found.window.to ≡ true = ap (λ (w : Interval). nat_lt w.from w.to) window ∙ some_minute t.window e.some_minute in
         let ctot : f.ctot ≡ t.ctot = sym e.ctot in
         let target : found ≡ t = λ i. record { key = key i; runway = t.runway; ctot = ctot i; exot = t.exot; ready = ready i; window = window i } in
@@ -226,8 +230,8 @@ aim_is f times now a e = by a e where
         ∙ ap Ready target
 
 -- so there is one
-pub aim_one : (f : Record) (times : TaxiTimes) (now : ℕ) (a b : AimResult) → IsAim f times now a → IsAim f times now b → a ≡ b
-aim_one f times now a b x y = sym (aim_is f times now a x) ∙ aim_is f times now b y
+pub aim_one : (f : Record) (times : TaxiTimes) (values : DayValues) (a b : AimResult) → IsAim f times values a → IsAim f times values b → a ≡ b
+aim_one f times values a b x y = sym (aim_is f times values a x) ∙ aim_is f times values b y
 
-pub aim_some : (f : Record) (times : TaxiTimes) (now : ℕ) → (a : AimResult) × IsAim f times now a
-aim_some f times now = (aim_of f times now, aim_means f times now)
+pub aim_some : (f : Record) (times : TaxiTimes) (values : DayValues) → (a : AimResult) × IsAim f times values a
+aim_some f times values = (aim_of f times values, aim_means f times values)

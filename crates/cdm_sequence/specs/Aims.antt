@@ -5,6 +5,7 @@ use Rattle.cdm_time.specs.Windows.{has_minute, horizon, is_in_tolerance}
 use Rattle.cdm_flight.specs.declared.ice.Ice.{Ice}
 use Rattle.cdm_flight.specs.declared.ice.Ice.TheVariants.{AtStand}
 use Rattle.cdm_flight.specs.declared.place.Place.{Place}
+use Rattle.cdm_flight.specs.declared.values.DayValues.{DayValues}
 use Rattle.cdm_flight.specs.Record.{Record, key_of}
 use Rattle.cdm_flight.specs.Taxi.{taxi_out}
 use Rattle.cdm_sequence.specs.Targets.{TargetRecord}
@@ -22,8 +23,8 @@ stand_minutes (AtStand minutes) = minutes
 stand_minutes _ = 0
 
 -- when the flight can leave its stand: after its TOBT and de-icing there, and not before now
-abbrev pub ready_at : Record → ℕ → ℕ → ℕ
-ready_at f tobt now = max (tobt + stand_minutes f.ice) now
+abbrev pub ready_at : Record → ℕ → DayValues → ℕ
+ready_at f tobt values = max (tobt + stand_minutes f.ice) values.clock
 
 -- the taxi-out time of the flight to a runway
 abbrev pub exot_to : TaxiTimes → Record → List ℕ → Option ℕ
@@ -34,28 +35,28 @@ abbrev pub is_candidate : ℕ → Option ℕ → ℕ → Bool
 is_candidate earliest ctot m = nat_le earliest m && nat_lt m horizon && option_map_or (λ c. is_in_tolerance c m) ctot true
 
 -- the target is that of the flight, and the minutes of its window are the candidates
-pub record IsTarget (f : Record) (times : TaxiTimes) (now : ℕ) (t : TargetRecord) : Type 0 where
+pub record IsTarget (f : Record) (times : TaxiTimes) (values : DayValues) (t : TargetRecord) : Type 0 where
   pub key : key_of f ≡ Some t.key
   pub runway : f.runway ≡ Some t.runway
   pub ctot : t.ctot ≡ f.ctot
   pub exot : exot_to times f t.runway ≡ Some t.exot
-  pub ready : t.ready ≡ ready_at f t.key.tobt now
+  pub ready : t.ready ≡ ready_at f t.key.tobt values
   pub some_minute : t.window.from < t.window.to
   pub minutes : (m : ℕ) → has_minute t.window m ≡ is_candidate (t.ready + t.exot) t.ctot m
 
 -- the flight has a TOBT, a runway and a taxi-out time, and P holds of the minute from which on it could take
 -- off by them
-abbrev pub ReachesAt : Record → TaxiTimes → ℕ → (ℕ → Type 0) → Type 0
-ReachesAt f times now P =
-    IsSomeAnd f.tobt (λ tobt. IsSomeAnd f.runway (λ runway. IsSomeAnd (exot_to times f runway) (λ exot. P (ready_at f tobt now + exot))))
+abbrev pub ReachesAt : Record → TaxiTimes → DayValues → (ℕ → Type 0) → Type 0
+ReachesAt f times values P =
+    IsSomeAnd f.tobt (λ tobt. IsSomeAnd f.runway (λ runway. IsSomeAnd (exot_to times f runway) (λ exot. P (ready_at f tobt values + exot))))
 
 -- what a planned flight could have: its target, or the first rule that leaves it none: it has no TOBT,
 -- no runway or no taxi-out time, or no minute of the horizon is in reach, or none of those keeps its CTOT
-abbrev pub IsAim : Record → TaxiTimes → ℕ → AimResult → Type 0
-IsAim f times now (Ready t) = IsTarget f times now t
-IsAim f times now (Early Tobt) = f.tobt ≡ None
-IsAim f times now (Early Runway) = IsSome f.tobt × (f.runway ≡ None)
-IsAim f times now (Early Exot) = IsSome f.tobt × ((runway : List ℕ) × (f.runway ≡ Some runway) × (exot_to times f runway ≡ None))
-IsAim f times now (Early Horizon) = ReachesAt f times now (λ m. horizon ≤ m)
-IsAim f times now (Early Ctot) = ReachesAt f times now (λ m. (m < horizon) × ((k : ℕ) → is_candidate m f.ctot k ≡ false))
-IsAim f times now (Early rule) = ⊥
+abbrev pub IsAim : Record → TaxiTimes → DayValues → AimResult → Type 0
+IsAim f times values (Ready t) = IsTarget f times values t
+IsAim f times values (Early Tobt) = f.tobt ≡ None
+IsAim f times values (Early Runway) = IsSome f.tobt × (f.runway ≡ None)
+IsAim f times values (Early Exot) = IsSome f.tobt × ((runway : List ℕ) × (f.runway ≡ Some runway) × (exot_to times f runway ≡ None))
+IsAim f times values (Early Horizon) = ReachesAt f times values (λ m. horizon ≤ m)
+IsAim f times values (Early Ctot) = ReachesAt f times values (λ m. (m < horizon) × ((k : ℕ) → is_candidate m f.ctot k ≡ false))
+IsAim f times values (Early rule) = ⊥

@@ -4,7 +4,7 @@ ghost use Rattle.std.specs.FinMap as map;
 ghost use Rattle.cdm_flight.specs.Record.{is_planned};
 
 use crate::{Rule, Target};
-use cdm_flight::{Flight, Ice};
+use cdm_flight::{DayValues, Flight, Ice};
 use cdm_taxi::TaxiTable;
 use cdm_time::{Bound, Minute, Window, ctot_window};
 
@@ -49,11 +49,11 @@ fn candidates(earliest: Minute, ctot: Option<Minute>) -> Option<Window>
 /// When a planned flight may take off: its target, or the first of these rules that leaves it
 /// none. Tobt, Runway, Exot: it has no TOBT, no runway, or no taxi-out time to it. Horizon: no
 /// minute of the horizon is at or after its readiness and EXOT. Ctot: none of those is within the
-/// CTOT tolerance. It is ready after its TOBT and de-icing on the stand, and not before `now`
+/// CTOT tolerance. It is ready after its TOBT and de-icing on the stand, and not before the clock
 /// (local profile).
-pub fn aim(flight: &Flight, taxi: &TaxiTable, now: Minute) -> AimResult
+pub fn aim(flight: &Flight, taxi: &TaxiTable, values: DayValues) -> AimResult
     requires { is_planned flight.now.status ≡ true }
-    ensures { IsAim flight.now (λ place runway. map.get taxi.now (place, runway)) now result }
+    ensures { IsAim flight.now (λ place runway. map.get taxi.now (place, runway)) values result }
 {
     let Some(key) = flight.key() else {
         return AimResult::Early(Rule::Tobt);
@@ -64,7 +64,7 @@ pub fn aim(flight: &Flight, taxi: &TaxiTable, now: Minute) -> AimResult
     let Some(exot) = taxi.exot(flight.stand, runway, flight.ice) else {
         return AimResult::Early(Rule::Exot);
     };
-    let ready = (key.tobt.get() + minutes_on_stand(flight.ice)).max(now.get());
+    let ready = (key.tobt.get() + minutes_on_stand(flight.ice)).max(values.clock.get());
     let Some(earliest) = Minute::new(ready + exot) else {
         return AimResult::Early(Rule::Horizon);
     };

@@ -1,6 +1,7 @@
 //! Laws of the sequence: there is one, it is allowed, and none that is allowed is earlier.
 ghost use Rattle.std.specs.Prelude.{◌≡◌, ◌⊎◌, ℕ, List, map, Contains, IsPermutation};
 ghost use Rattle.std.specs.List.{IsDistinct};
+ghost use Rattle.cdm_flight.specs.declared.values.DayValues.{DayValues};
 ghost use Rattle.cdm_flight.specs.Names.{same_name};
 ghost use Rattle.cdm_flight.specs.Record.{Record};
 ghost use Rattle.cdm_runway.specs.Rules.{RunwayRules};
@@ -13,13 +14,13 @@ ghost use Rattle.cdm_sequence.specs.declared.aims.AimResult.{AimResult};
 
 /// A planned flight could have something: its target, or the first rule that leaves it none.
 pub fn some_aim()
-    ensures { (f : Record) (times : TaxiTimes) (now : ℕ) → (aim : AimResult) × IsAim f times now aim }
+    ensures { (f : Record) (times : TaxiTimes) (values : DayValues) → (aim : AimResult) × IsAim f times values aim }
 {}
 
 /// And there is only one such answer.
 pub fn one_aim()
-    ensures { (f : Record) (times : TaxiTimes) (now : ℕ) (a b : AimResult) →
-        IsAim f times now a → IsAim f times now b → a ≡ b }
+    ensures { (f : Record) (times : TaxiTimes) (values : DayValues) (a b : AimResult) →
+        IsAim f times values a → IsAim f times values b → a ≡ b }
 {}
 
 /// Two plans of the same flights give each flight the same.
