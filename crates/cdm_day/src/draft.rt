@@ -8,8 +8,8 @@ ghost use Rattle.cdm_plan.specs.Kept.{IsSince};
 use crate::judging::judge_as;
 use crate::reply::Reply;
 use crate::tables::Tables;
-use cdm_plan::Touched;
 use cdm_flight::{Role, Update};
+use cdm_plan::Touched;
 use std::alloc::{AllocError, Global};
 
 /// The tables of a day, and the runways that were touched since the batch began.

@@ -14,6 +14,7 @@ use Rattle.cdm_sequence.specs.Slots.{PlanRecord, RunwayPlanRecord, SlotRecord}
 use Rattle.cdm_sequence.specs.declared.aims.AimResult.{AimResult}
 use Rattle.cdm_plan.specs.declared.aimed.Aimed.{Aimed}
 use Rattle.cdm_plan.specs.declared.touched.Touched.{Touched}
+use Rattle.cdm_plan.specs.declared.touched.Touched.TheVariants.{All, Named}
 use Rattle.cdm_plan.specs.inner.Aimed.{early_among, is_on}
 use Rattle.cdm_plan.specs.Airport.{IsAirport}
 use Rattle.cdm_plan.specs.Day.{DayRecord, rules_in, rules_of}
@@ -22,7 +23,8 @@ use Rattle.cdm_plan.specs.Planning.{AreAims, HasParts, fixed_on, targets_in, tar
 
 -- the runway is one of those that were touched
 abbrev pub is_touched : Touched → List ℕ → Bool
-is_touched t r = t.all || list_any (λ n. same_name n r) t.runways.items
+is_touched All r = true
+is_touched (Named names) r = list_any (λ n. same_name n r) names.items
 
 -- the update is of the runway or of all, or of a flight that has the runway
 abbrev pub is_noted : DayRecord → Update → List ℕ → Bool

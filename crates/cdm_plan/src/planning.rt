@@ -105,11 +105,7 @@ pub fn plan_of<D: Records>(alloc: Global, records: &D) -> Result<Plan, AllocErro
 }
 
 /// The plan of the day that the records tell, in which some plans of runways stand.
-pub fn plan_keeping<D: Records>(
-    alloc: Global,
-    records: &D,
-    kept: &Kept,
-) -> Result<Plan, AllocError>
+pub fn plan_keeping<D: Records>(alloc: Global, records: &D, kept: &Kept) -> Result<Plan, AllocError>
     requires { AreKept (D.day records.now) kept.now.touched.now kept.now.plans.now }
     ensures { IfOk result (λ plan. IsMade (D.day records.now) plan) }
 {

@@ -1,5 +1,6 @@
 //! Which runways updates touch.
 ghost use Rattle.std.specs.Prelude.{◌≡◌, ℕ, List, false, OnOk};
+ghost use Rattle.std.specs.List.{list_any};
 ghost use Rattle.cdm_flight.specs.Names.{same_name};
 ghost use Rattle.cdm_plan.specs.Kept.{Adds, is_noted, is_touched};
 
@@ -9,9 +10,29 @@ use std::alloc::{AllocError, Global};
 
 /// The runways that updates touched.
 #[derive(Drop)]
-pub struct Touched {
-    all: bool,
-    runways: Vec<RunwayName>,
+pub enum Touched {
+    /// All of them.
+    All,
+    /// Those of these names.
+    Named(Vec<RunwayName>),
+}
+
+// Whether the name is one of these.
+fn is_named(names: &[RunwayName], name: RunwayName) -> bool
+    ensures { result ≡ list_any (λ n. same_name n name) names.now }
+{
+    names.iter().any(|known| *known == name)
+}
+
+// Adds a name, where it isn't there yet.
+fn add_name(names: &mut Vec<RunwayName>, name: RunwayName) -> Result<(), AllocError>
+    ensures { OnOk result ((r : List ℕ) → list_any (λ n. same_name n r) names.new.items ≡ false
+        → (list_any (λ n. same_name n r) names.old.items ≡ false) × (same_name name r ≡ false)) }
+{
+    if !is_named(names, name) {
+        names.push(name)?;
+    }
+    Ok(())
 }
 
 impl Touched {
@@ -19,40 +40,36 @@ impl Touched {
     pub fn none(alloc: Global) -> Touched
         ensures { (r : List ℕ) → is_touched result r ≡ false }
     {
-        Touched {
-            all: false,
-            runways: Vec::new(alloc),
-        }
+        Touched::Named(Vec::new(alloc))
     }
 
     /// Whether the runway is one of them.
     pub fn has(&self, runway: RunwayName) -> bool
         ensures { result ≡ is_touched self.now runway }
     {
-        self.all || self.runways.iter().any(|name| *name == runway)
+        match self {
+            Touched::All => true,
+            Touched::Named(names) => is_named(names, runway),
+        }
     }
 
     // Adds a runway.
     fn add(&mut self, runway: RunwayName) -> Result<(), AllocError>
         ensures { OnOk result (Adds self.old (λ r. same_name runway r) self.new) }
     {
-        if !self.has(runway) {
-            self.runways.push(runway)?;
+        match self {
+            Touched::All => Ok(()),
+            Touched::Named(names) => add_name(names, runway),
         }
-        Ok(())
     }
 
     /// Adds the runway of the update, or the runway that its flight has.
-    pub fn note<R: Records>(
-        &mut self,
-        records: &R,
-        update: &Update,
-    ) -> Result<(), AllocError>
+    pub fn note<R: Records>(&mut self, records: &R, update: &Update) -> Result<(), AllocError>
         ensures { OnOk result (Adds self.old (is_noted (R.day records.now) update.now) self.new) }
     {
         match *update {
             Update::Clock { .. } => {
-                self.all = true;
+                *self = Touched::All;
                 Ok(())
             }
             Update::Rate { runway, .. }
