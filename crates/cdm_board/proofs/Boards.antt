@@ -4,7 +4,7 @@ use Rattle.std.proofs.lemmas.List.Elements.{All-append, All-nil}
 use Rattle.std.specs.List.{All}
 use Rattle.cdm_flight.specs.declared.update.Update.{Update}
 use Rattle.cdm_flight.specs.Journal.{AirportRows}
-use Rattle.cdm_day.specs.Day.{DayRecord}
+use Rattle.cdm_plan.specs.Day.{DayRecord}
 use Rattle.cdm_board.specs.History.{day_of}
 use Rattle.cdm_board.specs.declared.receipt.Entry.{Entry}
 use Rattle.cdm_board.specs.History.{Call, BoardRecord, board_of, journal_by, journal_of, IsLegal, IsAnswered, IsDesk, with_call}

@@ -1,6 +1,6 @@
 -- What closing a board answers.
 use Rattle.std.specs.Prelude.{ℕ, List, ◌≡◌}
-use Rattle.cdm_day.specs.Day.{DayRecord}
+use Rattle.cdm_plan.specs.Day.{DayRecord}
 use Rattle.cdm_board.specs.declared.close.Closed.{Closed}
 use Rattle.cdm_board.specs.declared.close.Closed.TheVariants.{MissingDesk, Opening, Mismatch}
 use Rattle.cdm_board.specs.History.{Call, DeskRecord, BoardRecord, Opened, AreNumbered, IsMismatch, IsMerge, IsLegal, day_of, journal_of}

@@ -7,7 +7,7 @@ use Rattle.cdm_flight.specs.declared.update.Update.{Update}
 use Rattle.cdm_flight.specs.Journal.{AirportRows}
 use Rattle.cdm_flight.specs.Accepted.{accepted, replies_to}
 use Rattle.cdm_day.specs.declared.reply.Reply.{Reply}
-use Rattle.cdm_day.specs.Day.{DayRecord}
+use Rattle.cdm_plan.specs.Day.{DayRecord}
 use Rattle.cdm_day.specs.Replies.{reply_of}
 
 -- a call of a desk, with what it was answered: a batch with its replies, or an airport with a journal

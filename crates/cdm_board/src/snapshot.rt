@@ -19,7 +19,7 @@ pub struct Snapshot {
 impl Model for Snapshot {
     ghost use Rattle.std.specs.Coded.{codes};
     ghost use Rattle.cdm_day.specs.inner.AirportCode.{airport_code};
-    ghost use Rattle.cdm_day.specs.Day.{DayRecord};
+    ghost use Rattle.cdm_plan.specs.Day.{DayRecord};
 
     ghost Value = { DayRecord };
 

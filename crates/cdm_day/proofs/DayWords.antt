@@ -1,24 +1,19 @@
--- Words of flights, runways, days and plans that the proofs share.
-pub use Rattle.cdm_day.specs.Airport.{IsAirport, runway_names, with_runway, with_taxi}
-pub use Rattle.cdm_day.specs.Day.{DayRecord, flights_in, put_by_name, rules_in, with_update}
-unfoldable pub use Rattle.cdm_day.specs.Day.{rows_by_name, rules_of}
-pub use Rattle.cdm_day.specs.DayPlan.{IsDayAllowed, day_rules, records_in}
-unfoldable pub use Rattle.cdm_day.specs.DayPlan.{IsDayPlan, IsDayPlanBy}
-pub use Rattle.cdm_day.specs.Planning.{AreAims, HasParts, IsPlanOf, blocked_in, early_in, planned_of, target_in, targets_in, targets_on}
-unfoldable pub use Rattle.cdm_day.specs.Planning.{fixed_on}
+-- Words of flights, runways, and days that the proofs share.
+pub use Rattle.cdm_day.specs.Airport.{with_runway, with_taxi}
+pub use Rattle.cdm_plan.specs.Airport.{IsAirport, runway_names}
+pub use Rattle.cdm_plan.specs.Day.{DayRecord, flights_in, put_by_name, rules_in, with_update}
+unfoldable pub use Rattle.cdm_plan.specs.Day.{rows_by_name, rules_of}
 pub use Rattle.cdm_day.specs.Runways.{has_window, plain_of, with_change}
-pub use Rattle.cdm_day.specs.Sound.{IsSound, TellTaxi}
-pub use Rattle.cdm_day.specs.inner.Aimed.{CanSequence, IsAimed, early_among, if_on, if_passes, is_on, target_for}
-pub use Rattle.cdm_day.specs.inner.Kept.{Adds, AreKept, IsMade, IsPlanOn, IsSince, Together, fixed_in, is_noted, is_touched, kept_plan}
+pub use Rattle.cdm_plan.specs.Sound.{IsSound, TellTaxi}
+pub use Rattle.cdm_plan.specs.Kept.{AreKept, IsSince}
 pub use Rattle.cdm_day.specs.inner.Kinds.{is_of_runway, window_end}
-pub use Rattle.cdm_day.specs.inner.Tables.{new_flight}
 pub use Rattle.cdm_flight.proofs.JournalLemmas.{aobt-untouched, atot-untouched, before_off-all, cancels-untouched, flight_of-fresh, flight_of-step, flight_of-untouched, last_value-push, last_value-silent, list_any-silent, planned_says, same_name-refl, status_of-record}
-pub use Rattle.cdm_flight.specs.Accepted.{after_one, flight_refusal, has_runway, is_disordered, is_full, is_unknown, stand_with_taxi, stands_with_rows}
+pub use Rattle.cdm_flight.specs.Accepted.{after_one, has_runway, is_full, is_unknown, stand_with_taxi, stands_with_rows}
 unfoldable pub use Rattle.cdm_flight.specs.Accepted.{accepted, refusal, refusal_of, replies_to}
-pub use Rattle.cdm_flight.specs.Journal.{AirportRows, aobt_of, atot_of, cancels, cap_of, closed_of, exot_now, is_cancelled, is_known, last_value, makes_known, now_of, only_if, record_with, runway_of, runway_row, same_place, sets_aobt, sets_atot, sets_cap, sets_closed, sets_now, sets_runway, sets_taxi, status_from, status_of, taxi_of, touches, window_has}
+pub use Rattle.cdm_flight.specs.Journal.{AirportRows, aobt_of, atot_of, cancels, cap_of, closed_of, exot_now, is_cancelled, is_known, last_value, makes_known, only_if, record_with, runway_of, runway_row, same_place, sets_aobt, sets_atot, sets_cap, sets_closed, sets_now, sets_runway, sets_taxi, status_from, status_of, taxi_of, touches, window_has}
 unfoldable pub use Rattle.cdm_flight.specs.Journal.{exot_of, flight_of}
-pub use Rattle.cdm_flight.specs.Names.{name_cmp, same_name}
-pub use Rattle.cdm_flight.specs.Record.{Record, fresh, is_planned}
+pub use Rattle.cdm_flight.specs.Names.{same_name}
+pub use Rattle.cdm_flight.specs.Record.{Record, fresh}
 pub use Rattle.cdm_flight.specs.Step.{flight_of_update, is_fresh, or_refused, runway_of_update, step_of, step_refusal}
 pub use Rattle.cdm_flight.specs.Taxi.{TaxiRows, is_new_stand, is_one_stand_too_many, stand_of_place, stands_in, taxi_cmp, taxi_out}
 pub use Rattle.cdm_flight.specs.declared.airport.RunwayRow.{RunwayRow}
@@ -27,19 +22,6 @@ pub use Rattle.cdm_flight.specs.declared.update.Update.{Update}
 pub use Rattle.cdm_runway.proofs.RulesLemmas.{rate_window-in_order, rate_window-says}
 pub use Rattle.cdm_runway.specs.Rules.{RunwayRules, is_rate_window, with_closed, with_range, with_rate}
 unfoldable pub use Rattle.cdm_runway.specs.Rules.{plain_rules}
-pub use Rattle.cdm_sequence.proofs.AimLemmas.{aim_is, aim_means, aim_with, aim_with_exot}
-unfoldable pub use Rattle.cdm_sequence.proofs.AimLemmas.{aim_of}
-pub use Rattle.cdm_sequence.proofs.OrderLemmas.{is_same, same_flips, same_is, tied_names}
-pub use Rattle.cdm_sequence.specs.Aims.{IsAim, TaxiTimes}
-pub use Rattle.cdm_sequence.specs.Fixed.{slot_by, takeoffs}
-unfoldable pub use Rattle.cdm_sequence.specs.Fixed.{fixed_slot}
-pub use Rattle.cdm_sequence.specs.Plan.{IsAllowed, IsEarlier, Placing}
-pub use Rattle.cdm_sequence.specs.Sequence.{IsRightlyBlocked, IsSequence, IsSequenceBy, flight_names, planned_slot}
-pub use Rattle.cdm_sequence.specs.inner.Shown.{names_left, slots_by}
-pub use Rattle.cdm_sequence.specs.Slots.{PlanRecord, RunwayPlanRecord, SlotRecord}
-pub use Rattle.cdm_sequence.specs.Targets.{TargetRecord}
-pub use Rattle.cdm_sequence.specs.declared.aims.AimResult.{AimResult}
-pub use Rattle.cdm_sequence.specs.declared.slot.BlockedFlight.{BlockedFlight}
+pub use Rattle.cdm_sequence.specs.Slots.{PlanRecord, RunwayPlanRecord}
 pub use Rattle.cdm_taxi.proofs.StandLemmas.{distinct_count-same, has_row-insert, is_stand_of, stand_count-empty, stand_count-insert}
 pub use Rattle.cdm_flight.specs.declared.update.Update.TheVariants.{Clock, Close, Flt, Off, Rate, Reopen, Rwy, Taxi}
-pub use Rattle.cdm_sequence.specs.declared.aims.AimResult.TheVariants.{Early, Ready}

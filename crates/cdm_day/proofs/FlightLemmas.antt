@@ -1,6 +1,6 @@
 -- The table of flights says what the journal says after one more update.
 use Rattle.std.proofs.Common.{◌≡◌, ℕ, Bool, true, false, List, [], ◌∷◌, ◌++◌, Option, None, Some, refl, sym, ap, ◌∙◌, subst}
-use Rattle.cdm_day.proofs.ListWords.{is_some, option_and_then, option_map_or, list_any, cons_option, same_text, append-nil, map-append}
+use Rattle.cdm_plan.proofs.ListWords.{is_some, option_and_then, option_map_or, list_any, cons_option, same_text, append-nil, map-append}
 use Rattle.cdm_day.proofs.DayWords.{Place, Update, same_name, Record, fresh, flight_of_update, is_fresh, step_of, TaxiRows, taxi_out, AirportRows, touches, is_known, is_cancelled, runway_of, aobt_of, atot_of, exot_now, exot_of, record_with, flight_of, taxi_of, flight_of-untouched, flight_of-fresh, before_off-all}
 use Rattle.cdm_day.proofs.DayWords.{status_of-record, planned_says, flights_in, Flt, Off}
 use Rattle.std.specs.Map.{lookup, keys_of}
@@ -10,7 +10,7 @@ use Rattle.indexmap.proofs.CallerLemmas.{insert_entry-new, keys-insert_entry-pre
 use Rattle.cdm_flight.specs.declared.flight.Status.{Status}
 use Rattle.cdm_flight.specs.declared.flight.Status.TheVariants.{Planned, OffBlock, Airborne, Cancelled}
 use Rattle.cdm_day.specs.inner.Tables.{Flights, Sets, TellFlights}
-use Rattle.cdm_day.proofs.JournalFacts.{new_flight-old, flights_in-push}
+use Rattle.cdm_plan.proofs.JournalFacts.{new_flight-old, flights_in-push}
 
 -- The taxi-out time that the code takes is the journal's where it matters.
 

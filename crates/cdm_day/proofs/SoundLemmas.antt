@@ -1,8 +1,8 @@
 -- A day stays sound with every update that no word refuses.
 use Rattle.std.proofs.Common.{◌≡◌, ℕ, ◌≤◌, Bool, true, false, not, ◌||◌, List, [], ◌∷◌, ◌++◌, length, Option, None, Some, refl, sym, ap, ◌∙◌, subst, true≢false, arith, length-append}
-use Rattle.cdm_day.proofs.ListWords.{false_from_ne_true, nat_le, count_by, is_some, or_parts, nat_tests, option_or, list_any, IsDistinct, nat_list_eq_equiv, append-nil, IsDistinct-push, list_any-push}
+use Rattle.cdm_plan.proofs.ListWords.{false_from_ne_true, nat_le, count_by, is_some, or_parts, nat_tests, option_or, list_any, IsDistinct, nat_list_eq_equiv, append-nil, IsDistinct-push, list_any-push}
 use Rattle.cdm_day.proofs.DayWords.{Update, same_name, flight_of_update, is_fresh, is_one_stand_too_many, AirportRows, touches, makes_known, sets_runway, is_known, flight_of, runway_of, same_name-refl, has_runway, is_unknown, is_full, stands_with_rows, refusal_of, last_value-push, DayRecord, flights_in, with_update, IsSound, Flt, Taxi}
-use Rattle.cdm_day.proofs.JournalFacts.{accepted_is, flights_in-push, some_named}
+use Rattle.cdm_plan.proofs.JournalFacts.{accepted_is, flights_in-push, some_named}
 use Rattle.cdm_day.proofs.WordLemmas.{flt-accepted, known_from, known_is, named_runway}
 
 -- a flight is known where it is among those that were made known

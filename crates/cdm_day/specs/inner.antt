@@ -1,6 +1,3 @@
-pub mod Aimed
 pub mod AirportCode
-pub mod Kept
 pub mod Kinds
 pub mod Tables
-pub mod Work

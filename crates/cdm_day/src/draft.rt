@@ -1,15 +1,15 @@
 //! A day that a batch of updates is changing.
 ghost use Rattle.std.specs.Prelude.{◌≡◌, map, IfOk};
 ghost use Rattle.cdm_flight.specs.Accepted.{refusal, after_one, accepted, replies_to};
-ghost use Rattle.cdm_day.specs.Day.{DayRecord};
+ghost use Rattle.cdm_plan.specs.Day.{DayRecord};
 ghost use Rattle.cdm_day.specs.Replies.{reply_of};
-ghost use Rattle.cdm_day.specs.inner.Kept.{IsSince};
+ghost use Rattle.cdm_plan.specs.Kept.{IsSince};
 
 use crate::judging::judge_as;
 use crate::reply::Reply;
 use crate::tables::Tables;
-use crate::touched::Touched;
 use cdm_flight::{Role, Update};
+use cdm_plan::Touched;
 use std::alloc::{AllocError, Global};
 
 /// The tables of a day, and the runways that were touched since the batch began.

@@ -7,8 +7,8 @@ ghost use Rattle.cdm_flight.specs.Taxi.{taxi_out};
 ghost use Rattle.cdm_flight.specs.Journal.{flight_of, is_known};
 ghost use Rattle.cdm_flight.specs.Accepted.{is_unknown, refusal_of};
 
-use crate::records::Records;
 use cdm_flight::{Flight, FlightName, RefusalWord, Update};
+use cdm_plan::Records;
 use cdm_taxi::TaxiTable;
 
 // The flight's taxi-out time to its runway, as the table has it.

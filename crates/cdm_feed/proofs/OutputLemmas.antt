@@ -17,12 +17,13 @@ use Rattle.cdm_flight.specs.declared.update.Update.TheVariants.{Flt}
 use Rattle.cdm_flight.specs.declared.word.RefusalWord.{RefusalWord}
 use Rattle.cdm_flight.specs.declared.word.RefusalWord.TheVariants as word
 use Rattle.cdm_sequence.proofs.OrderLemmas.{same_flips}
-use Rattle.cdm_day.specs.Airport.{IsAirport, runway_names, with_runway, with_taxi}
-use Rattle.cdm_day.specs.Day.{DayRecord, flights_in}
+use Rattle.cdm_day.specs.Airport.{with_runway, with_taxi}
+use Rattle.cdm_plan.specs.Airport.{IsAirport, runway_names}
+use Rattle.cdm_plan.specs.Day.{DayRecord, flights_in}
 use Rattle.cdm_day.specs.inner.Tables.{new_flight}
-use Rattle.cdm_day.proofs.OnePlanLemmas.{one_day_plan}
+use Rattle.cdm_plan.proofs.OnePlanLemmas.{one_day_plan}
 use Rattle.cdm_day.proofs.AirportLemmas.{airport_after_runway, airport_after_taxi, airport_without_rows}
-use Rattle.cdm_day.proofs.JournalFacts.{flights_in-push}
+use Rattle.cdm_plan.proofs.JournalFacts.{flights_in-push}
 use Rattle.cdm_feed.specs.AirportFile.{airport_in, begun, with_record}
 use Rattle.cdm_feed.specs.AirportRecords.{airport_record_of}
 use Rattle.cdm_feed.specs.Fields.{and_then, of_one}

@@ -7,7 +7,7 @@ use Rattle.cdm_flight.specs.Journal.{AirportRows}
 use Rattle.cdm_flight.specs.declared.update.Update.{Update}
 use Rattle.cdm_flight.specs.declared.word.RefusalWord.{RefusalWord}
 use Rattle.cdm_time.specs.declared.calendar.CalendarDate.{CalendarDate}
-use Rattle.cdm_day.specs.Day.{DayRecord}
+use Rattle.cdm_plan.specs.Day.{DayRecord}
 use Rattle.cdm_feed.specs.Output.{accepted_in, refusals_in, spelled_in}
 use Rattle.cdm_feed.specs.Parsing.{parse_of}
 use Rattle.cdm_feed.specs.Records.{records_of}

@@ -5,7 +5,7 @@ use Rattle.cdm_time.specs.declared.calendar.CalendarDate.{CalendarDate}
 use Rattle.cdm_report.specs.Delta.{delta_line}
 use Rattle.cdm_report.specs.Report.{line_end, refused_line, report_bytes}
 use Rattle.cdm_report.specs.declared.counts.Counts.{Counts}
-use Rattle.cdm_day.specs.Day.{DayRecord}
+use Rattle.cdm_plan.specs.Day.{DayRecord}
 use Rattle.cdm_scenario.specs.Outcome.{IsOutcome}
 use Rattle.cdm_scenario.specs.Scenarios.{ScenarioRecord}
 use Rattle.cdm_scenario.specs.declared.outcome.Outcome.{Outcome}

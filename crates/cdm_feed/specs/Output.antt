@@ -8,8 +8,8 @@ use Rattle.cdm_flight.specs.declared.word.RefusalWord.{RefusalWord}
 use Rattle.cdm_sequence.specs.Slots.{PlanRecord}
 use Rattle.cdm_report.specs.Counts.{counts_of}
 use Rattle.cdm_report.specs.Report.{report_bytes}
-use Rattle.cdm_day.specs.Day.{DayRecord}
-use Rattle.cdm_day.specs.DayPlan.{IsDayPlan}
+use Rattle.cdm_plan.specs.Day.{DayRecord}
+use Rattle.cdm_plan.specs.DayPlan.{IsDayPlan}
 use Rattle.cdm_scenario.specs.Scenarios.{ScenarioRecord}
 use Rattle.cdm_feed.specs.AirportFile.{airport_in}
 use Rattle.cdm_feed.specs.Answers.{IsAnswer}

@@ -3,7 +3,7 @@ ghost use Rattle.std.specs.Prelude.{◌≡◌, ◌++◌, ℕ, List, [], ◌∷�
 ghost use Rattle.std.specs.List.{AllZip, concat};
 ghost use Rattle.cdm_phase.specs.declared.job.PhaseName.TheVariants.{Scenarios};
 ghost use Rattle.cdm_report.specs.Report.{line_end};
-ghost use Rattle.cdm_day.specs.Sound.{IsSound};
+ghost use Rattle.cdm_plan.specs.Sound.{IsSound};
 ghost use Rattle.cdm_feed.specs.Answers.{IsAnswer, outcome_text};
 ghost use Rattle.cdm_feed.specs.inner.OneAnswer.{one_answer};
 

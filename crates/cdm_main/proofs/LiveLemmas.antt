@@ -5,8 +5,8 @@ use Rattle.cdm_flight.specs.Journal.{AirportRows}
 use Rattle.cdm_flight.specs.declared.role.Role.{Role}
 use Rattle.cdm_flight.specs.declared.update.Update.{Update}
 use Rattle.cdm_report.specs.Report.{report_bytes}
-use Rattle.cdm_day.specs.Day.{DayRecord}
-use Rattle.cdm_day.specs.DayPlan.{IsDayPlan}
+use Rattle.cdm_plan.specs.Day.{DayRecord}
+use Rattle.cdm_plan.specs.DayPlan.{IsDayPlan}
 use Rattle.cdm_day.specs.declared.reply.Reply.{Reply}
 use Rattle.cdm_board.specs.History.{Call, calls_of}
 use Rattle.cdm_feed.specs.AirportFile.{airport_in}

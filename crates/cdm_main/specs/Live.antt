@@ -10,7 +10,7 @@ use Rattle.cdm_flight.specs.declared.update.Update.{Update}
 use Rattle.cdm_flight.specs.declared.word.RefusalWord.{RefusalWord}
 use Rattle.cdm_sequence.specs.Slots.{PlanRecord}
 use Rattle.cdm_report.specs.Report.{line_end, refused_line, report_bytes}
-use Rattle.cdm_day.specs.DayPlan.{IsDayPlan}
+use Rattle.cdm_plan.specs.DayPlan.{IsDayPlan}
 use Rattle.cdm_day.specs.declared.reply.Reply.{Reply}
 use Rattle.cdm_day.specs.declared.reply.Reply.TheVariants.{Accepted, Refused}
 use Rattle.cdm_board.specs.History.{Call, Posts, Looks, IsLegal, calls_of, day_of, journal_of}

@@ -10,10 +10,10 @@ use Rattle.cdm_sequence.specs.Slots.{PlanRecord}
 use Rattle.cdm_report.specs.Counts.{counts_of}
 use Rattle.cdm_report.specs.declared.counts.Counts.{Counts}
 use Rattle.cdm_day.specs.declared.reply.Reply.TheVariants as reply
-use Rattle.cdm_day.specs.Day.{DayRecord, with_update}
-use Rattle.cdm_day.specs.DayPlan.{IsDayPlan}
+use Rattle.cdm_plan.specs.Day.{DayRecord, with_update}
+use Rattle.cdm_plan.specs.DayPlan.{IsDayPlan}
 use Rattle.cdm_day.specs.Replies.{reply_of}
-use Rattle.cdm_day.proofs.NameLemmas.{all_taken}
+use Rattle.cdm_plan.proofs.NameLemmas.{all_taken}
 use Rattle.cdm_scenario.specs.Overlay.{after_judged, with_updates}
 use Rattle.cdm_scenario.specs.Outcome.{AreTaken, IsOutcome, word_at}
 use Rattle.cdm_scenario.specs.inner.OneOutcome.{no_more, one_more}

@@ -23,17 +23,18 @@ use Rattle.cdm_flight.specs.Journal.{AirportRows, is_known, sets_cap, sets_close
 use Rattle.cdm_flight.specs.Accepted.{is_unknown, refusal_of, stand_with_taxi}
 use Rattle.cdm_flight.proofs.JournalLemmas.{last_value-push, flight_of-untouched, flight_of-fresh, same_name-refl}
 use Rattle.cdm_runway.specs.Rules.{RunwayRules, with_closed, with_rate}
-use Rattle.cdm_day.specs.Day.{DayRecord, flights_in, rules_of, rules_in, rows_by_name}
+use Rattle.cdm_plan.specs.Day.{DayRecord, flights_in, rules_of, rules_in, rows_by_name}
 use Rattle.cdm_day.specs.Runways.{has_window, with_change}
-use Rattle.cdm_day.specs.Sound.{IsSound, TellTaxi}
+use Rattle.cdm_plan.specs.Sound.{IsSound, TellTaxi}
 use Rattle.cdm_day.specs.inner.Tables.{Flights}
 use Rattle.cdm_day.specs.inner.Kinds.{is_of_runway, is_taxi, window_end}
 use Rattle.cdm_day.specs.TaxiRows.{row_fits, with_row}
-use Rattle.cdm_day.proofs.DayPlanLemmas.{record_name}
+use Rattle.cdm_plan.proofs.DayPlanLemmas.{record_name}
 use Rattle.cdm_day.proofs.FlightLemmas.{flights-old, fresh-none, touches-none}
-use Rattle.cdm_day.proofs.JournalFacts.{clock-of_flight, cap-of_flight, closed-of_flight, taxi-of_flight, stand-of_flight, flights_in-push, now_of-same}
-use Rattle.cdm_day.proofs.NameLemmas.{all_at, find_some, rows_permutation}
-use Rattle.cdm_day.proofs.RunwayLemmas.{row_of_name, rules-same}
+use Rattle.cdm_plan.proofs.JournalFacts.{clock-of_flight, cap-of_flight, closed-of_flight, taxi-of_flight, stand-of_flight, flights_in-push, now_of-same}
+use Rattle.cdm_plan.proofs.NameLemmas.{all_at, find_some, rows_permutation}
+use Rattle.cdm_day.proofs.RunwayLemmas.{row_of_name}
+use Rattle.cdm_plan.proofs.RunwayLemmas.{rules-same}
 use Rattle.cdm_day.proofs.SoundLemmas.{known-among, known_update, sound_after}
 use Rattle.cdm_day.proofs.TableLemmas.{row_there, taxi_after_other, taxi_after_taxi}
 use Rattle.cdm_day.proofs.WindowLemmas.{rules-after, windows_by_name, window-of_no_flight, window-no_clock, window-no_taxi, window-no_stand}

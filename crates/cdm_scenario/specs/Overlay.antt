@@ -2,7 +2,7 @@
 use Rattle.std.specs.Prelude.{if◌then◌else◌, is_none, List, ◌++◌}
 use Rattle.cdm_flight.specs.declared.update.Update.{Update}
 use Rattle.cdm_flight.specs.Accepted.{refusal_of}
-use Rattle.cdm_day.specs.Day.{DayRecord, with_update}
+use Rattle.cdm_plan.specs.Day.{DayRecord, with_update}
 
 -- the day with further updates
 abbrev pub with_updates : DayRecord → List Update → DayRecord

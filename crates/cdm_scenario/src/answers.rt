@@ -2,7 +2,7 @@
 ghost use Rattle.std.specs.Prelude.{◌≡◌, ◌≤◌, IfOk, length};
 ghost use Rattle.std.specs.List.{AllZip};
 ghost use Rattle.cdm_phase.specs.declared.job.PhaseName.TheVariants.{Scenarios};
-ghost use Rattle.cdm_day.specs.Sound.{IsSound};
+ghost use Rattle.cdm_plan.specs.Sound.{IsSound};
 ghost use Rattle.cdm_scenario.specs.Outcome.{IsOutcome};
 ghost use Rattle.cdm_scenario.specs.inner.OneOutcome.{one_outcome};
 

@@ -3,7 +3,7 @@ ghost use Rattle.std.specs.Prelude.{◌≡◌, ◌≤◌, true, false, None, Som
 ghost use Rattle.cdm_flight.specs.declared.update.Update.TheVariants as kind;
 ghost use Rattle.cdm_flight.specs.Step.{flight_of_update, is_fresh};
 ghost use Rattle.cdm_flight.specs.Accepted.{refusal_of};
-ghost use Rattle.cdm_day.specs.Day.{with_update};
+ghost use Rattle.cdm_plan.specs.Day.{with_update};
 ghost use Rattle.cdm_day.specs.Replies.{reply_of};
 ghost use Rattle.cdm_day.specs.inner.Kinds.{is_taxi, window_end};
 ghost use Rattle.cdm_scenario.specs.Overlay.{after_judged};
@@ -42,7 +42,7 @@ impl<'a> Model for Overlay<'a> {
     ghost use Rattle.std.specs.Prelude.{◌++◌};
     ghost use Rattle.std.specs.Coded.{codes};
     ghost use Rattle.cdm_day.specs.inner.AirportCode.{airport_code};
-    ghost use Rattle.cdm_day.specs.Day.{DayRecord};
+    ghost use Rattle.cdm_plan.specs.Day.{DayRecord};
 
     ghost Value = { DayRecord };
 

@@ -5,8 +5,8 @@ use Rattle.std.specs.List.{IsDistinct, concat}
 use Rattle.cdm_flight.specs.Names.{same_name}
 use Rattle.cdm_report.specs.declared.counts.Counts.{Counts}
 use Rattle.cdm_report.specs.Report.{line_end}
-use Rattle.cdm_day.specs.Airport.{runway_names}
-use Rattle.cdm_day.specs.Day.{DayRecord, flights_in}
+use Rattle.cdm_plan.specs.Airport.{runway_names}
+use Rattle.cdm_plan.specs.Day.{DayRecord, flights_in}
 use Rattle.cdm_scenario.specs.Scenarios.{ScenarioRecord}
 use Rattle.cdm_scenario.specs.declared.outcome.Outcome.{Outcome}
 use Rattle.cdm_scenario.specs.inner.OneOutcome.{one_outcome}

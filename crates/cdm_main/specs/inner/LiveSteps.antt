@@ -7,8 +7,8 @@ use Rattle.cdm_flight.specs.declared.update.Update.{Update}
 use Rattle.cdm_flight.specs.declared.word.RefusalWord.{RefusalWord}
 use Rattle.cdm_sequence.specs.Slots.{PlanRecord}
 use Rattle.cdm_report.specs.Report.{report_bytes}
-use Rattle.cdm_day.specs.Day.{DayRecord}
-use Rattle.cdm_day.specs.DayPlan.{IsDayPlan}
+use Rattle.cdm_plan.specs.Day.{DayRecord}
+use Rattle.cdm_plan.specs.DayPlan.{IsDayPlan}
 use Rattle.cdm_day.specs.declared.reply.Reply.{Reply}
 use Rattle.cdm_day.specs.declared.reply.Reply.TheVariants.{Refused}
 use Rattle.cdm_board.specs.History.{Call, DeskRecord, IsLegal, calls_of, day_of, journal_of}

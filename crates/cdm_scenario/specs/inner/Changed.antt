@@ -12,8 +12,8 @@ use Rattle.cdm_flight.specs.Names.{same_name}
 use Rattle.cdm_flight.specs.Taxi.{TaxiRows}
 use Rattle.cdm_flight.specs.Journal.{AirportRows, now_of, flight_of}
 use Rattle.cdm_runway.specs.Rules.{RunwayRules}
-use Rattle.cdm_day.specs.Day.{flights_in, rules_of}
-use Rattle.cdm_day.specs.Sound.{IsSound, TellTaxi}
+use Rattle.cdm_plan.specs.Day.{flights_in, rules_of}
+use Rattle.cdm_plan.specs.Sound.{IsSound, TellTaxi}
 use Rattle.cdm_day.specs.inner.Tables.{Flights}
 
 -- the runway that the update is a RATE, CLOSE or OPEN of

@@ -16,11 +16,11 @@ use Rattle.cdm_flight.specs.Names.{same_name}
 use Rattle.cdm_flight.specs.Journal.{AirportRows, is_known}
 use Rattle.cdm_flight.specs.Accepted.{refusal_of}
 use Rattle.cdm_report.specs.Counts.{counts_of}
-use Rattle.cdm_day.specs.Airport.{runway_names}
-use Rattle.cdm_day.specs.Day.{DayRecord, flights_in, with_update}
-use Rattle.cdm_day.proofs.JournalFacts.{flights_in-push}
-use Rattle.cdm_day.proofs.NameLemmas.{all_taken, take-next}
-use Rattle.cdm_day.proofs.OnePlanLemmas.{one_day_plan}
+use Rattle.cdm_plan.specs.Airport.{runway_names}
+use Rattle.cdm_plan.specs.Day.{DayRecord, flights_in, with_update}
+use Rattle.cdm_plan.proofs.JournalFacts.{flights_in-push}
+use Rattle.cdm_plan.proofs.NameLemmas.{all_taken, take-next}
+use Rattle.cdm_plan.proofs.OnePlanLemmas.{one_day_plan}
 use Rattle.cdm_scenario.specs.Overlay.{with_updates}
 use Rattle.cdm_scenario.specs.Outcome.{AreTaken, IsOutcome, word_at}
 use Rattle.cdm_scenario.specs.declared.outcome.Outcome.{Outcome}

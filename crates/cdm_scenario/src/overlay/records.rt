@@ -1,7 +1,7 @@
 //! The records of a day with further updates.
 ghost use Rattle.std.specs.Prelude.{◌≡◌, slice_get};
-ghost use Rattle.cdm_day.specs.Day.{flights_in};
-ghost use Rattle.cdm_day.specs.Sound.{IsSound};
+ghost use Rattle.cdm_plan.specs.Day.{flights_in};
+ghost use Rattle.cdm_plan.specs.Sound.{IsSound};
 
 use super::Overlay;
 use cdm_day::Records;

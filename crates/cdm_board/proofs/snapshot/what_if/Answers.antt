@@ -1,7 +1,7 @@
 use Rattle.std.proofs.Common.{subst}
 use Rattle.std.specs.Prelude.{IfOk}
 use Rattle.std.specs.List.{AllZip}
-use Rattle.cdm_day.specs.Day.{DayRecord}
+use Rattle.cdm_plan.specs.Day.{DayRecord}
 use Rattle.cdm_scenario.specs.Outcome.{IsOutcome}
 use Rattle.cdm_board.proofs.snapshot.what_if.Goals as goal
 

@@ -1,7 +1,7 @@
 use Rattle.std.proofs.Common.{◌≡◌, Some, sym, ap, ◌∙◌}
-use Rattle.cdm_day.proofs.ListWords.{option_copied}
+use Rattle.cdm_plan.proofs.ListWords.{option_copied}
 use Rattle.cdm_day.proofs.DayWords.{flight_of, step_of}
-use Rattle.cdm_day.proofs.DayPlanLemmas.{record_name}
+use Rattle.cdm_plan.proofs.DayPlanLemmas.{record_name}
 use Rattle.cdm_day.proofs.WordLemmas.{flight-unknown, stepped}
 use Rattle.cdm_day.proofs.step.flight_after.Goals as goal
 

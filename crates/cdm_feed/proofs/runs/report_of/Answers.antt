@@ -1,5 +1,5 @@
 use Rattle.std.proofs.Common.{◌≡◌, ◌∙◌, length, ap, sym}
-use Rattle.cdm_day.specs.Day.{DayRecord}
+use Rattle.cdm_plan.specs.Day.{DayRecord}
 use Rattle.cdm_feed.specs.Output.{accepted_in, refusals_in}
 use Rattle.cdm_feed.proofs.runs.report_of.Goals as goal
 

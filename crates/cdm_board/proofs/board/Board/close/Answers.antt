@@ -1,7 +1,7 @@
 use Rattle.std.proofs.Common.{◌≡◌, ℕ, List, refl, sym, ap, ◌∙◌, MatchOption, Some, Option, subst}
 use Rattle.std.specs.Global.{Vec}
 use Rattle.cdm_flight.specs.Journal.{AirportRows}
-use Rattle.cdm_day.specs.Day.{DayRecord}
+use Rattle.cdm_plan.specs.Day.{DayRecord}
 use Rattle.cdm_board.specs.History.{day_of}
 use Rattle.cdm_flight.specs.declared.update.Update.{Update}
 use Rattle.cdm_board.specs.History.{Call, DeskRecord, Opened, BoardRecord, AreNumbered, IsLegal, IsMerge, IsMismatch, journal_of, day_now}

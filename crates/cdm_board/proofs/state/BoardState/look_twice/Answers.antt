@@ -1,5 +1,5 @@
 use Rattle.std.proofs.Common.{◌≡◌, refl, ap, ◌∙◌}
-use Rattle.cdm_day.specs.Day.{DayRecord}
+use Rattle.cdm_plan.specs.Day.{DayRecord}
 use Rattle.cdm_board.specs.History.{Call, Looks}
 use Rattle.cdm_board.specs.Receipts.{call_of}
 use Rattle.cdm_board.proofs.Boards.{grows}

@@ -1,7 +1,7 @@
 use Rattle.std.proofs.Common.{◌≡◌, ap, ◌∙◌, arith, List}
 use Rattle.cdm_day.specs.declared.reply.Reply.{Reply}
 use Rattle.cdm_flight.specs.Accepted.{accepted}
-use Rattle.cdm_day.specs.Day.{DayRecord}
+use Rattle.cdm_plan.specs.Day.{DayRecord}
 use Rattle.cdm_board.specs.History.{day_of, answers_to}
 use Rattle.cdm_board.specs.History.{Call, Posts}
 use Rattle.cdm_board.specs.Receipts.{call_of}

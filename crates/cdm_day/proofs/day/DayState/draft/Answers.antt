@@ -1,6 +1,6 @@
 use Rattle.std.proofs.Common.{sym, ◌∙◌, subst}
 use Rattle.cdm_day.proofs.DayWords.{DayRecord, IsSince}
-use Rattle.cdm_day.proofs.KeptLemmas.{since_itself}
+use Rattle.cdm_plan.proofs.KeptLemmas.{since_itself}
 use Rattle.cdm_day.proofs.day.DayState.draft.Goals as goal
 
 pub returns-clause-since : goal.returns-clause-since

@@ -1,7 +1,7 @@
 use Rattle.std.proofs.Common.{sym, ap, ◌∙◌, subst, List}
-use Rattle.cdm_day.proofs.ListWords.{arc_value}
+use Rattle.cdm_plan.proofs.ListWords.{arc_value}
 use Rattle.cdm_day.proofs.DayWords.{PlanRecord, RunwayPlanRecord, DayRecord, AreKept, IsSince}
-use Rattle.cdm_day.proofs.KeptLemmas.{kept_since}
+use Rattle.cdm_plan.proofs.KeptLemmas.{kept_since}
 use Rattle.cdm_day.proofs.day.DayState.kept.Goals as goal
 
 pub returns : goal.returns

@@ -1,6 +1,6 @@
 use Rattle.std.proofs.Common.{sym, ◌∙◌}
 use Rattle.cdm_day.proofs.BatchLemmas.{good_from}
-use Rattle.cdm_day.proofs.KeptLemmas.{since_taken}
+use Rattle.cdm_plan.proofs.KeptLemmas.{since_taken}
 use Rattle.cdm_day.proofs.draft.Draft.answer.Goals as goal
 
 pub take-requires : goal.take-requires

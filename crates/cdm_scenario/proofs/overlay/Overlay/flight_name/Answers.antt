@@ -2,7 +2,7 @@ use Rattle.std.proofs.Common.{◌-◌, ◌<◌, ◌≤◌, None, Some, sym, ap, 
 use Rattle.std.specs.Prelude.{slice_get}
 use Rattle.std.specs.Option.{option_copied}
 use Rattle.cdm_flight.specs.Record.{Record}
-use Rattle.cdm_day.specs.Day.{flights_in}
+use Rattle.cdm_plan.specs.Day.{flights_in}
 use Rattle.cdm_scenario.proofs.OverlayLemmas.{new_name, old_name}
 use Rattle.cdm_scenario.proofs.overlay.Overlay.flight_name.Goals as goal
 

@@ -1,0 +1,12 @@
+pub mod ListWords
+pub mod PlanWords
+pub mod JournalFacts
+pub mod NameLemmas
+pub mod RunwayLemmas
+pub mod PlanningLemmas
+pub mod PlacingLemmas
+pub mod PartLemmas
+pub mod DayPlanLemmas
+pub mod MadeLemmas
+pub mod OnePlanLemmas
+pub mod KeptLemmas

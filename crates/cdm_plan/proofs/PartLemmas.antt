@@ -1,0 +1,103 @@
+-- The plans of the runways, in some order, make the plan of the day.
+use Rattle.std.proofs.Common.{◌≡◌, ℕ, zero, suc, ◌+◌, ◌≤◌, ◌<◌, Bool, List, [], ◌∷◌, ◌++◌, refl, sym, ◌∙◌, subst, arith, Bor, map, filter, length, length-append, sum_by, get_or, set}
+use Rattle.cdm_plan.proofs.ListWords.{is_some, length-map, All, AllZip, IsDistinct, flat_map, swap, IsPermutation, All-cons, All-head, All-nil, All-tail, IsPermutation-keeps, IsPermutation-refl, IsPermutation-swap, IsPermutation-sym, IsPermutation-trans, length_permutation, sum_by-IsPermutation, sum_by-add}
+use Rattle.cdm_plan.proofs.PlanWords.{same_name, Record, RunwayRules, TaxiTimes, SlotRecord, IsSequence, PlanRecord, RunwayPlanRecord, TargetRecord, AimResult, BlockedFlight, AreAims, HasParts, IsPlanOf, early_in, fixed_on, targets_in, targets_on}
+use Rattle.std.proofs.lemmas.List.Concat.{length-flat_map}
+use Rattle.std.proofs.lemmas.Slice.Zip.{AllZip-long}
+use Rattle.cdm_plan.proofs.PlacingLemmas.{placed, placing_of}
+use Rattle.cdm_plan.proofs.PlanningLemmas.{all_shown, all_zipped, any_of, blocked_early, early_at, early_named, few_names, gathered, made_named, names_stand, shown, stands, stands_here, targets_of}
+
+-- Lists in another order.
+
+module _ {X Y : Type 0} (R : X → Y → Type 0) where
+  AllZip-at : (xs : List X) (ys : List Y) (i : ℕ) (d : X) (e : Y) → i < length xs → AllZip R xs ys → R (get_or xs i d) (get_or ys i e)
+  AllZip-at [] ys i d e less all = absurd (omega arith)
+  AllZip-at (x ∷ xs) [] i d e less all = absurd all
+  AllZip-at (x ∷ xs) (y ∷ ys) zero d e less all = all.0
+  AllZip-at (x ∷ xs) (y ∷ ys) (suc i) d e less all = AllZip-at xs ys i d e (omega arith) all.1
+
+  AllZip-set : (xs : List X) (ys : List Y) (i : ℕ) (x : X) (y : Y) → R x y → AllZip R xs ys → AllZip R (set xs i x) (set ys i y)
+  AllZip-set [] [] i x y here all = tt
+  AllZip-set (u ∷ xs) (v ∷ ys) zero x y here all = (here, all.1)
+  AllZip-set (u ∷ xs) (v ∷ ys) (suc i) x y here all = (all.0, AllZip-set xs ys i x y here all.1)
+  AllZip-set _ _ i x y here all = absurd all
+
+  AllZip-swap : (xs : List X) (ys : List Y) (i j : ℕ) → i < length xs → j < length xs → AllZip R xs ys → AllZip R (swap xs i j) (swap ys i j)
+  AllZip-swap [] ys i j p q all = absurd (omega arith)
+  AllZip-swap (x ∷ xs) [] i j p q all = absurd all
+  AllZip-swap (x ∷ xs) (y ∷ ys) i j p q all =
+      AllZip-set (set (x ∷ xs) i (get_or (x ∷ xs) j x)) (set (y ∷ ys) i (get_or (y ∷ ys) j y)) j (get_or (x ∷ xs) i x) (get_or (y ∷ ys) i y)
+      (AllZip-at (x ∷ xs) (y ∷ ys) i x y p all)
+      (AllZip-set (x ∷ xs) (y ∷ ys) i (get_or (x ∷ xs) j x) (get_or (y ∷ ys) j y) (AllZip-at (x ∷ xs) (y ∷ ys) j x y q all) all)
+
+  -- what goes with the elements of a list goes, in another order, with those of the list in another order
+  pub AllZip-reordered : (xs us : List X) (ys : List Y) → IsPermutation xs us → AllZip R xs ys → (vs : List Y) × AllZip R us vs × IsPermutation vs ys
+  AllZip-reordered xs us ys same all =
+      let found = IsPermutation-keeps xs (λ (l : List X). (vs : List Y) × AllZip R l vs × IsPermutation ys vs) (ys, all, IsPermutation-refl ys) step us same in
+      (found.0, found.1, IsPermutation-sym ys found.0 found.2)
+    where
+      step : (l : List X) (i j : ℕ) → i < length l → j < length l → (vs : List Y) × AllZip R l vs × IsPermutation ys vs → (vs : List Y) × AllZip R (swap l i j) vs × IsPermutation ys vs
+      step l i j p q found =
+          let vs = found.0 in
+          let long : length vs ≡ length l = AllZip-long R l vs found.1 in
+          (swap vs i j, AllZip-swap l vs i j p q found.1, IsPermutation-trans ys vs (swap vs i j) found.2 (IsPermutation-swap vs (swap vs i j) i j (omega arith) (omega arith) refl))
+
+-- what goes with lent values goes with the values
+pub AllZip-lent : {X Y : Type 0} (R : X → Y → Type 0) (xs : List (Bor X)) (ys : List Y) → AllZip (λ x y. R x.now y) xs ys → AllZip R (map (λ x. x.now) xs) ys
+AllZip-lent R [] [] all = tt
+AllZip-lent R (x ∷ xs) (y ∷ ys) all = (all.0, AllZip-lent R xs ys all.1)
+AllZip-lent R _ _ all = absurd all
+
+-- and what holds of all values holds of lent ones
+pub All-lent : {X : Type 0} (P : X → Type 0) (xs : List (Bor X)) → All P (map (λ x. x.now) xs) → All (λ x. P x.now) xs
+All-lent P [] all = All-nil (λ x. P x.now)
+All-lent P (x ∷ xs) all = All-cons (λ x. P x.now) x xs (All-head P x.now (map (λ x. x.now) xs) all) (All-lent P xs (All-tail P x.now (map (λ x. x.now) xs) all))
+
+-- The parts of a plan.
+
+-- a plan has no more flights than its parts
+pub few_joined : (early : List BlockedFlight) (made ordered : List RunwayPlanRecord) (blocked : List BlockedFlight) (most : ℕ)
+    → IsPermutation made ordered → IsPermutation (early ++ flat_map (λ p. p.blocked) ordered) blocked
+    → sum_by (λ p. length p.slots + length p.blocked) made + length early ≤ most
+    → sum_by (λ p. length p.slots) ordered + length blocked ≤ most
+few_joined early made ordered blocked most same others few =
+    let moved = sum_by-IsPermutation (λ (p : RunwayPlanRecord). length p.slots + length p.blocked) made ordered same in
+    let split = sum_by-add (λ (p : RunwayPlanRecord). length p.slots) (λ p. length p.blocked) ordered in
+    let count = length_permutation (early ++ flat_map (λ p. p.blocked) ordered) blocked others in
+    let parts = length-append early (flat_map (λ p. p.blocked) ordered) in
+    let flat = length-flat_map (λ (p : RunwayPlanRecord). p.blocked) ordered in
+    omega arith
+
+-- and the parts have at most as many flights as there are
+pub few_parts : (times : TaxiTimes) (now : ℕ) (fs : List Record) (runways : List RunwayRules) (made plans : List RunwayPlanRecord)
+    → AllZip (λ r p. IsSequence r (fixed_on r.name fs) (targets_on r.name (targets_of fs times now)) p) runways made → IsPermutation made plans
+    → IsDistinct same_name (map (λ r. r.name) runways) → sum_by (λ p. length p.slots + length p.blocked) plans + length (blocked_early fs times now) ≤ length fs
+few_parts times now fs runways made plans each same own =
+    let fixed : List ℕ → List SlotRecord = λ r. fixed_on r fs in
+    let targets : List ℕ → List TargetRecord = λ r. targets_on r (targets_of fs times now) in
+    let early : Record → Bool = λ f. is_some (early_at times now f) in
+    let rest = map (λ (b : BlockedFlight). b.name) (blocked_early fs times now) in
+    let Shows : RunwayPlanRecord → Type 0 = λ p. IsPermutation (map (λ f. f.name) (filter (stands times now p.runway) fs)) (shown p) in
+    let all : All Shows made = all_zipped (λ r p. IsSequence r (fixed r.name) (targets r.name) p) Shows
+    (λ r p h. subst (λ (n : List ℕ). IsPermutation (map (λ f. f.name) (filter (stands times now n) fs)) (shown p)) (sym h.1.runway)
+    (IsPermutation-trans _ _ _ (names_stand r.name times now fs) (all_shown r (fixed r.name) (targets r.name) p h))) runways made each in
+    let apart = subst (λ (ns : List (List ℕ)). IsDistinct same_name ns) (sym (made_named fixed targets runways made each)) own in
+    let once = gathered fs (stands times now) early (stands_here times now) (λ (p : RunwayPlanRecord). p.runway) shown made rest apart (early_named times now fs) all in
+    let few = few_names (λ (f : Record). f.name) fs (any_of fs (stands times now) early (stands_here times now) (λ (p : RunwayPlanRecord). p.runway) shown made) (flat_map shown made ++ rest) once in
+    let moved = sum_by-IsPermutation (λ (p : RunwayPlanRecord). length p.slots + length p.blocked) made plans same in
+    let sizes : sum_by (λ p. length (shown p)) made ≡ sum_by (λ p. length p.slots + length p.blocked) made = λ i. sum_by (λ p. shown_length p i) made in
+    let parts = length-append (flat_map shown made) rest in
+    let flat = length-flat_map shown made in
+    let long = length-map (blocked_early fs times now) (λ (b : BlockedFlight). b.name) in
+    omega arith
+  where
+    shown_length : (p : RunwayPlanRecord) → length (shown p) ≡ length p.slots + length p.blocked
+    shown_length p = length-append (map (λ x. x.name) p.slots) (map (λ b. b.name) p.blocked) ∙ (λ i. length-map p.slots (λ (x : SlotRecord). x.name) i + length-map p.blocked (λ (b : BlockedFlight). b.name) i)
+
+-- plans that were made runway by runway make the day's plan
+pub runways_make : (times : TaxiTimes) (now : ℕ) (fs : List Record) (runways : List RunwayRules) (aims : List AimResult) (made : List RunwayPlanRecord) (plan : PlanRecord) → AreAims fs times now aims → IsDistinct same_name (map (λ r. r.name) runways)
+    → AllZip (λ r p. IsSequence r (fixed_on r.name fs) (targets_on r.name (targets_in aims)) p) runways made → plan.clock ≡ now → HasParts (early_in fs aims) made plan → IsPlanOf fs times now runways plan
+runways_make times now fs runways aims made plan are own all clock parts =
+    let fixed : List ℕ → List SlotRecord = λ r. fixed_on r fs in
+    let placing = placing_of fixed (targets_in aims) runways made all in
+    (placing, aims, record { aimed = are; clock = clock; made = made; sequences = placed fixed (targets_in aims) runways made own all; parts = parts })

@@ -1,0 +1,41 @@
+-- Words of flights, runways, days and plans that the proofs share.
+pub use Rattle.cdm_plan.specs.Airport.{IsAirport, runway_names}
+pub use Rattle.cdm_plan.specs.Day.{DayRecord, flights_in, put_by_name, rules_in, with_update}
+unfoldable pub use Rattle.cdm_plan.specs.Day.{rows_by_name, rules_of}
+pub use Rattle.cdm_plan.specs.DayPlan.{IsDayAllowed, day_rules, records_in}
+unfoldable pub use Rattle.cdm_plan.specs.DayPlan.{IsDayPlan, IsDayPlanBy}
+pub use Rattle.cdm_plan.specs.Planning.{AreAims, HasParts, IsPlanOf, blocked_in, early_in, planned_of, target_in, targets_in, targets_on}
+unfoldable pub use Rattle.cdm_plan.specs.Planning.{fixed_on}
+pub use Rattle.cdm_plan.specs.Sound.{IsSound, TellTaxi}
+pub use Rattle.cdm_plan.specs.inner.Aimed.{CanSequence, IsAimed, early_among, if_on, if_passes, is_on, target_for}
+pub use Rattle.cdm_plan.specs.Kept.{Adds, AreKept, IsMade, IsPlanOn, IsSince, fixed_in, is_noted, is_touched, kept_plan}
+pub use Rattle.cdm_plan.specs.inner.Together.{Together}
+pub use Rattle.cdm_plan.specs.Day.{new_flight}
+pub use Rattle.cdm_flight.proofs.JournalLemmas.{flight_of-untouched, last_value-push, status_of-record}
+pub use Rattle.cdm_flight.specs.Accepted.{flight_refusal, has_runway, is_disordered, is_full, is_unknown, stand_with_taxi}
+unfoldable pub use Rattle.cdm_flight.specs.Accepted.{refusal_of}
+pub use Rattle.cdm_flight.specs.Journal.{AirportRows, cap_of, closed_of, is_known, now_of, only_if, runway_row, sets_cap, sets_closed, sets_now, sets_taxi, taxi_of, touches}
+unfoldable pub use Rattle.cdm_flight.specs.Journal.{flight_of}
+pub use Rattle.cdm_flight.specs.Names.{name_cmp, same_name}
+pub use Rattle.cdm_flight.specs.Record.{Record, is_planned}
+pub use Rattle.cdm_flight.specs.Step.{flight_of_update, is_fresh}
+pub use Rattle.cdm_flight.specs.Taxi.{TaxiRows, taxi_out}
+pub use Rattle.cdm_flight.specs.declared.airport.RunwayRow.{RunwayRow}
+pub use Rattle.cdm_flight.specs.declared.place.Place.{Place}
+pub use Rattle.cdm_flight.specs.declared.update.Update.{Update}
+pub use Rattle.cdm_runway.specs.Rules.{RunwayRules}
+pub use Rattle.cdm_sequence.proofs.AimLemmas.{aim_is, aim_means, aim_with, aim_with_exot}
+unfoldable pub use Rattle.cdm_sequence.proofs.AimLemmas.{aim_of}
+pub use Rattle.cdm_sequence.proofs.OrderLemmas.{is_same, same_flips, same_is, tied_names}
+pub use Rattle.cdm_sequence.specs.Aims.{IsAim, TaxiTimes}
+pub use Rattle.cdm_sequence.specs.Fixed.{slot_by, takeoffs}
+unfoldable pub use Rattle.cdm_sequence.specs.Fixed.{fixed_slot}
+pub use Rattle.cdm_sequence.specs.Plan.{IsAllowed, IsEarlier, Placing}
+pub use Rattle.cdm_sequence.specs.Sequence.{IsSequence, IsSequenceBy, flight_names, planned_slot}
+pub use Rattle.cdm_sequence.specs.inner.Shown.{names_left}
+pub use Rattle.cdm_sequence.specs.Slots.{PlanRecord, RunwayPlanRecord, SlotRecord}
+pub use Rattle.cdm_sequence.specs.Targets.{TargetRecord}
+pub use Rattle.cdm_sequence.specs.declared.aims.AimResult.{AimResult}
+pub use Rattle.cdm_sequence.specs.declared.slot.BlockedFlight.{BlockedFlight}
+pub use Rattle.cdm_flight.specs.declared.update.Update.TheVariants.{Clock, Close, Flt, Rate, Reopen, Taxi}
+pub use Rattle.cdm_sequence.specs.declared.aims.AimResult.TheVariants.{Early, Ready}

@@ -1,0 +1,48 @@
+-- What a contract sees of a day, and what its journal says of flights and runways.
+use Rattle.std.specs.Prelude.{ℕ, ◌*◌, ◌/◌, List, [], ◌∷◌, ◌++◌, map, fold, insert, Option, None, if◌then◌else◌}
+use Rattle.std.specs.List.{filter_map, position_or_len, range_with_len}
+use Rattle.std.specs.Ordering.{is_lt}
+use Rattle.cdm_flight.specs.Names.{name_cmp}
+use Rattle.cdm_flight.specs.declared.airport.RunwayRow.{RunwayRow}
+use Rattle.cdm_flight.specs.declared.update.Update.{Update}
+use Rattle.cdm_flight.specs.Step.{flight_of_update, is_fresh}
+use Rattle.cdm_flight.specs.Journal.{AirportRows, cap_of, closed_of}
+use Rattle.cdm_runway.specs.Rules.{RunwayRules}
+
+-- the airport's rows and the accepted updates, the oldest first
+pub record DayRecord : Type 0 where
+  pub airport : AirportRows
+  pub journal : List Update
+
+-- with one more update
+abbrev pub with_update : DayRecord → Update → DayRecord
+with_update day u = record day { journal = day.journal ++ u ∷ [] }
+
+-- the flight that an FLT makes known
+abbrev pub new_flight : Update → Option (List ℕ)
+new_flight u = if is_fresh u then flight_of_update u else None
+
+-- the flights in the order in which an FLT made them known
+abbrev pub flights_in : List Update → List (List ℕ)
+flights_in a = filter_map new_flight a
+
+-- what the airport and the journal allow on a runway
+unfoldable pub rules_of : AirportRows → List Update → RunwayRow → RunwayRules
+rules_of g a row = record {
+  name = row.name;
+  cell = row.cell;
+  caps = map (λ k. cap_of g a row.name (k * row.cell)) (range_with_len 0 (2880 / row.cell));
+  closed = map (λ m. closed_of a row.name m) (range_with_len 0 2880);
+}
+
+-- one more row, before the first whose name comes later
+abbrev pub put_by_name : List RunwayRow → RunwayRow → List RunwayRow
+put_by_name rows row = insert rows (position_or_len (λ x. is_lt (name_cmp row.name x.name)) rows) row
+
+-- the airport's runways by name
+unfoldable pub rows_by_name : List RunwayRow → List RunwayRow
+rows_by_name rows = fold put_by_name [] rows
+
+-- what the airport and the journal allow on each runway, by name
+abbrev pub rules_in : AirportRows → List Update → List RunwayRules
+rules_in g a = map (rules_of g a) (rows_by_name g.runways)

@@ -1,0 +1,34 @@
+-- The plan of a day is that of its journal.
+use Rattle.std.specs.Prelude.{List, All, map}
+use Rattle.std.specs.List.{filter_map}
+use Rattle.cdm_flight.specs.declared.update.Update.{Update}
+use Rattle.cdm_flight.specs.Record.{Record}
+use Rattle.cdm_flight.specs.Journal.{AirportRows, flight_of, now_of, taxi_of}
+use Rattle.cdm_runway.specs.Rules.{RunwayRules}
+use Rattle.cdm_sequence.specs.Fixed.{takeoffs}
+use Rattle.cdm_sequence.specs.Plan.{Placing, IsAllowed}
+use Rattle.cdm_sequence.specs.Slots.{PlanRecord}
+use Rattle.cdm_sequence.specs.declared.aims.AimResult.{AimResult}
+use Rattle.cdm_plan.specs.Day.{DayRecord, flights_in, rules_of}
+use Rattle.cdm_plan.specs.Planning.{IsPlanBy, IsPlanOf, fixed_on, targets_in, targets_on}
+
+-- what the journal says of its flights, in the order in which they were made known
+abbrev pub records_in : AirportRows → List Update → List Record
+records_in g a = filter_map (flight_of g a) (flights_in a)
+
+-- what the airport and the journal allow on the runways
+abbrev pub day_rules : DayRecord → List RunwayRules
+day_rules day = map (rules_of day.airport day.journal) day.airport.runways
+
+-- the plan is that of the flights, taxi times, clock and runways that the airport and the journal say
+unfoldable pub IsDayPlan : DayRecord → PlanRecord → Type 0
+IsDayPlan day plan = IsPlanOf (records_in day.airport day.journal) (taxi_of day.airport day.journal) (now_of day.journal) (day_rules day) plan
+
+-- and it is so by this placing and these aims
+unfoldable pub IsDayPlanBy : Placing → List AimResult → DayRecord → PlanRecord → Type 0
+IsDayPlanBy placing aims day plan = IsPlanBy placing aims (records_in day.airport day.journal) (taxi_of day.airport day.journal) (now_of day.journal) (day_rules day) plan
+
+-- the placing is allowed on each runway of the day
+abbrev pub IsDayAllowed : List AimResult → DayRecord → Placing → Type 0
+IsDayAllowed aims day placing =
+    All (λ r. IsAllowed r (takeoffs (fixed_on r.name (records_in day.airport day.journal))) (targets_on r.name (targets_in aims)) placing) (day_rules day)

@@ -1,0 +1,7 @@
+pub mod Airport
+pub mod Day
+pub mod Sound
+pub mod Planning
+pub mod DayPlan
+pub mod Kept
+pub mod inner

@@ -1,0 +1,3 @@
+pub mod Aimed
+pub mod Together
+pub mod Work

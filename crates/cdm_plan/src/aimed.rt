@@ -1,0 +1,91 @@
+//! What planned flights could have.
+ghost use Rattle.std.specs.Prelude.{◌≡◌, true, IfOk, map};
+ghost use Rattle.std.specs.List.{filter_map};
+ghost use Rattle.std.specs.FinMap as finite;
+ghost use Rattle.cdm_flight.specs.Record.{is_planned};
+ghost use Rattle.cdm_plan.specs.Planning.{blocked_in, planned_of};
+ghost use Rattle.cdm_plan.specs.inner.Aimed.{IsAimed, early_among, target_for};
+
+use cdm_flight::{Flight, FlightName, RunwayName, Status, push_last};
+use cdm_sequence::{AimResult, BlockedFlight, Target, aim};
+use cdm_taxi::TaxiTable;
+use cdm_time::Minute;
+use std::alloc::{AllocError, Global};
+
+// A planned flight and what it could have.
+#[derive(Clone, Copy, PartialEq, Eq, Debug)]
+pub(crate) struct Aimed {
+    pub(crate) name: FlightName,
+    pub(crate) aim: AimResult,
+}
+
+/// The flights on their stands, in order.
+pub(crate) fn planned_flights<'a>(
+    alloc: Global,
+    flights: &[&'a Flight],
+) -> Result<Vec<&'a Flight>, AllocError>
+    ensures { IfOk result (λ v. map (λ f. f.now) v.items ≡ planned_of (map (λ f. f.now) flights.now)) }
+{
+    let mut planned = Vec::new(alloc);
+    for flight in flights {
+        let flight: &'a Flight = flight;
+        if flight.status == Status::Planned {
+            push_last(&mut planned, flight)?;
+        }
+    }
+    Ok(planned)
+}
+
+/// A planned flight with what it could have.
+pub(crate) fn aimed_of(flight: &Flight, taxi: &TaxiTable, now: Minute) -> Aimed
+    requires { is_planned flight.now.status ≡ true }
+    ensures { IsAimed (λ place runway. finite.get taxi.now (place, runway)) now flight.now result }
+{
+    Aimed {
+        name: flight.name,
+        aim: aim(flight, taxi, now),
+    }
+}
+
+// The flight's target, if it has one on the runway.
+fn target_on(aimed: &Aimed, runway: RunwayName) -> Option<Target>
+    ensures { result ≡ target_for runway aimed.now }
+{
+    match aimed.aim {
+        AimResult::Ready(target) if target.runway == runway => Some(target),
+        AimResult::Ready(_) | AimResult::Early(_) => None,
+    }
+}
+
+/// The targets of a runway, in order.
+pub(crate) fn targets_on_runway(
+    alloc: Global,
+    runway: RunwayName,
+    aims: &[Aimed],
+) -> Result<Vec<Target>, AllocError>
+    ensures { IfOk result (λ v. v.items ≡ filter_map (target_for runway) aims.now) }
+{
+    aims.iter()
+        .filter_map(|aimed| target_on(aimed, runway))
+        .collect(alloc)
+}
+
+// The flight, if it is blocked before the traffic of its runway is asked.
+fn blocked_by(aimed: &Aimed) -> Option<BlockedFlight>
+    ensures { result ≡ blocked_in aimed.now.name aimed.now.aim }
+{
+    match aimed.aim {
+        AimResult::Early(rule) => Some(BlockedFlight {
+            name: aimed.name,
+            rule,
+        }),
+        AimResult::Ready(_) => None,
+    }
+}
+
+/// The flights that are blocked before the traffic of their runway is asked, in order.
+pub(crate) fn blocked(alloc: Global, aims: &[Aimed]) -> Result<Vec<BlockedFlight>, AllocError>
+    ensures { IfOk result (λ v. v.items ≡ early_among aims.now) }
+{
+    aims.iter().filter_map(blocked_by).collect(alloc)
+}

@@ -1,0 +1,47 @@
+//! Laws of the day's plan: there is one, runway plans make it, it is allowed, and none that is allowed
+//! is earlier.
+ghost use Rattle.std.specs.Prelude.{◌≡◌, true, List, All};
+ghost use Rattle.std.specs.List.{AllZip, IsDistinct};
+ghost use Rattle.cdm_flight.specs.Accepted.{has_runway};
+ghost use Rattle.cdm_flight.specs.Journal.{now_of, taxi_of};
+ghost use Rattle.cdm_flight.specs.Names.{same_name};
+ghost use Rattle.cdm_sequence.specs.Plan.{Placing, IsEarlier};
+ghost use Rattle.cdm_sequence.specs.Sequence.{IsSequence};
+ghost use Rattle.cdm_sequence.specs.Slots.{PlanRecord, RunwayPlanRecord};
+ghost use Rattle.cdm_sequence.specs.declared.aims.AimResult.{AimResult};
+ghost use Rattle.cdm_plan.specs.Airport.{runway_names};
+ghost use Rattle.cdm_plan.specs.Day.{DayRecord, flights_in};
+ghost use Rattle.cdm_plan.specs.DayPlan.{IsDayAllowed, IsDayPlan, IsDayPlanBy, day_rules, records_in};
+ghost use Rattle.cdm_plan.specs.Planning.{AreAims, HasParts, early_in, fixed_on, targets_in, targets_on};
+
+/// A day whose runways have names of their own, and whose flights become known once each, has one
+/// plan.
+pub fn one_plan_of_a_day()
+    ensures { (d : DayRecord) (p q : PlanRecord) →
+        IsDistinct same_name (runway_names d.airport) → IsDistinct same_name (flights_in d.journal) →
+        IsDayPlan d p → IsDayPlan d q → p ≡ q }
+{}
+
+/// Plans of the runways, each made of its own flights, make the day's plan, where the runways have
+/// names of their own.
+pub fn runways_make_the_day()
+    ensures { (d : DayRecord) (aims : List AimResult) (made : List RunwayPlanRecord) (plan : PlanRecord) →
+        IsDistinct same_name (runway_names d.airport) →
+        AreAims (records_in d.airport d.journal) (taxi_of d.airport d.journal) (now_of d.journal) aims →
+        AllZip (λ r p. IsSequence r (fixed_on r.name (records_in d.airport d.journal)) (targets_on r.name (targets_in aims)) p) (day_rules d) made →
+        plan.clock ≡ now_of d.journal → HasParts (early_in (records_in d.airport d.journal) aims) made plan → IsDayPlan d plan }
+{}
+
+/// The plan of a day whose flights become known once each is allowed.
+pub fn plans_of_a_day_are_allowed()
+    ensures { (d : DayRecord) (aims : List AimResult) (placing : Placing) (plan : PlanRecord) →
+        IsDistinct same_name (flights_in d.journal) → IsDayPlanBy placing aims d plan → IsDayAllowed aims d placing }
+{}
+
+/// No allowed placing of a day is earlier than its plan, where the targets have runways of the
+/// airport.
+pub fn none_is_earlier_in_a_day()
+    ensures { (d : DayRecord) (aims : List AimResult) (placing other : Placing) (plan : PlanRecord) →
+        All (λ f. has_runway d.airport f.runway ≡ true) (targets_in aims) →
+        IsDayPlanBy placing aims d plan → IsDayAllowed aims d other → IsEarlier (targets_in aims) other placing → ⊥ }
+{}

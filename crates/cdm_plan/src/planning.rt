@@ -1,0 +1,125 @@
+//! The plan of a day.
+ghost use Rattle.std.specs.Prelude.{◌≡◌, ◌+◌, ◌≤◌, ◌++◌, length, IfOk, IsPermutation, IsSorted, sum_by};
+ghost use Rattle.std.specs.List.{filter_map, flat_map};
+ghost use Rattle.cdm_sequence.specs.Slots.{runway_cmp, blocked_cmp};
+ghost use Rattle.cdm_plan.specs.Planning.{HasParts};
+ghost use Rattle.cdm_plan.specs.DayPlan.{IsDayPlan};
+ghost use Rattle.cdm_plan.specs.inner.Aimed.{early_among};
+ghost use Rattle.cdm_plan.specs.Kept.{AreKept, IsMade, kept_plan};
+ghost use Rattle.cdm_plan.specs.inner.Together.{Together};
+
+use crate::aimed::{Aimed, blocked};
+use crate::jobs::{RunwayJob, TargetJob};
+use crate::kept::Kept;
+use crate::records::Records;
+use crate::touched::Touched;
+use crate::work::work_of;
+use cdm_flight::Listed;
+use cdm_phase::run_here;
+use cdm_runway::Runway;
+use cdm_sequence::{BlockedFlight, Plan, RunwayPlan};
+use cdm_time::Minute;
+use std::alloc::{AllocError, Global};
+
+// All blocked flights by name: those that were blocked early, and those of the runways.
+fn all_blocked(
+    early: Vec<BlockedFlight>,
+    plans: &[RunwayPlan],
+) -> Result<Vec<BlockedFlight>, AllocError>
+    ensures same { IfOk result (λ v. IsPermutation (early.items ++ flat_map (λ p. p.blocked) plans.now) v.items) }
+    ensures sorted { IfOk result (λ v. IsSorted blocked_cmp v.items) }
+{
+    let mut all = early;
+    for plan in plans {
+        all.extend_from_slice(plan.blocked.as_slice())?;
+    }
+    all.sort_unstable_by_key(|flight| flight.name);
+    Ok(all)
+}
+
+// The plans of the runways by name.
+fn by_name(plans: Vec<RunwayPlan>) -> Vec<RunwayPlan>
+    ensures same { IsPermutation plans.items result.items }
+    ensures sorted { IsSorted runway_cmp result.items }
+{
+    let mut ordered = plans;
+    ordered.sort_unstable_by_key(|plan| plan.runway);
+    ordered
+}
+
+// The plan of a day, from what its planned flights could have, and from plans of runways that stand
+// and others that were made.
+fn joined(
+    alloc: Global,
+    aims: &[Aimed],
+    kept: Vec<RunwayPlan>,
+    made: Vec<RunwayPlan>,
+    now: Minute,
+) -> Result<Plan, AllocError>
+    requires { sum_by (λ p. length p.slots + length p.blocked) (kept.items ++ made.items) + length (early_among aims.now) ≤ 2000 }
+    ensures clock { IfOk result (λ plan. plan.clock ≡ now) }
+    ensures parts { IfOk result (λ plan. HasParts (early_among aims.now) (kept.items ++ made.items) plan) }
+{
+    let early = blocked(alloc, aims)?;
+    let (mut plans, mut others) = (kept, made);
+    plans.append(&mut others)?;
+    let plans = by_name(plans);
+    let blocked = all_blocked(early, &plans)?;
+    Ok(Plan {
+        now,
+        runways: Listed::new(plans),
+        blocked: Listed::new(blocked),
+    })
+}
+
+/// The plan of the day, from what its planned flights could have, from the plans of runways that stand
+/// and from those that were made.
+pub(crate) fn plan_together<D: Records>(
+    alloc: Global,
+    records: &D,
+    kept: &Kept,
+    runways: &[&Runway],
+    aims: &[Aimed],
+    made: Vec<RunwayPlan>,
+) -> Result<Plan, AllocError>
+    requires { Together (D.day records.now) aims.now
+        (filter_map (λ r. kept_plan kept.now.touched.now kept.now.plans.now r.now.name) runways.now ++ made.items) }
+    ensures { IfOk result (λ plan. IsMade (D.day records.now) plan) }
+{
+    let copies = kept.copied_plans(alloc, runways)?;
+    let plan = joined(alloc, aims, copies, made, records.now())?;
+    Ok(plan)
+}
+
+/// The plan of the day that the records tell.
+pub fn plan_of<D: Records>(alloc: Global, records: &D) -> Result<Plan, AllocError>
+    ensures { IfOk result (λ plan. IsDayPlan (D.day records.now) plan) }
+{
+    let touched = Touched::none(alloc);
+    let kept = Kept {
+        plans: &[],
+        touched: &touched,
+    };
+    let plan = plan_keeping(alloc, records, &kept)?;
+    Ok(plan)
+}
+
+/// The plan of the day that the records tell, in which some plans of runways stand.
+pub fn plan_keeping<D: Records>(alloc: Global, records: &D, kept: &Kept) -> Result<Plan, AllocError>
+    requires { AreKept (D.day records.now) kept.now.touched.now kept.now.plans.now }
+    ensures { IfOk result (λ plan. IsMade (D.day records.now) plan) }
+{
+    let work = work_of(alloc, records, kept)?;
+    let job = TargetJob {
+        taxi: records.taxi(),
+        clock: records.now(),
+    };
+    let aims = run_here(alloc, &job, &work.planned)?;
+    let job = RunwayJob {
+        flights: &work.flights,
+        aims: &aims,
+    };
+    let made = run_here(alloc, &job, &work.left)?;
+    let plan = plan_together(alloc, records, kept, &work.runways, &aims, made)?;
+    Ok(plan)
+}

@@ -1,0 +1,60 @@
+//! What the accepted updates of a day say, however it is kept.
+
+use cdm_flight::{Flight, FlightName};
+use cdm_runway::Runway;
+use cdm_taxi::TaxiTable;
+use cdm_time::Minute;
+
+/// What an airport and accepted updates say of flights, runways, taxi times and the clock. No call
+/// takes memory.
+pub trait Records {
+    ghost use Rattle.std.specs.Prelude.{◌≡◌, length, slice_get};
+    ghost use Rattle.std.specs.Option.{option_and_then, option_copied};
+    ghost use Rattle.cdm_flight.specs.Journal.{flight_of, now_of};
+    ghost use Rattle.cdm_plan.specs.Day.{DayRecord, flights_in, rules_in};
+    ghost use Rattle.cdm_plan.specs.Sound.{IsSound, TellTaxi};
+
+    // The airport and the accepted updates.
+    ghost day: { Self → DayRecord };
+
+    /// What is known of a flight.
+    fn flight(&self, name: FlightName) -> Option<&Flight>
+        ensures sound { IsSound (day self.now) }
+        ensures value { let d = day self.now in option_copied result ≡ flight_of d.airport d.journal name };
+
+    /// How many flights are known.
+    fn flights(&self) -> usize
+        ensures sound { IsSound (day self.now) }
+        ensures value { result ≡ length (flights_in (day self.now).journal) };
+
+    /// The flight at a place in the order of first appearance.
+    fn flight_at(&self, place: usize) -> Option<&Flight>
+        ensures sound { IsSound (day self.now) }
+        ensures value { let d = day self.now in
+            option_copied result ≡ option_and_then (flight_of d.airport d.journal) (slice_get (flights_in d.journal) place) };
+
+    /// How many runways there are.
+    fn runways(&self) -> usize
+        ensures sound { IsSound (day self.now) }
+        ensures value { result ≡ length (day self.now).airport.runways };
+
+    /// The runway at a place in the order of names.
+    fn runway_at(&self, place: usize) -> Option<&Runway>
+        ensures sound { IsSound (day self.now) }
+        ensures value { let d = day self.now in option_copied result ≡ slice_get (rules_in d.airport d.journal) place };
+
+    /// The taxi times.
+    fn taxi(&self) -> &TaxiTable
+        ensures sound { IsSound (day self.now) }
+        ensures value { TellTaxi (day self.now).airport (day self.now).journal result.now };
+
+    /// The minute that it is now.
+    fn now(&self) -> Minute
+        ensures sound { IsSound (day self.now) }
+        ensures value { result ≡ now_of (day self.now).journal };
+
+    /// How many updates were accepted.
+    fn accepted(&self) -> usize
+        ensures sound { IsSound (day self.now) }
+        ensures value { result ≡ length (day self.now).journal };
+}

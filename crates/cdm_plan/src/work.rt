@@ -1,0 +1,78 @@
+//! What there is to do for the plan of a day.
+ghost use Rattle.std.specs.Prelude.{◌≡◌, ◌++◌, [], map, IfOk, OnOk};
+ghost use Rattle.std.specs.List.{cons_option};
+ghost use Rattle.std.specs.Option.{option_copied};
+ghost use Rattle.cdm_plan.specs.Day.{rules_in};
+ghost use Rattle.cdm_plan.specs.DayPlan.{records_in};
+ghost use Rattle.cdm_plan.specs.Sound.{IsSound};
+ghost use Rattle.cdm_plan.specs.inner.Work.{IsWork};
+
+use crate::aimed::planned_flights;
+use crate::kept::Kept;
+use crate::records::Records;
+use cdm_flight::{Flight, push_last};
+use cdm_runway::Runway;
+use std::alloc::{AllocError, Global};
+
+/// The flights and the runways of a day, the planned ones among the flights, and the runways without a
+/// plan that stands.
+#[derive(Drop)]
+pub(crate) struct Work<'a> {
+    pub(crate) flights: Vec<&'a Flight>,
+    pub(crate) planned: Vec<&'a Flight>,
+    pub(crate) runways: Vec<&'a Runway>,
+    pub(crate) left: Vec<&'a Runway>,
+}
+
+// Puts one more behind the others, if there is one.
+fn push_known<'a, T>(items: &mut Vec<&'a T>, item: Option<&'a T>) -> Result<(), AllocError>
+    ensures { OnOk result (map (λ x. x.now) items.new.items ≡ map (λ x. x.now) items.old.items ++ cons_option (option_copied item.entry) []) }
+{
+    match item {
+        Some(item) => push_last(items, item),
+        None => Ok(()),
+    }
+}
+
+// All flights in the order of first appearance.
+fn all_flights<R: Records>(alloc: Global, records: &R) -> Result<Vec<&Flight>, AllocError>
+    ensures sound { IsSound (R.day records.now) }
+    ensures all { IfOk result (λ v. let d = R.day records.now in map (λ f. f.now) v.items ≡ records_in d.airport d.journal) }
+{
+    let mut flights = Vec::new(alloc);
+    for place in 0..records.flights() {
+        push_known(&mut flights, records.flight_at(place))?;
+    }
+    Ok(flights)
+}
+
+// All runways by name.
+fn all_runways<R: Records>(alloc: Global, records: &R) -> Result<Vec<&Runway>, AllocError>
+    ensures { IfOk result (λ v. let d = R.day records.now in map (λ r. r.now) v.items ≡ rules_in d.airport d.journal) }
+{
+    let mut runways = Vec::new(alloc);
+    for place in 0..records.runways() {
+        push_known(&mut runways, records.runway_at(place))?;
+    }
+    Ok(runways)
+}
+
+/// What there is to do for the plan of the day that the records tell.
+pub(crate) fn work_of<'a, R: Records>(
+    alloc: Global,
+    records: &'a R,
+    kept: &Kept,
+) -> Result<Work<'a>, AllocError>
+    ensures { IfOk result (λ work. IsWork (R.day records.now) kept.now.touched.now kept.now.plans.now work) }
+{
+    let flights = all_flights(alloc, records)?;
+    let planned = planned_flights(alloc, &flights)?;
+    let runways = all_runways(alloc, records)?;
+    let left = kept.runways_left(alloc, &runways)?;
+    Ok(Work {
+        flights,
+        planned,
+        runways,
+        left,
+    })
+}
