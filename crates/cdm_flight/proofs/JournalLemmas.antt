@@ -2,6 +2,7 @@
 use Rattle.std.proofs.Common.{◌≡◌, ℕ, Bool, true, false, cond, not, ◌&&◌, ◌||◌, List, [], ◌∷◌, ◌++◌, Option, None, Some, refl, sym, ap, ◌∙◌, rules}
 use Rattle.std.specs.Prelude.{is_some, unwrap_or, if◌then◌else◌}
 use Rattle.std.specs.Option.{option_map, option_or}
+use Rattle.std.specs.FinMap as map
 use Rattle.std.specs.List.{list_all, list_any, take_while}
 use Rattle.std.proofs.lemmas.Grind.{common_steps}
 use Rattle.std.proofs.lemmas.List.{append-nil}
@@ -11,6 +12,7 @@ use Rattle.cdm_flight.proofs.Lists.{option_or-none, option_or-assoc, list_any-pu
 use Rattle.cdm_flight.specs.declared.flight.Status.{Status}
 use Rattle.cdm_flight.specs.declared.flight.Status.TheVariants.{Planned, OffBlock, Airborne, Cancelled}
 use Rattle.cdm_flight.specs.declared.ice.Ice.TheVariants.{NoIce}
+use Rattle.cdm_flight.specs.declared.place.Place.{Place}
 use Rattle.cdm_flight.specs.declared.reach.Reach.{Reach}
 use Rattle.cdm_flight.specs.declared.reach.Reach.TheVariants as reach
 use Rattle.cdm_flight.specs.declared.update.Update.{Update}
@@ -20,7 +22,7 @@ use Rattle.cdm_flight.specs.Reach.{reach_of, same_reach, touching}
 use Rattle.cdm_flight.specs.Record.{Record, fresh}
 use Rattle.cdm_flight.specs.Step.{airborne_at, is_fresh, off_block_from, stepped, step_refusal}
 use Rattle.cdm_flight.specs.Journal.{AirportRows, last_value, tobt_given, stand_given, runway_given, ctot_given, ice_given, priority_given}
-use Rattle.cdm_flight.specs.Journal.{aobt_given, atot_given, is_cancel, clock_given, of_flight, aobt_of, atot_of, is_known, is_cancelled, exot_now}
+use Rattle.cdm_flight.specs.Journal.{aobt_given, atot_given, is_cancel, taxi_given, clock_given, taxi_of, of_flight, aobt_of, atot_of, is_known, is_cancelled, exot_now}
 use Rattle.cdm_flight.specs.Journal.{before_off, status_from, status_of, record_with, exot_of, flight_of, values_of}
 
 -- one more update gives the value, or leaves it
@@ -45,7 +47,10 @@ untouched what a u h =
     filter-append (λ v. same_reach (reach_of v) what) a (u ∷ [])
     ∙ (ap (λ b. touching what a ++ cond b (u ∷ []) []) h ∙ append-nil (touching what a))
 
--- the day's values stay
+pub taxi_of-untouched : (g : AirportRows) (a : List Update) (u : Update) (place : Place) (r : List ℕ) → same_reach (reach_of u) (reach.Taxi r) ≡ false
+    → taxi_of g (a ++ u ∷ []) place r ≡ taxi_of g a place r
+taxi_of-untouched g a u place r h = ap (λ l. option_or (last_value (taxi_given place) l) (map.get g.taxi (place, r))) (untouched (reach.Taxi r) a u h)
+
 pub values_of-untouched : (a : List Update) (u : Update) → same_reach (reach_of u) reach.Day ≡ false → values_of (a ++ u ∷ []) ≡ values_of a
 unfolding values_of
 values_of-untouched a u h = rw (untouched reach.Day a u h) refl

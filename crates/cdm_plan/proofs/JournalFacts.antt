@@ -1,38 +1,24 @@
--- What updates of one kind leave.
+-- The flights that a journal makes known, and what no word refuses.
 use Rattle.std.proofs.Common.{◌≡◌, ℕ, ◌+◌, Bool, true, false, ◌&&◌, List, [], ◌∷◌, ◌++◌, length, Option, None, Some, refl, sym, ap, ◌∙◌, arith}
 use Rattle.cdm_plan.proofs.ListWords.{count_by, option_map_or, option_or, if◌then◌else◌, cons_option, filter_map-append}
-use Rattle.cdm_plan.proofs.PlanWords.{Place, Update, flight_of_update, is_fresh, AirportRows, sets_now, sets_cap, sets_closed, sets_taxi, now_of, cap_of, closed_of, taxi_of, flight_refusal, is_disordered, is_full, is_known, is_unknown, refusal_of, stand_with_taxi, last_value-push}
-use Rattle.cdm_plan.proofs.PlanWords.{new_flight, flights_in, same_is, same_name, Flt, Rate, Close, Reopen, Taxi, Clock}
+use Rattle.cdm_plan.proofs.PlanWords.{Update, flight_of_update, is_fresh, same_reach, AirportRows, flight_refusal, is_disordered, is_full, is_known, is_unknown, refusal_of}
+use Rattle.cdm_plan.proofs.PlanWords.{new_flight, flights_in, same_is, same_name, Flt}
 use Rattle.std.proofs.lemmas.Grind.{common_steps}
+use Rattle.cdm_flight.specs.declared.reach.Reach.{Reach}
+use Rattle.cdm_flight.specs.declared.reach.Reach.TheVariants as reach
 use Rattle.cdm_flight.specs.declared.word.RefusalWord.TheVariants as word
-
--- no update of a flight touches the clock, the runways or the taxi times
-module _ (f : List ℕ) where
-  pub clock-of_flight : (u : Update) → flight_of_update u ≡ Some f → sets_now u ≡ None
-  clock-of_flight (Clock m) h = cc
-  clock-of_flight _ h = refl
-
-  pub cap-of_flight : (r : List ℕ) (m : ℕ) (u : Update) → flight_of_update u ≡ Some f → sets_cap r m u ≡ None
-  cap-of_flight r m (Rate s from to cap) h = cc
-  cap-of_flight r m _ h = refl
-
-  pub closed-of_flight : (r : List ℕ) (m : ℕ) (u : Update) → flight_of_update u ≡ Some f → sets_closed r m u ≡ None
-  closed-of_flight r m (Close s from to) h = cc
-  closed-of_flight r m (Reopen s from to) h = cc
-  closed-of_flight r m _ h = refl
-
-  pub taxi-of_flight : (place : Place) (r : List ℕ) (u : Update) → flight_of_update u ≡ Some f → sets_taxi place r u ≡ None
-  taxi-of_flight place r (Taxi p s minutes) h = cc
-  taxi-of_flight place r _ h = refl
-
-  pub stand-of_flight : (u : Update) → flight_of_update u ≡ Some f → stand_with_taxi u ≡ None
-  stand-of_flight (Taxi p s minutes) h = cc
-  stand-of_flight _ h = refl
 
 -- what has a name is something of this name
 pub some_named : (o : Option (List ℕ)) (k : List ℕ) → option_map_or (λ g. same_name g k) o false ≡ true → o ≡ Some k
 some_named None k h = cc
 some_named (Some g) k h = ap Some (same_is g k h)
+
+-- what is the same as a flight is that flight
+pub flight_named : (what : Reach) (f : List ℕ) → same_reach what (reach.Flight f) ≡ true → what ≡ reach.Flight f
+flight_named (reach.Flight g) f h = ap reach.Flight (same_is g f h)
+flight_named (reach.Runway r) f h = cc
+flight_named (reach.Taxi r) f h = cc
+flight_named reach.Day f h = cc
 
 -- only FLT makes a flight known
 pub new_flight-old : (u : Update) → is_fresh u ≡ false → new_flight u ≡ None
@@ -53,20 +39,6 @@ one_more _ xs = omega arith
 pub length-flights_in : (a : List Update) → length (flights_in a) ≡ count_by is_fresh a
 length-flights_in [] = refl
 length-flights_in (u ∷ a) = one_more u (flights_in a) ∙ (ap (λ n. n + (if is_fresh u then 1 else 0)) (length-flights_in a) ∙ sym (count_by-cons is_fresh u a))
-
--- What one more update changes of the day.
-
-pub now_of-same : (a : List Update) (u : Update) → sets_now u ≡ None → now_of (a ++ u ∷ []) ≡ now_of a
-now_of-same a u e = rw (last_value-push sets_now a u, e) refl
-
-pub cap_of-same : (g : AirportRows) (a : List Update) (u : Update) (r : List ℕ) (m : ℕ) → sets_cap r m u ≡ None → cap_of g (a ++ u ∷ []) r m ≡ cap_of g a r m
-cap_of-same g a u r m e = rw (last_value-push (sets_cap r m) a u, e) refl
-
-pub closed_of-same : (a : List Update) (u : Update) (r : List ℕ) (m : ℕ) → sets_closed r m u ≡ None → closed_of (a ++ u ∷ []) r m ≡ closed_of a r m
-closed_of-same a u r m e = rw (last_value-push (sets_closed r m) a u, e) refl
-
-pub taxi_of-same : (g : AirportRows) (a : List Update) (u : Update) (place : Place) (r : List ℕ) → sets_taxi place r u ≡ None → taxi_of g (a ++ u ∷ []) place r ≡ taxi_of g a place r
-taxi_of-same g a u place r e = rw (last_value-push (sets_taxi place r) a u, e) refl
 
 -- What no word refuses.
 

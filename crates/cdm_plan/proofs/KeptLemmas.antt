@@ -1,11 +1,18 @@
 -- A runway that updates do not touch keeps its plan.
 use Rattle.std.proofs.Common.{◌≡◌, ℕ, Bool, true, false, ◌&&◌, List, [], ◌∷◌, ◌++◌, Option, None, Some, refl, sym, ◌∙◌, ap, subst}
-use Rattle.cdm_plan.proofs.ListWords.{option_and_then, option_map_or, if◌then◌else◌, Contains, cons_option, filter_map, find, append-nil, filter_map-append, Contains-permutation, IsPermutation-sym, contains_from_map, contains_map, if_so, one_of_key}
-use Rattle.cdm_plan.proofs.PlanWords.{RunwayRow, Place, Update, same_name, Record, is_planned, flight_of_update, taxi_out, flight_of, now_of, only_if, sets_cap, sets_closed, sets_now, sets_taxi, taxi_of, touches, flight_of-untouched, RunwayRules, TaxiTimes, SlotRecord, fixed_slot, IsSequence, IsSequenceBy}
-use Rattle.cdm_plan.proofs.PlanWords.{PlanRecord, RunwayPlanRecord, TargetRecord, aim_of, aim_with, aim_with_exot, is_same, same_flips, same_is, if_on, DayRecord, flights_in, new_flight, rows_by_name, rules_of, with_update, IsDayPlan, day_rules, records_in, is_on, target_in, targets_in, targets_on, Adds, AreKept, IsMade}
-use Rattle.cdm_plan.proofs.PlanWords.{IsPlanOn, IsSince, fixed_in, is_noted, is_touched, Flt, Rate, Close, Reopen, Taxi, Clock}
+use Rattle.cdm_plan.proofs.ListWords.{option_and_then, option_map_or, if◌then◌else◌, Contains, cons_option, filter_map, find, append-nil}
+use Rattle.cdm_plan.proofs.ListWords.{filter_map-append, Contains-permutation, IsPermutation-sym, contains_from_map, contains_map, if_so, one_of_key}
+use Rattle.cdm_plan.proofs.PlanWords.{DayValues, RunwayRow, Place, Update, reach_of, same_name, same_reach, Record, is_planned, taxi_out, flight_of}
+use Rattle.cdm_plan.proofs.PlanWords.{values_of, values_of-untouched, taxi_of, taxi_of-untouched, flight_of-untouched}
+use Rattle.cdm_plan.proofs.PlanWords.{RunwayRules, TaxiTimes, SlotRecord, fixed_slot, IsSequence, IsSequenceBy}
+use Rattle.cdm_plan.proofs.PlanWords.{PlanRecord, RunwayPlanRecord, TargetRecord, aim_of, aim_with, aim_with_exot, is_same, same_flips, same_is}
+use Rattle.cdm_plan.proofs.PlanWords.{if_on, DayRecord, flights_in, new_flight, rows_by_name, rules_of, with_update, IsDayPlan, day_rules, records_in}
+use Rattle.cdm_plan.proofs.PlanWords.{is_on, target_in, targets_in, targets_on, Adds, AreKept, IsMade}
+use Rattle.cdm_plan.proofs.PlanWords.{IsPlanOn, IsSince, fixed_in, is_noted, is_touched, Flt}
+use Rattle.cdm_flight.specs.declared.reach.Reach.{Reach}
+use Rattle.cdm_flight.specs.declared.reach.Reach.TheVariants as reach
 use Rattle.cdm_plan.specs.declared.touched.Touched.{Touched}
-use Rattle.cdm_plan.proofs.JournalFacts.{flights_in-push, now_of-same, some_named, taxi_of-same}
+use Rattle.cdm_plan.proofs.JournalFacts.{flight_named, flights_in-push, some_named}
 use Rattle.cdm_plan.proofs.DayPlanLemmas.{day_rules_differ, has_sequence, is_plan_on, targets_at}
 use Rattle.cdm_plan.proofs.NameLemmas.{find_some, rows_permutation}
 use Rattle.cdm_plan.proofs.OnePlanLemmas.{partner}
@@ -19,67 +26,55 @@ given_twice : {K R Y : Type 0} (q : R → Option Y) (h : K → Option R) (ks : L
 given_twice q h [] = refl
 given_twice {K} {R} {Y} q h (k ∷ ks) = by (h k) (given_twice q h ks)
   where
-    by : (o : Option R) → filter_map q (filter_map h ks) ≡ filter_map (λ k. option_and_then q (h k)) ks → filter_map q (cons_option o (filter_map h ks)) ≡ cons_option (option_and_then q o) (filter_map (λ k. option_and_then q (h k)) ks)
+    by : (o : Option R) → filter_map q (filter_map h ks) ≡ filter_map (λ k. option_and_then q (h k)) ks
+        → filter_map q (cons_option o (filter_map h ks)) ≡ cons_option (option_and_then q o) (filter_map (λ k. option_and_then q (h k)) ks)
     by None e = e
     by (Some r) e = ap (λ (ys : List Y). cons_option (q r) ys) e
 
 -- a flight's target depends on the taxi times to its own runway alone
-same_target_at : (r : List ℕ) (s t : TaxiTimes) (now : ℕ) → ((place : Place) → s place r ≡ t place r) → (f : Record) → target_at r s now f ≡ target_at r t now f
+same_target_at : (r : List ℕ) (s t : TaxiTimes) (values : DayValues) → ((place : Place) → s place r ≡ t place r) → (f : Record) → target_at r s values f ≡ target_at r t values f
 unfolding aim_of
-same_target_at r s t now same f = by (is_on r f) refl
+same_target_at r s t values same f = by (is_on r f) refl
   where
-    aim_same : f.runway ≡ Some r → aim_of f s now ≡ aim_of f t now
-    aim_same e = ap (aim_with f s now f.tobt) e ∙ (go f.tobt ∙ sym (ap (aim_with f t now f.tobt) e))
+    aim_same : f.runway ≡ Some r → aim_of f s values ≡ aim_of f t values
+    aim_same e = ap (aim_with f s values f.tobt) e ∙ (go f.tobt ∙ sym (ap (aim_with f t values f.tobt) e))
       where
-        go : (o : Option ℕ) → aim_with f s now o (Some r) ≡ aim_with f t now o (Some r)
+        go : (o : Option ℕ) → aim_with f s values o (Some r) ≡ aim_with f t values o (Some r)
         go None = refl
-        go (Some tobt) = λ i. aim_with_exot f now tobt r (taxi_out (λ place. same place i) f.stand f.ice)
+        go (Some tobt) = λ i. aim_with_exot f values tobt r (taxi_out (λ place. same place i) f.stand f.ice)
 
-    by : (b : Bool) → is_on r f ≡ b → target_at r s now f ≡ target_at r t now f
-    by false h = no_target_at r s now f h ∙ sym (no_target_at r t now f h)
+    by : (b : Bool) → is_on r f ≡ b → target_at r s values f ≡ target_at r t values f
+    by false h = no_target_at r s values f h ∙ sym (no_target_at r t values f h)
     by true h = ap (λ a. if_so (is_planned f.status) (if_on r (target_in a))) (aim_same (some_named f.runway r h))
 
 -- What an update that is not of a runway leaves there.
 
 module _ (d : DayRecord) (r : List ℕ) where
-  no_clock : (u : Update) → is_noted d u r ≡ false → sets_now u ≡ None
-  no_clock (Clock m) h = cc
-  no_clock _ h = refl
+  no_value : (what : Reach) → is_noted d what r ≡ false → same_reach what reach.Day ≡ false
+  no_value reach.Day h = cc
+  no_value _ h = refl
 
-  no_taxi : (place : Place) (u : Update) → is_noted d u r ≡ false → sets_taxi place r u ≡ None
-  no_taxi place (Taxi p s minutes) h = rw h (by _)
-    where
-      by : (b : Bool) → only_if (b && false) minutes ≡ None
-      by true = refl
-      by false = refl
-  no_taxi place _ h = refl
+  no_taxi : (what : Reach) → is_noted d what r ≡ false → same_reach what (reach.Taxi r) ≡ false
+  no_taxi (reach.Taxi s) h = h
+  no_taxi _ h = refl
 
-  no_cap : (m : ℕ) (u : Update) → is_noted d u r ≡ false → sets_cap r m u ≡ None
-  no_cap m (Rate s from to cap) h = rw h refl
-  no_cap m _ h = refl
+  no_rule : (what : Reach) → is_noted d what r ≡ false → same_reach what (reach.Runway r) ≡ false
+  no_rule (reach.Runway s) h = h
+  no_rule _ h = refl
 
-  no_closed : (m : ℕ) (u : Update) → is_noted d u r ≡ false → sets_closed r m u ≡ None
-  no_closed m (Close s from to) h = rw h refl
-  no_closed m (Reopen s from to) h = rw h refl
-  no_closed m _ h = refl
-
-  elsewhere : (u : Update) (f : List ℕ) → flight_of_update u ≡ Some f → is_noted d u r ≡ false → option_map_or (is_on r) (flight_of d.airport d.journal f) false ≡ false
-  elsewhere (Clock m) f e h = cc
-  elsewhere (Rate s from to cap) f e h = cc
-  elsewhere (Close s from to) f e h = cc
-  elsewhere (Reopen s from to) f e h = cc
-  elsewhere (Taxi p s minutes) f e h = cc
-  elsewhere u f e h = ap (λ o. option_map_or (λ k. option_map_or (is_on r) (flight_of d.airport d.journal k) false) o false) (sym e) ∙ h
+  elsewhere : (what : Reach) (f : List ℕ) → what ≡ reach.Flight f → is_noted d what r ≡ false → option_map_or (is_on r) (flight_of d.airport d.journal f) false ≡ false
+  elsewhere what f e h = sym (ap (λ w. is_noted d w r) e) ∙ h
 
 rules_name : (d : DayRecord) (row : RunwayRow) → (rules_of d.airport d.journal row).name ≡ row.name
 unfolding rules_of
 rules_name d row = refl
 
-fresh_is : (u : Update) (f : List ℕ) → new_flight u ≡ Some f → flight_of_update u ≡ Some f
-fresh_is (Flt g p) f e = e
+fresh_is : (u : Update) (f : List ℕ) → new_flight u ≡ Some f → reach_of u ≡ reach.Flight f
+fresh_is (Flt g p) f e = let same : g ≡ f = cc in ap reach.Flight same
 fresh_is _ f e = cc
 
-module _ (d : DayRecord) (u : Update) (row : RunwayRow) (before : is_noted d u row.name ≡ false) (after : is_noted (with_update d u) u row.name ≡ false) where
+module _ (d : DayRecord) (u : Update) (row : RunwayRow) (before : is_noted d (reach_of u) row.name ≡ false)
+    (after : is_noted (with_update d u) (reach_of u) row.name ≡ false) where
   -- what flights give to the runway
   module _ {Y : Type 0} (q p : Record → Option Y) (same : (f : Record) → q f ≡ p f) (off : (f : Record) → is_on row.name f ≡ false → q f ≡ None) where
     nothing : (o : Option Record) → option_map_or (is_on row.name) o false ≡ false → (option_and_then q o ≡ None) × (option_and_then p o ≡ None)
@@ -87,17 +82,17 @@ module _ (d : DayRecord) (u : Update) (row : RunwayRow) (before : is_noted d u r
     nothing (Some f) h = (off f h, sym (same f) ∙ off f h)
 
     each : (k : List ℕ) → option_and_then q (flight_of d.airport d.journal k) ≡ option_and_then p (flight_of d.airport (d.journal ++ u ∷ []) k)
-    each k = by (touches k u) refl
+    each k = by (same_reach (reach_of u) (reach.Flight k)) refl
       where
         agree : (o : Option Record) → option_and_then q o ≡ option_and_then p o
         agree None = refl
         agree (Some f) = same f
 
-        by : (b : Bool) → touches k u ≡ b → option_and_then q (flight_of d.airport d.journal k) ≡ option_and_then p (flight_of d.airport (d.journal ++ u ∷ []) k)
+        by : (b : Bool) → same_reach (reach_of u) (reach.Flight k) ≡ b → option_and_then q (flight_of d.airport d.journal k) ≡ option_and_then p (flight_of d.airport (d.journal ++ u ∷ []) k)
         by false h = agree (flight_of d.airport d.journal k) ∙ ap (option_and_then p) (sym (flight_of-untouched k d.airport d.journal u h))
         by true h =
-            let of_it = some_named (flight_of_update u) k h in
-            (nothing _ (elsewhere d row.name u k of_it before)).0 ∙ sym (nothing _ (elsewhere (with_update d u) row.name u k of_it after)).1
+            let of_it = flight_named (reach_of u) k h in
+            (nothing _ (elsewhere d row.name (reach_of u) k of_it before)).0 ∙ sym (nothing _ (elsewhere (with_update d u) row.name (reach_of u) k of_it after)).1
 
     given_same : filter_map q (records_in d.airport d.journal) ≡ filter_map p (records_in d.airport (d.journal ++ u ∷ []))
     given_same =
@@ -105,12 +100,13 @@ module _ (d : DayRecord) (u : Update) (row : RunwayRow) (before : is_noted d u r
         let old = flights_in d.journal in
         given_twice q (flight_of d.airport d.journal) old
         ∙ ((λ i. filter_map (λ k. each k i) old)
-        ∙ (sym (ap (filter_map later) (flights_in-push d.journal u) ∙ (filter_map-append later old (cons_option (new_flight u) []) ∙ (ap (λ l. filter_map later old ++ l) (new (new_flight u) refl) ∙ append-nil (filter_map later old))))
+        ∙ (sym (ap (filter_map later) (flights_in-push d.journal u)
+        ∙ (filter_map-append later old (cons_option (new_flight u) []) ∙ (ap (λ l. filter_map later old ++ l) (new (new_flight u) refl) ∙ append-nil (filter_map later old))))
         ∙ sym (given_twice p (flight_of d.airport (d.journal ++ u ∷ [])) (flights_in (d.journal ++ u ∷ [])))))
       where
         new : (o : Option (List ℕ)) → new_flight u ≡ o → filter_map (λ k. option_and_then p (flight_of d.airport (d.journal ++ u ∷ []) k)) (cons_option o []) ≡ []
         new None e = refl
-        new (Some f) e = ap (λ (x : Option Y). cons_option x []) (nothing _ (elsewhere (with_update d u) row.name u f (fresh_is u f e) after)).1
+        new (Some f) e = ap (λ (x : Option Y). cons_option x []) (nothing _ (elsewhere (with_update d u) row.name (reach_of u) f (fresh_is u f e) after)).1
 
   -- the runway keeps its sequence
   still_planned : (p : RunwayPlanRecord) → IsPlanOn d (rules_of d.airport d.journal row) p → IsPlanOn (with_update d u) (rules_of d.airport (d.journal ++ u ∷ []) row) p
@@ -119,26 +115,29 @@ module _ (d : DayRecord) (u : Update) (row : RunwayRow) (before : is_noted d u r
       let a = d.journal in
       let b = d.journal ++ u ∷ [] in
       let r = row.name in
-      let taxi : (place : Place) → taxi_of g a place r ≡ taxi_of g b place r = λ place. sym (taxi_of-same g a u place r (no_taxi d r place u before)) in
-      let now : now_of a ≡ now_of b = sym (now_of-same a u (no_clock d r u before)) in
-      let rules : rules_of g a row ≡ rules_of g b row = rules-same g a row u (λ m. no_cap d r m u before) (λ m. no_closed d r m u before) in
+      let taxi : (place : Place) → taxi_of g a place r ≡ taxi_of g b place r = λ place. sym (taxi_of-untouched g a u place r (no_taxi d r (reach_of u) before)) in
+      let values : values_of a ≡ values_of b = sym (values_of-untouched a u (no_value d r (reach_of u) before)) in
+      let rules : rules_of g a row ≡ rules_of g b row = rules-same g a row u (no_rule d r (reach_of u) before) in
       let fixed : fixed_in d r ≡ fixed_in (with_update d u) r =
       fixed_on-given r (records_in g a) ∙ (given_same (fixed_at r) (fixed_at r) (λ f. refl) (λ f h. ap (λ b. if_so b (fixed_slot f)) h) ∙ sym (fixed_on-given r (records_in g b))) in
       let targets : targets_at d r ≡ targets_at (with_update d u) r =
-      targets_on-given r (taxi_of g a) (now_of a) (records_in g a)
-      ∙ (given_same (target_at r (taxi_of g a) (now_of a)) (target_at r (taxi_of g b) (now_of b)) (λ f. same_target_at r (taxi_of g a) (taxi_of g b) (now_of a) taxi f ∙ ap (λ n. target_at r (taxi_of g b) n f) now) (no_target_at r (taxi_of g a) (now_of a))
-      ∙ sym (targets_on-given r (taxi_of g b) (now_of b) (records_in g b))) in
+      targets_on-given r (taxi_of g a) (values_of a) (records_in g a)
+      ∙ (given_same (target_at r (taxi_of g a) (values_of a)) (target_at r (taxi_of g b) (values_of b))
+      (λ f. same_target_at r (taxi_of g a) (taxi_of g b) (values_of a) taxi f ∙ ap (λ n. target_at r (taxi_of g b) n f) values) (no_target_at r (taxi_of g a) (values_of a))
+      ∙ sym (targets_on-given r (taxi_of g b) (values_of b) (records_in g b))) in
       let x = rules_of g a row in
       let there : IsSequence x (fixed_in (with_update d u) x.name) (targets_at (with_update d u) x.name) p =
-      subst (λ (ts : List TargetRecord). IsSequence x (fixed_in (with_update d u) x.name) ts p) (subst (λ (n : List ℕ). targets_at d n ≡ targets_at (with_update d u) n) (sym (rules_name d row)) targets)
+      subst (λ (ts : List TargetRecord). IsSequence x (fixed_in (with_update d u) x.name) ts p)
+      (subst (λ (n : List ℕ). targets_at d n ≡ targets_at (with_update d u) n) (sym (rules_name d row)) targets)
       (subst (λ (xs : List SlotRecord). IsSequence x xs (targets_at d x.name) p) (subst (λ (n : List ℕ). fixed_in d n ≡ fixed_in (with_update d u) n) (sym (rules_name d row)) fixed)
       (has_sequence d x p old)) in
       subst (λ (y : RunwayRules). IsPlanOn (with_update d u) y p) rules (is_plan_on (with_update d u) x p there)
 
 -- since the first day, after one more update
-pub since_taken : (first d next : DayRecord) (s m t : Touched) (u : Update) → next ≡ with_update d u → Adds s (is_noted d u) m → Adds m (is_noted next u) t → IsSince first s d → IsSince first t next
+pub since_taken : (first d next : DayRecord) (s m t : Touched) (u : Update) → next ≡ with_update d u → Adds s (is_noted d (reach_of u)) m
+    → Adds m (is_noted next (reach_of u)) t → IsSince first s d → IsSince first t next
 since_taken first d next s m t u is more later since =
-    let further : Adds m (is_noted (with_update d u) u) t = subst (λ (x : DayRecord). Adds m (is_noted x u) t) is later in
+    let further : Adds m (is_noted (with_update d u) (reach_of u)) t = subst (λ (x : DayRecord). Adds m (is_noted x (reach_of u)) t) is later in
     subst (IsSince first t) (sym is) (record {
       airport = since.airport;
       keeps = λ row p h old.
@@ -171,7 +170,9 @@ kept_since first d t plan made since r p i e = by (is_touched t r.name) refl e
         let row = at.0 in
         let named : row.name ≡ r.name = sym (rules_name d row) ∙ ap (λ (x : RunwayRules). x.name) at.2 in
         let among : Contains rows row = subst (λ g. Contains (rows_by_name g.runways) row) since.airport at.1 in
-        let there = contains_map rules first.airport.runways row (Contains-permutation rows first.airport.runways row (IsPermutation-sym first.airport.runways rows (rows_permutation first.airport.runways)) among) in
+        let there =
+        contains_map rules first.airport.runways row (Contains-permutation rows first.airport.runways row
+        (IsPermutation-sym first.airport.runways rows (rows_permutation first.airport.runways)) among) in
         let name : old.0.name ≡ (rules row).name = sym old.1.runway ∙ (same_is p.runway r.name found.1 ∙ (sym named ∙ sym (rules_name first row))) in
         let one : old.0 ≡ rules row = one_of_key same_name same_flips (λ (x : RunwayRules). x.name) (day_rules first) old.0 (rules row)
         (day_rules_differ first made.airport.names) old.2 there (is_same old.0.name (rules row).name name) in

@@ -1,15 +1,24 @@
 -- A day has one plan.
 use Rattle.std.proofs.Common.{◌≡◌, ℕ, Bool, true, false, ◌||◌, List, [], ◌∷◌, ◌++◌, Option, None, Some, is_none, refl, sym, ◌∙◌, ap, subst, inl, inr, map, filter, arith}
-use Rattle.cdm_plan.proofs.ListWords.{is_lt, is_some, All, AllZip, Contains, IsDistinct, flat_map, list_any, IsPermutation, IsSortedBy, false≢true, map-append, nat_list_cmp_total, or_comm, All-contains, All-permutation, Contains-permutation, IsPermutation-append_comm, IsPermutation-map, IsPermutation-refl, IsPermutation-sym, IsPermutation-trans, sum_by-IsPermutation}
+use Rattle.cdm_plan.proofs.ListWords.{is_lt, is_some, All, AllZip, Contains, IsDistinct, flat_map, list_any, IsPermutation, IsSortedBy, false≢true}
+use Rattle.cdm_plan.proofs.ListWords.{map-append, nat_list_cmp_total, or_comm, All-contains, All-permutation, Contains-permutation}
+use Rattle.cdm_plan.proofs.ListWords.{IsPermutation-append_comm, IsPermutation-map, IsPermutation-refl, IsPermutation-sym, IsPermutation-trans}
+use Rattle.cdm_plan.proofs.ListWords.{sum_by-IsPermutation}
 use Rattle.cdm_plan.proofs.ListWords.{IsDistinct-IsPermutation, contains_head, contains_tail, contains_cases, distinct_filter, distinct_right, list_any-find, list_any-map, one_of_key, sorted_one}
-use Rattle.cdm_plan.proofs.PlanWords.{name_cmp, same_name, Record, RunwayRules, TaxiTimes, SlotRecord, IsSequence, IsSequenceBy, names_left, PlanRecord, RunwayPlanRecord, TargetRecord, AimResult, BlockedFlight, Placing, IsEarlier, if_passes, is_on, is_same, same_flips, tied_names}
-use Rattle.cdm_plan.proofs.PlanWords.{runway_names, DayRecord, flights_in, IsDayAllowed, IsDayPlan, IsDayPlanBy, day_rules, records_in, has_runway, now_of, taxi_of, RunwayRow, AreAims, HasParts, IsPlanOf, early_in, fixed_on, planned_of, targets_in, targets_on}
+use Rattle.cdm_plan.proofs.PlanWords.{DayValues, name_cmp, same_name, Record, RunwayRules, TaxiTimes, SlotRecord, IsSequence, IsSequenceBy}
+use Rattle.cdm_plan.proofs.PlanWords.{names_left, PlanRecord, RunwayPlanRecord, TargetRecord, AimResult, BlockedFlight, Placing, IsEarlier, if_passes}
+use Rattle.cdm_plan.proofs.PlanWords.{is_on, is_same, same_flips, tied_names}
+use Rattle.cdm_plan.proofs.PlanWords.{runway_names, DayRecord, flights_in, IsDayAllowed, IsDayPlan, IsDayPlanBy, day_rules, records_in, has_runway}
+use Rattle.cdm_plan.proofs.PlanWords.{values_of, taxi_of, RunwayRow, AreAims, HasParts, IsPlanOf, early_in, fixed_on, planned_of, targets_in}
+use Rattle.cdm_plan.proofs.PlanWords.{targets_on}
 use Rattle.cdm_sequence.proofs.OneLemmas.{names_weak, sequence_one, tie_from}
 use Rattle.cdm_plan.proofs.DayPlanLemmas.{day_rules_differ, record_names_differ}
 use Rattle.cdm_plan.proofs.NameLemmas.{runway-names}
 use Rattle.cdm_plan.proofs.PartLemmas.{runways_make}
 use Rattle.cdm_plan.proofs.PlacingLemmas.{allowed_on, none_earlier_on}
-use Rattle.cdm_plan.proofs.PlanningLemmas.{AllZip-weaker, aims_are, all_zipped, any_of, blocked_early, early-aims, early_at, early_named, fixed_at, gathered, made_named, names_kept, names_on, stands_here, target_at, target_name, targets-aims, targets_of, targets_on-given}
+use Rattle.cdm_plan.proofs.PlanningLemmas.{AllZip-weaker, aims_are, all_zipped, any_of, blocked_early, early-aims, early_at, early_named, fixed_at}
+use Rattle.cdm_plan.proofs.PlanningLemmas.{gathered, made_named, names_kept, names_on, stands_here, target_at, target_name, targets-aims, targets_of}
+use Rattle.cdm_plan.proofs.PlanningLemmas.{targets_on-given}
 
 -- Lists by name.
 
@@ -40,9 +49,9 @@ partner R _ _ y all i = absurd all
 
 -- Plans.
 
-module _ (times : TaxiTimes) (now : ℕ) (fs : List Record) (own : IsDistinct same_name (map (λ f. f.name) fs)) where
+module _ (times : TaxiTimes) (values : DayValues) (fs : List Record) (own : IsDistinct same_name (map (λ f. f.name) fs)) where
   abbrev targets_at : List ℕ → List TargetRecord
-  targets_at r = targets_on r (targets_of fs times now)
+  targets_at r = targets_on r (targets_of fs times values)
 
   abbrev IsMade : RunwayRules → RunwayPlanRecord → Type 0
   IsMade r p = IsSequence r (fixed_on r.name fs) (targets_at r.name) p
@@ -56,7 +65,7 @@ module _ (times : TaxiTimes) (now : ℕ) (fs : List Record) (own : IsDistinct sa
   made_one (r ∷ rs) (x ∷ xs) (y ∷ ys) a b =
       let fixed = fixed_on r.name fs in
       let targets = targets_at r.name in
-      let same : x ≡ y = sequence_one r fixed fixed targets targets x y (names_on r.name times now fs own) (IsPermutation-refl fixed) (IsPermutation-refl targets) a.0 b.0 in
+      let same : x ≡ y = sequence_one r fixed fixed targets targets x y (names_on r.name times values fs own) (IsPermutation-refl fixed) (IsPermutation-refl targets) a.0 b.0 in
       let rest = made_one rs xs ys a.1 b.1 in
       λ i. same i ∷ rest i
   made_one [] [] (y ∷ ys) a b = absurd b
@@ -65,10 +74,10 @@ module _ (times : TaxiTimes) (now : ℕ) (fs : List Record) (own : IsDistinct sa
 
   -- a flight has a target on the runway, and no minute
   abbrev left : Placing → List ℕ → Record → Bool
-  left placing r f = is_some (if_passes (λ t. is_none (placing t)) (target_at r times now f))
+  left placing r f = is_some (if_passes (λ t. is_none (placing t)) (target_at r times values f))
 
-  left_here : (placing : Placing) (r : List ℕ) (f : Record) → left placing r f ≡ true → (is_on r f ≡ true) × (is_some (early_at times now f) ≡ false)
-  left_here placing r f h = stands_here times now r f (by (target_at r times now f) h)
+  left_here : (placing : Placing) (r : List ℕ) (f : Record) → left placing r f ≡ true → (is_on r f ≡ true) × (is_some (early_at times values f) ≡ false)
+  left_here placing r f h = stands_here times values r f (by (target_at r times values f) h)
     where
       by : (o : Option TargetRecord) → is_some (if_passes (λ t. is_none (placing t)) o) ≡ true → (is_some (fixed_at r f) || is_some o) ≡ true
       by None k = absurd (false≢true k)
@@ -76,8 +85,8 @@ module _ (times : TaxiTimes) (now : ℕ) (fs : List Record) (own : IsDistinct sa
 
   left_names : (placing : Placing) (r : List ℕ) → names_left placing (targets_at r) ≡ map (λ f. f.name) (filter (left placing r) fs)
   left_names placing r =
-      ap (λ (ts : List TargetRecord). map (λ t. t.key.name) (filter (λ t. is_none (placing t)) ts)) (targets_on-given r times now fs)
-      ∙ names_kept (λ (t : TargetRecord). t.key.name) (λ (f : Record). f.name) (λ t. is_none (placing t)) (target_at r times now) (target_name r times now) fs
+      ap (λ (ts : List TargetRecord). map (λ t. t.key.name) (filter (λ t. is_none (placing t)) ts)) (targets_on-given r times values fs)
+      ∙ names_kept (λ (t : TargetRecord). t.key.name) (λ (f : Record). f.name) (λ t. is_none (placing t)) (target_at r times values) (target_name r times values) fs
 
   module _ (placing : Placing) (rs : List RunwayRules) (rs_own : IsDistinct same_name (map (λ r. r.name) rs)) (made : List RunwayPlanRecord) (all : AllZip (IsMadeBy placing) rs made) where
     each_made : AllZip IsMade rs made
@@ -88,57 +97,64 @@ module _ (times : TaxiTimes) (now : ℕ) (fs : List Record) (own : IsDistinct sa
     made_own = subst (λ (ns : List (List ℕ)). IsDistinct same_name ns) (sym (made_named (λ r. fixed_on r fs) targets_at rs made each_made)) rs_own
 
     -- and so have all blocked flights
-    blocked_own : (ps : List RunwayPlanRecord) → IsPermutation made ps → IsDistinct same_name (map (λ b. b.name) (blocked_early fs times now ++ flat_map (λ p. p.blocked) ps))
+    blocked_own : (ps : List RunwayPlanRecord) → IsPermutation made ps → IsDistinct same_name (map (λ b. b.name) (blocked_early fs times values ++ flat_map (λ p. p.blocked) ps))
     blocked_own ps same =
         let name : BlockedFlight → List ℕ = λ b. b.name in
         let runway : RunwayPlanRecord → List ℕ = λ p. p.runway in
         let names : RunwayPlanRecord → List (List ℕ) = λ p. map name p.blocked in
-        let early = blocked_early fs times now in
+        let early = blocked_early fs times values in
         let later = flat_map (λ p. p.blocked) ps in
         let Names : List ℕ → RunwayPlanRecord → Type 0 = λ r p. IsPermutation (map (λ f. f.name) (filter (left placing r) fs)) (names p) in
         let each = all_zipped (IsMadeBy placing) (λ p. Names p.runway p)
         (λ r p h. subst (λ (n : List ℕ). Names n p) (sym h.runway) (subst (λ (ns : List (List ℕ)). IsPermutation ns (names p)) (left_names placing r.name) h.blocked)) rs made all in
         let apart = IsDistinct-IsPermutation same_name same_flips (map runway made) (map runway ps) (IsPermutation-map runway made ps same) made_own in
-        let test = any_of fs (left placing) (λ f. is_some (early_at times now f)) (left_here placing) runway names ps in
+        let test = any_of fs (left placing) (λ f. is_some (early_at times values f)) (left_here placing) runway names ps in
         let flights = map (λ (f : Record). f.name) (filter test fs) in
         let once : IsPermutation flights (flat_map names ps ++ map name early) =
-        gathered fs (left placing) (λ f. is_some (early_at times now f)) (left_here placing) runway names ps (map name early) apart (early_named times now fs) (All-permutation (λ p. Names p.runway p) made ps same each) in
+        gathered fs (left placing) (λ f. is_some (early_at times values f)) (left_here placing) runway names ps (map name early) apart (early_named times values fs)
+        (All-permutation (λ p. Names p.runway p) made ps same each) in
         let whole = ap (λ (ns : List (List ℕ)). ns ++ map name early) (names_of_lists (λ (p : RunwayPlanRecord). p.blocked) name ps) ∙ sym (map-append name later early) in
         IsDistinct-IsPermutation same_name same_flips flights (map name (early ++ later))
-        (IsPermutation-trans flights (map name (later ++ early)) (map name (early ++ later)) (subst (IsPermutation flights) whole once) (IsPermutation-map name (later ++ early) (early ++ later) (IsPermutation-append_comm later early)))
+        (IsPermutation-trans flights (map name (later ++ early)) (map name (early ++ later)) (subst (IsPermutation flights) whole once)
+        (IsPermutation-map name (later ++ early) (early ++ later) (IsPermutation-append_comm later early)))
         (distinct_filter same_name (λ (f : Record). f.name) test fs own)
 
   -- a plan has parts
   record Parts (rs : List RunwayRules) (plan : PlanRecord) : Type 0 where
-    clock : plan.clock ≡ now
+    clock : plan.clock ≡ values.clock
     placing : Placing
     made : List RunwayPlanRecord
     all : AllZip (IsMadeBy placing) rs made
-    parts : HasParts (blocked_early fs times now) made plan
+    parts : HasParts (blocked_early fs times values) made plan
 
-  parts_of : (rs : List RunwayRules) (plan : PlanRecord) → IsPlanOf fs times now rs plan → Parts rs plan
+  parts_of : (rs : List RunwayRules) (plan : PlanRecord) → IsPlanOf fs times values rs plan → Parts rs plan
   parts_of rs plan (placing, aims, e) =
-      let are = aims_are times now (planned_of fs) aims e.aimed in
+      let are = aims_are times values (planned_of fs) aims e.aimed in
       record {
         clock = e.clock;
         placing = placing;
         made = e.made;
-        all = subst (λ (ts : List TargetRecord). AllZip (λ r p. IsSequenceBy placing r (fixed_on r.name fs) (targets_on r.name ts) p) rs e.made) (sym (ap targets_in are) ∙ targets-aims times now fs) e.sequences;
-        parts = subst (λ (bs : List BlockedFlight). HasParts bs e.made plan) (sym (ap (early_in fs) are) ∙ early-aims times now fs) e.parts;
+        all = subst (λ (ts : List TargetRecord). AllZip (λ r p. IsSequenceBy placing r (fixed_on r.name fs) (targets_on r.name ts) p) rs e.made) (sym (ap targets_in are)
+            ∙ targets-aims times values fs) e.sequences;
+        parts = subst (λ (bs : List BlockedFlight). HasParts bs e.made plan) (sym (ap (early_in fs) are) ∙ early-aims times values fs) e.parts;
       }
 
   -- there is one plan
-  pub one_plan : (rs : List RunwayRules) → IsDistinct same_name (map (λ r. r.name) rs) → (p q : PlanRecord) → IsPlanOf fs times now rs p → IsPlanOf fs times now rs q → p ≡ q
+  pub one_plan : (rs : List RunwayRules) → IsDistinct same_name (map (λ r. r.name) rs) → (p q : PlanRecord) → IsPlanOf fs times values rs p → IsPlanOf fs times values rs q → p ≡ q
   one_plan rs rs_own p q x y =
       let a = parts_of rs p x in
       let b = parts_of rs q y in
       let equal : b.made ≡ a.made = made_one rs b.made a.made (each_made b.placing rs rs_own b.made b.all) (each_made a.placing rs rs_own a.made a.all) in
       let other : IsPermutation a.made q.runways = subst (λ (ms : List RunwayPlanRecord). IsPermutation ms q.runways) equal b.parts.runways in
       let clock : p.clock ≡ q.clock = a.clock ∙ sym b.clock in
-      let runways : p.runways ≡ q.runways = one_order (λ (p : RunwayPlanRecord). p.runway) a.made p.runways q.runways (made_own a.placing rs rs_own a.made a.all) a.parts.runways other a.parts.runway_order b.parts.runway_order in
-      let left = blocked_early fs times now ++ flat_map (λ p. p.blocked) p.runways in
-      let others : IsPermutation left q.blocked = subst (λ (ps : List RunwayPlanRecord). IsPermutation (blocked_early fs times now ++ flat_map (λ p. p.blocked) ps) q.blocked) (sym runways) b.parts.blocked in
-      let blocked : p.blocked ≡ q.blocked = one_order (λ (b : BlockedFlight). b.name) left p.blocked q.blocked (blocked_own a.placing rs rs_own a.made a.all p.runways a.parts.runways) a.parts.blocked others a.parts.blocked_order b.parts.blocked_order in
+      let runways : p.runways ≡ q.runways =
+      one_order (λ (p : RunwayPlanRecord). p.runway) a.made p.runways q.runways (made_own a.placing rs rs_own a.made a.all) a.parts.runways other a.parts.runway_order b.parts.runway_order in
+      let left = blocked_early fs times values ++ flat_map (λ p. p.blocked) p.runways in
+      let others : IsPermutation left q.blocked =
+      subst (λ (ps : List RunwayPlanRecord). IsPermutation (blocked_early fs times values ++ flat_map (λ p. p.blocked) ps) q.blocked) (sym runways) b.parts.blocked in
+      let blocked : p.blocked ≡ q.blocked =
+      one_order (λ (b : BlockedFlight). b.name) left p.blocked q.blocked
+      (blocked_own a.placing rs rs_own a.made a.all p.runways a.parts.runways) a.parts.blocked others a.parts.blocked_order b.parts.blocked_order in
       λ i. record { clock = clock i; runways = runways i; blocked = blocked i }
 
 -- Days.
@@ -146,29 +162,31 @@ module _ (times : TaxiTimes) (now : ℕ) (fs : List Record) (own : IsDistinct sa
 pub one_day_plan : (d : DayRecord) (p q : PlanRecord) → IsDistinct same_name (runway_names d.airport) → IsDistinct same_name (flights_in d.journal) → IsDayPlan d p → IsDayPlan d q → p ≡ q
 unfolding IsDayPlan
 one_day_plan d p q runways flights a b =
-    one_plan (taxi_of d.airport d.journal) (now_of d.journal) (records_in d.airport d.journal) (record_names_differ d flights) (day_rules d) (day_rules_differ d runways) p q a b
+    one_plan (taxi_of d.airport d.journal) (values_of d.journal) (records_in d.airport d.journal) (record_names_differ d flights) (day_rules d) (day_rules_differ d runways) p q a b
 
 -- plans of the runways make the day's
 pub day_made : (d : DayRecord) (aims : List AimResult) (made : List RunwayPlanRecord) (plan : PlanRecord) → IsDistinct same_name (runway_names d.airport)
-    → AreAims (records_in d.airport d.journal) (taxi_of d.airport d.journal) (now_of d.journal) aims
+    → AreAims (records_in d.airport d.journal) (taxi_of d.airport d.journal) (values_of d.journal) aims
     → AllZip (λ r p. IsSequence r (fixed_on r.name (records_in d.airport d.journal)) (targets_on r.name (targets_in aims)) p) (day_rules d) made
-    → plan.clock ≡ now_of d.journal → HasParts (early_in (records_in d.airport d.journal) aims) made plan → IsDayPlan d plan
+    → plan.clock ≡ (values_of d.journal).clock → HasParts (early_in (records_in d.airport d.journal) aims) made plan → IsDayPlan d plan
 unfolding IsDayPlan
 day_made d aims made plan own are all clock parts =
-    runways_make (taxi_of d.airport d.journal) (now_of d.journal) (records_in d.airport d.journal) (day_rules d) aims made plan are (day_rules_differ d own) all clock parts
+    runways_make (taxi_of d.airport d.journal) (values_of d.journal) (records_in d.airport d.journal) (day_rules d) aims made plan are (day_rules_differ d own) all clock parts
 
 -- it is allowed
-pub day_allowed : (d : DayRecord) (aims : List AimResult) (placing : Placing) (plan : PlanRecord) → IsDistinct same_name (flights_in d.journal) → IsDayPlanBy placing aims d plan → IsDayAllowed aims d placing
+pub day_allowed : (d : DayRecord) (aims : List AimResult) (placing : Placing) (plan : PlanRecord) → IsDistinct same_name (flights_in d.journal)
+    → IsDayPlanBy placing aims d plan → IsDayAllowed aims d placing
 unfolding IsDayPlanBy
 day_allowed d aims placing plan own e =
     let fs = records_in d.airport d.journal in
     let times = taxi_of d.airport d.journal in
-    let now = now_of d.journal in
-    let targets = sym (targets-aims times now fs) ∙ ap targets_in (aims_are times now (planned_of fs) aims e.aimed) in
+    let values = values_of d.journal in
+    let targets = sym (targets-aims times values fs) ∙ ap targets_in (aims_are times values (planned_of fs) aims e.aimed) in
     allowed_on (λ r. fixed_on r fs) (targets_in aims) placing (day_rules d) e.made
     (λ r.
     subst (λ (ts : List TargetRecord). IsDistinct same_name (map (λ f. f.key.name) (targets_on r ts))) targets
-    (distinct_right same_name (map (λ (x : SlotRecord). x.name) (fixed_on r fs)) (map (λ (t : TargetRecord). t.key.name) (targets_on r (targets_of fs times now))) (names_on r times now fs (record_names_differ d own))))
+    (distinct_right same_name (map (λ (x : SlotRecord). x.name) (fixed_on r fs)) (map (λ (t : TargetRecord). t.key.name) (targets_on r (targets_of fs times values)))
+    (names_on r times values fs (record_names_differ d own))))
     e.sequences
 
 -- and none that is allowed is earlier
@@ -179,6 +197,7 @@ day_none_earlier d aims placing other plan known e allowed sooner =
     let g = d.airport in
     let runway = sooner.first.runway in
     let there : has_runway g runway ≡ true = All-contains (λ f. has_runway g f.runway ≡ true) (targets_in aims) sooner.first known sooner.among in
-    let named : list_any (λ n. same_name n runway) (runway_names g) ≡ true = list_any-map (λ n. same_name n runway) (λ (row : RunwayRow). row.name) g.runways ∙ list_any-find (λ (row : RunwayRow). same_name row.name runway) g.runways ∙ there in
+    let named : list_any (λ n. same_name n runway) (runway_names g) ≡ true = list_any-map (λ n. same_name n runway) (λ (row : RunwayRow). row.name) g.runways
+    ∙ list_any-find (λ (row : RunwayRow). same_name row.name runway) g.runways ∙ there in
     none_earlier_on (λ r. fixed_on r (records_in g d.journal)) (targets_in aims) placing other (day_rules d) e.made e.sequences allowed sooner
     (ap (list_any (λ n. same_name n runway)) (runway-names g d.journal g.runways) ∙ named)

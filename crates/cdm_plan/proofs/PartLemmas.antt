@@ -1,7 +1,10 @@
 -- The plans of the runways, in some order, make the plan of the day.
 use Rattle.std.proofs.Common.{◌≡◌, ℕ, zero, suc, ◌+◌, ◌≤◌, ◌<◌, Bool, List, [], ◌∷◌, ◌++◌, refl, sym, ◌∙◌, subst, arith, Bor, map, filter, length, length-append, sum_by, get_or, set}
-use Rattle.cdm_plan.proofs.ListWords.{is_some, length-map, All, AllZip, IsDistinct, flat_map, swap, IsPermutation, All-cons, All-head, All-nil, All-tail, IsPermutation-keeps, IsPermutation-refl, IsPermutation-swap, IsPermutation-sym, IsPermutation-trans, length_permutation, sum_by-IsPermutation, sum_by-add}
-use Rattle.cdm_plan.proofs.PlanWords.{same_name, Record, RunwayRules, TaxiTimes, SlotRecord, IsSequence, PlanRecord, RunwayPlanRecord, TargetRecord, AimResult, BlockedFlight, AreAims, HasParts, IsPlanOf, early_in, fixed_on, targets_in, targets_on}
+use Rattle.cdm_plan.proofs.ListWords.{is_some, length-map, All, AllZip, IsDistinct, flat_map, swap, IsPermutation, All-cons, All-head, All-nil}
+use Rattle.cdm_plan.proofs.ListWords.{All-tail, IsPermutation-keeps, IsPermutation-refl, IsPermutation-swap, IsPermutation-sym, IsPermutation-trans}
+use Rattle.cdm_plan.proofs.ListWords.{length_permutation, sum_by-IsPermutation, sum_by-add}
+use Rattle.cdm_plan.proofs.PlanWords.{DayValues, same_name, Record, RunwayRules, TaxiTimes, SlotRecord, IsSequence, PlanRecord, RunwayPlanRecord}
+use Rattle.cdm_plan.proofs.PlanWords.{TargetRecord, AimResult, BlockedFlight, AreAims, HasParts, IsPlanOf, early_in, fixed_on, targets_in, targets_on}
 use Rattle.std.proofs.lemmas.List.Concat.{length-flat_map}
 use Rattle.std.proofs.lemmas.Slice.Zip.{AllZip-long}
 use Rattle.cdm_plan.proofs.PlacingLemmas.{placed, placing_of}
@@ -69,35 +72,39 @@ few_joined early made ordered blocked most same others few =
     omega arith
 
 -- and the parts have at most as many flights as there are
-pub few_parts : (times : TaxiTimes) (now : ℕ) (fs : List Record) (runways : List RunwayRules) (made plans : List RunwayPlanRecord)
-    → AllZip (λ r p. IsSequence r (fixed_on r.name fs) (targets_on r.name (targets_of fs times now)) p) runways made → IsPermutation made plans
-    → IsDistinct same_name (map (λ r. r.name) runways) → sum_by (λ p. length p.slots + length p.blocked) plans + length (blocked_early fs times now) ≤ length fs
-few_parts times now fs runways made plans each same own =
+pub few_parts : (times : TaxiTimes) (values : DayValues) (fs : List Record) (runways : List RunwayRules) (made plans : List RunwayPlanRecord)
+    → AllZip (λ r p. IsSequence r (fixed_on r.name fs) (targets_on r.name (targets_of fs times values)) p) runways made → IsPermutation made plans
+    → IsDistinct same_name (map (λ r. r.name) runways) → sum_by (λ p. length p.slots + length p.blocked) plans + length (blocked_early fs times values) ≤ length fs
+few_parts times values fs runways made plans each same own =
     let fixed : List ℕ → List SlotRecord = λ r. fixed_on r fs in
-    let targets : List ℕ → List TargetRecord = λ r. targets_on r (targets_of fs times now) in
-    let early : Record → Bool = λ f. is_some (early_at times now f) in
-    let rest = map (λ (b : BlockedFlight). b.name) (blocked_early fs times now) in
-    let Shows : RunwayPlanRecord → Type 0 = λ p. IsPermutation (map (λ f. f.name) (filter (stands times now p.runway) fs)) (shown p) in
+    let targets : List ℕ → List TargetRecord = λ r. targets_on r (targets_of fs times values) in
+    let early : Record → Bool = λ f. is_some (early_at times values f) in
+    let rest = map (λ (b : BlockedFlight). b.name) (blocked_early fs times values) in
+    let Shows : RunwayPlanRecord → Type 0 = λ p. IsPermutation (map (λ f. f.name) (filter (stands times values p.runway) fs)) (shown p) in
     let all : All Shows made = all_zipped (λ r p. IsSequence r (fixed r.name) (targets r.name) p) Shows
-    (λ r p h. subst (λ (n : List ℕ). IsPermutation (map (λ f. f.name) (filter (stands times now n) fs)) (shown p)) (sym h.1.runway)
-    (IsPermutation-trans _ _ _ (names_stand r.name times now fs) (all_shown r (fixed r.name) (targets r.name) p h))) runways made each in
+    (λ r p h. subst (λ (n : List ℕ). IsPermutation (map (λ f. f.name) (filter (stands times values n) fs)) (shown p)) (sym h.1.runway)
+    (IsPermutation-trans _ _ _ (names_stand r.name times values fs) (all_shown r (fixed r.name) (targets r.name) p h))) runways made each in
     let apart = subst (λ (ns : List (List ℕ)). IsDistinct same_name ns) (sym (made_named fixed targets runways made each)) own in
-    let once = gathered fs (stands times now) early (stands_here times now) (λ (p : RunwayPlanRecord). p.runway) shown made rest apart (early_named times now fs) all in
-    let few = few_names (λ (f : Record). f.name) fs (any_of fs (stands times now) early (stands_here times now) (λ (p : RunwayPlanRecord). p.runway) shown made) (flat_map shown made ++ rest) once in
+    let once = gathered fs (stands times values) early (stands_here times values) (λ (p : RunwayPlanRecord). p.runway) shown made rest apart (early_named times values fs) all in
+    let few =
+    few_names (λ (f : Record). f.name) fs (any_of fs (stands times values) early (stands_here times values) (λ (p : RunwayPlanRecord). p.runway) shown made) (flat_map shown made ++ rest) once in
     let moved = sum_by-IsPermutation (λ (p : RunwayPlanRecord). length p.slots + length p.blocked) made plans same in
     let sizes : sum_by (λ p. length (shown p)) made ≡ sum_by (λ p. length p.slots + length p.blocked) made = λ i. sum_by (λ p. shown_length p i) made in
     let parts = length-append (flat_map shown made) rest in
     let flat = length-flat_map shown made in
-    let long = length-map (blocked_early fs times now) (λ (b : BlockedFlight). b.name) in
+    let long = length-map (blocked_early fs times values) (λ (b : BlockedFlight). b.name) in
     omega arith
   where
     shown_length : (p : RunwayPlanRecord) → length (shown p) ≡ length p.slots + length p.blocked
-    shown_length p = length-append (map (λ x. x.name) p.slots) (map (λ b. b.name) p.blocked) ∙ (λ i. length-map p.slots (λ (x : SlotRecord). x.name) i + length-map p.blocked (λ (b : BlockedFlight). b.name) i)
+    shown_length p = length-append (map (λ x. x.name) p.slots) (map (λ b. b.name) p.blocked)
+        ∙ (λ i. length-map p.slots (λ (x : SlotRecord). x.name) i + length-map p.blocked (λ (b : BlockedFlight). b.name) i)
 
 -- plans that were made runway by runway make the day's plan
-pub runways_make : (times : TaxiTimes) (now : ℕ) (fs : List Record) (runways : List RunwayRules) (aims : List AimResult) (made : List RunwayPlanRecord) (plan : PlanRecord) → AreAims fs times now aims → IsDistinct same_name (map (λ r. r.name) runways)
-    → AllZip (λ r p. IsSequence r (fixed_on r.name fs) (targets_on r.name (targets_in aims)) p) runways made → plan.clock ≡ now → HasParts (early_in fs aims) made plan → IsPlanOf fs times now runways plan
-runways_make times now fs runways aims made plan are own all clock parts =
+pub runways_make : (times : TaxiTimes) (values : DayValues) (fs : List Record) (runways : List RunwayRules) (aims : List AimResult) (made : List RunwayPlanRecord)
+    (plan : PlanRecord) → AreAims fs times values aims → IsDistinct same_name (map (λ r. r.name) runways)
+    → AllZip (λ r p. IsSequence r (fixed_on r.name fs) (targets_on r.name (targets_in aims)) p) runways made → plan.clock ≡ values.clock
+    → HasParts (early_in fs aims) made plan → IsPlanOf fs times values runways plan
+runways_make times values fs runways aims made plan are own all clock parts =
     let fixed : List ℕ → List SlotRecord = λ r. fixed_on r fs in
     let placing = placing_of fixed (targets_in aims) runways made all in
     (placing, aims, record { aimed = are; clock = clock; made = made; sequences = placed fixed (targets_in aims) runways made own all; parts = parts })

@@ -11,18 +11,20 @@ pub use Rattle.cdm_plan.specs.inner.Aimed.{CanSequence, IsAimed, early_among, if
 pub use Rattle.cdm_plan.specs.Kept.{Adds, AreKept, IsMade, IsPlanOn, IsSince, fixed_in, is_noted, is_touched, kept_plan}
 pub use Rattle.cdm_plan.specs.inner.Together.{Together}
 pub use Rattle.cdm_plan.specs.Day.{new_flight}
-pub use Rattle.cdm_flight.proofs.JournalLemmas.{flight_of-untouched, last_value-push, status_of-record}
-pub use Rattle.cdm_flight.specs.Accepted.{flight_refusal, has_runway, is_disordered, is_full, is_unknown, stand_with_taxi}
+pub use Rattle.cdm_flight.proofs.JournalLemmas.{flight_of-untouched, status_of-record, taxi_of-untouched, values_of-untouched}
+pub use Rattle.cdm_flight.specs.Accepted.{flight_refusal, has_runway, is_disordered, is_full, is_unknown}
 unfoldable pub use Rattle.cdm_flight.specs.Accepted.{refusal_of}
-pub use Rattle.cdm_flight.specs.Journal.{AirportRows, cap_of, closed_of, is_known, now_of, only_if, runway_row, sets_cap, sets_closed, sets_now, sets_taxi, taxi_of, touches}
+pub use Rattle.cdm_flight.specs.Journal.{AirportRows, cap_given, closed_given, is_known, last_value, runway_row, taxi_of, values_of}
 unfoldable pub use Rattle.cdm_flight.specs.Journal.{flight_of}
 pub use Rattle.cdm_flight.specs.Names.{name_cmp, same_name}
 pub use Rattle.cdm_flight.specs.Record.{Record, is_planned}
-pub use Rattle.cdm_flight.specs.Step.{flight_of_update, is_fresh}
+pub use Rattle.cdm_flight.specs.Reach.{flight_of_update, reach_of, same_reach}
+pub use Rattle.cdm_flight.specs.Step.{is_fresh}
 pub use Rattle.cdm_flight.specs.Taxi.{TaxiRows, taxi_out}
 pub use Rattle.cdm_flight.specs.declared.airport.RunwayRow.{RunwayRow}
 pub use Rattle.cdm_flight.specs.declared.place.Place.{Place}
 pub use Rattle.cdm_flight.specs.declared.update.Update.{Update}
+pub use Rattle.cdm_flight.specs.declared.values.DayValues.{DayValues}
 pub use Rattle.cdm_runway.specs.Rules.{RunwayRules}
 pub use Rattle.cdm_sequence.proofs.AimLemmas.{aim_is, aim_means, aim_with, aim_with_exot}
 unfoldable pub use Rattle.cdm_sequence.proofs.AimLemmas.{aim_of}
@@ -37,5 +39,5 @@ pub use Rattle.cdm_sequence.specs.Slots.{PlanRecord, RunwayPlanRecord, SlotRecor
 pub use Rattle.cdm_sequence.specs.Targets.{TargetRecord}
 pub use Rattle.cdm_sequence.specs.declared.aims.AimResult.{AimResult}
 pub use Rattle.cdm_sequence.specs.declared.slot.BlockedFlight.{BlockedFlight}
-pub use Rattle.cdm_flight.specs.declared.update.Update.TheVariants.{Clock, Close, Flt, Rate, Reopen, Taxi}
+pub use Rattle.cdm_flight.specs.declared.update.Update.TheVariants.{Flt}
 pub use Rattle.cdm_sequence.specs.declared.aims.AimResult.TheVariants.{Early, Ready}

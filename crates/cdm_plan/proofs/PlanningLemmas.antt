@@ -1,9 +1,15 @@
 -- Each flight of a day stands once: as a fixed flight or a target of one runway, or blocked early.
 use Rattle.std.proofs.lemmas.Slice.Zip.{AllZip-map}
 use Rattle.std.proofs.Common.{Bor, ◌≡◌, ℕ, ◌+◌, ◌≤◌, Bool, true, false, not, cond, ◌||◌, List, [], ◌∷◌, ◌++◌, Option, None, Some, refl, sym, ◌∙◌, ap, subst, arith, map, filter, length}
-use Rattle.cdm_plan.proofs.ListWords.{is_none, is_some, zip, option_map, option_map_or, All, All-cons, All-head, All-nil, All-tail, append_assoc, cons_option, filter_map, flat_map, IsDistinct, AllByRecursion, IsPermutation, false_from_ne_true, false≢true, IsPermutation-append, IsPermutation-refl, IsPermutation-trans, IsPermutation-append_right, IsPermutation-middle, IsPermutation-map, IsPermutation-sym, IsDistinct-IsPermutation}
-use Rattle.cdm_plan.proofs.ListWords.{IsDistinct-head, IsDistinct-tail, length-map, map-append, All-given, distinct_filter, filter_map-map, filter_map-filter, if_so, length_permutation, AllZip, filter_passes}
-use Rattle.cdm_plan.proofs.PlanWords.{same_name, Record, is_planned, TaxiTimes, IsAim, aim_of, aim_is, aim_means, same_flips, same_is, SlotRecord, fixed_slot, slot_by, Placing, flight_names, names_left, planned_slot, IsSequence, TargetRecord, AimResult, BlockedFlight, early_in, planned_of}
+use Rattle.cdm_plan.proofs.ListWords.{is_none, is_some, zip, option_map, option_map_or, All, All-cons, All-head, All-nil, All-tail, append_assoc}
+use Rattle.cdm_plan.proofs.ListWords.{cons_option, filter_map, flat_map, IsDistinct, AllByRecursion, IsPermutation, false_from_ne_true, false≢true}
+use Rattle.cdm_plan.proofs.ListWords.{IsPermutation-append, IsPermutation-refl, IsPermutation-trans, IsPermutation-append_right, IsPermutation-middle}
+use Rattle.cdm_plan.proofs.ListWords.{IsPermutation-map, IsPermutation-sym, IsDistinct-IsPermutation}
+use Rattle.cdm_plan.proofs.ListWords.{IsDistinct-head, IsDistinct-tail, length-map, map-append, All-given, distinct_filter, filter_map-map}
+use Rattle.cdm_plan.proofs.ListWords.{filter_map-filter, if_so, length_permutation, AllZip, filter_passes}
+use Rattle.cdm_plan.proofs.PlanWords.{DayValues, same_name, Record, is_planned, TaxiTimes, IsAim, aim_of, aim_is, aim_means, same_flips, same_is}
+use Rattle.cdm_plan.proofs.PlanWords.{SlotRecord, fixed_slot, slot_by, Placing, flight_names, names_left, planned_slot, IsSequence, TargetRecord}
+use Rattle.cdm_plan.proofs.PlanWords.{AimResult, BlockedFlight, early_in, planned_of}
 use Rattle.cdm_plan.proofs.PlanWords.{target_in, targets_in, blocked_in, is_on, fixed_on, targets_on, IsAimed, if_on, if_passes, target_for, CanSequence, RunwayRules, RunwayPlanRecord, Ready, Early}
 use Rattle.std.proofs.lemmas.List.Filters.{length-filter_both}
 use Rattle.cdm_flight.specs.declared.flight.Status.{Status}
@@ -16,20 +22,20 @@ use Rattle.cdm_plan.proofs.JournalFacts.{some_named}
 -- Aims.
 
 -- a flight with what it could have
-unfoldable pub aimed : TaxiTimes → ℕ → Record → Aimed
-aimed times now f = record { name = f.name; aim = aim_of f times now }
+unfoldable pub aimed : TaxiTimes → DayValues → Record → Aimed
+aimed times values f = record { name = f.name; aim = aim_of f times values }
 
 -- the targets of the planned flights that can be sequenced
-unfoldable pub targets_of : List Record → TaxiTimes → ℕ → List TargetRecord
-targets_of flights times now = filter_map (λ f. target_in (aim_of f times now)) (planned_of flights)
+unfoldable pub targets_of : List Record → TaxiTimes → DayValues → List TargetRecord
+targets_of flights times values = filter_map (λ f. target_in (aim_of f times values)) (planned_of flights)
 
 -- the planned flights that are blocked before the traffic of their runway is asked
-unfoldable pub blocked_early : List Record → TaxiTimes → ℕ → List BlockedFlight
-blocked_early flights times now = filter_map (λ f. blocked_in f.name (aim_of f times now)) (planned_of flights)
+unfoldable pub blocked_early : List Record → TaxiTimes → DayValues → List BlockedFlight
+blocked_early flights times values = filter_map (λ f. blocked_in f.name (aim_of f times values)) (planned_of flights)
 
 -- what planned flights could have
-abbrev pub aim_list : List Record → TaxiTimes → ℕ → List AimResult
-aim_list fs times now = map (λ f. aim_of f times now) (planned_of fs)
+abbrev pub aim_list : List Record → TaxiTimes → DayValues → List AimResult
+aim_list fs times values = map (λ f. aim_of f times values) (planned_of fs)
 
 -- what goes together goes together in a weaker way
 pub AllZip-weaker : {X Y : Type 0} (R S : X → Y → Type 0) → ((x : X) (y : Y) → R x y → S x y) → (xs : List X) (ys : List Y) → AllZip R xs ys → AllZip S xs ys
@@ -38,32 +44,35 @@ AllZip-weaker R S h (x ∷ xs) (y ∷ ys) all = (h x y all.0, AllZip-weaker R S 
 AllZip-weaker R S h _ _ all = absurd all
 
 -- the aims of flights are one list
-pub aims_are : (times : TaxiTimes) (now : ℕ) (fs : List Record) (aims : List AimResult) → AllZip (λ f a. IsAim f times now a) fs aims → map (λ f. aim_of f times now) fs ≡ aims
-aims_are times now fs aims all = sym (AllZip-map (λ f. aim_of f times now) fs aims (AllZip-weaker (λ f a. IsAim f times now a) (λ f a. a ≡ aim_of f times now) (λ f a h. sym (aim_is f times now a h)) fs aims all))
+pub aims_are : (times : TaxiTimes) (values : DayValues) (fs : List Record) (aims : List AimResult) → AllZip (λ f a. IsAim f times values a) fs aims → map (λ f. aim_of f times values) fs ≡ aims
+aims_are times values fs aims all =
+    sym (AllZip-map (λ f. aim_of f times values) fs aims (AllZip-weaker (λ f a. IsAim f times values a) (λ f a. a ≡ aim_of f times values) (λ f a h. sym (aim_is f times values a h)) fs aims all))
 
-pub aims_mean : (times : TaxiTimes) (now : ℕ) (fs : List Record) → AllZip (λ f a. IsAim f times now a) fs (map (λ f. aim_of f times now) fs)
-aims_mean times now [] = tt
-aims_mean times now (f ∷ fs) = (aim_means f times now, aims_mean times now fs)
+pub aims_mean : (times : TaxiTimes) (values : DayValues) (fs : List Record) → AllZip (λ f a. IsAim f times values a) fs (map (λ f. aim_of f times values) fs)
+aims_mean times values [] = tt
+aims_mean times values (f ∷ fs) = (aim_means f times values, aims_mean times values fs)
 
 -- and so they are with the names
-pub aimed_are : (times : TaxiTimes) (now : ℕ) (fs : List Record) (aims : List Aimed) → AllZip (IsAimed times now) fs aims → aims ≡ map (aimed times now) fs
+pub aimed_are : (times : TaxiTimes) (values : DayValues) (fs : List Record) (aims : List Aimed) → AllZip (IsAimed times values) fs aims → aims ≡ map (aimed times values) fs
 unfolding aimed
-aimed_are times now fs aims all = AllZip-map (aimed times now) fs aims (AllZip-weaker (IsAimed times now) (λ f a. a ≡ aimed times now f) (λ f a h. λ i. record { name = h.name i; aim = sym (aim_is f times now a.aim h.aim) i }) fs aims all)
+aimed_are times values fs aims all =
+    AllZip-map (aimed times values) fs aims (AllZip-weaker (IsAimed times values) (λ f a. a ≡ aimed times values f)
+    (λ f a h. λ i. record { name = h.name i; aim = sym (aim_is f times values a.aim h.aim) i }) fs aims all)
 
 -- the targets among the aims, and the flights that are blocked early
-pub targets-aims : (times : TaxiTimes) (now : ℕ) (fs : List Record) → targets_in (aim_list fs times now) ≡ targets_of fs times now
+pub targets-aims : (times : TaxiTimes) (values : DayValues) (fs : List Record) → targets_in (aim_list fs times values) ≡ targets_of fs times values
 unfolding targets_of
-targets-aims times now fs = filter_map-map target_in (λ f. aim_of f times now) (planned_of fs)
+targets-aims times values fs = filter_map-map target_in (λ f. aim_of f times values) (planned_of fs)
 
 zip-map : {Y : Type 0} (h : Record → Y) (fs : List Record) → zip fs (map h fs) ≡ map (λ f. (f, h f)) fs
 zip-map h [] = refl
 zip-map {Y} h (f ∷ fs) = ap (λ (xs : List (Record × Y)). (f, h f) ∷ xs) (zip-map h fs)
 
-pub early-aims : (times : TaxiTimes) (now : ℕ) (fs : List Record) → early_in fs (aim_list fs times now) ≡ blocked_early fs times now
+pub early-aims : (times : TaxiTimes) (values : DayValues) (fs : List Record) → early_in fs (aim_list fs times values) ≡ blocked_early fs times values
 unfolding blocked_early
-early-aims times now fs =
+early-aims times values fs =
     let blocked : Record × AimResult → Option BlockedFlight = λ x. blocked_in x.0.name x.1 in
-    ap (filter_map blocked) (zip-map (λ f. aim_of f times now) (planned_of fs)) ∙ filter_map-map blocked (λ f. (f, aim_of f times now)) (planned_of fs)
+    ap (filter_map blocked) (zip-map (λ f. aim_of f times values) (planned_of fs)) ∙ filter_map-map blocked (λ f. (f, aim_of f times values)) (planned_of fs)
 
 -- what passes a test of what flights give
 filter-filter_map : {X Y : Type 0} (q : Y → Bool) (h : X → Option Y) (fs : List X) → filter q (filter_map h fs) ≡ filter_map (λ f. if_passes q (h f)) fs
@@ -73,12 +82,14 @@ filter-filter_map {X} {Y} q h (f ∷ fs) = go (h f) (filter-filter_map q h fs) w
   by true y us vs e = ap (λ (ys : List Y). y ∷ ys) e
   by false y us vs e = e
 
-  go : (o : Option Y) → filter q (filter_map h fs) ≡ filter_map (λ f. if_passes q (h f)) fs → filter q (cons_option o (filter_map h fs)) ≡ cons_option (if_passes q o) (filter_map (λ f. if_passes q (h f)) fs)
+  go : (o : Option Y) → filter q (filter_map h fs) ≡ filter_map (λ f. if_passes q (h f)) fs
+      → filter q (cons_option o (filter_map h fs)) ≡ cons_option (if_passes q o) (filter_map (λ f. if_passes q (h f)) fs)
   go None e = e
   go (Some y) e = by (q y) y _ _ e
 
 -- the names of what flights give are those of the flights that give something
-pub names_given : {X Y : Type 0} (name : Y → List ℕ) (key : X → List ℕ) (h : X → Option Y) → ((f : X) (y : Y) → h f ≡ Some y → name y ≡ key f) → (fs : List X) → map name (filter_map h fs) ≡ map key (filter (λ f. is_some (h f)) fs)
+pub names_given : {X Y : Type 0} (name : Y → List ℕ) (key : X → List ℕ) (h : X → Option Y) → ((f : X) (y : Y) → h f ≡ Some y → name y ≡ key f) → (fs : List X)
+    → map name (filter_map h fs) ≡ map key (filter (λ f. is_some (h f)) fs)
 names_given name key h own [] = refl
 names_given {X} {Y} name key h own (f ∷ fs) = go (h f) refl (names_given name key h own fs) where
   go : (o : Option Y) → h f ≡ o → map name (filter_map h fs) ≡ map key (filter (λ f. is_some (h f)) fs)
@@ -107,27 +118,29 @@ parted {X} a b apart (x ∷ xs) = go (a x) (b x) refl refl (parted a b apart xs)
       → IsPermutation (cond (u || v) (x ∷ filter (λ x. a x || b x) xs) (filter (λ x. a x || b x) xs)) (cond u (x ∷ filter a xs) (filter a xs) ++ cond v (x ∷ filter b xs) (filter b xs))
   go true true e f rest = absurd (false≢true (sym (apart x e) ∙ f))
   go true false e f rest = IsPermutation-append_right (x ∷ []) _ _ rest
-  go false true e f rest = IsPermutation-trans _ (x ∷ (filter a xs ++ filter b xs)) _ (IsPermutation-append_right (x ∷ []) _ _ rest) (IsPermutation-sym _ _ (IsPermutation-middle (filter a xs) x (filter b xs)))
+  go false true e f rest =
+      IsPermutation-trans _ (x ∷ (filter a xs ++ filter b xs)) _ (IsPermutation-append_right (x ∷ []) _ _ rest) (IsPermutation-sym _ _ (IsPermutation-middle (filter a xs) x (filter b xs)))
   go false false e f rest = rest
 
 -- Flights.
 
 -- a target has its flight's name
-pub key_name : (f : Record) (times : TaxiTimes) (now : ℕ) (t : TargetRecord) → aim_of f times now ≡ Ready t → t.key.name ≡ f.name
-key_name f times now t e = by f.tobt refl (subst (IsAim f times now) e (aim_means f times now)).key
+pub key_name : (f : Record) (times : TaxiTimes) (values : DayValues) (t : TargetRecord) → aim_of f times values ≡ Ready t → t.key.name ≡ f.name
+key_name f times values t e = by f.tobt refl (subst (IsAim f times values) e (aim_means f times values)).key
   where
     by : (o : Option ℕ) → f.tobt ≡ o → option_map (λ tobt. record { priority = f.priority; tobt = tobt; name = f.name }) o ≡ Some t.key → t.key.name ≡ f.name
     by None g k = cc
     by (Some tobt) g k = sym (ap (λ (x : Option Key). option_map_or (λ y. y.name) x []) k)
 
-pub target_name : (r : List ℕ) (times : TaxiTimes) (now : ℕ) (f : Record) (t : TargetRecord) → if_so (is_planned f.status) (if_on r (target_in (aim_of f times now))) ≡ Some t → t.key.name ≡ f.name
-target_name r times now f t e = go (is_planned f.status) (aim_of f times now) refl e
+pub target_name : (r : List ℕ) (times : TaxiTimes) (values : DayValues) (f : Record) (t : TargetRecord)
+    → if_so (is_planned f.status) (if_on r (target_in (aim_of f times values))) ≡ Some t → t.key.name ≡ f.name
+target_name r times values f t e = go (is_planned f.status) (aim_of f times values) refl e
   where
-    on : (b : Bool) (s : TargetRecord) → aim_of f times now ≡ Ready s → cond b (Some s) None ≡ Some t → t.key.name ≡ f.name
-    on true s is k = let same : s ≡ t = cc in key_name f times now t (is ∙ ap Ready same)
+    on : (b : Bool) (s : TargetRecord) → aim_of f times values ≡ Ready s → cond b (Some s) None ≡ Some t → t.key.name ≡ f.name
+    on true s is k = let same : s ≡ t = cc in key_name f times values t (is ∙ ap Ready same)
     on false s is k = cc
 
-    go : (p : Bool) (a : AimResult) → aim_of f times now ≡ a → if_so p (if_on r (target_in a)) ≡ Some t → t.key.name ≡ f.name
+    go : (p : Bool) (a : AimResult) → aim_of f times values ≡ a → if_so p (if_on r (target_in a)) ≡ Some t → t.key.name ≡ f.name
     go true (Ready s) is k = on (same_name s.runway r) s is k
     go true (Early rule) is k = cc
     go false a is k = cc
@@ -156,46 +169,48 @@ fixed_left f e = go f.status e
 abbrev pub fixed_at : List ℕ → Record → Option SlotRecord
 fixed_at r f = if_so (is_on r f) (fixed_slot f)
 
-abbrev pub target_at : List ℕ → TaxiTimes → ℕ → Record → Option TargetRecord
-target_at r times now f = if_so (is_planned f.status) (if_on r (target_in (aim_of f times now)))
+abbrev pub target_at : List ℕ → TaxiTimes → DayValues → Record → Option TargetRecord
+target_at r times values f = if_so (is_planned f.status) (if_on r (target_in (aim_of f times values)))
 
-abbrev pub early_at : TaxiTimes → ℕ → Record → Option BlockedFlight
-early_at times now f = if_so (is_planned f.status) (blocked_in f.name (aim_of f times now))
+abbrev pub early_at : TaxiTimes → DayValues → Record → Option BlockedFlight
+early_at times values f = if_so (is_planned f.status) (blocked_in f.name (aim_of f times values))
 
 pub fixed_on-given : (r : List ℕ) (fs : List Record) → fixed_on r fs ≡ filter_map (fixed_at r) fs
 unfolding fixed_on
 fixed_on-given r fs = filter_map-filter fixed_slot (is_on r) fs
 
-pub targets_on-given : (r : List ℕ) (times : TaxiTimes) (now : ℕ) (fs : List Record) → targets_on r (targets_of fs times now) ≡ filter_map (target_at r times now) fs
+pub targets_on-given : (r : List ℕ) (times : TaxiTimes) (values : DayValues) (fs : List Record) → targets_on r (targets_of fs times values) ≡ filter_map (target_at r times values) fs
 unfolding targets_of
-targets_on-given r times now fs =
-    filter-filter_map (λ (t : TargetRecord). same_name t.runway r) (λ f. target_in (aim_of f times now)) (planned_of fs)
-    ∙ filter_map-filter (λ f. if_on r (target_in (aim_of f times now))) (λ f. is_planned f.status) fs
+targets_on-given r times values fs =
+    filter-filter_map (λ (t : TargetRecord). same_name t.runway r) (λ f. target_in (aim_of f times values)) (planned_of fs)
+    ∙ filter_map-filter (λ f. if_on r (target_in (aim_of f times values))) (λ f. is_planned f.status) fs
 
-early-given : (times : TaxiTimes) (now : ℕ) (fs : List Record) → blocked_early fs times now ≡ filter_map (early_at times now) fs
+early-given : (times : TaxiTimes) (values : DayValues) (fs : List Record) → blocked_early fs times values ≡ filter_map (early_at times values) fs
 unfolding blocked_early
-early-given times now fs = filter_map-filter (λ f. blocked_in f.name (aim_of f times now)) (λ f. is_planned f.status) fs
+early-given times values fs = filter_map-filter (λ f. blocked_in f.name (aim_of f times values)) (λ f. is_planned f.status) fs
 
 -- the targets and the blocked flights among the aims of the planned flights
-pub targets-among : (r : List ℕ) (times : TaxiTimes) (now : ℕ) (fs : List Record) → filter_map (target_for r) (map (aimed times now) (planned_of fs)) ≡ targets_on r (targets_of fs times now)
+pub targets-among : (r : List ℕ) (times : TaxiTimes) (values : DayValues) (fs : List Record)
+    → filter_map (target_for r) (map (aimed times values) (planned_of fs)) ≡ targets_on r (targets_of fs times values)
 unfolding targets_of aimed
-targets-among r times now fs =
-    filter_map-map (target_for r) (aimed times now) (planned_of fs)
-    ∙ sym (filter-filter_map (λ (t : TargetRecord). same_name t.runway r) (λ f. target_in (aim_of f times now)) (planned_of fs))
+targets-among r times values fs =
+    filter_map-map (target_for r) (aimed times values) (planned_of fs)
+    ∙ sym (filter-filter_map (λ (t : TargetRecord). same_name t.runway r) (λ f. target_in (aim_of f times values)) (planned_of fs))
 
-pub blocked-among : (times : TaxiTimes) (now : ℕ) (fs : List Record) → filter_map (λ (a : Aimed). blocked_in a.name a.aim) (map (aimed times now) (planned_of fs)) ≡ blocked_early fs times now
+pub blocked-among : (times : TaxiTimes) (values : DayValues) (fs : List Record)
+    → filter_map (λ (a : Aimed). blocked_in a.name a.aim) (map (aimed times values) (planned_of fs)) ≡ blocked_early fs times values
 unfolding blocked_early aimed
-blocked-among times now fs = filter_map-map (λ (a : Aimed). blocked_in a.name a.aim) (aimed times now) (planned_of fs)
+blocked-among times values fs = filter_map-map (λ (a : Aimed). blocked_in a.name a.aim) (aimed times values) (planned_of fs)
 
 -- a flight is a fixed flight or a target
 some_inside : {Y : Type 0} (b : Bool) (o : Option Y) → is_some (if_so b o) ≡ true → is_some o ≡ true
 some_inside true o h = h
 some_inside false o h = absurd (false≢true h)
 
-apart : (r : List ℕ) (times : TaxiTimes) (now : ℕ) (f : Record) → is_some (fixed_at r f) ≡ true → is_some (target_at r times now f) ≡ false
-apart r times now f h =
+apart : (r : List ℕ) (times : TaxiTimes) (values : DayValues) (f : Record) → is_some (fixed_at r f) ≡ true → is_some (target_at r times values f) ≡ false
+apart r times values f h =
     let left = fixed_left f (some_inside (is_on r f) (fixed_slot f) h) in
-    ap (λ (b : Bool). is_some (if_so b (if_on r (target_in (aim_of f times now))))) left
+    ap (λ (b : Bool). is_some (if_so b (if_on r (target_in (aim_of f times values))))) left
 
 fixed_at_name : (r : List ℕ) (f : Record) (x : SlotRecord) → fixed_at r f ≡ Some x → x.name ≡ f.name
 fixed_at_name r f x e = go (is_on r f) e
@@ -205,29 +220,29 @@ fixed_at_name r f x e = go (is_on r f) e
     go false k = cc
 
 -- what a flight gives, it gives to its own runway
-pub no_target_at : (r : List ℕ) (times : TaxiTimes) (now : ℕ) (f : Record) → is_on r f ≡ false → target_at r times now f ≡ None
-no_target_at r times now f h = in_any (is_planned f.status) (by (aim_of f times now) refl)
+pub no_target_at : (r : List ℕ) (times : TaxiTimes) (values : DayValues) (f : Record) → is_on r f ≡ false → target_at r times values f ≡ None
+no_target_at r times values f h = in_any (is_planned f.status) (by (aim_of f times values) refl)
   where
-    by : (a : AimResult) → aim_of f times now ≡ a → if_on r (target_in a) ≡ None
+    by : (a : AimResult) → aim_of f times values ≡ a → if_on r (target_in a) ≡ None
     by (Early rule) e = refl
     by (Ready t) e =
-        let runway = (subst (IsAim f times now) e (aim_means f times now)).runway in
+        let runway = (subst (IsAim f times values) e (aim_means f times values)).runway in
         ap (λ b. cond b (Some t) None) (ap (λ o. option_map_or (λ s. same_name s r) o false) (sym runway) ∙ h)
 
-    in_any : (b : Bool) → if_on r (target_in (aim_of f times now)) ≡ None → if_so b (if_on r (target_in (aim_of f times now))) ≡ None
+    in_any : (b : Bool) → if_on r (target_in (aim_of f times values)) ≡ None → if_so b (if_on r (target_in (aim_of f times values))) ≡ None
     in_any true e = e
     in_any false e = refl
 
 -- a flight stands on a runway as a fixed flight or with its target
-abbrev pub stands : TaxiTimes → ℕ → List ℕ → Record → Bool
-stands times now r f = is_some (fixed_at r f) || is_some (target_at r times now f)
+abbrev pub stands : TaxiTimes → DayValues → List ℕ → Record → Bool
+stands times values r f = is_some (fixed_at r f) || is_some (target_at r times values f)
 
-pub stands_here : (times : TaxiTimes) (now : ℕ) (r : List ℕ) (f : Record) → stands times now r f ≡ true → (is_on r f ≡ true) × (is_some (early_at times now f) ≡ false)
-stands_here times now r f h = (by (is_on r f) refl, false_from_ne_true (is_some (early_at times now f)) (λ k. false≢true (sym (early (is_planned f.status) (aim_of f times now) refl k) ∙ h)))
+pub stands_here : (times : TaxiTimes) (values : DayValues) (r : List ℕ) (f : Record) → stands times values r f ≡ true → (is_on r f ≡ true) × (is_some (early_at times values f) ≡ false)
+stands_here times values r f h = (by (is_on r f) refl, false_from_ne_true (is_some (early_at times values f)) (λ k. false≢true (sym (early (is_planned f.status) (aim_of f times values) refl k) ∙ h)))
   where
     by : (b : Bool) → is_on r f ≡ b → is_on r f ≡ true
     by true e = e
-    by false e = absurd (false≢true (sym (λ i. is_some (if_so (e i) (fixed_slot f)) || is_some (no_target_at r times now f e i)) ∙ h))
+    by false e = absurd (false≢true (sym (λ i. is_some (if_so (e i) (fixed_slot f)) || is_some (no_target_at r times values f e i)) ∙ h))
 
     early : (p : Bool) (a : AimResult) → is_planned f.status ≡ p → is_some (if_so p (blocked_in f.name a)) ≡ true → (is_some (fixed_at r f) || is_some (if_so p (if_on r (target_in a)))) ≡ false
     early true (Early rule) e k = ap (λ b. b || false) (false_from_ne_true (is_some (fixed_at r f)) (λ l. false≢true (sym (fixed_left f (some_inside (is_on r f) (fixed_slot f) l)) ∙ e)))
@@ -235,21 +250,23 @@ stands_here times now r f h = (by (is_on r f) refl, false_from_ne_true (is_some 
     early false a e k = absurd (false≢true k)
 
 -- the names of a runway's flights are those of the flights that stand on it
-pub names_stand : (r : List ℕ) (times : TaxiTimes) (now : ℕ) (fs : List Record) → IsPermutation (map (λ f. f.name) (filter (stands times now r) fs)) (flight_names (fixed_on r fs) (targets_on r (targets_of fs times now)))
-names_stand r times now fs =
+pub names_stand : (r : List ℕ) (times : TaxiTimes) (values : DayValues) (fs : List Record)
+    → IsPermutation (map (λ f. f.name) (filter (stands times values r) fs)) (flight_names (fixed_on r fs) (targets_on r (targets_of fs times values)))
+names_stand r times values fs =
     let a : Record → Bool = λ f. is_some (fixed_at r f) in
-    let b : Record → Bool = λ f. is_some (target_at r times now f) in
+    let b : Record → Bool = λ f. is_some (target_at r times values f) in
     let name : Record → List ℕ = λ f. f.name in
     let fixed = ap (map (λ (x : SlotRecord). x.name)) (fixed_on-given r fs) ∙ names_given (λ x. x.name) name (fixed_at r) (fixed_at_name r) fs in
-    let targets = ap (map (λ (t : TargetRecord). t.key.name)) (targets_on-given r times now fs) ∙ names_given (λ t. t.key.name) name (target_at r times now) (target_name r times now) fs in
-    subst (IsPermutation (map name (filter (stands times now r) fs))) (map-append name (filter a fs) (filter b fs) ∙ (λ i. sym fixed i ++ sym targets i))
-    (IsPermutation-map name (filter (stands times now r) fs) (filter a fs ++ filter b fs) (parted a b (apart r times now) fs))
+    let targets = ap (map (λ (t : TargetRecord). t.key.name)) (targets_on-given r times values fs) ∙ names_given (λ t. t.key.name) name (target_at r times values) (target_name r times values) fs in
+    subst (IsPermutation (map name (filter (stands times values r) fs))) (map-append name (filter a fs) (filter b fs) ∙ (λ i. sym fixed i ++ sym targets i))
+    (IsPermutation-map name (filter (stands times values r) fs) (filter a fs ++ filter b fs) (parted a b (apart r times values) fs))
 
 -- so they have names of their own
-pub names_on : (r : List ℕ) (times : TaxiTimes) (now : ℕ) (fs : List Record) → IsDistinct same_name (map (λ f. f.name) fs) → IsDistinct same_name (flight_names (fixed_on r fs) (targets_on r (targets_of fs times now)))
-names_on r times now fs own =
-    IsDistinct-IsPermutation same_name same_flips (map (λ (f : Record). f.name) (filter (stands times now r) fs)) (flight_names (fixed_on r fs) (targets_on r (targets_of fs times now)))
-    (names_stand r times now fs) (distinct_filter same_name (λ (f : Record). f.name) (stands times now r) fs own)
+pub names_on : (r : List ℕ) (times : TaxiTimes) (values : DayValues) (fs : List Record) → IsDistinct same_name (map (λ f. f.name) fs)
+    → IsDistinct same_name (flight_names (fixed_on r fs) (targets_on r (targets_of fs times values)))
+names_on r times values fs own =
+    IsDistinct-IsPermutation same_name same_flips (map (λ (f : Record). f.name) (filter (stands times values r) fs)) (flight_names (fixed_on r fs) (targets_on r (targets_of fs times values)))
+    (names_stand r times values fs) (distinct_filter same_name (λ (f : Record). f.name) (stands times values r) fs own)
 
 -- no more names than elements
 pub few_names : {X : Type 0} (name : X → List ℕ) (fs : List X) (p : X → Bool) (ns : List (List ℕ)) → IsPermutation (map name (filter p fs)) ns → length ns ≤ length fs
@@ -260,20 +277,22 @@ few_names name fs p ns same =
     omega arith
 
 -- and so has each runway
-pub few_on : (r : List ℕ) (times : TaxiTimes) (now : ℕ) (fs : List Record) → length (fixed_on r fs) + length (targets_on r (targets_of fs times now)) ≤ length fs
-few_on r times now fs =
-    let few = few_names (λ (f : Record). f.name) fs (stands times now r) (flight_names (fixed_on r fs) (targets_on r (targets_of fs times now))) (names_stand r times now fs) in
-    let parts = length-append (map (λ (x : SlotRecord). x.name) (fixed_on r fs)) (map (λ (t : TargetRecord). t.key.name) (targets_on r (targets_of fs times now))) in
+pub few_on : (r : List ℕ) (times : TaxiTimes) (values : DayValues) (fs : List Record) → length (fixed_on r fs) + length (targets_on r (targets_of fs times values)) ≤ length fs
+few_on r times values fs =
+    let few = few_names (λ (f : Record). f.name) fs (stands times values r) (flight_names (fixed_on r fs) (targets_on r (targets_of fs times values))) (names_stand r times values fs) in
+    let parts = length-append (map (λ (x : SlotRecord). x.name) (fixed_on r fs)) (map (λ (t : TargetRecord). t.key.name) (targets_on r (targets_of fs times values))) in
     let fixed = length-map (fixed_on r fs) (λ (x : SlotRecord). x.name) in
-    let targets = length-map (targets_on r (targets_of fs times now)) (λ (t : TargetRecord). t.key.name) in
+    let targets = length-map (targets_on r (targets_of fs times values)) (λ (t : TargetRecord). t.key.name) in
     omega arith
 
 -- the flights that are blocked early, by name
-pub early_named : (times : TaxiTimes) (now : ℕ) (fs : List Record) → IsPermutation (map (λ f. f.name) (filter (λ f. is_some (early_at times now f)) fs)) (map (λ (b : BlockedFlight). b.name) (blocked_early fs times now))
-early_named times now fs =
+pub early_named : (times : TaxiTimes) (values : DayValues) (fs : List Record)
+    → IsPermutation (map (λ f. f.name) (filter (λ f. is_some (early_at times values f)) fs)) (map (λ (b : BlockedFlight). b.name) (blocked_early fs times values))
+early_named times values fs =
     let name : Record → List ℕ = λ f. f.name in
-    subst (IsPermutation (map name (filter (λ f. is_some (early_at times now f)) fs)))
-    (sym (ap (map (λ (b : BlockedFlight). b.name)) (early-given times now fs) ∙ names_given (λ b. b.name) name (early_at times now) (λ f b e. own f b (is_planned f.status) (aim_of f times now) e) fs))
+    subst (IsPermutation (map name (filter (λ f. is_some (early_at times values f)) fs)))
+    (sym (ap (map (λ (b : BlockedFlight). b.name)) (early-given times values fs)
+    ∙ names_given (λ b. b.name) name (early_at times values) (λ f b e. own f b (is_planned f.status) (aim_of f times values) e) fs))
     (IsPermutation-refl _)
   where
     own : (f : Record) (b : BlockedFlight) (p : Bool) (a : AimResult) → if_so p (blocked_in f.name a) ≡ Some b → b.name ≡ f.name
@@ -283,7 +302,8 @@ early_named times now fs =
 
 -- Each flight of a day once.
 
-module _ {Y : Type 0} (fs : List Record) (t : List ℕ → Record → Bool) (e : Record → Bool) (own : (r : List ℕ) (f : Record) → t r f ≡ true → (is_on r f ≡ true) × (e f ≡ false)) (runway : Y → List ℕ) (names : Y → List (List ℕ)) where
+module _ {Y : Type 0} (fs : List Record) (t : List ℕ → Record → Bool) (e : Record → Bool) (own : (r : List ℕ) (f : Record) → t r f ≡ true
+    → (is_on r f ≡ true) × (e f ≡ false)) (runway : Y → List ℕ) (names : Y → List (List ℕ)) where
   -- the flight passes the test of one of the runways, or the other test
   abbrev pub any_of : List Y → Record → Bool
   any_of [] f = e f
@@ -300,14 +320,17 @@ module _ {Y : Type 0} (fs : List Record) (t : List ℕ → Record → Bool) (e :
   Names p ns = IsPermutation (map (λ f. f.name) (filter p fs)) ns
 
   -- lists of the names of those that pass a test each are together one of those that pass any
-  pub gathered : (ys : List Y) (rest : List (List ℕ)) → IsDistinct same_name (map runway ys) → Names e rest → All (λ y. Names (t (runway y)) (names y)) ys → Names (any_of ys) (flat_map names ys ++ rest)
+  pub gathered : (ys : List Y) (rest : List (List ℕ)) → IsDistinct same_name (map runway ys) → Names e rest → All (λ y. Names (t (runway y)) (names y)) ys
+      → Names (any_of ys) (flat_map names ys ++ rest)
   gathered [] rest apart base all = base
   gathered (y ∷ ys) rest apart base all =
       let name : Record → List ℕ = λ f. f.name in
       let p = t (runway y) in
       let here = All-head (λ y. Names (t (runway y)) (names y)) y ys all in
       let others = gathered ys rest (IsDistinct-tail same_name (runway y) (map runway ys) apart) base (All-tail (λ y. Names (t (runway y)) (names y)) y ys all) in
-      let split = IsPermutation-map name (filter (any_of (y ∷ ys)) fs) (filter p fs ++ filter (any_of ys) fs) (parted p (any_of ys) (λ f h. none_of (runway y) f h ys (IsDistinct-head same_name (runway y) (map runway ys) apart)) fs) in
+      let split =
+      IsPermutation-map name (filter (any_of (y ∷ ys)) fs) (filter p fs ++ filter (any_of ys) fs)
+      (parted p (any_of ys) (λ f h. none_of (runway y) f h ys (IsDistinct-head same_name (runway y) (map runway ys) apart)) fs) in
       let joined = IsPermutation-append (map name (filter p fs)) (names y) (map name (filter (any_of ys) fs)) (flat_map names ys ++ rest) here others in
       subst (Names (any_of (y ∷ ys))) (sym (append_assoc (names y) (flat_map names ys) rest))
       (IsPermutation-trans (map name (filter (any_of (y ∷ ys)) fs)) (map name (filter p fs) ++ map name (filter (any_of ys) fs)) (names y ++ (flat_map names ys ++ rest))
@@ -336,7 +359,9 @@ given_or_left p (t ∷ ts) = by (p t) (IsPermutation-append_right (t.key.name �
     given = map (λ x. x.name) (filter_map (λ t. option_map (planned_slot t) (p t)) ts)
 
     by : (o : Option ℕ) → IsPermutation (map (λ t. t.key.name) (t ∷ ts)) (t.key.name ∷ (given ++ names_left p ts))
-        → IsPermutation (map (λ t. t.key.name) (t ∷ ts)) (map (λ x. x.name) (cons_option (option_map (planned_slot t) o) (filter_map (λ t. option_map (planned_slot t) (p t)) ts)) ++ map (λ t. t.key.name) (cond (is_none o) (t ∷ filter (λ t. is_none (p t)) ts) (filter (λ t. is_none (p t)) ts)))
+        → IsPermutation (map (λ t. t.key.name) (t ∷ ts)) (map (λ x. x.name)
+        (cons_option (option_map (planned_slot t) o) (filter_map (λ t. option_map (planned_slot t) (p t)) ts)) ++ map (λ t. t.key.name)
+        (cond (is_none o) (t ∷ filter (λ t. is_none (p t)) ts) (filter (λ t. is_none (p t)) ts)))
     by (Some m) e = e
     by None e = IsPermutation-trans _ (t.key.name ∷ (given ++ names_left p ts)) _ e (IsPermutation-sym _ _ (IsPermutation-middle given t.key.name (names_left p ts)))
 
@@ -345,15 +370,18 @@ abbrev pub shown : RunwayPlanRecord → List (List ℕ)
 shown plan = map (λ x. x.name) plan.slots ++ map (λ b. b.name) plan.blocked
 
 -- they are those of all its flights
-pub all_shown : (r : RunwayRules) (fixed : List SlotRecord) (targets : List TargetRecord) (plan : RunwayPlanRecord) → IsSequence r fixed targets plan → IsPermutation (flight_names fixed targets) (shown plan)
+pub all_shown : (r : RunwayRules) (fixed : List SlotRecord) (targets : List TargetRecord) (plan : RunwayPlanRecord) → IsSequence r fixed targets plan
+    → IsPermutation (flight_names fixed targets) (shown plan)
 all_shown r fixed targets plan (p, e) =
     let slot_name : SlotRecord → List ℕ = λ x. x.name in
     let given = filter_map (λ t. option_map (planned_slot t) (p t)) targets in
     let whole : map slot_name fixed ++ (map slot_name given ++ names_left p targets) ≡ map slot_name (fixed ++ given) ++ names_left p targets =
     sym (append_assoc (map slot_name fixed) (map slot_name given) (names_left p targets)) ∙ ap (λ (ns : List (List ℕ)). ns ++ names_left p targets) (sym (map-append slot_name fixed given)) in
     IsPermutation-trans (flight_names fixed targets) (map slot_name (fixed ++ given) ++ names_left p targets) (shown plan)
-    (subst (IsPermutation (flight_names fixed targets)) whole (IsPermutation-append_right (map slot_name fixed) (map (λ (t : TargetRecord). t.key.name) targets) (map slot_name given ++ names_left p targets) (given_or_left p targets)))
-    (IsPermutation-append (map slot_name (fixed ++ given)) (map slot_name plan.slots) (names_left p targets) (map (λ (b : BlockedFlight). b.name) plan.blocked) (IsPermutation-map slot_name (fixed ++ given) plan.slots e.slots) e.blocked)
+    (subst (IsPermutation (flight_names fixed targets)) whole (IsPermutation-append_right (map slot_name fixed) (map (λ (t : TargetRecord). t.key.name) targets)
+    (map slot_name given ++ names_left p targets) (given_or_left p targets)))
+    (IsPermutation-append (map slot_name (fixed ++ given)) (map slot_name plan.slots) (names_left p targets) (map (λ (b : BlockedFlight). b.name) plan.blocked)
+    (IsPermutation-map slot_name (fixed ++ given) plan.slots e.slots) e.blocked)
 
 -- what holds of all that goes with something
 pub all_zipped : {X Y : Type 0} (R : X → Y → Type 0) (P : Y → Type 0) → ((x : X) (y : Y) → R x y → P y) → (xs : List X) (ys : List Y) → AllZip R xs ys → All P ys
@@ -362,17 +390,18 @@ all_zipped R P h (x ∷ xs) (y ∷ ys) all = All-cons P y ys (h x y all.0) (all_
 all_zipped R P h _ _ all = absurd all
 
 -- plans that were made runway by runway have the runways' names
-pub made_named : (fixed : List ℕ → List SlotRecord) (targets : List ℕ → List TargetRecord) (rs : List RunwayRules) (ps : List RunwayPlanRecord) → AllZip (λ r p. IsSequence r (fixed r.name) (targets r.name) p) rs ps → map (λ p. p.runway) ps ≡ map (λ r. r.name) rs
+pub made_named : (fixed : List ℕ → List SlotRecord) (targets : List ℕ → List TargetRecord) (rs : List RunwayRules) (ps : List RunwayPlanRecord)
+    → AllZip (λ r p. IsSequence r (fixed r.name) (targets r.name) p) rs ps → map (λ p. p.runway) ps ≡ map (λ r. r.name) rs
 made_named fixed targets [] [] all = refl
 made_named fixed targets (r ∷ rs) (p ∷ ps) all = λ i. all.0.1.runway i ∷ made_named fixed targets rs ps all.1 i
 made_named fixed targets _ _ all = absurd all
 
 -- each runway can be sequenced
-pub can_sequence : (times : TaxiTimes) (now : ℕ) (fs : List Record) → IsDistinct same_name (map (λ f. f.name) fs) → length fs ≤ 2000 → (r : List ℕ)
-    → CanSequence (fixed_on r fs) (targets_on r (targets_of fs times now))
-can_sequence times now fs own few r = record {
-  names = names_on r times now fs own;
-  few = let a = few_on r times now fs in omega arith;
+pub can_sequence : (times : TaxiTimes) (values : DayValues) (fs : List Record) → IsDistinct same_name (map (λ f. f.name) fs) → length fs ≤ 2000 → (r : List ℕ)
+    → CanSequence (fixed_on r fs) (targets_on r (targets_of fs times values))
+can_sequence times values fs own few r = record {
+  names = names_on r times values fs own;
+  few = let a = few_on r times values fs in omega arith;
 }
 
 -- all the planned flights are planned

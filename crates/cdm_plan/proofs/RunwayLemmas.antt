@@ -1,16 +1,19 @@
 -- What leaves a runway as it is.
-use Rattle.std.proofs.Common.{◌≡◌, ℕ, ◌*◌, ◌/◌, List, [], ◌∷◌, ◌++◌, map, None, sym}
-use Rattle.cdm_plan.proofs.ListWords.{range_with_len}
-use Rattle.cdm_plan.proofs.PlanWords.{RunwayRow, Update, AirportRows, sets_cap, sets_closed, rules_of}
-use Rattle.cdm_plan.proofs.JournalFacts.{cap_of-same, closed_of-same}
+use Rattle.std.proofs.Common.{◌≡◌, ℕ, ◌*◌, ◌/◌, false, List, [], ◌∷◌, ◌++◌, map, sym}
+use Rattle.cdm_flight.specs.declared.reach.Reach.TheVariants as reach
+use Rattle.cdm_flight.proofs.JournalLemmas.{untouched}
+use Rattle.cdm_plan.proofs.ListWords.{option_map_or, range_with_len, unwrap_or}
+use Rattle.cdm_plan.proofs.PlanWords.{RunwayRow, Update, AirportRows, cap_given, closed_given, last_value, reach_of, rules_of, runway_row, same_reach}
 
-module _ (g : AirportRows) (a : List Update) (row : RunwayRow) where
-  -- an update that sets neither a capacity nor a closure of the runway leaves it
-  pub rules-same : (u : Update) → ((m : ℕ) → sets_cap row.name m u ≡ None) → ((m : ℕ) → sets_closed row.name m u ≡ None) → rules_of g a row ≡ rules_of g (a ++ u ∷ []) row
-  unfolding rules_of
-  rules-same u caps closed = λ i. record {
-    name = row.name;
-    cell = row.cell;
-    caps = map (λ k. sym (cap_of-same g a u row.name (k * row.cell) (caps (k * row.cell))) i) (range_with_len 0 (2880 / row.cell));
-    closed = map (λ m. sym (closed_of-same a u row.name m (closed m)) i) (range_with_len 0 2880);
-  }
+-- an update that touches something else
+pub rules-same : (g : AirportRows) (a : List Update) (row : RunwayRow) (u : Update) → same_reach (reach_of u) (reach.Runway row.name) ≡ false → rules_of g a row ≡ rules_of g (a ++ u ∷ []) row
+unfolding rules_of
+rules-same g a row u other =
+    let same = untouched (reach.Runway row.name) a u other in
+    let plain = option_map_or (λ (x : RunwayRow). x.cap) (runway_row g row.name) 0 in
+    λ i. record {
+      name = row.name;
+      cell = row.cell;
+      caps = map (λ k. unwrap_or (last_value (cap_given (k * row.cell)) (sym same i)) plain) (range_with_len 0 (2880 / row.cell));
+      closed = map (λ m. unwrap_or (last_value (closed_given m) (sym same i)) false) (range_with_len 0 2880);
+    }

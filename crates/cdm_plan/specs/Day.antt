@@ -5,7 +5,8 @@ use Rattle.std.specs.Ordering.{is_lt}
 use Rattle.cdm_flight.specs.Names.{name_cmp}
 use Rattle.cdm_flight.specs.declared.airport.RunwayRow.{RunwayRow}
 use Rattle.cdm_flight.specs.declared.update.Update.{Update}
-use Rattle.cdm_flight.specs.Step.{flight_of_update, is_fresh}
+use Rattle.cdm_flight.specs.Reach.{flight_of_update}
+use Rattle.cdm_flight.specs.Step.{is_fresh}
 use Rattle.cdm_flight.specs.Journal.{AirportRows, cap_of, closed_of}
 use Rattle.cdm_runway.specs.Rules.{RunwayRules}
 

@@ -3,7 +3,7 @@ use Rattle.std.specs.Prelude.{List, All, map}
 use Rattle.std.specs.List.{filter_map}
 use Rattle.cdm_flight.specs.declared.update.Update.{Update}
 use Rattle.cdm_flight.specs.Record.{Record}
-use Rattle.cdm_flight.specs.Journal.{AirportRows, flight_of, now_of, taxi_of}
+use Rattle.cdm_flight.specs.Journal.{AirportRows, flight_of, taxi_of, values_of}
 use Rattle.cdm_runway.specs.Rules.{RunwayRules}
 use Rattle.cdm_sequence.specs.Fixed.{takeoffs}
 use Rattle.cdm_sequence.specs.Plan.{Placing, IsAllowed}
@@ -20,13 +20,14 @@ records_in g a = filter_map (flight_of g a) (flights_in a)
 abbrev pub day_rules : DayRecord → List RunwayRules
 day_rules day = map (rules_of day.airport day.journal) day.airport.runways
 
--- the plan is that of the flights, taxi times, clock and runways that the airport and the journal say
+-- the plan is that of the flights, taxi times, values and runways that the airport and the journal say
 unfoldable pub IsDayPlan : DayRecord → PlanRecord → Type 0
-IsDayPlan day plan = IsPlanOf (records_in day.airport day.journal) (taxi_of day.airport day.journal) (now_of day.journal) (day_rules day) plan
+IsDayPlan day plan = IsPlanOf (records_in day.airport day.journal) (taxi_of day.airport day.journal) (values_of day.journal) (day_rules day) plan
 
 -- and it is so by this placing and these aims
 unfoldable pub IsDayPlanBy : Placing → List AimResult → DayRecord → PlanRecord → Type 0
-IsDayPlanBy placing aims day plan = IsPlanBy placing aims (records_in day.airport day.journal) (taxi_of day.airport day.journal) (now_of day.journal) (day_rules day) plan
+IsDayPlanBy placing aims day plan =
+    IsPlanBy placing aims (records_in day.airport day.journal) (taxi_of day.airport day.journal) (values_of day.journal) (day_rules day) plan
 
 -- the placing is allowed on each runway of the day
 abbrev pub IsDayAllowed : List AimResult → DayRecord → Placing → Type 0

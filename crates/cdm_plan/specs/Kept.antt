@@ -3,11 +3,10 @@ use Rattle.std.specs.Prelude.{◌≡◌, ℕ, ◌+◌, ◌≤◌, ◌||◌, Bool
 use Rattle.std.specs.List.{find, list_any}
 use Rattle.std.specs.Option.{option_map_or}
 use Rattle.cdm_flight.specs.declared.airport.RunwayRow.{RunwayRow}
-use Rattle.cdm_flight.specs.declared.update.Update.{Update}
-use Rattle.cdm_flight.specs.declared.update.Update.TheVariants.{Rate, Close, Reopen, Taxi, Clock}
+use Rattle.cdm_flight.specs.declared.reach.Reach.{Reach}
+use Rattle.cdm_flight.specs.declared.reach.Reach.TheVariants.{Flight, Runway, Taxi, Day}
 use Rattle.cdm_flight.specs.Names.{same_name}
-use Rattle.cdm_flight.specs.Step.{flight_of_update}
-use Rattle.cdm_flight.specs.Journal.{flight_of, now_of, taxi_of}
+use Rattle.cdm_flight.specs.Journal.{flight_of, taxi_of, values_of}
 use Rattle.cdm_runway.specs.Rules.{RunwayRules}
 use Rattle.cdm_sequence.specs.Sequence.{IsSequence}
 use Rattle.cdm_sequence.specs.Slots.{PlanRecord, RunwayPlanRecord, SlotRecord}
@@ -26,14 +25,12 @@ abbrev pub is_touched : Touched → List ℕ → Bool
 is_touched All r = true
 is_touched (Named names) r = list_any (λ n. same_name n r) names.items
 
--- the update is of the runway or of all, or of a flight that has the runway
-abbrev pub is_noted : DayRecord → Update → List ℕ → Bool
-is_noted d (Clock m) r = true
-is_noted d (Rate s from to cap) r = same_name s r
-is_noted d (Close s from to) r = same_name s r
-is_noted d (Reopen s from to) r = same_name s r
-is_noted d (Taxi place s minutes) r = same_name s r
-is_noted d u r = option_map_or (λ f. option_map_or (is_on r) (flight_of d.airport d.journal f) false) (flight_of_update u) false
+-- what an update touches is of the runway or of all, or is a flight that has the runway
+abbrev pub is_noted : DayRecord → Reach → List ℕ → Bool
+is_noted d (Flight f) r = option_map_or (is_on r) (flight_of d.airport d.journal f) false
+is_noted d (Runway s) r = same_name s r
+is_noted d (Taxi s) r = same_name s r
+is_noted d Day r = true
 
 -- what is not touched any more was not touched before, and is none of the others
 abbrev pub Adds : Touched → (List ℕ → Bool) → Touched → Type 0
@@ -46,7 +43,7 @@ fixed_in d r = fixed_on r (records_in d.airport d.journal)
 -- the plan is the runway's sequence on a day
 pub record IsPlanOn (d : DayRecord) (r : RunwayRules) (p : RunwayPlanRecord) : Type 0 where
   pub aims : List AimResult
-  pub aimed : AreAims (records_in d.airport d.journal) (taxi_of d.airport d.journal) (now_of d.journal) aims
+  pub aimed : AreAims (records_in d.airport d.journal) (taxi_of d.airport d.journal) (values_of d.journal) aims
   pub sequence : IsSequence r (fixed_in d r.name) (targets_on r.name (targets_in aims)) p
 
 -- a runway that was not touched since the first day keeps its sequence

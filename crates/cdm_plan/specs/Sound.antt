@@ -1,13 +1,13 @@
 -- What every day keeps whose updates were accepted one after another.
-use Rattle.std.specs.Prelude.{◌≡◌, ℕ, ◌≤◌, List, length, true, false, Some}
+use Rattle.std.specs.Prelude.{◌≡◌, ℕ, ◌≤◌, List, [], length, true, false, Some}
 use Rattle.std.specs.FinMap as map_of
-use Rattle.std.specs.List.{list_any, IsDistinct}
+use Rattle.std.specs.List.{IsDistinct}
 use Rattle.std.specs.Set.{is_member}
 use Rattle.cdm_flight.specs.declared.place.Place.{Place}
 use Rattle.cdm_flight.specs.declared.update.Update.{Update}
 use Rattle.cdm_flight.specs.Names.{same_name}
 use Rattle.cdm_flight.specs.Taxi.{TaxiRows}
-use Rattle.cdm_flight.specs.Journal.{AirportRows, touches, is_known, runway_of, taxi_of}
+use Rattle.cdm_flight.specs.Journal.{AirportRows, of_flight, is_known, runway_of, taxi_of}
 use Rattle.cdm_flight.specs.Accepted.{has_runway, stands_with_rows}
 use Rattle.cdm_taxi.specs.Stands.{has_row}
 use Rattle.cdm_plan.specs.Airport.{IsAirport}
@@ -16,7 +16,7 @@ use Rattle.cdm_plan.specs.Day.{DayRecord, flights_in}
 pub record IsSound (d : DayRecord) : Type 0 where
   pub airport : IsAirport d.airport
   -- no update of a flight came before its FLT
-  pub silent : (f : List ℕ) → is_known d.journal f ≡ false → list_any (touches f) d.journal ≡ false
+  pub silent : (f : List ℕ) → is_known d.journal f ≡ false → of_flight f d.journal ≡ []
   pub short : length d.journal ≤ 20000
   -- each flight was made known once, and not too many were
   pub names : IsDistinct same_name (flights_in d.journal)

@@ -6,10 +6,9 @@ ghost use Rattle.cdm_flight.specs.Record.{is_planned};
 ghost use Rattle.cdm_plan.specs.Planning.{blocked_in, planned_of};
 ghost use Rattle.cdm_plan.specs.inner.Aimed.{IsAimed, early_among, target_for};
 
-use cdm_flight::{Flight, FlightName, RunwayName, Status, push_last};
+use cdm_flight::{DayValues, Flight, FlightName, RunwayName, Status, push_last};
 use cdm_sequence::{AimResult, BlockedFlight, Target, aim};
 use cdm_taxi::TaxiTable;
-use cdm_time::Minute;
 use std::alloc::{AllocError, Global};
 
 // A planned flight and what it could have.
@@ -37,13 +36,13 @@ pub(crate) fn planned_flights<'a>(
 }
 
 /// A planned flight with what it could have.
-pub(crate) fn aimed_of(flight: &Flight, taxi: &TaxiTable, now: Minute) -> Aimed
+pub(crate) fn aimed_of(flight: &Flight, taxi: &TaxiTable, values: DayValues) -> Aimed
     requires { is_planned flight.now.status ≡ true }
-    ensures { IsAimed (λ place runway. finite.get taxi.now (place, runway)) now flight.now result }
+    ensures { IsAimed (λ place runway. finite.get taxi.now (place, runway)) values flight.now result }
 {
     Aimed {
         name: flight.name,
-        aim: aim(flight, taxi, now),
+        aim: aim(flight, taxi, values),
     }
 }
 

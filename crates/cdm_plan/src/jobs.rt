@@ -14,19 +14,18 @@ ghost use Rattle.cdm_plan.specs.inner.Aimed.{CanSequence, IsAimed, is_on, target
 ghost use Rattle.cdm_plan.specs.Planning.{fixed_on};
 
 use crate::aimed::{Aimed, aimed_of, targets_on_runway};
-use cdm_flight::{Flight, RunwayName};
+use cdm_flight::{DayValues, Flight, RunwayName};
 use cdm_phase::{Job, PhaseName};
 use cdm_runway::Runway;
 use cdm_sequence::{RunwayPlan, Slot, fixed_of, sequence};
 use cdm_taxi::TaxiTable;
-use cdm_time::Minute;
 use std::alloc::{AllocError, Global};
 
-/// What each planned flight could have, by the taxi times and the minute that it is now.
+/// What each planned flight could have, by the taxi times and the values of the day.
 #[derive(Clone, Copy)]
 pub(crate) struct TargetJob<'a> {
     pub(crate) taxi: &'a TaxiTable,
-    pub(crate) clock: Minute,
+    pub(crate) values: DayValues,
 }
 
 impl<'a> Job for TargetJob<'a> {
@@ -36,12 +35,12 @@ impl<'a> Job for TargetJob<'a> {
 
     ghost can_run = { λ _ flight. is_planned flight.now.status ≡ true };
 
-    ghost gives = { λ job flight out. IsAimed (λ place runway. finite.get job.taxi.now (place, runway)) job.clock flight.now out };
+    ghost gives = { λ job flight out. IsAimed (λ place runway. finite.get job.taxi.now (place, runway)) job.values flight.now out };
 
     ghost phase_name = { Targets };
 
     fn run(&self, _alloc: Global, flight: &&'a Flight) -> Result<Aimed, AllocError> {
-        Ok(aimed_of(flight, self.taxi, self.clock))
+        Ok(aimed_of(flight, self.taxi, self.values))
     }
 
     fn phase(&self) -> PhaseName {
@@ -50,7 +49,7 @@ impl<'a> Job for TargetJob<'a> {
 
     ghost one_value = { λ job flight x y _ a b.
         let name = a.name ∙ sym b.name in
-        let aim = aim_one flight.now (λ place runway. finite.get job.taxi.now (place, runway)) job.clock x.aim y.aim a.aim b.aim in
+        let aim = aim_one flight.now (λ place runway. finite.get job.taxi.now (place, runway)) job.values x.aim y.aim a.aim b.aim in
         λ i. record { name = name i; aim = aim i } };
 }
 

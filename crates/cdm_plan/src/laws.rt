@@ -3,7 +3,7 @@
 ghost use Rattle.std.specs.Prelude.{◌≡◌, true, List, All};
 ghost use Rattle.std.specs.List.{AllZip, IsDistinct};
 ghost use Rattle.cdm_flight.specs.Accepted.{has_runway};
-ghost use Rattle.cdm_flight.specs.Journal.{now_of, taxi_of};
+ghost use Rattle.cdm_flight.specs.Journal.{taxi_of, values_of};
 ghost use Rattle.cdm_flight.specs.Names.{same_name};
 ghost use Rattle.cdm_sequence.specs.Plan.{Placing, IsEarlier};
 ghost use Rattle.cdm_sequence.specs.Sequence.{IsSequence};
@@ -27,9 +27,9 @@ pub fn one_plan_of_a_day()
 pub fn runways_make_the_day()
     ensures { (d : DayRecord) (aims : List AimResult) (made : List RunwayPlanRecord) (plan : PlanRecord) →
         IsDistinct same_name (runway_names d.airport) →
-        AreAims (records_in d.airport d.journal) (taxi_of d.airport d.journal) (now_of d.journal) aims →
+        AreAims (records_in d.airport d.journal) (taxi_of d.airport d.journal) (values_of d.journal) aims →
         AllZip (λ r p. IsSequence r (fixed_on r.name (records_in d.airport d.journal)) (targets_on r.name (targets_in aims)) p) (day_rules d) made →
-        plan.clock ≡ now_of d.journal → HasParts (early_in (records_in d.airport d.journal) aims) made plan → IsDayPlan d plan }
+        plan.clock ≡ (values_of d.journal).clock → HasParts (early_in (records_in d.airport d.journal) aims) made plan → IsDayPlan d plan }
 {}
 
 /// The plan of a day whose flights become known once each is allowed.

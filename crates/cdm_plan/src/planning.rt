@@ -14,11 +14,10 @@ use crate::kept::Kept;
 use crate::records::Records;
 use crate::touched::Touched;
 use crate::work::work_of;
-use cdm_flight::Listed;
+use cdm_flight::{DayValues, Listed};
 use cdm_phase::run_here;
 use cdm_runway::Runway;
 use cdm_sequence::{BlockedFlight, Plan, RunwayPlan};
-use cdm_time::Minute;
 use std::alloc::{AllocError, Global};
 
 // All blocked flights by name: those that were blocked early, and those of the runways.
@@ -54,10 +53,10 @@ fn joined(
     aims: &[Aimed],
     kept: Vec<RunwayPlan>,
     made: Vec<RunwayPlan>,
-    now: Minute,
+    values: DayValues,
 ) -> Result<Plan, AllocError>
     requires { sum_by (λ p. length p.slots + length p.blocked) (kept.items ++ made.items) + length (early_among aims.now) ≤ 2000 }
-    ensures clock { IfOk result (λ plan. plan.clock ≡ now) }
+    ensures clock { IfOk result (λ plan. plan.clock ≡ values.clock) }
     ensures parts { IfOk result (λ plan. HasParts (early_among aims.now) (kept.items ++ made.items) plan) }
 {
     let early = blocked(alloc, aims)?;
@@ -66,7 +65,7 @@ fn joined(
     let plans = by_name(plans);
     let blocked = all_blocked(early, &plans)?;
     Ok(Plan {
-        now,
+        now: values.clock,
         runways: Listed::new(plans),
         blocked: Listed::new(blocked),
     })
@@ -87,7 +86,7 @@ pub(crate) fn plan_together<D: Records>(
     ensures { IfOk result (λ plan. IsMade (D.day records.now) plan) }
 {
     let copies = kept.copied_plans(alloc, runways)?;
-    let plan = joined(alloc, aims, copies, made, records.now())?;
+    let plan = joined(alloc, aims, copies, made, records.values())?;
     Ok(plan)
 }
 
@@ -112,7 +111,7 @@ pub fn plan_keeping<D: Records>(alloc: Global, records: &D, kept: &Kept) -> Resu
     let work = work_of(alloc, records, kept)?;
     let job = TargetJob {
         taxi: records.taxi(),
-        clock: records.now(),
+        values: records.values(),
     };
     let aims = run_here(alloc, &job, &work.planned)?;
     let job = RunwayJob {

@@ -1,16 +1,15 @@
 //! What the accepted updates of a day say, however it is kept.
 
-use cdm_flight::{Flight, FlightName};
+use cdm_flight::{DayValues, Flight, FlightName};
 use cdm_runway::Runway;
 use cdm_taxi::TaxiTable;
-use cdm_time::Minute;
 
-/// What an airport and accepted updates say of flights, runways, taxi times and the clock. No call
+/// What an airport and accepted updates say of flights, runways, taxi times and the whole day. No call
 /// takes memory.
 pub trait Records {
     ghost use Rattle.std.specs.Prelude.{◌≡◌, length, slice_get};
     ghost use Rattle.std.specs.Option.{option_and_then, option_copied};
-    ghost use Rattle.cdm_flight.specs.Journal.{flight_of, now_of};
+    ghost use Rattle.cdm_flight.specs.Journal.{flight_of, values_of};
     ghost use Rattle.cdm_plan.specs.Day.{DayRecord, flights_in, rules_in};
     ghost use Rattle.cdm_plan.specs.Sound.{IsSound, TellTaxi};
 
@@ -48,10 +47,10 @@ pub trait Records {
         ensures sound { IsSound (day self.now) }
         ensures value { TellTaxi (day self.now).airport (day self.now).journal result.now };
 
-    /// The minute that it is now.
-    fn now(&self) -> Minute
+    /// The values of the day.
+    fn values(&self) -> DayValues
         ensures sound { IsSound (day self.now) }
-        ensures value { result ≡ now_of (day self.now).journal };
+        ensures value { result ≡ values_of (day self.now).journal };
 
     /// How many updates were accepted.
     fn accepted(&self) -> usize

@@ -39,7 +39,7 @@ impl<R: Threads + Sync, G: Gate> Runner<'_, R, G> {
         let work = work_of(alloc, records, kept)?;
         let job = TargetJob {
             taxi: records.taxi(),
-            clock: records.now(),
+            values: records.values(),
         };
         let aims = run_phase(
             rt,

@@ -2,10 +2,11 @@
 ghost use Rattle.std.specs.Prelude.{◌≡◌, ℕ, List, false, OnOk};
 ghost use Rattle.std.specs.List.{list_any};
 ghost use Rattle.cdm_flight.specs.Names.{same_name};
+ghost use Rattle.cdm_flight.specs.Reach.{reach_of};
 ghost use Rattle.cdm_plan.specs.Kept.{Adds, is_noted, is_touched};
 
 use crate::records::Records;
-use cdm_flight::{RunwayName, Update};
+use cdm_flight::{Reach, RunwayName, Update};
 use std::alloc::{AllocError, Global};
 
 /// The runways that updates touched.
@@ -65,25 +66,19 @@ impl Touched {
 
     /// Adds the runway of the update, or the runway that its flight has.
     pub fn note<R: Records>(&mut self, records: &R, update: &Update) -> Result<(), AllocError>
-        ensures { OnOk result (Adds self.old (is_noted (R.day records.now) update.now) self.new) }
+        ensures { OnOk result (Adds self.old (is_noted (R.day records.now) (reach_of update.now)) self.new) }
     {
-        match *update {
-            Update::Clock { .. } => {
-                *self = Touched::All;
-                Ok(())
-            }
-            Update::Rate { runway, .. }
-            | Update::Close { runway, .. }
-            | Update::Reopen { runway, .. }
-            | Update::Taxi { runway, .. } => self.add(runway),
-            _ => {
-                let Some(flight) = update.flight() else {
-                    unreachable!()
-                };
+        match update.reach() {
+            Reach::Flight(flight) => {
                 match records.flight(flight).and_then(|record| record.runway) {
                     Some(runway) => self.add(runway),
                     None => Ok(()),
                 }
+            }
+            Reach::Runway(runway) | Reach::Taxi(runway) => self.add(runway),
+            Reach::Day => {
+                *self = Touched::All;
+                Ok(())
             }
         }
     }

@@ -2,6 +2,7 @@
 use Rattle.std.specs.Prelude.{◌≡◌, ℕ, ◌+◌, ◌≤◌, Bool, false, List, length, Option, None, Some, if◌then◌else◌}
 use Rattle.std.specs.List.{IsDistinct, filter_map}
 use Rattle.std.specs.Option.{option_map_or}
+use Rattle.cdm_flight.specs.declared.values.DayValues.{DayValues}
 use Rattle.cdm_flight.specs.Names.{same_name}
 use Rattle.cdm_flight.specs.Record.{Record}
 use Rattle.cdm_sequence.specs.Aims.{TaxiTimes, IsAim}
@@ -13,9 +14,9 @@ use Rattle.cdm_sequence.specs.declared.slot.BlockedFlight.{BlockedFlight}
 use Rattle.cdm_plan.specs.declared.aimed.Aimed.{Aimed}
 
 -- the flight's name, and what it could have
-pub record IsAimed (times : TaxiTimes) (now : ℕ) (f : Record) (a : Aimed) : Type 0 where
+pub record IsAimed (times : TaxiTimes) (values : DayValues) (f : Record) (a : Aimed) : Type 0 where
   pub name : a.name ≡ f.name
-  pub aim : IsAim f times now a.aim
+  pub aim : IsAim f times values a.aim
 
 -- the flight has this runway
 abbrev pub is_on : List ℕ → Record → Bool

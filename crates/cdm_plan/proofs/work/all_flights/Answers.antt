@@ -8,7 +8,8 @@ use Rattle.cdm_plan.proofs.work.all_flights.Goals as goal
 pub loop-place-preserved : goal.loop-place-preserved
 loop-place-preserved g c =
     let d = g.R.Records.day c.args.records.now in
-    c.in_ok-push_known.ensures ∙ ((λ i. c.loop-place.invariant i ++ cons_option (c.flight_at.ensures.value i) []) ∙ sym (records-next (flight_of d.airport d.journal) (flights_in d.journal) c.loop-place.place))
+    c.in_ok-push_known.ensures ∙ ((λ i. c.loop-place.invariant i ++ cons_option (c.flight_at.ensures.value i) [])
+    ∙ sym (records-next (flight_of d.airport d.journal) (flights_in d.journal) c.loop-place.place))
 
 pub returns-clause-all : goal.returns-clause-all
 returns-clause-all g c =
