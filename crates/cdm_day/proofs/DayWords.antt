@@ -6,19 +6,25 @@ unfoldable pub use Rattle.cdm_plan.specs.Day.{rows_by_name, rules_of}
 pub use Rattle.cdm_day.specs.Runways.{has_window, plain_of, with_change}
 pub use Rattle.cdm_plan.specs.Sound.{IsSound, TellTaxi}
 pub use Rattle.cdm_plan.specs.Kept.{AreKept, IsSince}
-pub use Rattle.cdm_day.specs.inner.Kinds.{is_of_runway, window_end}
-pub use Rattle.cdm_flight.proofs.JournalLemmas.{aobt-untouched, atot-untouched, before_off-all, cancels-untouched, flight_of-fresh, flight_of-step, flight_of-untouched, last_value-push, last_value-silent, list_any-silent, planned_says, same_name-refl, status_of-record}
+pub use Rattle.cdm_flight.proofs.JournalLemmas.{before_off-all, flight_of-fresh, flight_of-step, flight_of-untouched, last_value-push, planned_says}
+pub use Rattle.cdm_flight.proofs.JournalLemmas.{same_name-refl, status_of-record, taxi_of-untouched, touching-push, untouched, values_of-clock}
+pub use Rattle.cdm_flight.proofs.JournalLemmas.{values_of-untouched}
 pub use Rattle.cdm_flight.specs.Accepted.{after_one, has_runway, is_full, is_unknown, stand_with_taxi, stands_with_rows}
 unfoldable pub use Rattle.cdm_flight.specs.Accepted.{accepted, refusal, refusal_of, replies_to}
-pub use Rattle.cdm_flight.specs.Journal.{AirportRows, aobt_of, atot_of, cancels, cap_of, closed_of, exot_now, is_cancelled, is_known, last_value, makes_known, only_if, record_with, runway_of, runway_row, same_place, sets_aobt, sets_atot, sets_cap, sets_closed, sets_now, sets_runway, sets_taxi, status_from, status_of, taxi_of, touches, window_has}
-unfoldable pub use Rattle.cdm_flight.specs.Journal.{exot_of, flight_of}
+pub use Rattle.cdm_flight.specs.Journal.{AirportRows, aobt_of, atot_of, cap_given, cap_of, closed_given, closed_of, exot_now, is_cancelled, is_known}
+pub use Rattle.cdm_flight.specs.Journal.{last_value, of_flight, only_if, record_with, runway_given, runway_of, runway_row, same_place, status_from}
+pub use Rattle.cdm_flight.specs.Journal.{status_of, taxi_given, taxi_of, window_has}
+unfoldable pub use Rattle.cdm_flight.specs.Journal.{exot_of, flight_of, values_of}
 pub use Rattle.cdm_flight.specs.Names.{same_name}
 pub use Rattle.cdm_flight.specs.Record.{Record, fresh}
-pub use Rattle.cdm_flight.specs.Step.{flight_of_update, is_fresh, or_refused, runway_of_update, step_of, step_refusal}
+pub use Rattle.cdm_flight.specs.Reach.{flight_in, flight_of_update, reach_of, runway_of_update, same_reach, touching}
+pub use Rattle.cdm_flight.specs.Step.{is_fresh, or_refused, step_of, step_refusal}
 pub use Rattle.cdm_flight.specs.Taxi.{TaxiRows, is_new_stand, is_one_stand_too_many, stand_of_place, stands_in, taxi_cmp, taxi_out}
 pub use Rattle.cdm_flight.specs.declared.airport.RunwayRow.{RunwayRow}
 pub use Rattle.cdm_flight.specs.declared.place.Place.{Place}
+pub use Rattle.cdm_flight.specs.declared.reach.Reach.{Reach}
 pub use Rattle.cdm_flight.specs.declared.update.Update.{Update}
+pub use Rattle.cdm_flight.specs.declared.values.DayValues.{DayValues}
 pub use Rattle.cdm_runway.proofs.RulesLemmas.{rate_window-in_order, rate_window-says}
 pub use Rattle.cdm_runway.specs.Rules.{RunwayRules, is_rate_window, with_closed, with_range, with_rate}
 unfoldable pub use Rattle.cdm_runway.specs.Rules.{plain_rules}

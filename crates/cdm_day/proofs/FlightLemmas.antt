@@ -1,14 +1,16 @@
 -- The table of flights says what the journal says after one more update.
-use Rattle.std.proofs.Common.{◌≡◌, ℕ, Bool, true, false, List, [], ◌∷◌, ◌++◌, Option, None, Some, refl, sym, ap, ◌∙◌, subst}
+use Rattle.std.proofs.Common.{◌≡◌, ℕ, Bool, true, false, List, [], ◌∷◌, ◌++◌, Option, None, Some, refl, sym, ap, ◌∙◌, subst, true≢false}
 use Rattle.cdm_plan.proofs.ListWords.{is_some, option_and_then, option_map_or, list_any, cons_option, same_text, append-nil, map-append}
-use Rattle.cdm_day.proofs.DayWords.{Place, Update, same_name, Record, fresh, flight_of_update, is_fresh, step_of, TaxiRows, taxi_out, AirportRows, touches, is_known, is_cancelled, runway_of, aobt_of, atot_of, exot_now, exot_of, record_with, flight_of, taxi_of, flight_of-untouched, flight_of-fresh, before_off-all}
-use Rattle.cdm_day.proofs.DayWords.{status_of-record, planned_says, flights_in, Flt, Off}
+use Rattle.cdm_day.proofs.DayWords.{Place, Update, reach_of, same_name, same_name-refl, same_reach, Record, fresh, is_fresh, step_of, TaxiRows, taxi_out, AirportRows}
+use Rattle.cdm_day.proofs.DayWords.{is_known, is_cancelled, of_flight, runway_of, aobt_of, atot_of, exot_now, exot_of, record_with, flight_of, taxi_of}
+use Rattle.cdm_day.proofs.DayWords.{flight_of-untouched, flight_of-fresh, before_off-all, status_of-record, planned_says, flights_in, Flt, Off}
 use Rattle.std.specs.Map.{lookup, keys_of}
 use Rattle.std.specs.FinMap as map_of
 use Rattle.indexmap.specs.IndexMap.{get, keys, insert_entry}
 use Rattle.indexmap.proofs.CallerLemmas.{insert_entry-new, keys-insert_entry-present}
 use Rattle.cdm_flight.specs.declared.flight.Status.{Status}
 use Rattle.cdm_flight.specs.declared.flight.Status.TheVariants.{Planned, OffBlock, Airborne, Cancelled}
+use Rattle.cdm_flight.specs.declared.reach.Reach.TheVariants as reach
 use Rattle.cdm_day.specs.inner.Tables.{Flights, Sets, TellFlights}
 use Rattle.cdm_plan.proofs.JournalFacts.{new_flight-old, flights_in-push}
 
@@ -32,13 +34,13 @@ abbrev pub exot_by : TaxiRows → Record → Option ℕ
 exot_by rows r = option_and_then (λ runway. taxi_out (λ place. map_of.get rows (place, runway)) r.stand r.ice) r.runway
 
 exot_by-record : (g : AirportRows) (a : List Update) (rows : TaxiRows) (f : List ℕ) (s : Status) → ((place : Place) (r : List ℕ) → map_of.get rows (place, r) ≡ taxi_of g a place r)
-    → exot_by rows (record_with a f s) ≡ exot_now g a f
+    → exot_by rows (record_with f (of_flight f a) s) ≡ exot_now g a f
 exot_by-record g a rows f s same = by (runway_of a f)
   where
-    by : (o : Option (List ℕ)) → option_and_then (λ runway. taxi_out (λ place. map_of.get rows (place, runway)) (record_with a f s).stand (record_with a f s).ice) o
-        ≡ option_and_then (λ runway. taxi_out (λ place. taxi_of g a place runway) (record_with a f s).stand (record_with a f s).ice) o
+    by : (o : Option (List ℕ)) → option_and_then (λ runway. taxi_out (λ place. map_of.get rows (place, runway)) (record_with f (of_flight f a) s).stand (record_with f (of_flight f a) s).ice) o
+        ≡ option_and_then (λ runway. taxi_out (λ place. taxi_of g a place runway) (record_with f (of_flight f a) s).stand (record_with f (of_flight f a) s).ice) o
     by None = refl
-    by (Some r) = λ i. taxi_out (λ place. same place r i) (record_with a f s).stand (record_with a f s).ice
+    by (Some r) = λ i. taxi_out (λ place. same place r i) (record_with f (of_flight f a) s).stand (record_with f (of_flight f a) s).ice
 
 -- of a planned flight it is the journal's
 pub exot_by-planned : (g : AirportRows) (a : List Update) (rows : TaxiRows) (f : List ℕ) (r : Record) → ((place : Place) (r : List ℕ) → map_of.get rows (place, r) ≡ taxi_of g a place r)
@@ -51,13 +53,10 @@ exot_by-planned g a rows f r same there planned =
 
 -- One more update of a flight.
 
-module _ (g : AirportRows) (a : List Update) (u : Update) (m n : Flights) (f : List ℕ) (e : flight_of_update u ≡ Some f) where
-  touched : (q : List ℕ) → touches q u ≡ same_name f q
-  touched q = ap (λ o. option_map_or (λ h. same_name h q) o false) e
-
+module _ (g : AirportRows) (a : List Update) (u : Update) (m n : Flights) (f : List ℕ) (e : reach_of u ≡ reach.Flight f) where
   -- another flight is as before
   other : (q : List ℕ) → same_name f q ≡ false → flight_of g (a ++ u ∷ []) q ≡ flight_of g a q
-  other q apart = flight_of-untouched q g a u (touched q ∙ apart)
+  other q apart = flight_of-untouched q g a u (ap (λ what. same_reach what (reach.Flight q)) e ∙ apart)
 
   -- the table has a new record of the flight, and the journal says it
   told_after : (r : Record) → TellFlights g a m → Sets m n f r → flight_of g (a ++ u ∷ []) f ≡ Some r → keys n ≡ flights_in (a ++ u ∷ []) → TellFlights g (a ++ u ∷ []) n
@@ -71,7 +70,7 @@ pub flights-old : (a : List Update) (u : Update) → is_fresh u ≡ false → fl
 flights-old a u old = flights_in-push a u ∙ (ap (λ o. flights_in a ++ cons_option o []) (new_flight-old u old) ∙ append-nil (flights_in a))
 
 -- after an update of a flight that is known
-pub flights_after_record : (g : AirportRows) (a : List Update) (u : Update) (m n : Flights) (f : List ℕ) (r : Record) → flight_of_update u ≡ Some f → is_fresh u ≡ false
+pub flights_after_record : (g : AirportRows) (a : List Update) (u : Update) (m n : Flights) (f : List ℕ) (r : Record) → reach_of u ≡ reach.Flight f → is_fresh u ≡ false
     → TellFlights g a m → (flight_of g a f ≡ None → ⊥) → flight_of g (a ++ u ∷ []) f ≡ Some r
     → Sets m n f r → n.entries ≡ insert_entry same_name m.entries f r → TellFlights g (a ++ u ∷ []) n
 flights_after_record g a u m n f r e old told there says new entries =
@@ -84,7 +83,7 @@ flights_after_record g a u m n f r e old told there says new entries =
 
 -- after the FLT of a new flight
 pub flights_after_flt : (g : AirportRows) (a : List Update) (m n : Flights) (f : List ℕ) (p : ℕ)
-    → TellFlights g a m → flight_of g a f ≡ None → list_any (touches f) a ≡ false
+    → TellFlights g a m → flight_of g a f ≡ None → of_flight f a ≡ []
     → Sets m n f (fresh f p) → n.entries ≡ insert_entry same_name m.entries f (fresh f p) → TellFlights g (a ++ Flt f p ∷ []) n
 flights_after_flt g a m n f p told none quiet new entries =
     let more : keys n ≡ keys m ++ f ∷ [] = ap keys_of (entries ∙ insert_entry-new same_name m f (fresh f p) (told.each f ∙ none)) ∙ keys_append m.entries in
@@ -95,18 +94,16 @@ flights_after_flt g a m n f p told none quiet new entries =
     keys_append : (es : List (List ℕ × Record)) → keys_of (es ++ (f, fresh f p) ∷ []) ≡ keys_of es ++ f ∷ []
     keys_append es = map-append (λ (e : List ℕ × Record). e.0) es ((f, fresh f p) ∷ [])
 
--- an update of no flight touches none
-pub touches-none : (u : Update) → flight_of_update u ≡ None → (q : List ℕ) → touches q u ≡ false
-touches-none u none q = ap (λ o. option_map_or (λ h. same_name h q) o false) none
-
-pub fresh-none : (u : Update) → flight_of_update u ≡ None → is_fresh u ≡ false
-fresh-none (Flt f p) h = cc
+-- only an update of a flight makes one known
+pub fresh-none : (u : Update) → ((q : List ℕ) → same_reach (reach_of u) (reach.Flight q) ≡ false) → is_fresh u ≡ false
+fresh-none (Flt f p) h = absurd (true≢false (sym (same_name-refl f) ∙ h f))
 fresh-none _ h = refl
 
 -- after an update of no flight
-pub flights_after_other : (g : AirportRows) (a : List Update) (u : Update) (m : Flights) → flight_of_update u ≡ None → TellFlights g a m → TellFlights g (a ++ u ∷ []) m
+pub flights_after_other : (g : AirportRows) (a : List Update) (u : Update) (m : Flights) → ((q : List ℕ) → same_reach (reach_of u) (reach.Flight q) ≡ false)
+    → TellFlights g a m → TellFlights g (a ++ u ∷ []) m
 flights_after_other g a u m none told = record {
-  each = λ q. told.each q ∙ sym (flight_of-untouched q g a u (touches-none u none q));
+  each = λ q. told.each q ∙ sym (flight_of-untouched q g a u (none q));
   order = told.order ∙ sym (flights-old a u (fresh-none u none));
 }
 

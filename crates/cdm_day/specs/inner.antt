@@ -1,3 +1,2 @@
 pub mod AirportCode
-pub mod Kinds
 pub mod Tables

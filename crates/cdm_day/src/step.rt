@@ -2,7 +2,9 @@
 ghost use Rattle.std.specs.Prelude.{◌≡◌, ◌≤◌, ◌++◌, ◌∷◌, [], false, not, nat_le, length, None, Some, if◌then◌else◌, IfErr, IfOk, OnOk};
 ghost use Rattle.std.specs.FinMap as map;
 ghost use Rattle.std.specs.Option.{ForSome, option_and_then};
-ghost use Rattle.cdm_flight.specs.Step.{flight_of_update, is_fresh};
+ghost use Rattle.cdm_flight.specs.declared.reach.Reach.TheVariants as reach;
+ghost use Rattle.cdm_flight.specs.Reach.{reach_of};
+ghost use Rattle.cdm_flight.specs.Step.{is_fresh};
 ghost use Rattle.cdm_flight.specs.Taxi.{taxi_out};
 ghost use Rattle.cdm_flight.specs.Journal.{flight_of, is_known};
 ghost use Rattle.cdm_flight.specs.Accepted.{is_unknown, refusal_of};
@@ -27,7 +29,7 @@ pub fn flight_after<R: Records>(
     flight: FlightName,
     update: &Update,
 ) -> Result<Flight, RefusalWord>
-    requires of_flight { flight_of_update update.now ≡ Some flight }
+    requires of_flight { reach_of update.now ≡ reach.Flight flight }
     requires old { is_fresh update.now ≡ false }
     requires runway { let d = R.day records.now in is_unknown d.airport d.journal update.now ≡ not (is_known d.journal flight) }
     ensures refused { let d = R.day records.now in IfErr result (λ word. refusal_of d.airport d.journal update.now ≡ Some word) }

@@ -212,8 +212,8 @@ module _ (g : AirportRows) (a : List Update) (f : List ℕ) where
   cancelled : (u : Update) → reach_of u ≡ reach.Flight f → is_cancelled (a ++ u ∷ []) f ≡ (is_cancel u || is_cancelled a f)
   cancelled u e = ap (list_any is_cancel) (one_more u e) ∙ list_any-push is_cancel (of_flight f a) u
 
-  known : (u : Update) → reach_of u ≡ reach.Flight f → is_known (a ++ u ∷ []) f ≡ (is_fresh u || is_known a f)
-  known u e = ap (list_any is_fresh) (one_more u e) ∙ list_any-push is_fresh (of_flight f a) u
+  pub is_known-push : (u : Update) → reach_of u ≡ reach.Flight f → is_known (a ++ u ∷ []) f ≡ (is_fresh u || is_known a f)
+  is_known-push u e = ap (list_any is_fresh) (one_more u e) ∙ list_any-push is_fresh (of_flight f a) u
 
   atot : (u : Update) → reach_of u ≡ reach.Flight f → atot_of (a ++ u ∷ []) f ≡ option_or (atot_given u) (atot_of a f)
   atot u e = ap (last_value atot_given) (one_more u e) ∙ last_value-push atot_given (of_flight f a) u
@@ -243,7 +243,7 @@ module _ (g : AirportRows) (a : List Update) (f : List ℕ) where
   status_after (Cnl q) r e told old ok =
       ap (λ c. status_from c (atot_of (a ++ Cnl q ∷ []) f) (aobt_of (a ++ Cnl q ∷ []) f) (exot_of g (a ++ Cnl q ∷ []) f) (is_known (a ++ Cnl q ∷ []) f)) (cancelled (Cnl q) e)
   status_after (Flt q p) r e told old ok = cc
-  status_after u r e told old ok = status_of-same f g a u (cancelled u e) (atot u e) (aobt u e) (known u e) ∙ told
+  status_after u r e told old ok = status_of-same f g a u (cancelled u e) (atot u e) (aobt u e) (is_known-push u e) ∙ told
 
   -- after an update, other than FLT, which no word refuses, the journal says the record with its value
   pub flight_of-step : (u : Update) (r : Record) → reach_of u ≡ reach.Flight f → flight_of g a f ≡ Some r → is_fresh u ≡ false

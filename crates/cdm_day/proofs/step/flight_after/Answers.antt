@@ -1,5 +1,6 @@
 use Rattle.std.proofs.Common.{◌≡◌, Some, sym, ap, ◌∙◌}
 use Rattle.cdm_plan.proofs.ListWords.{option_copied}
+use Rattle.cdm_flight.specs.declared.reach.Reach.TheVariants as reach
 use Rattle.cdm_day.proofs.DayWords.{flight_of, step_of}
 use Rattle.cdm_plan.proofs.DayPlanLemmas.{record_name}
 use Rattle.cdm_day.proofs.WordLemmas.{flight-unknown, stepped}
@@ -14,12 +15,14 @@ pub step-requires-clause-of_this : goal.step-requires-clause-of_this
 step-requires-clause-of_this g c =
     let d = g.R.Records.day c.args.records.now in
     let there : flight_of d.airport d.journal c.args.flight ≡ Some c.in-Some.record.now = sym c.flight.ensures.value ∙ ap option_copied c.in-Some.is in
-    c.requires.of_flight ∙ ap Some (sym (record_name d.airport d.journal c.args.flight c.in-Some.record.now there))
+    c.requires.of_flight ∙ ap reach.Flight (sym (record_name d.airport d.journal c.args.flight c.in-Some.record.now there))
 
 pub returns : goal.returns
 returns g c =
     let d = g.R.Records.day c.args.records.now in
     let r = c.in-Some.record.now in
-    let says = stepped d c.flight.ensures.sound c.args.update.now c.taxi.result.now c.args.flight c.requires.of_flight c.requires.old c.taxi.ensures.value r (sym c.flight.ensures.value ∙ ap option_copied c.in-Some.is)
+    let says =
+    stepped d c.flight.ensures.sound c.args.update.now c.taxi.result.now c.args.flight c.requires.of_flight c.requires.old c.taxi.ensures.value r
+    (sym c.flight.ensures.value ∙ ap option_copied c.in-Some.is)
     c.step.result c.requires.runway (ap (λ o. step_of r c.args.update.now o) (sym c.exot_to_runway.ensures.value) ∙ sym c.step.ensures) in
     record { refused = says.0; rest = says.1.0; after = says.1.1 }
