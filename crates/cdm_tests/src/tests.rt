@@ -1,0 +1,9 @@
+//! Layer by layer, the lowest first.
+
+mod board;
+mod day;
+mod days;
+mod phase;
+mod runway;
+mod scenario;
+mod taxi;
