@@ -4,6 +4,4 @@ mod board;
 mod day;
 mod days;
 mod phase;
-mod runway;
 mod scenario;
-mod taxi;

@@ -1,8 +1,7 @@
-//! Desks on two threads, the limits of a board, what-if questions over a snapshot, and refused memory.
+//! Desks on two threads, the limits of a board, and what-if questions over a snapshot.
 
 mod closing;
 mod days;
 mod desks;
 mod limits;
 mod meanwhile;
-mod memory;

@@ -1,8 +1,5 @@
-//! Rows of airports; a worked morning, on one thread and by many workers; and what no clause says of
-//! these workers.
+//! A day that many workers plan.
 
-mod airports;
-mod days;
-mod morning;
 mod parallel;
+mod slots;
 mod updates;

@@ -1,5 +1,4 @@
-//! Days with one runway, whose cells of ten minutes have room for two flights. Each call is made once more
-//! where memory was refused.
+//! Days with one runway or two, whose cells of ten minutes have room for two flights.
 use cdm_day::{Airport, DayState};
 use cdm_flight::{
     Cap, CellLength, FlightName, Place, Priority, Role, RunwayName, TaxiMinutes, Update,
@@ -10,11 +9,6 @@ use std::alloc::Global;
 /// Three flights that want its first cell at 06:00.
 pub const THREE_FLIGHTS: [&str; 3] = ["AB1", "AB2", "AB3"];
 
-/// The runway's name.
-pub fn runway_27l() -> Option<RunwayName> {
-    RunwayName::new(b"27L")
-}
-
 /// That a flight can leave its stand at 06:00.
 pub fn ready(flight: &str) -> Option<Update> {
     let flight = FlightName::new(flight.as_bytes())?;
@@ -22,16 +16,9 @@ pub fn ready(flight: &str) -> Option<Update> {
     Some(Update::Tobt { flight, tobt })
 }
 
-/// The flight's priority.
-pub fn priority(flight: &str, priority: u16) -> Option<Update> {
-    let flight = FlightName::new(flight.as_bytes())?;
-    let priority = Priority::new(priority)?;
-    Some(Update::Prio { flight, priority })
-}
-
 /// That the runway is closed from 06:10 to 06:30.
 pub fn closed() -> Option<Update> {
-    let runway = runway_27l()?;
+    let runway = RunwayName::new(b"27L")?;
     let from = Minute::new(370)?;
     let to = Bound::new(390)?;
     Some(Update::Close { runway, from, to })
@@ -41,7 +28,7 @@ pub fn closed() -> Option<Update> {
 pub fn planned(name: &str) -> Option<[(Role, Update); 3]> {
     let flight = FlightName::new(name.as_bytes())?;
     let priority = Priority::new(5)?;
-    let runway = runway_27l()?;
+    let runway = RunwayName::new(b"27L")?;
     Some([
         (Role::AirportOperator, Update::Flt { flight, priority }),
         (Role::AirTrafficControl, Update::Rwy { flight, runway }),
@@ -49,31 +36,28 @@ pub fn planned(name: &str) -> Option<[(Role, Update); 3]> {
     ])
 }
 
-// The airport with the runway, and 15 minutes to it from every stand.
-fn airport(alloc: Global) -> Option<Airport> {
-    let runway = runway_27l()?;
+// Adds a runway, with 15 minutes to it from every stand.
+fn add_runway(airport: &mut Airport, name: &str) -> Option<()> {
+    let runway = RunwayName::new(name.as_bytes())?;
     let (cell, cap, minutes) = (CellLength::new(10)?, Cap::new(2)?, TaxiMinutes::new(15)?);
-    let mut airport = Airport::new(alloc, Day::of_text(b"2025-03-10").ok()?);
-    let added = airport.add_runway(runway, cell, cap);
-    added
-        .or_else(|_| airport.add_runway(runway, cell, cap))
-        .ok()?;
-    let added = airport.add_taxi(Place::Default, runway, minutes);
-    added
-        .or_else(|_| airport.add_taxi(Place::Default, runway, minutes))
-        .ok()?;
-    Some(airport)
+    airport.add_runway(runway, cell, cap).ok()?;
+    airport.add_taxi(Place::Default, runway, minutes).ok()
 }
 
-/// The day after the updates that plan these flights for 06:00.
+/// The day of an airport with these runways, before its first update.
+pub fn day_with(alloc: Global, runways: &[&str]) -> Option<DayState> {
+    let mut airport = Airport::new(alloc, Day::of_text(b"2025-03-10").ok()?);
+    for name in runways {
+        add_runway(&mut airport, name)?;
+    }
+    DayState::new(alloc, airport).ok()
+}
+
+/// The day of an airport with one runway after the updates that plan these flights for 06:00.
 pub fn day_of(alloc: Global, flights: &[&str]) -> Option<DayState> {
-    let state = DayState::new(alloc, airport(alloc)?);
-    let mut state = state.or_else(|airport| DayState::new(alloc, airport)).ok()?;
+    let mut state = day_with(alloc, &["27L"])?;
     for name in flights {
-        let batch = planned(name)?;
-        if state.apply(alloc, &batch).is_err() {
-            state.apply(alloc, &batch).ok()?;
-        }
+        state.apply(alloc, &planned(name)?).ok()?;
     }
     Some(state)
 }

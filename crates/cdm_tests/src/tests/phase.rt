@@ -2,7 +2,6 @@
 //! runs out in one worker is the phase's answer.
 use std::alloc::{AllocError, Global};
 
-mod add_one;
 mod meeting;
 mod memory;
 mod watch;

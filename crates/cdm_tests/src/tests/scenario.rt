@@ -1,7 +1,4 @@
-//! Answers by many workers, and what is refused memory.
+//! Answers by many workers.
 
 mod answers;
 mod meeting;
-mod memory;
-mod names;
-mod texts;

@@ -39,8 +39,8 @@ impl Gate for UntilPosted {
     }
 }
 
-/// Whether the day has so many updates, and these take-off minutes on its one runway.
-pub fn is_day(day: &DayState, updates: usize, minutes: &[u16]) -> bool {
+// Whether the day has so many updates, and these take-off minutes on its one runway.
+fn is_day(day: &DayState, updates: usize, minutes: &[u16]) -> bool {
     let [runway] = day.plan().runways.as_slice() else {
         return false;
     };
@@ -72,14 +72,6 @@ fn question(alloc: Global, update: &Update) -> Option<Scenario> {
     let mut scenario = Scenario::empty(alloc, ScenarioName::new(b"SHUT")?);
     scenario.add(*update).ok()?;
     Some(scenario)
-}
-
-/// Asks what becomes of a day by the closure. False for want of memory.
-pub fn ask(scenario: &mut Scenario) -> bool {
-    match closed() {
-        Some(closure) => scenario.add(closure).is_ok(),
-        None => false,
-    }
 }
 
 // Whether two workers answer what becomes of the snapshot's day by the closure.

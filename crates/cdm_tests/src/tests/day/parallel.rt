@@ -2,9 +2,9 @@
 //! are.
 ghost use Rattle.std.specs.Prelude.{◌≡◌};
 
-use super::days::two_runways;
-use super::morning::{Line, assert_slots};
+use super::slots::{Line, assert_slots};
 use super::updates::{Short, batch_of};
+use crate::tests::days::day_with;
 use cdm_day::{DayState, Reply};
 use cdm_flight::{FlightName, Priority, Role, Update};
 use cdm_phase::{Gate, PhaseName, Workers};
@@ -83,6 +83,11 @@ fn other_flights(alloc: Global, count: u8) -> Result<Vec<(Role, Update)>, AllocE
     (0..count).filter_map(other_flight).collect(alloc)
 }
 
+// The day of an airport with two runways, of which the second is the first by name.
+fn two_runways(alloc: Global) -> Result<DayState, Fail> {
+    Ok(day_with(alloc, &["27L", "09"]).ok_or("no day")?)
+}
+
 /// The caller alone plans a batch of these updates.
 fn take_all(alloc: Global, day: &mut DayState, updates: &[Short]) -> Result<(), Fail> {
     let batch = batch_of(alloc, updates)?;
@@ -115,12 +120,12 @@ fn accept_all<R: Abort + Threads + Sync>(
 }
 
 const ON_TWO_RUNWAYS: [Short; 6] = [
-    ("FLT", "AB1", "27L", 5, None),
-    ("RWY", "AB1", "27L", 0, None),
-    ("TOBT", "AB1", "27L", 360, None),
-    ("FLT", "AB2", "09", 5, None),
-    ("RWY", "AB2", "09", 0, None),
-    ("TOBT", "AB2", "09", 360, None),
+    ("FLT", "AB1", "27L", 5),
+    ("RWY", "AB1", "27L", 0),
+    ("TOBT", "AB1", "27L", 360),
+    ("FLT", "AB2", "09", 5),
+    ("RWY", "AB2", "09", 0),
+    ("TOBT", "AB2", "09", 360),
 ];
 
 const APART: [Line; 2] = [
@@ -137,7 +142,7 @@ const TOGETHER: [Line; 2] = [
 /// other's runway. With 63 flights more there are two pieces of flights.
 #[test]
 fn pieces_run_side_by_side(rt: HostRuntime) -> Result<(), Fail> {
-    let change = [("RWY", "AB2", "27L", 0, None)];
+    let change = [("RWY", "AB2", "27L", 0)];
     for (phase, others) in [(PhaseName::Runways, 0), (PhaseName::Targets, 63)] {
         let mut day = two_runways(rt.alloc())?;
         let flights = other_flights(rt.alloc(), others)?;
@@ -174,11 +179,11 @@ fn each_piece_passes_once(rt: HostRuntime) -> Result<(), Fail> {
 /// CLOCK, and none of an empty batch.
 #[test]
 fn touched_runways_are_the_pieces(rt: HostRuntime) -> Result<(), Fail> {
-    let prio: [Short; 1] = [("PRIO", "AB1", "27L", 1, None)];
+    let prio: [Short; 1] = [("PRIO", "AB1", "27L", 1)];
     let table: [(&[Short], [usize; 2]); 4] = [
         (&prio, [1, 0]),
-        (&[("RWY", "AB2", "27L", 0, None)], [1, 1]),
-        (&[("CLOCK", "AB1", "27L", 300, None)], [1, 1]),
+        (&[("RWY", "AB2", "27L", 0)], [1, 1]),
+        (&[("CLOCK", "AB1", "27L", 300)], [1, 1]),
         (&[], [0, 0]),
     ];
     for workers in [1, 2, 7, 64] {
@@ -213,8 +218,8 @@ fn copy_stays(rt: HostRuntime) -> Result<(), Fail> {
     for number in 0..100 {
         let runway = if number % 2 == 0 { "27L" } else { "09" };
         let updates = [
-            ("TOBT", "AB1", "27L", 400 + number, None),
-            ("RWY", "AB2", runway, 0, None),
+            ("TOBT", "AB1", "27L", 400 + number),
+            ("RWY", "AB2", runway, 0),
         ];
         take_all(rt.alloc(), &mut day, &updates)?;
     }

@@ -1,16 +1,14 @@
-//! A worker without memory, and requests for memory that are refused.
+//! A worker without memory.
 ghost use Rattle.std.specs.Prelude.{◌≡◌};
 ghost use Rattle.std.proofs.Common.{sym, ◌∙◌};
 ghost use Rattle.cdm_phase.specs.declared.job.PhaseName.TheVariants.{Runways};
 
-use super::add_one::AddOne;
 use super::{WORKERS, numbers};
-use cdm_phase::{Job, OpenGate, PhaseName, Workers, run_here, run_phase};
+use cdm_phase::{Job, OpenGate, PhaseName, Workers, run_phase};
 use std::alloc::{AllocError, Global};
 use std::sync::atomic::{AtomicBool, AtomicUsize, Ordering};
 use std::test::Fail;
 use std::thread;
-use std::thread::Threads;
 
 /// Has no memory for item 5 when it is first run.
 #[derive(Drop)]
@@ -59,35 +57,6 @@ fn want_of_memory_in_one_worker_is_the_answer(rt: HostRuntime) -> Result<(), Fai
         assert!(rt; outs.is_err(), "{count} workers");
         let begun = job.begun.load(Ordering::SeqCst);
         assert_eq!(rt; begun, job.ended.load(Ordering::SeqCst), "{count} workers");
-    }
-    Ok(())
-}
-
-// The values of five items by the caller alone, or where there are some by so many workers.
-fn outs_of<R: Threads + Sync>(
-    rt: &R,
-    alloc: Global,
-    workers: usize,
-) -> Result<Vec<u64>, AllocError> {
-    let items = [10, 20, 30, 40, 50];
-    match Workers::new(workers) {
-        Some(workers) => run_phase(rt, alloc, workers, 2, &AddOne, &items, &OpenGate),
-        None => run_here(alloc, &AddOne, &items),
-    }
-}
-
-/// Where a request for memory is refused, there is no list or the whole one, and the same call then
-/// succeeds.
-#[test]
-fn refused_memory_in_a_phase(rt: HostRuntime) -> Result<(), Fail> {
-    let alloc = rt.alloc();
-    for workers in [0, 1, 2] {
-        let outs = outs_of(&rt, alloc, workers).or_else(|_| outs_of(&rt, alloc, workers))?;
-        assert_eq!(rt;
-            outs.as_slice(),
-            [11, 21, 31, 41, 51].as_slice(),
-            "{workers} workers"
-        );
     }
     Ok(())
 }
