@@ -6,4 +6,3 @@ pub mod OutputLemmas
 pub mod ScenarioLemmas
 pub mod StretchLemmas
 pub mod RowLemmas
-pub mod KindLemmas

@@ -52,6 +52,10 @@ both (Err one) (Err other) = Err (first_word one other)
 unfoldable pub all_three : {A B C : Type 0} → Result A RefusalWord → Result B RefusalWord → Result C RefusalWord → Result (A × B × C) RefusalWord
 all_three a b c = of_one (λ p. (p.0, p.1.0, p.1.1)) (both a (both b c))
 
+-- four values, or the word that refuses them
+unfoldable pub all_four : {A B C D : Type 0} → Result A RefusalWord → Result B RefusalWord → Result C RefusalWord → Result D RefusalWord → Result (A × B × C × D) RefusalWord
+all_four a b c d = of_one (λ p. (p.0, p.1.0, p.1.1, p.1.2)) (both a (all_three b c d))
+
 -- what the values of two good fields make
 abbrev pub of_two : {A B X : Type 0} → (A → B → X) → Result A RefusalWord → Result B RefusalWord → Result X RefusalWord
 of_two f a b = of_one (λ p. f p.0 p.1) (both a b)
@@ -60,10 +64,14 @@ of_two f a b = of_one (λ p. f p.0 p.1) (both a b)
 abbrev pub of_three : {A B C X : Type 0} → (A → B → C → X) → Result A RefusalWord → Result B RefusalWord → Result C RefusalWord → Result X RefusalWord
 of_three f a b c = of_one (λ p. f p.0 p.1 p.2) (all_three a b c)
 
+-- what the values of four good fields make
+abbrev pub of_four : {A B C D X : Type 0} → (A → B → C → D → X) → Result A RefusalWord → Result B RefusalWord → Result C RefusalWord → Result D RefusalWord → Result X RefusalWord
+of_four f a b c d = of_one (λ p. f p.0 p.1 p.2 p.3) (all_four a b c d)
+
 -- Names.
 
 -- a name of such a form
-abbrev pub name_field : (List ℕ → Bool) → List ℕ → Result (List ℕ) RefusalWord
+unfoldable pub name_field : (List ℕ → Bool) → List ℕ → Result (List ℕ) RefusalWord
 name_field is_good text = if is_good text then Ok text else Err Text
 
 abbrev pub flight_field : List ℕ → Result (List ℕ) RefusalWord
@@ -76,13 +84,13 @@ abbrev pub stand_field : List ℕ → Result (List ℕ) RefusalWord
 stand_field = name_field (is_name 5)
 
 -- a stand, or `*` for the runway's default
-abbrev pub place_field : List ℕ → Result Place RefusalWord
+unfoldable pub place_field : List ℕ → Result Place RefusalWord
 place_field text = if bytes_eq text (codes "*") then Ok place.Default else of_one place.Stand (stand_field text)
 
 -- Numbers.
 
 -- a number of 1 to 4 digits that is in a range
-abbrev pub number_field : (ℕ → Bool) → List ℕ → Result ℕ RefusalWord
+unfoldable pub number_field : (ℕ → Bool) → List ℕ → Result ℕ RefusalWord
 number_field in_range text =
     if not (nat_le 1 (length text) && nat_le (length text) 4 && are_digits text) then Err Text
     else if in_range (number_in text) then Ok (number_in text) else Err Range
@@ -130,5 +138,5 @@ abbrev pub bound_field : CalendarDate → List ℕ → Result ℕ RefusalWord
 bound_field day text = refused_by_word (minute_up_to 2880 day text)
 
 -- a CTOT, or `-` for none any more
-abbrev pub ctot_field : CalendarDate → List ℕ → Result (Option ℕ) RefusalWord
+unfoldable pub ctot_field : CalendarDate → List ℕ → Result (Option ℕ) RefusalWord
 ctot_field day text = if bytes_eq text (codes "-") then Ok None else of_one Some (time_field day text)

@@ -4,6 +4,7 @@ pub mod Records
 pub mod Quoted
 pub mod Roles
 pub mod Fields
+pub mod Kinds
 pub mod Parsing
 pub mod AirportRecords
 pub mod Files

@@ -5,7 +5,7 @@ use Rattle.cdm_time.specs.declared.calendar.CalendarDate.{CalendarDate}
 use Rattle.cdm_flight.specs.declared.word.RefusalWord.{RefusalWord}
 use Rattle.cdm_scenario.specs.Names.{is_scenario_name}
 use Rattle.cdm_feed.specs.Fields.{counted, field, name_field, of_one}
-use Rattle.cdm_feed.specs.Parsing.{update_of}
+use Rattle.cdm_feed.specs.Kinds.{update_of}
 use Rattle.cdm_feed.specs.declared.scenario_record.ScenarioLine.{ScenarioLine}
 use Rattle.cdm_feed.specs.declared.scenario_record.ScenarioLine.TheVariants.{Begin, Next}
 

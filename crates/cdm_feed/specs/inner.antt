@@ -2,4 +2,3 @@ pub mod Faults
 pub mod RecordFaults
 pub mod OneAnswer
 pub mod RecordsLeft
-pub mod Kinds

@@ -7,8 +7,7 @@ ghost use Rattle.cdm_time.specs.Times.{day_of};
 ghost use Rattle.cdm_flight.specs.Cells.{is_cell_length};
 ghost use Rattle.cdm_flight.specs.Names.{is_name};
 ghost use Rattle.cdm_flight.specs.declared.word.RefusalWord.TheVariants as word;
-ghost use Rattle.cdm_feed.specs.inner.Kinds.{all_four};
-ghost use Rattle.cdm_feed.specs.Fields.{all_three, both, bound_field, cap_field, ctot_field, field, first_word, ice_field, ice_minutes, name_field, number_field, place_field, priority_field, refused_by_word, taxi_field, time_field, word_of};
+ghost use Rattle.cdm_feed.specs.Fields.{all_four, all_three, both, bound_field, cap_field, counted, ctot_field, field, first_word, ice_field, ice_minutes, name_field, number_field, place_field, priority_field, refused_by_word, taxi_field, time_field, word_of};
 
 use cdm_flight::{
     Cap, CellLength, Ice, IceMinutes, Name, Place, Priority, RefusalWord, TaxiMinutes,
@@ -24,6 +23,7 @@ pub(crate) fn field(row: &ByteRecord, place: usize) -> &[u8]
 }
 
 /// The name of a flight, a runway or a stand: 1 to `MOST` bytes of `A-Z0-9`.
+#[tactic(auto, unfolding(crate::specs::Fields::name_field))]
 pub(crate) fn name_field<const MOST: usize>(text: &[u8]) -> Result<Name<MOST>, RefusalWord>
     requires { MOST ≤ 255 }
     ensures { result ≡ name_field (is_name MOST) text.now }
@@ -32,6 +32,7 @@ pub(crate) fn name_field<const MOST: usize>(text: &[u8]) -> Result<Name<MOST>, R
 }
 
 /// The place of a taxi time: the name of a stand, or `*` for the runway's default.
+#[tactic(auto, unfolding(crate::specs::Fields::place_field))]
 pub(crate) fn place_field(text: &[u8]) -> Result<Place, RefusalWord>
     ensures { result ≡ place_field text.now }
 {
@@ -52,6 +53,7 @@ fn number_field(text: &[u8]) -> Result<u16, RefusalWord>
 }
 
 /// A priority, 0 to 9.
+#[tactic(auto, unfolding(crate::specs::Fields::number_field))]
 pub(crate) fn priority_field(text: &[u8]) -> Result<Priority, RefusalWord>
     ensures { result ≡ priority_field text.now }
 {
@@ -59,6 +61,7 @@ pub(crate) fn priority_field(text: &[u8]) -> Result<Priority, RefusalWord>
 }
 
 /// A capacity, 0 to 60.
+#[tactic(auto, unfolding(crate::specs::Fields::number_field))]
 pub(crate) fn cap_field(text: &[u8]) -> Result<Cap, RefusalWord>
     ensures { result ≡ cap_field text.now }
 {
@@ -66,6 +69,7 @@ pub(crate) fn cap_field(text: &[u8]) -> Result<Cap, RefusalWord>
 }
 
 /// The length of a runway's cells, a divisor of the hour.
+#[tactic(auto, unfolding(crate::specs::Fields::number_field))]
 pub(crate) fn cell_field(text: &[u8]) -> Result<CellLength, RefusalWord>
     ensures { result ≡ number_field is_cell_length text.now }
 {
@@ -73,6 +77,7 @@ pub(crate) fn cell_field(text: &[u8]) -> Result<CellLength, RefusalWord>
 }
 
 /// A taxi time, 1 to 120 minutes.
+#[tactic(auto, unfolding(crate::specs::Fields::number_field))]
 pub(crate) fn taxi_field(text: &[u8]) -> Result<TaxiMinutes, RefusalWord>
     ensures { result ≡ taxi_field text.now }
 {
@@ -80,6 +85,7 @@ pub(crate) fn taxi_field(text: &[u8]) -> Result<TaxiMinutes, RefusalWord>
 }
 
 // How long de-icing takes, 1 to 60 minutes.
+#[tactic(auto, unfolding(crate::specs::Fields::number_field))]
 fn ice_minutes(text: &[u8]) -> Result<IceMinutes, RefusalWord>
     ensures { result ≡ ice_minutes text.now }
 {
@@ -87,7 +93,7 @@ fn ice_minutes(text: &[u8]) -> Result<IceMinutes, RefusalWord>
 }
 
 /// A de-icing: NONE with 0 minutes, STAND or REMOTE with 1 to 60.
-#[tactic(auto, unfolding(crate::specs::Fields::ice_field))]
+#[tactic(auto, unfolding(crate::specs::Fields::number_field, crate::specs::Fields::ice_field))]
 pub(crate) fn ice_field(kind: &[u8], minutes: &[u8]) -> Result<Ice, RefusalWord>
     ensures { result ≡ ice_field kind.now minutes.now }
 {
@@ -138,6 +144,7 @@ pub(crate) fn bound_field(day: Day, text: &[u8]) -> Result<Bound, RefusalWord>
 }
 
 /// A CTOT: a time, or `-` for none any more.
+#[tactic(auto, unfolding(crate::specs::Fields::ctot_field))]
 pub(crate) fn ctot_field(day: Day, text: &[u8]) -> Result<Option<Minute>, RefusalWord>
     ensures { result ≡ ctot_field day text.now }
 {
@@ -186,7 +193,7 @@ pub(crate) fn all_three<A: Drop, B: Drop, C: Drop>(
 }
 
 /// Four values, or the word that refuses them.
-#[tactic(auto, unfolding(crate::specs::inner::Kinds::all_four))]
+#[tactic(auto, unfolding(crate::specs::Fields::all_four))]
 pub(crate) fn all_four<A: Drop, B: Drop, C: Drop, D: Drop>(
     one: Result<A, RefusalWord>,
     two: Result<B, RefusalWord>,
@@ -197,4 +204,19 @@ pub(crate) fn all_four<A: Drop, B: Drop, C: Drop, D: Drop>(
 {
     let (one, (two, three, four)) = both(one, all_three(two, three, four))?;
     Ok((one, two, three, four))
+}
+
+/// What so many fields spell; another number of them is refused by Fields.
+pub(crate) fn counted<T: Drop>(
+    wanted: usize,
+    count: usize,
+    spelled: Result<T, RefusalWord>,
+) -> Result<T, RefusalWord>
+    ensures { result ≡ counted wanted count spelled }
+{
+    if count == wanted {
+        spelled
+    } else {
+        Err(RefusalWord::Fields)
+    }
 }

@@ -13,7 +13,6 @@ mod file_fault;
 mod input;
 mod inputs;
 mod judging;
-mod kind;
 mod laws;
 mod output;
 mod records;

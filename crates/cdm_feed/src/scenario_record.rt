@@ -22,7 +22,7 @@ pub(crate) enum ScenarioLine {
 /// What a record of the scenario file spells, or the first word that refuses it: Fields where it is
 /// SCENARIO or a known kind with another number of fields, Kind, Text or Range. Times are minutes of
 /// the horizon that begins on `day`.
-#[tactic(auto, unfolding(crate::specs::ScenarioRecords::scenario_line_of))]
+#[tactic(auto, unfolding(crate::specs::ScenarioRecords::scenario_line_of, crate::specs::Fields::name_field))]
 pub(crate) fn scenario_line(day: Day, row: &ByteRecord) -> Result<ScenarioLine, RefusalWord>
     ensures { result ≡ scenario_line_of day (fields_of row.now) }
 {

@@ -1,6 +1,6 @@
 use Rattle.std.proofs.Common.{refl}
 use Rattle.std.proofs.lemmas.Result.{err_from_is_err_and}
-use Rattle.cdm_feed.specs.inner.Kinds.{all_four}
+use Rattle.cdm_feed.specs.Fields.{all_four}
 use Rattle.cdm_feed.proofs.field.all_four.Goals as goal
 
 pub returns-in_err-one : goal.returns-in_err-one
