@@ -117,6 +117,3 @@ impl Desk {
         Ok(snapshot)
     }
 }
-
-#[cfg(test)]
-mod tests;

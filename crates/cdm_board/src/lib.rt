@@ -19,6 +19,3 @@ pub use history::History;
 pub use receipt::{Entry, Receipt};
 pub use snapshot::{Snapshot, what_if};
 pub use state::{BoardState, MOST_CALLS, MOST_UPDATES};
-
-#[cfg(test)]
-mod tests;

@@ -16,6 +16,3 @@ pub use job::{Job, PhaseName};
 pub use phase::{run_here, run_phase};
 pub use piece::Piece;
 pub use workers::{MOST_WORKERS, Workers};
-
-#[cfg(test)]
-mod tests;

@@ -10,6 +10,3 @@ mod runway;
 
 pub use load::{Blocked, MOST_FLIGHTS, RunwayLoad};
 pub use runway::{Runway, RunwayFault};
-
-#[cfg(test)]
-mod tests;

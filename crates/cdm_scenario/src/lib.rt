@@ -13,6 +13,3 @@ pub use name::ScenarioName;
 pub use outcome::Outcome;
 pub use overlay::Overlay;
 pub use scenario::{MOST_UPDATES, Scenario, ScenarioFault};
-
-#[cfg(test)]
-mod tests;

@@ -5,6 +5,3 @@ mod rows;
 mod table;
 
 pub use table::{MOST_STANDS, TaxiFault, TaxiTable};
-
-#[cfg(test)]
-mod tests;

@@ -9,7 +9,6 @@ mod calendar;
 mod day;
 mod digits;
 mod minute;
-mod stamp;
 mod window;
 
 pub use bound::{Bound, HORIZON_MINUTES};
@@ -17,5 +16,4 @@ pub use calendar::CalendarDate;
 pub use day::{Day, TimeFault};
 pub use digits::number_of;
 pub use minute::Minute;
-pub use stamp::Stamp;
 pub use window::{TOLERANCE_AFTER, TOLERANCE_BEFORE, Window, ctot_window};

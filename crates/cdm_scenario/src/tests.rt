@@ -1,8 +1,0 @@
-//! Answers by many workers, and what is refused memory.
-
-mod answers;
-mod full_cell;
-mod meeting;
-mod memory;
-mod names;
-mod texts;

@@ -1,0 +1,7 @@
+//! Layer by layer, the lowest first.
+
+mod board;
+mod day;
+mod days;
+mod phase;
+mod scenario;

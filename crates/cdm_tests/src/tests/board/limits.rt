@@ -1,0 +1,149 @@
+//! The limits of a board.
+use super::days::opened;
+use super::desks::entries;
+use crate::tests::days::{day_of, planned};
+use cdm_board::{Board, BoardError, BoardState, Desk, OpenFault};
+use cdm_flight::{Role, Update};
+use cdm_time::Minute;
+use std::alloc::Global;
+use std::sync::Wait;
+use std::test::Fail;
+use std::thread::{Threads, join};
+
+// How many updates the day has that comes back where no board has so many desks.
+fn not_opened(alloc: Global, desks: usize) -> Option<usize> {
+    match Board::open(alloc, day_of(alloc, &["AB1"])?, desks) {
+        Err(
+            OpenFault {
+                error: BoardError::DeskCount,
+                state,
+            },
+        ) => Some(state.journal().len()),
+        _ => None,
+    }
+}
+
+// How many replies a batch of so many updates has, 257 at most.
+fn replies<R: Wait>(
+    rt: &R,
+    alloc: Global,
+    board: &Board,
+    desk: &mut Desk,
+    count: usize,
+) -> Result<usize, BoardError> {
+    let clock = Update::Clock { now: Minute::FIRST };
+    let batch = [(Role::AirTrafficControl, clock); 257];
+    let batch = batch.get(..count).unwrap_or(&batch);
+    Ok(board.post(rt, alloc, desk, batch)?.len())
+}
+
+// Why a desk's look is refused.
+fn look_refusal<R: Wait>(
+    rt: &R,
+    alloc: Global,
+    board: &Board,
+    desk: &mut Desk,
+) -> Option<BoardError> {
+    board.look(rt, alloc, desk).err()
+}
+
+// Whether a desk can make 256 calls, empty posts and looks in turn.
+fn makes_calls<R: Wait>(rt: &R, alloc: Global, board: &Board, desk: &mut Desk) -> bool {
+    for _ in 0..128u8 {
+        if board.post(rt, alloc, desk, &[]).is_err() || board.look(rt, alloc, desk).is_err() {
+            return false;
+        }
+    }
+    true
+}
+
+// Whether each desk can make its calls.
+fn all_make_calls<R: Wait>(rt: &R, alloc: Global, board: &Board, desks: &mut [Desk]) -> bool {
+    for desk in desks {
+        if !makes_calls(rt, alloc, board, desk) {
+            return false;
+        }
+    }
+    true
+}
+
+// Whether all can, the first eight on one thread and the others on another.
+fn make_calls_side_by_side<R: Threads + Sync + Wait>(
+    rt: &R,
+    alloc: Global,
+    board: &Board,
+    desks: &mut [Desk],
+) -> bool {
+    let Some((first, others)) = desks.split_at_mut_checked(8) else {
+        return false;
+    };
+    let (first_made, others_made) = join(
+        rt,
+        || all_make_calls(rt, alloc, board, first),
+        || all_make_calls(rt, alloc, board, others),
+    );
+    first_made && others_made
+}
+
+// Whether the first desk's post of a flight's updates has a reply for each.
+fn posts_alone(alloc: Global, state: &mut BoardState) -> bool {
+    let Some(batch) = planned("CD2") else {
+        return false;
+    };
+    state
+        .post(alloc, 1, &batch)
+        .is_ok_and(|replies| replies.len() == 3)
+}
+
+// How many updates the last desk's look has.
+fn updates_alone(alloc: Global, state: &mut BoardState) -> Option<usize> {
+    let snapshot = state.look(alloc, 16).ok()?;
+    Some(snapshot.state().journal().len())
+}
+
+// How many calls the board of one thread took, a post and a look that has the posted updates.
+fn calls_alone(alloc: Global) -> Option<usize> {
+    let mut state = BoardState::new(alloc, day_of(alloc, &["AB1"])?);
+    if posts_alone(alloc, &mut state) && updates_alone(alloc, &mut state) == Some(6) {
+        Some(state.calls())
+    } else {
+        None
+    }
+}
+
+/// A board has 1 to 16 desks, and a batch 0 to 256 updates. A board of one thread takes posts and looks.
+#[test]
+fn desks_and_batches_are_counted(rt: HostRuntime) -> Result<(), Fail> {
+    let alloc = rt.alloc();
+    assert_eq!(rt; calls_alone(alloc), Some(2));
+    assert_eq!(rt; not_opened(alloc, 0), Some(3));
+    assert_eq!(rt; not_opened(alloc, 17), Some(3));
+    let (board, mut desks) = opened(alloc, &["AB1"], 1).ok_or("not opened")?;
+    let mut desk = desks.pop().ok_or("no desk")?;
+    for (count, answer) in [
+        (0, Ok(0)),
+        (257, Err(BoardError::BatchSize)),
+        (256, Ok(256)),
+    ] {
+        assert_eq!(rt; replies(&rt, alloc, &board, &mut desk, count), answer);
+    }
+    assert_eq!(rt; (desk.number(), desk.calls()), (1, 2));
+    Ok(())
+}
+
+/// Sixteen desks on two threads make 4,096 calls, and one more is refused, a look or a post.
+#[test]
+fn a_history_is_full(rt: HostRuntime) -> Result<(), Fail> {
+    let alloc = rt.alloc();
+    let (board, mut desks) = opened(alloc, &["AB1"], 16).ok_or("not opened")?;
+    assert!(rt; make_calls_side_by_side(&rt, alloc, &board, &mut desks));
+    let mut last = desks.pop().ok_or("no desk")?;
+    let refusal = look_refusal(&rt, alloc, &board, &mut last);
+    assert_eq!(rt; refusal, Some(BoardError::HistoryFull(4_096)));
+    let refusal = replies(&rt, alloc, &board, &mut last, 0).err();
+    assert_eq!(rt; refusal, Some(BoardError::HistoryFull(4_096)));
+    assert_eq!(rt; last.calls(), 256);
+    desks.push(last)?;
+    assert_eq!(rt; entries(board, desks), Some(4_096));
+    Ok(())
+}

@@ -1,0 +1,5 @@
+//! A day that many workers plan.
+
+mod parallel;
+mod slots;
+mod updates;

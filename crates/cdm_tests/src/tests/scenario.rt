@@ -1,0 +1,4 @@
+//! Answers by many workers.
+
+mod answers;
+mod meeting;
