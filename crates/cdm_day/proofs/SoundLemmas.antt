@@ -5,22 +5,8 @@ use Rattle.cdm_day.proofs.DayWords.{Update, reach_of, same_name, same_reach, is_
 use Rattle.cdm_day.proofs.DayWords.{has_runway, is_unknown, is_full, stands_with_rows, refusal_of, last_value-push, touching-push, untouched, DayRecord, flights_in, with_update, IsSound, Flt, Taxi}
 use Rattle.cdm_flight.specs.declared.reach.Reach.TheVariants as reach
 use Rattle.cdm_flight.proofs.JournalLemmas.{is_known-push}
-use Rattle.cdm_plan.proofs.JournalFacts.{accepted_is, flight_named, flights_in-push}
+use Rattle.cdm_plan.proofs.JournalFacts.{accepted_is, flight_named, flights_in-push, names_after}
 use Rattle.cdm_day.proofs.WordLemmas.{flt-accepted, known_from, known_is, named_runway}
-
--- a flight is known where it is among those that were made known
-pub known-among : (a : List Update) (f : List ℕ) → is_known a f ≡ list_any (same_name f) (flights_in a)
-known-among [] f = refl
-known-among (Flt g p ∷ a) f = by (same_name g f) ∙ λ i. nat_list_eq_equiv.symm g f i || known-among a f i
-  where
-    by : (b : Bool) → list_any is_fresh (cond b (Flt g p ∷ of_flight f a) (of_flight f a)) ≡ (b || is_known a f)
-    by true = refl
-    by false = refl
-known-among (u ∷ a) f = by (same_reach (reach_of u) (reach.Flight f)) ∙ known-among a f
-  where
-    by : (b : Bool) → list_any is_fresh (cond b (u ∷ of_flight f a) (of_flight f a)) ≡ is_known a f
-    by true = refl
-    by false = refl
 
 -- what no word refuses finds room in the journal
 room_left : (g : AirportRows) (a : List Update) (u : Update) → is_full g a u ≡ false → nat_le 20000 (length a) ≡ false
@@ -66,18 +52,11 @@ module _ (d : DayRecord) (u : Update) (sound : IsSound d) (good : refusal_of d.a
     airport = sound.airport;
     silent = λ q h. silent q (same_reach (reach_of u) (reach.Flight q)) refl h;
     short = push_short d.journal u (room_left d.airport d.journal u (accepted_is d.airport d.journal u good).room);
-    names = names u good;
+    names = names_after d.airport d.journal u good sound.names;
     few = few u good;
     runways = λ q s h. runways q s (same_reach (reach_of u) (reach.Flight q)) refl h;
   }
     where
-      names : (v : Update) → refusal_of d.airport d.journal v ≡ None → IsDistinct same_name (flights_in (d.journal ++ v ∷ []))
-      names (Flt f p) ok =
-          let new = (flt-accepted d sound f p ok).0 in
-          subst (λ (l : List (List ℕ)). IsDistinct same_name l) (sym (flights_in-push d.journal (Flt f p)))
-          (IsDistinct-push nat_list_eq_equiv (flights_in d.journal) f sound.names (sym (known-among d.journal f) ∙ new))
-      names v ok = subst (λ (l : List (List ℕ)). IsDistinct same_name l) (sym (flights_in-push d.journal v ∙ append-nil (flights_in d.journal))) sound.names
-
       few : (v : Update) → refusal_of d.airport d.journal v ≡ None → length (flights_in (d.journal ++ v ∷ [])) ≤ 2000
       few (Flt f p) ok = let less = (flt-accepted d sound f p ok).1 in rw (flights_in-push d.journal (Flt f p)) (simp length-append (omega arith))
       few v ok = subst (λ (l : List (List ℕ)). length l ≤ 2000) (sym (flights_in-push d.journal v ∙ append-nil (flights_in d.journal))) sound.few

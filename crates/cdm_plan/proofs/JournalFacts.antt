@@ -1,8 +1,8 @@
 -- The flights that a journal makes known, and what no word refuses.
-use Rattle.std.proofs.Common.{◌≡◌, ℕ, ◌+◌, Bool, true, false, ◌&&◌, List, [], ◌∷◌, ◌++◌, length, Option, None, Some, refl, sym, ap, ◌∙◌, arith}
-use Rattle.cdm_plan.proofs.ListWords.{count_by, option_map_or, option_or, if◌then◌else◌, cons_option, filter_map-append}
+use Rattle.std.proofs.Common.{◌≡◌, ℕ, ◌+◌, Bool, true, false, cond, ◌&&◌, ◌||◌, List, [], ◌∷◌, ◌++◌, length, Option, None, Some, refl, sym, ap, ◌∙◌, subst, arith}
+use Rattle.cdm_plan.proofs.ListWords.{count_by, option_map_or, option_or, if◌then◌else◌, list_any, cons_option, IsDistinct, IsDistinct-push, append-nil, filter_map-append, nat_list_eq_equiv}
 use Rattle.cdm_plan.proofs.PlanWords.{Update, flight_of_update, is_fresh, same_reach, AirportRows, flight_refusal, is_disordered, is_full, is_known, is_unknown, refusal_of}
-use Rattle.cdm_plan.proofs.PlanWords.{new_flight, flights_in, same_is, same_name, Flt}
+use Rattle.cdm_plan.proofs.PlanWords.{new_flight, flights_in, of_flight, reach_of, same_is, same_name, Flt}
 use Rattle.std.proofs.lemmas.Grind.{common_steps}
 use Rattle.cdm_flight.specs.declared.reach.Reach.{Reach}
 use Rattle.cdm_flight.specs.declared.reach.Reach.TheVariants as reach
@@ -40,6 +40,20 @@ pub length-flights_in : (a : List Update) → length (flights_in a) ≡ count_by
 length-flights_in [] = refl
 length-flights_in (u ∷ a) = one_more u (flights_in a) ∙ (ap (λ n. n + (if is_fresh u then 1 else 0)) (length-flights_in a) ∙ sym (count_by-cons is_fresh u a))
 
+-- a flight is known where it is among those that were made known
+pub known-among : (a : List Update) (f : List ℕ) → is_known a f ≡ list_any (same_name f) (flights_in a)
+known-among [] f = refl
+known-among (Flt g p ∷ a) f = by (same_name g f) ∙ λ i. nat_list_eq_equiv.symm g f i || known-among a f i
+  where
+    by : (b : Bool) → list_any is_fresh (cond b (Flt g p ∷ of_flight f a) (of_flight f a)) ≡ (b || is_known a f)
+    by true = refl
+    by false = refl
+known-among (u ∷ a) f = by (same_reach (reach_of u) (reach.Flight f)) ∙ known-among a f
+  where
+    by : (b : Bool) → list_any is_fresh (cond b (u ∷ of_flight f a) (of_flight f a)) ≡ is_known a f
+    by true = refl
+    by false = refl
+
 -- What no word refuses.
 
 pub record IsAccepted (g : AirportRows) (a : List Update) (u : Update) : Type 0 where
@@ -64,3 +78,10 @@ accepted_is g a u good =
     let ordered = not_first (is_disordered g a u) word.Order _ (or_last (flight_refusal g a u) _ new.1) in
     let room = not_first (is_full g a u) word.Full _ ordered.1 in
     record { known = known.0; new = new.0; ordered = ordered.0; room = room.0 }
+
+-- each flight becomes known once
+pub names_after : (g : AirportRows) (a : List Update) (u : Update) → refusal_of g a u ≡ None → IsDistinct same_name (flights_in a) → IsDistinct same_name (flights_in (a ++ u ∷ []))
+names_after g a (Flt f p) good own =
+    subst (λ (l : List (List ℕ)). IsDistinct same_name l) (sym (flights_in-push a (Flt f p)))
+    (IsDistinct-push nat_list_eq_equiv (flights_in a) f own (sym (known-among a f) ∙ (accepted_is g a (Flt f p) good).new))
+names_after g a u good own = subst (λ (l : List (List ℕ)). IsDistinct same_name l) (sym (flights_in-push a u ∙ append-nil (flights_in a))) own

@@ -14,7 +14,7 @@ pub use Rattle.cdm_plan.specs.Day.{new_flight}
 pub use Rattle.cdm_flight.proofs.JournalLemmas.{flight_of-untouched, status_of-record, taxi_of-untouched, values_of-untouched}
 pub use Rattle.cdm_flight.specs.Accepted.{flight_refusal, has_runway, is_disordered, is_full, is_unknown}
 unfoldable pub use Rattle.cdm_flight.specs.Accepted.{refusal_of}
-pub use Rattle.cdm_flight.specs.Journal.{AirportRows, cap_given, closed_given, is_known, last_value, runway_row, taxi_of, values_of}
+pub use Rattle.cdm_flight.specs.Journal.{AirportRows, cap_given, closed_given, is_known, last_value, of_flight, runway_row, taxi_of, values_of}
 unfoldable pub use Rattle.cdm_flight.specs.Journal.{flight_of}
 pub use Rattle.cdm_flight.specs.Names.{name_cmp, same_name}
 pub use Rattle.cdm_flight.specs.Record.{Record, is_planned}

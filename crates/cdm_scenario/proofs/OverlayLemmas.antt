@@ -13,36 +13,38 @@ use Rattle.std.proofs.lemmas.Option.{get_or_from_slice_get, slice_get-map, slice
 use Rattle.indexmap.specs.IndexMap.{get, Updates}
 use Rattle.cdm_flight.specs.declared.airport.RunwayRow.{RunwayRow}
 use Rattle.cdm_flight.specs.declared.place.Place.{Place}
+use Rattle.cdm_flight.specs.declared.reach.Reach.TheVariants as reach
 use Rattle.cdm_flight.specs.declared.update.Update.{Update}
-use Rattle.cdm_flight.specs.declared.update.Update.TheVariants.{Flt, Rate, Close, Reopen, Taxi, Clock}
+use Rattle.cdm_flight.specs.declared.update.Update.TheVariants.{Flt, Rate, Close, Reopen, Taxi}
+use Rattle.cdm_flight.specs.declared.values.DayValues.{DayValues}
 use Rattle.cdm_flight.specs.Names.{same_name}
+use Rattle.cdm_flight.specs.Reach.{reach_of, same_reach}
 use Rattle.cdm_flight.specs.Record.{Record, fresh}
-use Rattle.cdm_flight.specs.Step.{flight_of_update, is_fresh}
+use Rattle.cdm_flight.specs.Step.{is_fresh}
 use Rattle.cdm_flight.specs.Taxi.{TaxiRows}
-use Rattle.cdm_flight.specs.Journal.{AirportRows, is_known, sets_cap, sets_closed, sets_taxi, sets_now, flight_of, now_of, runway_row}
-use Rattle.cdm_flight.specs.Accepted.{is_unknown, refusal_of, stand_with_taxi}
-use Rattle.cdm_flight.proofs.JournalLemmas.{last_value-push, flight_of-untouched, flight_of-fresh, same_name-refl}
+use Rattle.cdm_flight.specs.Journal.{AirportRows, is_known, flight_of, runway_row, values_of}
+use Rattle.cdm_flight.specs.Accepted.{is_unknown, refusal_of}
+use Rattle.cdm_flight.proofs.JournalLemmas.{flight_of-untouched, flight_of-fresh, same_name-refl, values_of-untouched}
 use Rattle.cdm_runway.specs.Rules.{RunwayRules, with_closed, with_rate}
 use Rattle.cdm_plan.specs.Day.{DayRecord, flights_in, rules_of, rules_in, rows_by_name}
 use Rattle.cdm_day.specs.Runways.{has_window, with_change}
 use Rattle.cdm_plan.specs.Sound.{IsSound, TellTaxi}
 use Rattle.cdm_day.specs.inner.Tables.{Flights}
-use Rattle.cdm_day.specs.inner.Kinds.{is_of_runway, is_taxi, window_end}
 use Rattle.cdm_day.specs.TaxiRows.{row_fits, with_row}
 use Rattle.cdm_plan.proofs.DayPlanLemmas.{record_name}
-use Rattle.cdm_day.proofs.FlightLemmas.{flights-old, fresh-none, touches-none}
-use Rattle.cdm_plan.proofs.JournalFacts.{clock-of_flight, cap-of_flight, closed-of_flight, taxi-of_flight, stand-of_flight, flights_in-push, now_of-same}
+use Rattle.cdm_day.proofs.FlightLemmas.{flights-old, fresh-none}
+use Rattle.cdm_plan.proofs.JournalFacts.{flights_in-push, known-among}
 use Rattle.cdm_plan.proofs.NameLemmas.{all_at, find_some, rows_permutation}
 use Rattle.cdm_day.proofs.RunwayLemmas.{row_of_name}
 use Rattle.cdm_plan.proofs.RunwayLemmas.{rules-same}
-use Rattle.cdm_day.proofs.SoundLemmas.{known-among, known_update, sound_after}
+use Rattle.cdm_day.proofs.SoundLemmas.{known_update, sound_after}
 use Rattle.cdm_day.proofs.TableLemmas.{row_there, taxi_after_other, taxi_after_taxi}
-use Rattle.cdm_day.proofs.WindowLemmas.{rules-after, windows_by_name, window-of_no_flight, window-no_clock, window-no_taxi, window-no_stand}
+use Rattle.cdm_day.proofs.WindowLemmas.{rules-after, window_end, windows_by_name}
 use Rattle.cdm_day.proofs.WordLemmas.{flt-accepted, known_from, known_is}
-use Rattle.cdm_scenario.specs.inner.Changed.{Runways, TaxiOver, TellChanged, window_runway}
+use Rattle.cdm_scenario.specs.inner.Changed.{Runways, TaxiOver, TellChanged}
 
 -- an update of one runway leaves another
-with_change-other : (u : Update) (r : List ℕ) (rules : RunwayRules) → window_runway u ≡ Some r → same_name rules.name r ≡ false → with_change u rules ≡ rules
+with_change-other : (u : Update) (r : List ℕ) (rules : RunwayRules) → reach_of u ≡ reach.Runway r → same_name rules.name r ≡ false → with_change u rules ≡ rules
 with_change-other (Rate s from to cap) r rules h apart = let same : s ≡ r = cc in ap (λ b. if b then with_rate rules from to cap else rules) (ap (same_name rules.name) same ∙ apart)
 with_change-other (Close s from to) r rules h apart = let same : s ≡ r = cc in ap (λ b. if b then with_closed rules from to true else rules) (ap (same_name rules.name) same ∙ apart)
 with_change-other (Reopen s from to) r rules h apart = let same : s ≡ r = cc in ap (λ b. if b then with_closed rules from to false else rules) (ap (same_name rules.name) same ∙ apart)
@@ -66,7 +68,8 @@ slice_get-back (x ∷ xs) ys (suc i) h = let same : i - length xs ≡ suc i - le
 
 -- The names of a day's flights are those of their records.
 
-name_at_place : (d : DayRecord) → IsSound d → (i : ℕ) (o : Option Record) → o ≡ option_and_then (flight_of d.airport d.journal) (slice_get (flights_in d.journal) i) → option_map (λ r. r.name) o ≡ slice_get (flights_in d.journal) i
+name_at_place : (d : DayRecord) → IsSound d → (i : ℕ) (o : Option Record) → o ≡ option_and_then (flight_of d.airport d.journal) (slice_get (flights_in d.journal) i)
+    → option_map (λ r. r.name) o ≡ slice_get (flights_in d.journal) i
 name_at_place d sound i o at = ap (option_map (λ (r : Record). r.name)) at ∙ by (slice_get (flights_in d.journal) i) refl
   where
     by_record : (k : List ℕ) (q : Option Record) → flight_of d.airport d.journal k ≡ q → is_some q ≡ true → option_map (λ r. r.name) q ≡ Some k
@@ -75,24 +78,27 @@ name_at_place d sound i o at = ap (option_map (λ (r : Record). r.name)) at ∙ 
 
     by : (o : Option (List ℕ)) → slice_get (flights_in d.journal) i ≡ o → option_map (λ r. r.name) (option_and_then (flight_of d.airport d.journal) o) ≡ o
     by None e = refl
-    by (Some k) e = by_record k (flight_of d.airport d.journal k) refl (sym (known_is d sound k) ∙ (known-among d.journal k ∙ any_passes_from_place (same_name k) (flights_in d.journal) i k e (same_name-refl k)))
+    by (Some k) e =
+        by_record k (flight_of d.airport d.journal k) refl (sym (known_is d sound k) ∙ (known-among d.journal k ∙ any_passes_from_place (same_name k) (flights_in d.journal) i k e (same_name-refl k)))
 
 -- Nothing laid over.
 
-pub over_nothing : (d : DayRecord) (items : List Update) (m : Flights) (new : List (List ℕ)) (own : Runways) (now : ℕ) → IsSound d → items ≡ [] → m.entries ≡ [] → new ≡ [] → own.entries ≡ [] → now ≡ now_of d.journal
-    → TellChanged d.airport d.journal (d.journal ++ items) m new own None now
-over_nothing d items m new own now sound none no_flights no_new no_runways clock =
+pub over_nothing : (d : DayRecord) (items : List Update) (m : Flights) (new : List (List ℕ)) (own : Runways) (values : DayValues) → IsSound d → items ≡ [] → m.entries ≡ []
+    → new ≡ [] → own.entries ≡ [] → values ≡ values_of d.journal
+    → TellChanged d.airport d.journal (d.journal ++ items) m new own None values
+over_nothing d items m new own values sound none no_flights no_new no_runways day =
     let same : d.journal ++ items ≡ d.journal = ap (λ l. d.journal ++ l) none ∙ append-nil d.journal in
-    subst (λ (e : List Update). TellChanged d.airport d.journal e m new own None now) (sym same) (record {
+    subst (λ (e : List Update). TellChanged d.airport d.journal e m new own None values) (sym same) (record {
       sound = sound;
       flights = λ f. ap (λ es. option_or (lookup (same_name f) es) (flight_of d.airport d.journal f)) (sym no_flights);
       order = sym (ap (λ l. flights_in d.journal ++ l) no_new ∙ append-nil (flights_in d.journal));
       runways = λ row i. ap (λ es. unwrap_or (lookup (same_name row.name) es) (rules_of d.airport d.journal row)) (sym no_runways);
       taxi = λ base told. told;
-      clock = clock;
+      day = day;
     })
 
-module _ {g : AirportRows} {a e : List Update} {m : Flights} {new : List (List ℕ)} {own : Runways} {rows : Option TaxiRows} {now : ℕ} (told : TellChanged g a e m new own rows now) where
+module _ {g : AirportRows} {a e : List Update} {m : Flights} {new : List (List ℕ)} {own : Runways} {rows : Option TaxiRows} {values : DayValues}
+    (told : TellChanged g a e m new own rows values) where
   -- The taxi times that count.
 
   pub taxi_now : (base : TaxiRows) → TellTaxi g a base → TellTaxi g e (unwrap_or rows base)
@@ -115,7 +121,9 @@ module _ {g : AirportRows} {a e : List Update} {m : Flights} {new : List (List �
       by (Some row) h k =
           let is_x : rules_of g a row ≡ x = cc in
           let name : row.name ≡ x.name = sym (name_of_rules g a row) ∙ ap (λ (y : RunwayRules). y.name) is_x in
-          let here = Contains-permutation (rows_by_name g.runways) g.runways row (IsPermutation-sym g.runways (rows_by_name g.runways) (rows_permutation g.runways)) (i, slice_get_within (rows_by_name g.runways) i row h, get_or_from_slice_get (rows_by_name g.runways) i row row h) in
+          let here =
+          Contains-permutation (rows_by_name g.runways) g.runways row (IsPermutation-sym g.runways (rows_by_name g.runways) (rows_permutation g.runways))
+          (i, slice_get_within (rows_by_name g.runways) i row h, get_or_from_slice_get (rows_by_name g.runways) i row row h) in
           ap Some (told.runways row here ∙ (λ j. unwrap_or ((ap (get same_name own) name ∙ sym mine) j) (is_x j)))
 
   -- The name of the flight at a place.
@@ -126,12 +134,14 @@ module _ {g : AirportRows} {a e : List Update} {m : Flights} {new : List (List �
       name_at_place (record { airport = g; journal = a }) sound i o at
       ∙ (sym (ap (λ l. slice_get l i) told.order ∙ slice_get-front (flights_in a) new i below) ∙ ap (λ (d : DayRecord). slice_get (flights_in d.journal) i) is)
 
-  pub new_name : {d : DayRecord} → record { airport = g; journal = e } ≡ d → (i k : ℕ) → length (flights_in a) ≤ i → k ≡ i - length (flights_in a) → slice_get new k ≡ slice_get (flights_in d.journal) i
-  new_name is i k past at = ap (slice_get new) at ∙ (sym (ap (λ l. slice_get l i) told.order ∙ slice_get-back (flights_in a) new i past) ∙ ap (λ (d : DayRecord). slice_get (flights_in d.journal) i) is)
+  pub new_name : {d : DayRecord} → record { airport = g; journal = e } ≡ d → (i k : ℕ) → length (flights_in a) ≤ i → k ≡ i - length (flights_in a)
+      → slice_get new k ≡ slice_get (flights_in d.journal) i
+  new_name is i k past at =
+      ap (slice_get new) at ∙ (sym (ap (λ l. slice_get l i) told.order ∙ slice_get-back (flights_in a) new i past) ∙ ap (λ (d : DayRecord). slice_get (flights_in d.journal) i) is)
 
   -- What an update that no word refuses leaves.
 
-  flights_put : (u : Update) (f : List ℕ) (r : Record) (n : Flights) → flight_of_update u ≡ Some f → Updates same_name m n f (Some r) → flight_of g (e ++ u ∷ []) f ≡ Some r
+  flights_put : (u : Update) (f : List ℕ) (r : Record) (n : Flights) → reach_of u ≡ reach.Flight f → Updates same_name m n f (Some r) → flight_of g (e ++ u ∷ []) f ≡ Some r
       → (q : List ℕ) → flight_of g (e ++ u ∷ []) q ≡ option_or (get same_name n q) (flight_of g a q)
   flights_put u f r n k put says q = by (same_name f q) refl
     where
@@ -140,19 +150,20 @@ module _ {g : AirportRows} {a e : List Update} {m : Flights} {new : List (List �
           let same : f ≡ q = same_text f q (sym h) in
           subst (λ x. flight_of g (e ++ u ∷ []) x ≡ option_or (get same_name n x) (flight_of g a x)) same (says ∙ ap (λ o. option_or o (flight_of g a f)) (sym put.1))
       by false h =
-          flight_of-untouched q g e u (ap (λ o. option_map_or (λ x. same_name x q) o false) k ∙ h)
+          flight_of-untouched q g e u (ap (λ what. same_reach what (reach.Flight q)) k ∙ h)
           ∙ (told.flights q ∙ ap (λ o. option_or o (flight_of g a q)) (sym (put.2 q h)))
 
-  flights_left : (u : Update) → flight_of_update u ≡ None → (q : List ℕ) → flight_of g (e ++ u ∷ []) q ≡ option_or (get same_name m q) (flight_of g a q)
-  flights_left u none q = flight_of-untouched q g e u (touches-none u none q) ∙ told.flights q
+  flights_left : (u : Update) → ((q : List ℕ) → same_reach (reach_of u) (reach.Flight q) ≡ false) → (q : List ℕ)
+      → flight_of g (e ++ u ∷ []) q ≡ option_or (get same_name m q) (flight_of g a q)
+  flights_left u none q = flight_of-untouched q g e u (none q) ∙ told.flights q
 
-  runways_left : (u : Update) → ((r : List ℕ) (t : ℕ) → sets_cap r t u ≡ None) → ((r : List ℕ) (t : ℕ) → sets_closed r t u ≡ None)
+  runways_left : (u : Update) → ((r : List ℕ) → same_reach (reach_of u) (reach.Runway r) ≡ false)
       → (row : RunwayRow) → Contains g.runways row → rules_of g (e ++ u ∷ []) row ≡ unwrap_or (get same_name own row.name) (rules_of g a row)
-  runways_left u caps closed row i = sym (rules-same g e row u (caps row.name) (closed row.name)) ∙ told.runways row i
+  runways_left u none row i = sym (rules-same g e row u (none row.name)) ∙ told.runways row i
 
-  taxi_left : (u : Update) → ((place : Place) (r : List ℕ) → sets_taxi place r u ≡ None) → stand_with_taxi u ≡ None → (o : Option TaxiRows) → TaxiOver g a e o → TaxiOver g a (e ++ u ∷ []) o
-  taxi_left u none stand None over = λ base tell. taxi_after_other g e u base none stand (over base tell)
-  taxi_left u none stand (Some t) over = taxi_after_other g e u t none stand over
+  taxi_left : (u : Update) → ((r : List ℕ) → same_reach (reach_of u) (reach.Taxi r) ≡ false) → (o : Option TaxiRows) → TaxiOver g a e o → TaxiOver g a (e ++ u ∷ []) o
+  taxi_left u none None over = λ base tell. taxi_after_other g e u base none (over base tell)
+  taxi_left u none (Some t) over = taxi_after_other g e u t none over
 
   module _ {d : DayRecord} (is : record { airport = g; journal = e } ≡ d) (u : Update) (good : refusal_of d.airport d.journal u ≡ None) where
     fine : refusal_of g e u ≡ None
@@ -166,18 +177,18 @@ module _ {g : AirportRows} {a e : List Update} {m : Flights} {new : List (List �
 
     -- Another update than FLT, of a flight.
 
-    pub step_known : (f : List ℕ) → flight_of_update u ≡ Some f → is_fresh u ≡ false → is_unknown d.airport d.journal u ≡ not (is_known d.journal f)
+    pub step_known : (f : List ℕ) → reach_of u ≡ reach.Flight f → is_fresh u ≡ false → is_unknown d.airport d.journal u ≡ not (is_known d.journal f)
     step_known f k old = subst (λ (x : DayRecord). is_unknown x.airport x.journal u ≡ not (is_known x.journal f)) is (there ∙ sym (ap not (known_from g e f u k old there)))
 
-    pub over_step : (f : List ℕ) (r : Record) (n : Flights) → flight_of_update u ≡ Some f → is_fresh u ≡ false
-        → flight_of d.airport (d.journal ++ u ∷ []) f ≡ Some r → Updates same_name m n f (Some r) → TellChanged g a (e ++ u ∷ []) n new own rows now
+    pub over_step : (f : List ℕ) (r : Record) (n : Flights) → reach_of u ≡ reach.Flight f → is_fresh u ≡ false
+        → flight_of d.airport (d.journal ++ u ∷ []) f ≡ Some r → Updates same_name m n f (Some r) → TellChanged g a (e ++ u ∷ []) n new own rows values
     over_step f r n k old says put = record {
       sound = sound;
       flights = flights_put u f r n k put (subst (λ (x : DayRecord). flight_of x.airport (x.journal ++ u ∷ []) f ≡ Some r) (sym is) says);
       order = flights-old e u old ∙ told.order;
-      runways = runways_left u (λ s t. cap-of_flight f s t u k) (λ s t. closed-of_flight f s t u k);
-      taxi = taxi_left u (λ place s. taxi-of_flight f place s u k) (stand-of_flight f u k) rows told.taxi;
-      clock = told.clock ∙ sym (now_of-same e u (clock-of_flight f u k));
+      runways = runways_left u (λ r. ap (λ what. same_reach what (reach.Runway r)) k);
+      taxi = taxi_left u (λ r. ap (λ what. same_reach what (reach.Taxi r)) k) rows told.taxi;
+      day = told.day ∙ sym (values_of-untouched e u (ap (λ what. same_reach what reach.Day) k));
     }
 
     -- A TAXI.
@@ -187,16 +198,7 @@ module _ {g : AirportRows} {a e : List Update} {m : Flights} {new : List (List �
 
     -- A RATE, CLOSE or OPEN, where x is the base's runway.
 
-    module _ {r : List ℕ} (of : window_runway u ≡ Some r) where
-      is_window : is_of_runway u ≡ true
-      is_window = by u of
-        where
-          by : (v : Update) → window_runway v ≡ Some r → is_of_runway v ≡ true
-          by (Rate s from to most) h = refl
-          by (Close s from to) h = refl
-          by (Reopen s from to) h = refl
-          by _ h = cc
-
+    module _ {r : List ℕ} (of : reach_of u ≡ reach.Runway r) where
       pub runway_there : option_map (rules_of g a) (runway_row g r) ≡ None → ⊥
       runway_there none = by u of there
         where
@@ -211,7 +213,7 @@ module _ {g : AirportRows} {a e : List Update} {m : Flights} {new : List (List �
           first true c k = cc
           first false c k = refl
 
-          by : (v : Update) → window_runway v ≡ Some r → is_unknown g e v ≡ false → ⊥
+          by : (v : Update) → reach_of v ≡ reach.Runway r → is_unknown g e v ≡ false → ⊥
           by (Rate s from to most) h k = let same : s ≡ r = cc in named s same (first _ false k)
           by (Close s from to) h k = let same : s ≡ r = cc in named s same (first _ false k)
           by (Reopen s from to) h k = let same : s ≡ r = cc in named s same (first _ false k)
@@ -224,7 +226,9 @@ module _ {g : AirportRows} {a e : List Update} {m : Flights} {new : List (List �
       module _ (x : RunwayRules) (at : option_map (rules_of g a) (runway_row g r) ≡ Some x) where
         here : (row : RunwayRow) → Contains g.runways row → row.name ≡ r → rules_of g e row ≡ unwrap_or (get same_name own r) x
         here row i name =
-            let found : runway_row g r ≡ Some row = all_at (λ (y : RunwayRow). (n : List ℕ) → same_name y.name n ≡ true → runway_row g n ≡ Some y) g.runways (row_of_name g.runways told.sound.airport.names) row i r (ap (λ n. same_name n r) name ∙ same_name-refl r) in
+            let found : runway_row g r ≡ Some row =
+            all_at (λ (y : RunwayRow). (n : List ℕ) → same_name y.name n ≡ true → runway_row g n ≡ Some y) g.runways
+            (row_of_name g.runways told.sound.airport.names) row i r (ap (λ n. same_name n r) name ∙ same_name-refl r) in
             let is_x : rules_of g a row ≡ x = some_same (sym (ap (option_map (rules_of g a)) found) ∙ at) in
             told.runways row i ∙ (λ j. unwrap_or (get same_name own (name j)) (is_x j))
           where
@@ -240,16 +244,20 @@ module _ {g : AirportRows} {a e : List Update} {m : Flights} {new : List (List �
                 let found = find_some (λ (y : RunwayRow). same_name y.name r) g.runways row h in
                 ap (has_window u) (sym (here row found.0 (same_text row.name r (sym found.1)))) ∙ has row found.0
 
-        pub over_window : (mine : Runways) → window_end u ≤ 2880 → Updates same_name own mine r (Some (with_change u (unwrap_or (get same_name own r) x))) → TellChanged g a (e ++ u ∷ []) m new mine rows now
+        pub over_window : (mine : Runways) → window_end u ≤ 2880 → Updates same_name own mine r (Some (with_change u (unwrap_or (get same_name own r) x)))
+            → TellChanged g a (e ++ u ∷ []) m new mine rows values
         over_window mine within put = record {
           sound = sound;
-          flights = flights_left u (window-of_no_flight u is_window);
-          order = flights-old e u (fresh-none u (window-of_no_flight u is_window)) ∙ told.order;
+          flights = flights_left u no_flight;
+          order = flights-old e u (fresh-none u no_flight) ∙ told.order;
           runways = λ row i. by row i (same_name r row.name) refl;
-          taxi = taxi_left u (window-no_taxi u is_window) (window-no_stand u is_window) rows told.taxi;
-          clock = told.clock ∙ sym (now_of-same e u (window-no_clock u is_window));
+          taxi = taxi_left u (λ q. ap (λ what. same_reach what (reach.Taxi q)) of) rows told.taxi;
+          day = told.day ∙ sym (values_of-untouched e u (ap (λ what. same_reach what reach.Day) of));
         }
           where
+            no_flight : (q : List ℕ) → same_reach (reach_of u) (reach.Flight q) ≡ false
+            no_flight q = ap (λ what. same_reach what (reach.Flight q)) of
+
             by : (row : RunwayRow) → Contains g.runways row → (b : Bool) → same_name r row.name ≡ b → rules_of g (e ++ u ∷ []) row ≡ unwrap_or (get same_name mine row.name) (rules_of g a row)
             by row i true h =
                 let same : r ≡ row.name = same_text r row.name (sym h) in
@@ -261,39 +269,43 @@ module _ {g : AirportRows} {a e : List Update} {m : Flights} {new : List (List �
                 ∙ (told.runways row i ∙ ap (λ o. unwrap_or o (rules_of g a row)) (sym (put.2 row.name h))))
 
   -- After an FLT.
-  pub over_flt : {d : DayRecord} (is : record { airport = g; journal = e } ≡ d) (f : List ℕ) (p : ℕ) (n : Flights) → refusal_of d.airport d.journal (Flt f p) ≡ None → Updates same_name m n f (Some (fresh f p))
-      → TellChanged g a (e ++ Flt f p ∷ []) n (new ++ f ∷ []) own rows now
+  pub over_flt : {d : DayRecord} (is : record { airport = g; journal = e } ≡ d) (f : List ℕ) (p : ℕ) (n : Flights) → refusal_of d.airport d.journal (Flt f p) ≡ None
+      → Updates same_name m n f (Some (fresh f p)) → TellChanged g a (e ++ Flt f p ∷ []) n (new ++ f ∷ []) own rows values
   over_flt is f p n good put =
       let unknown = (flt-accepted (record { airport = g; journal = e }) told.sound f p (fine is (Flt f p) good)).0 in
       record {
         sound = sound is (Flt f p) good;
         flights = flights_put (Flt f p) f (fresh f p) n refl put (flight_of-fresh g e f p (told.sound.silent f unknown));
         order = flights_in-push e (Flt f p) ∙ (ap (λ l. l ++ f ∷ []) told.order ∙ append_assoc (flights_in a) new (f ∷ []));
-        runways = runways_left (Flt f p) (λ s t. refl) (λ s t. refl);
-        taxi = taxi_left (Flt f p) (λ place s. refl) refl rows told.taxi;
-        clock = told.clock ∙ sym (now_of-same e (Flt f p) refl);
+        runways = runways_left (Flt f p) (λ r. refl);
+        taxi = taxi_left (Flt f p) (λ r. refl) rows told.taxi;
+        day = told.day ∙ sym (values_of-untouched e (Flt f p) refl);
       }
 
-  -- After a CLOCK.
-  pub over_clock : {d : DayRecord} (is : record { airport = g; journal = e } ≡ d) (t : ℕ) → refusal_of d.airport d.journal (Clock t) ≡ None → TellChanged g a (e ++ Clock t ∷ []) m new own rows t
-  over_clock is t good = record {
-    sound = sound is (Clock t) good;
-    flights = flights_left (Clock t) refl;
-    order = flights-old e (Clock t) refl ∙ told.order;
-    runways = runways_left (Clock t) (λ s k. refl) (λ s k. refl);
-    taxi = taxi_left (Clock t) (λ place s. refl) refl rows told.taxi;
-    clock = ap (λ o. unwrap_or o 0) (sym (last_value-push sets_now e (Clock t)));
+  -- After an update of the day.
+  pub over_values : {d : DayRecord} (is : record { airport = g; journal = e } ≡ d) (u : Update) (after : DayValues) → refusal_of d.airport d.journal u ≡ None
+      → reach_of u ≡ reach.Day → values_of (e ++ u ∷ []) ≡ after → TellChanged g a (e ++ u ∷ []) m new own rows after
+  over_values is u after good of says = record {
+    sound = sound is u good;
+    flights = flights_left u no_flight;
+    order = flights-old e u (fresh-none u no_flight) ∙ told.order;
+    runways = runways_left u (λ r. ap (λ what. same_reach what (reach.Runway r)) of);
+    taxi = taxi_left u (λ r. ap (λ what. same_reach what (reach.Taxi r)) of) rows told.taxi;
+    day = sym says;
   }
+    where
+      no_flight : (q : List ℕ) → same_reach (reach_of u) (reach.Flight q) ≡ false
+      no_flight q = ap (λ what. same_reach what (reach.Flight q)) of
 
   -- After a TAXI.
-  pub over_taxi : {d : DayRecord} (is : record { airport = g; journal = e } ≡ d) (u : Update) (base : TaxiRows) → refusal_of d.airport d.journal u ≡ None → is_taxi u ≡ true → TellTaxi g a base
-      → TellChanged g a (e ++ u ∷ []) m new own (Some (with_row u (unwrap_or rows base))) now
-  over_taxi is (Taxi p s x) base good taxi tell = record {
+  pub over_taxi : {d : DayRecord} (is : record { airport = g; journal = e } ≡ d) (p : Place) (s : List ℕ) (x : ℕ) (base : TaxiRows)
+      → refusal_of d.airport d.journal (Taxi p s x) ≡ None → TellTaxi g a base
+      → TellChanged g a (e ++ Taxi p s x ∷ []) m new own (Some (with_row (Taxi p s x) (unwrap_or rows base))) values
+  over_taxi is p s x base good tell = record {
     sound = sound is (Taxi p s x) good;
-    flights = flights_left (Taxi p s x) refl;
+    flights = flights_left (Taxi p s x) (λ q. refl);
     order = flights-old e (Taxi p s x) refl ∙ told.order;
-    runways = runways_left (Taxi p s x) (λ s k. refl) (λ s k. refl);
+    runways = runways_left (Taxi p s x) (λ r. refl);
     taxi = taxi_after_taxi g e p s x (unwrap_or rows base) (taxi_now base tell);
-    clock = told.clock ∙ sym (now_of-same e (Taxi p s x) refl);
+    day = told.day ∙ sym (values_of-untouched e (Taxi p s x) refl);
   }
-  over_taxi is _ base good taxi tell = cc

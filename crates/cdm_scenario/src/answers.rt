@@ -75,6 +75,6 @@ pub fn answer_all<R: Threads + Sync, G: Gate>(
         AllZip (λ scenario outcome. IsOutcome base.now scenario.updates outcome) scenarios.now outcomes.items) }
 {
     // What the base's records tell is sound, which makes each answer the only one.
-    let _now = base.now();
+    let _values = base.values();
     run_phase(rt, alloc, workers, 1, &AnswerJob { base }, scenarios, gate)
 }

@@ -1,22 +1,17 @@
 //! Further updates laid over the state of a day.
-ghost use Rattle.std.specs.Prelude.{◌≡◌, ◌≤◌, true, false, None, Some, IfOk, OnOk, OnErr};
-ghost use Rattle.cdm_flight.specs.declared.update.Update.TheVariants as kind;
-ghost use Rattle.cdm_flight.specs.Step.{flight_of_update, is_fresh};
+ghost use Rattle.std.specs.Prelude.{◌≡◌, None, IfOk, OnOk, OnErr};
 ghost use Rattle.cdm_flight.specs.Accepted.{refusal_of};
 ghost use Rattle.cdm_plan.specs.Day.{with_update};
 ghost use Rattle.cdm_day.specs.Replies.{reply_of};
-ghost use Rattle.cdm_day.specs.inner.Kinds.{is_taxi, window_end};
 ghost use Rattle.cdm_scenario.specs.Overlay.{after_judged};
-ghost use Rattle.cdm_scenario.specs.inner.Changed.{window_runway};
 
 mod records;
 
 use crate::changes::{change_over, set_over};
 use cdm_day::{DayState, Records, Reply, flight_after, judge, runway_named};
-use cdm_flight::{Flight, FlightName, Priority, RunwayName, Update, push_reserved};
+use cdm_flight::{DayValues, Flight, FlightName, RunwayName, Update, push_reserved};
 use cdm_runway::Runway;
 use cdm_taxi::TaxiTable;
-use cdm_time::Minute;
 use indexmap::IndexMap;
 use std::alloc::{AllocError, Global};
 use std::marker::Model;
@@ -28,7 +23,7 @@ use std::marker::Model;
 pub struct Overlay<'a> {
     base: &'a DayState,
     accepted: Vec<Update>,
-    clock: Minute,
+    values: DayValues,
     // The flights that were changed or made known.
     flights: IndexMap<FlightName, Flight>,
     // Those that were made known, which stand behind the base's.
@@ -54,7 +49,7 @@ impl<'a> Model for Overlay<'a> {
     ghost view = { λ o. with_updates o.base.now o.accepted.items };
 
     ghost invariant = { λ o. TellChanged o.base.now.airport o.base.now.journal (o.base.now.journal ++ o.accepted.items)
-        o.flights o.new_flights.items o.runways o.taxi o.clock };
+        o.flights o.new_flights.items o.runways o.taxi o.values };
 }
 
 impl<'a> Overlay<'a> {
@@ -65,7 +60,7 @@ impl<'a> Overlay<'a> {
         Overlay {
             base,
             accepted: Vec::new(alloc),
-            clock: base.now(),
+            values: base.values(),
             flights: IndexMap::new(alloc),
             new_flights: Vec::new(alloc),
             runways: IndexMap::new(alloc),
@@ -95,102 +90,41 @@ impl<'a> Overlay<'a> {
         ensures ok { OnOk result (self.new ≡ with_update self.old update) }
         ensures err { OnErr result (self.new ≡ self.old) }
     {
+        self.accepted.reserve(1)?;
         match update {
-            Update::Flt { flight, priority } => self.take_new(flight, priority),
+            Update::Flt { flight, priority } => {
+                self.new_flights.reserve(1)?;
+                self.flights
+                    .insert(flight, Flight::fresh(flight, priority))?;
+                push_reserved(&mut self.new_flights, flight);
+            }
+            Update::Tobt { flight, .. }
+            | Update::Stand { flight, .. }
+            | Update::Rwy { flight, .. }
+            | Update::Ctot { flight, .. }
+            | Update::Ice { flight, .. }
+            | Update::Prio { flight, .. }
+            | Update::Off { flight, .. }
+            | Update::Air { flight, .. }
+            | Update::Cnl { flight } => {
+                let Ok(next) = flight_after(self, flight, &update) else {
+                    unreachable!()
+                };
+                self.flights.insert(flight, next)?;
+            }
             Update::Rate { runway, to, .. }
             | Update::Close { runway, to, .. }
             | Update::Reopen { runway, to, .. } => {
                 prove!(to.get() <= 2_880);
-                self.take_on_runway(alloc, runway, update)
-            }
-            Update::Taxi { .. } => self.take_taxi(alloc, update),
-            Update::Clock { now } => self.take_clock(now),
-            _ => {
-                let Some(flight) = update.flight() else {
+                let Some(known) = runway_named(self.base, runway) else {
                     unreachable!()
                 };
-                self.take_of_flight(flight, update)
+                change_over(alloc, &mut self.runways, runway, known, &update)?;
             }
+            Update::Taxi { .. } => set_over(alloc, &mut self.taxi, self.base.taxi(), &update)?,
+            Update::Clock { .. } => self.values = self.values.after(&update),
         }
-    }
-
-    // Takes an FLT.
-    fn take_new(&mut self, flight: FlightName, priority: Priority) -> Result<(), AllocError>
-        requires { refusal_of self.old.airport self.old.journal (kind.Flt flight priority) ≡ None }
-        ensures ok { OnOk result (self.new ≡ with_update self.old (kind.Flt flight priority)) }
-        ensures err { OnErr result (self.new ≡ self.old) }
-    {
-        self.accepted.reserve(1)?;
-        self.new_flights.reserve(1)?;
-        self.flights
-            .insert(flight, Flight::fresh(flight, priority))?;
-        push_reserved(&mut self.new_flights, flight);
-        push_reserved(&mut self.accepted, Update::Flt { flight, priority });
-        Ok(())
-    }
-
-    // Takes another update of a flight.
-    fn take_of_flight(&mut self, flight: FlightName, update: Update) -> Result<(), AllocError>
-        requires of_flight { flight_of_update update ≡ Some flight }
-        requires old { is_fresh update ≡ false }
-        requires good { refusal_of self.old.airport self.old.journal update ≡ None }
-        ensures ok { OnOk result (self.new ≡ with_update self.old update) }
-        ensures err { OnErr result (self.new ≡ self.old) }
-    {
-        let Ok(next) = flight_after(self, flight, &update) else {
-            unreachable!()
-        };
-        self.accepted.reserve(1)?;
-        self.flights.insert(flight, next)?;
         push_reserved(&mut self.accepted, update);
-        Ok(())
-    }
-
-    // Takes a RATE, CLOSE or OPEN.
-    fn take_on_runway(
-        &mut self,
-        alloc: Global,
-        runway: RunwayName,
-        update: Update,
-    ) -> Result<(), AllocError>
-        requires of_runway { window_runway update ≡ Some runway }
-        requires within { window_end update ≤ 2880 }
-        requires good { refusal_of self.old.airport self.old.journal update ≡ None }
-        ensures ok { OnOk result (self.new ≡ with_update self.old update) }
-        ensures err { OnErr result (self.new ≡ self.old) }
-    {
-        let Some(known) = runway_named(self.base, runway) else {
-            unreachable!()
-        };
-        self.accepted.reserve(1)?;
-        change_over(alloc, &mut self.runways, runway, known, &update)?;
-        push_reserved(&mut self.accepted, update);
-        Ok(())
-    }
-
-    // Takes a TAXI.
-    fn take_taxi(&mut self, alloc: Global, update: Update) -> Result<(), AllocError>
-        requires taxi { is_taxi update ≡ true }
-        requires good { refusal_of self.old.airport self.old.journal update ≡ None }
-        ensures ok { OnOk result (self.new ≡ with_update self.old update) }
-        ensures err { OnErr result (self.new ≡ self.old) }
-    {
-        let base = self.base;
-        self.accepted.reserve(1)?;
-        set_over(alloc, &mut self.taxi, base.taxi(), &update)?;
-        push_reserved(&mut self.accepted, update);
-        Ok(())
-    }
-
-    // Takes a CLOCK.
-    fn take_clock(&mut self, now: Minute) -> Result<(), AllocError>
-        requires { refusal_of self.old.airport self.old.journal (kind.Clock now) ≡ None }
-        ensures ok { OnOk result (self.new ≡ with_update self.old (kind.Clock now)) }
-        ensures err { OnErr result (self.new ≡ self.old) }
-    {
-        self.accepted.reserve(1)?;
-        self.clock = now;
-        push_reserved(&mut self.accepted, Update::Clock { now });
         Ok(())
     }
 }

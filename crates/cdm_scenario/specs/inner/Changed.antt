@@ -7,21 +7,14 @@ use Rattle.std.specs.declared.hash.BuildHasherDefault.{BuildHasherDefault}
 use Rattle.indexmap.specs.IndexMap.{IndexMap, get}
 use Rattle.cdm_flight.specs.declared.airport.RunwayRow.{RunwayRow}
 use Rattle.cdm_flight.specs.declared.update.Update.{Update}
-use Rattle.cdm_flight.specs.declared.update.Update.TheVariants.{Rate, Close, Reopen}
+use Rattle.cdm_flight.specs.declared.values.DayValues.{DayValues}
 use Rattle.cdm_flight.specs.Names.{same_name}
 use Rattle.cdm_flight.specs.Taxi.{TaxiRows}
-use Rattle.cdm_flight.specs.Journal.{AirportRows, now_of, flight_of}
+use Rattle.cdm_flight.specs.Journal.{AirportRows, flight_of, values_of}
 use Rattle.cdm_runway.specs.Rules.{RunwayRules}
 use Rattle.cdm_plan.specs.Day.{flights_in, rules_of}
 use Rattle.cdm_plan.specs.Sound.{IsSound, TellTaxi}
 use Rattle.cdm_day.specs.inner.Tables.{Flights}
-
--- the runway that the update is a RATE, CLOSE or OPEN of
-abbrev pub window_runway : Update → Option (List ℕ)
-window_runway (Rate r from to cap) = Some r
-window_runway (Close r from to) = Some r
-window_runway (Reopen r from to) = Some r
-window_runway _ = None
 
 -- runways by name
 abbrev pub Runways : Type 0
@@ -33,7 +26,8 @@ TaxiOver g a e None = (base : TaxiRows) → TellTaxi g a base → TellTaxi g e b
 TaxiOver g a e (Some own) = TellTaxi g e own
 
 -- over what the journal a says, it says what the longer journal e says
-pub record TellChanged (g : AirportRows) (a e : List Update) (changed : Flights) (new : List (List ℕ)) (own : Runways) (rows : Option TaxiRows) (now : ℕ) : Type 0 where
+pub record TellChanged (g : AirportRows) (a e : List Update) (changed : Flights) (new : List (List ℕ)) (own : Runways) (rows : Option TaxiRows)
+    (values : DayValues) : Type 0 where
   pub sound : IsSound (record { airport = g; journal = e })
   -- the flights that have a record of their own, and the others
   pub flights : (f : List ℕ) → flight_of g e f ≡ option_or (get same_name changed f) (flight_of g a f)
@@ -42,4 +36,4 @@ pub record TellChanged (g : AirportRows) (a e : List Update) (changed : Flights)
   -- the runways that have one of their own, and the others
   pub runways : (row : RunwayRow) → Contains g.runways row → rules_of g e row ≡ unwrap_or (get same_name own row.name) (rules_of g a row)
   pub taxi : TaxiOver g a e rows
-  pub clock : now ≡ now_of e
+  pub day : values ≡ values_of e

@@ -1,47 +1,28 @@
 -- A day has one outcome by further updates.
-use Rattle.std.proofs.Common.{◌≡◌, ℕ, zero, suc, ◌+◌, ◌<◌, ◌≤◌, take, length, get_or, Bool, true, false, ◌||◌, Option, None, Some, List, [], ◌∷◌, ◌++◌, refl, sym, ap, ◌∙◌, subst, add-one, inl, inr, arith}
+use Rattle.std.proofs.Common.{◌≡◌, ℕ, zero, suc, ◌+◌, ◌<◌, ◌≤◌, take, length, get_or, Bool, true, false, ◌||◌, Option, None, Some, List, [], ◌∷◌}
+use Rattle.std.proofs.Common.{◌++◌, refl, sym, ap, ◌∙◌, subst, add-one, inl, inr, arith}
 use Rattle.std.specs.Prelude.{slice_get, if◌then◌else◌}
 use Rattle.std.specs.Option.{option_and_then}
-use Rattle.std.specs.List.{cons_option, list_any, IsDistinct}
+use Rattle.std.specs.List.{cons_option, IsDistinct}
 use Rattle.std.proofs.lemmas.Bool.{cases_lt}
-use Rattle.std.proofs.lemmas.Cmp.{nat_list_eq_equiv}
 use Rattle.std.proofs.lemmas.List.{append_assoc, append-nil}
-use Rattle.std.proofs.lemmas.Map.Keys.{IsDistinct-push}
 use Rattle.std.proofs.lemmas.Option.{slice_get-get_or}
 use Rattle.cdm_flight.specs.declared.update.Update.{Update}
-use Rattle.cdm_flight.specs.declared.update.Update.TheVariants.{Clock, Flt}
+use Rattle.cdm_flight.specs.declared.update.Update.TheVariants.{Clock}
 use Rattle.cdm_flight.specs.declared.word.RefusalWord.{RefusalWord}
-use Rattle.cdm_flight.specs.declared.word.RefusalWord.TheVariants.{Exists}
 use Rattle.cdm_flight.specs.Names.{same_name}
-use Rattle.cdm_flight.specs.Journal.{AirportRows, is_known}
+use Rattle.cdm_flight.specs.Journal.{AirportRows}
 use Rattle.cdm_flight.specs.Accepted.{refusal_of}
 use Rattle.cdm_report.specs.Counts.{counts_of}
 use Rattle.cdm_plan.specs.Airport.{runway_names}
 use Rattle.cdm_plan.specs.Day.{DayRecord, flights_in, with_update}
-use Rattle.cdm_plan.proofs.JournalFacts.{flights_in-push}
+use Rattle.cdm_plan.proofs.JournalFacts.{names_after}
 use Rattle.cdm_plan.proofs.NameLemmas.{all_taken, take-next}
 use Rattle.cdm_plan.proofs.OnePlanLemmas.{one_day_plan}
 use Rattle.cdm_scenario.specs.Overlay.{with_updates}
 use Rattle.cdm_scenario.specs.Outcome.{AreTaken, IsOutcome, word_at}
 use Rattle.cdm_scenario.specs.declared.outcome.Outcome.{Outcome}
 use Rattle.cdm_scenario.specs.declared.outcome.Outcome.TheVariants.{Planned, Refused}
-
--- a flight is known where it is among those that were made known
-known-among : (a : List Update) (f : List ℕ) → is_known a f ≡ list_any (same_name f) (flights_in a)
-known-among [] f = refl
-known-among (Flt g p ∷ a) f = λ i. nat_list_eq_equiv.symm g f i || known-among a f i
-known-among (_ ∷ a) f = known-among a f
-
-first_none : {X : Type 0} (b : Bool) (w : X) (rest : Option X) → (if b then Some w else rest) ≡ None → b ≡ false
-first_none true w rest h = cc
-first_none false w rest h = refl
-
-names_after : (g : AirportRows) (a : List Update) (u : Update) → refusal_of g a u ≡ None → IsDistinct same_name (flights_in a) → IsDistinct same_name (flights_in (a ++ u ∷ []))
-unfolding refusal_of
-names_after g a (Flt f p) good own =
-    subst (λ (l : List (List ℕ)). IsDistinct same_name l) (sym (flights_in-push a (Flt f p)))
-    (IsDistinct-push nat_list_eq_equiv (flights_in a) f own (sym (known-among a f) ∙ first_none (is_known a f) Exists _ good))
-names_after g a u good own = subst (λ (l : List (List ℕ)). IsDistinct same_name l) (sym (flights_in-push a u ∙ append-nil (flights_in a))) own
 
 module _ (d : DayRecord) (us : List Update) where
   pub no_more : d ≡ with_updates d (take 0 us)
@@ -60,7 +41,8 @@ module _ (d : DayRecord) (us : List Update) where
       let u = get_or us k (Clock 0) in
       let at : slice_get us k ≡ Some u = slice_get-get_or us k (Clock 0) (omega arith) in
       let none : refusal_of d.airport (d.journal ++ take k us) u ≡ None = sym (ap (option_and_then (refusal_of d.airport (d.journal ++ take k us))) at) ∙ taken k (omega arith) in
-      subst (λ (x : DayRecord). IsDistinct same_name (flights_in x.journal)) (one_more k u at ∙ ap (λ n. with_updates d (take n us)) (add-one k)) (names_after d.airport (d.journal ++ take k us) u none (names_so_far own taken k (omega arith)))
+      subst (λ (x : DayRecord). IsDistinct same_name (flights_in x.journal)) (one_more k u at ∙ ap (λ n. with_updates d (take n us)) (add-one k))
+      (names_after d.airport (d.journal ++ take k us) u none (names_so_far own taken k (omega arith)))
 
   within : (f : Update → Option RefusalWord) (xs : List Update) (k : ℕ) (w : RefusalWord) → option_and_then f (slice_get xs k) ≡ Some w → k < length xs
   within f [] k w h = cc

@@ -5,10 +5,9 @@ ghost use Rattle.cdm_plan.specs.Sound.{IsSound};
 
 use super::Overlay;
 use cdm_day::Records;
-use cdm_flight::{Flight, FlightName};
+use cdm_flight::{DayValues, Flight, FlightName};
 use cdm_runway::Runway;
 use cdm_taxi::TaxiTable;
-use cdm_time::Minute;
 
 // The name at a place.
 fn name_at(names: &[FlightName], place: usize) -> Option<FlightName>
@@ -69,8 +68,8 @@ impl Records for Overlay<'_> {
         }
     }
 
-    fn now(&self) -> Minute {
-        self.clock
+    fn values(&self) -> DayValues {
+        self.values
     }
 
     fn accepted(&self) -> usize {
