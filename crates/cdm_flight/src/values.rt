@@ -30,20 +30,7 @@ impl DayValues {
     {
         match *update {
             Update::Clock { now } => DayValues { clock: now },
-            Update::Flt { .. }
-            | Update::Tobt { .. }
-            | Update::Stand { .. }
-            | Update::Rwy { .. }
-            | Update::Ctot { .. }
-            | Update::Ice { .. }
-            | Update::Prio { .. }
-            | Update::Off { .. }
-            | Update::Air { .. }
-            | Update::Cnl { .. }
-            | Update::Rate { .. }
-            | Update::Close { .. }
-            | Update::Reopen { .. }
-            | Update::Taxi { .. } => self,
+            _ => self,
         }
     }
 }
