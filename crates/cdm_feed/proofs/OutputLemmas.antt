@@ -4,26 +4,19 @@ use Rattle.std.specs.Prelude.{⊤, if◌then◌else◌, is_none, unwrap_or}
 use Rattle.std.specs.Result.{result_map_both, result_ok}
 use Rattle.std.specs.List.{AllZip, concat, cons_option, list_any, IsDistinct}
 use Rattle.std.specs.Option.{option_map_or}
-use Rattle.std.proofs.lemmas.Cmp.{nat_list_eq_equiv}
-use Rattle.std.proofs.lemmas.List.{append-nil}
-use Rattle.std.proofs.lemmas.Map.Keys.{IsDistinct-push}
 use Rattle.cdm_flight.specs.Accepted.{accepted, after_one, refusal, refusal_of}
-use Rattle.cdm_flight.specs.Authority.{may_make}
-use Rattle.cdm_flight.specs.Journal.{AirportRows, is_known, makes_known}
+use Rattle.cdm_flight.specs.Journal.{AirportRows}
 use Rattle.cdm_flight.specs.Names.{same_name}
 use Rattle.cdm_flight.specs.declared.role.Role.{Role}
 use Rattle.cdm_flight.specs.declared.update.Update.{Update}
-use Rattle.cdm_flight.specs.declared.update.Update.TheVariants.{Flt}
 use Rattle.cdm_flight.specs.declared.word.RefusalWord.{RefusalWord}
-use Rattle.cdm_flight.specs.declared.word.RefusalWord.TheVariants as word
-use Rattle.cdm_sequence.proofs.OrderLemmas.{same_flips}
 use Rattle.cdm_day.specs.Airport.{with_runway, with_taxi}
 use Rattle.cdm_plan.specs.Airport.{IsAirport, runway_names}
 use Rattle.cdm_plan.specs.Day.{DayRecord, flights_in}
-use Rattle.cdm_day.specs.inner.Tables.{new_flight}
 use Rattle.cdm_plan.proofs.OnePlanLemmas.{one_day_plan}
+use Rattle.cdm_day.proofs.BatchLemmas.{good_from}
 use Rattle.cdm_day.proofs.AirportLemmas.{airport_after_runway, airport_after_taxi, airport_without_rows}
-use Rattle.cdm_plan.proofs.JournalFacts.{flights_in-push}
+use Rattle.cdm_plan.proofs.JournalFacts.{names_after}
 use Rattle.cdm_feed.specs.AirportFile.{airport_in, begun, with_record}
 use Rattle.cdm_feed.specs.AirportRecords.{airport_record_of}
 use Rattle.cdm_feed.specs.Fields.{and_then, of_one}
@@ -44,43 +37,11 @@ use Rattle.cdm_feed.specs.declared.airport_record.AirportRecord.TheVariants.{Day
 
 -- Each flight becomes known once.
 
-known-by : (f : List ℕ) (u : Update) → makes_known f u ≡ option_map_or (same_name f) (new_flight u) false
-known-by f (Flt g p) = same_flips g f
-known-by f _ = refl
-
-any-cons : (p : List ℕ → Bool) (o : Option (List ℕ)) (xs : List (List ℕ)) → list_any p (cons_option o xs) ≡ (option_map_or p o false || list_any p xs)
-any-cons p None xs = refl
-any-cons p (Some x) xs = refl
-
-known-names : (f : List ℕ) (a : List Update) → is_known a f ≡ list_any (same_name f) (flights_in a)
-known-names f [] = refl
-known-names f (u ∷ a) =
-    ap (λ (b : Bool). b || is_known a f) (known-by f u)
-    ∙ ap (λ (b : Bool). option_map_or (same_name f) (new_flight u) false || b) (known-names f a)
-    ∙ sym (any-cons (same_name f) (new_flight u) (flights_in a))
-
-fresh-accepted : (g : AirportRows) (a : List Update) (role : Role) (f : List ℕ) (p : ℕ) → refusal g a role (Flt f p) ≡ None → is_known a f ≡ false
-unfolding refusal refusal_of
-fresh-accepted g a role f p h = by (may_make role (Flt f p)) (is_known a f) _ h
-  where
-    by : (may known : Bool) (rest : Option RefusalWord) → (if may then (if known then Some word.Exists else rest) else Some word.Authority) ≡ None → known ≡ false
-    by true true rest h = cc
-    by true false rest h = refl
-    by false known rest h = cc
-
-taken : (g : AirportRows) (a : List Update) (role : Role) (u : Update) → refusal g a role u ≡ None
-    → IsDistinct same_name (flights_in a) → IsDistinct same_name (flights_in (a ++ u ∷ []))
-taken g a role u h own = subst (IsDistinct same_name) (sym (flights_in-push a u)) (by u h)
-  where
-    by : (v : Update) → refusal g a role v ≡ None → IsDistinct same_name (flights_in a ++ cons_option (new_flight v) [])
-    by (Flt f p) h = IsDistinct-push nat_list_eq_equiv (flights_in a) f own (sym (known-names f a) ∙ fresh-accepted g a role f p h)
-    by _ h = subst (IsDistinct same_name) (sym (append-nil (flights_in a))) own
-
 taken-or_not : (g : AirportRows) (a : List Update) (p : Role × Update) → IsDistinct same_name (flights_in a) → IsDistinct same_name (flights_in (after_one g a p))
 taken-or_not g a p own = by (refusal g a p.0 p.1) refl
   where
     by : (o : Option RefusalWord) → refusal g a p.0 p.1 ≡ o → IsDistinct same_name (flights_in (if is_none o then a ++ p.1 ∷ [] else a))
-    by None h = taken g a p.0 p.1 h own
+    by None h = names_after g a p.1 (good_from (record { airport = g; journal = a }) p.0 p.1 h) own
     by (Some word) h = own
 
 pub own_flights : (g : AirportRows) (a : List Update) (batch : List (Role × Update)) → IsDistinct same_name (flights_in a)

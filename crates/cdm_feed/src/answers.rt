@@ -122,7 +122,7 @@ pub(crate) fn push_answers<R: Threads + Sync, G: Gate>(
         × (text.new.items ≡ text.old.items ++ concat answers)) }
 {
     // What the base's records tell is sound, which makes each answer the only one.
-    let _now = base.now();
+    let _values = base.values();
     let job = TextJob { base, counts };
     let answers = run_phase(rt, alloc, workers, 1, &job, scenarios, gate)?;
     push_all(text, &answers)
