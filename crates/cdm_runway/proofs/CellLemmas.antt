@@ -36,15 +36,7 @@ module _ (c : ℕ) (positive : 1 ≤ c) where
           grind (arith, nat_tests)
 
   pub cell_to : (to m : ℕ) → to % c ≡ 0 → nat_lt (m / c) (to / c) ≡ nat_lt m to
-  cell_to to m grid = by (cases_lt m to)
-    where
-      by : (m < to) ⊎ (to ≤ m) → nat_lt (m / c) (to / c) ≡ nat_lt m to
-      by (inl below) =
-          let cell : m / c < to / c = div_below m c (to / c) positive (omega (arith, on_grid to grid)) in
-          grind (arith, nat_tests)
-      by (inr above) =
-          let cell : to / c ≤ m / c = le-div (to / c) m c positive (omega (arith, on_grid to grid)) in
-          grind (arith, nat_tests)
+  cell_to to m grid = let begun = cell_from to m grid in grind (arith, nat_tests)
 
   pub cells_in_order : (n m : ℕ) → n ≤ m → n / c ≤ m / c
   cells_in_order n m below = le-div (n / c) m c positive (omega (arith, div-add-mod' n c))

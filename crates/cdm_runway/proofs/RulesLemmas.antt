@@ -1,24 +1,12 @@
 -- What the rules of a runway say of its minutes.
-use Rattle.std.proofs.Common.{◌≡◌, ℕ, ◌<◌, ◌≤◌, ◌/◌, ◌%◌, Bool, true, false, IsTrue, List, length, arith, ◌∙◌}
+use Rattle.std.proofs.Common.{◌≡◌, ℕ, ◌<◌, ◌≤◌, ◌/◌, ◌%◌, Bool, true, false, List, length, arith, ◌∙◌}
 use Rattle.std.specs.Prelude.{if◌then◌else◌, not, ◌||◌, ◌==◌, nat_le}
 use Rattle.std.proofs.lemmas.Bool.Decides.{nat_tests}
-use Rattle.std.proofs.lemmas.List.{get_or-replicate}
-use Rattle.cdm_flight.specs.Cells.{is_cell_length}
 use Rattle.cdm_flight.specs.Journal.{window_has}
-use Rattle.cdm_runway.specs.Rules.{RunwayRules, AreRules, is_rate_window, plain_rules, with_range, with_rate, with_closed}
+use Rattle.cdm_runway.specs.Rules.{RunwayRules, AreRules, is_rate_window, with_range, with_rate, with_closed}
 use Rattle.cdm_runway.specs.Room.{cap_at, is_closed}
 use Rattle.cdm_runway.proofs.RangeLemmas.{get_or-with_range, length-with_range}
-use Rattle.cdm_runway.proofs.CellLemmas.{cell_length-divides, cell_below, cell_from, cell_to, cells_in_order}
-
--- a new runway has its one capacity at each minute
-pub cap_at-plain_rules : (name : List ℕ) (cell cap m : ℕ) → IsTrue (is_cell_length cell) → m < 2880 → cap_at (plain_rules name cell cap) m ≡ cap
-unfolding plain_rules
-cap_at-plain_rules name cell cap m h below = get_or-replicate (2880 / cell) (m / cell) cap 0 (cell_below cell m h below)
-
--- a new runway is open at each minute
-pub is_closed-plain_rules : (name : List ℕ) (cell cap m : ℕ) → m < 2880 → is_closed (plain_rules name cell cap) m ≡ false
-unfolding plain_rules
-is_closed-plain_rules name cell cap m below = get_or-replicate 2880 m false false below
+use Rattle.cdm_runway.proofs.CellLemmas.{cell_length-divides, cell_from, cell_to, cells_in_order}
 
 -- a rate's window has a minute and begins and ends with a cell
 pub rate_window-says : (cell from to : ℕ) → is_rate_window cell from to ≡ true → (from < to) × (from % cell ≡ 0) × (to % cell ≡ 0)
@@ -29,7 +17,8 @@ pub rate_window-in_order : (cell from to : ℕ) → not (is_rate_window cell fro
 rate_window-in_order cell from to = grind (arith, nat_tests)
 
 -- its cells are cells of the horizon
-pub cells_of_rate_window : (cell : ℕ) (caps : List ℕ) (closed : List Bool) (from to : ℕ) → AreRules cell caps closed → is_rate_window cell from to ≡ true → to ≤ 2880
+pub cells_of_rate_window : (cell : ℕ) (caps : List ℕ) (closed : List Bool) (from to : ℕ) → AreRules cell caps closed → is_rate_window cell from to ≡ true
+    → to ≤ 2880
     → (from / cell ≤ to / cell) × (to / cell ≤ length caps)
 cells_of_rate_window cell caps closed from to rules window within =
     let parts = cell_length-divides cell rules.cell_length in
@@ -37,7 +26,8 @@ cells_of_rate_window cell caps closed from to rules window within =
     (cells_in_order cell parts.0 from to (omega (arith, says.0)), omega (arith, cells_in_order cell parts.0 to 2880 within, rules.cells))
 
 -- after a RATE there are as many cells and minutes as before
-pub are_rules-with_rate : (cell : ℕ) (caps : List ℕ) (closed : List Bool) (from to cap : ℕ) → AreRules cell caps closed → is_rate_window cell from to ≡ true → to ≤ 2880
+pub are_rules-with_rate : (cell : ℕ) (caps : List ℕ) (closed : List Bool) (from to cap : ℕ) → AreRules cell caps closed → is_rate_window cell from to ≡ true
+    → to ≤ 2880
     → AreRules cell (with_range caps (from / cell) (to / cell) cap) closed
 are_rules-with_rate cell caps closed from to cap rules window within =
     let cells = cells_of_rate_window cell caps closed from to rules window within in

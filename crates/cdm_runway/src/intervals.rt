@@ -1,8 +1,8 @@
 //! A value for each place of a row, told by intervals.
-ghost use Rattle.std.specs.Prelude.{◌≡◌, ℕ, ◌<◌, ◌≤◌, ◌+◌, List, true, length, replicate, slice_index_or, nat_lt, nat_le, max, IfOk, OnOk, OnErr, if◌then◌else◌};
-ghost use Rattle.std.specs.List.Sorted.{IsPartitionPoint};
+ghost use Rattle.std.specs.Prelude.{◌≡◌, ℕ, ◌<◌, ◌≤◌, true, length, replicate, slice_index_or, IfOk, OnOk, OnErr, MatchOption, if◌then◌else◌};
+ghost use Rattle.cdm_flight.specs.Journal.{window_has};
 ghost use Rattle.cdm_runway.specs.Rules.{with_range};
-ghost use Rattle.cdm_runway.specs.inner.Intervals.{value_at, end_of, AreInOrder, IsPushed};
+ghost use Rattle.cdm_runway.specs.inner.Intervals.{value_at, end_of, AreInOrder, IsPushed, NoneAfter, IsNext};
 
 use std::alloc::{AllocError, Global};
 use std::marker::Model;
@@ -36,8 +36,8 @@ impl<V> Model for Intervals<V> {
     ghost invariant = { λ a. AreOfRow a.places a.listed.items };
 }
 
-// Puts an interval behind the others. It becomes one with the last of them where that ends at its
-// beginning and has its value.
+// Puts an interval behind the others, unless it has no place. It becomes one with the last of them
+// where that ends at its beginning and has its value.
 fn push_joined<V: Copy + PartialEq>(
     listed: &mut Vec<Interval<V>>,
     next: Interval<V>,
@@ -45,74 +45,60 @@ fn push_joined<V: Copy + PartialEq>(
     requires same { (a b : V) → V.eq a b ≡ true → a ≡ b }
     requires order { AreInOrder 0 listed.old.items }
     requires after { end_of 0 listed.old.items ≤ next.from }
-    requires some { next.from < next.to }
     ensures { OnOk result (IsPushed listed.old.items next listed.new.items) }
 {
-    let mut from = next.from;
-    if let Some(last) = listed.pop() {
-        if last.to == from && last.value == next.value {
-            from = last.from;
-        } else {
-            listed.push(last)?;
-        }
+    if next.from >= next.to {
+        return Ok(());
     }
-    listed.push(Interval { from, ..next })?;
+    if let Some(last) = listed.pop() {
+        if last.to == next.from && last.value == next.value {
+            listed.push(Interval {
+                to: next.to,
+                ..last
+            })?;
+            return Ok(());
+        }
+        listed.push(last)?;
+    }
+    listed.push(next)?;
     Ok(())
 }
 
-// What the intervals say of the places before one.
-fn before<V: Copy + PartialEq>(
-    alloc: Global,
-    listed: &[Interval<V>],
-    from: u16,
-) -> Result<Vec<Interval<V>>, AllocError>
-    requires same { (a b : V) → V.eq a b ≡ true → a ≡ b }
-    requires order { AreInOrder 0 listed.now }
-    ensures order { IfOk result (λ kept. AreInOrder 0 kept.items) }
-    ensures end { IfOk result (λ kept. end_of 0 kept.items ≤ from) }
-    ensures values { IfOk result (λ kept. (k : ℕ) (rest : V) → value_at kept.items k rest ≡
-        (if nat_lt k from then value_at listed.now k rest else rest)) }
-{
-    let mut kept = Vec::new(alloc);
-    for interval in listed {
-        if interval.from < from {
-            let to = interval.to.min(from);
-            push_joined(&mut kept, Interval { to, ..*interval })?;
-        }
-    }
-    Ok(kept)
-}
-
-// Puts behind the others what the intervals say of a place and those after it.
-fn push_from<V: Copy + PartialEq>(
+// Puts behind the others what the intervals say of the places from one up to another.
+fn push_part<V: Copy + PartialEq>(
     kept: &mut Vec<Interval<V>>,
     listed: &[Interval<V>],
+    from: u16,
     to: u16,
 ) -> Result<(), AllocError>
     requires same { (a b : V) → V.eq a b ≡ true → a ≡ b }
     requires kept { AreInOrder 0 kept.old.items }
-    requires end { end_of 0 kept.old.items ≤ to }
+    requires after { end_of 0 kept.old.items ≤ from }
+    requires places { from ≤ to }
     requires order { AreInOrder 0 listed.now }
     ensures order { OnOk result (AreInOrder 0 kept.new.items) }
-    ensures end { OnOk result (end_of 0 kept.new.items ≤ max to (end_of 0 listed.now)) }
+    ensures end { OnOk result (end_of 0 kept.new.items ≤ to) }
     ensures values { OnOk result ((k : ℕ) (rest : V) → value_at kept.new.items k rest ≡
-        (if nat_le to k then value_at listed.now k rest else value_at kept.old.items k rest)) }
+        (if window_has from to k then value_at listed.now k rest else value_at kept.old.items k rest)) }
 {
     for interval in listed {
-        if to < interval.to {
-            let from = interval.from.max(to);
-            push_joined(kept, Interval { from, ..*interval })?;
-        }
+        let part = Interval {
+            from: interval.from.max(from),
+            to: interval.to.min(to),
+            value: interval.value,
+        };
+        push_joined(kept, part)?;
     }
     Ok(())
 }
 
-// The number of the intervals that end at the place or before it.
-fn first_ending_after<V: Copy>(listed: &[Interval<V>], place: u16) -> usize
+// The first of the intervals that end after the place.
+fn first_ending_after<V: Copy>(listed: &[Interval<V>], place: u16) -> Option<Interval<V>>
     requires { AreInOrder 0 listed.now }
-    ensures { IsPartitionPoint (λ i. i.to ≤ place) (λ i. place < i.to) listed.now result }
+    ensures { MatchOption result (NoneAfter listed.now place) (IsNext 0 listed.now place) }
 {
-    listed.partition_point(|interval| interval.to <= place)
+    let first = listed.partition_point(|interval| interval.to <= place);
+    Some(*listed.get(first)?)
 }
 
 impl<V: Copy + PartialEq> Intervals<V> {
@@ -142,7 +128,7 @@ impl<V: Copy + PartialEq> Intervals<V> {
             to: self.places,
             value: self.rest,
         };
-        let Some(next) = self.listed.get(first_ending_after(&self.listed, place)) else {
+        let Some(next) = first_ending_after(&self.listed, place) else {
             return rest;
         };
         if place < next.from {
@@ -153,7 +139,7 @@ impl<V: Copy + PartialEq> Intervals<V> {
         }
         Interval {
             from: place,
-            ..*next
+            ..next
         }
     }
 
@@ -165,11 +151,12 @@ impl<V: Copy + PartialEq> Intervals<V> {
         ensures ok { OnOk result (self.new ≡ with_range self.old from to value) }
         ensures err { OnErr result (self.new ≡ self.old) }
     {
-        let mut listed = before(self.alloc, &self.listed, from)?;
+        let mut listed = Vec::new(self.alloc);
+        push_part(&mut listed, &self.listed, 0, from)?;
         if value != self.rest {
             push_joined(&mut listed, Interval { from, to, value })?;
         }
-        push_from(&mut listed, &self.listed, to)?;
+        push_part(&mut listed, &self.listed, to, self.places)?;
         self.listed = listed;
         Ok(())
     }

@@ -1,5 +1,5 @@
 -- What intervals say of places.
-use Rattle.std.specs.Prelude.{◌≡◌, ℕ, ◌<◌, ◌≤◌, List, [], ◌∷◌, map, if◌then◌else◌}
+use Rattle.std.specs.Prelude.{◌≡◌, ℕ, ◌<◌, ◌≤◌, nat_le, max, List, [], ◌∷◌, map, if◌then◌else◌}
 use Rattle.std.specs.List.{range_with_len}
 use Rattle.cdm_flight.specs.Journal.{window_has}
 use Rattle.cdm_runway.specs.declared.intervals.Interval.{Interval}
@@ -31,5 +31,16 @@ pub record AreOfRow {V : Type 0} (places : ℕ) (is : List (Interval V)) : Type 
 -- the places of an interval have its value, and the others theirs
 pub record IsPushed {V : Type 0} (old : List (Interval V)) (next : Interval V) (new : List (Interval V)) : Type 0 where
   pub order : AreInOrder 0 new
-  pub end : end_of 0 new ≡ next.to
+  pub end : end_of 0 new ≤ max (end_of 0 old) next.to
   pub values : (k : ℕ) (rest : V) → value_at new k rest ≡ (if window_has next.from next.to k then next.value else value_at old k rest)
+
+-- no interval ends after a place
+abbrev pub NoneAfter : {V : Type 0} → List (Interval V) → ℕ → Type 0
+NoneAfter {V} is place = (k : ℕ) (rest : V) → place ≤ k → value_at is k rest ≡ rest
+
+-- the first interval that ends after a place: it has its value at its places, and none of them that at those before
+pub record IsNext {V : Type 0} (end : ℕ) (is : List (Interval V)) (place : ℕ) (next : Interval V) : Type 0 where
+  pub after : place < next.to
+  pub within : next.to ≤ end_of end is
+  pub some : next.from < next.to
+  pub values : (k : ℕ) (rest : V) → place ≤ k → k < next.to → value_at is k rest ≡ (if nat_le next.from k then next.value else rest)
