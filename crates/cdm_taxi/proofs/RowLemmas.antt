@@ -1,17 +1,18 @@
 -- Rows in a `BTreeMap`, seen as a finite map.
 use Rattle.std.proofs.Common.{◌≡◌, ℕ, cond, List, [], ◌∷◌, Some, refl, sym, ap, subst, ◌∙◌}
+use Rattle.std.specs.Prelude.{Result, Ok, Err, OnErr}
 use Rattle.std.specs.declared.cmp.Ordering.{Ordering}
-use Rattle.std.specs.Ordering.{ordering_then, is_eq, eq_by_cmp}
+use Rattle.std.specs.Ordering.{ordering_then, is_eq}
 use Rattle.std.specs.Option.{option_cmp}
-use Rattle.std.specs.Cmp.{IsEquivalence, IsTotalOrder, eq_by_cmp_equiv}
+use Rattle.std.specs.Cmp.{IsTotalOrder, eq_by_cmp_equiv}
 use Rattle.std.specs.BTreeMap as tree
 use Rattle.std.specs.BTreeMap.{BTreeMap, is_at}
-use Rattle.std.specs.Map.{lookup, keys_of}
+use Rattle.std.specs.List.{AllZip}
+use Rattle.std.specs.Map.{lookup}
 use Rattle.std.specs.FinMap as map
 use Rattle.std.specs.FinMap.{find, get-insert, get-from_entries, same_map}
-use Rattle.std.proofs.lemmas.Map.Keys.{IsDistinct-from_sorted}
 use Rattle.std.proofs.lemmas.Map.Lookups.{CmpEqualImpliesEq, btree_map_from_get}
-use Rattle.std.proofs.lemmas.Map.Made.{update_all_none}
+use Rattle.std.proofs.lemmas.Map.Entries.{entries_from_clone}
 use Rattle.cdm_flight.specs.contracts.place.PlaceOrd.TheImpl as place_ord
 use Rattle.cdm_flight.specs.declared.place.Place.{Place}
 use Rattle.cdm_flight.specs.declared.place.Place.TheVariants as place
@@ -48,22 +49,24 @@ pub get-rows_of : (m : BTreeMap Key ℕ) (q : Key) → tree.get key_cmp m q ≡ 
 get-rows_of m q = find-lookup m.entries q ∙ sym (get-from_entries taxi_cmp_total m.entries q)
 
 -- an entry that is written is a row that is set
-pub rows_of-insert : (m n : BTreeMap Key ℕ) (k : Key) (v : ℕ) → ((q : Key) → tree.get key_cmp n q ≡ cond (is_at (key_cmp k) q) (Some v) (tree.get key_cmp m q)) → rows_of n ≡ map.insert (rows_of m) k v
-rows_of-insert m n k v written = same_map taxi_cmp_total taxi_cmp_same (rows_of n) (map.insert (rows_of m) k v) (λ q.
-    let tied : is_eq (key_cmp k q) ≡ eq_by_cmp taxi_cmp q k = ap (λ (R : Key → Key → Ordering). is_eq (R k q)) same_key_cmp ∙ (eq_by_cmp_equiv taxi_cmp_total).symm k q in
-    sym (get-rows_of n q) ∙ written q ∙ (λ i. cond (tied i) (Some v) (get-rows_of m q i)) ∙ sym (get-insert taxi_cmp_total (rows_of m) k v q))
-
--- the entries of a map, collected again, are the same rows
-pub rows_of-collect : (m n : BTreeMap Key ℕ) → tree.IsOrdered key_cmp m → tree.IsFromIterResult key_cmp m.entries n → rows_of n ≡ rows_of m
-rows_of-collect m n ordered collected =
-    let laws = subst (λ (R : Key → Key → Ordering). IsEquivalence (eq_by_cmp R)) (sym same_key_cmp) (eq_by_cmp_equiv taxi_cmp_total) in
-    let apart = IsDistinct-from_sorted key_cmp (keys_of m.entries) ordered in
-    same_map taxi_cmp_total taxi_cmp_same (rows_of n) (rows_of m) (λ q.
-    sym (get-rows_of n q) ∙ collected.0 q ∙ update_all_none laws (eq_by_cmp key_cmp) (λ x y. refl) m.entries q apart ∙ get-rows_of m q)
+pub rows_of-insert : (m n : BTreeMap Key ℕ) (rows : TaxiRows) (k : Key) (v : ℕ) → rows_of m ≡ rows
+    → ((q : Key) → tree.get key_cmp n q ≡ cond (is_at (key_cmp k) q) (Some v) (tree.get key_cmp m q)) → rows_of n ≡ map.insert rows k v
+rows_of-insert m n rows k v are written = same_map taxi_cmp_total taxi_cmp_same (rows_of n) (map.insert rows k v) (λ q.
+    let tied = ap (λ (R : Key → Key → Ordering). is_eq (R k q)) same_key_cmp ∙ (eq_by_cmp_equiv taxi_cmp_total).symm k q in
+    sym (get-rows_of n q) ∙ written q ∙ (λ i. cond (tied i) (Some v) ((get-rows_of m q ∙ ap (λ (t : TaxiRows). map.get t q) are) i))
+    ∙ sym (get-insert taxi_cmp_total rows k v q))
 
 -- maps with the same rows have the same entries
 pub entries-same_rows : (m n : BTreeMap Key ℕ) → tree.IsOrdered key_cmp m → tree.IsOrdered key_cmp n → rows_of m ≡ rows_of n → m.entries ≡ n.entries
 entries-same_rows m n first second same =
-    let total = subst (λ (R : Key → Key → Ordering). IsTotalOrder R) (sym same_key_cmp) taxi_cmp_total in
-    let ties = subst (λ (R : Key → Key → Ordering). CmpEqualImpliesEq R) (sym same_key_cmp) taxi_cmp_same in
-    btree_map_from_get total m n first second (λ q. get-rows_of m q ∙ ap (λ (rows : TaxiRows). map.get rows q) same ∙ sym (get-rows_of n q)) ties
+    btree_map_from_get (subst (λ R. IsTotalOrder R) (sym same_key_cmp) taxi_cmp_total) m n first second
+    (λ q. get-rows_of m q ∙ ap (λ (rows : TaxiRows). map.get rows q) same ∙ sym (get-rows_of n q))
+    (subst (λ R. CmpEqualImpliesEq R) (sym same_key_cmp) taxi_cmp_same)
+
+-- the entries of a clone are the entries
+pub entries-clone : (es fs : List (Key × ℕ)) → AllZip (λ p q. ((q.0.0 ≡ p.0.0) × (q.0.1 ≡ p.0.1)) × (q.1 ≡ p.1)) es fs → fs ≡ es
+entries-clone = entries_from_clone (λ x y. (y.0 ≡ x.0) × (y.1 ≡ x.1)) (λ v w. w ≡ v) (λ x y e i. (e.0 i, e.1 i)) (λ v w e. e)
+
+pub OnErr-from : {T E P : Type 0} (r : Result T E) → P → OnErr r P
+OnErr-from (Ok x) p = tt
+OnErr-from (Err e) p = p

@@ -32,7 +32,7 @@ impl Model for Rows {
 
     ghost view = { λ r. map.from_entries r.minutes.entries };
 
-    ghost invariant = { λ r. AreStandsOf (map.from_entries r.minutes.entries) r.stands.keys };
+    ghost invariant = { λ r. AreStandsOf (map.from_entries r.minutes.entries) r.stands };
 }
 
 // Whether the taxi times are those of the other.
@@ -136,14 +136,10 @@ impl Rows {
         self.minutes.len() == other.minutes.len() && is_same_times(&self.minutes, &other.minutes)
     }
 
-    pub fn copy(&self, alloc: Global) -> Result<Rows, AllocError>
+    pub fn copy(&self) -> Result<Rows, AllocError>
         ensures { IfOk result (λ r. r ≡ self.now) }
     {
-        let minutes = self
-            .minutes
-            .iter()
-            .map(|(key, minutes)| (*key, *minutes))
-            .collect(alloc)?;
+        let minutes = self.minutes.clone()?;
         let stands = self.stands.clone()?;
         Ok(Rows { minutes, stands })
     }

@@ -132,10 +132,10 @@ impl TaxiTable {
     }
 
     /// A copy of the table.
-    pub fn copy(&self, alloc: Global) -> Result<TaxiTable, AllocError>
+    pub fn copy(&self) -> Result<TaxiTable, AllocError>
         ensures { IfOk result (λ t. t ≡ self.now) }
     {
-        let rows = self.rows.copy(alloc)?;
+        let rows = self.rows.copy()?;
         Ok(TaxiTable { rows })
     }
 }

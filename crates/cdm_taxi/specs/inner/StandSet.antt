@@ -1,11 +1,10 @@
 -- How the stands that have rows are kept.
-use Rattle.std.specs.Prelude.{◌≡◌, ℕ, List, length}
-use Rattle.std.specs.List.{list_any}
-use Rattle.cdm_flight.specs.Names.{same_name}
+use Rattle.std.specs.Prelude.{◌≡◌, ℕ, List}
+use Rattle.std.specs.BTreeSet.{BTreeSet, contains}
+use Rattle.cdm_flight.specs.Names.{name_cmp}
 use Rattle.cdm_flight.specs.Taxi.{TaxiRows}
-use Rattle.cdm_taxi.specs.Stands.{has_row, stand_count}
+use Rattle.cdm_taxi.specs.Stands.{has_row}
 
--- the names are those of the stands that have rows, each once
-pub record AreStandsOf (rows : TaxiRows) (names : List (List ℕ)) : Type 0 where
-  pub each : (stand : List ℕ) → list_any (same_name stand) names ≡ has_row rows stand
-  pub count : length names ≡ stand_count rows
+-- the set has the stands that have rows
+abbrev pub AreStandsOf : TaxiRows → BTreeSet (List ℕ) → Type 0
+AreStandsOf rows stands = (stand : List ℕ) → contains name_cmp stands stand ≡ has_row rows stand

@@ -1,5 +1,4 @@
-use Rattle.std.proofs.Common.{rules, ℕ, Bool, ◌≡◌, ◌&&◌}
-use Rattle.std.specs.Bool.{Decides}
+use Rattle.std.proofs.Common.{rules, Bool, ◌&&◌}
 use Rattle.std.proofs.lemmas.Map.Lookups.{btree_map_eq-Decides}
 use Rattle.cdm_flight.specs.contracts.place.PlacePartialEq.TheImpl as place_eq
 use Rattle.cdm_flight.specs.contracts.units.TaxiMinutesPartialEq.TheImpl as minutes_eq
@@ -11,11 +10,7 @@ use Rattle.cdm_taxi.proofs.rows.is_same_times.Goals as goal
 abbrev same_key : Key → Key → Bool
 same_key a b = (place_eq.ghosts).eq a.0 b.0 && same_name a.1 b.1
 
-same_key-Decides : (a b : Key) → Decides (same_key a b) (a ≡ b)
-same_key-Decides a b = search rules
-
-same_minutes-Decides : (v w : ℕ) → Decides ((minutes_eq.ghosts).eq v w) (v ≡ w)
-same_minutes-Decides v w = search rules
-
 pub returns : goal.returns
-returns c = btree_map_eq-Decides {E = same_key} {F = (minutes_eq.ghosts).eq} same_key-Decides same_minutes-Decides c.args.one.now c.args.other.now c.eq.result c.eq.ensures
+returns c =
+    btree_map_eq-Decides {E = same_key} {F = (minutes_eq.ghosts).eq} (λ a b. search rules) (λ v w. search rules)
+    c.args.one.now c.args.other.now c.eq.result c.eq.ensures
