@@ -22,7 +22,8 @@ use Rattle.cdm_flight.specs.Reach.{reach_of, same_reach, touching}
 use Rattle.cdm_flight.specs.Record.{Record, fresh}
 use Rattle.cdm_flight.specs.Step.{airborne_at, is_fresh, off_block_from, stepped, step_refusal}
 use Rattle.cdm_flight.specs.Journal.{AirportRows, last_value, tobt_given, stand_given, runway_given, ctot_given, ice_given, priority_given}
-use Rattle.cdm_flight.specs.Journal.{aobt_given, atot_given, is_cancel, taxi_given, clock_given, taxi_of, of_flight, aobt_of, atot_of, is_known, is_cancelled, exot_now}
+use Rattle.cdm_flight.specs.Journal.{aobt_given, atot_given, is_cancel, taxi_given, clock_given, taxi_of, of_flight, aobt_of, atot_of, is_known}
+use Rattle.cdm_flight.specs.Journal.{is_cancelled, exot_now}
 use Rattle.cdm_flight.specs.Journal.{before_off, status_from, status_of, record_with, exot_of, flight_of, values_of}
 
 -- one more update gives the value, or leaves it
@@ -38,7 +39,8 @@ same_name-refl f = search (rules, common_steps)
 -- What an update touches.
 
 -- an update is the last of those that touch the same
-pub touching-push : (what : Reach) (a : List Update) (u : Update) → same_reach (reach_of u) what ≡ true → touching what (a ++ u ∷ []) ≡ touching what a ++ u ∷ []
+pub touching-push : (what : Reach) (a : List Update) (u : Update) → same_reach (reach_of u) what ≡ true
+    → touching what (a ++ u ∷ []) ≡ touching what a ++ u ∷ []
 touching-push what a u h = filter-append (λ v. same_reach (reach_of v) what) a (u ∷ []) ∙ ap (λ b. touching what a ++ cond b (u ∷ []) []) h
 
 -- and leaves what touches something else
@@ -68,20 +70,19 @@ module _ (f : List ℕ) where
 
   no_off : (a : List Update) → list_all (λ u. not (is_off u)) a ≡ not (is_some (aobt_of a f))
   no_off [] = refl
-  no_off (v ∷ a) = by (same_reach (reach_of v) (reach.Flight f)) (aobt_given v) refl (no_off a)
+  no_off (v ∷ a) = by (same_reach (reach_of v) (reach.Flight f)) (no_off a)
     where
-      both : (o p : Option ℕ) → (not (is_some o) && not (is_some p)) ≡ not (is_some (option_or p o))
-      both None None = refl
-      both None (Some y) = refl
-      both (Some x) None = refl
-      both (Some x) (Some y) = refl
+      either : (o p : Option ℕ) (later : Bool) → later ≡ not (is_some p) → (not (is_some o) && later) ≡ not (is_some (option_or p o))
+      either None None later e = e
+      either None (Some y) later e = e
+      either (Some x) None later e = refl
+      either (Some x) (Some y) later e = refl
 
-      by : (b : Bool) (o : Option ℕ) → aobt_given v ≡ o → list_all (λ u. not (is_off u)) a ≡ not (is_some (aobt_of a f))
-          → (not (b && is_some o) && list_all (λ u. not (is_off u)) a) ≡ not (is_some (last_value aobt_given (cond b (v ∷ of_flight f a) (of_flight f a))))
-      by false o e later = later
-      by true o e later =
-          ap (λ c. not (is_some o) && c) later
-          ∙ (both o (aobt_of a f) ∙ ap (λ q. not (is_some (option_or (aobt_of a f) q))) (sym e))
+      by : (b : Bool) → list_all (λ u. not (is_off u)) a ≡ not (is_some (aobt_of a f))
+          → (not (b && is_some (aobt_given v)) && list_all (λ u. not (is_off u)) a)
+          ≡ not (is_some (last_value aobt_given (cond b (v ∷ of_flight f a) (of_flight f a))))
+      by false later = later
+      by true later = either (aobt_given v) (aobt_of a f) (list_all (λ u. not (is_off u)) a) later
 
   -- it stays once the flight has left
   pub before_off-left : (a : List Update) (u : Update) (m : ℕ) → aobt_of a f ≡ Some m → before_off f (a ++ u ∷ []) ≡ before_off f a
@@ -115,11 +116,13 @@ module _ (f : List ℕ) where
       by false None (Some m) e k = ap (λ l. Some (OffBlock m (unwrap_or (exot_now g l f) 0))) (before_off-left a u m e)
 
   -- what the journal says of a flight stays at an update of something else
-  pub flight_of-untouched : (g : AirportRows) (a : List Update) (u : Update) → same_reach (reach_of u) (reach.Flight f) ≡ false → flight_of g (a ++ u ∷ []) f ≡ flight_of g a f
+  pub flight_of-untouched : (g : AirportRows) (a : List Update) (u : Update) → same_reach (reach_of u) (reach.Flight f) ≡ false
+      → flight_of g (a ++ u ∷ []) f ≡ flight_of g a f
   unfolding flight_of
   flight_of-untouched g a u h =
       let same = untouched (reach.Flight f) a u h in
-      let status = status_of-same g a u (ap (list_any is_cancel) same) (ap (last_value atot_given) same) (ap (last_value aobt_given) same) (ap (list_any is_fresh) same) in
+      let status =
+      status_of-same g a u (ap (list_any is_cancel) same) (ap (last_value atot_given) same) (ap (last_value aobt_given) same) (ap (list_any is_fresh) same) in
       λ i. option_map (record_with f (same i)) (status i)
 
 -- What a status says of the list.
@@ -131,40 +134,21 @@ planned_says false None (Some b) e k h = cc
 planned_says false None None e true h = (refl, refl, refl, refl)
 planned_says false None None e false h = cc
 
-pub off_block_says : (c : Bool) (t b e : Option ℕ) (k : Bool) (m x : ℕ) → status_from c t b e k ≡ Some (OffBlock m x) → (c ≡ false) × (t ≡ None) × (b ≡ Some m)
+off_block_says : (c : Bool) (t b e : Option ℕ) (k : Bool) (m x : ℕ) → status_from c t b e k ≡ Some (OffBlock m x) → (c ≡ false) × (t ≡ None) × (b ≡ Some m)
 off_block_says true t b e k m x h = cc
 off_block_says false (Some t) b e k m x h = cc
 off_block_says false None (Some b) e k m x h = (refl, refl, cc)
 off_block_says false None None e true m x h = cc
 off_block_says false None None e false m x h = cc
 
-pub airborne_says : (c : Bool) (t b e : Option ℕ) (k : Bool) (m x : ℕ) → status_from c t b e k ≡ Some (Airborne m x) → (c ≡ false) × (t ≡ Some x)
-airborne_says true t b e k m x h = cc
-airborne_says false (Some t) b e k m x h = (refl, cc)
-airborne_says false None (Some b) e k m x h = cc
-airborne_says false None None e true m x h = cc
-airborne_says false None None e false m x h = cc
-
-pub cancelled_says : (c : Bool) (t b e : Option ℕ) (k : Bool) → status_from c t b e k ≡ Some Cancelled → c ≡ true
-cancelled_says true t b e k h = refl
-cancelled_says false (Some t) b e k h = cc
-cancelled_says false None (Some b) e k h = cc
-cancelled_says false None None e true h = cc
-cancelled_says false None None e false h = cc
-
-pub absent_says : (c : Bool) (t b e : Option ℕ) (k : Bool) → status_from c t b e k ≡ None → k ≡ false
-absent_says true t b e k h = cc
-absent_says false (Some t) b e k h = cc
-absent_says false None (Some b) e k h = cc
-absent_says false None None e true h = cc
-absent_says false None None e false h = refl
-
 -- the record that the list says, by its status
-pub status_of-record : (f : List ℕ) (g : AirportRows) (a : List Update) (r : Record) → flight_of g a f ≡ Some r → (status_of g a f ≡ Some r.status) × (record_with f (of_flight f a) r.status ≡ r)
+pub status_of-record : (f : List ℕ) (g : AirportRows) (a : List Update) (r : Record) → flight_of g a f ≡ Some r
+    → (status_of g a f ≡ Some r.status) × (record_with f (of_flight f a) r.status ≡ r)
 unfolding flight_of
 status_of-record f g a r h = by (status_of g a f) refl h
   where
-    by : (s : Option Status) → status_of g a f ≡ s → option_map (record_with f (of_flight f a)) s ≡ Some r → (status_of g a f ≡ Some r.status) × (record_with f (of_flight f a) r.status ≡ r)
+    by : (s : Option Status) → status_of g a f ≡ s → option_map (record_with f (of_flight f a)) s ≡ Some r
+        → (status_of g a f ≡ Some r.status) × (record_with f (of_flight f a) r.status ≡ r)
     by None e k = cc
     by (Some s) e k =
         let same : record_with f (of_flight f a) s ≡ r = cc in
@@ -174,7 +158,8 @@ status_of-record f g a r h = by (status_of g a f) refl h
 -- An update of the flight itself.
 
 -- a planned flight leaves with a taxi-out time
-ready_off : (s : Status) (runway : Option (List ℕ)) (f : List ℕ) (m : ℕ) (e : Option ℕ) → step_refusal s runway (Off f m) e ≡ None → (s ≡ Planned) × ((x : ℕ) × (e ≡ Some x))
+ready_off : (s : Status) (runway : Option (List ℕ)) (f : List ℕ) (m : ℕ) (e : Option ℕ) → step_refusal s runway (Off f m) e ≡ None
+    → (s ≡ Planned) × ((x : ℕ) × (e ≡ Some x))
 ready_off Planned (Some r) f m (Some x) h = (refl, (x, refl))
 ready_off Planned (Some r) f m None h = cc
 ready_off Planned None f m e h = cc
@@ -183,7 +168,8 @@ ready_off (Airborne b t) runway f m e h = cc
 ready_off Cancelled runway f m e h = cc
 
 -- a flight that takes off has left
-left_air : (s : Status) (runway : Option (List ℕ)) (f : List ℕ) (t : ℕ) (e : Option ℕ) → step_refusal s runway (Air f t) e ≡ None → (m : ℕ) × (x : ℕ) × (s ≡ OffBlock m x)
+left_air : (s : Status) (runway : Option (List ℕ)) (f : List ℕ) (t : ℕ) (e : Option ℕ) → step_refusal s runway (Air f t) e ≡ None
+    → (m : ℕ) × (x : ℕ) × (s ≡ OffBlock m x)
 left_air (OffBlock m x) runway f t e h = (m, x, refl)
 left_air Planned runway f t e h = cc
 left_air (Airborne m x) runway f t e h = cc
@@ -241,7 +227,8 @@ module _ (g : AirportRows) (a : List Update) (f : List ℕ) where
       (λ i. status_from ((cancelled u e ∙ says.0) i) (atot u e i) ((aobt u e ∙ says.2) i) (exot_of g (a ++ u ∷ []) f) (is_known (a ++ u ∷ []) f))
       ∙ ap (λ s. Some (airborne_at s t)) (sym left.2)
   status_after (Cnl q) r e told old ok =
-      ap (λ c. status_from c (atot_of (a ++ Cnl q ∷ []) f) (aobt_of (a ++ Cnl q ∷ []) f) (exot_of g (a ++ Cnl q ∷ []) f) (is_known (a ++ Cnl q ∷ []) f)) (cancelled (Cnl q) e)
+      let b = a ++ Cnl q ∷ [] in
+      ap (λ c. status_from c (atot_of b f) (aobt_of b f) (exot_of g b f) (is_known b f)) (cancelled (Cnl q) e)
   status_after (Flt q p) r e told old ok = cc
   status_after u r e told old ok = status_of-same f g a u (cancelled u e) (atot u e) (aobt u e) (is_known-push u e) ∙ told
 

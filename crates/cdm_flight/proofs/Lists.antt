@@ -7,13 +7,15 @@ use Rattle.std.specs.List.{filter_map, find, list_all, list_any, take_while, All
 use Rattle.std.specs.List.Sorted.{IsPermutation, IsSortedBy}
 use Rattle.std.specs.Option.{option_or, option_to_list}
 use Rattle.std.proofs.Math.Bool.{or-false, or_comm}
-use Rattle.std.proofs.lemmas.Bool.{false≢true}
+use Rattle.std.proofs.lemmas.Bool.{cases_order, cond_both, false≢true, false_from_ne_true, true_from_ne_false}
 use Rattle.std.proofs.lemmas.List.Edits.{swap_is}
-use Rattle.std.proofs.lemmas.List.Elements.{Contains-append_right, All-from_recursion, All-contains}
+use Rattle.std.proofs.lemmas.List.{get_or-map, get_or_append_left, get_or_default, length-append, length-map}
+use Rattle.std.proofs.lemmas.List.Elements.{Contains-append_right, All-from_recursion, All-contains, All-contains_itself, All-filter}
 use Rattle.std.proofs.lemmas.List.Folds.{fold-map, list_any-append}
-use Rattle.std.proofs.lemmas.List.Sorted.{IsPermutation-refl, IsPermutation-trans, IsPermutation-append_left, IsPermutation-append_right, IsPermutation-append_comm, IsPermutation-keeps, sorted_far}
+use Rattle.std.proofs.lemmas.List.Sorted.{IsPermutation-refl, IsPermutation-trans, IsPermutation-append_left, IsPermutation-append_right}
+use Rattle.std.proofs.lemmas.List.Sorted.{IsPermutation-append_comm, IsPermutation-keeps, sorted_far}
 use Rattle.std.proofs.lemmas.List.Sums.{sum_by-cons, sum_by-le-sum_by, take_while-cons}
-use Rattle.std.proofs.lemmas.Map.Keys.{IsDistinct-cons, IsDistinct-head, IsDistinct-tail}
+use Rattle.std.proofs.lemmas.Map.Keys.{apart_from_distinct, IsDistinct-from_apart, IsDistinct-cons, IsDistinct-head, IsDistinct-tail}
 
 -- Elements.
 
@@ -28,11 +30,7 @@ pub contains_tail : {X : Type 0} (x : X) (xs : List X) (y : X) → Contains xs y
 contains_tail x xs y (k, l, e) = (suc k, omega arith, e)
 
 pub contains_map : {X Y : Type 0} (f : X → Y) (xs : List X) (x : X) → Contains xs x → Contains (map f xs) (f x)
-contains_map f [] x i = absurd (omega (arith, i.1))
-contains_map {X} f (y ∷ ys) x i = elim (contains_cases y ys x i) [
-  | inl e ↦ subst (λ (z : X). Contains (map f (y ∷ ys)) (f z)) e (contains_head (f y) (map f ys))
-  | inr j ↦ contains_tail (f y) (map f ys) (f x) (contains_map f ys x j)
-]
+contains_map f xs x i = (i.0, rw length-map i.1, get_or-map f xs i.0 x (f x) i.1 ∙ ap f i.2)
 
 -- an element of a map comes from an element
 pub contains_from_map : {X Y : Type 0} (f : X → Y) (xs : List X) (y : Y) → Contains (map f xs) y → (x : X) × Contains xs x × (f x ≡ y)
@@ -41,38 +39,6 @@ contains_from_map f (x ∷ xs) y i = elim (contains_cases (f x) (map f xs) y i) 
   | inl e ↦ (x, contains_head x xs, e)
   | inr j ↦ let w = contains_from_map f xs y j in (w.0, contains_tail x xs w.0 w.1, w.2)
 ]
-
-pub filter_map_cons : {X Y : Type 0} (h : X → Option Y) (x : X) (xs : List X) → filter_map h (x ∷ xs) ≡ option_to_list (h x) ++ filter_map h xs
-filter_map_cons {X} {Y} h x xs = go (h x) where
-  go : (o : Option Y) → cons_option o (filter_map h xs) ≡ option_to_list o ++ filter_map h xs
-  go None = refl
-  go (Some y) = refl
-
--- what an element gives is among what the list gives
-pub contains_given : {X Y : Type 0} (h : X → Option Y) (xs : List X) (x : X) (y : Y) → Contains xs x → h x ≡ Some y → Contains (filter_map h xs) y
-contains_given h [] x y i e = absurd (omega (arith, i.1))
-contains_given {X} {Y} h (z ∷ zs) x y i e = elim (contains_cases z zs x i) [
-  | inl same ↦ subst (λ (ys : List Y). Contains ys y) (sym (ap (λ (o : Option Y). cons_option o (filter_map h zs)) (ap h same ∙ e))) (contains_head y (filter_map h zs))
-  | inr j ↦ go (h z) (contains_given h zs x y j e)
-] where
-  go : (o : Option Y) → Contains (filter_map h zs) y → Contains (cons_option o (filter_map h zs)) y
-  go None k = k
-  go (Some w) k = contains_tail w (filter_map h zs) y k
-
--- and what the list gives comes from an element
-pub contains_from_given : {X Y : Type 0} (h : X → Option Y) (xs : List X) (y : Y) → Contains (filter_map h xs) y → (x : X) × Contains xs x × (h x ≡ Some y)
-contains_from_given h [] y i = absurd (omega (arith, i.1))
-contains_from_given {X} {Y} h (x ∷ xs) y i = go (h x) refl i (contains_from_given h xs y) where
-  later : (x : X) × Contains xs x × (h x ≡ Some y) → (z : X) × Contains (x ∷ xs) z × (h z ≡ Some y)
-  later w = (w.0, contains_tail x xs w.0 w.1, w.2)
-
-  go : (o : Option Y) → h x ≡ o → Contains (cons_option o (filter_map h xs)) y → (Contains (filter_map h xs) y → (x : X) × Contains xs x × (h x ≡ Some y))
-      → (z : X) × Contains (x ∷ xs) z × (h z ≡ Some y)
-  go None e k rest = later (rest k)
-  go (Some z) e k rest = elim (contains_cases z (filter_map h xs) y k) [
-    | inl same ↦ (x, contains_head x xs, e ∙ ap Some same)
-    | inr j ↦ later (rest j)
-  ]
 
 -- what each element gives has a property, where it gives something
 pub All-given : {X Y : Type 0} (h : X → Option Y) (P : Y → Type 0) (xs : List X) → ((x : X) → Contains xs x → IfSome (h x) P) → All P (filter_map h xs)
@@ -85,14 +51,26 @@ All-given {X} {Y} h P xs each = All-from_recursion P (filter_map h xs) (by xs ea
   by [] all = tt
   by (y ∷ ys) all = given (h y) (filter_map h ys) (all y (contains_head y ys)) (by ys (λ x i. all x (contains_tail y ys x i)))
 
+-- what the list gives comes from an element
+pub contains_from_given : {X Y : Type 0} (h : X → Option Y) (xs : List X) (y : Y) → Contains (filter_map h xs) y
+    → (x : X) × Contains xs x × (h x ≡ Some y)
+contains_from_given {X} {Y} h xs y = All-contains From (filter_map h xs) y (All-given h From xs (λ x i. found x i (h x) refl)) where
+  From : Y → Type 0
+  From z = (x : X) × Contains xs x × (h x ≡ Some z)
+
+  found : (x : X) → Contains xs x → (o : Option Y) → h x ≡ o → IfSome o From
+  found x i None e = tt
+  found x i (Some z) e = (x, i, e)
+
 pub filter_map-map : {X Y Z : Type 0} (h : Y → Option Z) (g : X → Y) (xs : List X) → filter_map h (map g xs) ≡ filter_map (λ x. h (g x)) xs
 filter_map-map h g [] = refl
-filter_map-map {X} {Y} {Z} h g (x ∷ xs) = ap (λ (ys : List Z). cons_option (h (g x)) ys) (filter_map-map h g xs)
+filter_map-map h g (x ∷ xs) = ap (λ ys. cons_option (h (g x)) ys) (filter_map-map h g xs)
 
 abbrev pub if_so : {Y : Type 0} → Bool → Option Y → Option Y
 if_so b o = cond b o None
 
-pub filter_map-filter : {X Y : Type 0} (h : X → Option Y) (p : X → Bool) (xs : List X) → filter_map h (filter p xs) ≡ filter_map (λ x. if_so (p x) (h x)) xs
+pub filter_map-filter : {X Y : Type 0} (h : X → Option Y) (p : X → Bool) (xs : List X)
+    → filter_map h (filter p xs) ≡ filter_map (λ x. if_so (p x) (h x)) xs
 filter_map-filter h p [] = refl
 filter_map-filter {X} {Y} h p (x ∷ xs) = go (p x) (filter_map-filter h p xs) where
   go : (b : Bool) → filter_map h (filter p xs) ≡ filter_map (λ x. if_so (p x) (h x)) xs
@@ -103,15 +81,14 @@ filter_map-filter {X} {Y} h p (x ∷ xs) = go (p x) (filter_map-filter h p xs) w
 -- two functions that agree on a list's elements
 pub filter_map_same : {X Y : Type 0} (h k : X → Option Y) (xs : List X) → ((x : X) → Contains xs x → h x ≡ k x) → filter_map h xs ≡ filter_map k xs
 filter_map_same h k [] same = refl
-filter_map_same {X} {Y} h k (x ∷ xs) same =
-    ap (λ (o : Option Y). cons_option o (filter_map h xs)) (same x (contains_head x xs))
-    ∙ ap (cons_option (k x)) (filter_map_same h k xs (λ y i. same y (contains_tail x xs y i)))
+filter_map_same h k (x ∷ xs) same = λ i.
+    cons_option (same x (contains_head x xs) i) (filter_map_same h k xs (λ y j. same y (contains_tail x xs y j)) i)
 
 pub filter_same : {X : Type 0} (p q : X → Bool) (xs : List X) → ((x : X) → Contains xs x → p x ≡ q x) → filter p xs ≡ filter q xs
 filter_same p q [] same = refl
-filter_same {X} p q (x ∷ xs) same =
-    ap (λ (b : Bool). cond b (x ∷ filter p xs) (filter p xs)) (same x (contains_head x xs))
-    ∙ ap (λ (ys : List X). cond (q x) (x ∷ ys) ys) (filter_same p q xs (λ y i. same y (contains_tail x xs y i)))
+filter_same p q (x ∷ xs) same =
+    let rest = filter_same p q xs (λ y j. same y (contains_tail x xs y j)) in
+    λ i. cond (same x (contains_head x xs) i) (x ∷ rest i) (rest i)
 
 -- Choices.
 
@@ -141,8 +118,7 @@ list_any-map p f [] = refl
 list_any-map p f (x ∷ xs) = ap (λ b. p (f x) || b) (list_any-map p f xs)
 
 pub list_any-same : {X : Type 0} (p q : X → Bool) → ((x : X) → p x ≡ q x) → (xs : List X) → list_any p xs ≡ list_any q xs
-list_any-same p q same [] = refl
-list_any-same p q same (x ∷ xs) = λ i. same x i || list_any-same p q same xs i
+list_any-same p q same xs = λ i. list_any (λ x. same x i) xs
 
 -- Sums.
 
@@ -150,32 +126,16 @@ list_any-same p q same (x ∷ xs) = λ i. same x i || list_any-same p q same xs 
 pub sum_same : {X : Type 0} (f g : X → ℕ) (xs : List X) → ((y : X) → Contains xs y → f y ≡ g y) → sum_by f xs ≡ sum_by g xs
 sum_same f g [] h = refl
 sum_same f g (x ∷ xs) h =
-    let a = sum_by-cons f x xs in
-    let b = sum_by-cons g x xs in
-    let c = h x (contains_head x xs) in
-    let d = sum_same f g xs (λ y k. h y (contains_tail x xs y k)) in
-    omega arith
-
-pub sum_none : {X : Type 0} (f : X → ℕ) (xs : List X) → ((y : X) → Contains xs y → f y ≡ 0) → sum_by f xs ≡ 0
-sum_none f [] h = refl
-sum_none f (x ∷ xs) h =
-    let a = sum_by-cons f x xs in
-    let c = h x (contains_head x xs) in
-    let d = sum_none f xs (λ y k. h y (contains_tail x xs y k)) in
-    omega arith
+    let rest = sum_same f g xs (λ y k. h y (contains_tail x xs y k)) in
+    omega (arith, sum_by-cons f x xs, sum_by-cons g x xs, h x (contains_head x xs))
 
 -- and of two that are no greater, of which one is less at some element
 pub sum_less : {X : Type 0} (f g : X → ℕ) (xs : List X) (x : X) → Contains xs x → ((y : X) → f y ≤ g y) → f x < g x → sum_by f xs < sum_by g xs
 sum_less f g [] x (k, l, e) h s = absurd (omega arith)
-sum_less {X} f g (y ∷ ys) x i h s =
-    let a = sum_by-cons f y ys in
-    let b = sum_by-cons g y ys in
-    let c = h y in
-    let d = sum_by-le-sum_by f g ys h in
-    elim (contains_cases y ys x i) [
-      | inl e ↦ let e1 : f y ≡ f x = ap f e in let e2 : g y ≡ g x = ap g e in omega arith
-      | inr j ↦ let m = sum_less f g ys x j h s in omega arith
-    ]
+sum_less f g (y ∷ ys) x i h s = elim (contains_cases y ys x i) [
+  | inl e ↦ omega (arith, sum_by-cons f y ys, sum_by-cons g y ys, ap f e, ap g e, sum_by-le-sum_by f g ys h)
+  | inr j ↦ omega (arith, sum_by-cons f y ys, sum_by-cons g y ys, h y, sum_less f g ys x j h s)
+]
 
 pub sum_map : {X Y : Type 0} (g : Y → ℕ) (f : X → Y) (xs : List X) → sum_by g (map f xs) ≡ sum_by (λ x. g (f x)) xs
 sum_map g f xs = fold-map (λ a y. a + g y) f 0 xs
@@ -183,71 +143,66 @@ sum_map g f xs = fold-map (λ a y. a + g y) f 0 xs
 pub sum_by-add : {X : Type 0} (g h : X → ℕ) (xs : List X) → sum_by (λ x. g x + h x) xs ≡ sum_by g xs + sum_by h xs
 sum_by-add g h [] = refl
 sum_by-add g h (x ∷ xs) =
-    let a = sum_by-cons (λ x. g x + h x) x xs in
-    let b = sum_by-cons g x xs in
-    let c = sum_by-cons h x xs in
-    let d = sum_by-add g h xs in
-    omega arith
+    let rest = sum_by-add g h xs in
+    omega (arith, sum_by-cons (λ x. g x + h x) x xs, sum_by-cons g x xs, sum_by-cons h x xs)
 
 pub sum_by-zero : {X : Type 0} (xs : List X) → sum_by (λ (x : X). 0) xs ≡ 0
 sum_by-zero [] = refl
 sum_by-zero {X} (x ∷ xs) = let a = sum_by-cons (λ (x : X). 0) x xs in let b = sum_by-zero xs in omega arith
 
+sum_none : {X : Type 0} (f : X → ℕ) (xs : List X) → ((y : X) → Contains xs y → f y ≡ 0) → sum_by f xs ≡ 0
+sum_none f xs h = sum_same f (λ _. 0) xs h ∙ sum_by-zero xs
+
 -- Permutations.
 
+pub filter_map_cons : {X Y : Type 0} (h : X → Option Y) (x : X) (xs : List X) → filter_map h (x ∷ xs) ≡ option_to_list (h x) ++ filter_map h xs
+filter_map_cons {X} {Y} h x xs = go (h x) where
+  go : (o : Option Y) → cons_option o (filter_map h xs) ≡ option_to_list o ++ filter_map h xs
+  go None = refl
+  go (Some y) = refl
+
 exchange : {X : Type 0} (us vs ws : List X) → IsPermutation (us ++ (vs ++ ws)) (vs ++ (us ++ ws))
-exchange {X} us vs ws =
-    subst (λ (xs : List X). IsPermutation xs (vs ++ (us ++ ws))) (append_assoc us vs ws)
-    (subst (λ (ys : List X). IsPermutation ((us ++ vs) ++ ws) ys) (append_assoc vs us ws)
-    (IsPermutation-append_left ws (us ++ vs) (vs ++ us) (IsPermutation-append_comm us vs)))
+exchange us vs ws = rw (← append_assoc us vs ws, ← append_assoc vs us ws) (IsPermutation-append_left ws (us ++ vs) (vs ++ us) (IsPermutation-append_comm us vs))
 
 -- an element that changes places with another
 taken_out : {X Y : Type 0} (h : X → Option Y) (x : X) (xs : List X) (j : ℕ) (d : X) → j < length xs
     → IsPermutation (option_to_list (h x) ++ filter_map h xs) (option_to_list (h (get_or xs j d)) ++ filter_map h (set xs j x))
 taken_out h x [] j d l = absurd (omega arith)
-taken_out {X} {Y} h x (y ∷ ys) zero d l =
-    let a = option_to_list (h x) in
-    let b = option_to_list (h y) in
-    subst (λ (zs : List Y). IsPermutation (a ++ zs) (b ++ filter_map h (x ∷ ys))) (sym (filter_map_cons h y ys))
-    (subst (λ (zs : List Y). IsPermutation (a ++ (b ++ filter_map h ys)) (b ++ zs)) (sym (filter_map_cons h x ys))
-    (exchange a b (filter_map h ys)))
-taken_out {X} {Y} h x (y ∷ ys) (suc j) d l =
+taken_out h x (y ∷ ys) zero d l =
+    rw (filter_map_cons h y ys, filter_map_cons h x ys) (exchange (option_to_list (h x)) (option_to_list (h y)) (filter_map h ys))
+taken_out h x (y ∷ ys) (suc j) d l =
     let a = option_to_list (h x) in
     let b = option_to_list (h y) in
     let g = option_to_list (h (get_or ys j d)) in
     let us = filter_map h ys in
     let vs = filter_map h (set ys j x) in
-    subst (λ (zs : List Y). IsPermutation (a ++ zs) (g ++ filter_map h (y ∷ set ys j x))) (sym (filter_map_cons h y ys))
-    (subst (λ (zs : List Y). IsPermutation (a ++ (b ++ us)) (g ++ zs)) (sym (filter_map_cons h y (set ys j x)))
+    rw (filter_map_cons h y ys, filter_map_cons h y (set ys j x))
     (IsPermutation-trans (a ++ (b ++ us)) (b ++ (a ++ us)) (g ++ (b ++ vs)) (exchange a b us)
     (IsPermutation-trans (b ++ (a ++ us)) (b ++ (g ++ vs)) (g ++ (b ++ vs))
-    (IsPermutation-append_right b (a ++ us) (g ++ vs) (taken_out h x ys j d (omega arith))) (exchange b g vs))))
+    (IsPermutation-append_right b (a ++ us) (g ++ vs) (taken_out h x ys j d (omega arith))) (exchange b g vs)))
 
 swapped : {X Y : Type 0} (h : X → Option Y) (xs : List X) (i j : ℕ) (d : X) → i < length xs → j < length xs
     → IsPermutation (filter_map h xs) (filter_map h (set (set xs i (get_or xs j d)) j (get_or xs i d)))
 swapped h [] i j d k l = absurd (omega arith)
 swapped h (x ∷ xs) zero zero d k l = IsPermutation-refl (filter_map h (x ∷ xs))
-swapped {X} {Y} h (x ∷ xs) zero (suc j) d k l =
-    subst (λ (zs : List Y). IsPermutation zs (filter_map h (get_or xs j d ∷ set xs j x))) (sym (filter_map_cons h x xs))
-    (subst (IsPermutation (option_to_list (h x) ++ filter_map h xs)) (sym (filter_map_cons h (get_or xs j d) (set xs j x)))
-    (taken_out h x xs j d (omega arith)))
-swapped {X} {Y} h (x ∷ xs) (suc i) zero d k l =
-    subst (λ (zs : List Y). IsPermutation zs (filter_map h (get_or xs i d ∷ set xs i x))) (sym (filter_map_cons h x xs))
-    (subst (IsPermutation (option_to_list (h x) ++ filter_map h xs)) (sym (filter_map_cons h (get_or xs i d) (set xs i x)))
-    (taken_out h x xs i d (omega arith)))
-swapped {X} {Y} h (x ∷ xs) (suc i) (suc j) d k l =
+swapped h (x ∷ xs) zero (suc j) d k l =
+    rw (filter_map_cons h x xs, filter_map_cons h (get_or xs j d) (set xs j x)) (taken_out h x xs j d (omega arith))
+swapped h (x ∷ xs) (suc i) zero d k l =
+    rw (filter_map_cons h x xs, filter_map_cons h (get_or xs i d) (set xs i x)) (taken_out h x xs i d (omega arith))
+swapped h (x ∷ xs) (suc i) (suc j) d k l =
     let ys = set (set xs i (get_or xs j d)) j (get_or xs i d) in
-    subst (λ (zs : List Y). IsPermutation zs (filter_map h (x ∷ ys))) (sym (filter_map_cons h x xs))
-    (subst (IsPermutation (option_to_list (h x) ++ filter_map h xs)) (sym (filter_map_cons h x ys))
-    (IsPermutation-append_right (option_to_list (h x)) (filter_map h xs) (filter_map h ys) (swapped h xs i j d (omega arith) (omega arith))))
+    rw (filter_map_cons h x xs, filter_map_cons h x ys)
+    (IsPermutation-append_right (option_to_list (h x)) (filter_map h xs) (filter_map h ys) (swapped h xs i j d (omega arith) (omega arith)))
 
 pub IsPermutation-filter_map : {X Y : Type 0} (h : X → Option Y) (xs ys : List X) → IsPermutation xs ys → IsPermutation (filter_map h xs) (filter_map h ys)
-IsPermutation-filter_map {X} {Y} h xs ys same =
-    IsPermutation-keeps xs (λ (l : List X). IsPermutation (filter_map h xs) (filter_map h l)) (IsPermutation-refl (filter_map h xs)) step ys same where
-      step : (l : List X) (i j : ℕ) → i < length l → j < length l → IsPermutation (filter_map h xs) (filter_map h l) → IsPermutation (filter_map h xs) (filter_map h (swap l i j))
+IsPermutation-filter_map {X} h xs ys same =
+    IsPermutation-keeps xs (λ l. IsPermutation (filter_map h xs) (filter_map h l)) (IsPermutation-refl (filter_map h xs)) step ys same where
+      step : (l : List X) (i j : ℕ) → i < length l → j < length l → IsPermutation (filter_map h xs) (filter_map h l)
+          → IsPermutation (filter_map h xs) (filter_map h (swap l i j))
       step [] i j a b p = p
-      step (d ∷ l) i j a b p = IsPermutation-trans (filter_map h xs) (filter_map h (d ∷ l)) (filter_map h (swap (d ∷ l) i j)) p
-          (subst (λ (zs : List X). IsPermutation (filter_map h (d ∷ l)) (filter_map h zs)) (swap_is (d ∷ l) i j d a b) (swapped h (d ∷ l) i j d a b))
+      step (d ∷ l) i j a b p =
+          IsPermutation-trans (filter_map h xs) (filter_map h (d ∷ l)) (filter_map h (swap (d ∷ l) i j)) p
+          (rw (← swap_is (d ∷ l) i j d a b) (swapped h (d ∷ l) i j d a b))
 
 abbrev only : {X : Type 0} → (X → Bool) → X → Option X
 only p x = cond (p x) (Some x) None
@@ -260,9 +215,7 @@ filter_is {X} p (x ∷ xs) = go (p x) (filter_is p xs) where
   go false e = e
 
 pub IsPermutation-filter : {X : Type 0} (p : X → Bool) (xs ys : List X) → IsPermutation xs ys → IsPermutation (filter p xs) (filter p ys)
-IsPermutation-filter {X} p xs ys same =
-    subst (λ (zs : List X). IsPermutation zs (filter p ys)) (filter_is p xs)
-    (subst (IsPermutation (filter_map (only p) xs)) (filter_is p ys) (IsPermutation-filter_map (only p) xs ys same))
+IsPermutation-filter p xs ys same = rw (← filter_is p xs, ← filter_is p ys) (IsPermutation-filter_map (only p) xs ys same)
 
 -- Sorted lists.
 
@@ -272,36 +225,28 @@ sorted_rest {X} lt x xs up = λ k d a b.
     subst (λ (n : ℕ). lt (get_or (x ∷ xs) n d) (get_or xs k d) ≡ false) next (up (suc k) d (omega arith) (omega arith))
 
 -- the first of a sorted list is no greater than any of it
-none_below : {X K : Type 0} (lt : K → K → Bool) → IsStrictWeakOrder lt → (key : X → K) (x : X) (xs : List X) → IsSortedBy (λ a b. lt (key a) (key b)) (x ∷ xs) → (y : X)
-    → Contains (x ∷ xs) y → lt (key y) (key x) ≡ false
-none_below {X} lt weak key x xs up y (k, l, e) =
-    let o : IsStrictWeakOrder (λ (a b : X). lt (key a) (key b)) = record { one_way = λ a b. weak.one_way (key a) (key b); chain = λ a b c. weak.chain (key a) (key b) (key c) } in
-    subst (λ (z : X). lt (key z) (key x) ≡ false) e (sorted_far (λ a b. lt (key a) (key b)) o (x ∷ xs) up 0 k y (omega arith) l)
+none_below : {X K : Type 0} (lt : K → K → Bool) → IsStrictWeakOrder lt → (key : X → K) (x : X) (xs : List X)
+    → IsSortedBy (λ a b. lt (key a) (key b)) (x ∷ xs) → (y : X) → Contains (x ∷ xs) y → lt (key y) (key x) ≡ false
+none_below lt weak key x xs up y (k, l, e) =
+    let by_key : IsStrictWeakOrder (λ a b. lt (key a) (key b)) =
+    record { one_way = λ a b. weak.one_way (key a) (key b); chain = λ a b c. weak.chain (key a) (key b) (key c) } in
+    subst (λ z. lt (key z) (key x) ≡ false) e (sorted_far (λ a b. lt (key a) (key b)) by_key (x ∷ xs) up 0 k y (omega arith) l)
 
 -- 1 for a key that x isn't below
 abbrev not_below : {K : Type 0} → (K → K → Bool) → K → K → ℕ
 not_below lt x k = cond (lt x k) 0 1
 
 -- a list whose first is below the first of another has other keys
-heads_tie : {X K : Type 0} (lt : K → K → Bool) → IsStrictWeakOrder lt → (key : X → K) (x y : X) (xs ys : List X) → IsSortedBy (λ a b. lt (key a) (key b)) (y ∷ ys)
+heads_tie : {X K : Type 0} (lt : K → K → Bool) → IsStrictWeakOrder lt → (key : X → K) (x y : X) (xs ys : List X)
+    → IsSortedBy (λ a b. lt (key a) (key b)) (y ∷ ys)
     → sum_by (λ a. not_below lt (key x) (key a)) (x ∷ xs) ≡ sum_by (λ a. not_below lt (key x) (key a)) (y ∷ ys) → lt (key x) (key y) ≡ false
-heads_tie {X} {K} lt weak key x y xs ys up sums = go (lt (key x) (key y)) refl where
-  go : (v : Bool) → lt (key x) (key y) ≡ v → v ≡ false
-  go false e = refl
-  go true e =
-      let n : X → ℕ = λ a. not_below lt (key x) (key a) in
-      let itself : lt (key x) (key x) ≡ false = irreflexive (lt (key x) (key x)) refl in
-      let one : n x ≡ 1 = ap (λ (b : Bool). cond b 0 1) itself in
-      let first = sum_by-cons n x xs in
-      let none : sum_by n (y ∷ ys) ≡ 0 = sum_none n (y ∷ ys) (λ b i. ap (λ (v : Bool). cond v 0 1) (above b i (lt (key x) (key b)) refl)) in
-      absurd (omega arith) where
-        irreflexive : (v : Bool) → lt (key x) (key x) ≡ v → v ≡ false
-        irreflexive false h = refl
-        irreflexive true h = sym h ∙ weak.one_way (key x) (key x) h
-
-        above : (b : X) → Contains (y ∷ ys) b → (v : Bool) → lt (key x) (key b) ≡ v → v ≡ true
-        above b i true h = refl
-        above b i false h = absurd (false≢true (sym (weak.chain (key x) (key b) (key y) h (none_below lt weak key y ys up b i)) ∙ e))
+heads_tie {X} lt weak key x y xs ys up sums = false_from_ne_true (lt (key x) (key y)) (λ e.
+    let n : X → ℕ = λ a. not_below lt (key x) (key a) in
+    let itself = false_from_ne_true (lt (key x) (key x)) (λ h. false≢true (sym (weak.one_way (key x) (key x) h) ∙ h)) in
+    let above : (b : X) → Contains (y ∷ ys) b → lt (key x) (key b) ≡ true = λ b i. true_from_ne_false (lt (key x) (key b)) (λ h.
+    false≢true (sym (weak.chain (key x) (key b) (key y) h (none_below lt weak key y ys up b i)) ∙ e)) in
+    let none = sum_none n (y ∷ ys) (λ b i. ap {B = ℕ} (λ v. cond v 0 1) (above b i)) in
+    omega (arith, sum_by-cons n x xs, ap {B = ℕ} (λ v. cond v 0 1) itself))
 
 -- two sorted lists with the same keys are the same list, where elements that tie are the same
 pub sorted_one : {X K : Type 0} (lt : K → K → Bool) → IsStrictWeakOrder lt → (key : X → K) (xs ys : List X)
@@ -309,26 +254,23 @@ pub sorted_one : {X K : Type 0} (lt : K → K → Bool) → IsStrictWeakOrder lt
     → IsSortedBy (λ a b. lt (key a) (key b)) xs → IsSortedBy (λ a b. lt (key a) (key b)) ys
     → ((g : K → ℕ) → sum_by (λ a. g (key a)) xs ≡ sum_by (λ a. g (key a)) ys) → xs ≡ ys
 sorted_one lt weak key [] [] agree up vp sums = refl
-sorted_one lt weak key [] (y ∷ ys) agree up vp sums = absurd (let a = sums (λ _. 1) in let b = sum_by-cons (λ _. 1) y ys in omega arith)
-sorted_one lt weak key (x ∷ xs) [] agree up vp sums = absurd (let a = sums (λ _. 1) in let b = sum_by-cons (λ _. 1) x xs in omega arith)
-sorted_one {X} {K} lt weak key (x ∷ xs) (y ∷ ys) agree up vp sums =
+sorted_one lt weak key [] (y ∷ ys) agree up vp sums = absurd (omega (arith, sums (λ _. 1), sum_by-cons (λ _. 1) y ys))
+sorted_one lt weak key (x ∷ xs) [] agree up vp sums = absurd (omega (arith, sums (λ _. 1), sum_by-cons (λ _. 1) x xs))
+sorted_one lt weak key (x ∷ xs) (y ∷ ys) agree up vp sums =
     let down = heads_tie lt weak key x y xs ys vp (sums (not_below lt (key x))) in
     let back = heads_tie lt weak key y x ys xs up (sym (sums (not_below lt (key y)))) in
     let same : x ≡ y = agree x y (contains_head x xs) (contains_head y ys) down back in
-    let rest : xs ≡ ys = sorted_one lt weak key xs ys (λ a b i j. agree a b (contains_tail x xs a i) (contains_tail y ys b j))
+    let rest = sorted_one lt weak key xs ys (λ a b i j. agree a b (contains_tail x xs a i) (contains_tail y ys b j))
     (sorted_rest (λ a b. lt (key a) (key b)) x xs up) (sorted_rest (λ a b. lt (key a) (key b)) y ys vp)
-    (λ g. let a = sums g in let b = sum_by-cons (λ a. g (key a)) x xs in let c = sum_by-cons (λ a. g (key a)) y ys in let d : g (key x) ≡ g (key y) = ap (λ (z : X). g (key z)) same in omega arith) in
-    ap (λ (z : X). z ∷ xs) same ∙ ap (λ (zs : List X). y ∷ zs) rest
+    (λ g. omega (arith, sums g, sum_by-cons (λ a. g (key a)) x xs, sum_by-cons (λ a. g (key a)) y ys, ap (λ z. g (key z)) same)) in
+    λ i. same i ∷ rest i
 
 -- Lists without doubles.
 
 pub distinct_left : {K : Type 0} (e : K → K → Bool) (xs ys : List K) → IsDistinct e (xs ++ ys) → IsDistinct e xs
-unfolding IsDistinct
-distinct_left e [] ys h = tt
-distinct_left e (x ∷ xs) ys h = IsDistinct-cons e x xs (front (λ y. e x y ≡ false) xs ys (IsDistinct-head e x (xs ++ ys) h)) (distinct_left e xs ys (IsDistinct-tail e x (xs ++ ys) h)) where
-  front : {K : Type 0} (P : K → Type 0) (xs ys : List K) → AllByRecursion P (xs ++ ys) → AllByRecursion P xs
-  front P [] ys a = tt
-  front P (x ∷ xs) ys a = (a.0, front P xs ys a.1)
+distinct_left e xs ys h = IsDistinct-from_apart e xs (λ i j d before below.
+    rw (← get_or_append_left xs ys d i (omega arith), ← get_or_append_left xs ys d j below)
+    (apart_from_distinct e (xs ++ ys) i j d h before (rw length-append (omega arith))))
 
 pub distinct_right : {K : Type 0} (e : K → K → Bool) (xs ys : List K) → IsDistinct e (xs ++ ys) → IsDistinct e ys
 distinct_right e [] ys h = h
@@ -336,14 +278,9 @@ distinct_right e (x ∷ xs) ys h = distinct_right e xs ys (IsDistinct-tail e x (
 
 -- by what a key reads
 pub distinct_by : {X K : Type 0} (e : K → K → Bool) (key : X → K) (xs : List X) → IsDistinct e (map key xs) → IsDistinct (λ a b. e (key a) (key b)) xs
-unfolding IsDistinct
-distinct_by e key [] h = tt
-distinct_by {X} {K} e key (x ∷ xs) h =
-    IsDistinct-cons (λ a b. e (key a) (key b)) x xs (unmapped xs (IsDistinct-head e (key x) (map key xs) h))
-    (distinct_by e key xs (IsDistinct-tail e (key x) (map key xs) h)) where
-      unmapped : (ys : List X) → AllByRecursion (λ k. e (key x) k ≡ false) (map key ys) → AllByRecursion (λ y. e (key x) (key y) ≡ false) ys
-      unmapped [] a = tt
-      unmapped (y ∷ ys) a = (a.0, unmapped ys a.1)
+distinct_by e key xs h = IsDistinct-from_apart (λ a b. e (key a) (key b)) xs (λ i j d before below.
+    rw (← get_or-map key xs i d (key d) (omega arith), ← get_or-map key xs j d (key d) below)
+    (apart_from_distinct e (map key xs) i j (key d) h before (rw length-map below)))
 
 -- what stands after the first differs from it
 pub apart_from_head : {K : Type 0} (e : K → K → Bool) (k : K) (ks : List K) (x : K) → IsDistinct e (k ∷ ks) → Contains ks x → e k x ≡ false
@@ -358,54 +295,48 @@ apart_from_rest {K} e (z ∷ zs) ys x y h i j = elim (contains_cases z zs x i) [
 ]
 
 -- what passes a test has no doubles either
-pub distinct_filter : {X K : Type 0} (e : K → K → Bool) (key : X → K) (test : X → Bool) (xs : List X) → IsDistinct e (map key xs) → IsDistinct e (map key (filter test xs))
+pub distinct_filter : {X K : Type 0} (e : K → K → Bool) (key : X → K) (test : X → Bool) (xs : List X) → IsDistinct e (map key xs)
+    → IsDistinct e (map key (filter test xs))
 unfolding IsDistinct
 distinct_filter e key test [] h = tt
-distinct_filter {X} {K} e key test (x ∷ xs) h = go (test x) (distinct_filter e key test xs (IsDistinct-tail e (key x) (map key xs) h)) where
-  kept : (ys : List X) → AllByRecursion (λ k. e (key x) k ≡ false) (map key ys) → AllByRecursion (λ k. e (key x) k ≡ false) (map key (filter test ys))
-  kept [] a = tt
-  kept (y ∷ ys) a = by (test y) (kept ys a.1) where
-    by : (b : Bool) → AllByRecursion (λ k. e (key x) k ≡ false) (map key (filter test ys)) → AllByRecursion (λ k. e (key x) k ≡ false) (map key (cond b (y ∷ filter test ys) (filter test ys)))
-    by true r = (a.0, r)
-    by false r = r
-
-  go : (b : Bool) → IsDistinct e (map key (filter test xs)) → IsDistinct e (map key (cond b (x ∷ filter test xs) (filter test xs)))
-  go true r = IsDistinct-cons e (key x) (map key (filter test xs)) (kept xs (IsDistinct-head e (key x) (map key xs) h)) r
-  go false r = r
+distinct_filter {X} e key test (x ∷ xs) h =
+    let rest = distinct_filter e key test xs (IsDistinct-tail e (key x) (map key xs) h) in
+    cond_both (test x) (x ∷ filter test xs) (filter test xs) (λ ys. IsDistinct e (map key ys))
+    (λ yes. IsDistinct-cons e (key x) (map key (filter test xs)) (kept xs (IsDistinct-head e (key x) (map key xs) h)) rest) (λ no. rest) where
+      kept : (ys : List X) → AllByRecursion (λ k. e (key x) k ≡ false) (map key ys) → AllByRecursion (λ k. e (key x) k ≡ false) (map key (filter test ys))
+      kept [] a = tt
+      kept (y ∷ ys) a =
+          cond_both (test y) (y ∷ filter test ys) (filter test ys) (λ zs. AllByRecursion (λ k. e (key x) k ≡ false) (map key zs))
+          (λ yes. (a.0, kept ys a.1)) (λ no. kept ys a.1)
 
 -- two elements of the same key are one
-pub one_of_key : {X K : Type 0} (e : K → K → Bool) (flips : (x y : K) → e x y ≡ e y x) (key : X → K) (xs : List X) (x y : X) → IsDistinct e (map key xs) → Contains xs x
+pub one_of_key : {X K : Type 0} (e : K → K → Bool) (flips : (x y : K) → e x y ≡ e y x) (key : X → K) (xs : List X) (x y : X) → IsDistinct e (map key xs)
+    → Contains xs x
     → Contains xs y → e (key x) (key y) ≡ true → x ≡ y
-one_of_key e flips key [] x y own i j h = absurd (omega (arith, i.1))
-one_of_key {X} {K} e flips key (z ∷ zs) x y own i j h = go (contains_cases z zs x i) (contains_cases z zs y j) (one_of_key e flips key zs x y (IsDistinct-tail e (key z) (map key zs) own)) where
-  apart : (w : X) → Contains zs w → e (key z) (key w) ≡ false
-  apart w k = apart_from_head e (key z) (map key zs) (key w) own (contains_map key zs w k)
-
-  go : (z ≡ x) ⊎ Contains zs x → (z ≡ y) ⊎ Contains zs y → (Contains zs x → Contains zs y → e (key x) (key y) ≡ true → x ≡ y) → x ≡ y
-  go (inl a) (inl b) rest = sym a ∙ b
-  go (inl a) (inr k) rest = absurd (false≢true (sym (apart y k) ∙ ap (λ (w : X). e (key w) (key y)) a ∙ h))
-  go (inr k) (inl b) rest = absurd (false≢true (sym (apart x k) ∙ flips (key z) (key x) ∙ ap (λ (w : X). e (key x) (key w)) b ∙ h))
-  go (inr k) (inr l) rest = rest k l h
+one_of_key {X} e flips key xs x y own (i, l, p) (j, m, q) h =
+    let at : (k : ℕ) (z : X) → k < length xs → get_or xs k z ≡ z → get_or (map key xs) k (key x) ≡ key z = λ k z below is.
+    get_or-map key xs k z (key x) below ∙ ap key is in
+    elim (cases_order i j) [
+      | inl same ↦ sym p ∙ get_or_default xs i x y l ∙ ap (λ k. get_or xs k y) same ∙ q
+      | inr (inl before) ↦ absurd (false≢true (sym (apart_from_distinct e (map key xs) i j (key x) own before (rw length-map m))
+          ∙ (λ t. e (at i x l p t) (at j y m q t)) ∙ h))
+      | inr (inr after) ↦ absurd (false≢true (sym (apart_from_distinct e (map key xs) j i (key x) own after (rw length-map l))
+          ∙ (λ t. e (at j y m q t) (at i x l p t)) ∙ flips (key y) (key x) ∙ h))
+    ]
 
 -- Filters.
 
 pub contains_kept : {X : Type 0} (t : X → Bool) (xs : List X) (x : X) → Contains xs x → t x ≡ true → Contains (filter t xs) x
 contains_kept t [] x i h = absurd (omega (arith, i.1))
-contains_kept {X} t (y ∷ ys) x i h = elim (contains_cases y ys x i) [
-  | inl e ↦ subst (λ (zs : List X). Contains zs x) (sym (ap (λ (b : Bool). cond b (y ∷ filter t ys) (filter t ys)) (ap t e ∙ h)))
-      (subst (λ (z : X). Contains (z ∷ filter t ys) x) (sym e) (contains_head x (filter t ys)))
-  | inr j ↦ go (t y) (contains_kept t ys x j h)
-] where
-  go : (b : Bool) → Contains (filter t ys) x → Contains (cond b (y ∷ filter t ys) (filter t ys)) x
-  go true k = contains_tail y (filter t ys) x k
-  go false k = k
+contains_kept t (y ∷ ys) x i h = elim (contains_cases y ys x i) [
+  | inl e ↦ cond_both (t y) (y ∷ filter t ys) (filter t ys) (λ zs. Contains zs x)
+      (λ yes. subst (λ z. Contains (z ∷ filter t ys) x) (sym e) (contains_head x (filter t ys))) (λ no. absurd (false≢true (sym no ∙ ap t e ∙ h)))
+  | inr j ↦ let rest = contains_kept t ys x j h in
+      cond_both (t y) (y ∷ filter t ys) (filter t ys) (λ zs. Contains zs x) (λ yes. contains_tail y (filter t ys) x rest) (λ no. rest)
+]
 
 pub contains_all : {X : Type 0} (t : X → Bool) (xs : List X) (x : X) → Contains (filter t xs) x → Contains xs x
-contains_all t [] x i = i
-contains_all {X} t (y ∷ ys) x i = go (t y) i (contains_all t ys x) where
-  go : (b : Bool) → Contains (cond b (y ∷ filter t ys) (filter t ys)) x → (Contains (filter t ys) x → Contains ys x) → Contains (y ∷ ys) x
-  go true k rec = elim (contains_cases y (filter t ys) x k) [ inl e ↦ subst (λ (z : X). Contains (y ∷ ys) z) e (contains_head y ys) | inr j ↦ contains_tail y ys x (rec j) ]
-  go false k rec = contains_tail y ys x (rec k)
+contains_all t xs x = All-contains (Contains xs) (filter t xs) x (All-filter t (Contains xs) xs (All-contains_itself xs))
 
 -- Beginnings.
 
@@ -418,11 +349,13 @@ take_while-all p (x ∷ xs) h = take_while-cons p x xs ∙ by (p x) h (take_whil
     by false h rest = cc
 
 -- the beginning ends in the first list, or goes on in the second
-pub take_while-append : {X : Type 0} (p : X → Bool) (xs ys : List X) → take_while p (xs ++ ys) ≡ (if list_all p xs then xs ++ take_while p ys else take_while p xs)
+pub take_while-append : {X : Type 0} (p : X → Bool) (xs ys : List X)
+    → take_while p (xs ++ ys) ≡ (if list_all p xs then xs ++ take_while p ys else take_while p xs)
 take_while-append p [] ys = refl
 take_while-append {X} p (x ∷ xs) ys =
     take_while-cons p x (xs ++ ys)
-    ∙ (by (p x) (list_all p xs) (take_while-append p xs ys) ∙ ap (λ (zs : List X). if p x && list_all p xs then x ∷ (xs ++ take_while p ys) else zs) (sym (take_while-cons p x xs)))
+    ∙ by (p x) (list_all p xs) (take_while-append p xs ys)
+    ∙ ap (λ (zs : List X). if p x && list_all p xs then x ∷ (xs ++ take_while p ys) else zs) (sym (take_while-cons p x xs))
   where
     by : (b c : Bool) → take_while p (xs ++ ys) ≡ (if c then xs ++ take_while p ys else take_while p xs)
         → cond b (x ∷ take_while p (xs ++ ys)) [] ≡ (if b && c then x ∷ (xs ++ take_while p ys) else cond b (x ∷ take_while p xs) [])

@@ -5,7 +5,6 @@ use Rattle.std.specs.Option.{option_or}
 use Rattle.cdm_flight.specs.declared.reach.Reach.TheVariants as reach
 use Rattle.cdm_flight.specs.declared.update.Update.{Update}
 use Rattle.cdm_flight.specs.declared.update.Update.TheVariants.{Rate, Close, Reopen, Clock}
-use Rattle.cdm_flight.specs.declared.word.RefusalWord.{RefusalWord}
 use Rattle.cdm_flight.specs.declared.word.RefusalWord.TheVariants.{Full}
 use Rattle.cdm_flight.specs.Reach.{flight_in, reach_of}
 use Rattle.cdm_flight.specs.Record.{Record}

@@ -33,7 +33,8 @@ planned f t = (role.AirportOperator, update.Flt f 5) ∷ (role.AirTrafficControl
 
 -- a flight without a runway doesn't leave its stand
 before_off_block : (g : AirportRows) → IsBase g → replies_to g [] ((role.AirportOperator, update.Flt ab1 5) ∷ (role.AirTrafficControl, update.Air ab1 380)
-    ∷ (role.AirTrafficControl, update.Off ab1 360) ∷ (role.AirTrafficControl, update.Rwy ab1 r27) ∷ []) ≡ None ∷ Some word.Order ∷ Some word.NotReady ∷ None ∷ []
+    ∷ (role.AirTrafficControl, update.Off ab1 360) ∷ (role.AirTrafficControl, update.Rwy ab1 r27) ∷ [])
+    ≡ None ∷ Some word.Order ∷ Some word.NotReady ∷ None ∷ []
 unfolding replies_to refusal refusal_of exot_of flight_of values_of
 before_off_block g base = rw base.0 refl
 
@@ -43,9 +44,11 @@ unfolding refusal refusal_of exot_of flight_of
 off_block g base = rw base.1 refl
 
 -- then only its take-off, not before it left, and after that nothing
-after_off_block : (g : AirportRows) → IsBase g → replies_to g (update.Flt ab1 5 ∷ update.Rwy ab1 r27 ∷ update.Off ab1 360 ∷ []) ((role.AircraftOperator, update.Tobt ab1 360)
+after_off_block : (g : AirportRows) → IsBase g
+    → replies_to g (update.Flt ab1 5 ∷ update.Rwy ab1 r27 ∷ update.Off ab1 360 ∷ []) ((role.AircraftOperator, update.Tobt ab1 360)
     ∷ (role.AirTrafficControl, update.Air ab1 359) ∷ (role.AirTrafficControl, update.Air ab1 380) ∷ (role.AircraftOperator, update.Cnl ab1)
-    ∷ (role.AirportOperator, update.Flt cd2 5) ∷ (role.AircraftOperator, update.Cnl cd2) ∷ (role.AircraftOperator, update.Tobt cd2 360) ∷ (role.AirportOperator, update.Flt cd2 5) ∷ [])
+    ∷ (role.AirportOperator, update.Flt cd2 5) ∷ (role.AircraftOperator, update.Cnl cd2) ∷ (role.AircraftOperator, update.Tobt cd2 360)
+    ∷ (role.AirportOperator, update.Flt cd2 5) ∷ [])
     ≡ Some word.OffBlock ∷ Some word.Order ∷ None ∷ Some word.Ended ∷ None ∷ None ∷ Some word.Ended ∷ Some word.Exists ∷ []
 unfolding replies_to refusal refusal_of exot_of flight_of values_of
 after_off_block g base = refl
@@ -68,7 +71,8 @@ clock_after g base = rw base.0 refl
 abbrev left : List Update
 left = update.Flt ab1 5 ∷ update.Rwy ab1 r27 ∷ update.Off ab1 360 ∷ update.Flt cd2 5 ∷ update.Rwy cd2 r27 ∷ []
 
-exot_after_off : (g : AirportRows) → IsBase g → (exot_of g (left ++ update.Taxi place.Default r27 40 ∷ []) ab1 ≡ Some 15) × (exot_of g (left ++ update.Taxi place.Default r27 40 ∷ []) cd2 ≡ Some 40)
+exot_after_off : (g : AirportRows) → IsBase g
+    → (exot_of g (left ++ update.Taxi place.Default r27 40 ∷ []) ab1 ≡ Some 15) × (exot_of g (left ++ update.Taxi place.Default r27 40 ∷ []) cd2 ≡ Some 40)
 unfolding exot_of
 exot_after_off g base = (rw base.1 refl, refl)
 
@@ -87,7 +91,8 @@ closed_minutes = (refl, refl, refl, refl, refl, refl, refl)
 abbrev rates : List Update
 rates = update.Rate r27 370 390 0 ∷ update.Rate r27 370 380 1 ∷ []
 
-caps : (g : AirportRows) → IsBase g → (cap_of g rates r27 369 ≡ 2) × (cap_of g rates r27 370 ≡ 1) × (cap_of g rates r27 379 ≡ 1) × (cap_of g rates r27 380 ≡ 0) × (cap_of g rates r27 390 ≡ 2)
+caps : (g : AirportRows) → IsBase g
+    → (cap_of g rates r27 369 ≡ 2) × (cap_of g rates r27 370 ≡ 1) × (cap_of g rates r27 379 ≡ 1) × (cap_of g rates r27 380 ≡ 0) × (cap_of g rates r27 390 ≡ 2)
 caps g base = rw base.0 (refl, refl, refl, refl, refl)
 
 -- priority, then TOBT, then name by bytes
