@@ -1,6 +1,7 @@
 -- The slots that pieces are put into.
-use Rattle.std.proofs.Common.{◌≡◌, ℕ, zero, suc, set, ◌<◌, List, [], ◌∷◌, length, get_or, sym, Option, Some, None, IsNone, IfSome, All, Contains, Vec, Global, arith}
-use Rattle.std.proofs.lemmas.List.Elements.{All-same, All-head, All-contains_itself}
+use Rattle.std.proofs.Common.{◌≡◌, ℕ, zero, suc, set, ◌<◌, List, [], ◌∷◌, length, get_or, sym, Option, Some, None, IsNone, IfSome, All, Contains}
+use Rattle.std.proofs.Common.{Vec, Global, arith}
+use Rattle.std.proofs.lemmas.List.Elements.{All-same, All-head, All-rest, All-contains_itself}
 use Rattle.cdm_phase.specs.inner.Slots.{AreSlotsOf}
 use Rattle.cdm_phase.specs.declared.piece.Piece.{Piece}
 
@@ -19,14 +20,12 @@ each-set P (x ∷ xs) (suc k) a here before (suc n) d l =
 abbrev pub IsLeft : {Y : Type 0} → List (Piece Y) → ℕ → Piece Y → Type 0
 IsLeft pieces count piece = (piece.number < count) × Contains pieces piece
 
--- at first all pieces are left
-pub all-left : {Y : Type 0} (pieces left : List (Piece Y)) (count : ℕ) → left ≡ pieces
-    → All (λ piece. piece.number < count) pieces → All (IsLeft pieces count) left
-all-left pieces left count is numbers =
-    All-same (IsLeft pieces count) left pieces is
-    (λ k d h. (numbers k d h, All-contains_itself pieces k d h))
+-- the pieces so far stand in their slots, and the others are left
+pub record ArePut {Y : Type 0} (pieces : List (Piece Y)) (count : ℕ) (slots : List (Option (Vec Y Global))) (left : List (Piece Y)) : Type 0 where
+  pub in_slots : AreSlotsOf pieces slots
+  pub are_left : All (IsLeft pieces count) left
 
-module _ {Y : Type 0} (pieces : List (Piece Y)) (slots : List (Option (Vec Y Global))) where
+module _ {Y : Type 0} (pieces : List (Piece Y)) where
   abbrev IsFrom : ℕ → Option (Vec Y Global) → Type 0
   IsFrom n slot = IfSome slot (λ outs. Contains pieces (record { number = n; outs = outs }))
 
@@ -34,19 +33,25 @@ module _ {Y : Type 0} (pieces : List (Piece Y)) (slots : List (Option (Vec Y Glo
   none-from n None h = tt
   none-from n (Some outs) h = absurd (cc)
 
-  -- at first all slots are empty
-  pub AreSlotsOf-empty : All (λ slot. IsNone slot) slots → AreSlotsOf pieces slots
-  AreSlotsOf-empty empty = record { from_pieces = λ n d h. none-from n _ (empty n d h) }
+  -- at first all slots are empty, and all pieces are left
+  pub ArePut-none : (count : ℕ) (slots : List (Option (Vec Y Global))) (left : List (Piece Y)) → All (λ slot. IsNone slot) slots → left ≡ pieces
+      → All (λ piece. piece.number < count) pieces → ArePut pieces count slots left
+  ArePut-none count slots left empty is numbers = record {
+    in_slots = record { from_pieces = λ n d h. none-from n _ (empty n d h) };
+    are_left = All-same (IsLeft pieces count) left pieces is (λ k d h. (numbers k d h, All-contains_itself pieces k d h));
+  }
 
   -- the first of the pieces left is put into its slot
-  pub AreSlotsOf-put : (count : ℕ) (piece : Piece Y) (left next : List (Piece Y)) → left ≡ piece ∷ next
-      → All (IsLeft pieces count) left → AreSlotsOf pieces slots
-      → AreSlotsOf pieces (set slots piece.number (Some piece.outs))
-  AreSlotsOf-put count piece left next is all before =
+  pub ArePut-more : (count : ℕ) (slots : List (Option (Vec Y Global))) (piece : Piece Y) (left next : List (Piece Y)) → left ≡ piece ∷ next
+      → ArePut pieces count slots left → ArePut pieces count (set slots piece.number (Some piece.outs)) next
+  ArePut-more count slots piece left next is before =
       let IsOne = IsLeft pieces count in
-      let first = All-head IsOne piece next (All-same IsOne (piece ∷ next) left (sym is) all) in
-      record { from_pieces = each-set IsFrom slots piece.number (Some piece.outs) first.1 before.from_pieces }
+      let first = All-head IsOne piece next (All-same IsOne (piece ∷ next) left (sym is) before.are_left) in
+      record {
+        in_slots = record { from_pieces = each-set IsFrom slots piece.number (Some piece.outs) first.1 before.in_slots.from_pieces };
+        are_left = All-rest IsOne piece next left is before.are_left;
+      }
 
   -- a slot is emptied
-  pub AreSlotsOf-take : (n : ℕ) → AreSlotsOf pieces slots → AreSlotsOf pieces (set slots n None)
-  AreSlotsOf-take n before = record { from_pieces = each-set IsFrom slots n None tt before.from_pieces }
+  pub AreSlotsOf-take : (slots : List (Option (Vec Y Global))) (n : ℕ) → AreSlotsOf pieces slots → AreSlotsOf pieces (set slots n None)
+  AreSlotsOf-take slots n before = record { from_pieces = each-set IsFrom slots n None tt before.from_pieces }

@@ -1,5 +1,6 @@
 -- The day after a date has the next day number.
 use Rattle.std.proofs.Common.{◌≡◌, ◌≤◌, ◌+◌, ◌/◌, ℕ, Bool, true, false, ◌&&◌, nat_lt, nat_le, arith, ◌∙◌, ap, pos, ◌+ℤ◌, refl}
+use Rattle.std.proofs.lemmas.Bool.{and_parts}
 use Rattle.std.proofs.lemmas.Bool.Decides.{nat_tests}
 use Rattle.std.proofs.lemmas.Int.{ints}
 use Rattle.jiff.specs.Words.{days_in_month}
@@ -20,14 +21,16 @@ IsCalendarDay-from_is_date d date =
     let p = parts d.month d.day (days_in_month (pos d.year) d.month) date in
     record { month_from = p.0; month_to = p.1; day_from = p.2; day_to = p.3 }
   where
-    parts : (month day last : ℕ) → (nat_le 1 month && nat_le month 12 && nat_le 1 day && nat_le day last) ≡ true → (1 ≤ month) × (month ≤ 12) × (1 ≤ day) × (day ≤ last)
+    parts : (month day last : ℕ) → (nat_le 1 month && nat_le month 12 && nat_le 1 day && nat_le day last) ≡ true
+        → (1 ≤ month) × (month ≤ 12) × (1 ≤ day) × (day ≤ last)
     parts month day last all = grind (arith, nat_tests)
 
 -- by cases: in the month, at a month's end, at the year's end
 day_number-next_date : (d : CalendarDate) → is_date d ≡ true → day_number (next_date d) ≡ day_number d +ℤ pos 1
 day_number-next_date d date = by (nat_lt d.day (days_in_month (pos d.year) d.month)) refl (nat_lt d.month 12) refl
   where
-    by : (in_month : Bool) → nat_lt d.day (days_in_month (pos d.year) d.month) ≡ in_month → (in_year : Bool) → nat_lt d.month 12 ≡ in_year → day_number (next_date d) ≡ day_number d +ℤ pos 1
+    by : (in_month : Bool) → nat_lt d.day (days_in_month (pos d.year) d.month) ≡ in_month → (in_year : Bool) → nat_lt d.month 12 ≡ in_year
+        → day_number (next_date d) ≡ day_number d +ℤ pos 1
     by true e b f =
         let same = days_from_civil-day (pos d.year) d.month d.day (d.day + 1) (IsCalendarDay-from_is_date d date).day_from (omega arith) in
         rw e (omega (arith, ints, same))
@@ -45,13 +48,11 @@ day_number-next_date d date = by (nat_lt d.day (days_in_month (pos d.year) d.mon
 
 -- a first day is a date
 pub is_date-first_day : (d : CalendarDate) → is_first_day d ≡ true → is_date d ≡ true
-is_date-first_day d h = second (nat_le 2000 d.year && nat_le d.year 2099) (is_date d) h where
-  second : (a b : Bool) → (a && b) ≡ true → b ≡ true
-  second true b h = h
-  second false b h = cc
+is_date-first_day d h = (and_parts (nat_le 2000 d.year && nat_le d.year 2099) (is_date d) h).1
 
 -- the minutes of the second day are on the next date
-pub day_number-date_at : (d : CalendarDate) (minute : ℕ) → minute ≤ 2879 → is_date d ≡ true → day_number (date_at d minute) ≡ day_number d +ℤ pos (minute / 1440)
+pub day_number-date_at : (d : CalendarDate) (minute : ℕ) → minute ≤ 2879 → is_date d ≡ true
+    → day_number (date_at d minute) ≡ day_number d +ℤ pos (minute / 1440)
 day_number-date_at d minute in_horizon date = by (nat_lt minute 1440) refl
   where
     by : (on_first : Bool) → nat_lt minute 1440 ≡ on_first → day_number (date_at d minute) ≡ day_number d +ℤ pos (minute / 1440)
