@@ -1,5 +1,5 @@
 -- One runway's sequence: its plan with all that is shown of each flight.
-use Rattle.std.specs.Prelude.{◌≡◌, ℕ, ◌-◌, ◌++◌, List, Some, None, is_none, All, Contains, IsPermutation, IsSorted, filter, map}
+use Rattle.std.specs.Prelude.{◌≡◌, ℕ, ◌-◌, ◌++◌, List, Some, is_none, All, Contains, IsPermutation, IsSorted, filter, map}
 use Rattle.std.specs.List.{filter_map}
 use Rattle.std.specs.Option.{option_map}
 use Rattle.cdm_runway.specs.Rules.{RunwayRules}
