@@ -14,7 +14,7 @@ use Rattle.std.proofs.lemmas.List.Sorted.{IsPermutation-refl, IsPermutation-sym,
 use Rattle.std.proofs.lemmas.Map.Keys.{IsDistinct-IsPermutation, apart_from_distinct}
 use Rattle.std.proofs.lemmas.Map.Views.{lookup-from_Contains}
 use Rattle.std.proofs.lemmas.Simd.{map-map}
-use Rattle.cdm_flight.specs.Names.{same_name}
+use Rattle.cdm_flight.specs.Names.{name_cmp, same_name}
 use Rattle.cdm_flight.specs.Order.{key_cmp, is_before}
 use Rattle.cdm_flight.proofs.Lists.{contains_cases, contains_from_map, contains_head, contains_map, contains_tail, All-given, filter_map-map, filter_map_cons}
 use Rattle.cdm_flight.proofs.Lists.{filter_map_same, distinct_by, distinct_right}
@@ -27,7 +27,7 @@ use Rattle.cdm_sequence.specs.Plan.{Placing, taken_before, IsLeast}
 use Rattle.cdm_sequence.specs.Sequence.{planned_slot, flight_names, Blocks, IsRightlyBlocked, IsSequence}
 use Rattle.cdm_sequence.specs.inner.Shown.{names_left}
 use Rattle.cdm_sequence.specs.inner.Turns.{placed_at, blocked_from, IsDecided, AreDecided}
-use Rattle.cdm_sequence.specs.Slots.{SlotRecord, RunwayPlanRecord, slot_cmp, blocked_cmp}
+use Rattle.cdm_sequence.specs.Slots.{SlotRecord, RunwayPlanRecord, slot_cmp}
 use Rattle.cdm_sequence.specs.Targets.{TargetRecord}
 use Rattle.cdm_sequence.specs.Words.{rule_for}
 use Rattle.cdm_sequence.specs.declared.decision.Decision.{Decision}
@@ -178,7 +178,7 @@ pub record IsMade (r : RunwayRules) (fixed : List SlotRecord) (targets : List Ta
   pub slots : IsPermutation (fixed ++ slots_given ds) plan.slots
   pub slot_order : IsSorted slot_cmp plan.slots
   pub blocked : IsPermutation (blocked_given ds) plan.blocked
-  pub blocked_order : IsSorted blocked_cmp plan.blocked
+  pub blocked_order : IsSortedByKey (λ b. b.name) name_cmp plan.blocked
 
 -- so they show the runway's sequence
 pub sequence_made : (r : RunwayRules) (fixed : List SlotRecord) (targets : List TargetRecord) (ds : List Decision) (plan : RunwayPlanRecord)

@@ -1,12 +1,12 @@
 //! One runway's sequence.
-ghost use Rattle.std.specs.Prelude.{◌≡◌, ℕ, ◌+◌, ◌≤◌, ◌++◌, length, map, All, IfOk, IsPermutation, IsSorted};
+ghost use Rattle.std.specs.Prelude.{◌≡◌, ℕ, ◌+◌, ◌≤◌, ◌++◌, length, map, All, IfOk, IsPermutation, IsSorted, IsSortedByKey};
 ghost use Rattle.std.specs.List.{filter_map, IsDistinct};
 ghost use Rattle.std.specs.Option.{option_map};
-ghost use Rattle.cdm_flight.specs.Names.{same_name};
+ghost use Rattle.cdm_flight.specs.Names.{name_cmp, same_name};
 ghost use Rattle.cdm_sequence.specs.Fixed.{takeoffs};
 ghost use Rattle.cdm_sequence.specs.Plan.{Placing, IsAllowed, IsEarlier};
 ghost use Rattle.cdm_sequence.specs.Sequence.{IsSequence, IsSequenceBy, flight_names, planned_slot};
-ghost use Rattle.cdm_sequence.specs.Slots.{slot_cmp, blocked_cmp};
+ghost use Rattle.cdm_sequence.specs.Slots.{slot_cmp};
 ghost use Rattle.cdm_sequence.specs.inner.Turns.{blocked_from, placed_at};
 
 use crate::decision::Decision;
@@ -72,7 +72,7 @@ fn blocked_given(alloc: Global, decisions: &[Decision]) -> Result<Vec<BlockedFli
 // The same flights by name.
 fn blocked_of(alloc: Global, decisions: &[Decision]) -> Result<Vec<BlockedFlight>, AllocError>
     ensures same { IfOk result (λ v. IsPermutation (filter_map (λ d. blocked_from d.target d.outcome) decisions.now) v.items) }
-    ensures sorted { IfOk result (λ v. IsSorted blocked_cmp v.items) }
+    ensures sorted { IfOk result (λ v. IsSortedByKey (λ b. b.name) name_cmp v.items) }
 {
     let mut blocked = blocked_given(alloc, decisions)?;
     blocked.sort_unstable_by_key(|flight| flight.name);
@@ -93,7 +93,7 @@ fn shown(
     ensures slot_order { IfOk result (λ plan. IsSorted slot_cmp plan.slots) }
     ensures blocked { IfOk result (λ plan. IsPermutation
         (filter_map (λ d. blocked_from d.target d.outcome) decisions.now) plan.blocked) }
-    ensures blocked_order { IfOk result (λ plan. IsSorted blocked_cmp plan.blocked) }
+    ensures blocked_order { IfOk result (λ plan. IsSortedByKey (λ b. b.name) name_cmp plan.blocked) }
 {
     let slots = slots_of(alloc, fixed, decisions)?;
     let blocked = blocked_of(alloc, decisions)?;
