@@ -7,7 +7,8 @@ use Rattle.cdm_plan.proofs.PlanWords.{same_name, Record, Update, AirportRows, fl
 use Rattle.cdm_plan.proofs.PlanWords.{IsSequence, PlanRecord, RunwayPlanRecord, TargetRecord, BlockedFlight, IsAirport, runway_names, DayRecord}
 use Rattle.cdm_plan.proofs.PlanWords.{flights_in, rules_of, rows_by_name, rules_in, IsDayPlan, day_rules, records_in, HasParts}
 use Rattle.cdm_plan.proofs.PlanWords.{fixed_on, planned_of, targets_in, targets_on, IsPlanOn, fixed_in, IsSound}
-use Rattle.cdm_plan.proofs.PlanningLemmas.{aim_list, aims_are, aims_mean, blocked_early, early-aims, few_names, names_given, targets-aims, targets_of}
+use Rattle.cdm_plan.proofs.PlanningLemmas.{aim_list, aims_are, aims_mean, blocked_early, early-aims, few_names, targets-aims, targets_of}
+use Rattle.cdm_sequence.proofs.NameLemmas.{names_given}
 use Rattle.cdm_plan.proofs.NameLemmas.{rows_permutation, runway-names, take-next}
 use Rattle.cdm_plan.proofs.PartLemmas.{AllZip-reordered, runways_make}
 

@@ -1,5 +1,5 @@
 -- A runway that updates do not touch keeps its plan.
-use Rattle.std.proofs.Common.{◌≡◌, ℕ, Bool, true, false, ◌&&◌, List, [], ◌∷◌, ◌++◌, Option, None, Some, refl, sym, ◌∙◌, ap, subst}
+use Rattle.std.proofs.Common.{◌≡◌, ℕ, Bool, true, false, List, [], ◌∷◌, ◌++◌, Option, None, Some, refl, sym, ◌∙◌, ap, subst}
 use Rattle.cdm_plan.proofs.ListWords.{option_and_then, option_map_or, if◌then◌else◌, Contains, cons_option, filter_map, find, append-nil}
 use Rattle.cdm_plan.proofs.ListWords.{filter_map-append, Contains-permutation, IsPermutation-sym, contains_from_map, contains_map, if_so, one_of_key}
 use Rattle.cdm_plan.proofs.PlanWords.{DayValues, RunwayRow, Place, Update, reach_of, same_name, same_reach, Record, is_planned, taxi_out, flight_of}

@@ -1,37 +1,42 @@
 -- A day has one plan.
-use Rattle.std.proofs.Common.{◌≡◌, ℕ, Bool, true, false, ◌||◌, List, [], ◌∷◌, ◌++◌, Option, None, Some, is_none, refl, sym, ◌∙◌, ap, subst, inl, inr, map, filter, arith}
-use Rattle.cdm_plan.proofs.ListWords.{is_lt, is_some, All, AllZip, Contains, IsDistinct, flat_map, list_any, IsPermutation, IsSortedBy, false≢true}
-use Rattle.cdm_plan.proofs.ListWords.{map-append, nat_list_cmp_total, or_comm, All-contains, All-permutation, Contains-permutation}
-use Rattle.cdm_plan.proofs.ListWords.{IsPermutation-append_comm, IsPermutation-map, IsPermutation-refl, IsPermutation-sym, IsPermutation-trans}
-use Rattle.cdm_plan.proofs.ListWords.{sum_by-IsPermutation}
-use Rattle.cdm_plan.proofs.ListWords.{IsDistinct-IsPermutation, contains_head, contains_tail, contains_cases, distinct_filter, distinct_right, list_any-find, list_any-map, one_of_key, sorted_one}
+use Rattle.std.proofs.Common.{◌≡◌, ℕ, true, List, [], ◌∷◌, ◌++◌, refl, sym, ◌∙◌, ap, subst, inl, inr, map, arith}
+use Rattle.cdm_plan.proofs.ListWords.{is_lt, All, AllZip, Contains, IsDistinct, flat_map, list_any, IsPermutation, IsSortedBy}
+use Rattle.cdm_plan.proofs.ListWords.{map-append, nat_list_cmp_total, All-contains, All-permutation}
+use Rattle.cdm_plan.proofs.ListWords.{IsPermutation-append_comm, IsPermutation-map, IsPermutation-refl, IsPermutation-trans}
+use Rattle.cdm_plan.proofs.ListWords.{IsPermutation-append_left, IsPermutation-append_right, append_assoc}
+use Rattle.cdm_plan.proofs.ListWords.{IsDistinct-IsPermutation, contains_head, contains_tail, contains_cases, distinct_filter, distinct_right, list_any-find, list_any-map, one_of_key}
 use Rattle.cdm_plan.proofs.PlanWords.{DayValues, name_cmp, same_name, Record, RunwayRules, TaxiTimes, SlotRecord, IsSequence, IsSequenceBy}
-use Rattle.cdm_plan.proofs.PlanWords.{names_left, PlanRecord, RunwayPlanRecord, TargetRecord, AimResult, BlockedFlight, Placing, IsEarlier, if_passes}
-use Rattle.cdm_plan.proofs.PlanWords.{is_on, is_same, same_flips, tied_names}
+use Rattle.cdm_plan.proofs.PlanWords.{PlanRecord, RunwayPlanRecord, TargetRecord, AimResult, BlockedFlight, Placing, IsEarlier}
+use Rattle.cdm_plan.proofs.PlanWords.{is_same, same_flips, tied_names}
 use Rattle.cdm_plan.proofs.PlanWords.{runway_names, DayRecord, flights_in, IsDayAllowed, IsDayPlan, IsDayPlanBy, day_rules, records_in, has_runway}
 use Rattle.cdm_plan.proofs.PlanWords.{values_of, taxi_of, RunwayRow, AreAims, HasParts, IsPlanOf, early_in, fixed_on, planned_of, targets_in}
 use Rattle.cdm_plan.proofs.PlanWords.{targets_on}
-use Rattle.cdm_sequence.proofs.OneLemmas.{names_weak, sequence_one, tie_from}
+use Rattle.cdm_sequence.proofs.OneLemmas.{one_order, sequence_one}
 use Rattle.cdm_plan.proofs.DayPlanLemmas.{day_rules_differ, record_names_differ}
 use Rattle.cdm_plan.proofs.NameLemmas.{runway-names}
 use Rattle.cdm_plan.proofs.PartLemmas.{runways_make}
 use Rattle.cdm_plan.proofs.PlacingLemmas.{allowed_on, none_earlier_on}
-use Rattle.cdm_plan.proofs.PlanningLemmas.{AllZip-weaker, aims_are, all_zipped, any_of, blocked_early, early-aims, early_at, early_named, fixed_at}
-use Rattle.cdm_plan.proofs.PlanningLemmas.{gathered, made_named, names_kept, names_on, stands_here, target_at, target_name, targets-aims, targets_of}
-use Rattle.cdm_plan.proofs.PlanningLemmas.{targets_on-given}
+use Rattle.cdm_plan.proofs.PlanningLemmas.{AllZip-weaker, aims_are, blocked_early, early-aims, made_named, names_on, once}
+use Rattle.cdm_plan.proofs.PlanningLemmas.{Shows, shows_made, stands_in, targets-aims, targets_of}
 
 -- Lists by name.
 
 -- a list whose elements differ by name has one order by name
-one_order : {X : Type 0} (name : X → List ℕ) (all xs ys : List X) → IsDistinct same_name (map name all) → IsPermutation all xs → IsPermutation all ys
+by_name : {X : Type 0} (name : X → List ℕ) (all xs ys : List X) → IsDistinct same_name (map name all) → IsPermutation all xs → IsPermutation all ys
     → IsSortedBy (λ a b. is_lt (name_cmp (name a) (name b))) xs → IsSortedBy (λ a b. is_lt (name_cmp (name a) (name b))) ys → xs ≡ ys
-one_order name all xs ys own same other up vp =
-    sorted_one (λ m n. is_lt (name_cmp m n)) names_weak name xs ys
-    (λ a b i j h k.
-    one_of_key same_name same_flips name all a b own (Contains-permutation xs all a (IsPermutation-sym all xs same) i) (Contains-permutation ys all b (IsPermutation-sym all ys other) j)
-    (is_same (name a) (name b) (tied_names (name a) (name b) (tie_from nat_list_cmp_total (name a) (name b) h k))))
-    up vp
-    (λ g. sum_by-IsPermutation (λ a. g (name a)) all xs same ∙ sym (sum_by-IsPermutation (λ a. g (name a)) all ys other))
+by_name name all xs ys own =
+    one_order nat_list_cmp_total name all xs ys
+    (λ a b i j tied. one_of_key same_name same_flips name all a b own i j (is_same (name a) (name b) (tied_names (name a) (name b) tied)))
+
+-- lists of two parts each, put together, are the first parts and the second ones
+flat_map-parts : {X Y : Type 0} (f g : X → List Y) (xs : List X) → IsPermutation (flat_map (λ x. f x ++ g x) xs) (flat_map f xs ++ flat_map g xs)
+flat_map-parts f g [] = IsPermutation-refl []
+flat_map-parts f g (x ∷ xs) =
+    let fs = flat_map f xs in
+    let gs = flat_map g xs in
+    let crossed = rw (append_assoc (g x) fs gs, append_assoc fs (g x) gs) at (IsPermutation-append_left gs _ _ (IsPermutation-append_comm (g x) fs)) in
+    IsPermutation-trans _ _ _ (IsPermutation-append_right (f x ++ g x) _ _ (flat_map-parts f g xs))
+    (rw (append_assoc (f x) (g x) (fs ++ gs), append_assoc (f x) fs (g x ++ gs)) (IsPermutation-append_right (f x) _ _ crossed))
 
 -- the names of lists put together
 names_of_lists : {X Y : Type 0} (f : X → List Y) (name : Y → List ℕ) (xs : List X) → flat_map (λ x. map name (f x)) xs ≡ map name (flat_map f xs)
@@ -72,22 +77,6 @@ module _ (times : TaxiTimes) (values : DayValues) (fs : List Record) (own : IsDi
   made_one (r ∷ rs) (x ∷ xs) [] a b = absurd b
   made_one _ _ _ a b = absurd a
 
-  -- a flight has a target on the runway, and no minute
-  abbrev left : Placing → List ℕ → Record → Bool
-  left placing r f = is_some (if_passes (λ t. is_none (placing t)) (target_at r times values f))
-
-  left_here : (placing : Placing) (r : List ℕ) (f : Record) → left placing r f ≡ true → (is_on r f ≡ true) × (is_some (early_at times values f) ≡ false)
-  left_here placing r f h = stands_here times values r f (by (target_at r times values f) h)
-    where
-      by : (o : Option TargetRecord) → is_some (if_passes (λ t. is_none (placing t)) o) ≡ true → (is_some (fixed_at r f) || is_some o) ≡ true
-      by None k = absurd (false≢true k)
-      by (Some t) k = or_comm (is_some (fixed_at r f)) true
-
-  left_names : (placing : Placing) (r : List ℕ) → names_left placing (targets_at r) ≡ map (λ f. f.name) (filter (left placing r) fs)
-  left_names placing r =
-      ap (λ (ts : List TargetRecord). map (λ t. t.key.name) (filter (λ t. is_none (placing t)) ts)) (targets_on-given r times values fs)
-      ∙ names_kept (λ (t : TargetRecord). t.key.name) (λ (f : Record). f.name) (λ t. is_none (placing t)) (target_at r times values) (target_name r times values) fs
-
   module _ (placing : Placing) (rs : List RunwayRules) (rs_own : IsDistinct same_name (map (λ r. r.name) rs)) (made : List RunwayPlanRecord) (all : AllZip (IsMadeBy placing) rs made) where
     each_made : AllZip IsMade rs made
     each_made = AllZip-weaker (IsMadeBy placing) IsMade (λ r p h. (placing, h)) rs made all
@@ -97,27 +86,22 @@ module _ (times : TaxiTimes) (values : DayValues) (fs : List Record) (own : IsDi
     made_own = subst (λ (ns : List (List ℕ)). IsDistinct same_name ns) (sym (made_named (λ r. fixed_on r fs) targets_at rs made each_made)) rs_own
 
     -- and so have all blocked flights
-    blocked_own : (ps : List RunwayPlanRecord) → IsPermutation made ps → IsDistinct same_name (map (λ b. b.name) (blocked_early fs times values ++ flat_map (λ p. p.blocked) ps))
+    blocked_own : (ps : List RunwayPlanRecord) → IsPermutation made ps
+        → IsDistinct same_name (map (λ b. b.name) (blocked_early fs times values ++ flat_map (λ p. p.blocked) ps))
     blocked_own ps same =
         let name : BlockedFlight → List ℕ = λ b. b.name in
         let runway : RunwayPlanRecord → List ℕ = λ p. p.runway in
-        let names : RunwayPlanRecord → List (List ℕ) = λ p. map name p.blocked in
-        let early = blocked_early fs times values in
-        let later = flat_map (λ p. p.blocked) ps in
-        let Names : List ℕ → RunwayPlanRecord → Type 0 = λ r p. IsPermutation (map (λ f. f.name) (filter (left placing r) fs)) (names p) in
-        let each = all_zipped (IsMadeBy placing) (λ p. Names p.runway p)
-        (λ r p h. subst (λ (n : List ℕ). Names n p) (sym h.runway) (subst (λ (ns : List (List ℕ)). IsPermutation ns (names p)) (left_names placing r.name) h.blocked)) rs made all in
+        let slots : RunwayPlanRecord → List (List ℕ) = λ p. map (λ x. x.name) p.slots in
+        let blocked : RunwayPlanRecord → List (List ℕ) = λ p. map name p.blocked in
+        let early = map name (blocked_early fs times values) in
         let apart = IsDistinct-IsPermutation same_name same_flips (map runway made) (map runway ps) (IsPermutation-map runway made ps same) made_own in
-        let test = any_of fs (left placing) (λ f. is_some (early_at times values f)) (left_here placing) runway names ps in
-        let flights = map (λ (f : Record). f.name) (filter test fs) in
-        let once : IsPermutation flights (flat_map names ps ++ map name early) =
-        gathered fs (left placing) (λ f. is_some (early_at times values f)) (left_here placing) runway names ps (map name early) apart (early_named times values fs)
-        (All-permutation (λ p. Names p.runway p) made ps same each) in
-        let whole = ap (λ (ns : List (List ℕ)). ns ++ map name early) (names_of_lists (λ (p : RunwayPlanRecord). p.blocked) name ps) ∙ sym (map-append name later early) in
-        IsDistinct-IsPermutation same_name same_flips flights (map name (early ++ later))
-        (IsPermutation-trans flights (map name (later ++ early)) (map name (early ++ later)) (subst (IsPermutation flights) whole once)
-        (IsPermutation-map name (later ++ early) (early ++ later) (IsPermutation-append_comm later early)))
-        (distinct_filter same_name (λ (f : Record). f.name) test fs own)
+        let all = once times values fs ps apart (All-permutation (Shows times values fs) made ps same (shows_made times values fs rs made each_made)) in
+        let front = IsPermutation-append_left early _ _ (flat_map-parts slots blocked ps) in
+        let back = IsPermutation-append_right (flat_map slots ps) _ _ (IsPermutation-append_comm (flat_map blocked ps) early) in
+        let parts = IsPermutation-trans _ _ _ (IsPermutation-trans _ _ _ all front) (rw (append_assoc (flat_map slots ps) (flat_map blocked ps) early) back) in
+        let apart = IsDistinct-IsPermutation same_name same_flips _ _ parts (distinct_filter same_name (λ (f : Record). f.name) (stands_in times values fs ps) fs own) in
+        rw (map-append name (blocked_early fs times values) (flat_map (λ (p : RunwayPlanRecord). p.blocked) ps), ← names_of_lists (λ (p : RunwayPlanRecord). p.blocked) name ps)
+        (distinct_right same_name (flat_map slots ps) (early ++ flat_map blocked ps) apart)
 
   -- a plan has parts
   record Parts (rs : List RunwayRules) (plan : PlanRecord) : Type 0 where
@@ -148,12 +132,12 @@ module _ (times : TaxiTimes) (values : DayValues) (fs : List Record) (own : IsDi
       let other : IsPermutation a.made q.runways = subst (λ (ms : List RunwayPlanRecord). IsPermutation ms q.runways) equal b.parts.runways in
       let clock : p.clock ≡ q.clock = a.clock ∙ sym b.clock in
       let runways : p.runways ≡ q.runways =
-      one_order (λ (p : RunwayPlanRecord). p.runway) a.made p.runways q.runways (made_own a.placing rs rs_own a.made a.all) a.parts.runways other a.parts.runway_order b.parts.runway_order in
+      by_name (λ (p : RunwayPlanRecord). p.runway) a.made p.runways q.runways (made_own a.placing rs rs_own a.made a.all) a.parts.runways other a.parts.runway_order b.parts.runway_order in
       let left = blocked_early fs times values ++ flat_map (λ p. p.blocked) p.runways in
       let others : IsPermutation left q.blocked =
       subst (λ (ps : List RunwayPlanRecord). IsPermutation (blocked_early fs times values ++ flat_map (λ p. p.blocked) ps) q.blocked) (sym runways) b.parts.blocked in
       let blocked : p.blocked ≡ q.blocked =
-      one_order (λ (b : BlockedFlight). b.name) left p.blocked q.blocked
+      by_name (λ (b : BlockedFlight). b.name) left p.blocked q.blocked
       (blocked_own a.placing rs rs_own a.made a.all p.runways a.parts.runways) a.parts.blocked others a.parts.blocked_order b.parts.blocked_order in
       λ i. record { clock = clock i; runways = runways i; blocked = blocked i }
 

@@ -1,14 +1,15 @@
 -- The plans of the runways, in some order, make the plan of the day.
-use Rattle.std.proofs.Common.{◌≡◌, ℕ, zero, suc, ◌+◌, ◌≤◌, ◌<◌, Bool, List, [], ◌∷◌, ◌++◌, refl, sym, ◌∙◌, subst, arith, Bor, map, filter, length, length-append, sum_by, get_or, set}
-use Rattle.cdm_plan.proofs.ListWords.{is_some, length-map, All, AllZip, IsDistinct, flat_map, swap, IsPermutation, All-cons, All-head, All-nil}
+use Rattle.std.proofs.Common.{◌≡◌, ℕ, zero, suc, ◌+◌, ◌≤◌, ◌<◌, List, [], ◌∷◌, ◌++◌, refl, sym, ◌∙◌, subst, arith, Bor, map, length, length-append, sum_by, get_or, set}
+use Rattle.cdm_plan.proofs.ListWords.{length-map, All, AllZip, IsDistinct, flat_map, swap, IsPermutation, All-cons, All-head, All-nil}
 use Rattle.cdm_plan.proofs.ListWords.{All-tail, IsPermutation-keeps, IsPermutation-refl, IsPermutation-swap, IsPermutation-sym, IsPermutation-trans}
 use Rattle.cdm_plan.proofs.ListWords.{length_permutation, sum_by-IsPermutation, sum_by-add}
 use Rattle.cdm_plan.proofs.PlanWords.{DayValues, same_name, Record, RunwayRules, TaxiTimes, SlotRecord, IsSequence, PlanRecord, RunwayPlanRecord}
-use Rattle.cdm_plan.proofs.PlanWords.{TargetRecord, AimResult, BlockedFlight, AreAims, HasParts, IsPlanOf, early_in, fixed_on, targets_in, targets_on}
+use Rattle.cdm_plan.proofs.PlanWords.{AimResult, BlockedFlight, AreAims, HasParts, IsPlanOf, early_in, fixed_on, targets_in, targets_on}
 use Rattle.std.proofs.lemmas.List.Concat.{length-flat_map}
 use Rattle.std.proofs.lemmas.Slice.Zip.{AllZip-long}
 use Rattle.cdm_plan.proofs.PlacingLemmas.{placed, placing_of}
-use Rattle.cdm_plan.proofs.PlanningLemmas.{all_shown, all_zipped, any_of, blocked_early, early_at, early_named, few_names, gathered, made_named, names_stand, shown, stands, stands_here, targets_of}
+use Rattle.cdm_plan.proofs.PlanningLemmas.{blocked_early, few_names, made_named, once, shows_made, stands_in, targets_of}
+use Rattle.cdm_sequence.proofs.NameLemmas.{shown}
 
 -- Lists in another order.
 
@@ -76,18 +77,10 @@ pub few_parts : (times : TaxiTimes) (values : DayValues) (fs : List Record) (run
     → AllZip (λ r p. IsSequence r (fixed_on r.name fs) (targets_on r.name (targets_of fs times values)) p) runways made → IsPermutation made plans
     → IsDistinct same_name (map (λ r. r.name) runways) → sum_by (λ p. length p.slots + length p.blocked) plans + length (blocked_early fs times values) ≤ length fs
 few_parts times values fs runways made plans each same own =
-    let fixed : List ℕ → List SlotRecord = λ r. fixed_on r fs in
-    let targets : List ℕ → List TargetRecord = λ r. targets_on r (targets_of fs times values) in
-    let early : Record → Bool = λ f. is_some (early_at times values f) in
+    let names = sym (made_named (λ r. fixed_on r fs) (λ r. targets_on r (targets_of fs times values)) runways made each) in
     let rest = map (λ (b : BlockedFlight). b.name) (blocked_early fs times values) in
-    let Shows : RunwayPlanRecord → Type 0 = λ p. IsPermutation (map (λ f. f.name) (filter (stands times values p.runway) fs)) (shown p) in
-    let all : All Shows made = all_zipped (λ r p. IsSequence r (fixed r.name) (targets r.name) p) Shows
-    (λ r p h. subst (λ (n : List ℕ). IsPermutation (map (λ f. f.name) (filter (stands times values n) fs)) (shown p)) (sym h.1.runway)
-    (IsPermutation-trans _ _ _ (names_stand r.name times values fs) (all_shown r (fixed r.name) (targets r.name) p h))) runways made each in
-    let apart = subst (λ (ns : List (List ℕ)). IsDistinct same_name ns) (sym (made_named fixed targets runways made each)) own in
-    let once = gathered fs (stands times values) early (stands_here times values) (λ (p : RunwayPlanRecord). p.runway) shown made rest apart (early_named times values fs) all in
-    let few =
-    few_names (λ (f : Record). f.name) fs (any_of fs (stands times values) early (stands_here times values) (λ (p : RunwayPlanRecord). p.runway) shown made) (flat_map shown made ++ rest) once in
+    let all = once times values fs made (subst (IsDistinct same_name) names own) (shows_made times values fs runways made each) in
+    let few = few_names (λ (f : Record). f.name) fs (stands_in times values fs made) (flat_map shown made ++ rest) all in
     let moved = sum_by-IsPermutation (λ (p : RunwayPlanRecord). length p.slots + length p.blocked) made plans same in
     let sizes : sum_by (λ p. length (shown p)) made ≡ sum_by (λ p. length p.slots + length p.blocked) made = λ i. sum_by (λ p. shown_length p i) made in
     let parts = length-append (flat_map shown made) rest in

@@ -2,9 +2,8 @@
 use Rattle.std.proofs.Common.{◌≡◌, ℕ, Bool, true, false, cond, ◌||◌, List, [], ◌∷◌, None, sym, ◌∙◌, ap, refl, map}
 use Rattle.cdm_plan.proofs.ListWords.{All, AllByRecursion, AllZip, Contains, IsDistinct, list_any, false≢true, All-cons, All-contains, All-head, All-nil, All-tail, filter_passes, IsDistinct-head, IsDistinct-tail, contains_all, contains_kept}
 use Rattle.cdm_plan.proofs.PlanWords.{same_name, RunwayRules, SlotRecord, takeoffs, Placing, IsAllowed, IsEarlier, IsSequence, IsSequenceBy, RunwayPlanRecord, TargetRecord, is_same, same_flips, same_is, targets_on}
-use Rattle.cdm_sequence.proofs.AllowedLemmas.{plan_allowed}
+use Rattle.cdm_sequence.proofs.PlanLemmas.{none_earlier, plan_allowed}
 use Rattle.cdm_sequence.proofs.OneLemmas.{sequence_agree}
-use Rattle.cdm_sequence.proofs.PlanLemmas.{none_earlier}
 
 module _ (fixed : List ℕ → List SlotRecord) (targets : List TargetRecord) where
   abbrev on : List ℕ → List TargetRecord

@@ -1,14 +1,14 @@
 -- Each flight of a day stands once: as a fixed flight or a target of one runway, or blocked early.
 use Rattle.std.proofs.lemmas.Slice.Zip.{AllZip-map}
 use Rattle.std.proofs.Common.{Bor, ◌≡◌, ℕ, ◌+◌, ◌≤◌, Bool, true, false, not, cond, ◌||◌, List, [], ◌∷◌, ◌++◌, Option, None, Some, refl, sym, ◌∙◌, ap, subst, arith, map, filter, length}
-use Rattle.cdm_plan.proofs.ListWords.{is_none, is_some, zip, option_map, option_map_or, All, All-cons, All-head, All-nil, All-tail, append_assoc}
+use Rattle.cdm_plan.proofs.ListWords.{is_some, zip, option_map, option_map_or, All, All-cons, All-head, All-nil, All-tail, append_assoc}
 use Rattle.cdm_plan.proofs.ListWords.{cons_option, filter_map, flat_map, IsDistinct, AllByRecursion, IsPermutation, false_from_ne_true, false≢true}
 use Rattle.cdm_plan.proofs.ListWords.{IsPermutation-append, IsPermutation-refl, IsPermutation-trans, IsPermutation-append_right, IsPermutation-middle}
 use Rattle.cdm_plan.proofs.ListWords.{IsPermutation-map, IsPermutation-sym, IsDistinct-IsPermutation}
 use Rattle.cdm_plan.proofs.ListWords.{IsDistinct-head, IsDistinct-tail, length-map, map-append, All-given, distinct_filter, filter_map-map}
 use Rattle.cdm_plan.proofs.ListWords.{filter_map-filter, if_so, length_permutation, AllZip, filter_passes}
 use Rattle.cdm_plan.proofs.PlanWords.{DayValues, same_name, Record, is_planned, TaxiTimes, IsAim, aim_of, aim_is, aim_means, same_flips, same_is}
-use Rattle.cdm_plan.proofs.PlanWords.{SlotRecord, fixed_slot, slot_by, Placing, flight_names, names_left, planned_slot, IsSequence, TargetRecord}
+use Rattle.cdm_plan.proofs.PlanWords.{SlotRecord, fixed_slot, slot_by, flight_names, IsSequence, TargetRecord}
 use Rattle.cdm_plan.proofs.PlanWords.{AimResult, BlockedFlight, early_in, planned_of}
 use Rattle.cdm_plan.proofs.PlanWords.{target_in, targets_in, blocked_in, is_on, fixed_on, targets_on, IsAimed, if_on, if_passes, target_for, CanSequence, RunwayRules, RunwayPlanRecord, Ready, Early}
 use Rattle.std.proofs.lemmas.List.Filters.{length-filter_both}
@@ -18,6 +18,7 @@ use Rattle.cdm_flight.specs.declared.key.Key.{Key}
 use Rattle.std.proofs.Common.{IfSome, length-append}
 use Rattle.cdm_plan.specs.declared.aimed.Aimed.{Aimed}
 use Rattle.cdm_plan.proofs.JournalFacts.{some_named}
+use Rattle.cdm_sequence.proofs.NameLemmas.{all_shown, names_given, shown}
 
 -- Aims.
 
@@ -86,29 +87,6 @@ filter-filter_map {X} {Y} q h (f ∷ fs) = go (h f) (filter-filter_map q h fs) w
       → filter q (cons_option o (filter_map h fs)) ≡ cons_option (if_passes q o) (filter_map (λ f. if_passes q (h f)) fs)
   go None e = e
   go (Some y) e = by (q y) y _ _ e
-
--- the names of what flights give are those of the flights that give something
-pub names_given : {X Y : Type 0} (name : Y → List ℕ) (key : X → List ℕ) (h : X → Option Y) → ((f : X) (y : Y) → h f ≡ Some y → name y ≡ key f) → (fs : List X)
-    → map name (filter_map h fs) ≡ map key (filter (λ f. is_some (h f)) fs)
-names_given name key h own [] = refl
-names_given {X} {Y} name key h own (f ∷ fs) = go (h f) refl (names_given name key h own fs) where
-  go : (o : Option Y) → h f ≡ o → map name (filter_map h fs) ≡ map key (filter (λ f. is_some (h f)) fs)
-      → map name (cons_option o (filter_map h fs)) ≡ map key (cond (is_some o) (f ∷ filter (λ f. is_some (h f)) fs) (filter (λ f. is_some (h f)) fs))
-  go None e rest = rest
-  go (Some y) e rest = ap (λ (n : List ℕ). n ∷ map name (filter_map h fs)) (own f y e) ∙ ap (λ (ns : List (List ℕ)). key f ∷ ns) rest
-
--- and those of what passes a test are those of the flights that give such
-pub names_kept : {X Y : Type 0} (name : Y → List ℕ) (key : X → List ℕ) (q : Y → Bool) (h : X → Option Y) → ((f : X) (y : Y) → h f ≡ Some y → name y ≡ key f) → (fs : List X)
-    → map name (filter q (filter_map h fs)) ≡ map key (filter (λ f. is_some (if_passes q (h f))) fs)
-names_kept {X} {Y} name key q h own fs = ap (map name) (filter-filter_map q h fs) ∙ names_given name key (λ f. if_passes q (h f)) (λ f y e. own f y (by (h f) y e)) fs
-  where
-    by : (o : Option Y) (y : Y) → if_passes q o ≡ Some y → o ≡ Some y
-    by None y e = cc
-    by (Some x) y e = go (q x) e
-      where
-        go : (b : Bool) → cond b (Some x) None ≡ Some y → Some x ≡ Some y
-        go true k = k
-        go false k = cc
 
 -- two tests of which at most one holds part what passes either
 parted : {X : Type 0} (a b : X → Bool) → ((x : X) → a x ≡ true → b x ≡ false) → (xs : List X) → IsPermutation (filter (λ x. a x || b x) xs) (filter a xs ++ filter b xs)
@@ -302,39 +280,38 @@ early_named times values fs =
 
 -- Each flight of a day once.
 
-module _ {Y : Type 0} (fs : List Record) (t : List ℕ → Record → Bool) (e : Record → Bool) (own : (r : List ℕ) (f : Record) → t r f ≡ true
-    → (is_on r f ≡ true) × (e f ≡ false)) (runway : Y → List ℕ) (names : Y → List (List ℕ)) where
-  -- the flight passes the test of one of the runways, or the other test
-  abbrev pub any_of : List Y → Record → Bool
-  any_of [] f = e f
-  any_of (y ∷ ys) f = t (runway y) f || any_of ys f
+module _ (times : TaxiTimes) (values : DayValues) (fs : List Record) where
+  -- the flight stands on the runway of one of the plans, or is blocked early
+  abbrev pub stands_in : List RunwayPlanRecord → Record → Bool
+  stands_in [] f = is_some (early_at times values f)
+  stands_in (p ∷ ps) f = stands times values p.runway f || stands_in ps f
 
-  none_of : (r : List ℕ) (f : Record) → t r f ≡ true → (ys : List Y) → AllByRecursion (λ n. same_name r n ≡ false) (map runway ys) → any_of ys f ≡ false
-  none_of r f h [] all = (own r f h).1
-  none_of r f h (y ∷ ys) all =
-      let on : same_name r (runway y) ≡ is_on (runway y) f = sym (ap (λ o. option_map_or (λ s. same_name s (runway y)) o false) (some_named f.runway r (own r f h).0)) in
-      let other = false_from_ne_true (t (runway y) f) (λ k. false≢true (sym all.0 ∙ (on ∙ (own (runway y) f k).0))) in
-      λ i. other i || none_of r f h ys all.1 i
+  none_in : (r : List ℕ) (f : Record) → stands times values r f ≡ true → (ps : List RunwayPlanRecord)
+      → AllByRecursion (λ n. same_name r n ≡ false) (map (λ p. p.runway) ps) → stands_in ps f ≡ false
+  none_in r f h [] all = (stands_here times values r f h).1
+  none_in r f h (p ∷ ps) all =
+      let own = some_named f.runway r (stands_here times values r f h).0 in
+      let on : same_name r p.runway ≡ is_on p.runway f = sym (ap (λ o. option_map_or (λ s. same_name s p.runway) o false) own) in
+      let other = false_from_ne_true (stands times values p.runway f) (λ k. false≢true (sym all.0 ∙ (on ∙ (stands_here times values p.runway f k).0))) in
+      λ i. other i || none_in r f h ps all.1 i
 
-  abbrev pub Names : (Record → Bool) → List (List ℕ) → Type 0
-  Names p ns = IsPermutation (map (λ f. f.name) (filter p fs)) ns
+  -- the plan shows the flights that stand on its runway
+  abbrev pub Shows : RunwayPlanRecord → Type 0
+  Shows p = IsPermutation (map (λ f. f.name) (filter (stands times values p.runway) fs)) (shown p)
 
-  -- lists of the names of those that pass a test each are together one of those that pass any
-  pub gathered : (ys : List Y) (rest : List (List ℕ)) → IsDistinct same_name (map runway ys) → Names e rest → All (λ y. Names (t (runway y)) (names y)) ys
-      → Names (any_of ys) (flat_map names ys ++ rest)
-  gathered [] rest apart base all = base
-  gathered (y ∷ ys) rest apart base all =
+  -- plans of runways, and the flights that are blocked early, show each flight once
+  pub once : (ps : List RunwayPlanRecord) → IsDistinct same_name (map (λ p. p.runway) ps) → All Shows ps
+      → IsPermutation (map (λ f. f.name) (filter (stands_in ps) fs)) (flat_map shown ps ++ map (λ b. b.name) (blocked_early fs times values))
+  once [] apart all = early_named times values fs
+  once (p ∷ ps) apart all =
       let name : Record → List ℕ = λ f. f.name in
-      let p = t (runway y) in
-      let here = All-head (λ y. Names (t (runway y)) (names y)) y ys all in
-      let others = gathered ys rest (IsDistinct-tail same_name (runway y) (map runway ys) apart) base (All-tail (λ y. Names (t (runway y)) (names y)) y ys all) in
-      let split =
-      IsPermutation-map name (filter (any_of (y ∷ ys)) fs) (filter p fs ++ filter (any_of ys) fs)
-      (parted p (any_of ys) (λ f h. none_of (runway y) f h ys (IsDistinct-head same_name (runway y) (map runway ys) apart)) fs) in
-      let joined = IsPermutation-append (map name (filter p fs)) (names y) (map name (filter (any_of ys) fs)) (flat_map names ys ++ rest) here others in
-      subst (Names (any_of (y ∷ ys))) (sym (append_assoc (names y) (flat_map names ys) rest))
-      (IsPermutation-trans (map name (filter (any_of (y ∷ ys)) fs)) (map name (filter p fs) ++ map name (filter (any_of ys) fs)) (names y ++ (flat_map names ys ++ rest))
-      (subst (Names (any_of (y ∷ ys))) (map-append name (filter p fs) (filter (any_of ys) fs)) split) joined)
+      let runways = map (λ (p : RunwayPlanRecord). p.runway) ps in
+      let early = map (λ (b : BlockedFlight). b.name) (blocked_early fs times values) in
+      let here = stands times values p.runway in
+      let others = once ps (IsDistinct-tail same_name p.runway runways apart) (All-tail Shows p ps all) in
+      let split = parted here (stands_in ps) (λ f h. none_in p.runway f h ps (IsDistinct-head same_name p.runway runways apart)) fs in
+      rw (append_assoc (shown p) (flat_map shown ps) early) (IsPermutation-trans _ _ _ (IsPermutation-map name _ _ split)
+      (rw (map-append name (filter here fs) (filter (stands_in ps) fs)) (IsPermutation-append _ _ _ _ (All-head Shows p ps all) others)))
 
 -- Runway by runway.
 
@@ -350,39 +327,6 @@ on_it r aims = All-given (target_for r) (λ t. t.runway ≡ r) aims (λ a i. giv
     given None = tt
     given (Some t) = by (same_name t.runway r) t refl
 
--- each target has a slot, or is left without one
-given_or_left : (p : Placing) (ts : List TargetRecord) → IsPermutation (map (λ t. t.key.name) ts) (map (λ x. x.name) (filter_map (λ t. option_map (planned_slot t) (p t)) ts) ++ names_left p ts)
-given_or_left p [] = IsPermutation-refl []
-given_or_left p (t ∷ ts) = by (p t) (IsPermutation-append_right (t.key.name ∷ []) _ _ (given_or_left p ts))
-  where
-    given : List (List ℕ)
-    given = map (λ x. x.name) (filter_map (λ t. option_map (planned_slot t) (p t)) ts)
-
-    by : (o : Option ℕ) → IsPermutation (map (λ t. t.key.name) (t ∷ ts)) (t.key.name ∷ (given ++ names_left p ts))
-        → IsPermutation (map (λ t. t.key.name) (t ∷ ts)) (map (λ x. x.name)
-        (cons_option (option_map (planned_slot t) o) (filter_map (λ t. option_map (planned_slot t) (p t)) ts)) ++ map (λ t. t.key.name)
-        (cond (is_none o) (t ∷ filter (λ t. is_none (p t)) ts) (filter (λ t. is_none (p t)) ts)))
-    by (Some m) e = e
-    by None e = IsPermutation-trans _ (t.key.name ∷ (given ++ names_left p ts)) _ e (IsPermutation-sym _ _ (IsPermutation-middle given t.key.name (names_left p ts)))
-
--- the names that the plan of a runway shows
-abbrev pub shown : RunwayPlanRecord → List (List ℕ)
-shown plan = map (λ x. x.name) plan.slots ++ map (λ b. b.name) plan.blocked
-
--- they are those of all its flights
-pub all_shown : (r : RunwayRules) (fixed : List SlotRecord) (targets : List TargetRecord) (plan : RunwayPlanRecord) → IsSequence r fixed targets plan
-    → IsPermutation (flight_names fixed targets) (shown plan)
-all_shown r fixed targets plan (p, e) =
-    let slot_name : SlotRecord → List ℕ = λ x. x.name in
-    let given = filter_map (λ t. option_map (planned_slot t) (p t)) targets in
-    let whole : map slot_name fixed ++ (map slot_name given ++ names_left p targets) ≡ map slot_name (fixed ++ given) ++ names_left p targets =
-    sym (append_assoc (map slot_name fixed) (map slot_name given) (names_left p targets)) ∙ ap (λ (ns : List (List ℕ)). ns ++ names_left p targets) (sym (map-append slot_name fixed given)) in
-    IsPermutation-trans (flight_names fixed targets) (map slot_name (fixed ++ given) ++ names_left p targets) (shown plan)
-    (subst (IsPermutation (flight_names fixed targets)) whole (IsPermutation-append_right (map slot_name fixed) (map (λ (t : TargetRecord). t.key.name) targets)
-    (map slot_name given ++ names_left p targets) (given_or_left p targets)))
-    (IsPermutation-append (map slot_name (fixed ++ given)) (map slot_name plan.slots) (names_left p targets) (map (λ (b : BlockedFlight). b.name) plan.blocked)
-    (IsPermutation-map slot_name (fixed ++ given) plan.slots e.slots) e.blocked)
-
 -- what holds of all that goes with something
 pub all_zipped : {X Y : Type 0} (R : X → Y → Type 0) (P : Y → Type 0) → ((x : X) (y : Y) → R x y → P y) → (xs : List X) (ys : List Y) → AllZip R xs ys → All P ys
 all_zipped R P h [] [] all = All-nil P
@@ -395,6 +339,14 @@ pub made_named : (fixed : List ℕ → List SlotRecord) (targets : List ℕ → 
 made_named fixed targets [] [] all = refl
 made_named fixed targets (r ∷ rs) (p ∷ ps) all = λ i. all.0.1.runway i ∷ made_named fixed targets rs ps all.1 i
 made_named fixed targets _ _ all = absurd all
+
+-- such a plan shows the flights that stand on its runway
+pub shows_made : (times : TaxiTimes) (values : DayValues) (fs : List Record) (rs : List RunwayRules) (ps : List RunwayPlanRecord)
+    → AllZip (λ r p. IsSequence r (fixed_on r.name fs) (targets_on r.name (targets_of fs times values)) p) rs ps → All (Shows times values fs) ps
+shows_made times values fs = all_zipped _ (Shows times values fs) (λ r p h.
+    let fixed = fixed_on r.name fs in
+    let targets = targets_on r.name (targets_of fs times values) in
+    rw h.1.runway (IsPermutation-trans _ _ _ (names_stand r.name times values fs) (all_shown r fixed targets p h)))
 
 -- each runway can be sequenced
 pub can_sequence : (times : TaxiTimes) (values : DayValues) (fs : List Record) → IsDistinct same_name (map (λ f. f.name) fs) → length fs ≤ 2000 → (r : List ℕ)

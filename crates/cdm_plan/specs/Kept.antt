@@ -1,5 +1,5 @@
 -- Which runways updates touch, and the plans of the others, which stand.
-use Rattle.std.specs.Prelude.{◌≡◌, ℕ, ◌+◌, ◌≤◌, ◌||◌, Bool, true, false, List, Contains, length, sum_by, Option, None, Some, if◌then◌else◌}
+use Rattle.std.specs.Prelude.{◌≡◌, ℕ, Bool, true, false, List, Contains, Option, None, Some, if◌then◌else◌}
 use Rattle.std.specs.List.{find, list_any}
 use Rattle.std.specs.Option.{option_map_or}
 use Rattle.cdm_flight.specs.declared.airport.RunwayRow.{RunwayRow}
@@ -11,14 +11,13 @@ use Rattle.cdm_runway.specs.Rules.{RunwayRules}
 use Rattle.cdm_sequence.specs.Sequence.{IsSequence}
 use Rattle.cdm_sequence.specs.Slots.{PlanRecord, RunwayPlanRecord, SlotRecord}
 use Rattle.cdm_sequence.specs.declared.aims.AimResult.{AimResult}
-use Rattle.cdm_plan.specs.declared.aimed.Aimed.{Aimed}
 use Rattle.cdm_plan.specs.declared.touched.Touched.{Touched}
 use Rattle.cdm_plan.specs.declared.touched.Touched.TheVariants.{All, Named}
-use Rattle.cdm_plan.specs.inner.Aimed.{early_among, is_on}
+use Rattle.cdm_plan.specs.inner.Aimed.{is_on}
 use Rattle.cdm_plan.specs.Airport.{IsAirport}
 use Rattle.cdm_plan.specs.Day.{DayRecord, rules_in, rules_of}
 use Rattle.cdm_plan.specs.DayPlan.{IsDayPlan, records_in}
-use Rattle.cdm_plan.specs.Planning.{AreAims, HasParts, fixed_on, targets_in, targets_on}
+use Rattle.cdm_plan.specs.Planning.{AreAims, fixed_on, targets_in, targets_on}
 
 -- the runway is one of those that were touched
 abbrev pub is_touched : Touched → List ℕ → Bool

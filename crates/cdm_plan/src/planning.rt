@@ -1,7 +1,7 @@
 //! The plan of a day.
-ghost use Rattle.std.specs.Prelude.{◌≡◌, ◌+◌, ◌≤◌, ◌++◌, length, IfOk, IsPermutation, IsSorted, sum_by};
+ghost use Rattle.std.specs.Prelude.{◌≡◌, ◌+◌, ◌≤◌, ◌++◌, length, IfOk, IsPermutation, IsSortedByKey, sum_by};
 ghost use Rattle.std.specs.List.{filter_map, flat_map};
-ghost use Rattle.cdm_sequence.specs.Slots.{runway_cmp, blocked_cmp};
+ghost use Rattle.cdm_flight.specs.Names.{name_cmp};
 ghost use Rattle.cdm_plan.specs.Planning.{HasParts};
 ghost use Rattle.cdm_plan.specs.DayPlan.{IsDayPlan};
 ghost use Rattle.cdm_plan.specs.inner.Aimed.{early_among};
@@ -26,7 +26,7 @@ fn all_blocked(
     plans: &[RunwayPlan],
 ) -> Result<Vec<BlockedFlight>, AllocError>
     ensures same { IfOk result (λ v. IsPermutation (early.items ++ flat_map (λ p. p.blocked) plans.now) v.items) }
-    ensures sorted { IfOk result (λ v. IsSorted blocked_cmp v.items) }
+    ensures sorted { IfOk result (λ v. IsSortedByKey (λ b. b.name) name_cmp v.items) }
 {
     let mut all = early;
     for plan in plans {
@@ -39,7 +39,7 @@ fn all_blocked(
 // The plans of the runways by name.
 fn by_name(plans: Vec<RunwayPlan>) -> Vec<RunwayPlan>
     ensures same { IsPermutation plans.items result.items }
-    ensures sorted { IsSorted runway_cmp result.items }
+    ensures sorted { IsSortedByKey (λ r. r.runway) name_cmp result.items }
 {
     let mut ordered = plans;
     ordered.sort_unstable_by_key(|plan| plan.runway);

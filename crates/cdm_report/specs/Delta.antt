@@ -1,12 +1,11 @@
 -- What a scenario changes in the indicators.
-use Rattle.std.specs.Prelude.{ℕ, ◌-◌, List, [], ◌∷◌, ◌++◌, ◌==◌, codes, flat_map, nat_le, if◌then◌else◌}
+use Rattle.std.specs.Prelude.{ℕ, ◌-◌, List, [], ◌++◌, ◌==◌, codes, flat_map, nat_le, if◌then◌else◌}
 use Rattle.std.specs.Fmt.{decimal}
-use Rattle.std.specs.List.{concat}
 use Rattle.cdm_sequence.specs.declared.rule.Rule.{Rule}
-use Rattle.cdm_sequence.specs.Words.{all_rules, rule_text}
+use Rattle.cdm_sequence.specs.Words.{all_rules}
 use Rattle.cdm_report.specs.declared.counts.Counts.{Counts}
 use Rattle.cdm_report.specs.Counts.{count_of}
-use Rattle.cdm_report.specs.Report.{indicators_told, line_end}
+use Rattle.cdm_report.specs.Report.{indicators_told, line_end, rule_told}
 
 -- by how much a number grew, with its sign
 unfoldable pub change : ℕ → ℕ → List ℕ
@@ -15,8 +14,7 @@ change from to = if nat_le from to then codes "+" ++ decimal (to - from) else co
 -- by how much a rule's count grew, where it changed
 unfoldable pub rule_change : Counts → Counts → Rule → List ℕ
 rule_change base scenario rule =
-    if count_of base rule == count_of scenario rule then []
-    else concat (codes " " ∷ rule_text rule ∷ codes " " ∷ change (count_of base rule) (count_of scenario rule) ∷ [])
+    if count_of base rule == count_of scenario rule then [] else rule_told rule (change (count_of base rule) (count_of scenario rule))
 
 -- by how much each indicator grew from the base to the scenario
 unfoldable pub delta_line : Counts → Counts → List ℕ

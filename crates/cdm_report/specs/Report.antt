@@ -30,11 +30,13 @@ runway_lines day plan = concat (codes "RUNWAY " ∷ plan.runway ∷ line_end ∷
 unfoldable pub blocked_line : BlockedFlight → List ℕ
 blocked_line flight = concat (codes "BLOCKED " ∷ left_in 7 flight.name ∷ codes " " ∷ rule_text flight.rule ∷ line_end ∷ [])
 
+-- a rule, and what is told of it
+abbrev pub rule_told : Rule → List ℕ → List ℕ
+rule_told rule told = concat (codes " " ∷ rule_text rule ∷ codes " " ∷ told ∷ [])
+
 -- how many flights a rule blocks, where it blocks one
 unfoldable pub rule_count : Counts → Rule → List ℕ
-rule_count counts rule =
-    if count_of counts rule == 0 then []
-    else concat (codes " " ∷ rule_text rule ∷ codes " " ∷ decimal (count_of counts rule) ∷ [])
+rule_count counts rule = if count_of counts rule == 0 then [] else rule_told rule (decimal (count_of counts rule))
 
 -- the indicators without the rules: a title, and what is told of each
 unfoldable pub indicators_told : List ℕ → ((Counts → ℕ) → List ℕ) → List ℕ

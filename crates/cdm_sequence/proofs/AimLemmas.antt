@@ -1,6 +1,6 @@
 -- There is one answer of an aim.
-use Rattle.std.proofs.Common.{◌≡◌, ℕ, ◌+◌, ◌-◌, ◌<◌, ◌≤◌, Bool, true, false, nat_le, nat_lt, max, min, List, Option, Some, None, IsSome, subst, sym, ◌∙◌, refl, arith, ap}
-use Rattle.std.specs.Option.{IsSomeAnd, option_map}
+use Rattle.std.proofs.Common.{◌≡◌, ℕ, ◌+◌, ◌-◌, ◌<◌, ◌≤◌, Bool, true, false, nat_le, nat_lt, max, min, List, Option, Some, None, subst, sym, ◌∙◌, refl}
+use Rattle.std.proofs.Common.{arith, ap}
 use Rattle.std.proofs.lemmas.Bool.Decides.{nat_tests}
 use Rattle.std.specs.Prelude.{if◌then◌else◌}
 use Rattle.cdm_time.specs.Windows.{Interval, has_minute, tolerance_before, tolerance_after}
@@ -11,7 +11,7 @@ use Rattle.cdm_sequence.specs.Aims.{TaxiTimes, ready_at, exot_to, is_candidate, 
 use Rattle.cdm_sequence.specs.Targets.{TargetRecord}
 use Rattle.cdm_sequence.specs.declared.aims.AimResult.{AimResult}
 use Rattle.cdm_sequence.specs.declared.aims.AimResult.TheVariants.{Ready, Early}
-use Rattle.cdm_sequence.specs.declared.rule.Rule.TheVariants.{Tobt, Runway, Exot, Horizon, Ctot, Closure, Rate}
+use Rattle.cdm_sequence.specs.declared.rule.Rule.TheVariants.{Tobt, Runway, Exot, Horizon, Ctot}
 
 -- Windows.
 
@@ -32,46 +32,34 @@ pub window_minutes : (earliest : ℕ) (ctot : Option ℕ) (m : ℕ) → has_minu
 window_minutes earliest None m = grind (arith, nat_tests)
 window_minutes earliest (Some ctot) m = grind (arith, nat_tests)
 
-out_of_reach : (earliest : ℕ) → 2880 ≤ earliest → nat_le 2880 earliest ≡ true
-out_of_reach earliest h = grind (arith, nat_tests)
+-- a minute lies in a window where it lies between its bounds
+has : (w : Interval) (m : ℕ) → w.from ≤ m → m < w.to → has_minute w m ≡ true
+has w m from to = grind (arith, nat_tests)
 
-in_reach : (earliest : ℕ) → earliest < 2880 → nat_le 2880 earliest ≡ false
-in_reach earliest h = grind (arith, nat_tests)
+had : (w : Interval) (m : ℕ) → has_minute w m ≡ true → (w.from ≤ m) × (m < w.to)
+had w m h = (grind (arith, nat_tests), grind (arith, nat_tests))
 
-empty_window : (from to m : ℕ) → nat_lt from to ≡ false → has_minute (record { from = from; to = to }) m ≡ false
-empty_window from to m h = grind (arith, nat_tests)
+has_none : (w : Interval) (m : ℕ) → nat_lt w.from w.to ≡ false → has_minute w m ≡ false
+has_none w m h = grind (arith, nat_tests)
 
-window_empty : (from to : ℕ) → has_minute (record { from = from; to = to }) from ≡ false → nat_lt from to ≡ false
-window_empty from to h = grind (arith, nat_tests)
-
--- a window that isn't empty has its first minute and its last
-has_first : (w : Interval) → w.from < w.to → has_minute w w.from ≡ true
-has_first w h = grind (arith, nat_tests)
-
-has_last : (w : Interval) → w.from < w.to → has_minute w (w.to - 1) ≡ true
-has_last w h = grind (arith, nat_tests)
-
-has_between : (w : Interval) (m : ℕ) → has_minute w m ≡ true → (w.from ≤ m) × (m < w.to)
-has_between w m h = (grind (arith, nat_tests), grind (arith, nat_tests))
-
-some_minute : (w : Interval) → w.from < w.to → nat_lt w.from w.to ≡ true
-some_minute w h = grind (arith, nat_tests)
+had_none : (w : Interval) → has_minute w w.from ≡ false → nat_lt w.from w.to ≡ false
+had_none w h = grind (arith, nat_tests)
 
 -- windows with the same minutes are one
 window_one : (v w : Interval) → ((m : ℕ) → has_minute v m ≡ has_minute w m) → w.from < w.to → v ≡ w
 window_one v w same some =
-    let c = has_between v w.from (same w.from ∙ has_first w some) in
-    let d = has_between v (w.to - 1) (same (w.to - 1) ∙ has_last w some) in
-    let other : v.from < v.to = omega (arith, c.0, c.1) in
-    let a = has_between w v.from (sym (same v.from) ∙ has_first v other) in
-    let b = has_between w (v.to - 1) (sym (same (v.to - 1)) ∙ has_last v other) in
+    let a = had v w.from (same w.from ∙ has w w.from (omega arith) some) in
+    let b = had v (w.to - 1) (same (w.to - 1) ∙ has w (w.to - 1) (omega arith) (omega arith)) in
+    let c = had w v.from (sym (same v.from) ∙ has v v.from (omega arith) (omega (arith, a.0, a.1))) in
+    let d = had w (v.to - 1) (sym (same (v.to - 1)) ∙ has v (v.to - 1) (omega (arith, a.0, a.1)) (omega (arith, a.1))) in
     let from : v.from ≡ w.from = omega (arith, a.0, c.0) in
-    let to : v.to ≡ w.to = omega (arith, b.1, d.1, other, some) in
+    let to : v.to ≡ w.to = omega (arith, a.1, b.1, d.1, some) in
     λ i. record { from = from i; to = to i }
 
--- a candidate is in reach
-candidate_reach : (earliest : ℕ) (ctot : Option ℕ) (m : ℕ) → is_candidate earliest ctot m ≡ true → earliest < 2880
-candidate_reach earliest ctot m h = grind (arith, nat_tests)
+reached : (earliest : ℕ) (ctot : Option ℕ) → window_from earliest ctot < window_to ctot
+    → (nat_le 2880 earliest ≡ false) × (nat_lt (window_from earliest ctot) (window_to ctot) ≡ true)
+reached earliest None h = (grind (arith, nat_tests), grind (arith, nat_tests))
+reached earliest (Some ctot) h = (grind (arith, nat_tests), grind (arith, nat_tests))
 
 -- The answer, step by step.
 
@@ -92,7 +80,8 @@ if_possible out some t = if out then Early Horizon else if some then Ready t els
 abbrev pub aim_with_exot : Record → DayValues → ℕ → List ℕ → Option ℕ → AimResult
 aim_with_exot f values tobt runway None = Early Exot
 aim_with_exot f values tobt runway (Some exot) =
-    if_possible (nat_le 2880 (ready_at f tobt values + exot)) (nat_lt (window_from (ready_at f tobt values + exot) f.ctot) (window_to f.ctot)) (target_of f values tobt runway exot)
+    if_possible (nat_le 2880 (ready_at f tobt values + exot)) (nat_lt (window_from (ready_at f tobt values + exot) f.ctot) (window_to f.ctot))
+    (target_of f values tobt runway exot)
 
 abbrev pub aim_with : Record → TaxiTimes → DayValues → Option ℕ → Option (List ℕ) → AimResult
 aim_with f times values None runway = Early Tobt
@@ -102,132 +91,98 @@ aim_with f times values (Some tobt) (Some runway) = aim_with_exot f values tobt 
 unfoldable pub aim_of : Record → TaxiTimes → DayValues → AimResult
 aim_of f times values = aim_with f times values f.tobt f.runway
 
--- what a flight reaches this minute by
-pub record Arrival (f : Record) (times : TaxiTimes) (values : DayValues) (earliest : ℕ) : Type 0 where
-  pub tobt : ℕ
-  pub runway : List ℕ
-  pub exot : ℕ
-  pub tobt_is : f.tobt ≡ Some tobt
-  pub runway_is : f.runway ≡ Some runway
-  pub exot_is : exot_to times f runway ≡ Some exot
-  pub earliest_is : earliest ≡ ready_at f tobt values + exot
+-- a flight with a TOBT, a runway and a taxi-out time reaches the runway by them
+pub reaches : (f : Record) (times : TaxiTimes) (values : DayValues) (P : ℕ → Type 0) (tobt exot : ℕ) (runway : List ℕ) → f.tobt ≡ Some tobt
+    → f.runway ≡ Some runway
+    → exot_to times f runway ≡ Some exot → P (ready_at f tobt values + exot) → ReachesAt f times values P
+reaches f times values P tobt exot runway d e h p = rw (d, e, h) p
 
-pub reaches : (f : Record) (times : TaxiTimes) (values : DayValues) (m : ℕ) (P : ℕ → Type 0) → Arrival f times values m → P m → ReachesAt f times values P
-reaches f times values m P r p =
-    subst (λ o. IsSomeAnd o (λ t. IsSomeAnd f.runway (λ q. IsSomeAnd (exot_to times f q) (λ x. P (ready_at f t values + x))))) (sym r.tobt_is)
-    (subst (λ o. IsSomeAnd o (λ q. IsSomeAnd (exot_to times f q) (λ x. P (ready_at f r.tobt values + x)))) (sym r.runway_is)
-    (subst (λ o. IsSomeAnd o (λ x. P (ready_at f r.tobt values + x))) (sym r.exot_is) (subst P r.earliest_is p)))
+module _ (f : Record) (times : TaxiTimes) (values : DayValues) where
+  -- the flight with this TOBT and this runway
+  abbrev flight_with : Option ℕ → Option (List ℕ) → Record
+  flight_with tobt runway = record f { tobt = tobt; runway = runway }
 
-arrival_of : (f : Record) (times : TaxiTimes) (values : DayValues) (P : ℕ → Type 0) → ReachesAt f times values P → (m : ℕ) × Arrival f times values m × P m
-arrival_of f times values P e = by f.tobt f.runway refl refl e where
-  by : (o : Option ℕ) (r : Option (List ℕ)) → f.tobt ≡ o → f.runway ≡ r
-      → IsSomeAnd o (λ tobt. IsSomeAnd r (λ runway. IsSomeAnd (exot_to times f runway) (λ exot. P (ready_at f tobt values + exot)))) → (m : ℕ) × Arrival f times values m × P m
-  by None r d k e = absurd e
-  by (Some tobt) None d k e = absurd e
-  by (Some tobt) (Some runway) d k e = go (exot_to times f runway) refl e where
-    go : (x : Option ℕ) → exot_to times f runway ≡ x → IsSomeAnd x (λ exot. P (ready_at f tobt values + exot)) → (m : ℕ) × Arrival f times values m × P m
-    go None h e = absurd e
-    go (Some exot) h e =
-        (ready_at f tobt values + exot, record { tobt = tobt; runway = runway; exot = exot; tobt_is = d; runway_is = k; exot_is = h; earliest_is = refl }, e)
+  -- the answer is right
+  means : (o : Option ℕ) (r : Option (List ℕ)) → IsAim (flight_with o r) times values (aim_with f times values o r)
+  means None r = refl
+  means (Some tobt) None = (refl, refl)
+  means (Some tobt) (Some runway) = by (exot_to times f runway) refl where
+    with_exot : (exot : ℕ) → exot_to times f runway ≡ Some exot → (b c : Bool) → nat_le 2880 (ready_at f tobt values + exot) ≡ b
+        → nat_lt (window_from (ready_at f tobt values + exot) f.ctot) (window_to f.ctot) ≡ c
+        → IsAim (flight_with (Some tobt) (Some runway)) times values (if_possible b c (target_of f values tobt runway exot))
+    with_exot exot h true c p q = rw h (grind (arith, nat_tests))
+    with_exot exot h false true p q = record {
+      key = refl;
+      runway = refl;
+      ctot = refl;
+      exot = h;
+      ready = refl;
+      some_minute = grind (arith, nat_tests);
+      minutes = window_minutes (ready_at f tobt values + exot) f.ctot;
+    }
+    with_exot exot h false false p q =
+        let window = window_of (ready_at f tobt values + exot) f.ctot in
+        rw h (grind (arith, nat_tests), λ m. sym (window_minutes (ready_at f tobt values + exot) f.ctot m) ∙ has_none window m q)
 
--- it is right
-pub aim_means : (f : Record) (times : TaxiTimes) (values : DayValues) → IsAim f times values (aim_of f times values)
-unfolding aim_of
-aim_means f times values = go f.tobt f.runway refl refl where
-  reach : (tobt exot : ℕ) (runway : List ℕ) → f.tobt ≡ Some tobt → f.runway ≡ Some runway → exot_to times f runway ≡ Some exot → Arrival f times values (ready_at f tobt values + exot)
-  reach tobt exot runway d e h = record { tobt = tobt; runway = runway; exot = exot; tobt_is = d; runway_is = e; exot_is = h; earliest_is = refl }
+    by : (x : Option ℕ) → exot_to times f runway ≡ x → IsAim (flight_with (Some tobt) (Some runway)) times values (aim_with_exot f values tobt runway x)
+    by None h = (refl, (runway, refl, h))
+    by (Some exot) h = with_exot exot h _ _ refl refl
 
-  possible : (tobt exot : ℕ) (runway : List ℕ) → f.tobt ≡ Some tobt → f.runway ≡ Some runway → exot_to times f runway ≡ Some exot → (b c : Bool)
-      → nat_le 2880 (ready_at f tobt values + exot) ≡ b → nat_lt (window_from (ready_at f tobt values + exot) f.ctot) (window_to f.ctot) ≡ c
-      → IsAim f times values (if_possible b c (target_of f values tobt runway exot))
-  possible tobt exot runway d e h true c p q = reaches f times values _ (λ m. 2880 ≤ m) (reach tobt exot runway d e h) (grind (arith, nat_tests))
-  possible tobt exot runway d e h false true p q = record {
-    key = ap (option_map (λ (tobt : ℕ). record { priority = f.priority; tobt = tobt; name = f.name })) d;
-    runway = e;
-    ctot = refl;
-    exot = h;
-    ready = refl;
-    some_minute = grind (arith, nat_tests);
-    minutes = window_minutes (ready_at f tobt values + exot) f.ctot;
-  }
-  possible tobt exot runway d e h false false p q = reaches f times values _ (λ m. (m < 2880) × ((k : ℕ) → is_candidate m f.ctot k ≡ false)) (reach tobt exot runway d e h) (
-    grind (arith, nat_tests),
-    λ m. sym (window_minutes (ready_at f tobt values + exot) f.ctot m) ∙ empty_window (window_from (ready_at f tobt values + exot) f.ctot) (window_to f.ctot) m q,
-  )
-
-  some_there : (o : Option ℕ) (x : ℕ) → o ≡ Some x → IsSome o
-  some_there None x d = cc
-  some_there (Some y) x d = refl
-
-  with_exot : (tobt : ℕ) (runway : List ℕ) → f.tobt ≡ Some tobt → f.runway ≡ Some runway → (o : Option ℕ) → exot_to times f runway ≡ o → IsAim f times values (aim_with_exot f values tobt runway o)
-  with_exot tobt runway d e None h = (some_there f.tobt tobt d, (runway, e, h))
-  with_exot tobt runway d e (Some exot) h =
-      let earliest = ready_at f tobt values + exot in
-      possible tobt exot runway d e h (nat_le 2880 earliest) (nat_lt (window_from earliest f.ctot) (window_to f.ctot)) refl refl
-
-  go : (o : Option ℕ) (r : Option (List ℕ)) → f.tobt ≡ o → f.runway ≡ r → IsAim f times values (aim_with f times values o r)
-  go None r d e = d
-  go (Some tobt) None d e = (some_there f.tobt tobt d, e)
-  go (Some tobt) (Some runway) d e = with_exot tobt runway d e (exot_to times f runway) refl
-
--- it is the only one
-pub aim_is : (f : Record) (times : TaxiTimes) (values : DayValues) (a : AimResult) → IsAim f times values a → aim_of f times values ≡ a
-unfolding aim_of
-aim_is f times values a e = by a e where
-  with_times : (tobt exot : ℕ) (runway : List ℕ) → f.tobt ≡ Some tobt → f.runway ≡ Some runway → exot_to times f runway ≡ Some exot
-      → aim_with f times values f.tobt f.runway ≡ aim_with_exot f values tobt runway (Some exot)
-  with_times tobt exot runway d e h = ap (λ o. aim_with f times values o f.runway) d ∙ (ap (λ r. aim_with f times values (Some tobt) r) e ∙ ap (aim_with_exot f values tobt runway) h)
-
-  no_runway : (o : Option ℕ) → IsSome o → f.runway ≡ None → aim_with f times values o f.runway ≡ Early Runway
-  no_runway None d e = cc
-  no_runway (Some tobt) d e = ap (aim_with f times values (Some tobt)) e
-
-  no_exot : (o : Option ℕ) → IsSome o → (runway : List ℕ) → f.runway ≡ Some runway → exot_to times f runway ≡ None → aim_with f times values o f.runway ≡ Early Exot
-  no_exot None d runway e h = cc
-  no_exot (Some tobt) d runway e h = ap (aim_with f times values (Some tobt)) e ∙ ap (aim_with_exot f values tobt runway) h
-
-  by : (a : AimResult) → IsAim f times values a → aim_with f times values f.tobt f.runway ≡ a
-  by (Early Tobt) e = ap (λ o. aim_with f times values o f.runway) e
-  by (Early Runway) e = no_runway f.tobt e.0 e.1
-  by (Early Exot) e = no_exot f.tobt e.0 e.1.0 e.1.1 e.1.2
-  by (Early Horizon) e =
-      let (m, h, out_of) = arrival_of f times values (λ m. 2880 ≤ m) e in
-      let t = target_of f values h.tobt h.runway h.exot in
-      let out : nat_le 2880 (ready_at f h.tobt values + h.exot) ≡ true = ap (nat_le 2880) (sym h.earliest_is) ∙ out_of_reach m out_of in
-      with_times h.tobt h.exot h.runway h.tobt_is h.runway_is h.exot_is ∙ ap (λ b. if_possible b (nat_lt t.window.from t.window.to) t) out
-  by (Early Ctot) e =
-      let (m, h, held) = arrival_of f times values (λ m. (m < 2880) × ((k : ℕ) → is_candidate m f.ctot k ≡ false)) e in
-      let t = target_of f values h.tobt h.runway h.exot in
-      let out : nat_le 2880 (ready_at f h.tobt values + h.exot) ≡ false = ap (nat_le 2880) (sym h.earliest_is) ∙ in_reach m held.0 in
-      let empty : nat_lt (window_from (ready_at f h.tobt values + h.exot) f.ctot) (window_to f.ctot) ≡ false =
-      ap (λ k. nat_lt (window_from k f.ctot) (window_to f.ctot)) (sym h.earliest_is)
-      ∙ window_empty (window_from m f.ctot) (window_to f.ctot) (window_minutes m f.ctot (window_from m f.ctot) ∙ held.1 (window_from m f.ctot)) in
-      with_times h.tobt h.exot h.runway h.tobt_is h.runway_is h.exot_is
-      ∙ ap (λ b. if_possible b (nat_lt t.window.from t.window.to) t) out
-      ∙ ap (λ b. if_possible false b t) empty
-  by (Early Closure) e = absurd e
-  by (Early Rate) e = absurd e
-  by (Ready t) e = of_key f.tobt refl e.key where
-    of_key : (o : Option ℕ) → f.tobt ≡ o → option_map (λ tobt. record { priority = f.priority; tobt = tobt; name = f.name }) o ≡ Some t.key → aim_with f times values f.tobt f.runway ≡ Ready t
-    of_key None d k = cc
-    of_key (Some tobt) d k =
+  -- and it is the only one
+  only : (o : Option ℕ) (r : Option (List ℕ)) (a : AimResult) → IsAim (flight_with o r) times values a → aim_with f times values o r ≡ a
+  only None r (Early Tobt) e = refl
+  only None r (Early Runway) e = cc
+  only None r (Early Exot) e = cc
+  only None r (Ready t) e = cc
+  only None r _ e = absurd e
+  only (Some tobt) None (Early Runway) e = refl
+  only (Some tobt) None (Early Tobt) e = cc
+  only (Some tobt) None (Early Exot) e = cc
+  only (Some tobt) None (Ready t) e = cc
+  only (Some tobt) None _ e = absurd e
+  only (Some tobt) (Some runway) a e = by (exot_to times f runway) refl a e where
+    by : (x : Option ℕ) → exot_to times f runway ≡ x → (a : AimResult) → IsAim (flight_with (Some tobt) (Some runway)) times values a
+        → aim_with_exot f values tobt runway x ≡ a
+    by x h (Early Tobt) e = cc
+    by x h (Early Runway) e = cc
+    by x h (Early Exot) e =
+        let same : runway ≡ e.1.0 = cc in
+        ap (aim_with_exot f values tobt runway) (sym h ∙ ap (exot_to times f) same ∙ e.1.2)
+    by None h (Early Horizon) e = absurd (rw h at e)
+    by (Some exot) h (Early Horizon) e =
+        let far : 2880 ≤ ready_at f tobt values + exot = rw h at e in
+        let t = target_of f values tobt runway exot in
+        let out : nat_le 2880 (ready_at f tobt values + exot) ≡ true = grind (arith, nat_tests) in
+        ap (λ b. if_possible b (nat_lt t.window.from t.window.to) t) out
+    by None h (Early Ctot) e = absurd (rw h at e)
+    by (Some exot) h (Early Ctot) e =
+        let held : (ready_at f tobt values + exot < 2880) × ((k : ℕ) → is_candidate (ready_at f tobt values + exot) f.ctot k ≡ false) = rw h at e in
+        let t = target_of f values tobt runway exot in
+        let near = held.0 in
+        let out : nat_le 2880 (ready_at f tobt values + exot) ≡ false = grind (arith, nat_tests) in
+        let none = had_none t.window (window_minutes (ready_at f tobt values + exot) f.ctot t.window.from ∙ held.1 t.window.from) in
+        λ i. if_possible (out i) (none i) t
+    by x h (Ready t) e =
         let own : Key = record { priority = f.priority; tobt = tobt; name = f.name } in
         let key : own ≡ t.key = cc in
+        let runway_is : runway ≡ t.runway = cc in
         let ready : ready_at f tobt values ≡ t.ready = ap (λ (k : Key). ready_at f k.tobt values) key ∙ sym e.ready in
-        let window : window_of (ready_at f tobt values + t.exot) f.ctot ≡ t.window =
-        ap (λ (m : ℕ). window_of (m + t.exot) f.ctot) ready ∙ ap (window_of (t.ready + t.exot)) (sym e.ctot)
-        ∙ window_one (window_of (t.ready + t.exot) t.ctot) t.window (λ m. window_minutes (t.ready + t.exot) t.ctot m ∙ sym (e.minutes m)) e.some_minute in
-        let first : is_candidate (t.ready + t.exot) t.ctot t.window.from ≡ true = sym (e.minutes t.window.from) ∙ has_first t.window e.some_minute in
-        let out : nat_le 2880 (ready_at f tobt values + t.exot) ≡ false =
-        ap (λ (m : ℕ). nat_le 2880 (m + t.exot)) ready ∙ in_reach (t.ready + t.exot) (candidate_reach (t.ready + t.exot) t.ctot t.window.from first) in
-        let found = target_of f values tobt t.runway t.exot in
-        let some : nat_lt found.window.from found.window.to ≡ true = ap (λ (w : Interval). nat_lt w.from w.to) window ∙ some_minute t.window e.some_minute in
-        let ctot : f.ctot ≡ t.ctot = sym e.ctot in
-        let target : found ≡ t = λ i. record { key = key i; runway = t.runway; ctot = ctot i; exot = t.exot; ready = ready i; window = window i } in
-        with_times tobt t.exot t.runway d e.runway e.exot
-        ∙ ap (λ b. if_possible b (nat_lt found.window.from found.window.to) found) out
-        ∙ ap (λ b. if_possible false b found) some
+        let found = target_of f values tobt runway t.exot in
+        let window : found.window ≡ t.window = window_one found.window t.window (λ m. window_minutes (ready_at f tobt values + t.exot) f.ctot m
+        ∙ ((λ i. is_candidate (ready i + t.exot) (sym e.ctot i) m) ∙ sym (e.minutes m))) e.some_minute in
+        let possible = reached (ready_at f tobt values + t.exot) f.ctot (subst (λ (w : Interval). w.from < w.to) (sym window) e.some_minute) in
+        let target : found ≡ t = λ i. record { key = key i; runway = runway_is i; ctot = sym e.ctot i; exot = t.exot; ready = ready i; window = window i } in
+        ap (aim_with_exot f values tobt runway) (sym h ∙ ap (exot_to times f) runway_is ∙ e.exot) ∙ (λ i. if_possible (possible.0 i) (possible.1 i) found)
         ∙ ap Ready target
+    by x h _ e = absurd e
+
+pub aim_means : (f : Record) (times : TaxiTimes) (values : DayValues) → IsAim f times values (aim_of f times values)
+unfolding aim_of
+aim_means f times values = means f times values f.tobt f.runway
+
+pub aim_is : (f : Record) (times : TaxiTimes) (values : DayValues) (a : AimResult) → IsAim f times values a → aim_of f times values ≡ a
+unfolding aim_of
+aim_is f times values = only f times values f.tobt f.runway
 
 -- so there is one
 pub aim_one : (f : Record) (times : TaxiTimes) (values : DayValues) (a b : AimResult) → IsAim f times values a → IsAim f times values b → a ≡ b

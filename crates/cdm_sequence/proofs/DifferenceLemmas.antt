@@ -1,71 +1,42 @@
 -- Of two placings that differ one is earlier.
-use Rattle.std.proofs.Common.{◌≡◌, ℕ, Bool, true, false, List, [], ◌∷◌, Option, Some, None, sym, ◌∙◌, ap, subst, refl, arith, inl, inr, ◌⊎◌}
+use Rattle.std.proofs.Common.{◌≡◌, ℕ, ◌==◌, Bool, true, false, not, List, Option, Some, None, sym, ◌∙◌, ap, refl, arith, inl, inr, ◌⊎◌, filter}
 use Rattle.std.specs.List.{Contains}
-use Rattle.std.proofs.lemmas.Bool.{false≢true, cases_lt}
-use Rattle.cdm_sequence.specs.Targets.{TargetRecord}
+use Rattle.std.proofs.lemmas.Bool.{false_from_ne_true, false≢true}
+use Rattle.std.proofs.lemmas.Bool.Decides.{nat_tests}
+use Rattle.std.proofs.lemmas.List.Elements.{All-contains, filter_passes}
+use Rattle.cdm_flight.proofs.Lists.{contains_all, contains_kept}
 use Rattle.cdm_flight.specs.Order.{is_before}
 use Rattle.cdm_sequence.specs.Plan.{Placing, IsSooner, IsEarlier}
-use Rattle.cdm_sequence.proofs.OrderLemmas.{before_itself, before_trans}
-use Rattle.cdm_flight.proofs.Lists.{contains_cases, contains_head, contains_tail}
+use Rattle.cdm_sequence.specs.Targets.{TargetRecord}
+use Rattle.cdm_sequence.proofs.OrderLemmas.{first_in, keys_weak}
 
-abbrev Agree : List TargetRecord → Placing → Placing → Type 0
-Agree fs p q = (f : TargetRecord) → Contains fs f → p f ≡ q f
+abbrev unlike : Option ℕ → Option ℕ → Bool
+unlike None None = false
+unlike (Some a) (Some b) = not (a == b)
+unlike _ _ = true
 
-options_differ : (a b : Option ℕ) → (a ≡ b) ⊎ (IsSooner a b ⊎ IsSooner b a)
-options_differ None None = inl refl
-options_differ (Some a) None = inr (inl tt)
-options_differ None (Some b) = inr (inr tt)
-options_differ (Some a) (Some b) = elim (cases_lt a b) [
-  | inl l ↦ inr (inl l)
-  | inr g ↦ elim (cases_lt b a) [ inl l ↦ inr (inr l) | inr h ↦ let e : a ≡ b = omega arith in inl (ap Some e) ]
-]
+alike : (a b : Option ℕ) → unlike a b ≡ false → a ≡ b
+alike None None h = refl
+alike (Some a) (Some b) h = let e : a ≡ b = grind (arith, nat_tests) in ap Some e
+alike _ _ h = cc
 
--- x comes first, where it differs and what comes before it is alike
-starts : (x : TargetRecord) (fs : List TargetRecord) (p q : Placing) → ((g : TargetRecord) → Contains fs g → is_before g.key x.key ≡ true → p g ≡ q g) → IsSooner (p x) (q x) → IsEarlier (x ∷ fs) p q
-starts x fs p q same sooner = record {
-  first = x;
-  among = contains_head x fs;
-  sooner = sooner;
-  agree = λ g i h. elim (contains_cases x fs g i) [
-    | inl e ↦ absurd (false≢true (sym (before_itself x.key) ∙ ap (λ (f : TargetRecord). is_before f.key x.key) e ∙ h))
-    | inr j ↦ same g j h
-  ];
-}
+one_sooner : (a b : Option ℕ) → unlike a b ≡ true → IsSooner a b ⊎ IsSooner b a
+one_sooner None None h = cc
+one_sooner (Some a) (Some b) h = grind (arith, nat_tests)
+one_sooner None (Some b) h = inr tt
+one_sooner (Some a) None h = inl tt
 
--- another is still the first
-keeps : (x : TargetRecord) (fs : List TargetRecord) (p q : Placing) (e : IsEarlier fs p q) → (is_before x.key e.first.key ≡ true → p x ≡ q x) → IsEarlier (x ∷ fs) p q
-keeps x fs p q e same = record {
-  first = e.first;
-  among = contains_tail x fs e.first e.among;
-  sooner = e.sooner;
-  agree = λ g i h. elim (contains_cases x fs g i) [
-    | inl s ↦ subst (λ (f : TargetRecord). p f ≡ q f) s (same (ap (λ (f : TargetRecord). is_before f.key e.first.key) s ∙ h))
-    | inr j ↦ e.agree g j h
-  ];
-}
-
-abbrev Compared : List TargetRecord → Placing → Placing → Type 0
-Compared fs p q = Agree fs p q ⊎ (IsEarlier fs p q ⊎ IsEarlier fs q p)
-
-with_earlier : (x : TargetRecord) (fs : List TargetRecord) (p q : Placing) → IsEarlier fs p q → Compared (x ∷ fs) p q
-with_earlier x fs p q e = go (is_before x.key e.first.key) refl (options_differ (p x) (q x)) where
-  go : (b : Bool) → is_before x.key e.first.key ≡ b → (p x ≡ q x) ⊎ (IsSooner (p x) (q x) ⊎ IsSooner (q x) (p x)) → Compared (x ∷ fs) p q
-  go b h (inl s) = inr (inl (keeps x fs p q e (λ k. s)))
-  go false h (inr d) = inr (inl (keeps x fs p q e (λ k. absurd (false≢true (sym h ∙ k)))))
-  go true h (inr (inl d)) = inr (inl (starts x fs p q (λ g i k. e.agree g i (before_trans g.key x.key e.first.key k h)) d))
-  go true h (inr (inr d)) = inr (inr (starts x fs q p (λ g i k. sym (e.agree g i (before_trans g.key x.key e.first.key k h))) d))
-
-swapped : (fs : List TargetRecord) (p q : Placing) → Compared fs q p → Compared fs p q
-swapped fs p q (inl a) = inl (λ f i. sym (a f i))
-swapped fs p q (inr (inl e)) = inr (inr e)
-swapped fs p q (inr (inr e)) = inr (inl e)
-
-pub compared : (fs : List TargetRecord) (p q : Placing) → Compared fs p q
-compared [] p q = inl (λ f i. absurd (omega (arith, i.1)))
-compared (x ∷ fs) p q = go (compared fs p q) (options_differ (p x) (q x)) where
-  go : Compared fs p q → (p x ≡ q x) ⊎ (IsSooner (p x) (q x) ⊎ IsSooner (q x) (p x)) → Compared (x ∷ fs) p q
-  go (inr (inl e)) d = with_earlier x fs p q e
-  go (inr (inr e)) d = swapped (x ∷ fs) p q (with_earlier x fs q p e)
-  go (inl a) (inl s) = inl (λ f i. elim (contains_cases x fs f i) [ inl e ↦ subst (λ (f : TargetRecord). p f ≡ q f) e s | inr j ↦ a f j ])
-  go (inl a) (inr (inl d)) = inr (inl (starts x fs p q (λ g i k. a g i) d))
-  go (inl a) (inr (inr d)) = inr (inr (starts x fs q p (λ g i k. sym (a g i)) d))
+pub compared : (fs : List TargetRecord) (p q : Placing) → ((f : TargetRecord) → Contains fs f → p f ≡ q f) ⊎ (IsEarlier fs p q ⊎ IsEarlier fs q p)
+compared fs p q =
+    let differs : TargetRecord → Bool = λ f. unlike (p f) (q f) in
+    elim (first_in (λ (x y : TargetRecord). is_before x.key y.key) keys_weak (filter differs fs)) [
+      | inl none ↦ inl (λ f i. alike (p f) (q f) (false_from_ne_true (differs f) (λ e. none f (contains_kept differs fs f i e))))
+      | inr (g, i, least) ↦
+          let among = contains_all differs fs g i in
+          let agree : (h : TargetRecord) → Contains fs h → is_before h.key g.key ≡ true → p h ≡ q h = λ h j b.
+          alike (p h) (q h) (false_from_ne_true (differs h) (λ e. false≢true (sym (least h (contains_kept differs fs h j e)) ∙ b))) in
+          elim (one_sooner (p g) (q g) (All-contains (λ f. differs f ≡ true) (filter differs fs) g (filter_passes differs fs) i)) [
+            | inl sooner ↦ inr (inl record { first = g; among = among; sooner = sooner; agree = agree })
+            | inr sooner ↦ inr (inr record { first = g; among = among; sooner = sooner; agree = λ h j b. sym (agree h j b) })
+          ]
+    ]

@@ -1,11 +1,7 @@
 pub mod OrderLemmas
-pub mod CountLemmas
-pub mod PlanLemmas
 pub mod DifferenceLemmas
-pub mod TurnLemmas
-pub mod MadeLemmas
-pub mod AllowedLemmas
-pub mod SequenceLemmas
-pub mod OneLemmas
-pub mod AimLemmas
+pub mod PlanLemmas
 pub mod NameLemmas
+pub mod OneLemmas
+pub mod SequenceLemmas
+pub mod AimLemmas

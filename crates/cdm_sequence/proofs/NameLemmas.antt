@@ -1,22 +1,57 @@
--- Names that stand once.
-use Rattle.std.proofs.Common.{◌≡◌, ℕ, false, List, [], ◌∷◌, sym, ◌∙◌, subst, arith, length}
-use Rattle.std.specs.List.{list_any, AllByRecursion, IsDistinct}
-use Rattle.std.proofs.lemmas.Bool.{or_parts}
-use Rattle.std.proofs.lemmas.Cmp.{nat_list_eq_equiv}
-use Rattle.std.proofs.lemmas.Map.Keys.{IsDistinct-cons}
-use Rattle.cdm_flight.specs.Names.{same_name}
+-- The names that a sequence shows.
+use Rattle.std.proofs.Common.{◌≡◌, ℕ, not, cond, List, [], ◌∷◌, ◌++◌, Option, Some, None, is_none, sym, ◌∙◌, ap, subst, refl, filter, map, append_assoc}
+use Rattle.std.specs.List.{filter_map, cons_option}
+use Rattle.std.specs.List.Sorted.{IsPermutation}
+use Rattle.std.specs.Option.{is_some, option_map}
+use Rattle.std.proofs.lemmas.List.{map-append}
+use Rattle.std.proofs.lemmas.List.Sorted.{IsPermutation-append, IsPermutation-append_right, IsPermutation-filter_both, IsPermutation-map, IsPermutation-trans}
+use Rattle.cdm_runway.specs.Rules.{RunwayRules}
+use Rattle.cdm_sequence.specs.Plan.{Placing}
+use Rattle.cdm_sequence.specs.Sequence.{planned_slot, flight_names, IsSequence}
+use Rattle.cdm_sequence.specs.Slots.{SlotRecord, RunwayPlanRecord}
+use Rattle.cdm_sequence.specs.Targets.{TargetRecord}
+use Rattle.cdm_sequence.specs.inner.Shown.{slots_by, names_left}
 
--- a name that isn't found differs from each
-others_differ : (name : List ℕ) (names : List (List ℕ)) → list_any (λ y. same_name y name) names ≡ false → AllByRecursion (λ y. same_name name y ≡ false) names
-others_differ name [] none = tt
-others_differ name (y ∷ ys) none =
-    let parts = or_parts (same_name y name) (list_any (λ z. same_name z name) ys) none in
-    (nat_list_eq_equiv.symm name y ∙ parts.0, others_differ name ys parts.1)
+-- the names of what flights give are those of the flights that give something
+pub names_given : {X Y : Type 0} (name : Y → List ℕ) (key : X → List ℕ) (h : X → Option Y) → ((f : X) (y : Y) → h f ≡ Some y → name y ≡ key f)
+    → (fs : List X) → map name (filter_map h fs) ≡ map key (filter (λ f. is_some (h f)) fs)
+names_given name key h own [] = refl
+names_given {X} {Y} name key h own (f ∷ fs) = go (h f) refl (names_given name key h own fs) where
+  given : List X
+  given = filter (λ f. is_some (h f)) fs
 
-pub distinct_none : (names : List (List ℕ)) → length names ≡ 0 → IsDistinct same_name names
-unfolding IsDistinct
-distinct_none [] e = tt
-distinct_none (x ∷ xs) e = absurd (omega (arith, e))
+  go : (o : Option Y) → h f ≡ o → map name (filter_map h fs) ≡ map key given
+      → map name (cons_option o (filter_map h fs)) ≡ map key (cond (is_some o) (f ∷ given) given)
+  go None e rest = rest
+  go (Some y) e rest = λ i. own f y e i ∷ rest i
 
-pub distinct_more : (names : List (List ℕ)) (first : List ℕ) (others : List (List ℕ)) → names ≡ first ∷ others → list_any (λ y. same_name y first) others ≡ false → IsDistinct same_name others → IsDistinct same_name names
-distinct_more names first others e none apart = subst (IsDistinct same_name) (sym e) (IsDistinct-cons same_name first others (others_differ first others none) apart)
+-- each flight has a slot, or is left without one
+pub shown_by : (p : Placing) (fixed : List SlotRecord) (ts : List TargetRecord)
+    → IsPermutation (flight_names fixed ts) (map (λ x. x.name) (slots_by p fixed ts) ++ names_left p ts)
+shown_by p fixed ts =
+    let key : TargetRecord → List ℕ = λ t. t.key.name in
+    let slot : TargetRecord → Option SlotRecord = λ t. option_map (planned_slot t) (p t) in
+    let name : SlotRecord → List ℕ = λ x. x.name in
+    let own : (t : TargetRecord) (o : Option ℕ) (x : SlotRecord) → option_map (planned_slot t) o ≡ Some x → x.name ≡ t.key.name = λ t.
+    elim [ None ↦ λ x e. cc | Some m ↦ λ x e. let same : planned_slot t m ≡ x = cc in sym (ap name same) ] in
+    let other : (t : TargetRecord) (o : Option ℕ) → is_none o ≡ not (is_some (option_map (planned_slot t) o)) = λ t. elim [ None ↦ refl | Some m ↦ refl ] in
+    let given = filter (λ t. is_some (slot t)) ts in
+    let left = filter (λ t. is_none (p t)) ts in
+    let parted = IsPermutation-map key ts (given ++ left) (IsPermutation-filter_both (λ t. is_some (slot t)) (λ t. is_none (p t)) (λ t. other t (p t)) ts) in
+    let named : map key (given ++ left) ≡ map name (filter_map slot ts) ++ names_left p ts =
+    map-append key given left ∙ ap (λ (ns : List (List ℕ)). ns ++ names_left p ts) (sym (names_given name key slot (λ t x e. own t (p t) x e) ts)) in
+    let whole : map name fixed ++ (map name (filter_map slot ts) ++ names_left p ts) ≡ map name (slots_by p fixed ts) ++ names_left p ts =
+    sym (append_assoc (map name fixed) (map name (filter_map slot ts)) (names_left p ts))
+    ∙ ap (λ (ns : List (List ℕ)). ns ++ names_left p ts) (sym (map-append name fixed (filter_map slot ts))) in
+    subst (IsPermutation (flight_names fixed ts)) whole (IsPermutation-append_right (map name fixed) _ _ (subst (IsPermutation (map key ts)) named parted))
+
+-- the names that the plan of a runway shows
+abbrev pub shown : RunwayPlanRecord → List (List ℕ)
+shown plan = map (λ x. x.name) plan.slots ++ map (λ b. b.name) plan.blocked
+
+-- they are those of all its flights
+pub all_shown : (r : RunwayRules) (fixed : List SlotRecord) (targets : List TargetRecord) (plan : RunwayPlanRecord) → IsSequence r fixed targets plan
+    → IsPermutation (flight_names fixed targets) (shown plan)
+all_shown r fixed targets plan (p, e) =
+    let slots = IsPermutation-map (λ (x : SlotRecord). x.name) (slots_by p fixed targets) plan.slots e.slots in
+    IsPermutation-trans _ _ _ (shown_by p fixed targets) (IsPermutation-append _ _ _ _ slots e.blocked)

@@ -1,11 +1,14 @@
 -- The order of sequence is a strict order, total on different names.
-use Rattle.std.proofs.Common.{◌≡◌, ℕ, Bool, true, false, List, sym, ◌∙◌, ap, refl}
+use Rattle.std.proofs.Common.{◌≡◌, ℕ, Bool, true, false, List, [], ◌∷◌, sym, ◌∙◌, ap, refl, arith, inl, inr, ◌⊎◌, get_or}
 use Rattle.std.specs.Bool.{Decides}
 use Rattle.std.specs.declared.cmp.Ordering.{Ordering}
 use Rattle.std.specs.declared.cmp.Ordering.TheVariants.{Less, Equal, Greater}
 use Rattle.std.specs.Ordering.{is_lt, is_eq, ordering_reverse, ordering_then, nat_cmp}
 use Rattle.std.specs.Cmp.{IsTotalOrder, IsStrictWeakOrder}
 use Rattle.std.specs.Cmp.Lexicographic.{texts_ties}
+use Rattle.std.specs.List.{Contains}
+use Rattle.std.proofs.lemmas.List.Elements.{All-contains, All-from_get_or, Contains-get_or}
+use Rattle.std.proofs.lemmas.List.MinMax.{IsFirstBest-from_best_of}
 use Rattle.std.proofs.lemmas.List.Sorted.{ranks_by}
 use Rattle.std.proofs.lemmas.Cmp.{nat_cmp_total, nat_list_cmp_total, nat_list_eq_equiv, on_total, then_total, tied_itself}
 use Rattle.std.proofs.lemmas.Bool.{false≢true}
@@ -42,7 +45,8 @@ pub tied_names : (m n : List ℕ) → name_cmp m n ≡ Equal → m ≡ n
 tied_names m n e = same_is m n (texts_ties m n ∙ ap is_eq e)
 
 pub key_total : IsTotalOrder key_cmp
-key_total = then_total (on_total (λ k. k.priority) nat_cmp_total) (then_total (on_total (λ k. k.tobt) nat_cmp_total) (on_total (λ k. k.name) nat_list_cmp_total))
+key_total =
+    then_total (on_total (λ k. k.priority) nat_cmp_total) (then_total (on_total (λ k. k.tobt) nat_cmp_total) (on_total (λ k. k.name) nat_list_cmp_total))
 
 pub before_itself : (k : Key) → is_before k k ≡ false
 unfolding is_before
@@ -75,5 +79,20 @@ not_back a b h = go (is_before b a) refl where
   go false e = refl
   go true e = absurd (false≢true (sym (before_itself a) ∙ before_trans a b a h e))
 
-pub keys_weak : IsStrictWeakOrder (λ (x y : TargetRecord). is_lt (key_cmp x.key y.key))
+pub keys_weak : IsStrictWeakOrder (λ (x y : TargetRecord). is_before x.key y.key)
+unfolding is_before
 keys_weak = ranks_by key_total (λ t. t.key)
+
+-- none of a list comes before its first in an order
+pub first_in : {X : Type 0} (lt : X → X → Bool) → IsStrictWeakOrder lt → (xs : List X)
+    → ((x : X) → Contains xs x → ⊥) ⊎ ((g : X) × Contains xs g × ((h : X) → Contains xs h → lt h g ≡ false))
+first_in lt weak [] = inl (λ x i. absurd (omega (arith, i.1)))
+first_in {X} lt weak (x ∷ xs) =
+    let best = IsFirstBest-from_best_of weak x xs in
+    let g = get_or (x ∷ xs) best.0 x in
+    let least : X → Type 0 = λ h. lt h g ≡ false in
+    inr (
+      g,
+      Contains-get_or (x ∷ xs) best.0 x best.1.0,
+      λ h i. All-contains least (x ∷ xs) h (All-from_get_or least (x ∷ xs) x (λ k l. best.1.1 k x l)) i,
+    )

@@ -1,141 +1,199 @@
 -- What holds of a plan, whoever made it: it is the only one, it is allowed, and no allowed placing is earlier.
-use Rattle.std.proofs.Common.{◌≡◌, ℕ, zero, suc, ◌+◌, ◌<◌, ◌≤◌, ◌/◌, ◌==◌, Bool, true, false, cond, List, ◌++◌, Option, Some, None, sym, ◌∙◌, ap, subst, refl, arith, get_or, sum_by, filter, eq-eqb}
-use Rattle.std.specs.List.{filter_map, Contains}
-use Rattle.std.specs.Option.{IfSome}
-use Rattle.std.proofs.lemmas.List.Sums.{sum_by-append}
-use Rattle.std.proofs.lemmas.List.Elements.{All-contains, Contains-get_or}
-use Rattle.std.proofs.lemmas.Bool.{false≢true}
-use Rattle.cdm_runway.specs.Rules.{RunwayRules}
-use Rattle.cdm_runway.specs.Room.{held_in_cell, IsOpen, HasRoom}
-use Rattle.cdm_sequence.specs.Targets.{TargetRecord}
+use Rattle.std.proofs.Common.{◌≡◌, ℕ, ◌+◌, ◌<◌, ◌≤◌, ◌/◌, ◌==◌, ◌&&◌, Bool, true, false, not, cond, List, [], ◌∷◌, ◌++◌, Option, Some, None}
+use Rattle.std.specs.Prelude.{slice_index}
+use Rattle.std.proofs.Common.{sym, ◌∙◌, ap, subst, refl, arith, inl, inr, count_by, filter, map, length, get_or, eq-eqb}
+use Rattle.std.specs.List.{filter_map, cons_option, Contains, IsDistinct}
+use Rattle.std.specs.Option.{IfSome, option_map_or}
+use Rattle.std.proofs.lemmas.Bool.{false≢true, and_parts, not-true, true_from_ne_false}
+use Rattle.std.proofs.lemmas.Bool.Decides.{Decides-eqb}
+use Rattle.std.proofs.lemmas.List.Sums.{sum_by-append, sum_by-cons}
+use Rattle.std.proofs.lemmas.List.Elements.{All-contains, Contains-get_or, filter_passes}
+use Rattle.cdm_flight.specs.Names.{same_name}
 use Rattle.cdm_flight.specs.Order.{is_before}
+use Rattle.cdm_flight.proofs.Lists.{apart_from_head, contains_all, contains_kept, contains_head, contains_tail, distinct_filter, filter_map_same}
+use Rattle.cdm_runway.specs.Rules.{RunwayRules}
+use Rattle.cdm_runway.specs.Room.{cap_at, held_in_cell, IsOpen, HasRoom}
 use Rattle.cdm_sequence.specs.Plan.{Placing, taken_before, IsLeast, IsPlan, MayHave, IsAllowed, IsSooner, IsEarlier}
-use Rattle.cdm_sequence.proofs.OrderLemmas.{before_itself, before_trans}
-use Rattle.cdm_sequence.proofs.CountLemmas.{weight, count_placed, count_all}
-use Rattle.cdm_flight.proofs.Lists.{sum_same, sum_less}
+use Rattle.cdm_sequence.specs.Targets.{TargetRecord}
+use Rattle.cdm_sequence.proofs.OrderLemmas.{before_itself, before_or_after, first_in, is_same, keys_weak, same_is}
+use Rattle.cdm_sequence.proofs.DifferenceLemmas.{compared}
+use Rattle.std.proofs.lemmas.List.Sorted.{IsStrictWeakOrder-flip}
 
--- lies in the cell of m
-abbrev pub in_cell : ℕ → ℕ → ℕ → Bool
-in_cell c m t = t / c == m / c
+-- placings that agree on the flights before f leave it the same
+pub taken_agree : (fixed : List ℕ) (ts : List TargetRecord) (p q : Placing) (f : TargetRecord)
+    → ((g : TargetRecord) → Contains ts g → is_before g.key f.key ≡ true → p g ≡ q g) → taken_before fixed ts p f ≡ taken_before fixed ts q f
+taken_agree fixed ts p q f same =
+    let earlier : TargetRecord → Bool = λ g. is_before g.key f.key in
+    let passes = filter_passes earlier ts in
+    ap (λ (xs : List ℕ). fixed ++ xs) (filter_map_same p q (filter earlier ts) (λ g i.
+    same g (contains_all earlier ts g i) (All-contains (λ g. earlier g ≡ true) (filter earlier ts) g passes i)))
 
--- 1 where the placing puts an earlier flight into the cell of m
-abbrev pub load_of : ℕ → ℕ → Placing → TargetRecord → TargetRecord → ℕ
-load_of c m p f g = cond (is_before g.key f.key) (weight (in_cell c m) (p g)) 0
+-- a minute at which the flight could take off
+abbrev Fits : RunwayRules → List ℕ → TargetRecord → ℕ → Type 0
+Fits r taken f m = (f.window.from ≤ m) × (m < f.window.to) × IsOpen r m × HasRoom r taken m
 
-pub held_before : (c m : ℕ) (fixed : List ℕ) (ts : List TargetRecord) (p : Placing) (f : TargetRecord) → held_in_cell c (taken_before fixed ts p f) m ≡ held_in_cell c fixed m + sum_by (load_of c m p f) ts
-held_before c m fixed ts p f =
-    sum_by-append (λ t. cond (in_cell c m t) 1 0) fixed (filter_map p (filter (λ g. is_before g.key f.key) ts))
-    ∙ ap (λ n. held_in_cell c fixed m + n) (count_placed (in_cell c m) p (λ g. is_before g.key f.key) ts)
+-- none is sooner than its earliest
+fits_later : (r : RunwayRules) (taken : List ℕ) (f : TargetRecord) (o u : Option ℕ) → IfSome o (Fits r taken f) → IsLeast r taken f u → IsSooner o u → ⊥
+fits_later r taken f None u fits least s = s
+fits_later r taken f (Some m) None fits least s = least m fits.0 fits.1 fits.2 fits.3
+fits_later r taken f (Some m) (Some n) fits least s = let l = least.least m fits.0 fits.1 fits.2 fits.3 in omega arith
 
-pub held_all : (c m : ℕ) (fixed : List ℕ) (ts : List TargetRecord) (p : Placing) → held_in_cell c (fixed ++ filter_map p ts) m ≡ held_in_cell c fixed m + sum_by (λ g. weight (in_cell c m) (p g)) ts
-held_all c m fixed ts p =
-    sum_by-append (λ t. cond (in_cell c m t) 1 0) fixed (filter_map p ts)
-    ∙ ap (λ n. held_in_cell c fixed m + n) (count_all (in_cell c m) p ts)
+least_fits : (r : RunwayRules) (taken : List ℕ) (f : TargetRecord) (o : Option ℕ) → IsLeast r taken f o → IfSome o (Fits r taken f)
+least_fits r taken f None least = tt
+least_fits r taken f (Some m) least = (least.after, least.before, least.is_open, least.has_room)
 
--- a flight's minute depends on how full the cells are, and on nothing else
-pub least_same : (r : RunwayRules) (xs ys : List ℕ) (f : TargetRecord) (o : Option ℕ) → ((m : ℕ) → held_in_cell r.cell xs m ≡ held_in_cell r.cell ys m) → IsLeast r xs f o → IsLeast r ys f o
-least_same r xs ys f None h e = λ k a b o room. e k a b o (let s = h k in omega arith)
-least_same r xs ys f (Some m) h e = record {
-  after = e.after;
-  before = e.before;
-  is_open = e.is_open;
-  has_room = let s = h m in let t = e.has_room in omega arith;
-  least = λ k a b o room. e.least k a b o (let s = h k in omega arith);
-}
+module _ (r : RunwayRules) (fixed : List ℕ) (ts : List TargetRecord) where
+  -- each flight has its earliest minute
+  least_of : (p : Placing) → IsPlan r fixed ts p → (f : TargetRecord) → Contains ts f → IsLeast r (taken_before fixed ts p f) f (p f)
+  least_of p plan f = All-contains (λ f. IsLeast r (taken_before fixed ts p f) f (p f)) ts f plan
 
--- and it is one
-pub least_one : (r : RunwayRules) (xs : List ℕ) (f : TargetRecord) (o u : Option ℕ) → IsLeast r xs f o → IsLeast r xs f u → o ≡ u
-least_one r xs f None None a b = refl
-least_one r xs f None (Some m) a b = absurd (a m b.after b.before b.is_open b.has_room)
-least_one r xs f (Some m) None a b = absurd (b m a.after a.before a.is_open a.has_room)
-least_one r xs f (Some m) (Some n) a b =
-    let x = a.least n b.after b.before b.is_open b.has_room in
-    let y = b.least m a.after a.before a.is_open a.has_room in
-    let e : m ≡ n = omega arith in ap Some e
+  -- where a placing is earlier than the plan, its first other minute doesn't fit
+  none_fits : (p q : Placing) → IsPlan r fixed ts p → (e : IsEarlier ts q p) → IfSome (q e.first) (Fits r (taken_before fixed ts q e.first) e.first) → ⊥
+  none_fits p q plan e fits =
+      fits_later r (taken_before fixed ts q e.first) e.first (q e.first) (p e.first) fits
+      (subst (λ (xs : List ℕ). IsLeast r xs e.first (p e.first)) (sym (taken_agree fixed ts q p e.first e.agree)) (least_of p plan e.first e.among)) e.sooner
 
--- two placings that agree on the flights before f leave it the same
-pub held_agree : (c m : ℕ) (fixed : List ℕ) (ts : List TargetRecord) (p q : Placing) (f : TargetRecord) → ((g : TargetRecord) → Contains ts g → is_before g.key f.key ≡ true → p g ≡ q g) → held_in_cell c (taken_before fixed ts p f) m ≡ held_in_cell c (taken_before fixed ts q f) m
-held_agree c m fixed ts p q f h =
-    let each : (g : TargetRecord) → Contains ts g → load_of c m p f g ≡ load_of c m q f g = λ g i.
-    let go : (b : Bool) → is_before g.key f.key ≡ b → cond b (weight (in_cell c m) (p g)) 0 ≡ cond b (weight (in_cell c m) (q g)) 0 =
-    elim [ true ↦ λ e. ap (weight (in_cell c m)) (h g i e) | false ↦ λ e. refl ] in
-    go (is_before g.key f.key) refl in
-    held_before c m fixed ts p f
-    ∙ ap (λ n. held_in_cell c fixed m + n) (sum_same (load_of c m p f) (load_of c m q f) ts each)
-    ∙ sym (held_before c m fixed ts q f)
+  -- there is one plan
+  pub plan_one : (p q : Placing) → IsPlan r fixed ts p → IsPlan r fixed ts q → (f : TargetRecord) → Contains ts f → p f ≡ q f
+  plan_one p q a b = elim (compared ts p q) [
+    | inl same ↦ same
+    | inr (inl e) ↦ absurd (none_fits q p b e (least_fits r (taken_before fixed ts p e.first) e.first (p e.first) (least_of p a e.first e.among)))
+    | inr (inr e) ↦ absurd (none_fits p q a e (least_fits r (taken_before fixed ts q e.first) e.first (q e.first) (least_of q b e.first e.among)))
+  ]
 
--- how many flights come before f
-abbrev rank : List TargetRecord → TargetRecord → ℕ
-rank ts f = sum_by (λ g. cond (is_before g.key f.key) 1 0) ts
+  -- a placing that agrees with the plan on its targets is the plan
+  pub plan_agree : (p q : Placing) → ((g : TargetRecord) → Contains ts g → p g ≡ q g) → IsPlan r fixed ts p → IsPlan r fixed ts q
+  plan_agree p q same plan = λ k d l.
+      let f = get_or ts k d in
+      let taken = taken_agree fixed ts p q f (λ g i b. same g i) in
+      let own = same f (Contains-get_or ts k d l) in
+      subst (λ (xs : List ℕ). IsLeast r xs f (q f)) taken (subst (λ (o : Option ℕ). IsLeast r (taken_before fixed ts p f) f o) own (plan k d l))
 
-abbrev pub one_if : Bool → ℕ
-one_if b = cond b 1 0
+-- What a cell holds.
 
-one_le : (b c : Bool) → (b ≡ true → c ≡ true) → cond b 1 0 ≤ cond c 1 0
-one_le true true h = omega arith
-one_le true false h = absurd (false≢true (h refl))
-one_le false true h = omega arith
-one_le false false h = omega arith
+-- what passes a test among what a list gives is given by the elements that pass another test, or by others
+given_parted : {X : Type 0} (t : ℕ → Bool) (p : X → Option ℕ) (b : X → Bool) (xs : List X)
+    → count_by t (filter_map p xs) ≡ count_by t (filter_map p (filter b xs)) + length (filter (λ x. not (b x) && option_map_or t (p x) false) xs)
+given_parted t p b [] = refl
+given_parted {X} t p b (x ∷ xs) = go (b x) (given_parted t p b xs) where
+  others : List X
+  others = filter (λ x. not (b x) && option_map_or t (p x) false) xs
 
-rank_below : (ts : List TargetRecord) (f g : TargetRecord) → Contains ts g → is_before g.key f.key ≡ true → rank ts g < rank ts f
-rank_below ts f g i h =
-    let le : (y : TargetRecord) → cond (is_before y.key g.key) 1 0 ≤ cond (is_before y.key f.key) 1 0 = λ y.
-    one_le (is_before y.key g.key) (is_before y.key f.key) (λ e. before_trans y.key g.key f.key e h) in
-    let lt : one_if (is_before g.key g.key) < one_if (is_before g.key f.key) =
-    let a : one_if (is_before g.key g.key) ≡ 0 = ap one_if (before_itself g.key) in
-    let b : one_if (is_before g.key f.key) ≡ 1 = ap one_if h in omega arith in
-    sum_less (λ y. cond (is_before y.key g.key) 1 0) (λ y. cond (is_before y.key f.key) 1 0) ts g i le lt
+  all : List ℕ
+  all = filter_map p xs
 
-same_below : (r : RunwayRules) (fixed : List ℕ) (ts : List TargetRecord) (p q : Placing) → IsPlan r fixed ts p → IsPlan r fixed ts q → (n : ℕ) (f : TargetRecord) → Contains ts f → rank ts f < n → p f ≡ q f
-same_below r fixed ts p q a b zero f i l = absurd (omega arith)
-same_below r fixed ts p q a b (suc n) f i l =
-    let agree : (g : TargetRecord) → Contains ts g → is_before g.key f.key ≡ true → p g ≡ q g = λ g j e.
-    same_below r fixed ts p q a b n g j (let k = rank_below ts f g j e in omega arith) in
-    let x : IsLeast r (taken_before fixed ts p f) f (p f) = All-contains (λ f. IsLeast r (taken_before fixed ts p f) f (p f)) ts f a i in
-    let y : IsLeast r (taken_before fixed ts q f) f (q f) = All-contains (λ f. IsLeast r (taken_before fixed ts q f) f (q f)) ts f b i in
-    least_one r (taken_before fixed ts q f) f (p f) (q f)
-    (least_same r (taken_before fixed ts p f) (taken_before fixed ts q f) f (p f) (λ m. held_agree r.cell m fixed ts p q f agree) x) y
+  some : List ℕ
+  some = filter_map p (filter b xs)
 
--- there is one plan
-pub plan_one : (r : RunwayRules) (fixed : List ℕ) (ts : List TargetRecord) (p q : Placing) → IsPlan r fixed ts p → IsPlan r fixed ts q → (f : TargetRecord) → Contains ts f → p f ≡ q f
-plan_one r fixed ts p q a b f i = same_below r fixed ts p q a b (suc (rank ts f)) f i (omega arith)
+  go : (v : Bool) → count_by t all ≡ count_by t some + length others → count_by t (cons_option (p x) all)
+      ≡ count_by t (filter_map p (cond v (x ∷ filter b xs) (filter b xs))) + length (cond (not v && option_map_or t (p x) false) (x ∷ others) others)
+  go true e = elim (p x) as (λ o. count_by t (cons_option o all) ≡ count_by t (cons_option o some) + length others) [
+    | None ↦ e
+    | Some m ↦ let a = sum_by-cons (λ k. cond (t k) 1 0) m all in let c = sum_by-cons (λ k. cond (t k) 1 0) m some in omega arith
+  ]
+  go false e = elim (p x) as (λ o. count_by t (cons_option o all) ≡ count_by t some + length (cond (option_map_or t o false) (x ∷ others) others)) [
+    | None ↦ e
+    | Some m ↦
+        let one : (u : Bool) → cond u 1 0 + count_by t all ≡ count_by t some + length (cond u (x ∷ others) others) =
+        elim [ true ↦ omega arith | false ↦ omega arith ] in
+        sum_by-cons (λ k. cond (t k) 1 0) m all ∙ one (t m)
+  ]
 
--- a placing that agrees with the plan on its targets is the plan
-pub plan_agree : (r : RunwayRules) (fixed : List ℕ) (targets : List TargetRecord) (p q : Placing) → ((g : TargetRecord) → Contains targets g → p g ≡ q g) → IsPlan r fixed targets p → IsPlan r fixed targets q
-plan_agree r fixed targets p q same a = λ k d l.
-    let f = get_or targets k d in
-    let i = Contains-get_or targets k d l in
-    let x : IsLeast r (taken_before fixed targets p f) f (p f) = a k d l in
-    let y : IsLeast r (taken_before fixed targets q f) f (p f) = least_same r (taken_before fixed targets p f) (taken_before fixed targets q f) f (p f) (λ m. held_agree r.cell m fixed targets p q f (λ g j h. same g j)) x in
-    subst (λ (o : Option ℕ). IsLeast r (taken_before fixed targets q f) f o) (same f i) y
+-- flights of one name of which each has a name of its own are one at most
+one_at_most : (name : List ℕ) (fs : List TargetRecord) → IsDistinct same_name (map (λ f. f.key.name) fs)
+    → ((f : TargetRecord) → Contains fs f → same_name f.key.name name ≡ true) → length fs ≤ 1
+one_at_most name [] own same = omega arith
+one_at_most name (f ∷ []) own same = omega arith
+one_at_most name (f ∷ g ∷ fs) own same =
+    let names = map (λ (f : TargetRecord). f.key.name) fs in
+    let apart = apart_from_head same_name f.key.name (g.key.name ∷ names) g.key.name own (contains_head g.key.name names) in
+    let here = same_is f.key.name name (same f (contains_head f (g ∷ fs))) in
+    let next = same_is g.key.name name (same g (contains_tail f (g ∷ fs) g (contains_head g fs))) in
+    absurd (false≢true (sym apart ∙ is_same f.key.name g.key.name (here ∙ sym next)))
 
--- a placing that puts f at m has in m's cell all that stands before f, and f
-room_for : (c m : ℕ) (fixed : List ℕ) (ts : List TargetRecord) (q : Placing) (f : TargetRecord) → Contains ts f → q f ≡ Some m → held_in_cell c (taken_before fixed ts q f) m < held_in_cell c (fixed ++ filter_map q ts) m
-room_for c m fixed ts q f i e =
-    let le : (g : TargetRecord) → load_of c m q f g ≤ weight (in_cell c m) (q g) = λ g.
-    let go : (b : Bool) → cond b (weight (in_cell c m) (q g)) 0 ≤ weight (in_cell c m) (q g) = elim [ true ↦ omega arith | false ↦ omega arith ] in
-    go (is_before g.key f.key) in
-    let w : weight (in_cell c m) (q f) ≡ 1 = ap (weight (in_cell c m)) e ∙ ap (λ b. cond b 1 0) (eq-eqb (m / c) (m / c) refl) in
-    let z : load_of c m q f f ≡ 0 = ap (λ b. cond b (weight (in_cell c m) (q f)) 0) (before_itself f.key) in
-    let s = sum_less (load_of c m q f) (λ g. weight (in_cell c m) (q g)) ts f i le (omega arith) in
-    let a = held_before c m fixed ts q f in
-    let b = held_all c m fixed ts q in
-    omega arith
+module _ (r : RunwayRules) (fixed : List ℕ) (ts : List TargetRecord) (p : Placing) (m : ℕ) where
+  -- the placing puts the flight into the cell of m
+  here : TargetRecord → Bool
+  here f = option_map_or (λ t. t / r.cell == m / r.cell) (p f) false
 
-not_sooner : (r : RunwayRules) (taken : List ℕ) (f : TargetRecord) (m : ℕ) (o : Option ℕ) → f.window.from ≤ m → m < f.window.to → IsOpen r m → HasRoom r taken m → IsLeast r taken f o → IsSooner (Some m) o → ⊥
-not_sooner r taken f m None a b o room e s = e m a b o room
-not_sooner r taken f m (Some n) a b o room e s = let l = e.least m a b o room in omega arith
+  -- those that it puts there, and that don't come before f
+  rest : TargetRecord → TargetRecord → Bool
+  rest f g = not (is_before g.key f.key) && here g
 
-none_sooner : (r : RunwayRules) (fixed : List ℕ) (ts : List TargetRecord) (p q : Placing) (f : TargetRecord) (o : Option ℕ) → q f ≡ o → IsPlan r fixed ts p → IfSome o (λ m. MayHave r (fixed ++ filter_map q ts) f m) → Contains ts f → ((g : TargetRecord) → Contains ts g → is_before g.key f.key ≡ true → q g ≡ p g) → IsSooner o (p f) → ⊥
-none_sooner r fixed ts p q f None e a b i agree s = s
-none_sooner r fixed ts p q f (Some m) e a b i agree s =
-    let x : IsLeast r (taken_before fixed ts p f) f (p f) = All-contains (λ f. IsLeast r (taken_before fixed ts p f) f (p f)) ts f a i in
-    let h = held_agree r.cell m fixed ts q p f agree in
-    let k = room_for r.cell m fixed ts q f i e in
-    let w = b.within_cap in
-    not_sooner r (taken_before fixed ts p f) f m (p f) b.after b.before b.is_open (omega arith) x s
+  held_parted : (f : TargetRecord)
+      → held_in_cell r.cell (fixed ++ filter_map p ts) m ≡ held_in_cell r.cell (taken_before fixed ts p f) m + length (filter (rest f) ts)
+  unfolding rest here
+  held_parted f =
+      let w : ℕ → ℕ = λ t. cond (t / r.cell == m / r.cell) 1 0 in
+      let a = sum_by-append w fixed (filter_map p ts) in
+      let b = sum_by-append w fixed (filter_map p (filter (λ g. is_before g.key f.key) ts)) in
+      let c = given_parted (λ t. t / r.cell == m / r.cell) p (λ g. is_before g.key f.key) ts in
+      omega arith
 
--- no allowed placing is earlier than the plan
-pub none_earlier : (r : RunwayRules) (fixed : List ℕ) (ts : List TargetRecord) (p q : Placing) → IsPlan r fixed ts p → IsAllowed r fixed ts q → IsEarlier ts q p → ⊥
-none_earlier r fixed ts p q a b e =
-    none_sooner r fixed ts p q e.first (q e.first) refl a (All-contains (λ f. IfSome (q f) (λ m. MayHave r (fixed ++ filter_map q ts) f m)) ts e.first b e.among) e.among e.agree e.sooner
+  is_here : (f : TargetRecord) → p f ≡ Some m → here f ≡ true
+  unfolding here
+  is_here f e = ap (λ (o : Option ℕ). option_map_or (λ t. t / r.cell == m / r.cell) o false) e ∙ eq-eqb (m / r.cell) (m / r.cell) refl
+
+  -- where the placing has f at m, its cell has all that stands before f, and f
+  room_for : (f : TargetRecord) → Contains ts f → p f ≡ Some m
+      → held_in_cell r.cell (taken_before fixed ts p f) m < held_in_cell r.cell (fixed ++ filter_map p ts) m
+  unfolding rest
+  room_for f i e =
+      let own = contains_kept (rest f) ts f i (ap (λ (b : Bool). not b && here f) (before_itself f.key) ∙ is_here f e) in
+      let all = held_parted f in
+      let some = own.1 in
+      omega arith
+
+  -- the cell of a minute that a plan gives isn't overfilled
+  cell_within : IsDistinct same_name (map (λ f. f.key.name) ts) → IsPlan r fixed ts p → (f : TargetRecord) → Contains ts f → p f ≡ Some m
+      → held_in_cell r.cell (fixed ++ filter_map p ts) m ≤ cap_at r m
+  unfolding rest here
+  cell_within own plan f i e =
+      let order = IsStrictWeakOrder-flip (λ (x y : TargetRecord). is_before x.key y.key) keys_weak in
+      elim (first_in (λ x y. is_before y.key x.key) order (filter here ts)) [
+        | inl none ↦ absurd (none f (contains_kept here ts f i (is_here f e)))
+        | inr (g, j, last) ↦
+            let among = contains_all here ts g j in
+            let most = one_at_most g.key.name (filter (rest g) ts) (distinct_filter same_name (λ (f : TargetRecord). f.key.name) (rest g) ts own) (λ h k.
+            let passes = All-contains (λ f. rest g f ≡ true) (filter (rest g) ts) h (filter_passes (rest g) ts) k in
+            let parts = and_parts (not (is_before h.key g.key)) (here h) passes in
+            let later = not-true (is_before h.key g.key) parts.0 in
+            let back = last h (contains_kept here ts h (contains_all (rest g) ts h k) parts.1) in
+            true_from_ne_false (same_name h.key.name g.key.name) (λ n. false≢true (sym later ∙ before_or_after h.key g.key back n))) in
+            let all = held_parted g in
+            let taken = taken_before fixed ts p g in
+            let within : (o : Option ℕ) → option_map_or (λ t. t / r.cell == m / r.cell) o false ≡ true → IsLeast r taken g o → HasRoom r taken m =
+            elim [
+              | None ↦ λ t least. absurd (false≢true t)
+              | Some n ↦ λ t least.
+                  subst (λ (k : ℕ). count_by (λ t. t / r.cell == k) taken < slice_index r.caps k) ((Decides-eqb (n / r.cell) (m / r.cell)).0 t) least.has_room
+            ] in
+            let room = within (p g) (All-contains (λ f. here f ≡ true) (filter here ts) g (filter_passes here ts) j) (least_of r fixed ts p plan g among) in
+            omega arith
+      ]
+
+module _ (r : RunwayRules) (fixed : List ℕ) (ts : List TargetRecord) where
+  -- a plan of flights with names of their own is allowed
+  pub plan_allowed : (p : Placing) → IsDistinct same_name (map (λ f. f.key.name) ts) → IsPlan r fixed ts p → IsAllowed r fixed ts p
+  plan_allowed p own plan = λ k d l.
+      let f = get_or ts k d in
+      let go : (o : Option ℕ) → p f ≡ o → IsLeast r (taken_before fixed ts p f) f o → IfSome o (MayHave r (fixed ++ filter_map p ts) f) = elim [
+        | None ↦ λ e least. tt
+        | Some m ↦ λ e least. record {
+          after = least.after;
+          before = least.before;
+          is_open = least.is_open;
+          within_cap = cell_within r fixed ts p m own plan f (Contains-get_or ts k d l) e;
+        }
+      ] in
+      go (p f) refl (plan k d l)
+
+  -- no allowed placing is earlier than the plan
+  pub none_earlier : (p q : Placing) → IsPlan r fixed ts p → IsAllowed r fixed ts q → IsEarlier ts q p → ⊥
+  none_earlier p q plan allowed e =
+      let f = e.first in
+      let go : (o : Option ℕ) → q f ≡ o → IfSome o (MayHave r (fixed ++ filter_map q ts) f) → IfSome o (Fits r (taken_before fixed ts q f) f) = elim [
+        | None ↦ λ h may. tt
+        | Some m ↦ λ h may. let room = room_for r fixed ts q m f e.among h in let within = may.within_cap in (may.after, may.before, may.is_open, omega arith)
+      ] in
+      none_fits r fixed ts p q plan e (go (q f) refl (All-contains (λ f. IfSome (q f) (MayHave r (fixed ++ filter_map q ts) f)) ts f allowed e.among))

@@ -1,112 +1,86 @@
 -- What decisions that were made one after another show is the runway's sequence.
-use Rattle.std.proofs.Common.{◌≡◌, ℕ, suc, ◌+◌, Bool, false, cond, List, [], ◌∷◌, ◌++◌, Option, None, IfSome, Result, Ok, Err, is_none, sym, ◌∙◌, ap, subst, refl, arith, inl, inr, filter, map, length, length-append, append_assoc}
-use Rattle.std.specs.List.{filter_map, cons_option, Contains, IsDistinct}
+use Rattle.std.proofs.Common.{◌≡◌, ℕ, suc, ◌+◌, ◌≤◌, Bool, true, false, cond, List, [], ◌∷◌, ◌++◌, Option, None, Some, IfSome, Result, Ok, Err, is_none}
+use Rattle.std.proofs.Common.{sym, ◌∙◌, ap, subst, refl, arith, inl, inr, filter, map, length, get_or, length-append, append_assoc}
+use Rattle.std.specs.Map.{lookup}
+use Rattle.std.specs.List.{filter_map, cons_option, AllPairs, Contains, IsDistinct}
 use Rattle.std.specs.List.Sorted.{IsPermutation, IsSortedByKey, IsSorted}
-use Rattle.std.specs.Option.{option_map}
-use Rattle.std.proofs.lemmas.List.Sorted.{All-permutation, Contains-permutation, length_permutation, IsPermutation-refl, IsPermutation-cons, IsPermutation-middle, IsPermutation-sym, IsPermutation-trans, IsPermutation-append, IsPermutation-append_right, IsPermutation-map}
-use Rattle.std.proofs.lemmas.Map.Keys.{IsDistinct-IsPermutation, IsDistinct-tail}
-use Rattle.cdm_flight.specs.Names.{same_name}
-use Rattle.cdm_flight.specs.Order.{key_cmp}
+use Rattle.std.specs.Option.{option_and_then, option_map, option_to_list}
+use Rattle.std.proofs.lemmas.Bool.{false≢true}
+use Rattle.std.proofs.lemmas.Cmp.{nat_list_eq_equiv}
+use Rattle.std.proofs.lemmas.List.{append-nil}
+use Rattle.std.proofs.lemmas.List.Elements.{All-contains, Contains-get_or, filter_map-append}
+use Rattle.std.proofs.lemmas.List.Sorted.{All-permutation, length_permutation, sorted_far}
+use Rattle.std.proofs.lemmas.List.Sorted.{IsPermutation-refl, IsPermutation-sym, IsPermutation-map}
+use Rattle.std.proofs.lemmas.Map.Keys.{IsDistinct-IsPermutation, apart_from_distinct}
+use Rattle.std.proofs.lemmas.Map.Views.{lookup-from_Contains}
+use Rattle.std.proofs.lemmas.Simd.{map-map}
+use Rattle.cdm_flight.specs.Names.{name_cmp, same_name}
+use Rattle.cdm_flight.specs.Order.{key_cmp, is_before}
+use Rattle.cdm_flight.proofs.Lists.{contains_cases, contains_from_map, contains_head, contains_map, contains_tail, All-given, filter_map-map, filter_map_cons}
+use Rattle.cdm_flight.proofs.Lists.{filter_map_same, distinct_by, distinct_right}
 use Rattle.cdm_runway.specs.Rules.{RunwayRules}
 use Rattle.cdm_runway.specs.Room.{Gives}
 use Rattle.cdm_runway.specs.declared.load.Blocked.{Blocked}
 use Rattle.cdm_runway.specs.declared.load.Blocked.TheVariants.{Closure, Rate}
 use Rattle.cdm_sequence.specs.Fixed.{takeoffs}
-use Rattle.cdm_sequence.specs.Plan.{Placing, taken_before}
+use Rattle.cdm_sequence.specs.Plan.{Placing, taken_before, IsLeast}
 use Rattle.cdm_sequence.specs.Sequence.{planned_slot, flight_names, Blocks, IsRightlyBlocked, IsSequence}
-use Rattle.cdm_sequence.specs.inner.Shown.{slots_by, names_left}
-use Rattle.cdm_sequence.specs.Slots.{SlotRecord, RunwayPlanRecord, slot_cmp, blocked_cmp}
+use Rattle.cdm_sequence.specs.inner.Shown.{names_left}
+use Rattle.cdm_sequence.specs.inner.Turns.{placed_at, blocked_from, IsDecided, AreDecided}
+use Rattle.cdm_sequence.specs.Slots.{SlotRecord, RunwayPlanRecord, slot_cmp}
 use Rattle.cdm_sequence.specs.Targets.{TargetRecord}
-use Rattle.cdm_sequence.specs.inner.Turns.{placed_at, slot_from, blocked_from, AreDecided}
 use Rattle.cdm_sequence.specs.Words.{rule_for}
 use Rattle.cdm_sequence.specs.declared.decision.Decision.{Decision}
 use Rattle.cdm_sequence.specs.declared.slot.BlockedFlight.{BlockedFlight}
-use Rattle.cdm_flight.proofs.Lists.{contains_cases, contains_head, contains_tail, contains_map, All-given, IsPermutation-filter_map, IsPermutation-filter, distinct_right, distinct_by, apart_from_head}
-use Rattle.cdm_sequence.proofs.MadeLemmas.{Rising, rising_from_sorted, decided_among, plan_made}
-use Rattle.cdm_sequence.proofs.OrderLemmas.{is_same, same_flips}
+use Rattle.cdm_sequence.proofs.OneLemmas.{reordered}
+use Rattle.cdm_sequence.proofs.OrderLemmas.{before_itself, before_or_after, keys_weak, not_back, same_flips}
 
-abbrev targets_of : List Decision → List TargetRecord
-targets_of ds = map (λ (d : Decision). d.target) ds
+abbrev pub targets_of : List Decision → List TargetRecord
+targets_of ds = map (λ d. d.target) ds
+
+abbrev pub minutes_of : List Decision → List ℕ
+minutes_of ds = filter_map (λ d. placed_at d.outcome) ds
 
 abbrev pub slots_given : List Decision → List SlotRecord
-slots_given ds = filter_map (λ d. slot_from d.target d.outcome) ds
+slots_given ds = filter_map (λ d. option_map (planned_slot d.target) (placed_at d.outcome)) ds
 
 abbrev pub blocked_given : List Decision → List BlockedFlight
 blocked_given ds = filter_map (λ d. blocked_from d.target d.outcome) ds
 
-abbrev slot_names : List SlotRecord → List (List ℕ)
-slot_names ss = map (λ (s : SlotRecord). s.name) ss
+-- One after another.
 
-abbrev blocked_names : List BlockedFlight → List (List ℕ)
-blocked_names bs = map (λ (b : BlockedFlight). b.name) bs
+pub at_most_one : (o : Option ℕ) → length (option_to_list o) ≤ 1
+at_most_one None = omega arith
+at_most_one (Some m) = omega arith
 
--- the decisions of all targets, made in the order of sequence, and what is shown of them
-pub record IsMade (r : RunwayRules) (fixed : List SlotRecord) (targets : List TargetRecord) (ds : List Decision) (ss : List SlotRecord) (bs : List BlockedFlight) : Type 0 where
-  pub names : IsDistinct same_name (flight_names fixed targets)
-  pub same : IsPermutation targets (map (λ (d : Decision). d.target) ds)
-  pub sorted : IsSortedByKey (λ (t : TargetRecord). t.key) key_cmp (map (λ (d : Decision). d.target) ds)
-  pub decided : AreDecided r (takeoffs fixed) ds
-  pub slots : IsPermutation (fixed ++ slots_given ds) ss
-  pub slot_order : IsSorted slot_cmp ss
-  pub blocked : IsPermutation (blocked_given ds) bs
-  pub blocked_order : IsSorted blocked_cmp bs
+-- one more decision at the end
+pub decided_push : (r : RunwayRules) (taken : List ℕ) (ds : List Decision) (d : Decision) → AreDecided r taken ds → IsDecided r (taken ++ minutes_of ds) d
+    → AreDecided r taken (ds ++ d ∷ [])
+decided_push r taken [] d a h = (subst (λ (xs : List ℕ). IsDecided r xs d) (append-nil taken) h, tt)
+decided_push r taken (e ∷ ds) d a h =
+    let now : List ℕ = option_to_list (placed_at e.outcome) in
+    let same = ap (λ (xs : List ℕ). taken ++ xs) (filter_map_cons (λ (d : Decision). placed_at d.outcome) e ds)
+    ∙ sym (append_assoc taken now (minutes_of ds)) in
+    (a.0, decided_push r (taken ++ now) ds d a.1 (subst (λ (xs : List ℕ). IsDecided r xs d) same h))
 
--- each decision's name is a slot's or a blocked flight's
-names_split : (ds : List Decision) → IsPermutation (map (λ (d : Decision). d.target.key.name) ds) (slot_names (slots_given ds) ++ blocked_names (blocked_given ds))
-names_split [] = IsPermutation-refl []
-names_split (d ∷ ds) = go d.outcome (names_split ds) where
-  own : List ℕ
-  own = d.target.key.name
-
-  names : List (List ℕ)
-  names = map (λ (d : Decision). d.target.key.name) ds
-
-  go : (o : Result ℕ Blocked) → IsPermutation names (slot_names (slots_given ds) ++ blocked_names (blocked_given ds))
-      → IsPermutation (own ∷ names) (slot_names (cons_option (slot_from d.target o) (slots_given ds)) ++ blocked_names (cons_option (blocked_from d.target o) (blocked_given ds)))
-  go (Ok m) k = IsPermutation-cons own names (slot_names (slots_given ds) ++ blocked_names (blocked_given ds)) k
-  go (Err reason) k =
-      let ss = slot_names (slots_given ds) in
-      let bs = blocked_names (blocked_given ds) in
-      IsPermutation-trans (own ∷ names) (own ∷ (ss ++ bs)) (ss ++ own ∷ bs)
-      (IsPermutation-cons own names (ss ++ bs) k)
-      (IsPermutation-sym (ss ++ own ∷ bs) (own ∷ (ss ++ bs)) (IsPermutation-middle ss own bs))
-
-names_of_targets : (ds : List Decision) → map (λ (f : TargetRecord). f.key.name) (targets_of ds) ≡ map (λ (d : Decision). d.target.key.name) ds
-names_of_targets [] = refl
-names_of_targets (d ∷ ds) = ap (λ (ns : List (List ℕ)). d.target.key.name ∷ ns) (names_of_targets ds)
-
-names_of_fixed : (fixed ss : List SlotRecord) → map (λ (x : SlotRecord). x.name) fixed ++ slot_names ss ≡ slot_names (fixed ++ ss)
-names_of_fixed [] ss = refl
-names_of_fixed (x ∷ xs) ss = ap (λ (ns : List (List ℕ)). x.name ∷ ns) (names_of_fixed xs ss)
-
--- each flight stands once, among the slots or among the blocked flights
-pub names_once : (r : RunwayRules) (fixed : List SlotRecord) (targets : List TargetRecord) (ds : List Decision) (ss : List SlotRecord) (bs : List BlockedFlight) → IsMade r fixed targets ds ss bs
-    → IsPermutation (flight_names fixed targets) (map (λ s. s.name) ss ++ map (λ b. b.name) bs)
-names_once r fixed targets ds ss bs made =
-    let fs = map (λ (x : SlotRecord). x.name) fixed in
-    let ts = map (λ (f : TargetRecord). f.key.name) targets in
-    let us = map (λ (d : Decision). d.target.key.name) ds in
-    let sn = slot_names (slots_given ds) in
-    let bn = blocked_names (blocked_given ds) in
-    let order : IsPermutation ts us = subst (IsPermutation ts) (names_of_targets ds) (IsPermutation-map (λ (f : TargetRecord). f.key.name) targets (targets_of ds) made.same) in
-    let split : IsPermutation (fs ++ ts) (fs ++ (sn ++ bn)) = IsPermutation-append_right fs ts (sn ++ bn) (IsPermutation-trans ts us (sn ++ bn) order (names_split ds)) in
-    let grouped : fs ++ (sn ++ bn) ≡ slot_names (fixed ++ slots_given ds) ++ bn = sym (append_assoc fs sn bn) ∙ ap (λ (ns : List (List ℕ)). ns ++ bn) (names_of_fixed fixed (slots_given ds)) in
-    IsPermutation-trans (fs ++ ts) (slot_names (fixed ++ slots_given ds) ++ bn) (slot_names ss ++ blocked_names bs)
-    (subst (IsPermutation (fs ++ ts)) grouped split)
-    (IsPermutation-append (slot_names (fixed ++ slots_given ds)) (slot_names ss) bn (blocked_names bs)
-    (IsPermutation-map (λ (s : SlotRecord). s.name) (fixed ++ slots_given ds) ss made.slots)
-    (IsPermutation-map (λ (b : BlockedFlight). b.name) (blocked_given ds) bs made.blocked))
+pub minutes_push : (ds : List Decision) (d : Decision) → minutes_of (ds ++ d ∷ []) ≡ minutes_of ds ++ option_to_list (placed_at d.outcome)
+minutes_push ds d =
+    let minute : Decision → Option ℕ = λ d. placed_at d.outcome in
+    filter_map-append minute ds (d ∷ []) ∙ ap (λ (xs : List ℕ). minutes_of ds ++ xs) (filter_map_cons minute d [] ∙ append-nil (option_to_list (minute d)))
 
 -- as many slots and blocked flights as decisions
 given_lengths : (ds : List Decision) → length (slots_given ds) + length (blocked_given ds) ≡ length ds
 given_lengths [] = refl
 given_lengths (d ∷ ds) = go d.outcome (given_lengths ds) where
-  go : (o : Result ℕ Blocked) → length (slots_given ds) + length (blocked_given ds) ≡ length ds → length (cons_option (slot_from d.target o) (slots_given ds)) + length (cons_option (blocked_from d.target o) (blocked_given ds)) ≡ suc (length ds)
+  go : (o : Result ℕ Blocked) → length (slots_given ds) + length (blocked_given ds) ≡ length ds
+      → length (cons_option (option_map (planned_slot d.target) (placed_at o)) (slots_given ds))
+      + length (cons_option (blocked_from d.target o) (blocked_given ds)) ≡ suc (length ds)
   go (Ok m) e = omega arith
   go (Err reason) e = omega arith
 
 -- so as many as flights
-pub as_many : (fixed : List SlotRecord) (ds : List Decision) (ss : List SlotRecord) (bs : List BlockedFlight) → IsPermutation (fixed ++ slots_given ds) ss → IsPermutation (blocked_given ds) bs → length ss + length bs ≡ length fixed + length ds
+pub as_many : (fixed : List SlotRecord) (ds : List Decision) (ss : List SlotRecord) (bs : List BlockedFlight) → IsPermutation (fixed ++ slots_given ds) ss
+    → IsPermutation (blocked_given ds) bs → length ss + length bs ≡ length fixed + length ds
 as_many fixed ds ss bs slots blocked =
     let a = length_permutation (fixed ++ slots_given ds) ss slots in
     let b = length_permutation (blocked_given ds) bs blocked in
@@ -114,82 +88,142 @@ as_many fixed ds ss bs slots blocked =
     let e = given_lengths ds in
     omega arith
 
--- the minute that decisions give a flight
-minute_by : List Decision → Placing
-minute_by [] f = None
-minute_by (d ∷ ds) f = cond (same_name d.target.key.name f.key.name) (placed_at d.outcome) (minute_by ds f)
+-- Each in its turn.
 
--- is the decision's, where the names differ
-minute_agrees : (ds : List Decision) → IsDistinct same_name (map (λ d. d.target.key.name) ds) → (d : Decision) → Contains ds d → minute_by ds d.target ≡ placed_at d.outcome
-unfolding minute_by
-minute_agrees [] own d i = absurd (omega (arith, i.1))
-minute_agrees (e ∷ ds) own d i = elim (contains_cases e ds d i) [
-  | inl same ↦
-      ap (λ (b : Bool). cond b (placed_at e.outcome) (minute_by ds d.target)) (is_same e.target.key.name d.target.key.name (ap (λ (x : Decision). x.target.key.name) same))
-      ∙ ap (λ (x : Decision). placed_at x.outcome) same
-  | inr j ↦
-      let names = map (λ (x : Decision). x.target.key.name) ds in
-      let apart : same_name e.target.key.name d.target.key.name ≡ false = apart_from_head same_name e.target.key.name names d.target.key.name own (contains_map (λ (x : Decision). x.target.key.name) ds d j) in
-      ap (λ (b : Bool). cond b (placed_at e.outcome) (minute_by ds d.target)) apart ∙ minute_agrees ds (IsDistinct-tail same_name e.target.key.name names own) d j
-]
+filter_none : {X : Type 0} (p : X → Bool) (xs : List X) → ((x : X) → Contains xs x → p x ≡ false) → filter p xs ≡ []
+filter_none p [] none = refl
+filter_none {X} p (x ∷ xs) none =
+    ap (λ b. cond b (x ∷ filter p xs) (filter p xs)) (none x (contains_head x xs)) ∙ filter_none p xs (λ y i. none y (contains_tail x xs y i))
 
--- a placing that agrees with the decisions shows their slots
-slots_shown : (p : Placing) (ds : List Decision) → ((d : Decision) → Contains ds d → p d.target ≡ placed_at d.outcome) → filter_map (λ f. option_map (planned_slot f) (p f)) (targets_of ds) ≡ slots_given ds
-slots_shown p [] agree = refl
-slots_shown p (d ∷ ds) agree =
-    let rest = slots_shown p ds (λ e i. agree e (contains_tail d ds e i)) in
-    let slot : (o : Result ℕ Blocked) → option_map (planned_slot d.target) (placed_at o) ≡ slot_from d.target o = elim [ Ok m ↦ refl | Err reason ↦ refl ] in
-    ap (λ (o : Option ℕ). cons_option (option_map (planned_slot d.target) o) (filter_map (λ f. option_map (planned_slot f) (p f)) (targets_of ds))) (agree d (contains_head d ds))
-    ∙ ap (λ (o : Option SlotRecord). cons_option o (filter_map (λ f. option_map (planned_slot f) (p f)) (targets_of ds))) (slot d.outcome)
-    ∙ ap (cons_option (slot_from d.target d.outcome)) rest
+-- each comes before those after it
+abbrev Rise : List TargetRecord → Type 0
+Rise fs = AllPairs (λ f g. is_before f.key g.key ≡ true) fs
 
--- and leaves their blocked flights
-names_shown : (p : Placing) (ds : List Decision) → ((d : Decision) → Contains ds d → p d.target ≡ placed_at d.outcome) → names_left p (targets_of ds) ≡ blocked_names (blocked_given ds)
+-- the placing has what was decided
+abbrev Agrees : Placing → List Decision → Type 0
+Agrees p ds = (d : Decision) → Contains ds d → p d.target ≡ placed_at d.outcome
+
+-- sorted targets with names of their own rise
+rise_from_sorted : (fs : List TargetRecord) → IsSortedByKey (λ t. t.key) key_cmp fs → IsDistinct (λ f g. same_name f.key.name g.key.name) fs → Rise fs
+unfolding is_before
+rise_from_sorted fs up own = λ i j d l u.
+    before_or_after (get_or fs i d).key (get_or fs j d).key (sorted_far (λ (x y : TargetRecord). is_before x.key y.key) keys_weak fs up i j d (omega arith) u)
+    (apart_from_distinct (λ f g. same_name f.key.name g.key.name) fs i j d own l u)
+
+-- each decision, by what the flights before it take
+decided_each : (r : RunwayRules) (p : Placing) (taken : List ℕ) (ds : List Decision) → AreDecided r taken ds → Rise (targets_of ds) → Agrees p ds
+    → (d : Decision) → Contains ds d → IsDecided r (taken_before taken (targets_of ds) p d.target) d
+decided_each r p taken [] a up agree d i = absurd (omega (arith, i.1))
+decided_each r p taken (e ∷ ds) a up agree d i =
+    let f = e.target in
+    let fs = targets_of ds in
+    let after : (g : TargetRecord) → Contains fs g → is_before f.key g.key ≡ true = λ g j.
+    All-contains (λ g. is_before f.key g.key ≡ true) fs g (λ k x l. up 0 (suc k) x (omega arith) (omega arith)) j in
+    let earlier : Decision → TargetRecord → Bool = λ d g. is_before g.key d.target.key in
+    let front : (d : Decision) (b : Bool) → is_before f.key d.target.key ≡ b
+    → filter (earlier d) (f ∷ fs) ≡ cond b (f ∷ filter (earlier d) fs) (filter (earlier d) fs) = λ d b e.
+    ap (λ b. cond b (f ∷ filter (earlier d) fs) (filter (earlier d) fs)) e in
+    elim (contains_cases e ds d i) [
+      | inl same ↦
+          let none = front e false (before_itself f.key) ∙ filter_none (earlier e) fs (λ g j. not_back f.key g.key (after g j)) in
+          let first : taken_before taken (f ∷ fs) p f ≡ taken = ap (λ (gs : List TargetRecord). taken ++ filter_map p gs) none ∙ append-nil taken in
+          subst (λ (d : Decision). IsDecided r (taken_before taken (f ∷ fs) p d.target) d) same (subst (λ (xs : List ℕ). IsDecided r xs e) (sym first) a.0)
+      | inr j ↦
+          let now = option_to_list (placed_at e.outcome) in
+          let gs = filter (earlier d) fs in
+          let next : taken_before taken (f ∷ fs) p d.target ≡ taken_before (taken ++ now) fs p d.target =
+          ap (λ (gs : List TargetRecord). taken ++ filter_map p gs) (front d true (after d.target (contains_map (λ (d : Decision). d.target) ds d j)))
+          ∙ ap (λ (xs : List ℕ). taken ++ xs)
+          (filter_map_cons p f gs ∙ ap (λ (o : Option ℕ). option_to_list o ++ filter_map p gs) (agree e (contains_head e ds)))
+          ∙ sym (append_assoc taken now (filter_map p gs)) in
+          subst (λ (xs : List ℕ). IsDecided r xs d) (sym next)
+          (decided_each r p (taken ++ now) ds a.1 (λ k l x u v. up (suc k) (suc l) x (omega arith) (omega arith))
+          (λ x k. agree x (contains_tail e ds x k)) d j)
+    ]
+
+least_from_gives : (r : RunwayRules) (xs : List ℕ) (f : TargetRecord) (o : Result ℕ Blocked) → Gives r xs f.window.from f.window.to o
+    → IsLeast r xs f (placed_at o)
+least_from_gives r xs f (Ok m) e = e
+least_from_gives r xs f (Err Closure) e = λ k a b o room. absurd (false≢true (sym o ∙ e k a b))
+least_from_gives r xs f (Err Rate) e = λ k a b o room. let t = e.full k a b o in omega arith
+
+blocks_from_gives : (r : RunwayRules) (xs : List ℕ) (f : TargetRecord) (reason : Blocked) → Gives r xs f.window.from f.window.to (Err reason)
+    → Blocks r xs f (rule_for reason)
+blocks_from_gives r xs f Closure e = e
+blocks_from_gives r xs f Rate e = e
+
+-- What is shown.
+
+-- a placing that has what was decided leaves the flights that are blocked
+names_shown : (p : Placing) (ds : List Decision) → Agrees p ds → names_left p (targets_of ds) ≡ map (λ b. b.name) (blocked_given ds)
 names_shown p [] agree = refl
-names_shown p (d ∷ ds) agree =
-    ap (λ (o : Option ℕ). map (λ (f : TargetRecord). f.key.name) (cond (is_none o) (d.target ∷ filter (λ f. is_none (p f)) (targets_of ds)) (filter (λ f. is_none (p f)) (targets_of ds)))) (agree d (contains_head d ds))
-    ∙ go d.outcome (names_shown p ds (λ e i. agree e (contains_tail d ds e i))) where
-      go : (o : Result ℕ Blocked) → names_left p (targets_of ds) ≡ blocked_names (blocked_given ds)
-          → map (λ (f : TargetRecord). f.key.name) (cond (is_none (placed_at o)) (d.target ∷ filter (λ f. is_none (p f)) (targets_of ds)) (filter (λ f. is_none (p f)) (targets_of ds))) ≡ blocked_names (cons_option (blocked_from d.target o) (blocked_given ds))
-      go (Ok m) e = e
-      go (Err reason) e = ap (λ (ns : List (List ℕ)). d.target.key.name ∷ ns) e
+names_shown p (d ∷ ds) agree = go d.outcome (p d.target) (agree d (contains_head d ds)) (names_shown p ds (λ e i. agree e (contains_tail d ds e i))) where
+  free : List TargetRecord
+  free = filter (λ f. is_none (p f)) (targets_of ds)
 
-rightly : (r : RunwayRules) (taken : List ℕ) (f : TargetRecord) (reason : Blocked) → Gives r taken f.window.from f.window.to (Err reason) → Blocks r taken f (rule_for reason)
-rightly r taken f Closure e = e
-rightly r taken f Rate e = e
+  go : (o : Result ℕ Blocked) (m : Option ℕ) → m ≡ placed_at o → names_left p (targets_of ds) ≡ map (λ b. b.name) (blocked_given ds)
+      → map (λ f. f.key.name) (cond (is_none m) (d.target ∷ free) free) ≡ map (λ b. b.name) (cons_option (blocked_from d.target o) (blocked_given ds))
+  go (Ok m) None h e = cc
+  go (Ok m) (Some n) h e = e
+  go (Err reason) None h e = λ i. d.target.key.name ∷ e i
+  go (Err reason) (Some n) h e = cc
+
+-- the decisions of all targets, made in the order of sequence, and what is shown of them
+pub record IsMade (r : RunwayRules) (fixed : List SlotRecord) (targets : List TargetRecord) (ds : List Decision) (plan : RunwayPlanRecord) : Type 0 where
+  pub names : IsDistinct same_name (flight_names fixed targets)
+  pub same : IsPermutation targets (targets_of ds)
+  pub sorted : IsSortedByKey (λ (t : TargetRecord). t.key) key_cmp (targets_of ds)
+  pub decided : AreDecided r (takeoffs fixed) ds
+  pub runway : plan.runway ≡ r.name
+  pub slots : IsPermutation (fixed ++ slots_given ds) plan.slots
+  pub slot_order : IsSorted slot_cmp plan.slots
+  pub blocked : IsPermutation (blocked_given ds) plan.blocked
+  pub blocked_order : IsSortedByKey (λ b. b.name) name_cmp plan.blocked
 
 -- so they show the runway's sequence
-pub sequence_made : (r : RunwayRules) (fixed : List SlotRecord) (targets : List TargetRecord) (ds : List Decision) (plan : RunwayPlanRecord) → plan.runway ≡ r.name → IsMade r fixed targets ds plan.slots plan.blocked
-    → IsSequence r fixed targets plan
-sequence_made r fixed targets ds plan named made =
-    let ss = plan.slots in
-    let bs = plan.blocked in
+pub sequence_made : (r : RunwayRules) (fixed : List SlotRecord) (targets : List TargetRecord) (ds : List Decision) (plan : RunwayPlanRecord)
+    → IsMade r fixed targets ds plan → IsSequence r fixed targets plan
+sequence_made r fixed targets ds plan made =
     let us = targets_of ds in
-    let p : Placing = minute_by ds in
-    let name : TargetRecord → List ℕ = λ f. f.key.name in
-    let own : IsDistinct same_name (map name us) =
-    IsDistinct-IsPermutation same_name same_flips (map name targets) (map name us) (IsPermutation-map name targets us made.same)
-    (distinct_right same_name (map (λ (x : SlotRecord). x.name) fixed) (map name targets) made.names) in
-    let agree = minute_agrees ds (subst (IsDistinct same_name) (names_of_targets ds) own) in
-    let up : Rising us = rising_from_sorted us made.sorted (distinct_by same_name name us own) in
-    let slot : TargetRecord → Option SlotRecord = λ f. option_map (planned_slot f) (p f) in
-    let slots : IsPermutation (filter_map slot targets) (slots_given ds) = subst (IsPermutation (filter_map slot targets)) (slots_shown p ds agree) (IsPermutation-filter_map slot targets us made.same) in
-    let free : TargetRecord → Bool = λ f. is_none (p f) in
-    let blocked : IsPermutation (names_left p targets) (blocked_names (blocked_given ds)) =
-    subst (IsPermutation (names_left p targets)) (names_shown p ds agree) (IsPermutation-map name (filter free targets) (filter free us) (IsPermutation-filter free targets us made.same)) in
-    let each : (d : Decision) → Contains ds d → IfSome (blocked_from d.target d.outcome) (IsRightlyBlocked r (takeoffs fixed) targets p) = λ d i.
-    let among : Contains targets d.target = Contains-permutation us targets d.target (IsPermutation-sym targets us made.same) (contains_map (λ (d : Decision). d.target) ds d i) in
-    let go : (o : Result ℕ Blocked) → Gives r (taken_before (takeoffs fixed) targets p d.target) d.target.window.from d.target.window.to o → IfSome (blocked_from d.target o) (IsRightlyBlocked r (takeoffs fixed) targets p) =
-    elim [ Ok m ↦ λ g. tt | Err reason ↦ λ g. (d.target, among, refl, rightly r (taken_before (takeoffs fixed) targets p d.target) d.target reason g) ] in
-    go d.outcome (decided_among r (takeoffs fixed) targets p ds made.same made.decided up agree d i) in (
+    let xs = takeoffs fixed in
+    let key : TargetRecord → List ℕ = λ f. f.key.name in
+    let entry : Decision → List ℕ × Option ℕ = λ d. (d.target.key.name, placed_at d.outcome) in
+    let p : Placing = λ f. option_and_then (λ o. o) (lookup (same_name f.key.name) (map entry ds)) in
+    let own : IsDistinct same_name (map key us) = IsDistinct-IsPermutation same_name same_flips (map key targets) (map key us)
+    (IsPermutation-map key targets us made.same)
+    (distinct_right same_name (map (λ (x : SlotRecord). x.name) fixed) (map key targets) made.names) in
+    let named = map-map key (λ (d : Decision). d.target) ds ∙ sym (map-map (λ (e : List ℕ × Option ℕ). e.0) entry ds) in
+    let agree : Agrees p ds = λ d i.
+    ap (option_and_then (λ o. o)) (lookup-from_Contains nat_list_eq_equiv d.target.key.name (placed_at d.outcome) (map entry ds)
+    (subst (IsDistinct same_name) named own) (contains_map entry ds d i)) in
+    let up : Rise us = rise_from_sorted us made.sorted (distinct_by same_name key us own) in
+    let each = decided_each r p xs ds made.decided up agree in
+    let P : TargetRecord → Type 0 = λ f. IsLeast r (taken_before xs us p f) f (p f) in
+    let least : (d : Decision) → Contains ds d → P d.target = λ d i.
+    subst (IsLeast r (taken_before xs us p d.target) d.target) (sym (agree d i))
+    (least_from_gives r (taken_before xs us p d.target) d.target d.outcome (each d i)) in
+    let blocked : (d : Decision) → Contains ds d → IfSome (blocked_from d.target d.outcome) (IsRightlyBlocked r xs us p) = λ d i.
+    let go : (o : Result ℕ Blocked) → Gives r (taken_before xs us p d.target) d.target.window.from d.target.window.to o
+    → IfSome (blocked_from d.target o) (IsRightlyBlocked r xs us p) =
+    elim [
+      | Ok m ↦ λ g. tt
+      | Err reason ↦ λ g.
+          let blocks = blocks_from_gives r (taken_before xs us p d.target) d.target reason g in
+          (d.target, contains_map (λ (d : Decision). d.target) ds d i, refl, blocks)
+    ] in
+    go d.outcome (each d i) in
+    let slots = filter_map-map (λ f. option_map (planned_slot f) (p f)) (λ (d : Decision). d.target) ds
+    ∙ filter_map_same _ (λ d. option_map (planned_slot d.target) (placed_at d.outcome)) ds (λ d i. ap (option_map (planned_slot d.target)) (agree d i)) in
+    reordered r fixed fixed us targets plan (IsPermutation-refl fixed) (IsPermutation-sym targets us made.same) (
       p,
       record {
-        runway = named;
-        minutes = plan_made r (takeoffs fixed) targets p ds made.same made.decided up agree;
-        slots = IsPermutation-trans (slots_by p fixed targets) (fixed ++ slots_given ds) ss (IsPermutation-append_right fixed (filter_map slot targets) (slots_given ds) slots) made.slots;
+        runway = made.runway;
+        minutes = λ k x l. let w = contains_from_map (λ (d : Decision). d.target) ds (get_or us k x) (Contains-get_or us k x l) in subst P w.2 (least w.0 w.1);
+        slots = rw slots made.slots;
         slot_order = made.slot_order;
-        blocked = IsPermutation-trans (names_left p targets) (blocked_names (blocked_given ds)) (blocked_names bs) blocked (IsPermutation-map (λ (b : BlockedFlight). b.name) (blocked_given ds) bs made.blocked);
-        rules = All-permutation (IsRightlyBlocked r (takeoffs fixed) targets p) (blocked_given ds) bs made.blocked (All-given (λ d. blocked_from d.target d.outcome) (IsRightlyBlocked r (takeoffs fixed) targets p) ds each);
+        blocked = rw (names_shown p ds agree) (IsPermutation-map (λ (b : BlockedFlight). b.name) (blocked_given ds) plan.blocked made.blocked);
+        rules = All-permutation (IsRightlyBlocked r xs us p) (blocked_given ds) plan.blocked made.blocked
+            (All-given (λ d. blocked_from d.target d.outcome) (IsRightlyBlocked r xs us p) ds blocked);
         blocked_order = made.blocked_order;
       },
     )

@@ -1,12 +1,13 @@
 -- One runway's sequence: its plan with all that is shown of each flight.
-use Rattle.std.specs.Prelude.{◌≡◌, ℕ, ◌-◌, ◌++◌, List, Some, None, is_none, All, Contains, IsPermutation, IsSorted, filter, map}
+use Rattle.std.specs.Prelude.{◌≡◌, ℕ, ◌-◌, ◌++◌, List, Some, is_none, All, Contains, IsPermutation, IsSorted, IsSortedByKey, filter, map}
 use Rattle.std.specs.List.{filter_map}
 use Rattle.std.specs.Option.{option_map}
+use Rattle.cdm_flight.specs.Names.{name_cmp}
 use Rattle.cdm_runway.specs.Rules.{RunwayRules}
 use Rattle.cdm_runway.specs.Room.{AllClosed, AllFull}
 use Rattle.cdm_sequence.specs.Fixed.{takeoffs}
 use Rattle.cdm_sequence.specs.Plan.{Placing, taken_before, IsPlan}
-use Rattle.cdm_sequence.specs.Slots.{SlotRecord, RunwayPlanRecord, slot_cmp, blocked_cmp}
+use Rattle.cdm_sequence.specs.Slots.{SlotRecord, RunwayPlanRecord, slot_cmp}
 use Rattle.cdm_sequence.specs.Targets.{TargetRecord}
 use Rattle.cdm_sequence.specs.declared.rule.Rule.{Rule}
 use Rattle.cdm_sequence.specs.declared.rule.Rule.TheVariants.{Closure, Rate}
@@ -52,7 +53,7 @@ pub record IsSequenceBy (placing : Placing) (r : RunwayRules) (fixed : List Slot
   pub slot_order : IsSorted slot_cmp plan.slots
   pub blocked : IsPermutation (map (λ f. f.key.name) (filter (λ f. is_none (placing f)) targets)) (map (λ b. b.name) plan.blocked)
   pub rules : All (IsRightlyBlocked r (takeoffs fixed) targets placing) plan.blocked
-  pub blocked_order : IsSorted blocked_cmp plan.blocked
+  pub blocked_order : IsSortedByKey (λ b. b.name) name_cmp plan.blocked
 
 -- the sequence of a runway: there is such a placing
 abbrev pub IsSequence : RunwayRules → List SlotRecord → List TargetRecord → RunwayPlanRecord → Type 0

@@ -1,5 +1,5 @@
 -- What contracts see of slots and plans, and their orders.
-use Rattle.std.specs.Prelude.{◌≡◌, ℕ, ◌+◌, ◌<◌, ◌≤◌, Bool, true, false, IsTrue, List, length, Option, Some, None, sum_by, IsSorted}
+use Rattle.std.specs.Prelude.{◌≡◌, ℕ, ◌+◌, ◌<◌, ◌≤◌, Bool, true, false, IsTrue, List, length, Option, Some, None, sum_by, IsSorted, IsSortedByKey}
 use Rattle.std.specs.declared.cmp.Ordering.{Ordering}
 use Rattle.std.specs.Ordering.{nat_cmp, ordering_then}
 use Rattle.std.specs.Option.{ForSome}
@@ -53,22 +53,14 @@ pub record PlanRecord : Type 0 where
 abbrev pub slot_cmp : SlotRecord → SlotRecord → Ordering
 slot_cmp a b = ordering_then (nat_cmp a.ttot b.ttot) (name_cmp a.name b.name)
 
--- by name
-abbrev pub blocked_cmp : BlockedFlight → BlockedFlight → Ordering
-blocked_cmp a b = name_cmp a.name b.name
-
--- by name
-abbrev pub runway_cmp : RunwayPlanRecord → RunwayPlanRecord → Ordering
-runway_cmp a b = name_cmp a.runway b.runway
-
 -- what each plan of a runway keeps: its orders, and at most 2,000 flights
 pub record KeepsRunwayOrder (slots : List SlotRecord) (blocked : List BlockedFlight) : Type 0 where
   pub slot_order : IsSorted slot_cmp slots
-  pub blocked_order : IsSorted blocked_cmp blocked
+  pub blocked_order : IsSortedByKey (λ b. b.name) name_cmp blocked
   pub few : length slots + length blocked ≤ 2000
 
 -- what each plan of a day keeps: its orders, and at most 2,000 flights
 pub record KeepsPlanOrder (runways : List RunwayPlanRecord) (blocked : List BlockedFlight) : Type 0 where
-  pub runway_order : IsSorted runway_cmp runways
-  pub blocked_order : IsSorted blocked_cmp blocked
+  pub runway_order : IsSortedByKey (λ r. r.runway) name_cmp runways
+  pub blocked_order : IsSortedByKey (λ b. b.name) name_cmp blocked
   pub few : sum_by (λ r. length r.slots) runways + length blocked ≤ 2000

@@ -13,11 +13,13 @@ ghost use Rattle.cdm_sequence.specs.Targets.{TargetRecord};
 ghost use Rattle.cdm_sequence.specs.declared.aims.AimResult.{AimResult};
 
 /// A planned flight could have something: its target, or the first rule that leaves it none.
+#[tactic(auto, using(crate::proofs::AimLemmas::aim_some))]
 pub fn some_aim()
     ensures { (f : Record) (times : TaxiTimes) (values : DayValues) → (aim : AimResult) × IsAim f times values aim }
 {}
 
 /// And there is only one such answer.
+#[tactic(auto, using(crate::proofs::AimLemmas::aim_one))]
 pub fn one_aim()
     ensures { (f : Record) (times : TaxiTimes) (values : DayValues) (a b : AimResult) →
         IsAim f times values a → IsAim f times values b → a ≡ b }
@@ -31,6 +33,7 @@ pub fn one_plan()
 {}
 
 /// A plan of flights with names of their own is allowed.
+#[tactic(auto, using(crate::proofs::PlanLemmas::plan_allowed))]
 pub fn plans_are_allowed()
     ensures { (r : RunwayRules) (fixed : List ℕ) (targets : List TargetRecord) (p : Placing) →
         IsDistinct same_name (map (λ f. f.key.name) targets) →
@@ -44,6 +47,7 @@ pub fn none_is_earlier()
 {}
 
 /// Of two placings that differ one is earlier.
+#[tactic(auto, using(crate::proofs::DifferenceLemmas::compared))]
 pub fn one_is_earlier()
     ensures { (targets : List TargetRecord) (p q : Placing) →
         ((f : TargetRecord) → Contains targets f → p f ≡ q f) ⊎ (IsEarlier targets p q ⊎ IsEarlier targets q p) }

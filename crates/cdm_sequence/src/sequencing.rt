@@ -1,51 +1,80 @@
 //! One runway's sequence.
-ghost use Rattle.std.specs.Prelude.{◌≡◌, ℕ, ◌+◌, ◌≤◌, ◌++◌, length, map, All, IfOk, IsPermutation, IsSorted};
+ghost use Rattle.std.specs.Prelude.{◌≡◌, ℕ, ◌+◌, ◌≤◌, ◌++◌, length, map, All, IfOk, IsPermutation, IsSorted, IsSortedByKey};
 ghost use Rattle.std.specs.List.{filter_map, IsDistinct};
-ghost use Rattle.cdm_flight.specs.Names.{same_name};
+ghost use Rattle.std.specs.Option.{option_map};
+ghost use Rattle.cdm_flight.specs.Names.{name_cmp, same_name};
 ghost use Rattle.cdm_sequence.specs.Fixed.{takeoffs};
 ghost use Rattle.cdm_sequence.specs.Plan.{Placing, IsAllowed, IsEarlier};
-ghost use Rattle.cdm_sequence.specs.Sequence.{IsSequence, IsSequenceBy, flight_names};
-ghost use Rattle.cdm_sequence.specs.Slots.{slot_cmp, blocked_cmp};
-ghost use Rattle.cdm_sequence.specs.inner.Turns.{slot_from, blocked_from};
+ghost use Rattle.cdm_sequence.specs.Sequence.{IsSequence, IsSequenceBy, flight_names, planned_slot};
+ghost use Rattle.cdm_sequence.specs.Slots.{slot_cmp};
+ghost use Rattle.cdm_sequence.specs.inner.Turns.{blocked_from, placed_at};
 
 use crate::decision::Decision;
 use crate::turns::{decide_all, in_order, load_of};
 use crate::{BlockedFlight, RunwayPlan, Slot, Target};
-use cdm_flight::{Listed, RunwayName, push_last};
+use cdm_flight::{Listed, RunwayName};
 use cdm_runway::Runway;
 use std::alloc::{AllocError, Global};
 
-// The slots of the fixed flights and of the decisions that gave a minute.
+// The slot of the flight, if it got a minute.
+fn slot_given(decision: &Decision) -> Option<Slot>
+    ensures { result ≡ option_map (planned_slot decision.now.target) (placed_at decision.now.outcome) }
+{
+    match decision.outcome {
+        Ok(minute) => Some(decision.target.slot(minute)),
+        Err(_) => None,
+    }
+}
+
+// The slots of the fixed flights and of the decisions that gave a minute, in order.
+fn slots_given(
+    alloc: Global,
+    fixed: &[Slot],
+    decisions: &[Decision],
+) -> Result<Vec<Slot>, AllocError>
+    ensures { IfOk result (λ v. v.items ≡ fixed.now ++ filter_map (λ d. option_map (planned_slot d.target) (placed_at d.outcome)) decisions.now) }
+{
+    let given = decisions.iter().filter_map(slot_given);
+    fixed.iter().copied().chain(given).collect(alloc)
+}
+
+// The same slots by take-off and name.
 fn slots_of(alloc: Global, fixed: &[Slot], decisions: &[Decision]) -> Result<Vec<Slot>, AllocError>
     ensures same { IfOk result (λ v. IsPermutation
-        (fixed.now ++ filter_map (λ d. slot_from d.target d.outcome) decisions.now) v.items) }
+        (fixed.now ++ filter_map (λ d. option_map (planned_slot d.target) (placed_at d.outcome)) decisions.now) v.items) }
     ensures sorted { IfOk result (λ v. IsSorted slot_cmp v.items) }
 {
-    let mut slots = Vec::from_slice(alloc, fixed)?;
-    for decision in decisions {
-        if let Ok(minute) = decision.outcome {
-            push_last(&mut slots, decision.target.slot(minute))?;
-        }
-    }
+    let mut slots = slots_given(alloc, fixed, decisions)?;
     slots.sort_unstable_by_key(|slot| (slot.ttot, slot.name));
     Ok(slots)
 }
 
-// The flights of the decisions that gave no minute.
+// The flight, if it got no minute, and why.
+fn blocked_by(decision: &Decision) -> Option<BlockedFlight>
+    ensures { result ≡ blocked_from decision.now.target decision.now.outcome }
+{
+    match decision.outcome {
+        Ok(_) => None,
+        Err(reason) => Some(BlockedFlight {
+            name: decision.target.key.name,
+            rule: reason.into(),
+        }),
+    }
+}
+
+// The flights of the decisions that gave no minute, in order.
+fn blocked_given(alloc: Global, decisions: &[Decision]) -> Result<Vec<BlockedFlight>, AllocError>
+    ensures { IfOk result (λ v. v.items ≡ filter_map (λ d. blocked_from d.target d.outcome) decisions.now) }
+{
+    decisions.iter().filter_map(blocked_by).collect(alloc)
+}
+
+// The same flights by name.
 fn blocked_of(alloc: Global, decisions: &[Decision]) -> Result<Vec<BlockedFlight>, AllocError>
     ensures same { IfOk result (λ v. IsPermutation (filter_map (λ d. blocked_from d.target d.outcome) decisions.now) v.items) }
-    ensures sorted { IfOk result (λ v. IsSorted blocked_cmp v.items) }
+    ensures sorted { IfOk result (λ v. IsSortedByKey (λ b. b.name) name_cmp v.items) }
 {
-    let mut blocked = Vec::new(alloc);
-    for decision in decisions {
-        if let Err(reason) = decision.outcome {
-            let flight = BlockedFlight {
-                name: decision.target.key.name,
-                rule: reason.into(),
-            };
-            push_last(&mut blocked, flight)?;
-        }
-    }
+    let mut blocked = blocked_given(alloc, decisions)?;
     blocked.sort_unstable_by_key(|flight| flight.name);
     Ok(blocked)
 }
@@ -60,11 +89,11 @@ fn shown(
     requires { length fixed.now + length decisions.now ≤ 2000 }
     ensures runway { IfOk result (λ plan. plan.runway ≡ runway) }
     ensures slots { IfOk result (λ plan. IsPermutation
-        (fixed.now ++ filter_map (λ d. slot_from d.target d.outcome) decisions.now) plan.slots) }
+        (fixed.now ++ filter_map (λ d. option_map (planned_slot d.target) (placed_at d.outcome)) decisions.now) plan.slots) }
     ensures slot_order { IfOk result (λ plan. IsSorted slot_cmp plan.slots) }
     ensures blocked { IfOk result (λ plan. IsPermutation
         (filter_map (λ d. blocked_from d.target d.outcome) decisions.now) plan.blocked) }
-    ensures blocked_order { IfOk result (λ plan. IsSorted blocked_cmp plan.blocked) }
+    ensures blocked_order { IfOk result (λ plan. IsSortedByKey (λ b. b.name) name_cmp plan.blocked) }
 {
     let slots = slots_of(alloc, fixed, decisions)?;
     let blocked = blocked_of(alloc, decisions)?;

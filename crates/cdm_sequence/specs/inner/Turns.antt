@@ -4,8 +4,6 @@ use Rattle.std.specs.Option.{option_to_list}
 use Rattle.cdm_runway.specs.Rules.{RunwayRules}
 use Rattle.cdm_runway.specs.Room.{Gives}
 use Rattle.cdm_runway.specs.declared.load.Blocked.{Blocked}
-use Rattle.cdm_sequence.specs.Sequence.{planned_slot}
-use Rattle.cdm_sequence.specs.Slots.{SlotRecord}
 use Rattle.cdm_sequence.specs.Targets.{TargetRecord}
 use Rattle.cdm_sequence.specs.Words.{rule_for}
 use Rattle.cdm_sequence.specs.declared.decision.Decision.{Decision}
@@ -16,19 +14,16 @@ abbrev pub placed_at : Result ℕ Blocked → Option ℕ
 placed_at (Ok m) = Some m
 placed_at (Err reason) = None
 
--- the slot of a flight that got a minute
-abbrev pub slot_from : TargetRecord → Result ℕ Blocked → Option SlotRecord
-slot_from f (Ok m) = Some (planned_slot f m)
-slot_from f (Err reason) = None
-
 -- a flight that got none
 abbrev pub blocked_from : TargetRecord → Result ℕ Blocked → Option BlockedFlight
 blocked_from f (Ok m) = None
 blocked_from f (Err reason) = Some (record { name = f.key.name; rule = rule_for reason })
 
+-- the runway gives the flight that, where these minutes are taken
 abbrev pub IsDecided : RunwayRules → List ℕ → Decision → Type 0
 IsDecided r taken d = Gives r taken d.target.window.from d.target.window.to d.outcome
 
+-- and so one after another
 abbrev pub AreDecided : RunwayRules → List ℕ → List Decision → Type 0
 AreDecided r taken [] = ⊤
 AreDecided r taken (d ∷ ds) = IsDecided r taken d × AreDecided r (taken ++ option_to_list (placed_at d.outcome)) ds
