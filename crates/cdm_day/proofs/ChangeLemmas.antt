@@ -80,14 +80,14 @@ new_is u f new e = rw new (ap flight_in e)
 -- A change of a runway.
 
 module _ (d : DayRecord) (airport : IsAirport d.airport) (u : Update) (r : List ℕ) (change : RunwayChange) (is : ChangesRunway d u r change) where
-  one : (row : RunwayRow) → Contains d.airport.runways row → same_name row.name r ≡ true → row ≡ is.row
-  one row i h =
+  pub the_row : (row : RunwayRow) → Contains d.airport.runways row → same_name row.name r ≡ true → row ≡ is.row
+  the_row row i h =
       let found = find_some (λ (x : RunwayRow). same_name x.name r) d.airport.runways is.row is.known in
       one_row d.airport.runways airport.names r row is.row i found.0 h found.1
 
   pub window_of : (row : RunwayRow) → Contains d.airport.runways row → same_name (rules_of d.airport d.journal row).name r ≡ true → has_window change (rules_of d.airport d.journal row) ≡ true
   unfolding rules_of
-  window_of row i h = subst (λ (x : RunwayRow). has_window change (rules_of d.airport d.journal x) ≡ true) (sym (one row i h)) is.window
+  window_of row i h = subst (λ (x : RunwayRow). has_window change (rules_of d.airport d.journal x) ≡ true) (sym (the_row row i h)) is.window
 
   runway_put : (row : RunwayRow) → Contains d.airport.runways row → rules_of d.airport (d.journal ++ u ∷ []) row ≡ if_named r change (rules_of d.airport d.journal row)
   unfolding rules_of
@@ -95,7 +95,7 @@ module _ (d : DayRecord) (airport : IsAirport d.airport) (u : Update) (r : List 
     where
       by : (b : Bool) → same_name row.name r ≡ b
           → rules_of d.airport (d.journal ++ u ∷ []) row ≡ (if b then with_change change (rules_of d.airport d.journal row) else rules_of d.airport d.journal row)
-      by true h = subst (λ (x : RunwayRow). rules_of d.airport (d.journal ++ u ∷ []) x ≡ with_change change (rules_of d.airport d.journal x)) (sym (one row i h)) (sym is.allows)
+      by true h = subst (λ (x : RunwayRow). rules_of d.airport (d.journal ++ u ∷ []) x ≡ with_change change (rules_of d.airport d.journal x)) (sym (the_row row i h)) (sym is.allows)
       by false h = sym (rules-same d.airport d.journal row u (ap (λ what. same_reach what (reach.Runway row.name)) is.of_it ∙ (nat_list_eq_equiv.symm r row.name ∙ h)))
 
 module _ (d : DayRecord) (row : RunwayRow) (r : List ℕ) (known : runway_row d.airport r ≡ Some row) (from to : ℕ) (within : to ≤ 2880) where
