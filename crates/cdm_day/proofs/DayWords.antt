@@ -3,7 +3,8 @@ pub use Rattle.cdm_day.specs.Airport.{with_runway, with_taxi}
 pub use Rattle.cdm_plan.specs.Airport.{IsAirport, runway_names}
 pub use Rattle.cdm_plan.specs.Day.{DayRecord, flights_in, put_by_name, rules_in, with_update}
 unfoldable pub use Rattle.cdm_plan.specs.Day.{rows_by_name, rules_of}
-pub use Rattle.cdm_day.specs.Runways.{has_window, plain_of, with_change}
+pub use Rattle.cdm_day.specs.Changes.{ChangesRunway, IsChange, has_window, with_change}
+pub use Rattle.cdm_day.specs.inner.Tables.{plain_of}
 pub use Rattle.cdm_plan.specs.Sound.{IsSound, TellTaxi}
 pub use Rattle.cdm_plan.specs.Kept.{AreKept, IsSince}
 pub use Rattle.cdm_flight.proofs.JournalLemmas.{before_off-all, flight_of-fresh, flight_of-step, flight_of-untouched, last_value-push, planned_says}

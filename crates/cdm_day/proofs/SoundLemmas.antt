@@ -1,12 +1,12 @@
 -- A day stays sound with every update that no word refuses.
 use Rattle.std.proofs.Common.{◌≡◌, ℕ, ◌≤◌, Bool, true, false, cond, not, ◌||◌, List, [], ◌∷◌, ◌++◌, length, Option, None, Some, refl, sym, ap, ◌∙◌, subst, true≢false, arith, length-append}
 use Rattle.cdm_plan.proofs.ListWords.{nat_le, count_by, is_some, or_parts, nat_tests, option_or, list_any, IsDistinct, nat_list_eq_equiv, append-nil, IsDistinct-push}
-use Rattle.cdm_day.proofs.DayWords.{Update, reach_of, same_name, same_reach, is_fresh, is_one_stand_too_many, AirportRows, last_value, of_flight, runway_given, is_known, flight_of, runway_of}
+use Rattle.cdm_day.proofs.DayWords.{Update, flight_in, reach_of, same_name, same_reach, is_fresh, is_one_stand_too_many, AirportRows, last_value, of_flight, runway_given, is_known, flight_of, runway_of}
 use Rattle.cdm_day.proofs.DayWords.{has_runway, is_unknown, is_full, stands_with_rows, refusal_of, last_value-push, touching-push, untouched, DayRecord, flights_in, with_update, IsSound, Flt, Taxi}
 use Rattle.cdm_flight.specs.declared.reach.Reach.TheVariants as reach
 use Rattle.cdm_flight.proofs.JournalLemmas.{is_known-push}
 use Rattle.cdm_plan.proofs.JournalFacts.{accepted_is, flight_named, flights_in-push, names_after}
-use Rattle.cdm_day.proofs.WordLemmas.{flt-accepted, known_from, known_is, named_runway}
+use Rattle.cdm_day.proofs.WordLemmas.{flight_of-unknown, flt-accepted, known_from, known_is, named_runway}
 
 -- what no word refuses finds room in the journal
 room_left : (g : AirportRows) (a : List Update) (u : Update) → is_full g a u ≡ false → nat_le 20000 (length a) ≡ false
@@ -18,15 +18,15 @@ push_short : (a : List Update) (u : Update) → nat_le 20000 (length a) ≡ fals
 push_short a u h = grind (arith, nat_tests, length-append)
 
 module _ (d : DayRecord) (u : Update) (sound : IsSound d) (good : refusal_of d.airport d.journal u ≡ None) where
-  pub known_update : is_unknown d.airport d.journal u ≡ false
+  known_update : is_unknown d.airport d.journal u ≡ false
   known_update = (accepted_is d.airport d.journal u good).known
 
-  -- its flight is known, where it is another than FLT
-  pub unknown_as : (f : List ℕ) → reach_of u ≡ reach.Flight f → is_fresh u ≡ false → is_unknown d.airport d.journal u ≡ not (is_known d.journal f)
-  unknown_as f e old = known_update ∙ sym (ap not (known_from d.airport d.journal f u e old known_update))
+  -- its flight is known, but for an FLT
+  pub always_known : (f : List ℕ) → reach_of u ≡ reach.Flight f → is_fresh u ≡ false → is_some (flight_of d.airport d.journal f) ≡ true
+  always_known f e old = sym (known_is d sound f) ∙ known_from d.airport d.journal f u e old known_update
 
-  pub never_absent : (f : List ℕ) → reach_of u ≡ reach.Flight f → is_fresh u ≡ false → flight_of d.airport d.journal f ≡ None → ⊥
-  never_absent f e old none = true≢false (sym (known_from d.airport d.journal f u e old known_update) ∙ (known_is d sound f ∙ ap is_some none))
+  pub never_known : (f : List ℕ) → reach_of u ≡ reach.Flight f → is_fresh u ≡ true → flight_of d.airport d.journal f ≡ None
+  never_known f e new = flight_of-unknown d sound f (rw (new, ap flight_in e) at (accepted_is d.airport d.journal u good).new)
 
   silent : (q : List ℕ) (b : Bool) → same_reach (reach_of u) (reach.Flight q) ≡ b → is_known (d.journal ++ u ∷ []) q ≡ false → of_flight q (d.journal ++ u ∷ []) ≡ []
   silent q false e h =

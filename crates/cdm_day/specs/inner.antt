@@ -1,2 +1,4 @@
 pub mod AirportCode
+pub mod Judged
+pub mod Put
 pub mod Tables

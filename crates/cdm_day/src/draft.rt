@@ -1,5 +1,5 @@
 //! A day that a batch of updates is changing.
-ghost use Rattle.std.specs.Prelude.{◌≡◌, map, IfOk};
+ghost use Rattle.std.specs.Prelude.{◌≡◌, map, IfOk, OnOk};
 ghost use Rattle.cdm_flight.specs.Accepted.{refusal, after_one, accepted, replies_to};
 ghost use Rattle.cdm_plan.specs.Day.{DayRecord};
 ghost use Rattle.cdm_day.specs.Replies.{reply_of};
@@ -8,6 +8,7 @@ ghost use Rattle.cdm_plan.specs.Kept.{IsSince};
 use crate::judging::judge_as;
 use crate::reply::Reply;
 use crate::tables::Tables;
+use crate::takes::Takes;
 use cdm_flight::{Role, Update};
 use cdm_plan::Touched;
 use std::alloc::{AllocError, Global};
@@ -20,53 +21,43 @@ pub(crate) struct Draft {
 }
 
 impl Draft {
-    // The draft after the update, unless a word refuses it.
+    // Takes the update, unless a word refuses it.
     fn answer(
-        self,
+        &mut self,
         alloc: Global,
         role: Role,
         update: &Update,
-    ) -> Result<(Draft, Reply), AllocError>
-        ensures day { IfOk result (λ r. r.0.tables ≡ record self.tables { journal = after_one self.tables.airport self.tables.journal (role, update.now) }) }
-        ensures reply { IfOk result (λ r. r.1 ≡ reply_of (refusal self.tables.airport self.tables.journal role update.now)) }
-        ensures since { IfOk result (λ r. (first : DayRecord) → IsSince first self.touched self.tables → IsSince first r.0.touched r.0.tables) }
+    ) -> Result<Reply, AllocError>
+        ensures day { OnOk result (self.new.tables ≡ record self.old.tables { journal = after_one self.old.tables.airport self.old.tables.journal (role, update.now) }) }
+        ensures reply { IfOk result (λ reply. reply ≡ reply_of (refusal self.old.tables.airport self.old.tables.journal role update.now)) }
+        ensures since { OnOk result ((first : DayRecord) → IsSince first self.old.touched self.old.tables → IsSince first self.new.touched self.new.tables) }
     {
-        let Draft {
-            tables,
-            mut touched,
-        } = self;
-        if let Some(word) = judge_as(&tables, role, update) {
-            return Ok((Draft { tables, touched }, Reply::Refused(word)));
+        match judge_as(&self.tables, role, update) {
+            Err(word) => Ok(Reply::Refused(word)),
+            Ok(change) => {
+                self.touched.note(&self.tables, update)?;
+                self.tables.take(alloc, *update, change)?;
+                self.touched.note(&self.tables, update)?;
+                Ok(Reply::Accepted)
+            }
         }
-        touched.note(&tables, update)?;
-        let taken = tables.take(alloc, *update)?;
-        touched.note(&taken, update)?;
-        Ok((
-            Draft {
-                tables: taken,
-                touched,
-            },
-            Reply::Accepted,
-        ))
     }
 
     /// Judges each update of the batch in turn, and takes those that no word refuses.
     pub(crate) fn apply(
-        self,
+        &mut self,
         alloc: Global,
         batch: &[(Role, Update)],
-    ) -> Result<(Draft, Vec<Reply>), AllocError>
-        ensures day { IfOk result (λ r. r.0.tables ≡ record self.tables { journal = accepted self.tables.airport self.tables.journal batch.now }) }
-        ensures replies { IfOk result (λ r. r.1.items ≡ map reply_of (replies_to self.tables.airport self.tables.journal batch.now)) }
-        ensures since { IfOk result (λ r. (first : DayRecord) → IsSince first self.touched self.tables → IsSince first r.0.touched r.0.tables) }
+    ) -> Result<Vec<Reply>, AllocError>
+        ensures day { OnOk result (self.new.tables ≡ record self.old.tables { journal = accepted self.old.tables.airport self.old.tables.journal batch.now }) }
+        ensures replies { IfOk result (λ replies. replies.items ≡ map reply_of (replies_to self.old.tables.airport self.old.tables.journal batch.now)) }
+        ensures since { OnOk result ((first : DayRecord) → IsSince first self.old.touched self.old.tables → IsSince first self.new.touched self.new.tables) }
     {
-        let mut draft = self;
         let mut replies = Vec::new(alloc);
         for (role, update) in batch {
-            let (next, reply) = draft.answer(alloc, *role, update)?;
-            draft = next;
+            let reply = self.answer(alloc, *role, update)?;
             replies.push(reply)?;
         }
-        Ok((draft, replies))
+        Ok(replies)
     }
 }

@@ -13,8 +13,8 @@ use cdm_flight::{Flight, FlightName, RefusalWord, Update};
 use cdm_plan::Records;
 use cdm_taxi::TaxiTable;
 
-// The flight's taxi-out time to its runway, as the table has it.
-fn exot_to_runway(taxi: &TaxiTable, flight: &Flight) -> Option<u16>
+// The flight's taxi-out time to the runway that it has, by the table.
+fn own_exot(taxi: &TaxiTable, flight: &Flight) -> Option<u16>
     ensures value { result ≡ option_and_then (λ r. taxi_out (λ place. map.get taxi.now (place, r)) flight.now.stand flight.now.ice) flight.now.runway }
     ensures range { ForSome result (λ minutes. minutes ≤ 180) }
 {
@@ -24,7 +24,7 @@ fn exot_to_runway(taxi: &TaxiTable, flight: &Flight) -> Option<u16>
 
 /// The flight after an update of it, other than its FLT, or the first word that refuses the update,
 /// but for Full. A runway that it names is one of the airport.
-pub fn flight_after<R: Records>(
+pub(crate) fn flight_after<R: Records>(
     records: &R,
     flight: FlightName,
     update: &Update,
@@ -40,5 +40,5 @@ pub fn flight_after<R: Records>(
     let Some(record) = records.flight(flight) else {
         return Err(RefusalWord::Unknown);
     };
-    record.step(update, exot_to_runway(records.taxi(), record))
+    record.step(update, own_exot(records.taxi(), record))
 }

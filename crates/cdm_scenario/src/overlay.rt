@@ -1,14 +1,13 @@
 //! Further updates laid over the state of a day.
-ghost use Rattle.std.specs.Prelude.{◌≡◌, None, IfOk, OnOk, OnErr};
+ghost use Rattle.std.specs.Prelude.{◌≡◌, IfOk, OnOk, OnErr};
 ghost use Rattle.cdm_flight.specs.Accepted.{refusal_of};
-ghost use Rattle.cdm_plan.specs.Day.{with_update};
 ghost use Rattle.cdm_day.specs.Replies.{reply_of};
 ghost use Rattle.cdm_scenario.specs.Overlay.{after_judged};
 
 mod records;
 
 use crate::changes::{change_over, set_over};
-use cdm_day::{DayState, Records, Reply, flight_after, judge, runway_named};
+use cdm_day::{Change, DayState, Records, Reply, Takes, judge, runway_named};
 use cdm_flight::{DayValues, Flight, FlightName, RunwayName, Update, push_reserved};
 use cdm_runway::Runway;
 use cdm_taxi::TaxiTable;
@@ -76,53 +75,38 @@ impl<'a> Overlay<'a> {
         ensures err { OnErr result (self.new ≡ self.old) }
     {
         match judge(self, update) {
-            Some(word) => Ok(Reply::Refused(word)),
-            None => {
-                self.take(alloc, *update)?;
+            Err(word) => Ok(Reply::Refused(word)),
+            Ok(change) => {
+                self.take(alloc, *update, change)?;
                 Ok(Reply::Accepted)
             }
         }
     }
+}
 
-    // Takes an update that no word refuses.
-    fn take(&mut self, alloc: Global, update: Update) -> Result<(), AllocError>
-        requires { refusal_of self.old.airport self.old.journal update ≡ None }
-        ensures ok { OnOk result (self.new ≡ with_update self.old update) }
-        ensures err { OnErr result (self.new ≡ self.old) }
-    {
+impl Takes for Overlay<'_> {
+    // What must grow grows before anything changes.
+    fn take(&mut self, alloc: Global, update: Update, change: Change) -> Result<(), AllocError> {
         self.accepted.reserve(1)?;
-        match update {
-            Update::Flt { flight, priority } => {
+        match change {
+            Change::NewFlight(flight) => {
                 self.new_flights.reserve(1)?;
-                self.flights
-                    .insert(flight, Flight::fresh(flight, priority))?;
-                push_reserved(&mut self.new_flights, flight);
+                self.flights.insert(flight.name, flight)?;
+                push_reserved(&mut self.new_flights, flight.name);
             }
-            Update::Tobt { flight, .. }
-            | Update::Stand { flight, .. }
-            | Update::Rwy { flight, .. }
-            | Update::Ctot { flight, .. }
-            | Update::Ice { flight, .. }
-            | Update::Prio { flight, .. }
-            | Update::Off { flight, .. }
-            | Update::Air { flight, .. }
-            | Update::Cnl { flight } => {
-                let Ok(next) = flight_after(self, flight, &update) else {
+            Change::NextRecord(flight) => {
+                self.flights.insert(flight.name, flight)?;
+            }
+            Change::Runway(name, change) => {
+                let Some(base) = runway_named(self.base, name) else {
                     unreachable!()
                 };
-                self.flights.insert(flight, next)?;
+                change_over(alloc, &mut self.runways, name, base, change)?;
             }
-            Update::Rate { runway, to, .. }
-            | Update::Close { runway, to, .. }
-            | Update::Reopen { runway, to, .. } => {
-                prove!(to.get() <= 2_880);
-                let Some(known) = runway_named(self.base, runway) else {
-                    unreachable!()
-                };
-                change_over(alloc, &mut self.runways, runway, known, &update)?;
+            Change::TaxiRow(place, runway, minutes) => {
+                set_over(alloc, &mut self.taxi, self.base.taxi(), place, runway, minutes)?;
             }
-            Update::Taxi { .. } => set_over(alloc, &mut self.taxi, self.base.taxi(), &update)?,
-            Update::Clock { .. } => self.values = self.values.after(&update),
+            Change::Values(values) => self.values = values,
         }
         push_reserved(&mut self.accepted, update);
         Ok(())

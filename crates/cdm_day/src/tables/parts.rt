@@ -1,68 +1,83 @@
 //! Parts that tables may share. A change makes a part anew, unless it has one owner.
-ghost use Rattle.std.specs.Prelude.{◌≡◌, ◌++◌, ◌∷◌, [], true, All, map, OnOk, IfOk};
+ghost use Rattle.std.specs.Prelude.{◌≡◌, false, map, IfOk, OnOk, OnErr};
 ghost use Rattle.std.specs.Arc.{arc_value};
+ghost use Rattle.std.specs.FinMap as finite;
 ghost use Rattle.indexmap.specs.IndexMap.{insert_entry};
 ghost use Rattle.cdm_flight.specs.Names.{same_name};
-ghost use Rattle.cdm_day.specs.Runways.{has_window, with_change};
-ghost use Rattle.cdm_day.specs.inner.Tables.{Sets};
-ghost use Rattle.cdm_day.specs.TaxiRows.{row_fits, with_row};
+ghost use Rattle.cdm_flight.specs.Taxi.{is_one_stand_too_many, stands_in};
+ghost use Rattle.cdm_day.specs.inner.Put.{if_named};
+ghost use Rattle.cdm_day.specs.inner.Tables.{ArePut, AreSame, HasPlace, HaveWindow, Sets};
 
-use super::runways::{change_each, copy_runways};
-use crate::changes::set_taxi;
-use cdm_flight::{Flight, FlightName, Update, push_last};
+use super::runways::{change_named, copy_runways};
+use crate::change::{Change, RunwayChange, set_taxi};
+use cdm_flight::{DayValues, Flight, FlightName, Place, RunwayName, TaxiMinutes};
 use cdm_runway::Runway;
 use cdm_taxi::TaxiTable;
 use indexmap::IndexMap;
 use std::alloc::{AllocError, Global};
 use std::sync::Arc;
 
-// By how many updates the room of a journal grows. Each look at a board keeps the journal of its moment, so
-// a journal has little room to spare.
-const JOURNAL_ROOM: usize = 256;
-
-// Puts one more update behind the others of a journal that nobody shares.
-fn push_own(journal: &mut Vec<Update>, update: Update) -> Result<(), AllocError>
-    ensures { OnOk result (journal.new.items ≡ journal.old.items ++ update ∷ []) }
-{
-    if journal.len() == journal.capacity() {
-        journal.reserve_exact(JOURNAL_ROOM)?;
-    }
-    push_last(journal, update)
+/// What the accepted updates of a day say of each flight, of each runway by name, of taxi times and of the
+/// whole day.
+#[derive(Drop)]
+pub(super) struct Parts {
+    pub(super) flights: Arc<IndexMap<FlightName, Flight>>,
+    pub(super) runways: Arc<Vec<Runway>>,
+    pub(super) taxi: Arc<TaxiTable>,
+    pub(super) values: DayValues,
 }
 
-/// Puts one more update behind the others.
-pub fn push_update(
-    alloc: Global,
-    journal: &mut Arc<Vec<Update>>,
-    update: Update,
-) -> Result<(), AllocError>
-    ensures { OnOk result ((arc_value journal.new).items ≡ (arc_value journal.old).items ++ update ∷ []) }
-{
-    if let Some(own) = Arc::get_mut(journal) {
-        return push_own(own, update);
+impl Parts {
+    /// The same parts once more, shared.
+    pub(super) fn share(&self) -> Result<Parts, AllocError>
+        ensures { IfOk result (AreSame self.now) }
+    {
+        Ok(Parts {
+            flights: Arc::try_clone(&self.flights)?,
+            runways: Arc::try_clone(&self.runways)?,
+            taxi: Arc::try_clone(&self.taxi)?,
+            values: self.values,
+        })
     }
-    let mut own = Vec::from_slice(alloc, journal.as_slice())?;
-    push_own(&mut own, update)?;
-    *journal = Arc::new(alloc, own)?;
-    Ok(())
+
+    /// Puts a change in.
+    pub(super) fn put(&mut self, alloc: Global, change: Change) -> Result<(), AllocError>
+        requires { HasPlace self.old change }
+        ensures ok { OnOk result (ArePut self.old change self.new) }
+        ensures err { OnErr result (AreSame self.old self.new) }
+    {
+        match change {
+            Change::NewFlight(flight) | Change::NextRecord(flight) => {
+                set_flight(alloc, &mut self.flights, flight)
+            }
+            Change::Runway(name, change) => change_runways(alloc, &mut self.runways, name, change),
+            Change::TaxiRow(place, runway, minutes) => {
+                change_taxi(alloc, &mut self.taxi, place, runway, minutes)
+            }
+            Change::Values(values) => {
+                self.values = values;
+                Ok(())
+            }
+        }
+    }
 }
 
-/// Sets the record of a flight.
-pub fn set_flight(
+// Sets the record of a flight.
+fn set_flight(
     alloc: Global,
     flights: &mut Arc<IndexMap<FlightName, Flight>>,
-    flight: FlightName,
-    known: Flight,
+    flight: Flight,
 ) -> Result<(), AllocError>
-    ensures known { OnOk result (Sets (arc_value flights.old) (arc_value flights.new) flight known) }
-    ensures entries { OnOk result ((arc_value flights.new).entries ≡ insert_entry same_name (arc_value flights.old).entries flight known) }
+    ensures known { OnOk result (Sets (arc_value flights.old) (arc_value flights.new) flight) }
+    ensures entries { OnOk result ((arc_value flights.new).entries ≡ insert_entry same_name (arc_value flights.old).entries flight.name flight) }
+    ensures err { OnErr result ((arc_value flights.new).entries ≡ (arc_value flights.old).entries) }
 {
     if let Some(own) = Arc::get_mut(flights) {
-        own.insert(flight, known)?;
+        own.insert(flight.name, flight)?;
         return Ok(());
     }
     let mut own = copy_flights(flights)?;
-    own.insert(flight, known)?;
+    own.insert(flight.name, flight)?;
     *flights = Arc::new(alloc, own)?;
     Ok(())
 }
@@ -77,38 +92,43 @@ fn copy_flights(
     Ok(copy)
 }
 
-/// Changes the runways as a RATE, CLOSE or OPEN does.
-pub fn change_runways(
+// Changes the runway of this name.
+fn change_runways(
     alloc: Global,
     runways: &mut Arc<Vec<Runway>>,
-    update: &Update,
+    name: RunwayName,
+    change: RunwayChange,
 ) -> Result<(), AllocError>
-    requires { All (λ rules. has_window update.now rules ≡ true) (arc_value runways.old).items }
-    ensures { OnOk result ((arc_value runways.new).items ≡ map (with_change update.now) (arc_value runways.old).items) }
+    requires { HaveWindow name change (arc_value runways.old).items }
+    ensures ok { OnOk result ((arc_value runways.new).items ≡ map (if_named name change) (arc_value runways.old).items) }
+    ensures err { OnErr result ((arc_value runways.new).items ≡ (arc_value runways.old).items) }
 {
     if let Some(own) = Arc::get_mut(runways) {
-        return change_each(own, update);
+        return change_named(own, name, change);
     }
     let mut own = copy_runways(alloc, runways.as_slice())?;
-    change_each(&mut own, update)?;
+    change_named(&mut own, name, change)?;
     *runways = Arc::new(alloc, own)?;
     Ok(())
 }
 
-/// Sets the row that a TAXI names.
-pub fn change_taxi(
+// Sets a taxi time, of which there is room for its stand.
+fn change_taxi(
     alloc: Global,
     taxi: &mut Arc<TaxiTable>,
-    update: &Update,
+    place: Place,
+    runway: RunwayName,
+    minutes: TaxiMinutes,
 ) -> Result<(), AllocError>
-    requires { row_fits update.now (arc_value taxi.old) ≡ true }
-    ensures { OnOk result (arc_value taxi.new ≡ with_row update.now (arc_value taxi.old)) }
+    requires { is_one_stand_too_many (stands_in (arc_value taxi.old)) place ≡ false }
+    ensures ok { OnOk result (arc_value taxi.new ≡ finite.insert (arc_value taxi.old) (place, runway) minutes) }
+    ensures err { OnErr result (arc_value taxi.new ≡ arc_value taxi.old) }
 {
     if let Some(own) = Arc::get_mut(taxi) {
-        return set_taxi(own, update);
+        return set_taxi(own, place, runway, minutes);
     }
     let mut own = taxi.copy()?;
-    set_taxi(&mut own, update)?;
+    set_taxi(&mut own, place, runway, minutes)?;
     *taxi = Arc::new(alloc, own)?;
     Ok(())
 }

@@ -24,5 +24,5 @@ returns g c =
     let says =
     stepped d c.flight.ensures.sound c.args.update.now c.taxi.result.now c.args.flight c.requires.of_flight c.requires.old c.taxi.ensures.value r
     (sym c.flight.ensures.value ∙ ap option_copied c.in-Some.is)
-    c.step.result c.requires.runway (ap (λ o. step_of r c.args.update.now o) (sym c.exot_to_runway.ensures.value) ∙ sym c.step.ensures) in
+    c.step.result c.requires.runway (ap (λ o. step_of r c.args.update.now o) (sym c.own_exot.ensures.value) ∙ sym c.step.ensures) in
     record { refused = says.0; rest = says.1.0; after = says.1.1 }

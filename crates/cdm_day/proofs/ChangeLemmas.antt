@@ -1,0 +1,180 @@
+-- What the longer journal says is what the day says with the change.
+use Rattle.std.proofs.Common.{◌≡◌, ℕ, ◌≤◌, Bool, true, false, List, [], ◌∷◌, ◌++◌, Option, None, Some, refl, sym, ap, ◌∙◌, subst, true≢false, arith}
+use Rattle.cdm_plan.proofs.ListWords.{if◌then◌else◌, nat_lt, Contains, cons_option, is_some, nat_list_eq_equiv, nat_tests, same_text}
+use Rattle.cdm_day.proofs.DayWords.{RunwayRow, Update, flight_in, reach_of, same_name, same_name-refl, same_reach, Record, is_fresh, TaxiRows, AirportRows, runway_row, flight_of, values_of}
+use Rattle.cdm_day.proofs.DayWords.{flight_of-untouched, values_of-untouched, refusal_of, RunwayRules, is_rate_window, IsAirport, DayRecord, flights_in, rules_of, with_update}
+use Rattle.cdm_day.proofs.DayWords.{IsSound, TellTaxi, ChangesRunway, IsChange, has_window, with_change, Flt, Rate, Close, Reopen}
+use Rattle.cdm_flight.specs.declared.reach.Reach.{Reach}
+use Rattle.cdm_flight.specs.declared.reach.Reach.TheVariants as reach
+use Rattle.cdm_plan.proofs.DayPlanLemmas.{record_name}
+use Rattle.cdm_plan.proofs.JournalFacts.{accepted_is, flights_in-push, new_flight-old}
+use Rattle.cdm_plan.proofs.NameLemmas.{find_some, one_row}
+use Rattle.cdm_plan.proofs.RunwayLemmas.{rules-same}
+use Rattle.cdm_plan.specs.Day.{new_flight}
+use Rattle.cdm_day.proofs.RunwayLemmas.{rules-closed, rules-rate}
+use Rattle.cdm_day.proofs.SoundLemmas.{sound_after}
+use Rattle.cdm_day.proofs.TaxiLemmas.{taxi_after_other, taxi_after_taxi}
+use Rattle.cdm_day.specs.inner.Put.{flight_with, if_named, made_known, rows_with, rules_with, values_with}
+use Rattle.cdm_day.specs.declared.change.Change.{Change}
+use Rattle.cdm_day.specs.declared.change.Change.TheVariants.{NewFlight, NextRecord, Runway, TaxiRow, Values}
+use Rattle.cdm_day.specs.declared.change.RunwayChange.{RunwayChange}
+use Rattle.cdm_day.specs.declared.change.RunwayChange.TheVariants as change
+
+pub record SaysWith (d : DayRecord) (u : Update) (change : Change) : Type 0 where
+  pub sound : IsSound (with_update d u)
+  pub flights : (f : List ℕ) → flight_of d.airport (d.journal ++ u ∷ []) f ≡ flight_with change f (flight_of d.airport d.journal f)
+  pub order : flights_in (d.journal ++ u ∷ []) ≡ flights_in d.journal ++ made_known change
+  pub runways : (row : RunwayRow) → Contains d.airport.runways row → rules_of d.airport (d.journal ++ u ∷ []) row ≡ rules_with change (rules_of d.airport d.journal row)
+  pub taxi : (rows : TaxiRows) → TellTaxi d.airport d.journal rows → TellTaxi d.airport (d.journal ++ u ∷ []) (rows_with change rows)
+  pub day : values_of (d.journal ++ u ∷ []) ≡ values_with change (values_of d.journal)
+
+-- only an update of a flight makes one known
+fresh-none : (u : Update) → ((f : List ℕ) → same_reach (reach_of u) (reach.Flight f) ≡ false) → is_fresh u ≡ false
+fresh-none (Flt f p) h = absurd (true≢false (sym (same_name-refl f) ∙ h f))
+fresh-none _ h = refl
+
+-- What an update leaves that touches something else.
+
+module _ (d : DayRecord) (u : Update) {what : Reach} (e : reach_of u ≡ what) where
+  apart : (other : Reach) → same_reach what other ≡ false → same_reach (reach_of u) other ≡ false
+  apart other h = ap (λ w. same_reach w other) e ∙ h
+
+  flights_left : ((f : List ℕ) → same_reach what (reach.Flight f) ≡ false) → (f : List ℕ) → flight_of d.airport (d.journal ++ u ∷ []) f ≡ flight_of d.airport d.journal f
+  flights_left none f = flight_of-untouched f d.airport d.journal u (apart (reach.Flight f) (none f))
+
+  order-old : is_fresh u ≡ false → flights_in (d.journal ++ u ∷ []) ≡ flights_in d.journal ++ []
+  order-old old = flights_in-push d.journal u ∙ ap (λ o. flights_in d.journal ++ cons_option o []) (new_flight-old u old)
+
+  order_left : ((f : List ℕ) → same_reach what (reach.Flight f) ≡ false) → flights_in (d.journal ++ u ∷ []) ≡ flights_in d.journal ++ []
+  order_left none = order-old (fresh-none u (λ f. apart (reach.Flight f) (none f)))
+
+  runways_left : ((r : List ℕ) → same_reach what (reach.Runway r) ≡ false) → (row : RunwayRow) → rules_of d.airport (d.journal ++ u ∷ []) row ≡ rules_of d.airport d.journal row
+  runways_left none row = sym (rules-same d.airport d.journal row u (apart (reach.Runway row.name) (none row.name)))
+
+  taxi_left : ((r : List ℕ) → same_reach what (reach.Taxi r) ≡ false) → (rows : TaxiRows) → TellTaxi d.airport d.journal rows → TellTaxi d.airport (d.journal ++ u ∷ []) rows
+  taxi_left none rows told = taxi_after_other d.airport d.journal u rows (λ r. apart (reach.Taxi r) (none r)) told
+
+  day_left : same_reach what reach.Day ≡ false → values_of (d.journal ++ u ∷ []) ≡ values_of d.journal
+  day_left none = values_of-untouched d.journal u (apart reach.Day none)
+
+-- A record of a flight.
+
+flight_put : (d : DayRecord) (u : Update) (r : Record) → reach_of u ≡ reach.Flight r.name → flight_of d.airport (d.journal ++ u ∷ []) r.name ≡ Some r
+    → (f : List ℕ) → flight_of d.airport (d.journal ++ u ∷ []) f ≡ (if same_name r.name f then Some r else flight_of d.airport d.journal f)
+flight_put d u r e says f = by (same_name r.name f) refl
+  where
+    by : (b : Bool) → same_name r.name f ≡ b → flight_of d.airport (d.journal ++ u ∷ []) f ≡ (if b then Some r else flight_of d.airport d.journal f)
+    by true h = subst (λ x. flight_of d.airport (d.journal ++ u ∷ []) x ≡ Some r) (same_text r.name f (sym h)) says
+    by false h = flight_of-untouched f d.airport d.journal u (ap (λ what. same_reach what (reach.Flight f)) e ∙ h)
+
+-- what the longer journal says of the flight is its next record
+pub next_record : (d : DayRecord) (u : Update) (f : List ℕ) (r : Record) → reach_of u ≡ reach.Flight f → is_fresh u ≡ false
+    → flight_of d.airport (d.journal ++ u ∷ []) f ≡ Some r → IsChange d u (NextRecord r)
+next_record d u f r e old says =
+    let name : r.name ≡ f = record_name d.airport (d.journal ++ u ∷ []) f r says in
+    (e ∙ ap reach.Flight (sym name), old, ap (flight_of d.airport (d.journal ++ u ∷ [])) name ∙ says)
+
+new_is : (u : Update) (f : List ℕ) → is_fresh u ≡ true → reach_of u ≡ reach.Flight f → new_flight u ≡ Some f
+new_is u f new e = rw new (ap flight_in e)
+
+-- A change of a runway.
+
+module _ (d : DayRecord) (airport : IsAirport d.airport) (u : Update) (r : List ℕ) (change : RunwayChange) (is : ChangesRunway d u r change) where
+  pub the_row : (row : RunwayRow) → Contains d.airport.runways row → same_name row.name r ≡ true → row ≡ is.row
+  the_row row i h =
+      let found = find_some (λ (x : RunwayRow). same_name x.name r) d.airport.runways is.row is.known in
+      one_row d.airport.runways airport.names r row is.row i found.0 h found.1
+
+  pub window_of : (row : RunwayRow) → Contains d.airport.runways row → same_name (rules_of d.airport d.journal row).name r ≡ true → has_window change (rules_of d.airport d.journal row) ≡ true
+  unfolding rules_of
+  window_of row i h = subst (λ (x : RunwayRow). has_window change (rules_of d.airport d.journal x) ≡ true) (sym (the_row row i h)) is.window
+
+  runway_put : (row : RunwayRow) → Contains d.airport.runways row → rules_of d.airport (d.journal ++ u ∷ []) row ≡ if_named r change (rules_of d.airport d.journal row)
+  unfolding rules_of
+  runway_put row i = by (same_name row.name r) refl
+    where
+      by : (b : Bool) → same_name row.name r ≡ b
+          → rules_of d.airport (d.journal ++ u ∷ []) row ≡ (if b then with_change change (rules_of d.airport d.journal row) else rules_of d.airport d.journal row)
+      by true h = subst (λ (x : RunwayRow). rules_of d.airport (d.journal ++ u ∷ []) x ≡ with_change change (rules_of d.airport d.journal x)) (sym (the_row row i h)) (sym is.allows)
+      by false h = sym (rules-same d.airport d.journal row u (ap (λ what. same_reach what (reach.Runway row.name)) is.of_it ∙ (nat_list_eq_equiv.symm r row.name ∙ h)))
+
+module _ (d : DayRecord) (row : RunwayRow) (r : List ℕ) (known : runway_row d.airport r ≡ Some row) (from to : ℕ) (within : to ≤ 2880) where
+  own_name : same_name r row.name ≡ true
+  own_name = nat_list_eq_equiv.symm r row.name ∙ (find_some (λ (x : RunwayRow). same_name x.name r) d.airport.runways row known).1
+
+  in_order : nat_lt from to ≡ true → from ≤ to
+  in_order h = grind (arith, nat_tests)
+
+  -- a RATE sets a rate
+  pub rate_changes : (cap : ℕ) → is_rate_window row.cell from to ≡ true → ChangesRunway d (Rate r from to cap) r (change.Rate from to cap)
+  unfolding rules_of
+  rate_changes cap h = record {
+    of_it = refl;
+    row = row;
+    known = known;
+    window = h;
+    allows = rules-rate d.airport d.journal row (Rate r from to cap) own_name from to cap h within (λ m. refl) (λ m. refl);
+  }
+
+  -- a CLOSE or OPEN sets a closure
+  pub closure_changes : (closed : Bool) → nat_lt from to ≡ true → ChangesRunway d (if closed then Close r from to else Reopen r from to) r (change.Closure from to closed)
+  closure_changes true h = record {
+    of_it = refl;
+    row = row;
+    known = known;
+    window = h;
+    allows = rules-closed d.airport d.journal row (Close r from to) own_name from to true (in_order h) within (λ m. refl) (λ m. refl);
+  }
+  closure_changes false h = record {
+    of_it = refl;
+    row = row;
+    known = known;
+    window = h;
+    allows = rules-closed d.airport d.journal row (Reopen r from to) own_name from to false (in_order h) within (λ m. refl) (λ m. refl);
+  }
+
+-- All changes.
+
+pub says_with : (d : DayRecord) (u : Update) → IsSound d → refusal_of d.airport d.journal u ≡ None → (change : Change) → IsChange d u change → SaysWith d u change
+says_with d u sound good (NewFlight r) is = record {
+  sound = sound_after d u sound good;
+  flights = flight_put d u r is.0 is.2;
+  order = flights_in-push d.journal u ∙ ap (λ o. flights_in d.journal ++ cons_option o []) (new_is u r.name is.1 is.0);
+  runways = λ row i. runways_left d u is.0 (λ q. refl) row;
+  taxi = taxi_left d u is.0 (λ q. refl);
+  day = day_left d u is.0 refl;
+}
+says_with d u sound good (NextRecord r) is = record {
+  sound = sound_after d u sound good;
+  flights = flight_put d u r is.0 is.2;
+  order = order-old d u is.0 is.1;
+  runways = λ row i. runways_left d u is.0 (λ q. refl) row;
+  taxi = taxi_left d u is.0 (λ q. refl);
+  day = day_left d u is.0 refl;
+}
+says_with d u sound good (Runway r change) is = record {
+  sound = sound_after d u sound good;
+  flights = flights_left d u is.of_it (λ f. refl);
+  order = order_left d u is.of_it (λ f. refl);
+  runways = runway_put d sound.airport u r change is;
+  taxi = taxi_left d u is.of_it (λ q. refl);
+  day = day_left d u is.of_it refl;
+}
+says_with d u sound good (TaxiRow place r minutes) is =
+    let of_it : reach_of u ≡ reach.Taxi r = ap reach_of is in
+    record {
+      sound = sound_after d u sound good;
+      flights = flights_left d u of_it (λ f. refl);
+      order = order_left d u of_it (λ f. refl);
+      runways = λ row i. runways_left d u of_it (λ q. refl) row;
+      taxi = λ rows told. rw is (taxi_after_taxi d.airport d.journal place r minutes rows told);
+      day = day_left d u of_it refl;
+    }
+says_with d u sound good (Values values) is = record {
+  sound = sound_after d u sound good;
+  flights = flights_left d u is.0 (λ f. refl);
+  order = order_left d u is.0 (λ f. refl);
+  runways = λ row i. runways_left d u is.0 (λ q. refl) row;
+  taxi = taxi_left d u is.0 (λ q. refl);
+  day = is.1;
+}

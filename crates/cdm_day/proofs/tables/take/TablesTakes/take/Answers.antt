@@ -1,0 +1,20 @@
+use Rattle.cdm_day.proofs.TableLemmas.{has_place, told_after}
+use Rattle.cdm_day.proofs.tables.take.TablesTakes.take.Goals as goal
+
+pub put-requires : goal.put-requires
+put-requires c =
+    has_place _ c.args.update c.self.inside.parts c.self.invariant (rw (← c.self.view_is) at c.requires.accepted) c.args.change (rw (← c.self.view_is) at c.requires.change)
+
+pub put-requires-2 : goal.put-requires-2
+put-requires-2 c =
+    has_place _ c.args.update c.self.inside.parts c.self.invariant (rw (← c.self.view_is) at c.requires.accepted) c.args.change (rw (← c.self.view_is) at c.requires.change)
+
+pub invariant_of-self-in-Some : goal.invariant_of-self-in-Some
+invariant_of-self-in-Some c =
+    rw (c.push_reserved.ensures, c.make_room.ensures.items, c.in-Some.ensures.value)
+    (told_after _ c.args.update c.self.inside.parts c.self.invariant (rw (← c.self.view_is) at c.requires.accepted) c.args.change _ (rw (← c.self.view_is) at c.requires.change) c.in_ok-put.ensures.ok)
+
+pub invariant_of-self-2 : goal.invariant_of-self-2
+invariant_of-self-2 c =
+    rw (c.in_ok-longer.ensures, c.deref-2.ensures.value, c.deref.ensures)
+    (told_after _ c.args.update c.self.inside.parts c.self.invariant (rw (← c.self.view_is) at c.requires.accepted) c.args.change _ (rw (← c.self.view_is) at c.requires.change) c.in_ok-put-2.ensures.ok)
