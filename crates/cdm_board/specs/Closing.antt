@@ -9,11 +9,17 @@ use Rattle.cdm_board.specs.History.{Call, DeskRecord, BoardRecord, Opened, AreNu
 abbrev pub BeganElsewhere : Opened → BoardRecord → Type 0
 BeganElsewhere b s = (s.airport ≡ b.airport) × (s.opening ≡ b.opening) → ⊥
 
+-- the state's history is legal from what the state began with
+abbrev pub IsLegalBoard : BoardRecord → Type 0
+IsLegalBoard s = IsLegal s.airport s.opening s.history
+
 -- why a board is not closed; all that was handed in comes back
 abbrev pub IsCloseFault : Opened → List DeskRecord → Closed → Type 0
 IsCloseFault b ks (MissingDesk board desks) = (board ≡ b) × (desks.items ≡ ks) × (AreNumbered b.desks ks → ⊥)
-IsCloseFault b ks (Opening state desks) = (desks.items ≡ ks) × AreNumbered b.desks ks × BeganElsewhere b state
-IsCloseFault b ks (Mismatch state desks desk receipt) = (desks.items ≡ ks) × AreNumbered b.desks ks × (state.airport ≡ b.airport) × (state.opening ≡ b.opening) × IsMismatch state.history ks desk receipt
+IsCloseFault b ks (Opening state desks) = (desks.items ≡ ks) × AreNumbered b.desks ks × IsLegalBoard state × BeganElsewhere b state
+IsCloseFault b ks (Mismatch state desks desk receipt) =
+    (desks.items ≡ ks) × AreNumbered b.desks ks × IsLegalBoard state
+    × (state.airport ≡ b.airport) × (state.opening ≡ b.opening) × IsMismatch state.history ks desk receipt
 
 -- a closed board: its history is legal from the board's opening and is the merge of the desks, and the
 -- day is that of the history

@@ -1,6 +1,8 @@
 //! Boards that desks share.
-ghost use Rattle.std.specs.Prelude.{◌≡◌, ◌≤◌, length, IfOk, OnErr, MatchResult};
-ghost use Rattle.cdm_board.specs.History.{Posts, Looks, IsDesk, with_receipt, fresh_desks};
+ghost use Rattle.std.specs.Prelude.{◌≡◌, ◌≤◌, List, length, IfOk, OnErr, MatchResult};
+ghost use Rattle.cdm_flight.specs.declared.update.Update.{Update as AnUpdate};
+ghost use Rattle.cdm_flight.specs.Journal.{AirportRows};
+ghost use Rattle.cdm_board.specs.History.{Posts, Looks, IsDesk, answers_to, with_receipt, fresh_desks};
 ghost use Rattle.cdm_board.specs.Refusals.{IsDeskRefusal};
 
 use crate::desk::Desk;
@@ -53,7 +55,7 @@ pub(crate) fn numbered(alloc: Global, desks: usize) -> Result<Vec<Desk>, AllocEr
 
 impl Board {
     /// Posts a batch for a desk, and adds to the desk the receipt of what it answers: the batch with the
-    /// replies. It may wait for the lock.
+    /// replies, which are those of a day, of which the lock tells no more. It may wait for the lock.
     ///
     /// `BatchSize` for more than 256 updates, else `HistoryFull` where the board took 4,096 calls, else
     /// `Memory`; the desk and the board are then as before.
@@ -65,6 +67,8 @@ impl Board {
         batch: &[(Role, Update)],
     ) -> Result<Vec<Reply>, BoardError>
         ensures desk { IfOk result (λ r. desk.new ≡ with_receipt desk.old (Posts batch.now r.items)) }
+        ensures replies { IfOk result (λ r. (g : AirportRows) × (a : List AnUpdate) × (r.items ≡ answers_to g a batch.now)) }
+        ensures each { IfOk result (λ r. length r.items ≡ length batch.now) }
         ensures cause { MatchResult result (λ _. length batch.now ≤ 256) (λ e. IsDeskRefusal (length batch.now) e) }
         ensures err { OnErr result (desk.new ≡ desk.old) }
     {

@@ -98,7 +98,7 @@ fn mismatch(state: &BoardState, desks: &[Desk], most: usize) -> Option<(usize, u
     requires desks { All (λ k. (1 ≤ k.number) × (k.number ≤ most)) desks.now }
     ensures { MatchOption result (IsMerge state.now.history desks.now) (λ p. IsMismatch state.now.history desks.now p.0 p.1) }
 {
-    state.facts();
+    let _calls = state.calls();
     for desk in 0..MOST_DESKS + 1 {
         if let Some(receipt) = place_of(state, desks, desk) {
             return Some((desk, receipt));
@@ -154,7 +154,8 @@ impl Board {
     /// of that desk in the history are the desk's receipts. The state's opening is compared with the
     /// board's own.
     ///
-    /// `MissingDesk`, else `Opening`, else `Mismatch`, as they say.
+    /// `MissingDesk`, else `Opening`, else `Mismatch`, as they say. The history of a state that comes back
+    /// is legal from what that state began with.
     pub fn close(board: Board, desks: Vec<Desk>) -> Result<(History, DayState), Closed>
         ensures { MatchResult result (λ r. IsClosed board desks.items r.0 r.1) (λ e. IsCloseFault board desks.items e) }
     {
@@ -168,6 +169,7 @@ impl Board {
             desks: count,
         } = board;
         let state = state.into_inner();
+        let _calls = state.calls();
         if !state.began_from(&airport, opening.as_slice()) {
             return Err(Closed::Opening { state, desks });
         }
@@ -179,7 +181,6 @@ impl Board {
                 receipt,
             });
         }
-        state.facts();
         Ok(state.into_parts())
     }
 }

@@ -1,6 +1,7 @@
 //! What a look answers.
-ghost use Rattle.std.specs.Prelude.{◌≡◌, ◌≤◌, IfOk, length};
+ghost use Rattle.std.specs.Prelude.{◌≡◌, ◌≤◌, List, IfOk, length};
 ghost use Rattle.std.specs.List.{AllZip};
+ghost use Rattle.cdm_scenario.specs.declared.outcome.Outcome.{Outcome as AnOutcome};
 ghost use Rattle.cdm_scenario.specs.Outcome.{IsOutcome};
 
 use cdm_day::DayState;
@@ -38,7 +39,7 @@ impl Snapshot {
 }
 
 /// What becomes of the day of the snapshot by each scenario, in their order and by so many workers,
-/// whatever is posted meanwhile.
+/// whatever is posted meanwhile. The scenarios have no other answers.
 pub fn what_if<R: Threads + Sync, G: Gate>(
     rt: &R,
     alloc: Global,
@@ -48,8 +49,10 @@ pub fn what_if<R: Threads + Sync, G: Gate>(
     gate: &G,
 ) -> Result<Vec<Outcome>, AllocError>
     requires { length scenarios.now ≤ 64 }
-    ensures { IfOk result (λ outcomes.
+    ensures of_day { IfOk result (λ outcomes.
         AllZip (λ scenario outcome. IsOutcome snapshot.now scenario.updates outcome) scenarios.now outcomes.items) }
+    ensures only { IfOk result (λ outcomes. (others : List AnOutcome) →
+        AllZip (λ scenario outcome. IsOutcome snapshot.now scenario.updates outcome) scenarios.now others → others ≡ outcomes.items) }
 {
     answer_all(rt, alloc, snapshot.state(), scenarios, workers, gate)
 }

@@ -60,19 +60,13 @@ impl BoardState {
         }
     }
 
-    // The history is legal, and only the desks 1 to 16 have calls in it.
-    pub(crate) fn facts(&self)
-        ensures legal { IsLegal self.now.airport self.now.opening self.now.history }
-        ensures desks { All (λ e. IsDesk e.0) self.now.history }
-        ensures length { length self.now.history ≤ 4096 }
-    {
-        let _entries = &self.entries;
-    }
-
-    /// How many calls there were.
+    /// How many calls there were, which desks 1 to 16 made. Each was answered as a day answers it after
+    /// those before it.
     pub fn calls(&self) -> usize
         ensures length { result ≡ length self.now.history }
         ensures bound { result ≤ 4096 }
+        ensures legal { IsLegal self.now.airport self.now.opening self.now.history }
+        ensures desks { All (λ e. IsDesk e.0) self.now.history }
     {
         self.entries.len()
     }

@@ -1,6 +1,7 @@
 pub mod RecordFacts
 pub mod RefusedLemmas
-pub mod QuotedLemmas
+pub mod WrittenLemmas
+mod WorkedRecords
 pub mod RunLemmas
 pub mod OutputLemmas
 pub mod ScenarioLemmas

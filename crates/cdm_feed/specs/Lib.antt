@@ -1,7 +1,7 @@
 pub mod Device
 pub mod Input
 pub mod Records
-pub mod Quoted
+pub mod Written
 pub mod Roles
 pub mod Fields
 pub mod Kinds

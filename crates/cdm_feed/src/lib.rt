@@ -28,7 +28,7 @@ pub use device::Device;
 pub use feed::read_feed;
 pub use file_fault::FileFault;
 pub use input::{INPUT_LIMIT, InputFault, read_input};
-pub use laws::{one_text, quoted_records_are_read_back};
+pub use laws::{one_text, records_are_read_back};
 pub use output::{WriteFault, write_text};
 pub use run_error::{Input, RunError};
 pub use runs::{RunCounts, run};

@@ -2,6 +2,7 @@
 ghost use Rattle.std.specs.Prelude.{◌≡◌, ◌+◌, ◌≤◌, ◌++◌, length, IfOk, IsPermutation, IsSortedByKey, sum_by};
 ghost use Rattle.std.specs.List.{filter_map, flat_map};
 ghost use Rattle.cdm_flight.specs.Names.{name_cmp};
+ghost use Rattle.cdm_sequence.specs.Slots.{PlanRecord};
 ghost use Rattle.cdm_plan.specs.Planning.{HasParts};
 ghost use Rattle.cdm_plan.specs.DayPlan.{IsDayPlan};
 ghost use Rattle.cdm_plan.specs.inner.Aimed.{early_among};
@@ -90,9 +91,10 @@ pub(crate) fn plan_together<D: Records>(
     Ok(plan)
 }
 
-/// The plan of the day that the records tell.
+/// The plan of the day that the records tell. No other plan is the day's.
 pub fn plan_of<D: Records>(alloc: Global, records: &D) -> Result<Plan, AllocError>
-    ensures { IfOk result (λ plan. IsDayPlan (D.day records.now) plan) }
+    ensures of_day { IfOk result (λ plan. IsDayPlan (D.day records.now) plan) }
+    ensures only { IfOk result (λ plan. (other : PlanRecord) → IsDayPlan (D.day records.now) other → other ≡ plan) }
 {
     let touched = Touched::none(alloc);
     let kept = Kept {

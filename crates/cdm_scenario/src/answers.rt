@@ -1,8 +1,9 @@
 //! The answers to scenarios.
-ghost use Rattle.std.specs.Prelude.{◌≡◌, ◌≤◌, IfOk, length};
+ghost use Rattle.std.specs.Prelude.{◌≡◌, ◌≤◌, List, IfOk, length};
 ghost use Rattle.std.specs.List.{AllZip};
 ghost use Rattle.cdm_phase.specs.declared.job.PhaseName.TheVariants.{Scenarios};
 ghost use Rattle.cdm_plan.specs.Sound.{IsSound};
+ghost use Rattle.cdm_scenario.specs.declared.outcome.Outcome.{Outcome as AnOutcome};
 ghost use Rattle.cdm_scenario.specs.Outcome.{IsOutcome};
 ghost use Rattle.cdm_scenario.specs.inner.OneOutcome.{one_outcome};
 
@@ -14,10 +15,13 @@ use std::alloc::{AllocError, Global};
 use std::thread::Threads;
 
 /// The plan and the indicators of the day after all updates of the scenario, or the first of them that
-/// is refused.
+/// is refused. The day has no other outcome by them.
 pub fn answer(alloc: Global, base: &DayState, scenario: &Scenario) -> Result<Outcome, AllocError>
-    ensures { IfOk result (λ outcome. IsOutcome base.now scenario.now.updates outcome) }
+    ensures of_day { IfOk result (λ outcome. IsOutcome base.now scenario.now.updates outcome) }
+    ensures only { IfOk result (λ outcome. (other : AnOutcome) → IsOutcome base.now scenario.now.updates other → other ≡ outcome) }
 {
+    // What the base's records tell is sound, which makes the answer the only one.
+    let _values = base.values();
     let mut overlay = Overlay::over(alloc, base);
     let updates = scenario.updates();
     for (place, update) in updates.iter().enumerate() {
@@ -61,7 +65,7 @@ impl Job for AnswerJob<'_> {
 
 /// The answers to the scenarios, in their order, by so many workers: each scenario is one piece, and
 /// every piece passes the gate once, in phase `Scenarios`. All answers stand on the base as it is, and
-/// none on another's updates.
+/// none on another's updates. The scenarios have no other answers.
 pub fn answer_all<R: Threads + Sync, G: Gate>(
     rt: &R,
     alloc: Global,
@@ -71,8 +75,10 @@ pub fn answer_all<R: Threads + Sync, G: Gate>(
     gate: &G,
 ) -> Result<Vec<Outcome>, AllocError>
     requires { length scenarios.now ≤ 64 }
-    ensures { IfOk result (λ outcomes.
+    ensures of_day { IfOk result (λ outcomes.
         AllZip (λ scenario outcome. IsOutcome base.now scenario.updates outcome) scenarios.now outcomes.items) }
+    ensures only { IfOk result (λ outcomes. (others : List AnOutcome) →
+        AllZip (λ scenario outcome. IsOutcome base.now scenario.updates outcome) scenarios.now others → others ≡ outcomes.items) }
 {
     // What the base's records tell is sound, which makes each answer the only one.
     let _values = base.values();

@@ -38,7 +38,6 @@ pub(crate) fn change_over(
 /// Sets a taxi time, of which there is room for its stand, in a copy of the base's taxi times where there
 /// are none of their own.
 pub(crate) fn set_over(
-    alloc: Global,
     own: &mut Option<TaxiTable>,
     base: &TaxiTable,
     place: Place,
@@ -52,7 +51,7 @@ pub(crate) fn set_over(
     match own {
         Some(taxi) => set_taxi(taxi, place, runway, minutes),
         None => {
-            let mut taxi = base.copy(alloc)?;
+            let mut taxi = base.copy()?;
             set_taxi(&mut taxi, place, runway, minutes)?;
             *own = Some(taxi);
             Ok(())

@@ -3,7 +3,7 @@ use Rattle.std.proofs.Common.{◌≡◌, ℕ, zero, suc, ◌+◌, ◌<◌, ◌�
 use Rattle.std.proofs.Common.{◌++◌, refl, sym, ap, ◌∙◌, subst, add-one, inl, inr, arith}
 use Rattle.std.specs.Prelude.{slice_get, if◌then◌else◌}
 use Rattle.std.specs.Option.{option_and_then}
-use Rattle.std.specs.List.{cons_option, IsDistinct}
+use Rattle.std.specs.List.{AllZip, cons_option, IsDistinct}
 use Rattle.std.proofs.lemmas.Bool.{cases_lt}
 use Rattle.std.proofs.lemmas.List.{append_assoc, append-nil}
 use Rattle.std.proofs.lemmas.Option.{slice_get-get_or}
@@ -75,3 +75,14 @@ module _ (d : DayRecord) (us : List Update) where
           λ i. Refused (number i) (word i)
     ]
   ]
+
+-- where each item has one answer, a list of items has one list of answers
+pub one_each : {X Y : Type 0} (R : X → Y → Type 0) → ((x : X) (y z : Y) → R x y → R x z → y ≡ z)
+    → (xs : List X) (ys zs : List Y) → AllZip R xs ys → AllZip R xs zs → ys ≡ zs
+one_each R one [] [] [] a b = refl
+one_each {X} {Y} R one (x ∷ xs) (y ∷ ys) (z ∷ zs) a b =
+    ap (λ (v : Y). v ∷ ys) (one x y z a.0 b.0) ∙ ap (λ vs. z ∷ vs) (one_each R one xs ys zs a.1 b.1)
+one_each R one [] (y ∷ ys) zs a b = absurd a
+one_each R one [] [] (z ∷ zs) a b = absurd b
+one_each R one (x ∷ xs) [] zs a b = absurd a
+one_each R one (x ∷ xs) (y ∷ ys) [] a b = absurd b

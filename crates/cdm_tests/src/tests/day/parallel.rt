@@ -6,7 +6,7 @@ use super::slots::{Line, assert_slots};
 use super::updates::{Short, batch_of};
 use crate::tests::days::day_with;
 use cdm_day::{DayState, Reply};
-use cdm_flight::{FlightName, Priority, Role, Update};
+use cdm_flight::{FlightName, Priority, RefusalWord, Role, Update};
 use cdm_phase::{Gate, PhaseName, Workers};
 use cdm_sequence::{Mark, Plan};
 use std::alloc::{AllocError, Global};
@@ -102,7 +102,25 @@ fn planned_day(alloc: Global) -> Result<DayState, Fail> {
     Ok(day)
 }
 
-/// So many workers plan the batch behind the gate. All its updates are accepted.
+/// So many workers plan the batch behind the gate. The replies to all its updates are this one.
+fn reply_to_all<R: Abort + Threads + Sync>(
+    rt: &R,
+    alloc: Global,
+    day: &mut DayState,
+    batch: &[(Role, Update)],
+    reply: Reply,
+    workers: usize,
+    gate: &Meeting,
+) -> Result<(), Fail> {
+    let workers = Workers::new(workers).ok_or("no workers")?;
+    let replies = day.apply_all(rt, alloc, batch, workers, gate)?;
+    assert_eq!(rt; replies.len(), batch.len());
+    assert!(rt; replies.iter().all(|given| *given == reply));
+    assert!(rt; !gate.missed.load(Ordering::SeqCst));
+    Ok(())
+}
+
+/// The same, where all updates are accepted.
 fn accept_all<R: Abort + Threads + Sync>(
     rt: &R,
     alloc: Global,
@@ -111,12 +129,7 @@ fn accept_all<R: Abort + Threads + Sync>(
     workers: usize,
     gate: &Meeting,
 ) -> Result<(), Fail> {
-    let workers = Workers::new(workers).ok_or("no workers")?;
-    let replies = day.apply_all(rt, alloc, batch, workers, gate)?;
-    assert_eq!(rt; replies.len(), batch.len());
-    assert!(rt; replies.iter().all(|reply| *reply == Reply::Accepted));
-    assert!(rt; !gate.missed.load(Ordering::SeqCst));
-    Ok(())
+    reply_to_all(rt, alloc, day, batch, Reply::Accepted, workers, gate)
 }
 
 const ON_TWO_RUNWAYS: [Short; 6] = [
@@ -176,24 +189,27 @@ fn each_piece_passes_once(rt: HostRuntime) -> Result<(), Fail> {
 }
 
 /// Only touched runways are pieces: that of a flight, those before and after its move, all after a
-/// CLOCK, and none of an empty batch.
+/// CLOCK. A batch of which nothing is accepted, and one without updates, plan nothing.
 #[test]
 fn touched_runways_are_the_pieces(rt: HostRuntime) -> Result<(), Fail> {
+    let unknown = Reply::Refused(RefusalWord::Unknown);
     let prio: [Short; 1] = [("PRIO", "AB1", "27L", 1)];
-    let table: [(&[Short], [usize; 2]); 4] = [
-        (&prio, [1, 0]),
-        (&[("RWY", "AB2", "27L", 0)], [1, 1]),
-        (&[("CLOCK", "AB1", "27L", 300)], [1, 1]),
-        (&[], [0, 0]),
+    let table: [(&[Short], Reply, usize, [usize; 2]); 5] = [
+        (&prio, Reply::Accepted, 1, [1, 0]),
+        (&[("RWY", "AB2", "27L", 0)], Reply::Accepted, 1, [1, 1]),
+        (&[("CLOCK", "AB1", "27L", 300)], Reply::Accepted, 1, [1, 1]),
+        (&[("TOBT", "AB3", "27L", 300)], unknown, 0, [0, 0]),
+        (&[], Reply::Accepted, 0, [0, 0]),
     ];
     for workers in [1, 2, 7, 64] {
-        for (updates, counts) in table {
+        for (updates, reply, targets, runways) in table {
             let mut day = planned_day(rt.alloc())?;
             let batch = batch_of(rt.alloc(), updates)?;
             let gate = Meeting::of(PhaseName::Desks);
-            accept_all(&rt, rt.alloc(), &mut day, &batch, workers, &gate)?;
-            assert_eq!(rt; gate.count(PhaseName::Runways, 0), counts[0]);
-            assert_eq!(rt; gate.count(PhaseName::Runways, 1), counts[1]);
+            reply_to_all(&rt, rt.alloc(), &mut day, &batch, reply, workers, &gate)?;
+            assert_eq!(rt; gate.count(PhaseName::Targets, 0), targets);
+            assert_eq!(rt; gate.count(PhaseName::Runways, 0), runways[0]);
+            assert_eq!(rt; gate.count(PhaseName::Runways, 1), runways[1]);
             assert_eq!(rt; gate.others.load(Ordering::SeqCst), 0);
         }
     }

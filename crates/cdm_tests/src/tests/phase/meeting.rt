@@ -56,6 +56,7 @@ fn as_many_pieces_run_side_by_side_as_there_are_workers(rt: HostRuntime) -> Resu
     let table = [
         (2, 2, 10_000_000, false),
         (7, 7, 10_000_000, false),
+        (64, 64, 10_000_000, false),
         (1, 2, 2_000, true),
         (2, 3, 2_000, true),
     ];

@@ -41,6 +41,7 @@ returns-then-not-began_from c =
     let a = c.as_slice-2.ensures.value ∙ (ap (λ (v : Vec Update). v.items) c.deref-2.ensures ∙ ap (λ (b : Opened). b.opening) c.board.view_is) in (
       refl,
       same_desks _ _ _ _ n c.as_slice.ensures.value (c.are_numbered.ensures.0 c.if-not-are_numbered.false),
+      c.calls-calls.ensures.legal,
       λ began. not_so c.began_from.result c.if-not-began_from.true c.began_from.ensures.1 (began.0 ∙ sym g, began.1 ∙ sym a),
     )
 
@@ -52,6 +53,7 @@ returns-in-Some c =
     let began = c.began_from.ensures.0 c.if-not-began_from.false in (
       refl,
       same_desks _ _ _ _ n c.as_slice.ensures.value (c.are_numbered.ensures.0 c.if-not-are_numbered.false),
+      c.calls-calls.ensures.legal,
       began.0 ∙ g,
       began.1 ∙ a,
       rw (← c.as_slice-3.ensures.value) (found c.mismatch.result (c.in-Some.desk, c.in-Some.receipt) _ (λ p. IsMismatch c.into_inner-state.result.history c.as_slice-3.result.now p.0 p.1) c.mismatch.ensures c.in-Some.is),
@@ -65,5 +67,5 @@ returns c =
     let began = c.began_from.ensures.0 c.if-not-began_from.false in
     closed c.args.board c.args.desks.items c.into_inner-state.result c.into_parts.result.0 c.into_parts.result.1
     (same_desks _ _ _ _ n c.as_slice.ensures.value (c.are_numbered.ensures.0 c.if-not-are_numbered.false))
-    (began.0 ∙ g) (began.1 ∙ a) c.into_parts.ensures.history c.into_parts.ensures.day c.facts.ensures.legal
+    (began.0 ∙ g) (began.1 ∙ a) c.into_parts.ensures.history c.into_parts.ensures.day c.calls-calls.ensures.legal
     (rw (← c.as_slice-3.ensures.value) c.in_default.ensures)
