@@ -48,20 +48,23 @@ whole-line x more end tail =
     ∙ (in-quotes [] x (after_commas more ++ (end_of end ++ tail)) ∙ rest-of-line [] x more end tail)
 
 -- a line feed after a record is passed over
-after-end : (n : ℕ) (end : LineEnd) (tail : List ℕ) → records_from default_config n (state_after end) (bytes_after end tail) ≡ records_from default_config n st.StartRecord tail
+after-end : (n : ℕ) (end : LineEnd) (tail : List ℕ)
+    → records_from default_config n (state_after end) (bytes_after end tail) ≡ records_from default_config n st.StartRecord tail
 unfolding records_from next_record
 after-end n Lf tail = refl
 after-end zero CrLf tail = refl
 after-end (suc n) CrLf tail = refl
 
 -- a blank line is passed over
-blank-line : (n : ℕ) (end : LineEnd) (tail : List ℕ) → records_from default_config n st.StartRecord (end_of end ++ tail) ≡ records_from default_config n st.StartRecord tail
+blank-line : (n : ℕ) (end : LineEnd) (tail : List ℕ)
+    → records_from default_config n st.StartRecord (end_of end ++ tail) ≡ records_from default_config n st.StartRecord tail
 unfolding records_from next_record
 blank-line zero end tail = refl
 blank-line (suc n) Lf tail = refl
 blank-line (suc n) CrLf tail = refl
 
-lines-read : (n : ℕ) (lines : List Line) → length (flat_map line_text lines) < n → records_from default_config n st.StartRecord (flat_map line_text lines) ≡ filter_map line_record lines
+lines-read : (n : ℕ) (lines : List Line) → length (flat_map line_text lines) < n
+    → records_from default_config n st.StartRecord (flat_map line_text lines) ≡ filter_map line_record lines
 unfolding records_from next_record
 lines-read zero lines few = absurd (omega arith)
 lines-read (suc n) [] few = refl
