@@ -1,15 +1,16 @@
 -- A run has one text.
-use Rattle.std.proofs.Common.{◌≡◌, ◌++◌, ◌∙◌, ◌||◌, ℕ, ◌+◌, Bool, true, false, List, [], ◌∷◌, Option, None, Some, Result, Ok, Err, IfOk, refl, sym, ap, subst}
-use Rattle.std.specs.Prelude.{⊤, if◌then◌else◌, is_none, unwrap_or}
-use Rattle.std.specs.Result.{result_map_both, result_ok}
-use Rattle.std.specs.List.{AllZip, concat, cons_option, list_any, IsDistinct}
-use Rattle.std.specs.Option.{option_map_or}
-use Rattle.cdm_flight.specs.Accepted.{accepted, after_one, refusal, refusal_of}
+use Rattle.std.proofs.Common.{◌≡◌, ◌++◌, ◌∙◌, ℕ, ◌+◌, List, [], ◌∷◌, Option, None, Some, Result, Ok, Err, IfOk, refl, sym, subst}
+use Rattle.std.specs.Prelude.{⊤, if◌then◌else◌, is_none}
+use Rattle.std.specs.Result.{result_map_both}
+use Rattle.std.specs.List.{AllZip, concat, IsDistinct}
+use Rattle.std.specs.Option.{ok_or}
+use Rattle.cdm_flight.specs.Accepted.{accepted, after_one, refusal}
 use Rattle.cdm_flight.specs.Journal.{AirportRows}
 use Rattle.cdm_flight.specs.Names.{same_name}
 use Rattle.cdm_flight.specs.declared.role.Role.{Role}
 use Rattle.cdm_flight.specs.declared.update.Update.{Update}
 use Rattle.cdm_flight.specs.declared.word.RefusalWord.{RefusalWord}
+use Rattle.cdm_flight.specs.declared.word.RefusalWord.TheVariants.{Order}
 use Rattle.cdm_day.specs.Airport.{with_runway, with_taxi}
 use Rattle.cdm_plan.specs.Airport.{IsAirport, runway_names}
 use Rattle.cdm_plan.specs.Day.{DayRecord, flights_in}
@@ -17,7 +18,7 @@ use Rattle.cdm_plan.proofs.OnePlanLemmas.{one_day_plan}
 use Rattle.cdm_day.proofs.BatchLemmas.{good_from}
 use Rattle.cdm_day.proofs.AirportLemmas.{airport_after_runway, airport_after_taxi, airport_without_rows}
 use Rattle.cdm_plan.proofs.JournalFacts.{names_after}
-use Rattle.cdm_feed.specs.AirportFile.{airport_in, begun, with_record}
+use Rattle.cdm_feed.specs.AirportFile.{airport_in, with_record}
 use Rattle.cdm_feed.specs.AirportRecords.{airport_record_of}
 use Rattle.cdm_feed.specs.Fields.{and_then, of_one}
 use Rattle.cdm_feed.specs.Files.{after_records}
@@ -37,7 +38,8 @@ use Rattle.cdm_feed.specs.declared.airport_record.AirportRecord.TheVariants.{Day
 
 -- Each flight becomes known once.
 
-taken-or_not : (g : AirportRows) (a : List Update) (p : Role × Update) → IsDistinct same_name (flights_in a) → IsDistinct same_name (flights_in (after_one g a p))
+taken-or_not : (g : AirportRows) (a : List Update) (p : Role × Update) → IsDistinct same_name (flights_in a)
+    → IsDistinct same_name (flights_in (after_one g a p))
 taken-or_not g a p own = by (refusal g a p.0 p.1) refl
   where
     by : (o : Option RefusalWord) → refusal g a p.0 p.1 ≡ o → IsDistinct same_name (flights_in (if is_none o then a ++ p.1 ∷ [] else a))
@@ -80,7 +82,8 @@ fields-kept s fields k = by (airport_record_of fields)
     by (Ok said) = record-kept s said k
     by (Err word) = tt
 
-records-kept : (s : Option AirportRows) (number : ℕ) (records : List (List (List ℕ))) → Keeps s → IfOk (after_records airport_record_of with_record s number records) Keeps
+records-kept : (s : Option AirportRows) (number : ℕ) (records : List (List (List ℕ))) → Keeps s
+    → IfOk (after_records airport_record_of with_record s number records) Keeps
 unfolding after_records
 records-kept s number [] k = k
 records-kept s number (fields ∷ later) k = by (λ next. records-kept next (number + 1) later) (and_then (airport_record_of fields) (with_record s)) (fields-kept s fields k)
@@ -91,15 +94,16 @@ records-kept s number (fields ∷ later) k = by (λ next. records-kept next (num
     by more (Ok next) h = more next h
     by more (Err word) h = tt
 
-begun-kept : (r : Result (Option AirportRows) (ℕ × RefusalWord)) → IfOk r Keeps → IfOk (begun r) IsAirport
-begun-kept (Ok (Some g)) h = h
-begun-kept (Ok None) h = tt
-begun-kept (Err fault) h = tt
+began-kept : (r : Result (Option AirportRows) (ℕ × RefusalWord)) (fault : ℕ × RefusalWord) → IfOk r Keeps
+    → IfOk (and_then r (λ rows. ok_or rows fault)) IsAirport
+began-kept (Ok (Some g)) fault h = h
+began-kept (Ok None) fault h = tt
+began-kept (Err other) fault h = tt
 
 pub own_runways : (text : List ℕ) (g : AirportRows) → airport_in text ≡ Ok g → IsDistinct same_name (runway_names g)
 unfolding airport_in
 own_runways text g h =
-    let kept = begun-kept (after_records airport_record_of with_record None 1 (records_of text)) (records-kept None 1 (records_of text) tt) in
+    let kept = began-kept (after_records airport_record_of with_record None 1 (records_of text)) (1, Order) (records-kept None 1 (records_of text) tt) in
     let airport : IsAirport g = subst (λ (r : Result AirportRows (ℕ × RefusalWord)). IfOk r IsAirport) h kept in
     airport.names
 
@@ -109,10 +113,8 @@ none_distinct : IsDistinct same_name []
 unfolding IsDistinct
 none_distinct = tt
 
-same-airport : (r : Result AirportRows (ℕ × RefusalWord)) (x y : AirportRows) → r ≡ Ok x → r ≡ Ok y → x ≡ y
-same-airport r x y a b =
-    let said : Result AirportRows (ℕ × RefusalWord) → AirportRows = λ q. unwrap_or (result_ok q) x in
-    sym (ap said a) ∙ ap said b
+same-ok : {T E : Type 0} (r : Result T E) (x y : T) → r ≡ Ok x → r ≡ Ok y → x ≡ y
+same-ok r x y a b = cc
 
 own_journal : (g : AirportRows) (feed : List ℕ) → IsDistinct same_name (flights_in (accepted_in g feed))
 unfolding accepted_in
@@ -140,16 +142,11 @@ one-report airport g feed questions x y is a b =
     one-answers (IsAnswer day (counts_of a.plan)) (λ s. one_answer day (counts_of a.plan) s runways flights) questions a.answers b.answers a.of_scenarios also in
     a.bytes ∙ (λ i. report_bytes g.day (plans i) (refusals_in g feed) ++ concat (answers i)) ∙ sym b.bytes
 
-same-scenarios : (r : Result (List ScenarioRecord) (ℕ × RefusalWord)) (x y : List ScenarioRecord) → r ≡ Ok x → r ≡ Ok y → x ≡ y
-same-scenarios r x y a b =
-    let said : Result (List ScenarioRecord) (ℕ × RefusalWord) → List ScenarioRecord = λ q. unwrap_or (result_ok q) x in
-    sym (ap said a) ∙ ap said b
-
 pub one-output : (airport feed scenarios x y : List ℕ) (c d : RunCounts) → IsOutput airport feed scenarios x c → IsOutput airport feed scenarios y d → x ≡ y
 one-output airport feed scenarios x y c d a b =
-    let same : b.rows ≡ a.rows = same-airport (airport_in airport) b.rows a.rows b.airport_file a.airport_file in
+    let same : b.rows ≡ a.rows = same-ok (airport_in airport) b.rows a.rows b.airport_file a.airport_file in
     let file : scenarios_in a.rows.day scenarios ≡ Ok b.questions =
     subst (λ (g : AirportRows). scenarios_in g.day scenarios ≡ Ok b.questions) same b.scenario_file in
-    let asked : b.questions ≡ a.questions = same-scenarios (scenarios_in a.rows.day scenarios) b.questions a.questions file a.scenario_file in
+    let asked : b.questions ≡ a.questions = same-ok (scenarios_in a.rows.day scenarios) b.questions a.questions file a.scenario_file in
     let report : IsReport a.rows feed b.questions y = subst (λ (g : AirportRows). IsReport g feed b.questions y) same b.report in
     one-report airport a.rows feed a.questions x y a.airport_file a.report (subst (λ (q : List ScenarioRecord). IsReport a.rows feed q y) asked report)

@@ -1,130 +1,119 @@
 -- Faults of a run.
-use Rattle.std.proofs.Common.{◌≡◌, ℕ, suc, Bool, arith, List, [], ◌∷◌, Option, None, Some, IfSome, Result, Ok, Err, false, refl, sym, ap, subst, ◌∙◌, length}
-use Rattle.std.specs.Result.{IsOkAnd, is_ok, IsOk}
-use Rattle.cdm_flight.specs.Accepted.{after_one, replies_to}
+use Rattle.std.proofs.Common.{◌≡◌, ℕ, Bool, arith, List, [], Option, None, Some, IfSome, Result, Ok, Err, false, refl, sym, ap, subst, ◌∙◌, inl, inr}
+use Rattle.std.specs.Result.{IsOk, IsOkAnd, is_ok}
 use Rattle.cdm_flight.specs.Journal.{AirportRows}
-use Rattle.cdm_flight.specs.declared.role.Role.{Role}
-use Rattle.cdm_flight.specs.declared.update.Update.{Update}
 use Rattle.cdm_flight.specs.declared.word.RefusalWord.{RefusalWord}
 use Rattle.cdm_scenario.specs.Scenarios.{ScenarioRecord}
 use Rattle.std.proofs.lemmas.Option.{IfSome_then}
 use Rattle.std.specs.Io.KnownBytes.{Consumes}
 use Rattle.cdm_feed.specs.AirportFile.{airport_in}
-use Rattle.cdm_feed.specs.RunFaults.{AreRead, IsFirstFault, IsRead, IsUnfailed, Reading, is_write_fault}
+use Rattle.cdm_feed.specs.CommonFaults.{IsAirportFault, IsFirstCommonFault, IsFirstInputFault, IsInputFault}
+use Rattle.cdm_feed.specs.Readings.{AreRead, IfTold, IsRead, IsUnfailed, Reading}
+use Rattle.cdm_feed.specs.RunFaults.{Asks, IsFirstFault}
 use Rattle.cdm_feed.specs.ScenarioFile.{scenarios_in}
-use Rattle.cdm_feed.specs.inner.Faults.{AreFiles, IsBeforeWriting, IsFaultyScenario, IsInputFault, IsRecordFault, IsScenarioFault}
-use Rattle.cdm_feed.specs.declared.run_error.Input.{Input}
-use Rattle.cdm_feed.specs.declared.run_error.Input.TheVariants.{Airport, Feed, Scenarios}
+use Rattle.cdm_feed.specs.inner.Faults.{IsRecordFault, IsScenarioFault}
+use Rattle.cdm_feed.specs.declared.common_fault.CommonFault.{CommonFault}
+use Rattle.cdm_feed.specs.declared.common_fault.CommonFault.TheVariants as common
+use Rattle.cdm_feed.specs.declared.common_fault.Input.{Input}
 use Rattle.cdm_feed.specs.declared.run_error.RunError.{RunError}
 use Rattle.cdm_feed.specs.declared.run_error.RunError.TheVariants as error
 
--- there is a reply to each update
-pub replies_to-length : (g : AirportRows) (a : List Update) (batch : List (Role × Update)) → length (replies_to g a batch) ≡ length batch
-unfolding replies_to
-replies_to-length g a [] = refl
-replies_to-length g a (p ∷ later) = ap suc (replies_to-length g (after_one g a p) later)
-
--- a fault of the records comes before the writing
-pub record_fault-before : (airport scenarios : List ℕ) (e : RunError) → IsRecordFault airport scenarios e → IsBeforeWriting e
-record_fault-before airport scenarios (error.Read input) f = cc
-record_fault-before airport scenarios (error.TooLong input) f = cc
-record_fault-before airport scenarios (error.Airport number word) f = cc
-record_fault-before airport scenarios (error.Scenario number word) f = cc
-record_fault-before airport scenarios error.Memory f = cc
-record_fault-before airport scenarios error.Write f = absurd f
-
--- a fault that comes before the writing is none of it
-pub before-no_write_fault : (T : Type 0) (e : RunError) → IsBeforeWriting e → is_write_fault {T = T} (Err e) ≡ false
-before-no_write_fault T (error.Read input) b = refl
-before-no_write_fault T (error.TooLong input) b = refl
-before-no_write_fault T (error.Airport number word) b = refl
-before-no_write_fault T (error.Scenario number word) b = refl
-before-no_write_fault T error.Memory b = refl
-before-no_write_fault T error.Write b = absurd b
-
--- a fault of the records of whole inputs is the first
-pub record_fault-first : (a f s : Reading) (airport scenarios : List ℕ) (e : RunError) → AreRead a f s
-    → IfSome a.before (λ bytes. airport ≡ bytes) → IfSome s.before (λ bytes. scenarios ≡ bytes)
-    → IsRecordFault airport scenarios e → IsFirstFault a f s e
-record_fault-first a f s airport scenarios (error.Read input) read as_airport as_scenarios fault = absurd fault
-record_fault-first a f s airport scenarios (error.TooLong input) read as_airport as_scenarios fault = absurd fault
-record_fault-first a f s airport scenarios (error.Airport number word) read as_airport as_scenarios fault =
-    (read, IfSome_then a.before as_airport (λ bytes is. sym (ap airport_in is) ∙ fault))
-record_fault-first a f s airport scenarios (error.Scenario number word) read as_airport as_scenarios fault = (
-  read,
-  IfSome_then a.before as_airport (λ x is. IfSome_then s.before as_scenarios (λ y also.
-      subst (λ (bytes : List ℕ). IsFaultyScenario bytes y number word) is (subst (λ (bytes : List ℕ). IsFaultyScenario airport bytes number word) also fault))),
-)
-record_fault-first a f s airport scenarios error.Memory read as_airport as_scenarios fault =
-    (read.0.unfailed, read.1.unfailed, read.2.unfailed)
-record_fault-first a f s airport scenarios error.Write read as_airport as_scenarios fault = absurd fault
-
 -- an input that isn't read yet is unfailed
-pub unread-unfailed : (left : Option (List ℕ)) (failed : Bool) → failed ≡ false → IsUnfailed (record { before = left; after = left; failed = failed })
-unread-unfailed left failed sound = record { sound = sound; within = ([], kept left, omega arith) } where
+pub unread-unfailed : (name : Input) (left : Option (List ℕ)) (failed : Bool) → failed ≡ false
+    → IsUnfailed (record { name = name; before = left; after = left; failed = failed })
+unread-unfailed name left failed sound = (sound, ([], kept left, omega arith)) where
   kept : (o : Option (List ℕ)) → Consumes o o []
   kept None = tt
   kept (Some bytes) = refl
 
 -- a fault of an input is the first, where those before it were read and those after it not yet
-pub airport_fault-first : (a f s : Reading) (e : RunError) → IsInputFault a Airport e → IsUnfailed f → IsUnfailed s → IsFirstFault a f s e
-airport_fault-first a f s (error.Read input) fault rest last = subst (λ (i : Input). IsFirstFault a f s (error.Read i)) (sym fault.0) fault.1
-airport_fault-first a f s (error.TooLong input) fault rest last = subst (λ (i : Input). IsFirstFault a f s (error.TooLong i)) (sym fault.0) fault.1
-airport_fault-first a f s (error.Airport number word) fault rest last = absurd fault
-airport_fault-first a f s (error.Scenario number word) fault rest last = absurd fault
-airport_fault-first a f s error.Memory fault rest last = (fault, rest, last)
-airport_fault-first a f s error.Write fault rest last = absurd fault
+pub airport_fault-first : (a s t : Reading) (e : CommonFault) → IsInputFault a e → IsUnfailed s → IsUnfailed t → IsFirstInputFault a s t e
+airport_fault-first a s t (common.Read name) fault next last = inl fault
+airport_fault-first a s t (common.TooLong name) fault next last = inl fault
+airport_fault-first a s t (common.Airport number word) fault next last = absurd fault
+airport_fault-first a s t common.Memory fault next last = (fault, next, last)
+airport_fault-first a s t common.Write fault next last = absurd fault
 
-pub feed_fault-first : (a f s : Reading) (e : RunError) → IsRead a → IsInputFault f Feed e → IsUnfailed s → IsFirstFault a f s e
-feed_fault-first a f s (error.Read input) read fault rest = subst (λ (i : Input). IsFirstFault a f s (error.Read i)) (sym fault.0) (read, fault.1)
-feed_fault-first a f s (error.TooLong input) read fault rest = subst (λ (i : Input). IsFirstFault a f s (error.TooLong i)) (sym fault.0) (read, fault.1)
-feed_fault-first a f s (error.Airport number word) read fault rest = absurd fault
-feed_fault-first a f s (error.Scenario number word) read fault rest = absurd fault
-feed_fault-first a f s error.Memory read fault rest = (read.unfailed, fault, rest)
-feed_fault-first a f s error.Write read fault rest = absurd fault
+pub second_fault-first : (a s t : Reading) (e : CommonFault) → IsRead a → IsInputFault s e → IsUnfailed t → IsFirstInputFault a s t e
+second_fault-first a s t (common.Read name) read fault last = inr (read, inl fault)
+second_fault-first a s t (common.TooLong name) read fault last = inr (read, inl fault)
+second_fault-first a s t (common.Airport number word) read fault last = absurd fault
+second_fault-first a s t common.Memory read fault last = (read.unfailed, fault, last)
+second_fault-first a s t common.Write read fault last = absurd fault
 
-pub scenarios_fault-first : (a f s : Reading) (e : RunError) → IsRead a → IsRead f → IsInputFault s Scenarios e → IsFirstFault a f s e
-scenarios_fault-first a f s (error.Read input) read feed_read fault = subst (λ (i : Input). IsFirstFault a f s (error.Read i)) (sym fault.0) (read, feed_read, fault.1)
-scenarios_fault-first a f s (error.TooLong input) read feed_read fault = subst (λ (i : Input). IsFirstFault a f s (error.TooLong i)) (sym fault.0) (read, feed_read, fault.1)
-scenarios_fault-first a f s (error.Airport number word) read feed_read fault = absurd fault
-scenarios_fault-first a f s (error.Scenario number word) read feed_read fault = absurd fault
-scenarios_fault-first a f s error.Memory read feed_read fault = (read.unfailed, feed_read.unfailed, fault)
-scenarios_fault-first a f s error.Write read feed_read fault = absurd fault
+pub third_fault-first : (a s t : Reading) (e : CommonFault) → IsRead a → IsRead s → IsInputFault t e → IsFirstInputFault a s t e
+third_fault-first a s t (common.Read name) read also fault = inr (read, inr (also, fault))
+third_fault-first a s t (common.TooLong name) read also fault = inr (read, inr (also, fault))
+third_fault-first a s t (common.Airport number word) read also fault = absurd fault
+third_fault-first a s t common.Memory read also fault = (read.unfailed, also.unfailed, fault)
+third_fault-first a s t common.Write read also fault = absurd fault
 
--- where the inputs were read and have good records, a failed write is the first fault
-pub write_fault-first : (a f s : Reading) (airport scenarios : List ℕ) → AreRead a f s
-    → IfSome a.before (λ bytes. airport ≡ bytes) → IfSome s.before (λ bytes. scenarios ≡ bytes)
-    → AreFiles airport scenarios → IsFirstFault a f s error.Write
-write_fault-first a f s airport scenarios read as_airport as_scenarios files = (
-  read,
-  IfSome_then a.before as_airport (λ x is. IfSome_then s.before as_scenarios (λ y also.
-      subst (λ (bytes : List ℕ). AreFiles bytes y) is (subst (AreFiles airport) also files))),
-)
+-- a fault of the inputs is the first, whatever is asked of them
+pub input_fault-first : (a s t : Reading) (Good : Type 0) (e : CommonFault) → IsFirstInputFault a s t e → IsFirstCommonFault a s t Good e
+input_fault-first a s t Good (common.Read name) fault = fault
+input_fault-first a s t Good (common.TooLong name) fault = fault
+input_fault-first a s t Good (common.Airport number word) fault = absurd fault
+input_fault-first a s t Good common.Memory fault = fault
+input_fault-first a s t Good common.Write fault = absurd fault
 
--- a fault of the scenario file is one of the records, where there is an airport
-pub scenario_fault-record : (airport scenarios : List ℕ) (g : AirportRows) (e : RunError) → airport_in airport ≡ Ok g → IsScenarioFault g.day scenarios e → IsRecordFault airport scenarios e
-scenario_fault-record airport scenarios g (error.Read input) file fault = absurd fault
-scenario_fault-record airport scenarios g (error.TooLong input) file fault = absurd fault
-scenario_fault-record airport scenarios g (error.Airport number word) file fault = absurd fault
-scenario_fault-record airport scenarios g (error.Scenario number word) file fault =
-    subst (λ (r : Result AirportRows (ℕ × RefusalWord)). IsOkAnd r (λ h. scenarios_in h.day scenarios ≡ Err (number, word))) (sym file) fault
-scenario_fault-record airport scenarios g error.Memory file fault = cc
-scenario_fault-record airport scenarios g error.Write file fault = absurd fault
-
--- files that make an airport and scenarios are accepted
-pub files-accepted : (airport scenarios : List ℕ) (g : AirportRows) (questions : List ScenarioRecord) → airport_in airport ≡ Ok g → scenarios_in g.day scenarios ≡ Ok questions → AreFiles airport scenarios
-files-accepted airport scenarios g questions file asked =
-    subst (λ (r : Result AirportRows (ℕ × RefusalWord)). IsOkAnd r (λ h. IsOk (scenarios_in h.day scenarios))) (sym file) (ap is_ok asked)
+-- and so is a fault of the airport file, where they were read
+pub airport_record-first : (a s t : Reading) (Good : Type 0) (airport : List ℕ) (e : CommonFault) → AreRead a s t
+    → IfSome a.before (λ bytes. airport ≡ bytes) → IsAirportFault airport e → IsFirstCommonFault a s t Good e
+airport_record-first a s t Good airport (common.Read name) read is fault = absurd fault
+airport_record-first a s t Good airport (common.TooLong name) read is fault = absurd fault
+airport_record-first a s t Good airport (common.Airport number word) read is fault =
+    (read, IfSome_then a.before is (λ bytes same. sym (ap airport_in same) ∙ fault))
+airport_record-first a s t Good airport common.Memory read is fault = (read.0.unfailed, read.1.unfailed, read.2.unfailed)
+airport_record-first a s t Good airport common.Write read is fault = absurd fault
 
 -- what is said of the bytes that were read is said of the inputs
-pub of_inputs : (P : List ℕ → List ℕ → List ℕ → Type 0) (a f s : Option (List ℕ)) (airport feed scenarios : List ℕ)
-    → IfSome a (λ bytes. airport ≡ bytes) → IfSome f (λ bytes. feed ≡ bytes) → IfSome s (λ bytes. scenarios ≡ bytes)
-    → P airport feed scenarios → IfSome a (λ x. IfSome f (λ y. IfSome s (P x y)))
-of_inputs P a f s airport feed scenarios as_airport as_feed as_scenarios p =
-    IfSome_then a as_airport (λ x is_airport. IfSome_then f as_feed (λ y is_feed. IfSome_then s as_scenarios (λ z is_scenarios.
-    subst (λ (bytes : List ℕ). P bytes y z) is_airport (subst (λ (bytes : List ℕ). P airport bytes z) is_feed (subst (P airport feed) is_scenarios p)))))
+of_both : (P : List ℕ → List ℕ → Type 0) (a s : Option (List ℕ)) (airport scenarios : List ℕ)
+    → IfSome a (λ bytes. airport ≡ bytes) → IfSome s (λ bytes. scenarios ≡ bytes)
+    → P airport scenarios → IfSome a (λ x. IfSome s (P x))
+of_both P a s airport scenarios is also p =
+    IfSome_then a is (λ x same. IfSome_then s also (λ y so. subst (λ (bytes : List ℕ). P bytes y) same (subst (P airport) so p)))
 
--- what holds of all bytes holds of those that a reader has left
-pub of_known : {P : List ℕ → Type 0} (o : Option (List ℕ)) → ((bytes : List ℕ) → P bytes) → IfSome o P
-of_known None p = tt
-of_known (Some bytes) p = p bytes
+pub of_inputs : (P : List ℕ → List ℕ → List ℕ → Type 0) (a s t : Option (List ℕ)) (airport second third : List ℕ)
+    → IfSome a (λ bytes. airport ≡ bytes) → IfSome s (λ bytes. second ≡ bytes) → IfSome t (λ bytes. third ≡ bytes)
+    → P airport second third → IfTold a s t P
+of_inputs P a s t airport second third as_airport as_second as_third p =
+    IfSome_then a as_airport (λ x is. of_both (P x) s t second third as_second as_third (subst (λ (bytes : List ℕ). P bytes second third) is p))
+
+-- what holds of all bytes holds of those that readers have left
+pub of_known : (P : List ℕ → List ℕ → List ℕ → Type 0) (a s t : Option (List ℕ)) → ((x y z : List ℕ) → P x y z) → IfTold a s t P
+of_known P None s t p = tt
+of_known P (Some x) None t p = tt
+of_known P (Some x) (Some y) None p = tt
+of_known P (Some x) (Some y) (Some z) p = p x y z
+
+-- what the scenario file of an airport says
+asks : (Said : Result (List ScenarioRecord) (ℕ × RefusalWord) → Type 0) (airport scenarios : List ℕ) (g : AirportRows)
+    → airport_in airport ≡ Ok g → Said (scenarios_in g.day scenarios) → Asks Said airport scenarios
+asks Said airport scenarios g file said =
+    subst (λ (r : Result AirportRows (ℕ × RefusalWord)). IsOkAnd r (λ h. Said (scenarios_in h.day scenarios))) (sym file) said
+
+-- a fault of the records of whole inputs is the first
+pub record_fault-first : (a f s : Reading) (airport scenarios : List ℕ) (e : RunError) → AreRead a f s
+    → IfSome a.before (λ bytes. airport ≡ bytes) → IfSome s.before (λ bytes. scenarios ≡ bytes)
+    → IsRecordFault airport scenarios e → IsFirstFault a f s e
+record_fault-first a f s airport scenarios (error.Common e) read is also fault = airport_record-first a f s _ airport e read is fault
+record_fault-first a f s airport scenarios (error.Scenario number word) read is also fault =
+    (read, of_both (Asks (λ said. said ≡ Err (number, word))) a.before s.before airport scenarios is also fault)
+
+-- where the inputs were read and have good records, a failed write is the first fault
+pub write_fault-first : (a f s : Reading) (airport scenarios : List ℕ) (g : AirportRows) (questions : List ScenarioRecord) → AreRead a f s
+    → IfSome a.before (λ bytes. airport ≡ bytes) → IfSome s.before (λ bytes. scenarios ≡ bytes)
+    → airport_in airport ≡ Ok g → scenarios_in g.day scenarios ≡ Ok questions → IsFirstFault a f s (error.Common common.Write)
+write_fault-first a f s airport scenarios g questions read is also file asked =
+    (read, of_both (Asks IsOk) a.before s.before airport scenarios is also (asks IsOk airport scenarios g file (ap is_ok asked)))
+
+-- a fault of the scenario file is one of the records, where there is an airport
+pub scenario_fault-record : (airport scenarios : List ℕ) (g : AirportRows) (e : RunError) → airport_in airport ≡ Ok g
+    → IsScenarioFault g.day scenarios e → IsRecordFault airport scenarios e
+scenario_fault-record airport scenarios g (error.Common (common.Read name)) file fault = absurd fault
+scenario_fault-record airport scenarios g (error.Common (common.TooLong name)) file fault = absurd fault
+scenario_fault-record airport scenarios g (error.Common (common.Airport number word)) file fault = absurd fault
+scenario_fault-record airport scenarios g (error.Common common.Memory) file fault = fault
+scenario_fault-record airport scenarios g (error.Common common.Write) file fault = absurd fault
+scenario_fault-record airport scenarios g (error.Scenario number word) file fault =
+    asks (λ said. said ≡ Err (number, word)) airport scenarios g file fault

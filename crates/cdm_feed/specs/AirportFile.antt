@@ -1,11 +1,12 @@
 -- The airport that a file says.
 use Rattle.std.specs.Prelude.{ℕ, List, [], Option, None, Some, Result, Ok, Err}
+use Rattle.std.specs.Option.{ok_or}
 use Rattle.std.specs.FinMap as map
 use Rattle.cdm_flight.specs.declared.word.RefusalWord.{RefusalWord}
 use Rattle.cdm_flight.specs.declared.word.RefusalWord.TheVariants as word
 use Rattle.cdm_flight.specs.Journal.{AirportRows}
 use Rattle.cdm_day.specs.Airport.{with_runway, with_taxi}
-use Rattle.cdm_feed.specs.Fields.{of_one}
+use Rattle.cdm_feed.specs.Fields.{and_then, of_one}
 use Rattle.cdm_feed.specs.AirportRecords.{airport_record_of}
 use Rattle.cdm_feed.specs.Files.{after_records}
 use Rattle.cdm_feed.specs.Records.{records_of}
@@ -22,12 +23,6 @@ with_record (Some g) (Day day) = Err word.Order
 with_record (Some g) (Runway r cell cap) = of_one Some (with_runway g r cell cap)
 with_record (Some g) (Taxi place r minutes) = of_one Some (with_taxi g place r minutes)
 
--- a file without records has no DAY
-abbrev pub begun : Result (Option AirportRows) (ℕ × RefusalWord) → Result AirportRows (ℕ × RefusalWord)
-begun (Ok (Some g)) = Ok g
-begun (Ok None) = Err (1, word.Order)
-begun (Err fault) = Err fault
-
--- the airport that a file says, or the number and the word of its first faulty record
+-- the airport that a file says, or the number and the word of its first faulty record; one without records has no DAY
 unfoldable pub airport_in : List ℕ → Result AirportRows (ℕ × RefusalWord)
-airport_in text = begun (after_records airport_record_of with_record None 1 (records_of text))
+airport_in text = and_then (after_records airport_record_of with_record None 1 (records_of text)) (λ rows. ok_or rows (1, word.Order))

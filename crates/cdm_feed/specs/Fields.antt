@@ -35,18 +35,13 @@ of_one f r = and_then r (λ a. Ok (f a))
 
 -- Several fields.
 
--- the word of two faulty fields: TEXT where one hasn't its form, else RANGE
-abbrev pub first_word : RefusalWord → RefusalWord → RefusalWord
-first_word Text other = Text
-first_word one Text = Text
-first_word one other = Range
-
--- two values, or the word that refuses them
+-- two values, or the word that refuses them: TEXT where one hasn't its form, else the word of the first that is faulty
 unfoldable pub both : {A B : Type 0} → Result A RefusalWord → Result B RefusalWord → Result (A × B) RefusalWord
 both (Ok a) (Ok b) = Ok (a, b)
-both (Ok a) (Err word) = Err word
-both (Err word) (Ok b) = Err word
-both (Err one) (Err other) = Err (first_word one other)
+both (Err Text) r = Err Text
+both r (Err Text) = Err Text
+both (Err word) r = Err word
+both r (Err word) = Err word
 
 -- three values, or the word that refuses them
 unfoldable pub all_three : {A B C : Type 0} → Result A RefusalWord → Result B RefusalWord → Result C RefusalWord → Result (A × B × C) RefusalWord
@@ -65,7 +60,8 @@ abbrev pub of_three : {A B C X : Type 0} → (A → B → C → X) → Result A 
 of_three f a b c = of_one (λ p. f p.0 p.1 p.2) (all_three a b c)
 
 -- what the values of four good fields make
-abbrev pub of_four : {A B C D X : Type 0} → (A → B → C → D → X) → Result A RefusalWord → Result B RefusalWord → Result C RefusalWord → Result D RefusalWord → Result X RefusalWord
+abbrev pub of_four : {A B C D X : Type 0} → (A → B → C → D → X)
+    → Result A RefusalWord → Result B RefusalWord → Result C RefusalWord → Result D RefusalWord → Result X RefusalWord
 of_four f a b c d = of_one (λ p. f p.0 p.1 p.2 p.3) (all_four a b c d)
 
 -- Names.

@@ -1,7 +1,7 @@
 -- The names that faults give to inputs.
 use Rattle.std.specs.Prelude.{ℕ, List, codes}
-use Rattle.cdm_feed.specs.declared.run_error.Input.{Input}
-use Rattle.cdm_feed.specs.declared.run_error.Input.TheVariants.{Airport, Feed, Scenarios, Feed1, Feed2}
+use Rattle.cdm_feed.specs.declared.common_fault.Input.{Input}
+use Rattle.cdm_feed.specs.declared.common_fault.Input.TheVariants.{Airport, Feed, Scenarios, Feed1, Feed2}
 
 abbrev pub input_name : Input → List ℕ
 input_name Airport = codes "AIRPORT"

@@ -12,6 +12,8 @@ pub mod AirportFile
 pub mod Refused
 pub mod Answers
 pub mod Output
+pub mod Readings
+pub mod CommonFaults
 pub mod RunFaults
 pub mod InputNames
 pub mod ScenarioRecords

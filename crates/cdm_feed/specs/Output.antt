@@ -58,5 +58,4 @@ pub record IsOutput (airport feed scenarios text : List ℕ) (counts : RunCounts
 
 -- the bytes of an airport file, of a feed and of a scenario file have one text at most
 abbrev pub HaveOneText : List ℕ → List ℕ → List ℕ → Type 0
-HaveOneText airport feed scenarios =
-    (text other : List ℕ) (c d : RunCounts) → IsOutput airport feed scenarios text c → IsOutput airport feed scenarios other d → text ≡ other
+HaveOneText a f s = (x y : List ℕ) (c d : RunCounts) → IsOutput a f s x c → IsOutput a f s y d → x ≡ y

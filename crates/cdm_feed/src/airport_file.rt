@@ -3,13 +3,15 @@ ghost use Rattle.std.specs.Prelude.{◌≡◌, Ok, Some, IfOk, IfErr};
 ghost use Rattle.csv.specs.Records.{fields_of};
 ghost use Rattle.cdm_feed.specs.AirportFile.{airport_in, with_record};
 ghost use Rattle.cdm_feed.specs.AirportRecords.{airport_record_of};
+ghost use Rattle.cdm_feed.specs.CommonFaults.{IsAirportFault};
 ghost use Rattle.cdm_feed.specs.Fields.{and_then};
 ghost use Rattle.cdm_feed.specs.Files.{IsFaultOf};
 ghost use Rattle.cdm_feed.specs.inner.RecordFaults.{IsRecordFaultOf, row_fault};
 
 use crate::airport_record::{AirportRecord, airport_record};
+use crate::common_fault::CommonFault;
 use crate::file_fault::{FileFault, RecordFault};
-use crate::records::RecordReader;
+use crate::record_reader::RecordReader;
 use cdm_day::{Airport, AirportFault};
 use cdm_flight::RefusalWord;
 use csv::ByteRecord;
@@ -95,4 +97,17 @@ pub fn read_airport(alloc: Global, text: &[u8]) -> Result<Airport, FileFault>
         }
     }
     airport.ok_or(FileFault::Refused(1, RefusalWord::Order))
+}
+
+/// The airport that the file of a run says, or the fault of the run: `Airport`, the number and the word of
+/// its first faulty record, or `Memory`.
+pub fn airport_of(alloc: Global, text: &[u8]) -> Result<Airport, CommonFault>
+    ensures said { IfOk result (λ g. airport_in text.now ≡ Ok g) }
+    ensures fault { IfErr result (IsAirportFault text.now) }
+{
+    match read_airport(alloc, text) {
+        Ok(airport) => Ok(airport),
+        Err(FileFault::Refused(number, word)) => Err(CommonFault::Airport(number, word)),
+        Err(FileFault::Memory) => Err(CommonFault::Memory),
+    }
 }

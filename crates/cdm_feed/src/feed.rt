@@ -4,7 +4,7 @@ ghost use Rattle.cdm_feed.specs.Parsing.{parse_of};
 ghost use Rattle.cdm_feed.specs.Records.{records_of};
 
 use crate::feed_record::parse_record;
-use crate::records::RecordReader;
+use crate::record_reader::RecordReader;
 use cdm_flight::{RefusalWord, Role, Update, push_last};
 use cdm_time::Day;
 use csv::ByteRecord;

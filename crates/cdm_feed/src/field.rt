@@ -7,7 +7,7 @@ ghost use Rattle.cdm_time.specs.Times.{day_of};
 ghost use Rattle.cdm_flight.specs.Cells.{is_cell_length};
 ghost use Rattle.cdm_flight.specs.Names.{is_name};
 ghost use Rattle.cdm_flight.specs.declared.word.RefusalWord.TheVariants as word;
-ghost use Rattle.cdm_feed.specs.Fields.{all_four, all_three, both, bound_field, cap_field, counted, ctot_field, field, first_word, ice_field, ice_minutes, name_field, number_field, place_field, priority_field, refused_by_word, taxi_field, time_field, word_of};
+ghost use Rattle.cdm_feed.specs.Fields.{all_four, all_three, both, bound_field, cap_field, counted, ctot_field, field, ice_field, ice_minutes, name_field, number_field, place_field, priority_field, refused_by_word, taxi_field, time_field, word_of};
 
 use cdm_flight::{
     Cap, CellLength, Ice, IceMinutes, Name, Place, Priority, RefusalWord, TaxiMinutes,
@@ -154,17 +154,8 @@ pub(crate) fn ctot_field(day: Day, text: &[u8]) -> Result<Option<Minute>, Refusa
     Ok(Some(time_field(day, text)?))
 }
 
-// The word of two faulty fields: Text where one hasn't its form, else Range.
-fn first_word(one: RefusalWord, other: RefusalWord) -> RefusalWord
-    ensures { result ≡ first_word one other }
-{
-    match (one, other) {
-        (RefusalWord::Text, _) | (_, RefusalWord::Text) => RefusalWord::Text,
-        _ => RefusalWord::Range,
-    }
-}
-
-/// Two values, or the word that refuses them.
+/// Two values, or the word that refuses them: Text where one hasn't its form, else the word of the first
+/// that is faulty.
 #[tactic(auto, unfolding(crate::specs::Fields::both))]
 pub(crate) fn both<A: Drop, B: Drop>(
     one: Result<A, RefusalWord>,
@@ -174,8 +165,8 @@ pub(crate) fn both<A: Drop, B: Drop>(
 {
     match (one, other) {
         (Ok(one), Ok(other)) => Ok((one, other)),
-        (Ok(_), Err(word)) | (Err(word), Ok(_)) => Err(word),
-        (Err(one), Err(other)) => Err(first_word(one, other)),
+        (Err(RefusalWord::Text), _) | (_, Err(RefusalWord::Text)) => Err(RefusalWord::Text),
+        (Err(word), _) | (_, Err(word)) => Err(word),
     }
 }
 

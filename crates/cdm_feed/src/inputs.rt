@@ -1,12 +1,12 @@
 //! The inputs of a run, read whole and in order.
 ghost use Rattle.std.specs.Prelude.{◌≡◌, ◌≤◌, false, vec_len, IfOk, IfErr, OnOk, IfSome};
 ghost use Rattle.cdm_feed.specs.Input.{input_limit};
-ghost use Rattle.cdm_feed.specs.RunFaults.{AreRead, IsFirstFault, IsRead};
-ghost use Rattle.cdm_feed.specs.inner.Faults.{IsBeforeWriting, IsInputFault};
+ghost use Rattle.cdm_feed.specs.Readings.{AreRead, IsRead, reading};
+ghost use Rattle.cdm_feed.specs.CommonFaults.{IsFirstInputFault, IsInputFault};
 
+use crate::common_fault::{CommonFault, Input};
 use crate::device::Device;
 use crate::input::{InputFault, read_input};
-use crate::run_error::{Input, RunError};
 use std::alloc::Global;
 use std::io::Read;
 
@@ -15,67 +15,64 @@ fn read_whole<R: Read>(
     alloc: Global,
     input: Input,
     device: &mut Device<R>,
-) -> Result<Vec<u8>, RunError>
+) -> Result<Vec<u8>, CommonFault>
     requires { device.old.failed ≡ false }
     ensures whole { IfOk result (λ bytes. IfSome (R.remaining device.old.inner) (λ all. bytes.items ≡ all)) }
     ensures limit { IfOk result (λ bytes. vec_len bytes ≤ input_limit) }
-    ensures read { OnOk result (IsRead (record {
-      before = R.remaining device.old.inner;
-      after = R.remaining device.new.inner;
-      failed = device.new.failed;
-    })) }
-    ensures fault { IfErr result (IsInputFault (record {
-      before = R.remaining device.old.inner;
-      after = R.remaining device.new.inner;
-      failed = device.new.failed;
-    }) input) }
+    ensures read { OnOk result (IsRead (reading input R.remaining device.old device.new)) }
+    ensures fault { IfErr result (IsInputFault (reading input R.remaining device.old device.new)) }
 {
     match read_input(alloc, device) {
         Ok(bytes) => Ok(bytes),
-        Err(InputFault::Failed) => Err(RunError::Read(input)),
-        Err(InputFault::TooLong) => Err(RunError::TooLong(input)),
-        Err(InputFault::Memory) => Err(RunError::Memory),
+        Err(InputFault::Failed) => Err(CommonFault::Read(input)),
+        Err(InputFault::TooLong) => Err(CommonFault::TooLong(input)),
+        Err(InputFault::Memory) => Err(CommonFault::Memory),
     }
 }
 
-/// The bytes of all inputs.
+/// The bytes of all inputs of a run: those of the airport file, and of the two that are read after it.
 #[derive(Drop)]
-pub(crate) struct Inputs {
-    pub(crate) airport: Vec<u8>,
-    pub(crate) feed: Vec<u8>,
-    pub(crate) scenarios: Vec<u8>,
+pub struct Inputs {
+    /// The airport file.
+    pub airport: Vec<u8>,
+    /// The input that is read next.
+    pub second: Vec<u8>,
+    /// The last input.
+    pub third: Vec<u8>,
 }
 
-/// Reads the airport file, the feed and the scenario file, in this order, up to the first fault.
-pub(crate) fn read_inputs<A: Read, F: Read, S: Read>(
+/// Reads the airport file and two more inputs of these names, in this order, up to the first fault,
+/// which is `Read`, `TooLong` or `Memory`.
+pub fn read_inputs<A: Read, S: Read, T: Read>(
     alloc: Global,
+    names: (Input, Input),
     airport: &mut Device<A>,
-    feed: &mut Device<F>,
-    scenarios: &mut Device<S>,
-) -> Result<Inputs, RunError>
+    second: &mut Device<S>,
+    third: &mut Device<T>,
+) -> Result<Inputs, CommonFault>
     requires airport { airport.old.failed ≡ false }
-    requires feed { feed.old.failed ≡ false }
-    requires scenarios { scenarios.old.failed ≡ false }
+    requires second { second.old.failed ≡ false }
+    requires third { third.old.failed ≡ false }
     ensures airport { IfOk result (λ inputs. IfSome (A.remaining airport.old.inner) (λ all. inputs.airport.items ≡ all)) }
-    ensures feed { IfOk result (λ inputs. IfSome (F.remaining feed.old.inner) (λ all. inputs.feed.items ≡ all)) }
-    ensures scenarios { IfOk result (λ inputs. IfSome (S.remaining scenarios.old.inner) (λ all. inputs.scenarios.items ≡ all)) }
-    ensures limit { IfOk result (λ inputs. vec_len inputs.feed ≤ input_limit) }
+    ensures second { IfOk result (λ inputs. IfSome (S.remaining second.old.inner) (λ all. inputs.second.items ≡ all)) }
+    ensures third { IfOk result (λ inputs. IfSome (T.remaining third.old.inner) (λ all. inputs.third.items ≡ all)) }
+    ensures second_limit { IfOk result (λ inputs. vec_len inputs.second ≤ input_limit) }
+    ensures third_limit { IfOk result (λ inputs. vec_len inputs.third ≤ input_limit) }
     ensures read { OnOk result (AreRead
-        (record { before = A.remaining airport.old.inner; after = A.remaining airport.new.inner; failed = airport.new.failed })
-        (record { before = F.remaining feed.old.inner; after = F.remaining feed.new.inner; failed = feed.new.failed })
-        (record { before = S.remaining scenarios.old.inner; after = S.remaining scenarios.new.inner; failed = scenarios.new.failed })) }
-    ensures fault { IfErr result (IsFirstFault
-        (record { before = A.remaining airport.old.inner; after = A.remaining airport.new.inner; failed = airport.new.failed })
-        (record { before = F.remaining feed.old.inner; after = F.remaining feed.new.inner; failed = feed.new.failed })
-        (record { before = S.remaining scenarios.old.inner; after = S.remaining scenarios.new.inner; failed = scenarios.new.failed })) }
-    ensures before_writing { IfErr result IsBeforeWriting }
+        (reading Input.Airport A.remaining airport.old airport.new)
+        (reading names.0 S.remaining second.old second.new)
+        (reading names.1 T.remaining third.old third.new)) }
+    ensures fault { IfErr result (IsFirstInputFault
+        (reading Input.Airport A.remaining airport.old airport.new)
+        (reading names.0 S.remaining second.old second.new)
+        (reading names.1 T.remaining third.old third.new)) }
 {
     let airport = read_whole(alloc, Input::Airport, airport)?;
-    let feed = read_whole(alloc, Input::Feed, feed)?;
-    let scenarios = read_whole(alloc, Input::Scenarios, scenarios)?;
+    let second = read_whole(alloc, names.0, second)?;
+    let third = read_whole(alloc, names.1, third)?;
     Ok(Inputs {
         airport,
-        feed,
-        scenarios,
+        second,
+        third,
     })
 }

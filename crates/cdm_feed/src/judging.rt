@@ -6,7 +6,7 @@ ghost use Rattle.cdm_feed.specs.Output.{accepted_in, refusals_in};
 ghost use Rattle.cdm_feed.specs.Refused.{refused_in, updates_in};
 
 use crate::feed::read_stretch;
-use crate::records::RecordReader;
+use crate::record_reader::RecordReader;
 use crate::refused::{refusals_of, updates_of};
 use cdm_day::{Airport, DayState};
 use cdm_flight::{RefusalWord, Role, Update};

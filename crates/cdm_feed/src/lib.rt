@@ -5,6 +5,7 @@
 mod airport_file;
 mod airport_record;
 mod answers;
+mod common_fault;
 mod device;
 mod feed;
 mod feed_record;
@@ -15,7 +16,7 @@ mod inputs;
 mod judging;
 mod laws;
 mod output;
-mod records;
+mod record_reader;
 mod refused;
 mod role;
 mod run_error;
@@ -23,16 +24,16 @@ mod runs;
 mod scenario_file;
 mod scenario_record;
 
-pub use airport_file::read_airport;
+pub use airport_file::{airport_of, read_airport};
+pub use common_fault::{CommonFault, Input};
 pub use device::Device;
 pub use feed::read_feed;
 pub use file_fault::FileFault;
 pub use input::{INPUT_LIMIT, InputFault, read_input};
+pub use inputs::{Inputs, read_inputs};
 pub use laws::{one_text, records_are_read_back};
 pub use output::{WriteFault, write_text};
-pub use run_error::{Input, RunError};
+pub use refused::{refusals_of, updates_of};
+pub use run_error::RunError;
 pub use runs::{RunCounts, run};
 pub use scenario_file::read_scenarios;
-
-#[cfg(test)]
-mod tests;

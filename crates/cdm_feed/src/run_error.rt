@@ -1,80 +1,45 @@
-//! Why a run of the program ends without its whole text.
-ghost use Rattle.std.specs.Prelude.{◌≡◌, Some};
+//! Why a run of the feed and its scenarios ends without its whole text.
+ghost use Rattle.std.specs.Prelude.{◌≡◌};
+ghost use Rattle.cdm_feed.specs.declared.common_fault.CommonFault.TheVariants as common;
 ghost use Rattle.cdm_feed.specs.declared.run_error.RunError.TheVariants as error;
 
-use crate::input::INPUT_LIMIT;
+use crate::common_fault::CommonFault;
 use crate::output::WriteFault;
 use cdm_flight::RefusalWord;
 use std::alloc::AllocError;
-use std::fmt;
 use thiserror::Error;
-
-/// The inputs of a run, by the names that its faults give them.
-#[derive(Clone, Copy, PartialEq, Eq, Hash, Debug)]
-pub enum Input {
-    /// The airport file.
-    Airport,
-    /// The feed.
-    Feed,
-    /// The scenario file.
-    Scenarios,
-    /// The feed of the first desk of a live run.
-    Feed1,
-    /// The feed of the second desk of a live run.
-    Feed2,
-}
-
-impl fmt::Display for Input {
-    ghost use Rattle.cdm_feed.specs.InputNames.{input_name};
-
-    ghost output = { λ input. Some (input_name input) };
-
-    fn fmt<W: fmt::Write>(&self, f: &mut fmt::Formatter<W>) -> fmt::Result {
-        f.write_str(match self {
-            Input::Airport => "AIRPORT",
-            Input::Feed => "FEED",
-            Input::Scenarios => "SCENARIOS",
-            Input::Feed1 => "FEED1",
-            Input::Feed2 => "FEED2",
-        })
-    }
-}
 
 /// Why a run ends without its whole text. Records are numbered from 1.
 #[derive(Clone, Copy, PartialEq, Eq, Hash, Debug, Error)]
 pub enum RunError {
-    /// A read of this input failed.
-    #[error("cannot read {0}")]
-    Read(Input),
-    /// This input has more than [`INPUT_LIMIT`] bytes.
-    #[error("{0} is longer than {INPUT_LIMIT} bytes")]
-    TooLong(Input),
-    /// The first faulty record of the airport file, and the word that refuses it.
-    #[error("AIRPORT record {0}: {1}")]
-    Airport(usize, RefusalWord),
+    /// A fault that every run can have.
+    #[error(transparent)]
+    Common(CommonFault),
     /// The first faulty record of the scenario file, and the word that refuses it.
     #[error("SCENARIOS record {0}: {1}")]
     Scenario(usize, RefusalWord),
-    /// Want of memory.
-    #[error("out of memory")]
-    Memory,
-    /// A write or the flush at the end failed.
-    #[error("cannot write")]
-    Write,
+}
+
+impl From<CommonFault> for RunError {
+    ghost from_gives = { λ fault e. e ≡ error.Common fault };
+
+    fn from(fault: CommonFault) -> RunError {
+        RunError::Common(fault)
+    }
 }
 
 impl From<AllocError> for RunError {
-    ghost from_gives = { λ _ e. e ≡ error.Memory };
+    ghost from_gives = { λ _ e. e ≡ error.Common common.Memory };
 
     fn from(_error: AllocError) -> RunError {
-        RunError::Memory
+        RunError::Common(CommonFault::Memory)
     }
 }
 
 impl From<WriteFault> for RunError {
-    ghost from_gives = { λ _ e. e ≡ error.Write };
+    ghost from_gives = { λ _ e. e ≡ error.Common common.Write };
 
     fn from(_fault: WriteFault) -> RunError {
-        RunError::Write
+        RunError::Common(CommonFault::Write)
     }
 }

@@ -1,16 +1,17 @@
 //! A whole run, from the bytes of its inputs to the bytes of its text.
-ghost use Rattle.std.specs.Prelude.{◌≡◌, ◌≤◌, ℕ, List, Ok, length, take, false, IfOk, IfErr, OnOk, OnErr, IfSome, IsErrOf};
+ghost use Rattle.std.specs.Prelude.{◌≡◌, ◌≤◌, ℕ, List, Ok, length, take, false, IfOk, IfErr, OnOk, OnErr, IsErrOf};
 ghost use Rattle.std.specs.Io.KnownBytes.{Appends};
 ghost use Rattle.cdm_feed.specs.Input.{input_limit};
 ghost use Rattle.cdm_feed.specs.Output.{HaveOneText, IsOutput, IsReport, accepted_in, refusals_in};
-ghost use Rattle.cdm_feed.specs.AirportFile.{airport_in};
 ghost use Rattle.cdm_feed.specs.ScenarioFile.{scenarios_in};
-ghost use Rattle.cdm_feed.specs.RunFaults.{AreRead, IsFirstFault, is_write_fault};
-ghost use Rattle.cdm_feed.specs.inner.Faults.{IsAirportFault, IsRecordFault, IsScenarioFault};
+ghost use Rattle.cdm_feed.specs.Readings.{AreRead, IfTold, reading};
+ghost use Rattle.cdm_feed.specs.RunFaults.{IsFirstFault, is_write_fault};
+ghost use Rattle.cdm_feed.specs.inner.Faults.{IsRecordFault, IsScenarioFault};
 ghost use Rattle.cdm_feed.specs.declared.runs.RunCounts.{RunCounts};
 
-use crate::airport_file::read_airport;
+use crate::airport_file::airport_of;
 use crate::answers::push_answers;
+use crate::common_fault::{CommonFault, Input};
 use crate::device::Device;
 use crate::file_fault::FileFault;
 use crate::inputs::{Inputs, read_inputs};
@@ -75,18 +76,6 @@ fn report_of<R: Threads + Sync, G: Gate>(
     Ok(Report { text, counts })
 }
 
-// The airport of an airport file.
-fn airport_of(alloc: Global, text: &[u8]) -> Result<Airport, RunError>
-    ensures said { IfOk result (λ g. airport_in text.now ≡ Ok g) }
-    ensures fault { IfErr result (IsAirportFault text.now) }
-{
-    match read_airport(alloc, text) {
-        Ok(airport) => Ok(airport),
-        Err(FileFault::Refused(number, word)) => Err(RunError::Airport(number, word)),
-        Err(FileFault::Memory) => Err(RunError::Memory),
-    }
-}
-
 // The scenarios of a scenario file.
 fn scenarios_of(alloc: Global, day: &Day, text: &[u8]) -> Result<Vec<Scenario>, RunError>
     ensures said { IfOk result (λ scenarios. scenarios_in day.now text.now ≡ Ok scenarios.items) }
@@ -95,26 +84,34 @@ fn scenarios_of(alloc: Global, day: &Day, text: &[u8]) -> Result<Vec<Scenario>, 
     match read_scenarios(alloc, day, text) {
         Ok(scenarios) => Ok(scenarios),
         Err(FileFault::Refused(number, word)) => Err(RunError::Scenario(number, word)),
-        Err(FileFault::Memory) => Err(RunError::Memory),
+        Err(FileFault::Memory) => Err(RunError::Common(CommonFault::Memory)),
     }
 }
 
 // The text that the inputs make, and its counts.
-fn answer<R: Threads + Sync, G: Gate>(
+fn report_of_inputs<R: Threads + Sync, G: Gate>(
     rt: &R,
     alloc: Global,
     inputs: &Inputs,
     workers: Workers,
     gate: &G,
 ) -> Result<Report, RunError>
-    requires { length inputs.now.feed.items ≤ input_limit }
+    requires { length inputs.now.second.items ≤ input_limit }
     ensures made { IfOk result (λ report.
-        IsOutput inputs.now.airport.items inputs.now.feed.items inputs.now.scenarios.items report.text.items report.counts) }
-    ensures fault { IfErr result (IsRecordFault inputs.now.airport.items inputs.now.scenarios.items) }
+        IsOutput inputs.now.airport.items inputs.now.second.items inputs.now.third.items report.text.items report.counts) }
+    ensures fault { IfErr result (IsRecordFault inputs.now.airport.items inputs.now.third.items) }
 {
     let airport = airport_of(alloc, &inputs.airport)?;
-    let scenarios = scenarios_of(alloc, airport.day(), &inputs.scenarios)?;
-    let report = report_of(rt, alloc, airport, &inputs.feed, &scenarios, workers, gate)?;
+    let scenarios = scenarios_of(alloc, airport.day(), &inputs.third)?;
+    let report = report_of(
+        rt,
+        alloc,
+        airport,
+        &inputs.second,
+        &scenarios,
+        workers,
+        gate,
+    )?;
     Ok(report)
 }
 
@@ -144,29 +141,32 @@ pub fn run<R: Threads + Sync, A: Read, F: Read, S: Read, G: Gate, W: Write>(
     requires out { out.old.failed ≡ false }
 
     // The one text of the three inputs was written, and its counts are the answer.
-    ensures written { IfOk result (λ counts. IfSome (A.remaining airport.old.inner) (λ airport_file. IfSome (F.remaining feed.old.inner) (λ feed_file.
-        IfSome (S.remaining scenarios.old.inner) (λ scenario_file.
-        (text : List ℕ) × IsOutput airport_file feed_file scenario_file text counts × Appends (W.contents out.old.inner) (W.contents out.new.inner) text)))) }
-    ensures one { OnOk result (IfSome (A.remaining airport.old.inner) (λ airport_file. IfSome (F.remaining feed.old.inner) (λ feed_file.
-        IfSome (S.remaining scenarios.old.inner) (λ scenario_file. HaveOneText airport_file feed_file scenario_file)))) }
+    ensures written { IfOk result (λ counts.
+        IfTold (A.remaining airport.old.inner) (F.remaining feed.old.inner) (S.remaining scenarios.old.inner) (λ airport_file feed_file scenario_file.
+        (text : List ℕ) × IsOutput airport_file feed_file scenario_file text counts
+        × Appends (W.contents out.old.inner) (W.contents out.new.inner) text)) }
+    ensures one { OnOk result
+        (IfTold (A.remaining airport.old.inner) (F.remaining feed.old.inner) (S.remaining scenarios.old.inner) HaveOneText) }
 
     // The first fault is the answer, and Ok where there was none.
     ensures read { OnOk result (AreRead
-        (record { before = A.remaining airport.old.inner; after = A.remaining airport.new.inner; failed = airport.new.failed })
-        (record { before = F.remaining feed.old.inner; after = F.remaining feed.new.inner; failed = feed.new.failed })
-        (record { before = S.remaining scenarios.old.inner; after = S.remaining scenarios.new.inner; failed = scenarios.new.failed })) }
+        (reading Input.Airport A.remaining airport.old airport.new)
+        (reading Input.Feed F.remaining feed.old feed.new)
+        (reading Input.Scenarios S.remaining scenarios.old scenarios.new)) }
     ensures fault { IfErr result (IsFirstFault
-        (record { before = A.remaining airport.old.inner; after = A.remaining airport.new.inner; failed = airport.new.failed })
-        (record { before = F.remaining feed.old.inner; after = F.remaining feed.new.inner; failed = feed.new.failed })
-        (record { before = S.remaining scenarios.old.inner; after = S.remaining scenarios.new.inner; failed = scenarios.new.failed })) }
+        (reading Input.Airport A.remaining airport.old airport.new)
+        (reading Input.Feed F.remaining feed.old feed.new)
+        (reading Input.Scenarios S.remaining scenarios.old scenarios.new)) }
     ensures nothing { OnErr result (is_write_fault result ≡ false → out.new ≡ out.old) }
     ensures failed { out.new.failed ≡ is_write_fault result }
-    ensures prefix { IsErrOf result RunError.Write → IfSome (A.remaining airport.old.inner) (λ airport_file. IfSome (F.remaining feed.old.inner) (λ feed_file.
-        IfSome (S.remaining scenarios.old.inner) (λ scenario_file.
-        (text : List ℕ) × (counts : RunCounts) × IsOutput airport_file feed_file scenario_file text counts × (n : ℕ) × Appends (W.contents out.old.inner) (W.contents out.new.inner) (take n text)))) }
+    ensures prefix { IsErrOf result (RunError.Common CommonFault.Write) →
+        IfTold (A.remaining airport.old.inner) (F.remaining feed.old.inner) (S.remaining scenarios.old.inner) (λ airport_file feed_file scenario_file.
+        (text : List ℕ) × (counts : RunCounts) × IsOutput airport_file feed_file scenario_file text counts
+        × (n : ℕ) × Appends (W.contents out.old.inner) (W.contents out.new.inner) (take n text)) }
 {
-    let inputs = read_inputs(alloc, airport, feed, scenarios)?;
-    let report = answer(rt, alloc, &inputs, workers, gate)?;
+    let names = (Input::Feed, Input::Scenarios);
+    let inputs = read_inputs(alloc, names, airport, feed, scenarios)?;
+    let report = report_of_inputs(rt, alloc, &inputs, workers, gate)?;
     write_text(out, &report.text)?;
     Ok(report.counts)
 }

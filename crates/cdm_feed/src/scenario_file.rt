@@ -11,7 +11,7 @@ ghost use Rattle.cdm_feed.specs.ScenarioRecords.{scenario_line_of};
 ghost use Rattle.cdm_feed.specs.declared.scenario_record.ScenarioLine.TheVariants.{Begin};
 
 use crate::file_fault::{FileFault, RecordFault};
-use crate::records::RecordReader;
+use crate::record_reader::RecordReader;
 use crate::scenario_record::{ScenarioLine, scenario_line};
 use cdm_flight::{RefusalWord, Update};
 use cdm_scenario::{Scenario, ScenarioFault, ScenarioName};

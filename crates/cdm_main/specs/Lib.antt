@@ -1,4 +1,1 @@
-pub mod Live
-pub mod LiveFaults
 pub mod Statuses
-pub mod inner

@@ -1,9 +1,9 @@
 //! What stops the program, and how it is told.
 ghost use Rattle.std.specs.Prelude.{◌≡◌};
-ghost use Rattle.cdm_main.specs.Statuses.{status_of_error, status_of_fault};
+ghost use Rattle.cdm_main.specs.Statuses.{status_of_common, status_of_fault};
 
-use crate::live_error::LiveError;
-use cdm_feed::{Device, Input, RunError};
+use cdm_feed::{CommonFault, Device, Input, RunError};
+use cdm_live::LiveError;
 use std::io::Write;
 use thiserror::Error;
 
@@ -31,17 +31,22 @@ impl Fault {
         ensures { result ≡ status_of_fault self.now }
     {
         match self {
-            Fault::Run(RunError::TooLong(_) | RunError::Airport(..) | RunError::Scenario(..))
-            | Fault::Live(
-                LiveError::TooLong(_) | LiveError::Airport(..) | LiveError::HistoryFull,
-            ) => 3,
-            Fault::CannotOpen(_)
-            | Fault::NoMemory
-            | Fault::Run(RunError::Read(_) | RunError::Memory | RunError::Write)
-            | Fault::Live(
-                LiveError::Read(_) | LiveError::Memory | LiveError::Write | LiveError::Mismatch,
-            ) => 1,
+            Fault::Run(RunError::Common(fault)) | Fault::Live(LiveError::Common(fault)) => {
+                common_status(*fault)
+            }
+            Fault::Run(RunError::Scenario(..)) | Fault::Live(LiveError::HistoryFull) => 3,
+            Fault::CannotOpen(_) | Fault::NoMemory | Fault::Live(LiveError::Mismatch) => 1,
         }
+    }
+}
+
+// The exit status of a fault that every run can have.
+fn common_status(fault: CommonFault) -> u8
+    ensures { result ≡ status_of_common fault }
+{
+    match fault {
+        CommonFault::TooLong(_) | CommonFault::Airport(..) => 3,
+        CommonFault::Read(_) | CommonFault::Memory | CommonFault::Write => 1,
     }
 }
 

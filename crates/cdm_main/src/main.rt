@@ -4,19 +4,14 @@
 ghost use Rattle.std.specs.Prelude.{◌≡◌, false};
 
 mod command;
-mod desk_report;
-mod desks;
 mod fault;
-mod live_error;
-mod live_inputs;
-mod live_run;
 mod manual;
 
-use cdm_feed::{Device, Input, RunError, WriteFault, run, write_text};
+use cdm_feed::{Device, Input, WriteFault, run, write_text};
+pub use cdm_live::{LiveCounts, LiveError, run_live};
 use cdm_phase::{OpenGate, Workers};
 use command::{Command, CommandFault, command_of};
 use fault::{Fault, report_fault};
-use live_run::run_live;
 use std::alloc::AllocError;
 use std::io::{ErrorKind, Read, Write};
 use std::process::ExitCode;
@@ -134,9 +129,9 @@ fn run_command<R: AllocGlobal + Files + Threads + Wait + Sync, W: Write>(
             let feed2 = open(rt, feed2, Input::Feed2)?;
             live(rt, airport, feed1, feed2, out)
         }
-        Command::Print(text) => write_text(out, text.as_bytes()).map_err(|_: WriteFault| Fault::Run(
-            RunError::Write,
-        )),
+        Command::Print(text) => {
+            write_text(out, text.as_bytes()).map_err(|fault: WriteFault| Fault::Run(fault.into()))
+        }
     }
 }
 

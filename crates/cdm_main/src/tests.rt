@@ -1,11 +1,9 @@
-//! What no clause says: the command line, the lines of faults, that two desks run side by side, and what is
-//! answered where memory is refused.
-mod live;
+//! What no clause says: the command line, the help, the lines of faults, and what is answered where memory is
+//! refused.
 mod memory;
 
 use super::*;
-use crate::live_error::LiveError;
-use cdm_feed::RunError;
+use cdm_feed::{CommonFault, RunError};
 use cdm_flight::RefusalWord;
 use std::alloc::Global;
 use std::io::Error;
@@ -246,55 +244,67 @@ fn help_and_version_can_be_printed(rt: HostRuntime) -> Result<(), Fail> {
     Ok(())
 }
 
+// The fault has this line and status, also where the line can't be written.
+fn check_fault<R: AllocGlobal + Abort>(
+    rt: &R,
+    fault: Fault,
+    line: &str,
+    status: u8,
+) -> Result<(), Fail> {
+    let (text, answer) = told(rt, rt.alloc(), &fault);
+    let wanted = format!(in rt.alloc(); "cdmseq: {line}\n")?;
+    assert_eq!(rt; text.as_slice(), wanted.as_bytes(), "{line}");
+    assert_eq!(rt; answer, status, "{line}");
+    let mut full = Device::new(Full);
+    assert_eq!(rt; report_fault(&fault, &mut full), status, "{line}");
+    assert!(rt; full.failed());
+    Ok(())
+}
+
 #[test]
 fn faults_have_lines_and_statuses(rt: HostRuntime) -> Result<(), Fail> {
     use Fault::{CannotOpen, Live, NoMemory, Run};
     use cdm_feed::Input::{Airport, Feed, Feed1, Feed2, Scenarios};
-    let unknown = RunError::Airport(5, RefusalWord::Unknown);
+    let unknown = CommonFault::Airport(5, RefusalWord::Unknown);
     let disordered = RunError::Scenario(1, RefusalWord::Order);
-    let live_unknown = LiveError::Airport(5, RefusalWord::Unknown);
+    let common = [
+        (CommonFault::Read(Feed), "cannot read FEED", 1),
+        (CommonFault::Read(Feed1), "cannot read FEED1", 1),
+        (
+            CommonFault::TooLong(Feed),
+            "FEED is longer than 8388608 bytes",
+            3,
+        ),
+        (
+            CommonFault::TooLong(Feed2),
+            "FEED2 is longer than 8388608 bytes",
+            3,
+        ),
+        (unknown, "AIRPORT record 5: UNKNOWN", 3),
+        (CommonFault::Memory, "out of memory", 1),
+        (CommonFault::Write, "cannot write", 1),
+    ];
+    for (fault, line, status) in common {
+        check_fault(&rt, Run(RunError::Common(fault)), line, status)?;
+        check_fault(&rt, Live(LiveError::Common(fault)), line, status)?;
+    }
     let cases = [
         (CannotOpen(Airport), "cannot read AIRPORT", 1),
         (CannotOpen(Feed), "cannot read FEED", 1),
         (CannotOpen(Scenarios), "cannot read SCENARIOS", 1),
-        (NoMemory, "out of memory", 1),
-        (Run(RunError::Read(Feed)), "cannot read FEED", 1),
         (CannotOpen(Feed1), "cannot read FEED1", 1),
         (CannotOpen(Feed2), "cannot read FEED2", 1),
-        (
-            Run(RunError::TooLong(Feed)),
-            "FEED is longer than 8388608 bytes",
-            3,
-        ),
-        (Run(unknown), "AIRPORT record 5: UNKNOWN", 3),
+        (NoMemory, "out of memory", 1),
         (Run(disordered), "SCENARIOS record 1: ORDER", 3),
-        (Run(RunError::Memory), "out of memory", 1),
-        (Run(RunError::Write), "cannot write", 1),
-        (Live(LiveError::Read(Airport)), "cannot read AIRPORT", 1),
-        (Live(LiveError::Read(Feed1)), "cannot read FEED1", 1),
-        (
-            Live(LiveError::TooLong(Feed2)),
-            "FEED2 is longer than 8388608 bytes",
-            3,
-        ),
-        (Live(live_unknown), "AIRPORT record 5: UNKNOWN", 3),
         (
             Live(LiveError::HistoryFull),
             "board is full after 4096 calls",
             3,
         ),
-        (Live(LiveError::Memory), "out of memory", 1),
-        (Live(LiveError::Write), "cannot write", 1),
         (Live(LiveError::Mismatch), "board and desk differ", 1),
     ];
     for (fault, line, status) in cases {
-        let (text, answer) = told(&rt, rt.alloc(), &fault);
-        let wanted = format!(in rt.alloc(); "cdmseq: {line}\n")?;
-        assert_eq!(rt; text.as_slice(), wanted.as_bytes(), "{line}");
-        assert_eq!(rt; answer, status, "{line}");
-        let mut full = Device::new(Full);
-        assert_eq!(rt; report_fault(&fault, &mut full), status, "{line}");
-        assert!(rt; full.failed());
+        check_fault(&rt, fault, line, status)?;
     }
     Ok(())
 }

@@ -3,5 +3,8 @@
 mod board;
 mod day;
 mod days;
+mod devices;
+mod feed;
+mod live;
 mod phase;
 mod scenario;

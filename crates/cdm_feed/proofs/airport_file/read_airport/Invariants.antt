@@ -1,13 +1,17 @@
 use Rattle.std.proofs.Common.{◌≡◌, ◌+◌, ◌≤◌, length}
-use Rattle.cdm_feed.specs.AirportFile.{airport_in, begun, with_record}
+use Rattle.std.specs.Option.{ok_or}
+use Rattle.cdm_flight.specs.declared.word.RefusalWord.TheVariants.{Order}
+use Rattle.cdm_feed.specs.AirportFile.{airport_in, with_record}
 use Rattle.cdm_feed.specs.AirportRecords.{airport_record_of}
+use Rattle.cdm_feed.specs.Fields.{and_then}
 use Rattle.cdm_feed.specs.Files.{after_records}
 use Rattle.cdm_feed.proofs.airport_file.read_airport.Given as goal
 
 abbrev pub invariant-records : goal.invariant-records
 invariant-records l = record {
   count : l.number + length l.reader ≤ length l.fn.text;
-  all : airport_in l.fn.text ≡ begun (after_records airport_record_of with_record l.airport (l.number + 1) l.reader);
+  all : airport_in l.fn.text
+      ≡ and_then (after_records airport_record_of with_record l.airport (l.number + 1) l.reader) (λ rows. ok_or rows (1, Order));
 }
 
 abbrev pub decreases-records : goal.decreases-records

@@ -1,17 +1,21 @@
-use Rattle.std.proofs.Common.{◌∙◌, List, length, map, ap}
-use Rattle.std.proofs.lemmas.List.{length-map}
+use Rattle.std.proofs.Common.{◌≡◌, ◌∙◌, ◌+◌, ◌++◌, ℕ, List, map, ap}
 use Rattle.cdm_flight.specs.Accepted.{replies_to}
 use Rattle.cdm_flight.specs.declared.role.Role.{Role}
 use Rattle.cdm_flight.specs.declared.update.Update.{Update}
+use Rattle.cdm_flight.specs.declared.word.RefusalWord.{RefusalWord}
 use Rattle.cdm_day.specs.Replies.{reply_of}
-use Rattle.cdm_feed.specs.Refused.{updates_in}
-use Rattle.cdm_feed.proofs.RunLemmas.{replies_to-length}
+use Rattle.cdm_feed.specs.Refused.{refused_by_replies, updates_in}
+use Rattle.cdm_feed.proofs.RefusedLemmas.{refused_by_replies-day}
 use Rattle.cdm_feed.proofs.judging.judge_next.Goals as goal
 
-pub refusals_of-requires-clause-all : goal.refusals_of-requires-clause-all
-refusals_of-requires-clause-all over c =
+pub returns-clause-refused : goal.returns-clause-refused
+returns-clause-refused over c =
     let s = c.args.judged.now.state in
-    let us = updates_in c.args.parsed.now in
-    let replies = c.deref-2.ensures.value ∙ c.in_ok-replies.ensures.replies
+    let n = c.args.judged.now.records + 1 in
+    let parsed = c.args.parsed.now in
+    let replies : c.deref-2.result.now ≡ map reply_of (replies_to s.airport s.journal (updates_in parsed)) =
+    c.deref-2.ensures.value ∙ c.in_ok-replies.ensures.replies
     ∙ ap (λ (batch : List (Role × Update)). map reply_of (replies_to s.airport s.journal batch)) (c.deref.ensures.value ∙ c.in_ok-updates.ensures) in
-    ap length replies ∙ length-map (replies_to s.airport s.journal us) reply_of ∙ replies_to-length s.airport s.journal us
+    let refused = c.deref-3.ensures.value ∙ c.in_ok-refused.ensures.refused
+    ∙ ap (refused_by_replies n parsed) replies ∙ refused_by_replies-day s.airport s.journal n parsed in
+    c.in_ok-extend_from_slice.ensures.items ∙ ap (λ (rs : List (ℕ × RefusalWord)). c.args.judged.now.refused.items ++ rs) refused

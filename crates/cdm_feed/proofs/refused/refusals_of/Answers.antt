@@ -1,23 +1,12 @@
-use Rattle.std.proofs.Common.{◌≡◌, ◌<◌, ◌∷◌, ◌++◌, ◌+◌, ◌-◌, ◌∙◌, ℕ, List, [], length, drop, get_or, ap, sym, arith, add-one, append_assoc, append-nil, Vec, Global}
+use Rattle.std.proofs.Common.{◌≡◌, ◌∷◌, ◌++◌, ◌+◌, ◌∙◌, ℕ, List, [], length, drop, ap, sym, arith, add-one, append_assoc, append-nil, length-append}
+use Rattle.std.specs.List.{slice_get}
 use Rattle.std.proofs.Math.Seq.{drop-cons}
 use Rattle.std.proofs.Math.ListN.{drop_of_length-le}
 use Rattle.cdm_flight.specs.declared.word.RefusalWord.{RefusalWord}
-use Rattle.cdm_day.specs.declared.reply.Reply.{Reply}
-use Rattle.cdm_day.specs.declared.reply.Reply.TheVariants.{Accepted}
-use Rattle.cdm_feed.specs.Refused.{Spelled}
-use Rattle.cdm_feed.proofs.RefusedLemmas.{Step, refused_by, refused_by-replies, if_replied, left-ok, left-err, step-ok, step-err}
+use Rattle.cdm_feed.specs.Refused.{Spelled, if_refused, refused_by_replies}
+use Rattle.cdm_feed.specs.inner.Replied.{word_here}
+use Rattle.cdm_feed.proofs.RefusedLemmas.{at_most_one, reply_count-most, refused-step}
 use Rattle.cdm_feed.proofs.refused.refusals_of.Goals as goal
-use Rattle.cdm_feed.proofs.refused.refusals_of.Goals.{in-Ok, in-Err, in-Accepted, in-Refused+in_ok-push_last-in-Refused}
-
-pub bounds-replies-answered : goal.bounds-replies-answered
-bounds-replies-answered c =
-    let k = c.loop-spelled.spelled-index in
-    let xs = c.args.parsed.now in
-    let x = c.spelled-item.result in
-    let rest : drop k xs ≡ x ∷ drop (k + 1) xs = drop-cons xs k x c.loop-spelled-test.true ∙ (λ i. sym c.spelled-item.is i ∷ drop (sym (add-one k) i) xs) in
-    let n = left-ok (drop k xs) (drop (k + 1) xs) x c.in-Ok.field-0 rest c.in-Ok.is in
-    let inv = c.loop-spelled.invariant.left in
-    omega arith
 
 pub loop-spelled-preserved : goal.loop-spelled-preserved
 loop-spelled-preserved c =
@@ -28,67 +17,37 @@ loop-spelled-preserved c =
     let rs = c.args.replies.now in
     let x = c.spelled-item.result in
     let old = c.loop-spelled.refused.items in
-    let reply = c.match-spelled.reply in
-    let after = c.match-spelled.answered in
     let inv = c.loop-spelled.invariant in
-    let left = inv.left in
     let rest : drop k xs ≡ x ∷ drop (k + 1) xs = drop-cons xs k x c.loop-spelled-test.true ∙ (λ i. sym c.spelled-item.is i ∷ drop (sym (add-one k) i) xs) in
-    let later = refused_by (n + 1) (drop (k + 1) xs) (drop after rs) in
-    let step : Step xs rs k n a after reply = elim c.match-spelled.branch [
-      | in-Ok w ↦
-          let more = left-ok (drop k xs) (drop (k + 1) xs) x w.in-Ok.field-0 rest w.in-Ok.is in
-          let is = w.answered-is in
-          let at : a + 1 - 1 ≡ a = omega arith in
-          let within : a < length rs = omega arith in
-          let first : drop a rs ≡ reply ∷ drop (a + 1) rs =
-          drop-cons rs a Accepted within
-          ∙ (λ i. sym (w.reply-is ∙ ap (λ (j : ℕ). get_or rs j Accepted) at) i ∷ drop (sym (add-one a) i) rs) in
-          record {
-            left = omega arith;
-            all = step-ok n (drop k xs) (drop (k + 1) xs) x w.in-Ok.field-0 (drop a rs) (drop (a + 1) rs) reply rest w.in-Ok.is first
-                ∙ ap (λ (j : ℕ). if_replied n reply ++ refused_by (n + 1) (drop (k + 1) xs) (drop j rs)) (sym is);
-          }
-      | in-Err w ↦
-          let same = left-err (drop k xs) (drop (k + 1) xs) x w.in-Err.word rest w.in-Err.is in
-          let is = w.answered-is in
-          record {
-            left = omega arith;
-            all = step-err n (drop k xs) (drop (k + 1) xs) x w.in-Err.word (drop a rs) reply rest w.in-Err.is w.reply-is
-                ∙ ap (λ (j : ℕ). if_replied n reply ++ refused_by (n + 1) (drop (k + 1) xs) (drop j rs)) (sym is);
-          }
-    ] in
-    let numbers = inv.number in
-    let so_far = inv.all ∙ ap (λ (ys : List (ℕ × RefusalWord)). old ++ ys) step.all in
-    elim c.match-reply.branch [
-      | in-Accepted v ↦ record {
-        number = omega arith;
-        left = step.left;
-        all = so_far
-            ∙ ap (λ (r : Reply). old ++ (if_replied n r ++ later)) v.in-Accepted.is
-            ∙ ap (λ (v : Vec (ℕ × RefusalWord) Global). v.items ++ later) (sym v.refused-is);
-      }
-      | in-Refused+in_ok-push_last-in-Refused v ↦ record {
-        number = omega arith;
-        left = step.left;
-        all = so_far
-            ∙ ap (λ (r : Reply). old ++ (if_replied n r ++ later)) v.in-Refused.is
-            ∙ sym (append_assoc old ((n, v.in-Refused.word) ∷ []) later)
-            ∙ ap (λ (ys : List (ℕ × RefusalWord)). ys ++ later) (sym v.in_ok-push_last-in-Refused.ensures)
-            ∙ ap (λ (v : Vec (ℕ × RefusalWord) Global). v.items ++ later) (sym v.refused-is);
-      }
-    ]
+    let reply : c.word_here-word.result ≡ word_here x (slice_get rs a) = c.word_here-word.ensures ∙ ap (word_here x) c.reply_at.ensures in
+    let count = c.reply_count-answered.ensures in
+    let after = refused_by_replies (n + 1) (drop (k + 1) xs) (drop (a + c.reply_count-answered.result) rs) in
+    let pushed = c.in_ok-push_if_refused.ensures in
+    let longer = ap length pushed ∙ length-append old (if_refused n c.word_here-word.result) in
+    let number = inv.number in
+    let few = inv.few in
+    let answered = inv.answered in
+    record {
+      number = omega (arith, number);
+      all = inv.all
+          ∙ ap (λ (ys : List Spelled). old ++ refused_by_replies n ys (drop a rs)) rest
+          ∙ ap (λ (ys : List (ℕ × RefusalWord)). old ++ ys) (refused-step n x (drop (k + 1) xs) rs a)
+          ∙ (λ i. old ++ (if_refused n (sym reply i) ++ refused_by_replies (n + 1) (drop (k + 1) xs) (drop (a + sym count i) rs)))
+          ∙ sym (append_assoc old (if_refused n c.word_here-word.result) after)
+          ∙ ap (λ (ys : List (ℕ × RefusalWord)). ys ++ after) (sym pushed);
+      few = omega (arith, longer, at_most_one n c.word_here-word.result, few);
+      answered = omega (arith, count, reply_count-most x, answered);
+    }
 
-pub returns : goal.returns
-returns c = λ g a is.
+pub returns-clause-refused : goal.returns-clause-refused
+unfolding refused_by_replies
+returns-clause-refused c =
     let rs = c.args.replies.now in
     let xs = c.args.parsed.now in
-    let first = c.args.before + 1 in
-    let answered = c.loop-spelled.answered in
+    let a = c.loop-spelled.answered in
     let n = c.loop-spelled.number + 1 in
     let items = c.loop-spelled.refused.items in
     let ended = drop_of_length-le xs c.loop-spelled-test.false in
-    let all : refused_by first xs rs ≡ items ++ [] =
-    c.loop-spelled.invariant.all ∙ ap (λ (ys : List Spelled). items ++ refused_by n ys (drop answered rs)) ended in
+    let all : refused_by_replies (c.args.before + 1) xs rs ≡ items ++ [] =
+    c.loop-spelled.invariant.all ∙ ap (λ (ys : List Spelled). items ++ refused_by_replies n ys (drop a rs)) ended in
     sym (all ∙ append-nil items)
-    ∙ ap (refused_by first xs) is
-    ∙ refused_by-replies g a first xs

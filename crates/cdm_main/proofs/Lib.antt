@@ -1,4 +1,0 @@
-pub mod BatchLemmas
-pub mod DeskLemmas
-pub mod LiveLemmas
-pub mod RefusalLemmas

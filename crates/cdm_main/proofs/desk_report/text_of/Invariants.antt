@@ -1,8 +1,0 @@
-use Rattle.std.proofs.Common.{◌≡◌, ◌++◌, flat_map, length, take}
-use Rattle.cdm_report.specs.Report.{refused_line}
-use Rattle.cdm_main.specs.Live.{desk_line}
-use Rattle.cdm_main.proofs.desk_report.text_of.Given as goal
-
-abbrev pub invariant-loop-refusal : goal.invariant-loop-refusal
-invariant-loop-refusal l =
-    l.text.items ≡ desk_line l.desk l.posts (length l.refused) ++ flat_map refused_line (take l.refusal-index l.refused)
