@@ -1,9 +1,8 @@
 -- Intervals in order, and the values of their places.
 use Rattle.std.proofs.Common.{◌≡◌, ℕ, zero, suc, ◌+◌, ◌<◌, ◌≤◌, false, nat_le, min, max, List, [], ◌∷◌, ◌++◌, length, take, replicate, get_or, refl}
-use Rattle.std.proofs.Common.{sym, ap, ◌∙◌, inl, inr, ◌⊎◌, arith}
+use Rattle.std.proofs.Common.{sym, ap, ◌∙◌, arith}
 use Rattle.std.specs.Prelude.{if◌then◌else◌}
 use Rattle.std.proofs.lemmas.Bool.Decides.{nat_tests}
-use Rattle.std.proofs.lemmas.Bool.{cases_lt}
 use Rattle.std.proofs.lemmas.List.{take_more, same_lists, get_or-replicate, length-replicate, get_or_past}
 use Rattle.std.proofs.lemmas.List.FromFn.{get_or-map-range_with_len, length-map-range_with_len}
 use Rattle.cdm_flight.specs.Journal.{window_has}
@@ -18,9 +17,6 @@ has_not_before from to k h = grind (arith, nat_tests)
 
 has_not_after : (from to k : ℕ) → to ≤ k → window_has from to k ≡ false
 has_not_after from to k h = grind (arith, nat_tests)
-
-has_none : (from to k : ℕ) → to ≤ from → window_has from to k ≡ false
-has_none from to k h = grind (arith, nat_tests)
 
 module _ {V : Type 0} where
   value_at-push : (xs : List (Interval V)) (x : Interval V) (k : ℕ) (rest : V)
@@ -66,7 +62,7 @@ module _ {V : Type 0} where
   unpushed xs x order none = record {
     order = order;
     end = omega arith;
-    values = λ k rest. ap (λ b. if b then x.value else value_at xs k rest) (sym (has_none x.from x.to k none));
+    values = λ k rest. grind (arith, nat_tests);
   }
 
   -- an interval that is put behind the others
@@ -76,10 +72,6 @@ module _ {V : Type 0} where
     end = omega (arith, end_of-push 0 xs x);
     values = value_at-push xs x;
   }
-
-  two_as_one : (a b c k : ℕ) (v rest : V) → a < b → b < c
-      → (if window_has a c k then v else rest) ≡ (if window_has b c k then v else (if window_has a b k then v else rest))
-  two_as_one a b c k v rest h l = grind (arith, nat_tests)
 
   -- one that becomes one with the last of them
   pub joined : (xs : List (Interval V)) (last x : Interval V) → AreInOrder 0 (xs ++ last ∷ []) → x.from < x.to → last.to ≡ x.from → last.value ≡ x.value
@@ -91,10 +83,8 @@ module _ {V : Type 0} where
         order = in_order-push 0 xs one front.0 front.1 (omega (arith, front.2, some, touch));
         end = omega (arith, end_of-push 0 xs one);
         values = λ k rest.
-            value_at-push xs one k rest
-            ∙ two_as_one last.from x.from x.to k last.value (value_at xs k rest) (omega (arith, front.2, touch)) some
-            ∙ (λ i. if window_has x.from x.to k then same i else (if window_has last.from (sym touch i) k then last.value else value_at xs k rest))
-            ∙ ap (λ v. if window_has x.from x.to k then x.value else v) (sym (value_at-push xs last k rest));
+            let order = front.2 in
+            grind (arith, nat_tests, value_at-push xs one k rest, value_at-push xs last k rest, same);
       }
 
   -- what the intervals so far say of the places from one up to another, behind older ones
@@ -104,25 +94,13 @@ module _ {V : Type 0} where
     pub behind : end_of 0 kept ≤ max from (end_of 0 xs)
     pub values : (k : ℕ) (rest : V) → value_at kept k rest ≡ (if window_has from to k then value_at xs k rest else value_at old k rest)
 
-  rest_after : (from to k : ℕ) (here rest : V) → (from ≤ k → here ≡ rest) → here ≡ (if window_has from to k then rest else here)
-  rest_after from to k here rest h = by (cases_lt k from)
-    where
-      by : (k < from) ⊎ (from ≤ k) → here ≡ (if window_has from to k then rest else here)
-      by (inl below) = grind (arith, nat_tests)
-      by (inr above) = let same = h above in grind (arith, nat_tests)
-
   pub cut_none : (from to : ℕ) (old : List (Interval V)) → AreInOrder 0 old → end_of 0 old ≤ from → from ≤ to → IsCut from to old [] old
   cut_none from to old order end places = record {
     order = order;
     end = omega arith;
     behind = omega arith;
-    values = λ k rest. rest_after from to k (value_at old k rest) rest (λ above. value_at-after 0 old k rest order (omega arith));
+    values = λ k rest. let after = value_at-after 0 old k rest order in grind (arith, nat_tests, after);
   }
-
-  cut_both : (a b begin end from to k : ℕ) (v here before : V) → begin ≡ max a from → end ≡ min b to
-      → (if window_has begin end k then v else (if window_has from to k then here else before))
-      ≡ (if window_has from to k then (if window_has a b k then v else here) else before)
-  cut_both a b begin end from to k v here before first last = grind (arith, nat_tests)
 
   -- an interval is in order behind those that were read before it
   in_order_read : (end : ℕ) (xs : List (Interval V)) (i : ℕ) (x : Interval V) → AreInOrder end xs → i < length xs → x ≡ get_or xs i x
@@ -144,10 +122,7 @@ module _ {V : Type 0} where
           order = push.order;
           end = omega (arith, push.end, so_far.end);
           behind = omega (arith, push.end, so_far.behind, front.1, front.2, end_of-push 0 (take i xs) x);
-          values = λ k rest.
-              push.values k rest ∙ ap (λ v. if window_has begin end k then x.value else v) (so_far.values k rest)
-              ∙ cut_both x.from x.to begin end from to k x.value (value_at (take i xs) k rest) (value_at old k rest) first last
-              ∙ ap (λ v. if window_has from to k then v else value_at old k rest) (sym (value_at-push (take i xs) x k rest));
+          values = λ k rest. grind (arith, nat_tests, push.values k rest, so_far.values k rest, value_at-push (take i xs) x k rest);
         })
 
   -- intervals that end before a place say nothing of it
@@ -206,11 +181,7 @@ module _ {V : Type 0} where
 
   -- a value that is asked for at places of which some are no places
   pub value_or_past : (places : ℕ) (rest : V) (xs : List (Interval V)) (k : ℕ) (d : V) → value_at xs k rest ≡ d → get_or (values_of places rest xs) k d ≡ d
-  value_or_past places rest xs k d is = by (cases_lt k places)
-    where
-      by : (k < places) ⊎ (places ≤ k) → get_or (values_of places rest xs) k d ≡ d
-      by (inl below) = value_there places rest xs k d below ∙ is
-      by (inr past) = get_or_past (values_of places rest xs) k d (omega (arith, length-values_of places rest xs))
+  value_or_past places rest xs k d is = grind (arith, get_or_past {X = V}, value_there places rest xs k d, length-values_of places rest xs)
 
   pub values_of-none : (places : ℕ) (rest : V) → values_of places rest [] ≡ replicate places rest
   values_of-none places rest = same_lists (values_of places rest []) (replicate places rest)
