@@ -1,5 +1,5 @@
 -- Intervals in order, and the values of their places.
-use Rattle.std.proofs.Common.{◌≡◌, ℕ, zero, suc, ◌+◌, ◌<◌, ◌≤◌, false, nat_le, min, max, List, [], ◌∷◌, ◌++◌, length, take, replicate, get_or, refl}
+use Rattle.std.proofs.Common.{◌≡◌, ℕ, zero, suc, ◌+◌, ◌<◌, ◌≤◌, min, max, List, [], ◌∷◌, ◌++◌, length, take, replicate, get_or, refl}
 use Rattle.std.proofs.Common.{sym, ap, ◌∙◌, arith}
 use Rattle.std.specs.Prelude.{if◌then◌else◌}
 use Rattle.std.proofs.lemmas.Bool.Decides.{nat_tests}
@@ -10,13 +10,6 @@ use Rattle.cdm_runway.specs.declared.intervals.Interval.{Interval}
 use Rattle.cdm_runway.specs.inner.Intervals.{value_at, values_of, AreInOrder, end_of, IsPushed, NoneAfter, IsNext}
 use Rattle.cdm_runway.specs.Rules.{with_range}
 use Rattle.cdm_runway.proofs.RangeLemmas.{get_or-with_range, length-with_range}
-
--- a window has no minute before it, and none from its end on
-has_not_before : (from to k : ℕ) → k < from → window_has from to k ≡ false
-has_not_before from to k h = grind (arith, nat_tests)
-
-has_not_after : (from to k : ℕ) → to ≤ k → window_has from to k ≡ false
-has_not_after from to k h = grind (arith, nat_tests)
 
 module _ {V : Type 0} where
   value_at-push : (xs : List (Interval V)) (x : Interval V) (k : ℕ) (rest : V)
@@ -48,14 +41,14 @@ module _ {V : Type 0} where
   value_at-after : (end : ℕ) (xs : List (Interval V)) (k : ℕ) (rest : V) → AreInOrder end xs → end_of end xs ≤ k → value_at xs k rest ≡ rest
   value_at-after end [] k rest order after = refl
   value_at-after end (x ∷ xs) k rest order after =
-      ap (λ b. value_at xs k (if b then x.value else rest)) (has_not_after x.from x.to k (omega (arith, end_of-grows x.to xs order.2)))
-      ∙ value_at-after x.to xs k rest order.2 after
+      let later = value_at-after x.to xs k rest order.2 after in
+      grind (arith, nat_tests, end_of-grows x.to xs order.2)
 
   value_at-before : (end : ℕ) (xs : List (Interval V)) (k : ℕ) (rest : V) → AreInOrder end xs → k < end → value_at xs k rest ≡ rest
   value_at-before end [] k rest order before = refl
   value_at-before end (x ∷ xs) k rest order before =
-      ap (λ b. value_at xs k (if b then x.value else rest)) (has_not_before x.from x.to k (omega (arith, order.0)))
-      ∙ value_at-before x.to xs k rest order.2 (omega (arith, order.0, order.1))
+      let later = value_at-before x.to xs k rest order.2 (omega (arith, order.0, order.1)) in
+      grind (arith, nat_tests, order.0)
 
   -- an interval without a place changes nothing
   pub unpushed : (xs : List (Interval V)) (x : Interval V) → AreInOrder 0 xs → x.to ≤ x.from → IsPushed xs x xs
@@ -129,11 +122,8 @@ module _ {V : Type 0} where
   pub none_after : (xs : List (Interval V)) (place : ℕ) → ((j : ℕ) (d : Interval V) → j < length xs → (get_or xs j d).to ≤ place) → NoneAfter xs place
   none_after [] place ended = λ k rest after. refl
   none_after (x ∷ xs) place ended = λ k rest after.
-      ap (λ b. value_at xs k (if b then x.value else rest)) (has_not_after x.from x.to k (omega (arith, ended 0 x (omega arith))))
-      ∙ none_after xs place (λ j d below. ended (suc j) d (omega arith)) k rest after
-
-  within_next : (from to k : ℕ) (v rest : V) → k < to → (if window_has from to k then v else rest) ≡ (if nat_le from k then v else rest)
-  within_next from to k v rest h = grind (arith, nat_tests)
+      let later = none_after xs place (λ j d below. ended (suc j) d (omega arith)) k rest after in
+      grind (arith, nat_tests, ended 0 x (omega arith))
 
   -- the first that ends after it
   pub first_after : (end : ℕ) (xs : List (Interval V)) (i place : ℕ) (x : Interval V) → AreInOrder end xs → i < length xs → x ≡ get_or xs i x
@@ -144,8 +134,8 @@ module _ {V : Type 0} where
     within = end_of-grows y.to ys order.2;
     some = order.1;
     values = λ k rest above below.
-        value_at-before y.to ys k (if window_has y.from y.to k then y.value else rest) order.2 below
-        ∙ within_next y.from y.to k y.value rest below;
+        let first = value_at-before y.to ys k (if window_has y.from y.to k then y.value else rest) order.2 below in
+        grind (arith, nat_tests, first, below);
   })
   first_after end (y ∷ ys) (suc i) place x order within read ended after =
       let next = first_after y.to ys i place x order.2 (omega arith) read (λ j d below. ended (suc j) d (omega arith)) after in
@@ -154,8 +144,8 @@ module _ {V : Type 0} where
         within = next.within;
         some = next.some;
         values = λ k rest above below.
-            ap (λ b. value_at ys k (if b then y.value else rest)) (has_not_after y.from y.to k (omega (arith, ended 0 y (omega arith))))
-            ∙ next.values k rest above below;
+            let later = next.values k rest above below in
+            grind (arith, nat_tests, ended 0 y (omega arith), above, later);
       }
 
   -- intervals in order end in order
