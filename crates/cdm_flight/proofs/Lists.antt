@@ -148,10 +148,7 @@ sum_none f xs h = sum_same f (λ _. 0) xs h ∙ sum_by-zero xs
 -- Permutations.
 
 pub filter_map_cons : {X Y : Type 0} (h : X → Option Y) (x : X) (xs : List X) → filter_map h (x ∷ xs) ≡ option_to_list (h x) ++ filter_map h xs
-filter_map_cons {X} {Y} h x xs = go (h x) where
-  go : (o : Option Y) → cons_option o (filter_map h xs) ≡ option_to_list o ++ filter_map h xs
-  go None = refl
-  go (Some y) = refl
+filter_map_cons h x xs = grind arith
 
 exchange : {X : Type 0} (us vs ws : List X) → IsPermutation (us ++ (vs ++ ws)) (vs ++ (us ++ ws))
 exchange us vs ws = rw (← append_assoc us vs ws, ← append_assoc vs us ws) (IsPermutation-append_left ws (us ++ vs) (vs ++ us) (IsPermutation-append_comm us vs))
