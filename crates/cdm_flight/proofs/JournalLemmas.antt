@@ -63,8 +63,7 @@ unfolding values_of
 values_of-clock a m = rw (touching-push reach.Day a (Clock m) refl, last_value-push clock_given (touching reach.Day a) (Clock m)) refl
 
 is_some-option_or : (o p : Option ℕ) → is_some (option_or o p) ≡ (is_some o || is_some p)
-is_some-option_or None p = refl
-is_some-option_or (Some x) p = refl
+is_some-option_or o p = grind arith
 
 module _ (f : List ℕ) where
   -- The journal up to the flight's OFF.
@@ -74,10 +73,7 @@ module _ (f : List ℕ) where
 
   no_off : (a : List Update) → list_all (λ u. not (is_off u)) a ≡ not (is_some (aobt_of a f))
   no_off [] = refl
-  no_off (v ∷ a) =
-      let later = no_off a in
-      let either = is_some-option_or (aobt_of a f) (aobt_given v) in
-      grind arith
+  no_off (v ∷ a) = let later = no_off a in grind (arith, is_some-option_or (aobt_of a f) (aobt_given v))
 
   -- it stays once the flight has left
   pub before_off-left : (a : List Update) (u : Update) (m : ℕ) → aobt_of a f ≡ Some m → before_off f (a ++ u ∷ []) ≡ before_off f a

@@ -89,12 +89,10 @@ filter_same p q (x ∷ xs) same =
 -- Choices.
 
 pub option_or-none : {X : Type 0} (o : Option X) → option_or o None ≡ o
-option_or-none None = refl
-option_or-none (Some x) = refl
+option_or-none o = grind arith
 
 pub option_or-assoc : {X : Type 0} (o p q : Option X) → option_or (option_or o p) q ≡ option_or o (option_or p q)
-option_or-assoc None p q = refl
-option_or-assoc (Some x) p q = refl
+option_or-assoc o p q = grind arith
 
 -- Tests of any element.
 

@@ -76,8 +76,7 @@ any_key-put {R = R} same test k v (e ∷ es) = by (R k e.0) refl (any_key-put sa
 
 list_any-cons_option : {X : Type 0} (test : X → Bool) (o : Option X) (xs : List X)
     → list_any test (cons_option o xs) ≡ (option_map_or test o false || list_any test xs)
-list_any-cons_option test None xs = refl
-list_any-cons_option test (Some x) xs = refl
+list_any-cons_option test o xs = grind arith
 
 list_any-filter_map : {X Y : Type 0} (test : Y → Bool) (f : X → Option Y) (xs : List X)
     → list_any test (filter_map f xs) ≡ list_any (λ x. option_map_or test (f x) false) xs
