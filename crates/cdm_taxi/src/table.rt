@@ -131,8 +131,8 @@ impl TaxiTable {
         self.rows.is_same(&other.rows)
     }
 
-    /// A copy of the table.
-    pub fn copy(&self) -> Result<TaxiTable, AllocError>
+    /// A copy of the table. Its memory comes from where the table's own does.
+    pub fn copy(&self, _alloc: Global) -> Result<TaxiTable, AllocError>
         ensures { IfOk result (λ t. t ≡ self.now) }
     {
         let rows = self.rows.copy()?;

@@ -107,7 +107,7 @@ pub fn change_taxi(
     if let Some(own) = Arc::get_mut(taxi) {
         return set_taxi(own, update);
     }
-    let mut own = taxi.copy()?;
+    let mut own = taxi.copy(alloc)?;
     set_taxi(&mut own, update)?;
     *taxi = Arc::new(alloc, own)?;
     Ok(())
