@@ -1,9 +1,9 @@
 -- What one more update changes in what a journal says.
-use Rattle.std.proofs.Common.{◌≡◌, ℕ, Bool, true, false, cond, not, ◌&&◌, ◌||◌, List, [], ◌∷◌, ◌++◌, Option, None, Some, refl, sym, ap, ◌∙◌, rules}
-use Rattle.std.specs.Prelude.{is_some, unwrap_or, if◌then◌else◌}
+use Rattle.std.proofs.Common.{◌≡◌, ℕ, Bool, true, false, cond, not, ◌&&◌, ◌||◌, List, [], ◌∷◌, ◌++◌, Option, None, Some, refl, sym, ap, ◌∙◌, arith, rules}
+use Rattle.std.specs.Prelude.{is_some, unwrap_or}
 use Rattle.std.specs.Option.{option_map, option_or}
 use Rattle.std.specs.FinMap as map
-use Rattle.std.specs.List.{list_all, list_any, take_while}
+use Rattle.std.specs.List.{list_all, list_any}
 use Rattle.std.proofs.lemmas.Grind.{common_steps}
 use Rattle.std.proofs.lemmas.List.{append-nil}
 use Rattle.std.proofs.lemmas.List.Elements.{filter-append}
@@ -62,6 +62,9 @@ pub values_of-clock : (a : List Update) (m : ℕ) → values_of (a ++ Clock m �
 unfolding values_of
 values_of-clock a m = rw (touching-push reach.Day a (Clock m) refl, last_value-push clock_given (touching reach.Day a) (Clock m)) refl
 
+is_some-option_or : (o p : Option ℕ) → is_some (option_or o p) ≡ (is_some o || is_some p)
+is_some-option_or o p = grind arith
+
 module _ (f : List ℕ) where
   -- The journal up to the flight's OFF.
 
@@ -70,25 +73,13 @@ module _ (f : List ℕ) where
 
   no_off : (a : List Update) → list_all (λ u. not (is_off u)) a ≡ not (is_some (aobt_of a f))
   no_off [] = refl
-  no_off (v ∷ a) = by (same_reach (reach_of v) (reach.Flight f)) (no_off a)
-    where
-      either : (o p : Option ℕ) (later : Bool) → later ≡ not (is_some p) → (not (is_some o) && later) ≡ not (is_some (option_or p o))
-      either None None later e = e
-      either None (Some y) later e = e
-      either (Some x) None later e = refl
-      either (Some x) (Some y) later e = refl
-
-      by : (b : Bool) → list_all (λ u. not (is_off u)) a ≡ not (is_some (aobt_of a f))
-          → (not (b && is_some (aobt_given v)) && list_all (λ u. not (is_off u)) a)
-          ≡ not (is_some (last_value aobt_given (cond b (v ∷ of_flight f a) (of_flight f a))))
-      by false later = later
-      by true later = either (aobt_given v) (aobt_of a f) (list_all (λ u. not (is_off u)) a) later
+  no_off (v ∷ a) = let later = no_off a in grind (arith, is_some-option_or (aobt_of a f) (aobt_given v))
 
   -- it stays once the flight has left
   pub before_off-left : (a : List Update) (u : Update) (m : ℕ) → aobt_of a f ≡ Some m → before_off f (a ++ u ∷ []) ≡ before_off f a
   before_off-left a u m h =
-      take_while-append (λ v. not (is_off v)) a (u ∷ [])
-      ∙ ap (λ b. if b then a ++ take_while (λ v. not (is_off v)) (u ∷ []) else before_off f a) (no_off a ∙ ap (λ o. not (is_some o)) h)
+      let some : is_some (aobt_of a f) ≡ true = ap is_some h in
+      grind (arith, no_off a, take_while-append (λ v. not (is_off v)) a (u ∷ []))
 
   -- and is all of it until then
   pub before_off-all : (a : List Update) → aobt_of a f ≡ None → before_off f a ≡ a
@@ -96,9 +87,9 @@ module _ (f : List ℕ) where
 
   pub before_off-leaves : (a : List Update) (u : Update) → aobt_of a f ≡ None → is_off u ≡ true → before_off f (a ++ u ∷ []) ≡ a
   before_off-leaves a u h e =
-      take_while-append (λ v. not (is_off v)) a (u ∷ [])
-      ∙ (ap (λ b. if b then a ++ take_while (λ v. not (is_off v)) (u ∷ []) else before_off f a) (no_off a ∙ ap (λ o. not (is_some o)) h)
-      ∙ (ap (λ l. a ++ l) (take_while-cons (λ v. not (is_off v)) u [] ∙ ap (λ b. cond (not b) (u ∷ []) []) e) ∙ append-nil a))
+      let none : is_some (aobt_of a f) ≡ false = ap is_some h in
+      let last = take_while-cons (λ v. not (is_off v)) u [] in
+      rw (take_while-append (λ v. not (is_off v)) a (u ∷ []), no_off a, none, last, e) (append-nil a)
 
   -- The status.
 

@@ -1,6 +1,6 @@
 -- Lists: their elements, their sums, and their permutations.
 use Rattle.std.proofs.Common.{◌≡◌, ℕ, zero, suc, ◌+◌, ◌<◌, ◌≤◌, Bool, true, false, cond, List, [], ◌∷◌, ◌++◌, Option, Some, None, IfSome, sym, ◌∙◌}
-use Rattle.std.proofs.Common.{ap, subst, refl, arith, inl, inr, ◌⊎◌, ◌||◌, ◌&&◌, sum_by, filter, map, set, get_or, length, append_assoc}
+use Rattle.std.proofs.Common.{ap, subst, refl, arith, inl, inr, ◌⊎◌, ◌||◌, sum_by, filter, map, set, get_or, length, append_assoc}
 use Rattle.std.specs.Cmp.{IsStrictWeakOrder}
 use Rattle.std.specs.Prelude.{is_some, if◌then◌else◌}
 use Rattle.std.specs.List.{filter_map, find, list_all, list_any, take_while, All, Contains, cons_option, swap, AllByRecursion, IsDistinct}
@@ -72,11 +72,7 @@ if_so b o = cond b o None
 pub filter_map-filter : {X Y : Type 0} (h : X → Option Y) (p : X → Bool) (xs : List X)
     → filter_map h (filter p xs) ≡ filter_map (λ x. if_so (p x) (h x)) xs
 filter_map-filter h p [] = refl
-filter_map-filter {X} {Y} h p (x ∷ xs) = go (p x) (filter_map-filter h p xs) where
-  go : (b : Bool) → filter_map h (filter p xs) ≡ filter_map (λ x. if_so (p x) (h x)) xs
-      → filter_map h (cond b (x ∷ filter p xs) (filter p xs)) ≡ cons_option (if_so b (h x)) (filter_map (λ x. if_so (p x) (h x)) xs)
-  go true e = ap (λ (ys : List Y). cons_option (h x) ys) e
-  go false e = e
+filter_map-filter h p (x ∷ xs) = let later = filter_map-filter h p xs in grind arith
 
 -- two functions that agree on a list's elements
 pub filter_map_same : {X Y : Type 0} (h k : X → Option Y) (xs : List X) → ((x : X) → Contains xs x → h x ≡ k x) → filter_map h xs ≡ filter_map k xs
@@ -93,12 +89,10 @@ filter_same p q (x ∷ xs) same =
 -- Choices.
 
 pub option_or-none : {X : Type 0} (o : Option X) → option_or o None ≡ o
-option_or-none None = refl
-option_or-none (Some x) = refl
+option_or-none o = grind arith
 
 pub option_or-assoc : {X : Type 0} (o p q : Option X) → option_or (option_or o p) q ≡ option_or o (option_or p q)
-option_or-assoc None p q = refl
-option_or-assoc (Some x) p q = refl
+option_or-assoc o p q = grind arith
 
 -- Tests of any element.
 
@@ -107,11 +101,7 @@ list_any-push p xs x = list_any-append p xs (x ∷ []) ∙ (ap (λ b. list_any p
 
 pub list_any-find : {X : Type 0} (p : X → Bool) (xs : List X) → list_any p xs ≡ is_some (find p xs)
 list_any-find p [] = refl
-list_any-find p (x ∷ xs) = by (p x) (list_any-find p xs)
-  where
-    by : (b : Bool) → list_any p xs ≡ is_some (find p xs) → (b || list_any p xs) ≡ is_some (if b then Some x else find p xs)
-    by true h = refl
-    by false h = h
+list_any-find p (x ∷ xs) = let later = list_any-find p xs in grind arith
 
 pub list_any-map : {X Y : Type 0} (p : Y → Bool) (f : X → Y) (xs : List X) → list_any p (map f xs) ≡ list_any (λ x. p (f x)) xs
 list_any-map p f [] = refl
@@ -156,10 +146,7 @@ sum_none f xs h = sum_same f (λ _. 0) xs h ∙ sum_by-zero xs
 -- Permutations.
 
 pub filter_map_cons : {X Y : Type 0} (h : X → Option Y) (x : X) (xs : List X) → filter_map h (x ∷ xs) ≡ option_to_list (h x) ++ filter_map h xs
-filter_map_cons {X} {Y} h x xs = go (h x) where
-  go : (o : Option Y) → cons_option o (filter_map h xs) ≡ option_to_list o ++ filter_map h xs
-  go None = refl
-  go (Some y) = refl
+filter_map_cons h x xs = grind arith
 
 exchange : {X : Type 0} (us vs ws : List X) → IsPermutation (us ++ (vs ++ ws)) (vs ++ (us ++ ws))
 exchange us vs ws = rw (← append_assoc us vs ws, ← append_assoc vs us ws) (IsPermutation-append_left ws (us ++ vs) (vs ++ us) (IsPermutation-append_comm us vs))
@@ -209,10 +196,7 @@ only p x = cond (p x) (Some x) None
 
 filter_is : {X : Type 0} (p : X → Bool) (xs : List X) → filter_map (only p) xs ≡ filter p xs
 filter_is p [] = refl
-filter_is {X} p (x ∷ xs) = go (p x) (filter_is p xs) where
-  go : (b : Bool) → filter_map (only p) xs ≡ filter p xs → cons_option (cond b (Some x) None) (filter_map (only p) xs) ≡ cond b (x ∷ filter p xs) (filter p xs)
-  go true e = ap (λ (ys : List X). x ∷ ys) e
-  go false e = e
+filter_is p (x ∷ xs) = let later = filter_is p xs in grind arith
 
 pub IsPermutation-filter : {X : Type 0} (p : X → Bool) (xs ys : List X) → IsPermutation xs ys → IsPermutation (filter p xs) (filter p ys)
 IsPermutation-filter p xs ys same = rw (← filter_is p xs, ← filter_is p ys) (IsPermutation-filter_map (only p) xs ys same)
@@ -342,23 +326,12 @@ contains_all t xs x = All-contains (Contains xs) (filter t xs) x (All-filter t (
 
 pub take_while-all : {X : Type 0} (p : X → Bool) (xs : List X) → list_all p xs ≡ true → take_while p xs ≡ xs
 take_while-all p [] h = refl
-take_while-all p (x ∷ xs) h = take_while-cons p x xs ∙ by (p x) h (take_while-all p xs)
-  where
-    by : (b : Bool) → (b && list_all p xs) ≡ true → (list_all p xs ≡ true → take_while p xs ≡ xs) → cond b (x ∷ take_while p xs) [] ≡ x ∷ xs
-    by true h rest = ap (λ ys. x ∷ ys) (rest h)
-    by false h rest = cc
+take_while-all p (x ∷ xs) h = let later = take_while-all p xs in grind (arith, take_while-cons p x xs, h)
 
 -- the beginning ends in the first list, or goes on in the second
 pub take_while-append : {X : Type 0} (p : X → Bool) (xs ys : List X)
     → take_while p (xs ++ ys) ≡ (if list_all p xs then xs ++ take_while p ys else take_while p xs)
 take_while-append p [] ys = refl
-take_while-append {X} p (x ∷ xs) ys =
-    take_while-cons p x (xs ++ ys)
-    ∙ by (p x) (list_all p xs) (take_while-append p xs ys)
-    ∙ ap (λ (zs : List X). if p x && list_all p xs then x ∷ (xs ++ take_while p ys) else zs) (sym (take_while-cons p x xs))
-  where
-    by : (b c : Bool) → take_while p (xs ++ ys) ≡ (if c then xs ++ take_while p ys else take_while p xs)
-        → cond b (x ∷ take_while p (xs ++ ys)) [] ≡ (if b && c then x ∷ (xs ++ take_while p ys) else cond b (x ∷ take_while p xs) [])
-    by false c h = refl
-    by true true h = ap (λ zs. x ∷ zs) h
-    by true false h = ap (λ zs. x ∷ zs) h
+take_while-append p (x ∷ xs) ys =
+    let later = take_while-append p xs ys in
+    grind (arith, take_while-cons p x xs, take_while-cons p x (xs ++ ys))

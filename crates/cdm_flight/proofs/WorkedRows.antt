@@ -11,7 +11,7 @@ use Rattle.cdm_flight.specs.declared.update.Update.{Update}
 use Rattle.cdm_flight.specs.declared.update.Update.TheVariants as update
 use Rattle.cdm_flight.specs.declared.word.RefusalWord.TheVariants as word
 use Rattle.cdm_flight.specs.Journal.{AirportRows, cap_of, closed_of, exot_of, flight_of, values_of}
-use Rattle.cdm_flight.specs.Accepted.{accepted, refusal, refusal_of, replies_to}
+use Rattle.cdm_flight.specs.Accepted.{refusal, refusal_of, replies_to}
 use Rattle.cdm_flight.specs.Order.{is_before}
 
 abbrev r27 : List ℕ
@@ -62,10 +62,6 @@ refused_replies : (g : AirportRows) → IsBase g → replies_to g [] (planned ab
     None ∷ None ∷ None ∷ Some word.Authority ∷ Some word.Order ∷ None ∷ Some word.Order ∷ Some word.Unknown ∷ None ∷ []
 unfolding replies_to refusal refusal_of exot_of flight_of values_of
 refused_replies g base = rw base.0 refl
-
-clock_after : (g : AirportRows) → IsBase g → (values_of (accepted g [] (planned ab1 360 ++ refused))).clock ≡ 300
-unfolding accepted refusal refusal_of exot_of flight_of values_of
-clock_after g base = rw base.0 refl
 
 -- OFF fixes the taxi-out time: a later TAXI changes that of the others
 abbrev left : List Update

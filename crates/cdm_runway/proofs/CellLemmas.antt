@@ -1,7 +1,6 @@
 -- Whole cells fill the horizon.
-use Rattle.std.proofs.Common.{◌≡◌, ℕ, ◌*◌, ◌/◌, ◌%◌, ◌<◌, ◌≤◌, nat_le, nat_lt, IsTrue, ◌⊎◌, inl, inr, sym, ap, ◌∙◌, arith}
+use Rattle.std.proofs.Common.{◌≡◌, ℕ, ◌*◌, ◌/◌, ◌%◌, ◌<◌, ◌≤◌, nat_le, nat_lt, IsTrue, sym, ap, ◌∙◌, arith}
 use Rattle.std.proofs.lemmas.Bool.Decides.{nat_tests}
-use Rattle.std.proofs.lemmas.Bool.{cases_lt}
 use Rattle.std.proofs.lemmas.Nat.{div-add-mod', div_below, le-div}
 use Rattle.std.proofs.Math.Nat.{mul-div_cancel, mul_assoc}
 use Rattle.cdm_flight.specs.Cells.{is_cell_length}
@@ -25,15 +24,9 @@ module _ (c : ℕ) (positive : 1 ≤ c) where
   on_grid n grid = omega (arith, div-add-mod' n c, grid)
 
   pub cell_from : (from m : ℕ) → from % c ≡ 0 → nat_le (from / c) (m / c) ≡ nat_le from m
-  cell_from from m grid = by (cases_lt m from)
-    where
-      by : (m < from) ⊎ (from ≤ m) → nat_le (from / c) (m / c) ≡ nat_le from m
-      by (inl below) =
-          let cell : m / c < from / c = div_below m c (from / c) positive (omega (arith, on_grid from grid)) in
-          grind (arith, nat_tests)
-      by (inr above) =
-          let cell : from / c ≤ m / c = le-div (from / c) m c positive (omega (arith, on_grid from grid)) in
-          grind (arith, nat_tests)
+  cell_from from m grid =
+      let whole = on_grid from grid in
+      grind (arith, nat_tests, div_below m c (from / c) positive, le-div (from / c) m c positive)
 
   pub cell_to : (to m : ℕ) → to % c ≡ 0 → nat_lt (m / c) (to / c) ≡ nat_lt m to
   cell_to to m grid = let begun = cell_from to m grid in grind (arith, nat_tests)

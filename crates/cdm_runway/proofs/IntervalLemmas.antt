@@ -1,9 +1,8 @@
 -- Intervals in order, and the values of their places.
-use Rattle.std.proofs.Common.{◌≡◌, ℕ, zero, suc, ◌+◌, ◌<◌, ◌≤◌, false, nat_le, min, max, List, [], ◌∷◌, ◌++◌, length, take, replicate, get_or, refl}
-use Rattle.std.proofs.Common.{sym, ap, ◌∙◌, inl, inr, ◌⊎◌, arith}
+use Rattle.std.proofs.Common.{◌≡◌, ℕ, zero, suc, ◌+◌, ◌<◌, ◌≤◌, min, max, List, [], ◌∷◌, ◌++◌, length, take, replicate, get_or, refl}
+use Rattle.std.proofs.Common.{sym, ap, ◌∙◌, arith}
 use Rattle.std.specs.Prelude.{if◌then◌else◌}
 use Rattle.std.proofs.lemmas.Bool.Decides.{nat_tests}
-use Rattle.std.proofs.lemmas.Bool.{cases_lt}
 use Rattle.std.proofs.lemmas.List.{take_more, same_lists, get_or-replicate, length-replicate, get_or_past}
 use Rattle.std.proofs.lemmas.List.FromFn.{get_or-map-range_with_len, length-map-range_with_len}
 use Rattle.cdm_flight.specs.Journal.{window_has}
@@ -11,16 +10,6 @@ use Rattle.cdm_runway.specs.declared.intervals.Interval.{Interval}
 use Rattle.cdm_runway.specs.inner.Intervals.{value_at, values_of, AreInOrder, end_of, IsPushed, NoneAfter, IsNext}
 use Rattle.cdm_runway.specs.Rules.{with_range}
 use Rattle.cdm_runway.proofs.RangeLemmas.{get_or-with_range, length-with_range}
-
--- a window has no minute before it, and none from its end on
-has_not_before : (from to k : ℕ) → k < from → window_has from to k ≡ false
-has_not_before from to k h = grind (arith, nat_tests)
-
-has_not_after : (from to k : ℕ) → to ≤ k → window_has from to k ≡ false
-has_not_after from to k h = grind (arith, nat_tests)
-
-has_none : (from to k : ℕ) → to ≤ from → window_has from to k ≡ false
-has_none from to k h = grind (arith, nat_tests)
 
 module _ {V : Type 0} where
   value_at-push : (xs : List (Interval V)) (x : Interval V) (k : ℕ) (rest : V)
@@ -52,21 +41,21 @@ module _ {V : Type 0} where
   value_at-after : (end : ℕ) (xs : List (Interval V)) (k : ℕ) (rest : V) → AreInOrder end xs → end_of end xs ≤ k → value_at xs k rest ≡ rest
   value_at-after end [] k rest order after = refl
   value_at-after end (x ∷ xs) k rest order after =
-      ap (λ b. value_at xs k (if b then x.value else rest)) (has_not_after x.from x.to k (omega (arith, end_of-grows x.to xs order.2)))
-      ∙ value_at-after x.to xs k rest order.2 after
+      let later = value_at-after x.to xs k rest order.2 after in
+      grind (arith, nat_tests, end_of-grows x.to xs order.2)
 
   value_at-before : (end : ℕ) (xs : List (Interval V)) (k : ℕ) (rest : V) → AreInOrder end xs → k < end → value_at xs k rest ≡ rest
   value_at-before end [] k rest order before = refl
   value_at-before end (x ∷ xs) k rest order before =
-      ap (λ b. value_at xs k (if b then x.value else rest)) (has_not_before x.from x.to k (omega (arith, order.0)))
-      ∙ value_at-before x.to xs k rest order.2 (omega (arith, order.0, order.1))
+      let later = value_at-before x.to xs k rest order.2 (omega (arith, order.0, order.1)) in
+      grind (arith, nat_tests, order.0)
 
   -- an interval without a place changes nothing
   pub unpushed : (xs : List (Interval V)) (x : Interval V) → AreInOrder 0 xs → x.to ≤ x.from → IsPushed xs x xs
   unpushed xs x order none = record {
     order = order;
     end = omega arith;
-    values = λ k rest. ap (λ b. if b then x.value else value_at xs k rest) (sym (has_none x.from x.to k none));
+    values = λ k rest. grind (arith, nat_tests);
   }
 
   -- an interval that is put behind the others
@@ -76,10 +65,6 @@ module _ {V : Type 0} where
     end = omega (arith, end_of-push 0 xs x);
     values = value_at-push xs x;
   }
-
-  two_as_one : (a b c k : ℕ) (v rest : V) → a < b → b < c
-      → (if window_has a c k then v else rest) ≡ (if window_has b c k then v else (if window_has a b k then v else rest))
-  two_as_one a b c k v rest h l = grind (arith, nat_tests)
 
   -- one that becomes one with the last of them
   pub joined : (xs : List (Interval V)) (last x : Interval V) → AreInOrder 0 (xs ++ last ∷ []) → x.from < x.to → last.to ≡ x.from → last.value ≡ x.value
@@ -91,10 +76,8 @@ module _ {V : Type 0} where
         order = in_order-push 0 xs one front.0 front.1 (omega (arith, front.2, some, touch));
         end = omega (arith, end_of-push 0 xs one);
         values = λ k rest.
-            value_at-push xs one k rest
-            ∙ two_as_one last.from x.from x.to k last.value (value_at xs k rest) (omega (arith, front.2, touch)) some
-            ∙ (λ i. if window_has x.from x.to k then same i else (if window_has last.from (sym touch i) k then last.value else value_at xs k rest))
-            ∙ ap (λ v. if window_has x.from x.to k then x.value else v) (sym (value_at-push xs last k rest));
+            let order = front.2 in
+            grind (arith, nat_tests, value_at-push xs one k rest, value_at-push xs last k rest, same);
       }
 
   -- what the intervals so far say of the places from one up to another, behind older ones
@@ -104,25 +87,13 @@ module _ {V : Type 0} where
     pub behind : end_of 0 kept ≤ max from (end_of 0 xs)
     pub values : (k : ℕ) (rest : V) → value_at kept k rest ≡ (if window_has from to k then value_at xs k rest else value_at old k rest)
 
-  rest_after : (from to k : ℕ) (here rest : V) → (from ≤ k → here ≡ rest) → here ≡ (if window_has from to k then rest else here)
-  rest_after from to k here rest h = by (cases_lt k from)
-    where
-      by : (k < from) ⊎ (from ≤ k) → here ≡ (if window_has from to k then rest else here)
-      by (inl below) = grind (arith, nat_tests)
-      by (inr above) = let same = h above in grind (arith, nat_tests)
-
   pub cut_none : (from to : ℕ) (old : List (Interval V)) → AreInOrder 0 old → end_of 0 old ≤ from → from ≤ to → IsCut from to old [] old
   cut_none from to old order end places = record {
     order = order;
     end = omega arith;
     behind = omega arith;
-    values = λ k rest. rest_after from to k (value_at old k rest) rest (λ above. value_at-after 0 old k rest order (omega arith));
+    values = λ k rest. let after = value_at-after 0 old k rest order in grind (arith, nat_tests, after);
   }
-
-  cut_both : (a b begin end from to k : ℕ) (v here before : V) → begin ≡ max a from → end ≡ min b to
-      → (if window_has begin end k then v else (if window_has from to k then here else before))
-      ≡ (if window_has from to k then (if window_has a b k then v else here) else before)
-  cut_both a b begin end from to k v here before first last = grind (arith, nat_tests)
 
   -- an interval is in order behind those that were read before it
   in_order_read : (end : ℕ) (xs : List (Interval V)) (i : ℕ) (x : Interval V) → AreInOrder end xs → i < length xs → x ≡ get_or xs i x
@@ -144,21 +115,15 @@ module _ {V : Type 0} where
           order = push.order;
           end = omega (arith, push.end, so_far.end);
           behind = omega (arith, push.end, so_far.behind, front.1, front.2, end_of-push 0 (take i xs) x);
-          values = λ k rest.
-              push.values k rest ∙ ap (λ v. if window_has begin end k then x.value else v) (so_far.values k rest)
-              ∙ cut_both x.from x.to begin end from to k x.value (value_at (take i xs) k rest) (value_at old k rest) first last
-              ∙ ap (λ v. if window_has from to k then v else value_at old k rest) (sym (value_at-push (take i xs) x k rest));
+          values = λ k rest. grind (arith, nat_tests, push.values k rest, so_far.values k rest, value_at-push (take i xs) x k rest);
         })
 
   -- intervals that end before a place say nothing of it
   pub none_after : (xs : List (Interval V)) (place : ℕ) → ((j : ℕ) (d : Interval V) → j < length xs → (get_or xs j d).to ≤ place) → NoneAfter xs place
   none_after [] place ended = λ k rest after. refl
   none_after (x ∷ xs) place ended = λ k rest after.
-      ap (λ b. value_at xs k (if b then x.value else rest)) (has_not_after x.from x.to k (omega (arith, ended 0 x (omega arith))))
-      ∙ none_after xs place (λ j d below. ended (suc j) d (omega arith)) k rest after
-
-  within_next : (from to k : ℕ) (v rest : V) → k < to → (if window_has from to k then v else rest) ≡ (if nat_le from k then v else rest)
-  within_next from to k v rest h = grind (arith, nat_tests)
+      let later = none_after xs place (λ j d below. ended (suc j) d (omega arith)) k rest after in
+      grind (arith, nat_tests, ended 0 x (omega arith))
 
   -- the first that ends after it
   pub first_after : (end : ℕ) (xs : List (Interval V)) (i place : ℕ) (x : Interval V) → AreInOrder end xs → i < length xs → x ≡ get_or xs i x
@@ -169,8 +134,8 @@ module _ {V : Type 0} where
     within = end_of-grows y.to ys order.2;
     some = order.1;
     values = λ k rest above below.
-        value_at-before y.to ys k (if window_has y.from y.to k then y.value else rest) order.2 below
-        ∙ within_next y.from y.to k y.value rest below;
+        let first = value_at-before y.to ys k (if window_has y.from y.to k then y.value else rest) order.2 below in
+        grind (arith, nat_tests, first, below);
   })
   first_after end (y ∷ ys) (suc i) place x order within read ended after =
       let next = first_after y.to ys i place x order.2 (omega arith) read (λ j d below. ended (suc j) d (omega arith)) after in
@@ -179,8 +144,8 @@ module _ {V : Type 0} where
         within = next.within;
         some = next.some;
         values = λ k rest above below.
-            ap (λ b. value_at ys k (if b then y.value else rest)) (has_not_after y.from y.to k (omega (arith, ended 0 y (omega arith))))
-            ∙ next.values k rest above below;
+            let later = next.values k rest above below in
+            grind (arith, nat_tests, ended 0 y (omega arith), above, later);
       }
 
   -- intervals in order end in order
@@ -206,11 +171,7 @@ module _ {V : Type 0} where
 
   -- a value that is asked for at places of which some are no places
   pub value_or_past : (places : ℕ) (rest : V) (xs : List (Interval V)) (k : ℕ) (d : V) → value_at xs k rest ≡ d → get_or (values_of places rest xs) k d ≡ d
-  value_or_past places rest xs k d is = by (cases_lt k places)
-    where
-      by : (k < places) ⊎ (places ≤ k) → get_or (values_of places rest xs) k d ≡ d
-      by (inl below) = value_there places rest xs k d below ∙ is
-      by (inr past) = get_or_past (values_of places rest xs) k d (omega (arith, length-values_of places rest xs))
+  value_or_past places rest xs k d is = grind (arith, get_or_past {X = V}, value_there places rest xs k d, length-values_of places rest xs)
 
   pub values_of-none : (places : ℕ) (rest : V) → values_of places rest [] ≡ replicate places rest
   values_of-none places rest = same_lists (values_of places rest []) (replicate places rest)

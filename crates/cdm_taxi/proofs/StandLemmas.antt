@@ -29,13 +29,10 @@ use Rattle.cdm_taxi.specs.inner.StandSet.{AreStandsOf}
 use Rattle.cdm_taxi.proofs.TaxiLemmas.{same_name-ties, taxi_cmp_total, taxi_cmp_same}
 
 or_swap : (a b c : Bool) → (a || (b || c)) ≡ (b || (a || c))
-or_swap true true c = refl
-or_swap true false c = refl
-or_swap false b c = refl
+or_swap a b c = grind arith
 
 or_again : (a b : Bool) → (a || b) ≡ (a || (a || b))
-or_again true b = refl
-or_again false b = refl
+or_again a b = grind arith
 
 -- Lists whose items are each counted once.
 module _ {K : Type 0} {eq : K → K → Bool} (laws : IsEquivalence eq) where
@@ -45,11 +42,7 @@ module _ {K : Type 0} {eq : K → K → Bool} (laws : IsEquivalence eq) where
 
   -- an item that stands behind is counted there
   pub counted_behind : (xs : List K) (x q : K) → is_member eq xs x ≡ true → is_member eq xs q ≡ (eq q x || is_member eq xs q)
-  counted_behind xs x q there = by (eq q x) refl
-    where
-      by : (b : Bool) → eq q x ≡ b → is_member eq xs q ≡ (b || is_member eq xs q)
-      by true e = list_any_congr laws q x xs e ∙ there
-      by false e = refl
+  counted_behind xs x q there = let congr = list_any_congr laws q x xs in grind (arith, congr, there)
 
   unique_has : (xs : List K) (q : K) → is_member eq (unique_keys eq xs) q ≡ is_member eq xs q
   unique_has [] q = refl
@@ -83,8 +76,7 @@ any_key-put {R = R} same test k v (e ∷ es) = by (R k e.0) refl (any_key-put sa
 
 list_any-cons_option : {X : Type 0} (test : X → Bool) (o : Option X) (xs : List X)
     → list_any test (cons_option o xs) ≡ (option_map_or test o false || list_any test xs)
-list_any-cons_option test None xs = refl
-list_any-cons_option test (Some x) xs = refl
+list_any-cons_option test o xs = grind arith
 
 list_any-filter_map : {X Y : Type 0} (test : Y → Bool) (f : X → Option Y) (xs : List X)
     → list_any test (filter_map f xs) ≡ list_any (λ x. option_map_or test (f x) false) xs
@@ -121,8 +113,7 @@ has_row-empty stand = ap (λ es. list_any (same_name stand) (filter_map (λ (key
 
 counted : (b : Bool) (stand : List ℕ) (stands : List (List ℕ))
     → length (if b then stands else stand ∷ stands) ≡ (if not b then length stands + 1 else length stands)
-counted true stand stands = refl
-counted false stand stands = omega arith
+counted b stand stands = grind arith
 
 -- a row adds its stand, unless it is a default or the stand had one
 pub stand_count-insert : (rows : TaxiRows) (p : Place) (r : List ℕ) (minutes : ℕ)
@@ -157,32 +148,22 @@ pub are_stands_of-insert_new : (rows : TaxiRows) (stands new : BTreeSet (List �
     → AreStandsOf rows stands → ((q : List ℕ) → contains name_cmp new q ≡ cond (is_at (name_cmp s) q) true (contains name_cmp stands q))
     → AreStandsOf (map.insert rows (place.Stand s, r) minutes) new
 are_stands_of-insert_new rows stands new s r minutes old added = λ q.
-    added q ∙ (λ i. cond (sym (same_name-ties q s) i) true (old q i)) ∙ by (same_name q s) (has_row rows q)
-    ∙ sym (has_row-insert rows (place.Stand s) r minutes q)
-  where
-    by : (b c : Bool) → cond b true c ≡ (b || c)
-    by true c = refl
-    by false c = refl
+    let set = has_row-insert rows (place.Stand s) r minutes q in
+    grind (arith, added q, old q, same_name-ties q s, set)
 
 -- a stand that was added and is taken back leaves those that were there
 pub are_stands_of-taken_back : (rows : TaxiRows) (stands new back : BTreeSet (List ℕ)) (s : List ℕ) → AreStandsOf rows stands → has_row rows s ≡ false
     → ((q : List ℕ) → contains name_cmp new q ≡ cond (is_at (name_cmp s) q) true (contains name_cmp stands q))
     → ((q : List ℕ) → contains name_cmp back q ≡ cond (is_at (name_cmp s) q) false (contains name_cmp new q)) → AreStandsOf rows back
 are_stands_of-taken_back rows stands new back s old is_new added removed = λ q.
-    removed q ∙ ap (λ b. cond (is_at (name_cmp s) q) false b) (added q) ∙ by q (is_at (name_cmp s) q) refl
-  where
-    by : (q : List ℕ) (b : Bool) → is_at (name_cmp s) q ≡ b → cond b false (cond b true (contains name_cmp stands q)) ≡ has_row rows q
-    by q true tied = sym (list_any_congr nat_list_eq_equiv q s (stands_in rows) (same_name-ties q s ∙ tied) ∙ is_new)
-    by q false apart = old q
+    let alike = list_any_congr nat_list_eq_equiv q s (stands_in rows) in
+    grind (arith, removed q, added q, old q, same_name-ties q s, alike, is_new)
 
 -- a row that is set again as it is changes nothing
 insert_again : (rows : TaxiRows) (k : Place × List ℕ) (minutes : ℕ) → map.get rows k ≡ Some minutes → map.insert rows k minutes ≡ rows
 insert_again rows k minutes is = same_map taxi_cmp_total taxi_cmp_same (map.insert rows k minutes) rows (λ q.
-    get-insert taxi_cmp_total rows k minutes q ∙ by q (eq_by_cmp taxi_cmp q k) refl)
-  where
-    by : (q : Place × List ℕ) (b : Bool) → eq_by_cmp taxi_cmp q k ≡ b → cond b (Some minutes) (map.get rows q) ≡ map.get rows q
-    by q true tied = sym (ap (λ x. map.get rows x) (tells_apart taxi_cmp_same q k tied) ∙ is)
-    by q false apart = refl
+    let tied = λ (t : eq_by_cmp taxi_cmp q k ≡ true). ap (λ x. map.get rows x) (tells_apart taxi_cmp_same q k t) in
+    grind (arith, get-insert taxi_cmp_total rows k minutes q, tied, is))
 
 -- a stand without a row has none for any runway
 pub no_row_of_stand : (rows : TaxiRows) (s r : List ℕ) → has_row rows s ≡ false → map.get rows (place.Stand s, r) ≡ None

@@ -131,7 +131,7 @@ impl TaxiTable {
         self.rows.is_same(&other.rows)
     }
 
-    /// A copy of the table.
+    /// A copy of the table. Its memory comes from where the table's own does.
     pub fn copy(&self) -> Result<TaxiTable, AllocError>
         ensures { IfOk result (λ t. t ≡ self.now) }
     {

@@ -12,13 +12,12 @@ returns-in_err-insert-clause-new_row c =
 
 pub invariant_of-self-then-not-is_new_stand : goal.invariant_of-self-then-not-is_new_stand
 invariant_of-self-then-not-is_new_stand c =
-    let m = c.self.inside.minutes in
-    let stands = c.self.inside.stands in
     let is_old : is_new_stand (stands_in c.args.self.now) c.args.place ≡ false = cc in
-    subst (λ (rows : TaxiRows). AreStandsOf rows stands)
-    (sym (rows_of-insert m c.insert.new.self c.args.self.now (c.args.place, c.args.runway) c.args.minutes c.self.view_is c.in_ok-insert.ensures.updates.0))
-    (are_stands_of-insert_old c.args.self.now stands c.args.place c.args.runway c.args.minutes
-    (subst (λ (rows : TaxiRows). AreStandsOf rows stands) c.self.view_is c.self.invariant) is_old)
+    subst (λ (rows : TaxiRows). AreStandsOf rows c.self.inside.stands)
+    (sym (rows_of-insert c.self.inside.minutes c.insert.new.self c.args.self.now (c.args.place, c.args.runway) c.args.minutes
+    c.self.view_is c.in_ok-insert.ensures.updates.0))
+    (are_stands_of-insert_old c.args.self.now c.self.inside.stands c.args.place c.args.runway c.args.minutes
+    (subst (λ (rows : TaxiRows). AreStandsOf rows c.self.inside.stands) c.self.view_is c.self.invariant) is_old)
 
 pub returns-then-not-is_new_stand-clause-ok : goal.returns-then-not-is_new_stand-clause-ok
 returns-then-not-is_new_stand-clause-ok c =
