@@ -26,7 +26,7 @@ use Rattle.cdm_plan.specs.Day.{DayRecord, flights_in, rules_of, rules_in, rows_b
 use Rattle.cdm_plan.specs.Sound.{IsSound, TellTaxi}
 use Rattle.cdm_day.specs.Changes.{ChangesRunway, IsChange, has_window, with_change}
 use Rattle.cdm_day.specs.declared.change.Change.{Change}
-use Rattle.cdm_day.specs.declared.change.Change.TheVariants.{NewFlight, NextRecord, Runway, TaxiRow, Values}
+use Rattle.cdm_day.specs.declared.change.Change.TheVariants.{NewFlight, NextRecord, Runway, TaxiRow}
 use Rattle.cdm_day.specs.declared.change.RunwayChange.{RunwayChange}
 use Rattle.cdm_day.specs.inner.Put.{flight_with, made_known, rows_with, rules_with, values_with}
 use Rattle.cdm_day.specs.inner.Tables.{Flights}

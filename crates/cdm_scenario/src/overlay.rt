@@ -104,7 +104,14 @@ impl Takes for Overlay<'_> {
                 change_over(alloc, &mut self.runways, name, base, change)?;
             }
             Change::TaxiRow(place, runway, minutes) => {
-                set_over(alloc, &mut self.taxi, self.base.taxi(), place, runway, minutes)?;
+                set_over(
+                    alloc,
+                    &mut self.taxi,
+                    self.base.taxi(),
+                    place,
+                    runway,
+                    minutes,
+                )?;
             }
             Change::Values(values) => self.values = values,
         }
