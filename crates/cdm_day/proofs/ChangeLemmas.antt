@@ -1,13 +1,13 @@
 -- What the longer journal says is what the day says with the change.
 use Rattle.std.proofs.Common.{◌≡◌, ℕ, ◌≤◌, Bool, true, false, List, [], ◌∷◌, ◌++◌, Option, None, Some, refl, sym, ap, ◌∙◌, subst, true≢false, arith}
-use Rattle.cdm_plan.proofs.ListWords.{if◌then◌else◌, nat_lt, Contains, cons_option, is_some, nat_list_eq_equiv, nat_tests, same_text}
+use Rattle.cdm_plan.proofs.ListWords.{if◌then◌else◌, nat_lt, Contains, cons_option, nat_list_eq_equiv, option_map, nat_tests, same_text}
 use Rattle.cdm_day.proofs.DayWords.{RunwayRow, Update, flight_in, reach_of, same_name, same_name-refl, same_reach, Record, is_fresh, TaxiRows, AirportRows, runway_row, flight_of, values_of}
 use Rattle.cdm_day.proofs.DayWords.{flight_of-untouched, values_of-untouched, refusal_of, RunwayRules, is_rate_window, IsAirport, DayRecord, flights_in, rules_of, with_update}
-use Rattle.cdm_day.proofs.DayWords.{IsSound, TellTaxi, ChangesRunway, IsChange, has_window, with_change, Flt, Rate, Close, Reopen}
+use Rattle.cdm_day.proofs.DayWords.{IsSound, TellTaxi, ChangesRunway, IsChange, has_window, with_change, cap_given, closed_given, only_if, window_has, Flt, Rate, Close, Reopen}
 use Rattle.cdm_flight.specs.declared.reach.Reach.{Reach}
 use Rattle.cdm_flight.specs.declared.reach.Reach.TheVariants as reach
 use Rattle.cdm_plan.proofs.DayPlanLemmas.{record_name}
-use Rattle.cdm_plan.proofs.JournalFacts.{accepted_is, flights_in-push, new_flight-old}
+use Rattle.cdm_plan.proofs.JournalFacts.{flights_in-push, new_flight-old}
 use Rattle.cdm_plan.proofs.NameLemmas.{find_some, one_row}
 use Rattle.cdm_plan.proofs.RunwayLemmas.{rules-same}
 use Rattle.cdm_plan.specs.Day.{new_flight}
@@ -98,83 +98,98 @@ module _ (d : DayRecord) (airport : IsAirport d.airport) (u : Update) (r : List 
       by true h = subst (λ (x : RunwayRow). rules_of d.airport (d.journal ++ u ∷ []) x ≡ with_change change (rules_of d.airport d.journal x)) (sym (the_row row i h)) (sym is.allows)
       by false h = sym (rules-same d.airport d.journal row u (ap (λ what. same_reach what (reach.Runway row.name)) is.of_it ∙ (nat_list_eq_equiv.symm r row.name ∙ h)))
 
-module _ (d : DayRecord) (row : RunwayRow) (r : List ℕ) (known : runway_row d.airport r ≡ Some row) (from to : ℕ) (within : to ≤ 2880) where
-  own_name : same_name r row.name ≡ true
-  own_name = nat_list_eq_equiv.symm r row.name ∙ (find_some (λ (x : RunwayRow). same_name x.name r) d.airport.runways row known).1
+-- its name is the row's
+own_name : (g : AirportRows) (row : RunwayRow) (r : List ℕ) → runway_row g r ≡ Some row → same_name r row.name ≡ true
+own_name g row r known = nat_list_eq_equiv.symm r row.name ∙ (find_some (λ (x : RunwayRow). same_name x.name r) g.runways row known).1
 
-  in_order : nat_lt from to ≡ true → from ≤ to
-  in_order h = grind (arith, nat_tests)
+-- a RATE sets a rate
+pub rate_changes : (d : DayRecord) (r : List ℕ) (x : RunwayRules) (from to cap : ℕ) → option_map (rules_of d.airport d.journal) (runway_row d.airport r) ≡ Some x
+    → is_rate_window x.cell from to ≡ true → to ≤ 2880 → ChangesRunway d (Rate r from to cap) r (change.Rate from to cap)
+unfolding rules_of
+rate_changes d r x from to cap at h within = by (runway_row d.airport r) refl at
+  where
+    by : (o : Option RunwayRow) → runway_row d.airport r ≡ o → option_map (rules_of d.airport d.journal) o ≡ Some x → ChangesRunway d (Rate r from to cap) r (change.Rate from to cap)
+    by None known k = cc
+    by (Some row) known k =
+        let same : rules_of d.airport d.journal row ≡ x = cc in
+        let window : is_rate_window row.cell from to ≡ true = ap (λ (y : RunwayRules). is_rate_window y.cell from to) same ∙ h in
+        record {
+          of_it = refl;
+          row = row;
+          known = known;
+          window = window;
+          allows = rules-rate d.airport d.journal row (Rate r from to cap) (own_name d.airport row r known) from to cap window within (λ m. refl) (λ m. refl);
+        }
 
-  -- a RATE sets a rate
-  pub rate_changes : (cap : ℕ) → is_rate_window row.cell from to ≡ true → ChangesRunway d (Rate r from to cap) r (change.Rate from to cap)
-  unfolding rules_of
-  rate_changes cap h = record {
-    of_it = refl;
-    row = row;
-    known = known;
-    window = h;
-    allows = rules-rate d.airport d.journal row (Rate r from to cap) own_name from to cap h within (λ m. refl) (λ m. refl);
-  }
+in_order : (from to : ℕ) → nat_lt from to ≡ true → from ≤ to
+in_order from to h = grind (arith, nat_tests)
 
-  -- a CLOSE or OPEN sets a closure
-  pub closure_changes : (closed : Bool) → nat_lt from to ≡ true → ChangesRunway d (if closed then Close r from to else Reopen r from to) r (change.Closure from to closed)
-  closure_changes true h = record {
-    of_it = refl;
-    row = row;
-    known = known;
-    window = h;
-    allows = rules-closed d.airport d.journal row (Close r from to) own_name from to true (in_order h) within (λ m. refl) (λ m. refl);
-  }
-  closure_changes false h = record {
-    of_it = refl;
-    row = row;
-    known = known;
-    window = h;
-    allows = rules-closed d.airport d.journal row (Reopen r from to) own_name from to false (in_order h) within (λ m. refl) (λ m. refl);
-  }
+-- a CLOSE or OPEN sets a closure
+pub closure_changes : (d : DayRecord) (row : RunwayRow) (r : List ℕ) → runway_row d.airport r ≡ Some row → (from to : ℕ) → to ≤ 2880 → (closed : Bool) → nat_lt from to ≡ true
+    → ChangesRunway d (if closed then Close r from to else Reopen r from to) r (change.Closure from to closed)
+closure_changes d row r known from to within closed h = by closed
+  where
+    closes : (u : Update) (closed : Bool) → reach_of u ≡ reach.Runway r → ((m : ℕ) → cap_given m u ≡ None) → ((m : ℕ) → closed_given m u ≡ only_if (window_has from to m) closed)
+        → ChangesRunway d u r (change.Closure from to closed)
+    closes u closed of_it caps given = record {
+      of_it = of_it;
+      row = row;
+      known = known;
+      window = h;
+      allows = rules-closed d.airport d.journal row u (ap (λ what. same_reach what (reach.Runway row.name)) of_it ∙ own_name d.airport row r known) from to closed (in_order from to h) within caps given;
+    }
+
+    by : (closed : Bool) → ChangesRunway d (if closed then Close r from to else Reopen r from to) r (change.Closure from to closed)
+    by true = closes (Close r from to) true refl (λ m. refl) (λ m. refl)
+    by false = closes (Reopen r from to) false refl (λ m. refl) (λ m. refl)
 
 -- All changes.
 
-pub says_with : (d : DayRecord) (u : Update) → IsSound d → refusal_of d.airport d.journal u ≡ None → (change : Change) → IsChange d u change → SaysWith d u change
-says_with d u sound good (NewFlight r) is = record {
-  sound = sound_after d u sound good;
-  flights = flight_put d u r is.0 is.2;
-  order = flights_in-push d.journal u ∙ ap (λ o. flights_in d.journal ++ cons_option o []) (new_is u r.name is.1 is.0);
-  runways = λ row i. runways_left d u is.0 (λ q. refl) row;
-  taxi = taxi_left d u is.0 (λ q. refl);
-  day = day_left d u is.0 refl;
-}
-says_with d u sound good (NextRecord r) is = record {
-  sound = sound_after d u sound good;
-  flights = flight_put d u r is.0 is.2;
-  order = order-old d u is.0 is.1;
-  runways = λ row i. runways_left d u is.0 (λ q. refl) row;
-  taxi = taxi_left d u is.0 (λ q. refl);
-  day = day_left d u is.0 refl;
-}
-says_with d u sound good (Runway r change) is = record {
-  sound = sound_after d u sound good;
-  flights = flights_left d u is.of_it (λ f. refl);
-  order = order_left d u is.of_it (λ f. refl);
-  runways = runway_put d sound.airport u r change is;
-  taxi = taxi_left d u is.of_it (λ q. refl);
-  day = day_left d u is.of_it refl;
-}
-says_with d u sound good (TaxiRow place r minutes) is =
-    let of_it : reach_of u ≡ reach.Taxi r = ap reach_of is in
-    record {
-      sound = sound_after d u sound good;
-      flights = flights_left d u of_it (λ f. refl);
-      order = order_left d u of_it (λ f. refl);
-      runways = λ row i. runways_left d u of_it (λ q. refl) row;
-      taxi = λ rows told. rw is (taxi_after_taxi d.airport d.journal place r minutes rows told);
-      day = day_left d u of_it refl;
-    }
-says_with d u sound good (Values values) is = record {
-  sound = sound_after d u sound good;
-  flights = flights_left d u is.0 (λ f. refl);
-  order = order_left d u is.0 (λ f. refl);
-  runways = λ row i. runways_left d u is.0 (λ q. refl) row;
-  taxi = taxi_left d u is.0 (λ q. refl);
-  day = is.1;
-}
+-- what a change is of
+abbrev reach_with : Change → Reach
+reach_with (NewFlight r) = reach.Flight r.name
+reach_with (NextRecord r) = reach.Flight r.name
+reach_with (Runway r change) = reach.Runway r
+reach_with (TaxiRow place r minutes) = reach.Taxi r
+reach_with (Values values) = reach.Day
+
+module _ (d : DayRecord) (u : Update) (sound : IsSound d) where
+  is_of : (change : Change) → IsChange d u change → reach_of u ≡ reach_with change
+  is_of (NewFlight r) is = is.0
+  is_of (NextRecord r) is = is.0
+  is_of (Runway r change) is = is.of_it
+  is_of (TaxiRow place r minutes) is = ap reach_of is
+  is_of (Values values) is = is.0
+
+  flights : (change : Change) → IsChange d u change → (f : List ℕ) → flight_of d.airport (d.journal ++ u ∷ []) f ≡ flight_with change f (flight_of d.airport d.journal f)
+  flights (NewFlight r) is = flight_put d u r is.0 is.2
+  flights (NextRecord r) is = flight_put d u r is.0 is.2
+  flights change is = flights_left d u (is_of change is) (λ f. refl)
+
+  order : (change : Change) → IsChange d u change → flights_in (d.journal ++ u ∷ []) ≡ flights_in d.journal ++ made_known change
+  order (NewFlight r) is = flights_in-push d.journal u ∙ ap (λ o. flights_in d.journal ++ cons_option o []) (new_is u r.name is.1 is.0)
+  order (NextRecord r) is = order-old d u is.0 is.1
+  order change is = order_left d u (is_of change is) (λ f. refl)
+
+  runways : (change : Change) → IsChange d u change
+      → (row : RunwayRow) → Contains d.airport.runways row → rules_of d.airport (d.journal ++ u ∷ []) row ≡ rules_with change (rules_of d.airport d.journal row)
+  runways (Runway r change) is = runway_put d sound.airport u r change is
+  runways change is = λ row i. runways_left d u (is_of change is) (λ q. refl) row
+
+  taxi : (change : Change) → IsChange d u change → (rows : TaxiRows) → TellTaxi d.airport d.journal rows → TellTaxi d.airport (d.journal ++ u ∷ []) (rows_with change rows)
+  taxi (TaxiRow place r minutes) is = λ rows told. rw is (taxi_after_taxi d.airport d.journal place r minutes rows told)
+  taxi change is = taxi_left d u (is_of change is) (λ q. refl)
+
+  day : (change : Change) → IsChange d u change → values_of (d.journal ++ u ∷ []) ≡ values_with change (values_of d.journal)
+  day (Values values) is = is.1
+  day change is = day_left d u (is_of change is) refl
+
+  pub says_with : refusal_of d.airport d.journal u ≡ None → (change : Change) → IsChange d u change → SaysWith d u change
+  says_with good change is = record {
+    sound = sound_after d u sound good;
+    flights = flights change is;
+    order = order change is;
+    runways = runways change is;
+    taxi = taxi change is;
+    day = day change is;
+  }

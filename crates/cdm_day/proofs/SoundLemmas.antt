@@ -1,7 +1,7 @@
 -- A day stays sound with every update that no word refuses.
-use Rattle.std.proofs.Common.{◌≡◌, ℕ, ◌≤◌, Bool, true, false, cond, not, ◌||◌, List, [], ◌∷◌, ◌++◌, length, Option, None, Some, refl, sym, ap, ◌∙◌, subst, true≢false, arith, length-append}
-use Rattle.cdm_plan.proofs.ListWords.{nat_le, count_by, is_some, or_parts, nat_tests, option_or, list_any, IsDistinct, nat_list_eq_equiv, append-nil, IsDistinct-push}
-use Rattle.cdm_day.proofs.DayWords.{Update, flight_in, reach_of, same_name, same_reach, is_fresh, is_one_stand_too_many, AirportRows, last_value, of_flight, runway_given, is_known, flight_of, runway_of}
+use Rattle.std.proofs.Common.{◌≡◌, ℕ, ◌≤◌, Bool, true, false, List, [], ◌∷◌, ◌++◌, length, Option, None, Some, refl, sym, ap, ◌∙◌, subst, true≢false, arith, length-append}
+use Rattle.cdm_plan.proofs.ListWords.{nat_le, count_by, is_some, or_parts, nat_tests, option_or, list_any, append-nil}
+use Rattle.cdm_day.proofs.DayWords.{Update, flight_in, reach_of, same_reach, is_fresh, is_one_stand_too_many, AirportRows, last_value, of_flight, runway_given, is_known, flight_of, runway_of}
 use Rattle.cdm_day.proofs.DayWords.{has_runway, is_unknown, is_full, stands_with_rows, refusal_of, last_value-push, touching-push, untouched, DayRecord, flights_in, with_update, IsSound, Flt, Taxi}
 use Rattle.cdm_flight.specs.declared.reach.Reach.TheVariants as reach
 use Rattle.cdm_flight.proofs.JournalLemmas.{is_known-push}

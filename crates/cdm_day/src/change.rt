@@ -14,7 +14,11 @@ use std::alloc::AllocError;
 #[derive(Clone, Copy, Debug, PartialEq, Eq)]
 pub enum RunwayChange {
     /// How many flights each of its cells takes.
-    Rate { from: Minute, to: Bound, cap: Cap },
+    Rate {
+        from: Minute,
+        to: Bound,
+        cap: Cap,
+    },
     /// Whether it is closed.
     Closure {
         from: Minute,

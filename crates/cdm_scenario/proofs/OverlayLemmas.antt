@@ -1,5 +1,6 @@
 -- What is laid over a day, after one more update.
-use Rattle.std.proofs.Common.{◌≡◌, ℕ, zero, suc, ◌-◌, ◌<◌, ◌≤◌, Bool, true, false, List, [], ◌∷◌, ◌++◌, length, Option, None, Some, refl, sym, ap, ◌∙◌, subst, arith}
+use Rattle.std.proofs.Common.{◌≡◌, ℕ, zero, suc, ◌-◌, ◌<◌, ◌≤◌, Bool, true, false, List, [], ◌∷◌, ◌++◌, length, Option, None, Some, refl, sym, ap}
+use Rattle.std.proofs.Common.{◌∙◌, subst, arith}
 use Rattle.std.specs.Prelude.{unwrap_or, is_some, slice_get, if◌then◌else◌}
 use Rattle.std.specs.Option.{option_and_then, option_map, option_or}
 use Rattle.std.specs.List.{Contains}
@@ -26,7 +27,7 @@ use Rattle.cdm_plan.specs.Day.{DayRecord, flights_in, rules_of, rules_in, rows_b
 use Rattle.cdm_plan.specs.Sound.{IsSound, TellTaxi}
 use Rattle.cdm_day.specs.Changes.{ChangesRunway, IsChange, has_window, with_change}
 use Rattle.cdm_day.specs.declared.change.Change.{Change}
-use Rattle.cdm_day.specs.declared.change.Change.TheVariants.{NewFlight, NextRecord, Runway, TaxiRow, Values}
+use Rattle.cdm_day.specs.declared.change.Change.TheVariants.{NewFlight, NextRecord, Runway, TaxiRow}
 use Rattle.cdm_day.specs.declared.change.RunwayChange.{RunwayChange}
 use Rattle.cdm_day.specs.inner.Put.{flight_with, made_known, rows_with, rules_with, values_with}
 use Rattle.cdm_day.specs.inner.Tables.{Flights}
@@ -55,7 +56,8 @@ slice_get-back (x ∷ xs) ys (suc i) h = let same : i - length xs ≡ suc i - le
 
 -- The names of a day's flights are those of their records.
 
-name_at_place : (d : DayRecord) → IsSound d → (i : ℕ) (o : Option Record) → o ≡ option_and_then (flight_of d.airport d.journal) (slice_get (flights_in d.journal) i)
+name_at_place : (d : DayRecord) → IsSound d → (i : ℕ) (o : Option Record)
+    → o ≡ option_and_then (flight_of d.airport d.journal) (slice_get (flights_in d.journal) i)
     → option_map (λ r. r.name) o ≡ slice_get (flights_in d.journal) i
 name_at_place d sound i o at = ap (option_map (λ (r : Record). r.name)) at ∙ by (slice_get (flights_in d.journal) i) refl
   where
@@ -70,7 +72,8 @@ name_at_place d sound i o at = ap (option_map (λ (r : Record). r.name)) at ∙ 
 
 -- Nothing laid over.
 
-pub over_nothing : (d : DayRecord) (items : List Update) (m : Flights) (new : List (List ℕ)) (own : Runways) (values : DayValues) → IsSound d → items ≡ [] → m.entries ≡ []
+pub over_nothing : (d : DayRecord) (items : List Update) (m : Flights) (new : List (List ℕ)) (own : Runways) (values : DayValues) → IsSound d
+    → items ≡ [] → m.entries ≡ []
     → new ≡ [] → own.entries ≡ [] → values ≡ values_of d.journal
     → TellChanged d.airport d.journal (d.journal ++ items) m new own None values
 over_nothing d items m new own values sound none no_flights no_new no_runways day =
@@ -103,7 +106,8 @@ module _ {g : AirportRows} {a e : List Update} {m : Flights} {new : List (List �
       sym (slice_get-map (rules_of g e) (rows_by_name g.runways) i ∙ by (slice_get (rows_by_name g.runways) i) refl (sym (slice_get-map (rules_of g a) (rows_by_name g.runways) i) ∙ sym at))
       ∙ ap (λ (d : DayRecord). slice_get (rules_in d.airport d.journal) i) is
     where
-      by : (q : Option RunwayRow) → slice_get (rows_by_name g.runways) i ≡ q → option_map (rules_of g a) q ≡ Some x → option_map (rules_of g e) q ≡ Some (unwrap_or o x)
+      by : (q : Option RunwayRow) → slice_get (rows_by_name g.runways) i ≡ q → option_map (rules_of g a) q ≡ Some x
+          → option_map (rules_of g e) q ≡ Some (unwrap_or o x)
       by None h k = cc
       by (Some row) h k =
           let is_x : rules_of g a row ≡ x = cc in
@@ -149,7 +153,8 @@ module _ {g : AirportRows} {a e : List Update} {m : Flights} {new : List (List �
         by None over = λ base tell. more base (over base tell)
         by (Some t) over = more t over
 
-    pub over_change : (change : Change) → IsChange d u change → (n : Flights) (later : List (List ℕ)) (mine : Runways) (table : Option TaxiRows) (after : DayValues)
+    pub over_change : (change : Change) → IsChange d u change
+        → (n : Flights) (later : List (List ℕ)) (mine : Runways) (table : Option TaxiRows) (after : DayValues)
         → ((f : List ℕ) → get same_name n f ≡ flight_with change f (get same_name m f)) → later ≡ new ++ made_known change
         → ((row : RunwayRow) → Contains g.runways row → rules_of g (e ++ u ∷ []) row ≡ unwrap_or (get same_name mine row.name) (rules_of g a row))
         → TaxiOver g a (e ++ u ∷ []) table → after ≡ values_with change values → TellChanged g a (e ++ u ∷ []) n later mine table after
@@ -184,7 +189,8 @@ module _ {g : AirportRows} {a e : List Update} {m : Flights} {new : List (List �
 
     -- A taxi time.
 
-    pub row_fits : (p : Place) (s : List ℕ) (t : ℕ) → IsChange d u (TaxiRow p s t) → (base : TaxiRows) → TellTaxi g a base → is_one_stand_too_many (stands_in (unwrap_or rows base)) p ≡ false
+    pub row_fits : (p : Place) (s : List ℕ) (t : ℕ) → IsChange d u (TaxiRow p s t) → (base : TaxiRows) → TellTaxi g a base
+        → is_one_stand_too_many (stands_in (unwrap_or rows base)) p ≡ false
     row_fits p s t what base tell = taxi-fits g e (unwrap_or rows base) (taxi_now base tell) p s t (rw what at fine)
 
     pub taxi_set : (p : Place) (s : List ℕ) (t : ℕ) → IsChange d u (TaxiRow p s t) → (base : TaxiRows) → TellTaxi g a base

@@ -1,14 +1,15 @@
-//! Parts that tables may share. A change makes a part anew, unless it has one owner.
-ghost use Rattle.std.specs.Prelude.{◌≡◌, false, map, IfOk, OnOk, OnErr};
+//! Parts that tables may share. A change makes a part anew, unless flights or taxi times have one owner.
+ghost use Rattle.std.specs.Prelude.{◌≡◌, true, false, map, All, IfOk, OnOk, OnErr};
 ghost use Rattle.std.specs.Arc.{arc_value};
 ghost use Rattle.std.specs.FinMap as finite;
 ghost use Rattle.indexmap.specs.IndexMap.{insert_entry};
 ghost use Rattle.cdm_flight.specs.Names.{same_name};
 ghost use Rattle.cdm_flight.specs.Taxi.{is_one_stand_too_many, stands_in};
+ghost use Rattle.cdm_day.specs.Changes.{has_window};
 ghost use Rattle.cdm_day.specs.inner.Put.{if_named};
-ghost use Rattle.cdm_day.specs.inner.Tables.{ArePut, AreSame, HasPlace, HaveWindow, Sets};
+ghost use Rattle.cdm_day.specs.inner.Tables.{ArePut, AreSame, HasPlace, Sets};
 
-use super::runways::{change_named, copy_runways};
+use super::runways::copied_runways;
 use crate::change::{Change, RunwayChange, set_taxi};
 use cdm_flight::{DayValues, Flight, FlightName, Place, RunwayName, TaxiMinutes};
 use cdm_runway::Runway;
@@ -92,23 +93,19 @@ fn copy_flights(
     Ok(copy)
 }
 
-// Changes the runway of this name.
+// Changes the runway of this name. They are few, so that all are made anew.
 fn change_runways(
     alloc: Global,
     runways: &mut Arc<Vec<Runway>>,
     name: RunwayName,
     change: RunwayChange,
 ) -> Result<(), AllocError>
-    requires { HaveWindow name change (arc_value runways.old).items }
+    requires { All (λ rules. same_name rules.name name ≡ true → has_window change rules ≡ true) (arc_value runways.old).items }
     ensures ok { OnOk result ((arc_value runways.new).items ≡ map (if_named name change) (arc_value runways.old).items) }
     ensures err { OnErr result ((arc_value runways.new).items ≡ (arc_value runways.old).items) }
 {
-    if let Some(own) = Arc::get_mut(runways) {
-        return change_named(own, name, change);
-    }
-    let mut own = copy_runways(alloc, runways.as_slice())?;
-    change_named(&mut own, name, change)?;
-    *runways = Arc::new(alloc, own)?;
+    let changed = copied_runways(alloc, runways.as_slice(), name, &change)?;
+    *runways = Arc::new(alloc, changed)?;
     Ok(())
 }
 

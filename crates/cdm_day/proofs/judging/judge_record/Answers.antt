@@ -1,4 +1,3 @@
-use Rattle.std.proofs.Common.{sym}
 use Rattle.cdm_day.proofs.ChangeLemmas.{next_record}
 use Rattle.cdm_day.proofs.WordLemmas.{refused, unless_full}
 use Rattle.cdm_day.specs.declared.change.Change.TheVariants.{NextRecord}
@@ -7,8 +6,8 @@ use Rattle.cdm_day.proofs.judging.judge_record.Goals as goal
 pub returns-in-Ok : goal.returns-in-Ok
 returns-in-Ok g c =
     let d = g.R.Records.day c.args.records.now in
-    unless_full d c.args.update.now (NextRecord c.in-Ok.next) _ c.unless_full.ensures c.in-Ok.ensures.rest
+    unless_full (NextRecord c.in-Ok.next) c.unless_full.ensures c.in-Ok.ensures.rest
     (next_record d c.args.update.now c.args.flight c.in-Ok.next c.requires.of_flight c.requires.old c.in-Ok.ensures.after)
 
 pub returns-in-Err : goal.returns-in-Err
-returns-in-Err g c = refused (g.R.Records.day c.args.records.now) c.args.update.now c.in-Err.word c.in-Err.ensures.refused
+returns-in-Err g c = refused c.in-Err.ensures.refused
