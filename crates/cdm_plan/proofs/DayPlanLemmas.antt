@@ -1,5 +1,5 @@
 -- The plan of what records tell is that of their day.
-use Rattle.std.proofs.Common.{◌≡◌, ℕ, ◌+◌, ◌≤◌, ◌++◌, take, List, [], length, Option, None, Some, refl, sym, ◌∙◌, ap, subst, map, filter, arith}
+use Rattle.std.proofs.Common.{◌≡◌, ℕ, ◌+◌, ◌≤◌, ◌++◌, take, List, [], length, IfSome, Option, None, Some, refl, sym, ◌∙◌, ap, subst, map, filter, arith}
 use Rattle.cdm_plan.proofs.ListWords.{is_some, slice_get, option_and_then, AllZip, filter_map, flat_map, cons_option, IsDistinct, IsPermutation}
 use Rattle.cdm_plan.proofs.ListWords.{filter_map-append, IsPermutation-map, IsPermutation-refl, IsPermutation-sym, IsPermutation-trans, map_fixed}
 use Rattle.cdm_plan.proofs.ListWords.{distinct_filter, length-map}
@@ -20,7 +20,11 @@ record_name g a f r e = sym (ap (λ (x : Record). x.name) (status_of-record f g 
 
 -- they are those that the journal says something of
 record_names : (d : DayRecord) → map (λ (r : Record). r.name) (records_in d.airport d.journal) ≡ map (λ f. f) (filter (λ f. is_some (flight_of d.airport d.journal f)) (flights_in d.journal))
-record_names d = names_given (λ (r : Record). r.name) (λ f. f) (flight_of d.airport d.journal) (record_name d.airport d.journal) (flights_in d.journal)
+record_names d = names_given (λ (r : Record). r.name) (λ f. f) (flight_of d.airport d.journal) (λ f. named f (flight_of d.airport d.journal f) refl) (flights_in d.journal)
+  where
+    named : (f : List ℕ) (o : Option Record) → flight_of d.airport d.journal f ≡ o → IfSome o (λ r. r.name ≡ f)
+    named f None e = tt
+    named f (Some r) e = record_name d.airport d.journal f r e
 
 pub record_names_differ : (d : DayRecord) → IsDistinct same_name (flights_in d.journal) → IsDistinct same_name (map (λ (r : Record). r.name) (records_in d.airport d.journal))
 record_names_differ d own =

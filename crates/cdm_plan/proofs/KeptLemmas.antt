@@ -65,10 +65,6 @@ module _ (d : DayRecord) (r : List ℕ) where
   elsewhere : (what : Reach) (f : List ℕ) → what ≡ reach.Flight f → is_noted d what r ≡ false → option_map_or (is_on r) (flight_of d.airport d.journal f) false ≡ false
   elsewhere what f e h = sym (ap (λ w. is_noted d w r) e) ∙ h
 
-rules_name : (d : DayRecord) (row : RunwayRow) → (rules_of d.airport d.journal row).name ≡ row.name
-unfolding rules_of
-rules_name d row = refl
-
 fresh_is : (u : Update) (f : List ℕ) → new_flight u ≡ Some f → reach_of u ≡ reach.Flight f
 fresh_is (Flt g p) f e = let same : g ≡ f = cc in ap reach.Flight same
 fresh_is _ f e = cc
@@ -110,28 +106,29 @@ module _ (d : DayRecord) (u : Update) (row : RunwayRow) (before : is_noted d (re
 
   -- the runway keeps its sequence
   still_planned : (p : RunwayPlanRecord) → IsPlanOn d (rules_of d.airport d.journal row) p → IsPlanOn (with_update d u) (rules_of d.airport (d.journal ++ u ∷ []) row) p
+  unfolding rules_of
   still_planned p old =
       let g = d.airport in
       let a = d.journal in
       let b = d.journal ++ u ∷ [] in
       let r = row.name in
+      let next = with_update d u in
       let taxi : (place : Place) → taxi_of g a place r ≡ taxi_of g b place r = λ place. sym (taxi_of-untouched g a u place r (no_taxi d r (reach_of u) before)) in
       let values : values_of a ≡ values_of b = sym (values_of-untouched a u (no_value d r (reach_of u) before)) in
       let rules : rules_of g a row ≡ rules_of g b row = rules-same g a row u (no_rule d r (reach_of u) before) in
-      let fixed : fixed_in d r ≡ fixed_in (with_update d u) r =
-      fixed_on-given r (records_in g a) ∙ (given_same (fixed_at r) (fixed_at r) (λ f. refl) (λ f h. ap (λ b. if_so b (fixed_slot f)) h) ∙ sym (fixed_on-given r (records_in g b))) in
-      let targets : targets_at d r ≡ targets_at (with_update d u) r =
+      let fixed : fixed_in d r ≡ fixed_in next r =
+      fixed_on-given r (records_in g a)
+      ∙ (given_same (fixed_at r) (fixed_at r) (λ f. refl) (λ f h. ap (λ b. if_so b (fixed_slot f)) h) ∙ sym (fixed_on-given r (records_in g b))) in
+      let target_same : (f : Record) → target_at r (taxi_of g a) (values_of a) f ≡ target_at r (taxi_of g b) (values_of b) f = λ f.
+      same_target_at r (taxi_of g a) (taxi_of g b) (values_of a) taxi f ∙ ap (λ n. target_at r (taxi_of g b) n f) values in
+      let targets : targets_at d r ≡ targets_at next r =
       targets_on-given r (taxi_of g a) (values_of a) (records_in g a)
-      ∙ (given_same (target_at r (taxi_of g a) (values_of a)) (target_at r (taxi_of g b) (values_of b))
-      (λ f. same_target_at r (taxi_of g a) (taxi_of g b) (values_of a) taxi f ∙ ap (λ n. target_at r (taxi_of g b) n f) values) (no_target_at r (taxi_of g a) (values_of a))
+      ∙ (given_same (target_at r (taxi_of g a) (values_of a)) (target_at r (taxi_of g b) (values_of b)) target_same (no_target_at r (taxi_of g a) (values_of a))
       ∙ sym (targets_on-given r (taxi_of g b) (values_of b) (records_in g b))) in
       let x = rules_of g a row in
-      let there : IsSequence x (fixed_in (with_update d u) x.name) (targets_at (with_update d u) x.name) p =
-      subst (λ (ts : List TargetRecord). IsSequence x (fixed_in (with_update d u) x.name) ts p)
-      (subst (λ (n : List ℕ). targets_at d n ≡ targets_at (with_update d u) n) (sym (rules_name d row)) targets)
-      (subst (λ (xs : List SlotRecord). IsSequence x xs (targets_at d x.name) p) (subst (λ (n : List ℕ). fixed_in d n ≡ fixed_in (with_update d u) n) (sym (rules_name d row)) fixed)
-      (has_sequence d x p old)) in
-      subst (λ (y : RunwayRules). IsPlanOn (with_update d u) y p) rules (is_plan_on (with_update d u) x p there)
+      let old_targets = subst (λ (xs : List SlotRecord). IsSequence x xs (targets_at d r) p) fixed (has_sequence d x p old) in
+      let there = subst (λ (ts : List TargetRecord). IsSequence x (fixed_in next r) ts p) targets old_targets in
+      subst (λ (y : RunwayRules). IsPlanOn next y p) rules (is_plan_on next x p there)
 
 -- since the first day, after one more update
 pub since_taken : (first d next : DayRecord) (s m t : Touched) (u : Update) → next ≡ with_update d u → Adds s (is_noted d (reach_of u)) m
@@ -152,7 +149,7 @@ since_itself d t = record { airport = refl; keeps = λ row p h old. old }
 
 -- the plans of the runways that were not touched stand
 pub kept_since : (first d : DayRecord) (t : Touched) (plan : PlanRecord) → IsMade first plan → IsSince first t d → AreKept d t plan.runways
-unfolding IsDayPlan
+unfolding IsDayPlan rules_of
 kept_since first d t plan made since r p i e = by (is_touched t r.name) refl e
   where
     by : (b : Bool) → is_touched t r.name ≡ b → (if b then None else find (λ p. same_name p.runway r.name) plan.runways) ≡ Some p → IsPlanOn d r p
@@ -168,12 +165,12 @@ kept_since first d t plan made since r p i e = by (is_touched t r.name) refl e
         let old = partner R (day_rules first) day.made p day.sequences (Contains-permutation plan.runways day.made p (IsPermutation-sym day.made plan.runways day.parts.runways) found.0) in
         let at = contains_from_map (rules_of d.airport d.journal) (rows_by_name d.airport.runways) r i in
         let row = at.0 in
-        let named : row.name ≡ r.name = sym (rules_name d row) ∙ ap (λ (x : RunwayRules). x.name) at.2 in
+        let named : row.name ≡ r.name = ap (λ (x : RunwayRules). x.name) at.2 in
         let among : Contains rows row = subst (λ g. Contains (rows_by_name g.runways) row) since.airport at.1 in
         let there =
         contains_map rules first.airport.runways row (Contains-permutation rows first.airport.runways row
         (IsPermutation-sym first.airport.runways rows (rows_permutation first.airport.runways)) among) in
-        let name : old.0.name ≡ (rules row).name = sym old.1.runway ∙ (same_is p.runway r.name found.1 ∙ (sym named ∙ sym (rules_name first row))) in
+        let name : old.0.name ≡ row.name = sym old.1.runway ∙ (same_is p.runway r.name found.1 ∙ sym named) in
         let one : old.0 ≡ rules row = one_of_key same_name same_flips (λ (x : RunwayRules). x.name) (day_rules first) old.0 (rules row)
         (day_rules_differ first made.airport.names) old.2 there (is_same old.0.name (rules row).name name) in
         let here : IsPlanOn first (rules row) p = subst (λ (x : RunwayRules). IsPlanOn first x p) one (record { aims = aims; aimed = day.aimed; sequence = (placing, old.1) }) in

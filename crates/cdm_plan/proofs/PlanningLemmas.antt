@@ -102,36 +102,36 @@ parted {X} a b apart (x ∷ xs) = go (a x) (b x) refl refl (parted a b apart xs)
 
 -- Flights.
 
+-- what holds of what a flight gives holds where a test leaves it
+if_so-keeps : {Y : Type 0} (P : Y → Type 0) (b : Bool) (o : Option Y) → IfSome o P → IfSome (if_so b o) P
+if_so-keeps P true o h = h
+if_so-keeps P false o h = tt
+
+if_on-keeps : (P : TargetRecord → Type 0) (r : List ℕ) (o : Option TargetRecord) → IfSome o P → IfSome (if_on r o) P
+if_on-keeps P r None h = tt
+if_on-keeps P r (Some t) h = if_so-keeps P (same_name t.runway r) (Some t) h
+
 -- a target has its flight's name
-pub key_name : (f : Record) (times : TaxiTimes) (values : DayValues) (t : TargetRecord) → aim_of f times values ≡ Ready t → t.key.name ≡ f.name
-key_name f times values t e = by f.tobt refl (subst (IsAim f times values) e (aim_means f times values)).key
+key_name : (f : Record) (times : TaxiTimes) (values : DayValues) → IfSome (target_in (aim_of f times values)) (λ t. t.key.name ≡ f.name)
+key_name f times values = by (aim_of f times values) (aim_means f times values)
   where
-    by : (o : Option ℕ) → f.tobt ≡ o → option_map (λ tobt. record { priority = f.priority; tobt = tobt; name = f.name }) o ≡ Some t.key → t.key.name ≡ f.name
-    by None g k = cc
-    by (Some tobt) g k = sym (ap (λ (x : Option Key). option_map_or (λ y. y.name) x []) k)
+    named : (o : Option ℕ) (k : Key) → option_map (λ tobt. record { priority = f.priority; tobt = tobt; name = f.name }) o ≡ Some k → k.name ≡ f.name
+    named None k e = cc
+    named (Some tobt) k e = sym (ap (λ (x : Option Key). option_map_or (λ y. y.name) x []) e)
 
-pub target_name : (r : List ℕ) (times : TaxiTimes) (values : DayValues) (f : Record) (t : TargetRecord)
-    → if_so (is_planned f.status) (if_on r (target_in (aim_of f times values))) ≡ Some t → t.key.name ≡ f.name
-target_name r times values f t e = go (is_planned f.status) (aim_of f times values) refl e
-  where
-    on : (b : Bool) (s : TargetRecord) → aim_of f times values ≡ Ready s → cond b (Some s) None ≡ Some t → t.key.name ≡ f.name
-    on true s is k = let same : s ≡ t = cc in key_name f times values t (is ∙ ap Ready same)
-    on false s is k = cc
-
-    go : (p : Bool) (a : AimResult) → aim_of f times values ≡ a → if_so p (if_on r (target_in a)) ≡ Some t → t.key.name ≡ f.name
-    go true (Ready s) is k = on (same_name s.runway r) s is k
-    go true (Early rule) is k = cc
-    go false a is k = cc
+    by : (a : AimResult) → IsAim f times values a → IfSome (target_in a) (λ t. t.key.name ≡ f.name)
+    by (Ready t) is = named f.tobt t.key is.key
+    by (Early rule) is = tt
 
 -- a fixed flight has its flight's name, and has left
-fixed_name : (f : Record) (x : SlotRecord) → fixed_slot f ≡ Some x → x.name ≡ f.name
+fixed_name : (f : Record) → IfSome (fixed_slot f) (λ x. x.name ≡ f.name)
 unfolding fixed_slot
-fixed_name f x e = go f.status e
+fixed_name f = by f.status
   where
-    go : (s : Status) → slot_by f s ≡ Some x → x.name ≡ f.name
-    go (status.OffBlock aobt exot) k = sym (ap (λ (o : Option SlotRecord). option_map_or (λ y. y.name) o []) k)
-    go (status.Airborne aobt atot) k = sym (ap (λ (o : Option SlotRecord). option_map_or (λ y. y.name) o []) k)
-    go _ k = cc
+    by : (s : Status) → IfSome (slot_by f s) (λ x. x.name ≡ f.name)
+    by (status.OffBlock aobt exot) = refl
+    by (status.Airborne aobt atot) = refl
+    by _ = tt
 
 fixed_left : (f : Record) → is_some (fixed_slot f) ≡ true → is_planned f.status ≡ false
 unfolding fixed_slot
@@ -190,13 +190,6 @@ apart r times values f h =
     let left = fixed_left f (some_inside (is_on r f) (fixed_slot f) h) in
     ap (λ (b : Bool). is_some (if_so b (if_on r (target_in (aim_of f times values))))) left
 
-fixed_at_name : (r : List ℕ) (f : Record) (x : SlotRecord) → fixed_at r f ≡ Some x → x.name ≡ f.name
-fixed_at_name r f x e = go (is_on r f) e
-  where
-    go : (b : Bool) → if_so b (fixed_slot f) ≡ Some x → x.name ≡ f.name
-    go true k = fixed_name f x k
-    go false k = cc
-
 -- what a flight gives, it gives to its own runway
 pub no_target_at : (r : List ℕ) (times : TaxiTimes) (values : DayValues) (f : Record) → is_on r f ≡ false → target_at r times values f ≡ None
 no_target_at r times values f h = in_any (is_planned f.status) (by (aim_of f times values) refl)
@@ -234,8 +227,9 @@ names_stand r times values fs =
     let a : Record → Bool = λ f. is_some (fixed_at r f) in
     let b : Record → Bool = λ f. is_some (target_at r times values f) in
     let name : Record → List ℕ = λ f. f.name in
-    let fixed = ap (map (λ (x : SlotRecord). x.name)) (fixed_on-given r fs) ∙ names_given (λ x. x.name) name (fixed_at r) (fixed_at_name r) fs in
-    let targets = ap (map (λ (t : TargetRecord). t.key.name)) (targets_on-given r times values fs) ∙ names_given (λ t. t.key.name) name (target_at r times values) (target_name r times values) fs in
+    let fixed = ap (map (λ (x : SlotRecord). x.name)) (fixed_on-given r fs) ∙ names_given (λ x. x.name) name (fixed_at r) (λ f. if_so-keeps _ (is_on r f) (fixed_slot f) (fixed_name f)) fs in
+    let targets = ap (map (λ (t : TargetRecord). t.key.name)) (targets_on-given r times values fs) ∙ names_given (λ t. t.key.name) name (target_at r times values)
+    (λ f. if_so-keeps _ (is_planned f.status) _ (if_on-keeps _ r (target_in (aim_of f times values)) (key_name f times values))) fs in
     subst (IsPermutation (map name (filter (stands times values r) fs))) (map-append name (filter a fs) (filter b fs) ∙ (λ i. sym fixed i ++ sym targets i))
     (IsPermutation-map name (filter (stands times values r) fs) (filter a fs ++ filter b fs) (parted a b (apart r times values) fs))
 
@@ -268,15 +262,9 @@ pub early_named : (times : TaxiTimes) (values : DayValues) (fs : List Record)
     → IsPermutation (map (λ f. f.name) (filter (λ f. is_some (early_at times values f)) fs)) (map (λ (b : BlockedFlight). b.name) (blocked_early fs times values))
 early_named times values fs =
     let name : Record → List ℕ = λ f. f.name in
-    subst (IsPermutation (map name (filter (λ f. is_some (early_at times values f)) fs)))
-    (sym (ap (map (λ (b : BlockedFlight). b.name)) (early-given times values fs)
-    ∙ names_given (λ b. b.name) name (early_at times values) (λ f b e. own f b (is_planned f.status) (aim_of f times values) e) fs))
-    (IsPermutation-refl _)
-  where
-    own : (f : Record) (b : BlockedFlight) (p : Bool) (a : AimResult) → if_so p (blocked_in f.name a) ≡ Some b → b.name ≡ f.name
-    own f b true (Early rule) e = cc
-    own f b true (Ready t) e = cc
-    own f b false a e = cc
+    let own : (f : Record) (a : AimResult) → IfSome (blocked_in f.name a) (λ b. b.name ≡ f.name) = λ f. elim [ Ready t ↦ tt | Early rule ↦ refl ] in
+    rw (early-given times values fs, names_given (λ b. b.name) name (early_at times values)
+    (λ f. if_so-keeps _ (is_planned f.status) _ (own f (aim_of f times values))) fs) (IsPermutation-refl _)
 
 -- Each flight of a day once.
 
