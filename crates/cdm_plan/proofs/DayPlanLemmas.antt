@@ -1,12 +1,12 @@
 -- The plan of what records tell is that of their day.
 use Rattle.std.proofs.Common.{◌≡◌, ℕ, ◌+◌, ◌≤◌, ◌++◌, take, List, [], length, IfSome, Option, None, Some, refl, sym, ◌∙◌, ap, subst, map, filter, arith}
-use Rattle.cdm_plan.proofs.ListWords.{is_some, slice_get, option_and_then, AllZip, filter_map, flat_map, cons_option, IsDistinct, IsPermutation}
+use Rattle.cdm_plan.proofs.ListWords.{is_some, slice_get, option_and_then, AllZip, filter_map, cons_option, IsDistinct, IsPermutation}
 use Rattle.cdm_plan.proofs.ListWords.{filter_map-append, IsPermutation-map, IsPermutation-refl, IsPermutation-sym, IsPermutation-trans, map_fixed}
 use Rattle.cdm_plan.proofs.ListWords.{distinct_filter, length-map}
 use Rattle.cdm_plan.proofs.PlanWords.{same_name, Record, Update, AirportRows, flight_of, values_of, taxi_of, status_of-record, RunwayRules}
-use Rattle.cdm_plan.proofs.PlanWords.{IsSequence, PlanRecord, RunwayPlanRecord, TargetRecord, BlockedFlight, IsAirport, runway_names, DayRecord}
+use Rattle.cdm_plan.proofs.PlanWords.{IsSequence, PlanRecord, RunwayPlanRecord, TargetRecord, IsAirport, runway_names, DayRecord}
 use Rattle.cdm_plan.proofs.PlanWords.{flights_in, rules_of, rows_by_name, rules_in, IsDayPlan, day_rules, records_in, HasParts}
-use Rattle.cdm_plan.proofs.PlanWords.{fixed_on, planned_of, targets_in, targets_on, IsPlanOn, fixed_in, IsSound}
+use Rattle.cdm_plan.proofs.PlanWords.{planned_of, targets_on, IsPlanOn, fixed_in, IsSound}
 use Rattle.cdm_plan.proofs.PlanningLemmas.{aim_list, aims_are, aims_mean, blocked_early, early-aims, few_names, targets-aims, targets_of}
 use Rattle.cdm_sequence.proofs.NameLemmas.{names_given}
 use Rattle.cdm_plan.proofs.NameLemmas.{rows_permutation, runway-names, take-next}
@@ -63,7 +63,7 @@ is_plan_on d r p e =
     record {
       aims = aim_list fs times values;
       aimed = aims_mean times values (planned_of fs);
-      sequence = subst (λ (ts : List TargetRecord). IsSequence r (fixed_in d r.name) (targets_on r.name ts) p) (sym (targets-aims times values fs)) e;
+      sequence = rw (targets-aims times values fs) e;
     }
 
 pub has_sequence : (d : DayRecord) (r : RunwayRules) (p : RunwayPlanRecord) → IsPlanOn d r p → HasSequence d r p
@@ -71,12 +71,11 @@ has_sequence d r p e =
     let fs = records_in d.airport d.journal in
     let times = taxi_of d.airport d.journal in
     let values = values_of d.journal in
-    subst (λ (ts : List TargetRecord). IsSequence r (fixed_in d r.name) (targets_on r.name ts) p)
-    (ap targets_in (sym (aims_are times values (planned_of fs) e.aims e.aimed)) ∙ targets-aims times values fs) e.sequence
+    rw (← targets-aims times values fs, aims_are times values (planned_of fs) e.aims e.aimed) e.sequence
 
 -- the names of the runways differ
 pub day_rules_differ : (d : DayRecord) → IsDistinct same_name (runway_names d.airport) → IsDistinct same_name (map (λ r. r.name) (day_rules d))
-day_rules_differ d own = subst (λ (ns : List (List ℕ)). IsDistinct same_name ns) (sym (runway-names d.airport d.journal d.airport.runways)) own
+day_rules_differ d own = rw (runway-names d.airport d.journal d.airport.runways) own
 
 -- a plan made from the plans of the runways by name is the day's
 pub day_plan : (d : DayRecord) (made plans : List RunwayPlanRecord) (plan : PlanRecord) → IsAirport d.airport → AllZip (HasSequence d) (rules_in d.airport d.journal) made → IsPermutation made plans
@@ -91,11 +90,10 @@ day_plan d made plans plan airport each same clock parts =
     let back = IsPermutation-sym (day_rules d) (rules_in g a) (IsPermutation-map (rules_of g a) g.runways (rows_by_name g.runways) (rows_permutation g.runways)) in
     let found = AllZip-reordered (HasSequence d) (rules_in g a) (day_rules d) made back each in
     runways_make times values fs (day_rules d) (aim_list fs times values) found.0 plan (aims_mean times values (planned_of fs)) (day_rules_differ d airport.names)
-    (subst (λ (ts : List TargetRecord). AllZip (λ r p. IsSequence r (fixed_on r.name fs) (targets_on r.name ts) p) (day_rules d) found.0) (sym (targets-aims times values fs)) found.1)
-    clock
+    (rw (targets-aims times values fs) found.1) clock
     record {
       runways = IsPermutation-trans found.0 made plan.runways found.2 (IsPermutation-trans made plans plan.runways same parts.runways);
       runway_order = parts.runway_order;
-      blocked = subst (λ (bs : List BlockedFlight). IsPermutation (bs ++ flat_map (λ p. p.blocked) plan.runways) plan.blocked) (sym (early-aims times values fs)) parts.blocked;
+      blocked = rw (early-aims times values fs) parts.blocked;
       blocked_order = parts.blocked_order;
     }

@@ -1,10 +1,10 @@
 -- The steps to a plan: what planned flights could have, the plans of runways that stand, and the others.
-use Rattle.std.proofs.Common.{Bor, ◌≡◌, ℕ, true, cond, List, [], ◌∷◌, ◌++◌, Option, None, Some, refl, sym, ◌∙◌, ap, subst, arith, map, filter, length}
+use Rattle.std.proofs.Common.{Bor, ◌≡◌, ℕ, true, cond, List, [], ◌∷◌, ◌++◌, Option, None, Some, refl, ◌∙◌, ap, subst, arith, map, filter, length}
 use Rattle.cdm_plan.proofs.ListWords.{is_none, All, AllZip, Contains, cons_option, filter_map, IsPermutation, IsPermutation-append_right}
 use Rattle.cdm_plan.proofs.ListWords.{IsPermutation-middle, IsPermutation-refl, IsPermutation-sym, IsPermutation-trans, contains_head, contains_map}
 use Rattle.cdm_plan.proofs.ListWords.{contains_tail}
 use Rattle.cdm_plan.proofs.PlanWords.{DayValues, Record, is_planned, TaxiRows, values_of, taxi_of, RunwayRules, TaxiTimes, IsSequence}
-use Rattle.cdm_plan.proofs.PlanWords.{RunwayPlanRecord, TargetRecord, BlockedFlight, CanSequence, IsAimed, early_among, target_for, DayRecord}
+use Rattle.cdm_plan.proofs.PlanWords.{RunwayPlanRecord, BlockedFlight, CanSequence, IsAimed, early_among, target_for, DayRecord}
 use Rattle.cdm_plan.proofs.PlanWords.{rules_in, records_in, HasParts, fixed_on, planned_of, TellTaxi, AreKept, Together, kept_plan}
 use Rattle.std.specs.FinMap as finite
 use Rattle.cdm_plan.specs.declared.aimed.Aimed.{Aimed}

@@ -49,14 +49,13 @@ one_row rows own r x y i j h k =
 -- Rows by name.
 
 put_each : (done rows : List RunwayRow) → IsPermutation (done ++ rows) (fold put_by_name done rows)
-put_each done [] = subst (λ (l : List RunwayRow). IsPermutation l done) (sym (append-nil done)) (IsPermutation-refl done)
+put_each done [] = rw (append-nil done) (IsPermutation-refl done)
 put_each done (row ∷ rows) =
     let i = position_or_len (λ (x : RunwayRow). is_lt (name_cmp row.name x.name)) done in
     let front = IsPermutation-append_left rows (done ++ row ∷ []) (row ∷ done) (IsPermutation-to_front done row) in
-    let moved : IsPermutation (done ++ row ∷ rows) ((row ∷ done) ++ rows) = subst (λ (l : List RunwayRow). IsPermutation l ((row ∷ done) ++ rows)) (append_assoc done (row ∷ []) rows) front in
+    let moved : IsPermutation (done ++ row ∷ rows) ((row ∷ done) ++ rows) = rw (append_assoc done (row ∷ []) rows) at front in
     let put = IsPermutation-append_left rows (row ∷ done) (insert done i row) (IsPermutation-insert done i row) in
-    IsPermutation-trans (done ++ row ∷ rows) ((row ∷ done) ++ rows) (fold put_by_name done (row ∷ rows)) moved
-    (IsPermutation-trans ((row ∷ done) ++ rows) (insert done i row ++ rows) (fold put_by_name done (row ∷ rows)) put (put_each (insert done i row) rows))
+    IsPermutation-trans _ _ _ moved (IsPermutation-trans _ _ _ put (put_each (insert done i row) rows))
 
 pub rows_permutation : (rows : List RunwayRow) → IsPermutation rows (rows_by_name rows)
 unfolding rows_by_name
@@ -89,8 +88,7 @@ length-rules_in g a = length-map (rows_by_name g.runways) (rules_of g a) ∙ len
 -- their names differ
 pub rule_names_differ : (g : AirportRows) (a : List Update) → IsAirport g → IsDistinct same_name (map (λ (r : RunwayRules). r.name) (rules_in g a))
 rule_names_differ g a airport =
-    subst (λ (ns : List (List ℕ)). IsDistinct same_name ns) (sym (runway-names g a (rows_by_name g.runways)))
-    (IsDistinct-IsPermutation same_name same_flips (runway_names g) (map (λ row. row.name) (rows_by_name g.runways))
+    rw (runway-names g a (rows_by_name g.runways)) (IsDistinct-IsPermutation same_name same_flips (runway_names g) _
     (IsPermutation-map (λ (row : RunwayRow). row.name) g.runways (rows_by_name g.runways) (rows_permutation g.runways)) airport.names)
 
 -- what holds of all holds of each

@@ -83,7 +83,7 @@ module _ (times : TaxiTimes) (values : DayValues) (fs : List Record) (own : IsDi
 
     -- the plans of the runways have names of their own
     made_own : IsDistinct same_name (map (λ p. p.runway) made)
-    made_own = subst (λ (ns : List (List ℕ)). IsDistinct same_name ns) (sym (made_named (λ r. fixed_on r fs) targets_at rs made each_made)) rs_own
+    made_own = rw (made_named (λ r. fixed_on r fs) targets_at rs made each_made) rs_own
 
     -- and so have all blocked flights
     blocked_own : (ps : List RunwayPlanRecord) → IsPermutation made ps
@@ -118,9 +118,9 @@ module _ (times : TaxiTimes) (values : DayValues) (fs : List Record) (own : IsDi
         clock = e.clock;
         placing = placing;
         made = e.made;
-        all = subst (λ (ts : List TargetRecord). AllZip (λ r p. IsSequenceBy placing r (fixed_on r.name fs) (targets_on r.name ts) p) rs e.made) (sym (ap targets_in are)
-            ∙ targets-aims times values fs) e.sequences;
-        parts = subst (λ (bs : List BlockedFlight). HasParts bs e.made plan) (sym (ap (early_in fs) are) ∙ early-aims times values fs) e.parts;
+        all = subst (λ (ts : List TargetRecord). AllZip (λ r p. IsSequenceBy placing r (fixed_on r.name fs) (targets_on r.name ts) p) rs e.made)
+            (sym (ap targets_in are) ∙ targets-aims times values fs) e.sequences;
+        parts = rw (← early-aims times values fs, are) e.parts;
       }
 
   -- there is one plan
@@ -129,7 +129,7 @@ module _ (times : TaxiTimes) (values : DayValues) (fs : List Record) (own : IsDi
       let a = parts_of rs p x in
       let b = parts_of rs q y in
       let equal : b.made ≡ a.made = made_one rs b.made a.made (each_made b.placing rs rs_own b.made b.all) (each_made a.placing rs rs_own a.made a.all) in
-      let other : IsPermutation a.made q.runways = subst (λ (ms : List RunwayPlanRecord). IsPermutation ms q.runways) equal b.parts.runways in
+      let other : IsPermutation a.made q.runways = rw equal at b.parts.runways in
       let clock : p.clock ≡ q.clock = a.clock ∙ sym b.clock in
       let runways : p.runways ≡ q.runways =
       by_name (λ (p : RunwayPlanRecord). p.runway) a.made p.runways q.runways (made_own a.placing rs rs_own a.made a.all) a.parts.runways other a.parts.runway_order b.parts.runway_order in

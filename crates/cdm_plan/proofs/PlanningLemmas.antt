@@ -263,8 +263,11 @@ pub early_named : (times : TaxiTimes) (values : DayValues) (fs : List Record)
 early_named times values fs =
     let name : Record → List ℕ = λ f. f.name in
     let own : (f : Record) (a : AimResult) → IfSome (blocked_in f.name a) (λ b. b.name ≡ f.name) = λ f. elim [ Ready t ↦ tt | Early rule ↦ refl ] in
-    rw (early-given times values fs, names_given (λ b. b.name) name (early_at times values)
-    (λ f. if_so-keeps _ (is_planned f.status) _ (own f (aim_of f times values))) fs) (IsPermutation-refl _)
+    rw (
+      early-given times values fs,
+      names_given (λ b. b.name) name (early_at times values)
+          (λ f. if_so-keeps _ (is_planned f.status) _ (own f (aim_of f times values))) fs,
+    ) (IsPermutation-refl _)
 
 -- Each flight of a day once.
 
