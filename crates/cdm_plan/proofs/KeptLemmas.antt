@@ -22,7 +22,8 @@ use Rattle.cdm_plan.proofs.RunwayLemmas.{rules-same}
 -- What a flight gives to a runway.
 
 -- what is read of given values
-given_twice : {K R Y : Type 0} (q : R → Option Y) (h : K → Option R) (ks : List K) → filter_map q (filter_map h ks) ≡ filter_map (λ k. option_and_then q (h k)) ks
+given_twice : {K R Y : Type 0} (q : R → Option Y) (h : K → Option R) (ks : List K)
+    → filter_map q (filter_map h ks) ≡ filter_map (λ k. option_and_then q (h k)) ks
 given_twice q h [] = refl
 given_twice {K} {R} {Y} q h (k ∷ ks) = by (h k) (given_twice q h ks)
   where
@@ -32,7 +33,8 @@ given_twice {K} {R} {Y} q h (k ∷ ks) = by (h k) (given_twice q h ks)
     by (Some r) e = ap (λ (ys : List Y). cons_option (q r) ys) e
 
 -- a flight's target depends on the taxi times to its own runway alone
-same_target_at : (r : List ℕ) (s t : TaxiTimes) (values : DayValues) → ((place : Place) → s place r ≡ t place r) → (f : Record) → target_at r s values f ≡ target_at r t values f
+same_target_at : (r : List ℕ) (s t : TaxiTimes) (values : DayValues) → ((place : Place) → s place r ≡ t place r) → (f : Record)
+    → target_at r s values f ≡ target_at r t values f
 unfolding aim_of
 same_target_at r s t values same f = by (is_on r f) refl
   where
@@ -62,7 +64,8 @@ module _ (d : DayRecord) (r : List ℕ) where
   no_rule (reach.Runway s) h = h
   no_rule _ h = refl
 
-  elsewhere : (what : Reach) (f : List ℕ) → what ≡ reach.Flight f → is_noted d what r ≡ false → option_map_or (is_on r) (flight_of d.airport d.journal f) false ≡ false
+  elsewhere : (what : Reach) (f : List ℕ) → what ≡ reach.Flight f → is_noted d what r ≡ false
+      → option_map_or (is_on r) (flight_of d.airport d.journal f) false ≡ false
   elsewhere what f e h = sym (ap (λ w. is_noted d w r) e) ∙ h
 
 fresh_is : (u : Update) (f : List ℕ) → new_flight u ≡ Some f → reach_of u ≡ reach.Flight f
@@ -84,11 +87,13 @@ module _ (d : DayRecord) (u : Update) (row : RunwayRow) (before : is_noted d (re
         agree None = refl
         agree (Some f) = same f
 
-        by : (b : Bool) → same_reach (reach_of u) (reach.Flight k) ≡ b → option_and_then q (flight_of d.airport d.journal k) ≡ option_and_then p (flight_of d.airport (d.journal ++ u ∷ []) k)
+        by : (b : Bool) → same_reach (reach_of u) (reach.Flight k) ≡ b
+            → option_and_then q (flight_of d.airport d.journal k) ≡ option_and_then p (flight_of d.airport (d.journal ++ u ∷ []) k)
         by false h = agree (flight_of d.airport d.journal k) ∙ ap (option_and_then p) (sym (flight_of-untouched k d.airport d.journal u h))
         by true h =
             let of_it = flight_named (reach_of u) k h in
-            (nothing _ (elsewhere d row.name (reach_of u) k of_it before)).0 ∙ sym (nothing _ (elsewhere (with_update d u) row.name (reach_of u) k of_it after)).1
+            (nothing _ (elsewhere d row.name (reach_of u) k of_it before)).0
+            ∙ sym (nothing _ (elsewhere (with_update d u) row.name (reach_of u) k of_it after)).1
 
     given_same : filter_map q (records_in d.airport d.journal) ≡ filter_map p (records_in d.airport (d.journal ++ u ∷ []))
     given_same =
@@ -100,12 +105,14 @@ module _ (d : DayRecord) (u : Update) (row : RunwayRow) (before : is_noted d (re
         ∙ (filter_map-append later old (cons_option (new_flight u) []) ∙ (ap (λ l. filter_map later old ++ l) (new (new_flight u) refl) ∙ append-nil (filter_map later old))))
         ∙ sym (given_twice p (flight_of d.airport (d.journal ++ u ∷ [])) (flights_in (d.journal ++ u ∷ [])))))
       where
-        new : (o : Option (List ℕ)) → new_flight u ≡ o → filter_map (λ k. option_and_then p (flight_of d.airport (d.journal ++ u ∷ []) k)) (cons_option o []) ≡ []
+        new : (o : Option (List ℕ)) → new_flight u ≡ o
+            → filter_map (λ k. option_and_then p (flight_of d.airport (d.journal ++ u ∷ []) k)) (cons_option o []) ≡ []
         new None e = refl
         new (Some f) e = ap (λ (x : Option Y). cons_option x []) (nothing _ (elsewhere (with_update d u) row.name (reach_of u) f (fresh_is u f e) after)).1
 
   -- the runway keeps its sequence
-  still_planned : (p : RunwayPlanRecord) → IsPlanOn d (rules_of d.airport d.journal row) p → IsPlanOn (with_update d u) (rules_of d.airport (d.journal ++ u ∷ []) row) p
+  still_planned : (p : RunwayPlanRecord) → IsPlanOn d (rules_of d.airport d.journal row) p
+      → IsPlanOn (with_update d u) (rules_of d.airport (d.journal ++ u ∷ []) row) p
   unfolding rules_of
   still_planned p old =
       let g = d.airport in
@@ -113,7 +120,8 @@ module _ (d : DayRecord) (u : Update) (row : RunwayRow) (before : is_noted d (re
       let b = d.journal ++ u ∷ [] in
       let r = row.name in
       let next = with_update d u in
-      let taxi : (place : Place) → taxi_of g a place r ≡ taxi_of g b place r = λ place. sym (taxi_of-untouched g a u place r (no_taxi d r (reach_of u) before)) in
+      let taxi : (place : Place) → taxi_of g a place r ≡ taxi_of g b place r =
+      λ place. sym (taxi_of-untouched g a u place r (no_taxi d r (reach_of u) before)) in
       let values : values_of a ≡ values_of b = sym (values_of-untouched a u (no_value d r (reach_of u) before)) in
       let rules : rules_of g a row ≡ rules_of g b row = rules-same g a row u (no_rule d r (reach_of u) before) in
       let fixed : fixed_in d r ≡ fixed_in next r =
@@ -162,7 +170,8 @@ kept_since first d t plan made since r p i e = by (is_touched t r.name) refl e
         let rules : RunwayRow → RunwayRules = rules_of first.airport first.journal in
         let R : RunwayRules → RunwayPlanRecord → Type 0 = λ x p. IsSequenceBy placing x (fixed_in first x.name) (targets_on x.name (targets_in aims)) p in
         let found = find_some (λ (p : RunwayPlanRecord). same_name p.runway r.name) plan.runways p k in
-        let old = partner R (day_rules first) day.made p day.sequences (Contains-permutation plan.runways day.made p (IsPermutation-sym day.made plan.runways day.parts.runways) found.0) in
+        let old = partner R (day_rules first) day.made p day.sequences
+        (Contains-permutation plan.runways day.made p (IsPermutation-sym day.made plan.runways day.parts.runways) found.0) in
         let at = contains_from_map (rules_of d.airport d.journal) (rows_by_name d.airport.runways) r i in
         let row = at.0 in
         let named : row.name ≡ r.name = ap (λ (x : RunwayRules). x.name) at.2 in
@@ -173,5 +182,6 @@ kept_since first d t plan made since r p i e = by (is_touched t r.name) refl e
         let name : old.0.name ≡ row.name = sym old.1.runway ∙ (same_is p.runway r.name found.1 ∙ sym named) in
         let one : old.0 ≡ rules row = one_of_key same_name same_flips (λ (x : RunwayRules). x.name) (day_rules first) old.0 (rules row)
         (day_rules_differ first made.airport.names) old.2 there (is_same old.0.name (rules row).name name) in
-        let here : IsPlanOn first (rules row) p = subst (λ (x : RunwayRules). IsPlanOn first x p) one (record { aims = aims; aimed = day.aimed; sequence = (placing, old.1) }) in
+        let here : IsPlanOn first (rules row) p = subst (λ (x : RunwayRules). IsPlanOn first x p) one
+        (record { aims = aims; aimed = day.aimed; sequence = (placing, old.1) }) in
         subst (λ (x : RunwayRules). IsPlanOn d x p) at.2 (since.keeps row p (ap (is_touched t) named ∙ h) here)

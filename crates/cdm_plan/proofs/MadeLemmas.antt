@@ -38,7 +38,8 @@ module _ {X Y : Type 0} (R : X → Y → Type 0) (stands : X → Option Y) where
   merged [] (y ∷ made) right each = absurd each
   merged (x ∷ xs) made right each = by (stands x) refl made each (λ ys h. merged xs ys (λ z y i. right z y (contains_tail x xs z i)) h)
     where
-      by : (o : Option Y) → stands x ≡ o → (made : List Y) → AllZip R (cond (is_none o) (x ∷ filter (λ x. is_none (stands x)) xs) (filter (λ x. is_none (stands x)) xs)) made
+      by : (o : Option Y) → stands x ≡ o → (made : List Y)
+          → AllZip R (cond (is_none o) (x ∷ filter (λ x. is_none (stands x)) xs) (filter (λ x. is_none (stands x)) xs)) made
           → ((ys : List Y) → AllZip R (filter (λ x. is_none (stands x)) xs) ys → (all : List Y) × AllZip R xs all × IsPermutation all (filter_map stands xs ++ ys))
           → (all : List Y) × AllZip R (x ∷ xs) all × IsPermutation all (cons_option o (filter_map stands xs) ++ made)
       by (Some y) e made each rest =
@@ -86,7 +87,8 @@ module _ {d : DayRecord} {t : Touched} {old : List RunwayPlanRecord} {w : Work} 
         let R : Bor RunwayRules → RunwayPlanRecord → Type 0 = λ r p. HasSequence d r.now p in
         let stands : Bor RunwayRules → Option RunwayPlanRecord = λ r. kept_plan t old r.now.name in
         let runways = w.runways.items in
-        let right : (r : Bor RunwayRules) (p : RunwayPlanRecord) → IsSequence r.now (fixed_on r.now.name (map now w.flights.items)) (filter_map (target_for r.now.name) aims) p → R r p = λ r p h.
+        let right : (r : Bor RunwayRules) (p : RunwayPlanRecord) → IsSequence r.now (fixed_on r.now.name (map now w.flights.items))
+        (filter_map (target_for r.now.name) aims) p → R r p = λ r p h.
         rw (targets_are r.now.name, is.flights) at h in
         let new = rw is.left at (AllZip-weaker _ R right w.left.items made each) in
         let zip = merged R stands runways made
@@ -95,7 +97,8 @@ module _ {d : DayRecord} {t : Touched} {old : List RunwayPlanRecord} {w : Work} 
         let early : early_among aims ≡ blocked_early (flights_of d) (times_of d) (values_of d.journal) =
         ap early_among aims_are ∙ blocked-among (times_of d) (values_of d.journal) (flights_of d) in
         let names = rule_names_differ d.airport d.journal is.sound.airport in
-        let few = few_parts (times_of d) (values_of d.journal) (flights_of d) (rules_in d.airport d.journal) zip.0 (filter_map stands runways ++ made) whole zip.2 names in
+        let few = few_parts (times_of d) (values_of d.journal) (flights_of d) (rules_in d.airport d.journal) zip.0
+        (filter_map stands runways ++ made) whole zip.2 names in
         record {
           few = omega (arith, few, few_records d is.sound, ap length early);
           made = λ plan clock parts.

@@ -4,7 +4,8 @@ use Rattle.cdm_plan.proofs.ListWords.{is_lt, All, AllZip, Contains, IsDistinct, 
 use Rattle.cdm_plan.proofs.ListWords.{map-append, nat_list_cmp_total, All-contains, All-permutation}
 use Rattle.cdm_plan.proofs.ListWords.{IsPermutation-append_comm, IsPermutation-map, IsPermutation-refl, IsPermutation-trans}
 use Rattle.cdm_plan.proofs.ListWords.{IsPermutation-append_left, IsPermutation-append_right, append_assoc}
-use Rattle.cdm_plan.proofs.ListWords.{IsDistinct-IsPermutation, contains_head, contains_tail, contains_cases, distinct_filter, distinct_right, list_any-find, list_any-map, one_of_key}
+use Rattle.cdm_plan.proofs.ListWords.{IsDistinct-IsPermutation, contains_head, contains_tail, contains_cases, distinct_filter, distinct_right}
+use Rattle.cdm_plan.proofs.ListWords.{list_any-find, list_any-map, one_of_key}
 use Rattle.cdm_plan.proofs.PlanWords.{DayValues, name_cmp, same_name, Record, RunwayRules, TaxiTimes, SlotRecord, IsSequence, IsSequenceBy}
 use Rattle.cdm_plan.proofs.PlanWords.{PlanRecord, RunwayPlanRecord, TargetRecord, AimResult, BlockedFlight, Placing, IsEarlier}
 use Rattle.cdm_plan.proofs.PlanWords.{is_same, same_flips, tied_names}
@@ -70,7 +71,8 @@ module _ (times : TaxiTimes) (values : DayValues) (fs : List Record) (own : IsDi
   made_one (r ∷ rs) (x ∷ xs) (y ∷ ys) a b =
       let fixed = fixed_on r.name fs in
       let targets = targets_at r.name in
-      let same : x ≡ y = sequence_one r fixed fixed targets targets x y (names_on r.name times values fs own) (IsPermutation-refl fixed) (IsPermutation-refl targets) a.0 b.0 in
+      let same : x ≡ y = sequence_one r fixed fixed targets targets x y (names_on r.name times values fs own) (IsPermutation-refl fixed)
+      (IsPermutation-refl targets) a.0 b.0 in
       let rest = made_one rs xs ys a.1 b.1 in
       λ i. same i ∷ rest i
   made_one [] [] (y ∷ ys) a b = absurd b
@@ -99,7 +101,8 @@ module _ (times : TaxiTimes) (values : DayValues) (fs : List Record) (own : IsDi
         let front = IsPermutation-append_left early _ _ (flat_map-parts slots blocked ps) in
         let back = IsPermutation-append_right (flat_map slots ps) _ _ (IsPermutation-append_comm (flat_map blocked ps) early) in
         let parts = IsPermutation-trans _ _ _ (IsPermutation-trans _ _ _ all front) (rw (append_assoc (flat_map slots ps) (flat_map blocked ps) early) back) in
-        let apart = IsDistinct-IsPermutation same_name same_flips _ _ parts (distinct_filter same_name (λ (f : Record). f.name) (stands_in times values fs ps) fs own) in
+        let apart = IsDistinct-IsPermutation same_name same_flips _ _ parts
+        (distinct_filter same_name (λ (f : Record). f.name) (stands_in times values fs ps) fs own) in
         rw (map-append name (blocked_early fs times values) (flat_map (λ (p : RunwayPlanRecord). p.blocked) ps), ← names_of_lists (λ (p : RunwayPlanRecord). p.blocked) name ps)
         (distinct_right same_name (flat_map slots ps) (early ++ flat_map blocked ps) apart)
 
@@ -124,7 +127,8 @@ module _ (times : TaxiTimes) (values : DayValues) (fs : List Record) (own : IsDi
       }
 
   -- there is one plan
-  pub one_plan : (rs : List RunwayRules) → IsDistinct same_name (map (λ r. r.name) rs) → (p q : PlanRecord) → IsPlanOf fs times values rs p → IsPlanOf fs times values rs q → p ≡ q
+  pub one_plan : (rs : List RunwayRules) → IsDistinct same_name (map (λ r. r.name) rs) → (p q : PlanRecord) → IsPlanOf fs times values rs p
+      → IsPlanOf fs times values rs q → p ≡ q
   one_plan rs rs_own p q x y =
       let a = parts_of rs p x in
       let b = parts_of rs q y in
@@ -143,10 +147,12 @@ module _ (times : TaxiTimes) (values : DayValues) (fs : List Record) (own : IsDi
 
 -- Days.
 
-pub one_day_plan : (d : DayRecord) (p q : PlanRecord) → IsDistinct same_name (runway_names d.airport) → IsDistinct same_name (flights_in d.journal) → IsDayPlan d p → IsDayPlan d q → p ≡ q
+pub one_day_plan : (d : DayRecord) (p q : PlanRecord) → IsDistinct same_name (runway_names d.airport) → IsDistinct same_name (flights_in d.journal)
+    → IsDayPlan d p → IsDayPlan d q → p ≡ q
 unfolding IsDayPlan
 one_day_plan d p q runways flights a b =
-    one_plan (taxi_of d.airport d.journal) (values_of d.journal) (records_in d.airport d.journal) (record_names_differ d flights) (day_rules d) (day_rules_differ d runways) p q a b
+    one_plan (taxi_of d.airport d.journal) (values_of d.journal) (records_in d.airport d.journal) (record_names_differ d flights) (day_rules d)
+    (day_rules_differ d runways) p q a b
 
 -- plans of the runways make the day's
 pub day_made : (d : DayRecord) (aims : List AimResult) (made : List RunwayPlanRecord) (plan : PlanRecord) → IsDistinct same_name (runway_names d.airport)
@@ -155,7 +161,8 @@ pub day_made : (d : DayRecord) (aims : List AimResult) (made : List RunwayPlanRe
     → plan.clock ≡ (values_of d.journal).clock → HasParts (early_in (records_in d.airport d.journal) aims) made plan → IsDayPlan d plan
 unfolding IsDayPlan
 day_made d aims made plan own are all clock parts =
-    runways_make (taxi_of d.airport d.journal) (values_of d.journal) (records_in d.airport d.journal) (day_rules d) aims made plan are (day_rules_differ d own) all clock parts
+    runways_make (taxi_of d.airport d.journal) (values_of d.journal) (records_in d.airport d.journal) (day_rules d) aims made plan are
+    (day_rules_differ d own) all clock parts
 
 -- it is allowed
 pub day_allowed : (d : DayRecord) (aims : List AimResult) (placing : Placing) (plan : PlanRecord) → IsDistinct same_name (flights_in d.journal)
@@ -174,7 +181,8 @@ day_allowed d aims placing plan own e =
     e.sequences
 
 -- and none that is allowed is earlier
-pub day_none_earlier : (d : DayRecord) (aims : List AimResult) (placing other : Placing) (plan : PlanRecord) → All (λ f. has_runway d.airport f.runway ≡ true) (targets_in aims)
+pub day_none_earlier : (d : DayRecord) (aims : List AimResult) (placing other : Placing) (plan : PlanRecord)
+    → All (λ f. has_runway d.airport f.runway ≡ true) (targets_in aims)
     → IsDayPlanBy placing aims d plan → IsDayAllowed aims d other → IsEarlier (targets_in aims) other placing → ⊥
 unfolding IsDayPlanBy
 day_none_earlier d aims placing other plan known e allowed sooner =

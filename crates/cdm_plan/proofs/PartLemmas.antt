@@ -1,5 +1,6 @@
 -- The plans of the runways, in some order, make the plan of the day.
-use Rattle.std.proofs.Common.{◌≡◌, ℕ, zero, suc, ◌+◌, ◌≤◌, ◌<◌, List, [], ◌∷◌, ◌++◌, refl, sym, ◌∙◌, subst, arith, Bor, map, length, length-append, sum_by, get_or, set}
+use Rattle.std.proofs.Common.{◌≡◌, ℕ, zero, suc, ◌+◌, ◌≤◌, ◌<◌, List, [], ◌∷◌, ◌++◌, refl, sym, ◌∙◌, subst, arith, Bor, map, length, length-append, sum_by}
+use Rattle.std.proofs.Common.{get_or, set}
 use Rattle.cdm_plan.proofs.ListWords.{length-map, All, AllZip, IsDistinct, flat_map, swap, IsPermutation, All-cons, All-head, All-nil}
 use Rattle.cdm_plan.proofs.ListWords.{All-tail, IsPermutation-keeps, IsPermutation-refl, IsPermutation-swap, IsPermutation-sym, IsPermutation-trans}
 use Rattle.cdm_plan.proofs.ListWords.{length_permutation, sum_by-IsPermutation, sum_by-add}
@@ -40,7 +41,8 @@ module _ {X Y : Type 0} (R : X → Y → Type 0) where
       let found = IsPermutation-keeps xs (λ (l : List X). (vs : List Y) × AllZip R l vs × IsPermutation ys vs) (ys, all, IsPermutation-refl ys) step us same in
       (found.0, found.1, IsPermutation-sym ys found.0 found.2)
     where
-      step : (l : List X) (i j : ℕ) → i < length l → j < length l → (vs : List Y) × AllZip R l vs × IsPermutation ys vs → (vs : List Y) × AllZip R (swap l i j) vs × IsPermutation ys vs
+      step : (l : List X) (i j : ℕ) → i < length l → j < length l → (vs : List Y) × AllZip R l vs × IsPermutation ys vs
+          → (vs : List Y) × AllZip R (swap l i j) vs × IsPermutation ys vs
       step l i j p q found =
           let vs = found.0 in
           let long : length vs ≡ length l = AllZip-long R l vs found.1 in
@@ -75,7 +77,8 @@ few_joined early made ordered blocked most same others few =
 -- and the parts have at most as many flights as there are
 pub few_parts : (times : TaxiTimes) (values : DayValues) (fs : List Record) (runways : List RunwayRules) (made plans : List RunwayPlanRecord)
     → AllZip (λ r p. IsSequence r (fixed_on r.name fs) (targets_on r.name (targets_of fs times values)) p) runways made → IsPermutation made plans
-    → IsDistinct same_name (map (λ r. r.name) runways) → sum_by (λ p. length p.slots + length p.blocked) plans + length (blocked_early fs times values) ≤ length fs
+    → IsDistinct same_name (map (λ r. r.name) runways)
+    → sum_by (λ p. length p.slots + length p.blocked) plans + length (blocked_early fs times values) ≤ length fs
 few_parts times values fs runways made plans each same own =
     let names = sym (made_named (λ r. fixed_on r fs) (λ r. targets_on r (targets_of fs times values)) runways made each) in
     let rest = map (λ (b : BlockedFlight). b.name) (blocked_early fs times values) in

@@ -1,6 +1,7 @@
 -- Each flight of a day stands once: as a fixed flight or a target of one runway, or blocked early.
 use Rattle.std.proofs.lemmas.Slice.Zip.{AllZip-map}
-use Rattle.std.proofs.Common.{Bor, ◌≡◌, ℕ, ◌+◌, ◌≤◌, Bool, true, false, not, cond, ◌||◌, List, [], ◌∷◌, ◌++◌, Option, None, Some, refl, sym, ◌∙◌, ap, subst, arith, map, filter, length}
+use Rattle.std.proofs.Common.{Bor, ◌≡◌, ℕ, ◌+◌, ◌≤◌, Bool, true, false, not, cond, ◌||◌, List, [], ◌∷◌, ◌++◌, Option, None, Some, refl, sym, ◌∙◌, ap}
+use Rattle.std.proofs.Common.{subst, arith, map, filter, length}
 use Rattle.cdm_plan.proofs.ListWords.{is_some, zip, option_map, option_map_or, All, All-cons, All-head, All-nil, All-tail, append_assoc}
 use Rattle.cdm_plan.proofs.ListWords.{cons_option, filter_map, flat_map, IsDistinct, AllByRecursion, IsPermutation, false_from_ne_true, false≢true}
 use Rattle.cdm_plan.proofs.ListWords.{IsPermutation-append, IsPermutation-refl, IsPermutation-trans, IsPermutation-append_right, IsPermutation-middle}
@@ -10,7 +11,8 @@ use Rattle.cdm_plan.proofs.ListWords.{filter_map-filter, if_so, length_permutati
 use Rattle.cdm_plan.proofs.PlanWords.{DayValues, same_name, Record, is_planned, TaxiTimes, IsAim, aim_of, aim_is, aim_means, same_flips, same_is}
 use Rattle.cdm_plan.proofs.PlanWords.{SlotRecord, fixed_slot, slot_by, flight_names, IsSequence, TargetRecord}
 use Rattle.cdm_plan.proofs.PlanWords.{AimResult, BlockedFlight, early_in, planned_of}
-use Rattle.cdm_plan.proofs.PlanWords.{target_in, targets_in, blocked_in, is_on, fixed_on, targets_on, IsAimed, if_on, if_passes, target_for, CanSequence, RunwayRules, RunwayPlanRecord, Ready, Early}
+use Rattle.cdm_plan.proofs.PlanWords.{target_in, targets_in, blocked_in, is_on, fixed_on, targets_on, IsAimed, if_on, if_passes, target_for, CanSequence}
+use Rattle.cdm_plan.proofs.PlanWords.{RunwayRules, RunwayPlanRecord, Ready, Early}
 use Rattle.std.proofs.lemmas.List.Filters.{length-filter_both}
 use Rattle.cdm_flight.specs.declared.flight.Status.{Status}
 use Rattle.cdm_flight.specs.declared.flight.Status.TheVariants as status
@@ -45,7 +47,8 @@ AllZip-weaker R S h (x ∷ xs) (y ∷ ys) all = (h x y all.0, AllZip-weaker R S 
 AllZip-weaker R S h _ _ all = absurd all
 
 -- the aims of flights are one list
-pub aims_are : (times : TaxiTimes) (values : DayValues) (fs : List Record) (aims : List AimResult) → AllZip (λ f a. IsAim f times values a) fs aims → map (λ f. aim_of f times values) fs ≡ aims
+pub aims_are : (times : TaxiTimes) (values : DayValues) (fs : List Record) (aims : List AimResult) → AllZip (λ f a. IsAim f times values a) fs aims
+    → map (λ f. aim_of f times values) fs ≡ aims
 aims_are times values fs aims all =
     sym (AllZip-map (λ f. aim_of f times values) fs aims (AllZip-weaker (λ f a. IsAim f times values a) (λ f a. a ≡ aim_of f times values) (λ f a h. sym (aim_is f times values a h)) fs aims all))
 
@@ -54,7 +57,8 @@ aims_mean times values [] = tt
 aims_mean times values (f ∷ fs) = (aim_means f times values, aims_mean times values fs)
 
 -- and so they are with the names
-pub aimed_are : (times : TaxiTimes) (values : DayValues) (fs : List Record) (aims : List Aimed) → AllZip (IsAimed times values) fs aims → aims ≡ map (aimed times values) fs
+pub aimed_are : (times : TaxiTimes) (values : DayValues) (fs : List Record) (aims : List Aimed) → AllZip (IsAimed times values) fs aims
+    → aims ≡ map (aimed times values) fs
 unfolding aimed
 aimed_are times values fs aims all =
     AllZip-map (aimed times values) fs aims (AllZip-weaker (IsAimed times values) (λ f a. a ≡ aimed times values f)
@@ -89,7 +93,8 @@ filter-filter_map {X} {Y} q h (f ∷ fs) = go (h f) (filter-filter_map q h fs) w
   go (Some y) e = by (q y) y _ _ e
 
 -- two tests of which at most one holds part what passes either
-parted : {X : Type 0} (a b : X → Bool) → ((x : X) → a x ≡ true → b x ≡ false) → (xs : List X) → IsPermutation (filter (λ x. a x || b x) xs) (filter a xs ++ filter b xs)
+parted : {X : Type 0} (a b : X → Bool) → ((x : X) → a x ≡ true → b x ≡ false) → (xs : List X)
+    → IsPermutation (filter (λ x. a x || b x) xs) (filter a xs ++ filter b xs)
 parted a b apart [] = IsPermutation-refl []
 parted {X} a b apart (x ∷ xs) = go (a x) (b x) refl refl (parted a b apart xs) where
   go : (u v : Bool) → a x ≡ u → b x ≡ v → IsPermutation (filter (λ x. a x || b x) xs) (filter a xs ++ filter b xs)
@@ -97,7 +102,8 @@ parted {X} a b apart (x ∷ xs) = go (a x) (b x) refl refl (parted a b apart xs)
   go true true e f rest = absurd (false≢true (sym (apart x e) ∙ f))
   go true false e f rest = IsPermutation-append_right (x ∷ []) _ _ rest
   go false true e f rest =
-      IsPermutation-trans _ (x ∷ (filter a xs ++ filter b xs)) _ (IsPermutation-append_right (x ∷ []) _ _ rest) (IsPermutation-sym _ _ (IsPermutation-middle (filter a xs) x (filter b xs)))
+      IsPermutation-trans _ (x ∷ (filter a xs ++ filter b xs)) _ (IsPermutation-append_right (x ∷ []) _ _ rest)
+      (IsPermutation-sym _ _ (IsPermutation-middle (filter a xs) x (filter b xs)))
   go false false e f rest = rest
 
 -- Flights.
@@ -157,7 +163,8 @@ pub fixed_on-given : (r : List ℕ) (fs : List Record) → fixed_on r fs ≡ fil
 unfolding fixed_on
 fixed_on-given r fs = filter_map-filter fixed_slot (is_on r) fs
 
-pub targets_on-given : (r : List ℕ) (times : TaxiTimes) (values : DayValues) (fs : List Record) → targets_on r (targets_of fs times values) ≡ filter_map (target_at r times values) fs
+pub targets_on-given : (r : List ℕ) (times : TaxiTimes) (values : DayValues) (fs : List Record)
+    → targets_on r (targets_of fs times values) ≡ filter_map (target_at r times values) fs
 unfolding targets_of
 targets_on-given r times values fs =
     filter-filter_map (λ (t : TargetRecord). same_name t.runway r) (λ f. target_in (aim_of f times values)) (planned_of fs)
@@ -208,15 +215,19 @@ no_target_at r times values f h = in_any (is_planned f.status) (by (aim_of f tim
 abbrev pub stands : TaxiTimes → DayValues → List ℕ → Record → Bool
 stands times values r f = is_some (fixed_at r f) || is_some (target_at r times values f)
 
-pub stands_here : (times : TaxiTimes) (values : DayValues) (r : List ℕ) (f : Record) → stands times values r f ≡ true → (is_on r f ≡ true) × (is_some (early_at times values f) ≡ false)
-stands_here times values r f h = (by (is_on r f) refl, false_from_ne_true (is_some (early_at times values f)) (λ k. false≢true (sym (early (is_planned f.status) (aim_of f times values) refl k) ∙ h)))
+pub stands_here : (times : TaxiTimes) (values : DayValues) (r : List ℕ) (f : Record) → stands times values r f ≡ true
+    → (is_on r f ≡ true) × (is_some (early_at times values f) ≡ false)
+stands_here times values r f h =
+    (by (is_on r f) refl, false_from_ne_true (is_some (early_at times values f)) (λ k. false≢true (sym (early (is_planned f.status) (aim_of f times values) refl k) ∙ h)))
   where
     by : (b : Bool) → is_on r f ≡ b → is_on r f ≡ true
     by true e = e
     by false e = absurd (false≢true (sym (λ i. is_some (if_so (e i) (fixed_slot f)) || is_some (no_target_at r times values f e i)) ∙ h))
 
-    early : (p : Bool) (a : AimResult) → is_planned f.status ≡ p → is_some (if_so p (blocked_in f.name a)) ≡ true → (is_some (fixed_at r f) || is_some (if_so p (if_on r (target_in a)))) ≡ false
-    early true (Early rule) e k = ap (λ b. b || false) (false_from_ne_true (is_some (fixed_at r f)) (λ l. false≢true (sym (fixed_left f (some_inside (is_on r f) (fixed_slot f) l)) ∙ e)))
+    early : (p : Bool) (a : AimResult) → is_planned f.status ≡ p → is_some (if_so p (blocked_in f.name a)) ≡ true
+        → (is_some (fixed_at r f) || is_some (if_so p (if_on r (target_in a)))) ≡ false
+    early true (Early rule) e k =
+        ap (λ b. b || false) (false_from_ne_true (is_some (fixed_at r f)) (λ l. false≢true (sym (fixed_left f (some_inside (is_on r f) (fixed_slot f) l)) ∙ e)))
     early true (Ready t) e k = absurd (false≢true k)
     early false a e k = absurd (false≢true k)
 
@@ -227,8 +238,10 @@ names_stand r times values fs =
     let a : Record → Bool = λ f. is_some (fixed_at r f) in
     let b : Record → Bool = λ f. is_some (target_at r times values f) in
     let name : Record → List ℕ = λ f. f.name in
-    let fixed = ap (map (λ (x : SlotRecord). x.name)) (fixed_on-given r fs) ∙ names_given (λ x. x.name) name (fixed_at r) (λ f. if_so-keeps _ (is_on r f) (fixed_slot f) (fixed_name f)) fs in
-    let targets = ap (map (λ (t : TargetRecord). t.key.name)) (targets_on-given r times values fs) ∙ names_given (λ t. t.key.name) name (target_at r times values)
+    let fixed = ap (map (λ (x : SlotRecord). x.name)) (fixed_on-given r fs)
+    ∙ names_given (λ x. x.name) name (fixed_at r) (λ f. if_so-keeps _ (is_on r f) (fixed_slot f) (fixed_name f)) fs in
+    let targets = ap (map (λ (t : TargetRecord). t.key.name)) (targets_on-given r times values fs)
+    ∙ names_given (λ t. t.key.name) name (target_at r times values)
     (λ f. if_so-keeps _ (is_planned f.status) _ (if_on-keeps _ r (target_in (aim_of f times values)) (key_name f times values))) fs in
     subst (IsPermutation (map name (filter (stands times values r) fs))) (map-append name (filter a fs) (filter b fs) ∙ (λ i. sym fixed i ++ sym targets i))
     (IsPermutation-map name (filter (stands times values r) fs) (filter a fs ++ filter b fs) (parted a b (apart r times values) fs))
@@ -241,7 +254,8 @@ names_on r times values fs own =
     (names_stand r times values fs) (distinct_filter same_name (λ (f : Record). f.name) (stands times values r) fs own)
 
 -- no more names than elements
-pub few_names : {X : Type 0} (name : X → List ℕ) (fs : List X) (p : X → Bool) (ns : List (List ℕ)) → IsPermutation (map name (filter p fs)) ns → length ns ≤ length fs
+pub few_names : {X : Type 0} (name : X → List ℕ) (fs : List X) (p : X → Bool) (ns : List (List ℕ)) → IsPermutation (map name (filter p fs)) ns
+    → length ns ≤ length fs
 few_names name fs p ns same =
     let long = length_permutation (map name (filter p fs)) ns same in
     let mapped = length-map (filter p fs) name in
@@ -249,10 +263,13 @@ few_names name fs p ns same =
     omega arith
 
 -- and so has each runway
-pub few_on : (r : List ℕ) (times : TaxiTimes) (values : DayValues) (fs : List Record) → length (fixed_on r fs) + length (targets_on r (targets_of fs times values)) ≤ length fs
+pub few_on : (r : List ℕ) (times : TaxiTimes) (values : DayValues) (fs : List Record)
+    → length (fixed_on r fs) + length (targets_on r (targets_of fs times values)) ≤ length fs
 few_on r times values fs =
-    let few = few_names (λ (f : Record). f.name) fs (stands times values r) (flight_names (fixed_on r fs) (targets_on r (targets_of fs times values))) (names_stand r times values fs) in
-    let parts = length-append (map (λ (x : SlotRecord). x.name) (fixed_on r fs)) (map (λ (t : TargetRecord). t.key.name) (targets_on r (targets_of fs times values))) in
+    let few = few_names (λ (f : Record). f.name) fs (stands times values r) (flight_names (fixed_on r fs) (targets_on r (targets_of fs times values)))
+    (names_stand r times values fs) in
+    let parts = length-append (map (λ (x : SlotRecord). x.name) (fixed_on r fs))
+    (map (λ (t : TargetRecord). t.key.name) (targets_on r (targets_of fs times values))) in
     let fixed = length-map (fixed_on r fs) (λ (x : SlotRecord). x.name) in
     let targets = length-map (targets_on r (targets_of fs times values)) (λ (t : TargetRecord). t.key.name) in
     omega arith
@@ -319,7 +336,8 @@ on_it r aims = All-given (target_for r) (λ t. t.runway ≡ r) aims (λ a i. giv
     given (Some t) = by (same_name t.runway r) t refl
 
 -- what holds of all that goes with something
-pub all_zipped : {X Y : Type 0} (R : X → Y → Type 0) (P : Y → Type 0) → ((x : X) (y : Y) → R x y → P y) → (xs : List X) (ys : List Y) → AllZip R xs ys → All P ys
+pub all_zipped : {X Y : Type 0} (R : X → Y → Type 0) (P : Y → Type 0) → ((x : X) (y : Y) → R x y → P y) → (xs : List X) (ys : List Y) → AllZip R xs ys
+    → All P ys
 all_zipped R P h [] [] all = All-nil P
 all_zipped R P h (x ∷ xs) (y ∷ ys) all = All-cons P y ys (h x y all.0) (all_zipped R P h xs ys all.1)
 all_zipped R P h _ _ all = absurd all
@@ -352,7 +370,8 @@ pub planned_are : (fs : List Record) → All (λ f. is_planned f.status ≡ true
 planned_are fs = filter_passes (λ f. is_planned f.status) fs
 
 -- the flights of a runway among lent ones
-pub fixed_on-lent : (r : List ℕ) (fs : List (Bor Record)) → filter_map (λ f. fixed_slot f.now) (filter (λ f. is_on r f.now) fs) ≡ fixed_on r (map (λ f. f.now) fs)
+pub fixed_on-lent : (r : List ℕ) (fs : List (Bor Record))
+    → filter_map (λ f. fixed_slot f.now) (filter (λ f. is_on r f.now) fs) ≡ fixed_on r (map (λ f. f.now) fs)
 fixed_on-lent r fs =
     filter_map-filter (λ (f : Bor Record). fixed_slot f.now) (λ f. is_on r f.now) fs
     ∙ sym (fixed_on-given r (map (λ (f : Bor Record). f.now) fs) ∙ filter_map-map (fixed_at r) (λ (f : Bor Record). f.now) fs)
