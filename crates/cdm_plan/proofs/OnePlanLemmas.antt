@@ -56,21 +56,21 @@ partner R _ _ y all i = absurd all
 -- Plans.
 
 module _ (times : TaxiTimes) (values : DayValues) (fs : List Record) (own : IsDistinct same_name (map (λ f. f.name) fs)) where
-  abbrev targets_at : List ℕ → List TargetRecord
-  targets_at r = targets_on r (targets_of fs times values)
+  abbrev targets_here : List ℕ → List TargetRecord
+  targets_here r = targets_on r (targets_of fs times values)
 
-  abbrev IsMade : RunwayRules → RunwayPlanRecord → Type 0
-  IsMade r p = IsSequence r (fixed_on r.name fs) (targets_at r.name) p
+  abbrev IsSequenced : RunwayRules → RunwayPlanRecord → Type 0
+  IsSequenced r p = IsSequence r (fixed_on r.name fs) (targets_here r.name) p
 
-  abbrev IsMadeBy : Placing → RunwayRules → RunwayPlanRecord → Type 0
-  IsMadeBy placing r p = IsSequenceBy placing r (fixed_on r.name fs) (targets_at r.name) p
+  abbrev IsSequencedBy : Placing → RunwayRules → RunwayPlanRecord → Type 0
+  IsSequencedBy placing r p = IsSequenceBy placing r (fixed_on r.name fs) (targets_here r.name) p
 
   -- the plans of the runways are determined
-  made_one : (rs : List RunwayRules) (xs ys : List RunwayPlanRecord) → AllZip IsMade rs xs → AllZip IsMade rs ys → xs ≡ ys
+  made_one : (rs : List RunwayRules) (xs ys : List RunwayPlanRecord) → AllZip IsSequenced rs xs → AllZip IsSequenced rs ys → xs ≡ ys
   made_one [] [] [] a b = refl
   made_one (r ∷ rs) (x ∷ xs) (y ∷ ys) a b =
       let fixed = fixed_on r.name fs in
-      let targets = targets_at r.name in
+      let targets = targets_here r.name in
       let same : x ≡ y = sequence_one r fixed fixed targets targets x y (names_on r.name times values fs own) (IsPermutation-refl fixed)
       (IsPermutation-refl targets) a.0 b.0 in
       let rest = made_one rs xs ys a.1 b.1 in
@@ -79,13 +79,13 @@ module _ (times : TaxiTimes) (values : DayValues) (fs : List Record) (own : IsDi
   made_one (r ∷ rs) (x ∷ xs) [] a b = absurd b
   made_one _ _ _ a b = absurd a
 
-  module _ (placing : Placing) (rs : List RunwayRules) (rs_own : IsDistinct same_name (map (λ r. r.name) rs)) (made : List RunwayPlanRecord) (all : AllZip (IsMadeBy placing) rs made) where
-    each_made : AllZip IsMade rs made
-    each_made = AllZip-weaker (IsMadeBy placing) IsMade (λ r p h. (placing, h)) rs made all
+  module _ (placing : Placing) (rs : List RunwayRules) (rs_own : IsDistinct same_name (map (λ r. r.name) rs)) (made : List RunwayPlanRecord) (all : AllZip (IsSequencedBy placing) rs made) where
+    each_made : AllZip IsSequenced rs made
+    each_made = AllZip-weaker (IsSequencedBy placing) IsSequenced (λ r p h. (placing, h)) rs made all
 
     -- the plans of the runways have names of their own
     made_own : IsDistinct same_name (map (λ p. p.runway) made)
-    made_own = rw (made_named (λ r. fixed_on r fs) targets_at rs made each_made) rs_own
+    made_own = rw (made_named (λ r. fixed_on r fs) targets_here rs made each_made) rs_own
 
     -- and so have all blocked flights
     blocked_own : (ps : List RunwayPlanRecord) → IsPermutation made ps
@@ -111,7 +111,7 @@ module _ (times : TaxiTimes) (values : DayValues) (fs : List Record) (own : IsDi
     clock : plan.clock ≡ values.clock
     placing : Placing
     made : List RunwayPlanRecord
-    all : AllZip (IsMadeBy placing) rs made
+    all : AllZip (IsSequencedBy placing) rs made
     parts : HasParts (blocked_early fs times values) made plan
 
   parts_of : (rs : List RunwayRules) (plan : PlanRecord) → IsPlanOf fs times values rs plan → Parts rs plan
