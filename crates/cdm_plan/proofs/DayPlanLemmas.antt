@@ -20,7 +20,8 @@ record_name g a f r e = sym (ap (λ (x : Record). x.name) (status_of-record f g 
 
 -- they are those that the journal says something of
 record_names : (d : DayRecord)
-    → map (λ (r : Record). r.name) (records_in d.airport d.journal) ≡ map (λ f. f) (filter (λ f. is_some (flight_of d.airport d.journal f)) (flights_in d.journal))
+    → map (λ (r : Record). r.name) (records_in d.airport d.journal)
+    ≡ map (λ f. f) (filter (λ f. is_some (flight_of d.airport d.journal f)) (flights_in d.journal))
 record_names d =
     names_given (λ (r : Record). r.name) (λ f. f) (flight_of d.airport d.journal) (λ f. named f (flight_of d.airport d.journal f) refl) (flights_in d.journal)
   where
@@ -33,7 +34,7 @@ pub record_names_differ : (d : DayRecord) → IsDistinct same_name (flights_in d
 record_names_differ d own =
     let itself : map (λ (f : List ℕ). f) (flights_in d.journal) ≡ flights_in d.journal = map_fixed (λ (f : List ℕ). f) (flights_in d.journal) (λ k f l. refl) in
     subst (λ (ns : List (List ℕ)). IsDistinct same_name ns) (sym (record_names d))
-    (distinct_filter same_name (λ (f : List ℕ). f) (λ f. is_some (flight_of d.airport d.journal f)) (flights_in d.journal) (subst (λ (ns : List (List ℕ)). IsDistinct same_name ns) (sym itself) own))
+    (distinct_filter same_name (λ (f : List ℕ). f) (λ f. is_some (flight_of d.airport d.journal f)) (flights_in d.journal) (rw itself own))
 
 pub few_records : (d : DayRecord) → IsSound d → length (records_in d.airport d.journal) ≤ 2000
 few_records d sound =

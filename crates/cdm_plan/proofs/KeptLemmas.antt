@@ -102,7 +102,8 @@ module _ (d : DayRecord) (u : Update) (row : RunwayRow) (before : is_noted d (re
         given_twice q (flight_of d.airport d.journal) old
         ∙ ((λ i. filter_map (λ k. each k i) old)
         ∙ (sym (ap (filter_map later) (flights_in-push d.journal u)
-        ∙ (filter_map-append later old (cons_option (new_flight u) []) ∙ (ap (λ l. filter_map later old ++ l) (new (new_flight u) refl) ∙ append-nil (filter_map later old))))
+        ∙ (filter_map-append later old (cons_option (new_flight u) [])
+        ∙ (ap (λ l. filter_map later old ++ l) (new (new_flight u) refl) ∙ append-nil (filter_map later old))))
         ∙ sym (given_twice p (flight_of d.airport (d.journal ++ u ∷ [])) (flights_in (d.journal ++ u ∷ [])))))
       where
         new : (o : Option (List ℕ)) → new_flight u ≡ o

@@ -40,7 +40,8 @@ module _ {X Y : Type 0} (R : X → Y → Type 0) (stands : X → Option Y) where
     where
       by : (o : Option Y) → stands x ≡ o → (made : List Y)
           → AllZip R (cond (is_none o) (x ∷ filter (λ x. is_none (stands x)) xs) (filter (λ x. is_none (stands x)) xs)) made
-          → ((ys : List Y) → AllZip R (filter (λ x. is_none (stands x)) xs) ys → (all : List Y) × AllZip R xs all × IsPermutation all (filter_map stands xs ++ ys))
+          → ((ys : List Y) → AllZip R (filter (λ x. is_none (stands x)) xs) ys
+          → (all : List Y) × AllZip R xs all × IsPermutation all (filter_map stands xs ++ ys))
           → (all : List Y) × AllZip R (x ∷ xs) all × IsPermutation all (cons_option o (filter_map stands xs) ++ made)
       by (Some y) e made each rest =
           let w = rest made each in
@@ -105,5 +106,9 @@ module _ {d : DayRecord} {t : Touched} {old : List RunwayPlanRecord} {w : Work} 
               let plan_is =
               day_plan d zip.0 (filter_map stands runways ++ made) plan is.sound.airport whole zip.2 clock
               (subst (λ (bs : List BlockedFlight). HasParts bs (filter_map stands runways ++ made) plan) early parts) in
-              record { airport = is.sound.airport; of_day = plan_is; only = λ other other_is. one_day_plan d other plan is.sound.airport.names is.sound.names other_is plan_is };
+              record {
+                airport = is.sound.airport;
+                of_day = plan_is;
+                only = λ other other_is. one_day_plan d other plan is.sound.airport.names is.sound.names other_is plan_is;
+              };
         }

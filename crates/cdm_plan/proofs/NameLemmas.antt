@@ -54,7 +54,8 @@ find-permutation {X} p xs ys same one = by (find p xs) refl
 pub one_row : (rows : List RunwayRow) → IsDistinct same_name (map (λ row. row.name) rows) → (r : List ℕ) (x y : RunwayRow) → Contains rows x
     → Contains rows y → same_name x.name r ≡ true → same_name y.name r ≡ true → x ≡ y
 one_row rows own r x y i j h k =
-    one_of_key same_name same_flips (λ (row : RunwayRow). row.name) rows x y own i j (subst (λ (n : List ℕ). same_name x.name n ≡ true) (sym (same_text y.name r (sym k))) h)
+    let same = subst (λ (n : List ℕ). same_name x.name n ≡ true) (sym (same_text y.name r (sym k))) h in
+    one_of_key same_name same_flips (λ (row : RunwayRow). row.name) rows x y own i j same
 
 -- Rows by name.
 
@@ -78,7 +79,8 @@ find-map g a r [] = refl
 find-map g a r (row ∷ rows) = (by (same_name row.name r) (find-map g a r rows))
   where
     by : (b : Bool) → find (λ x. same_name x.name r) (map (rules_of g a) rows) ≡ option_map (rules_of g a) (find (λ row. same_name row.name r) rows)
-        → (if b then Some (rules_of g a row) else find (λ x. same_name x.name r) (map (rules_of g a) rows)) ≡ option_map (rules_of g a) (if b then Some row else find (λ row. same_name row.name r) rows)
+        → (if b then Some (rules_of g a row) else find (λ x. same_name x.name r) (map (rules_of g a) rows))
+        ≡ option_map (rules_of g a) (if b then Some row else find (λ row. same_name row.name r) rows)
     by true h = refl
     by false h = h
 
@@ -94,7 +96,8 @@ pub find-rules : (g : AirportRows) (a : List Update) (r : List ℕ) → IsAirpor
 find-rules g a r airport =
     find-map g a r (rows_by_name g.runways)
     ∙ ap (option_map (rules_of g a))
-    (find-permutation (λ (row : RunwayRow). same_name row.name r) g.runways (rows_by_name g.runways) (rows_permutation g.runways) (one_row g.runways airport.names r))
+    (find-permutation (λ (row : RunwayRow). same_name row.name r) g.runways (rows_by_name g.runways) (rows_permutation g.runways)
+    (one_row g.runways airport.names r))
 
 pub length-rules_in : (g : AirportRows) (a : List Update) → length (rules_in g a) ≡ length g.runways
 length-rules_in g a = length-map (rows_by_name g.runways) (rules_of g a) ∙ length_permutation g.runways (rows_by_name g.runways) (rows_permutation g.runways)

@@ -79,7 +79,8 @@ module _ (times : TaxiTimes) (values : DayValues) (fs : List Record) (own : IsDi
   made_one (r ∷ rs) (x ∷ xs) [] a b = absurd b
   made_one _ _ _ a b = absurd a
 
-  module _ (placing : Placing) (rs : List RunwayRules) (rs_own : IsDistinct same_name (map (λ r. r.name) rs)) (made : List RunwayPlanRecord) (all : AllZip (IsSequencedBy placing) rs made) where
+  module _ (placing : Placing) (rs : List RunwayRules) (rs_own : IsDistinct same_name (map (λ r. r.name) rs)) (made : List RunwayPlanRecord)
+      (all : AllZip (IsSequencedBy placing) rs made) where
     each_made : AllZip IsSequenced rs made
     each_made = AllZip-weaker (IsSequencedBy placing) IsSequenced (λ r p h. (placing, h)) rs made all
 
@@ -103,7 +104,8 @@ module _ (times : TaxiTimes) (values : DayValues) (fs : List Record) (own : IsDi
         let parts = IsPermutation-trans _ _ _ (IsPermutation-trans _ _ _ all front) (rw (append_assoc (flat_map slots ps) (flat_map blocked ps) early) back) in
         let apart = IsDistinct-IsPermutation same_name same_flips _ _ parts
         (distinct_filter same_name (λ (f : Record). f.name) (stands_in times values fs ps) fs own) in
-        rw (map-append name (blocked_early fs times values) (flat_map (λ (p : RunwayPlanRecord). p.blocked) ps), ← names_of_lists (λ (p : RunwayPlanRecord). p.blocked) name ps)
+        let flights : RunwayPlanRecord → List BlockedFlight = λ p. p.blocked in
+        rw (map-append name (blocked_early fs times values) (flat_map flights ps), ← names_of_lists flights name ps)
         (distinct_right same_name (flat_map slots ps) (early ++ flat_map blocked ps) apart)
 
   -- a plan has parts
@@ -136,10 +138,12 @@ module _ (times : TaxiTimes) (values : DayValues) (fs : List Record) (own : IsDi
       let other : IsPermutation a.made q.runways = rw equal at b.parts.runways in
       let clock : p.clock ≡ q.clock = a.clock ∙ sym b.clock in
       let runways : p.runways ≡ q.runways =
-      by_name (λ (p : RunwayPlanRecord). p.runway) a.made p.runways q.runways (made_own a.placing rs rs_own a.made a.all) a.parts.runways other a.parts.runway_order b.parts.runway_order in
+      by_name (λ (p : RunwayPlanRecord). p.runway) a.made p.runways q.runways (made_own a.placing rs rs_own a.made a.all)
+      a.parts.runways other a.parts.runway_order b.parts.runway_order in
       let left = blocked_early fs times values ++ flat_map (λ p. p.blocked) p.runways in
       let others : IsPermutation left q.blocked =
-      subst (λ (ps : List RunwayPlanRecord). IsPermutation (blocked_early fs times values ++ flat_map (λ p. p.blocked) ps) q.blocked) (sym runways) b.parts.blocked in
+      subst (λ (ps : List RunwayPlanRecord). IsPermutation (blocked_early fs times values ++ flat_map (λ p. p.blocked) ps) q.blocked)
+      (sym runways) b.parts.blocked in
       let blocked : p.blocked ≡ q.blocked =
       by_name (λ (b : BlockedFlight). b.name) left p.blocked q.blocked
       (blocked_own a.placing rs rs_own a.made a.all p.runways a.parts.runways) a.parts.blocked others a.parts.blocked_order b.parts.blocked_order in
@@ -176,7 +180,8 @@ day_allowed d aims placing plan own e =
     allowed_on (λ r. fixed_on r fs) (targets_in aims) placing (day_rules d) e.made
     (λ r.
     subst (λ (ts : List TargetRecord). IsDistinct same_name (map (λ f. f.key.name) (targets_on r ts))) targets
-    (distinct_right same_name (map (λ (x : SlotRecord). x.name) (fixed_on r fs)) (map (λ (t : TargetRecord). t.key.name) (targets_on r (targets_of fs times values)))
+    (distinct_right same_name (map (λ (x : SlotRecord). x.name) (fixed_on r fs))
+    (map (λ (t : TargetRecord). t.key.name) (targets_on r (targets_of fs times values)))
     (names_on r times values fs (record_names_differ d own))))
     e.sequences
 

@@ -46,7 +46,8 @@ module _ {X Y : Type 0} (R : X → Y → Type 0) where
       step l i j p q found =
           let vs = found.0 in
           let long : length vs ≡ length l = AllZip-long R l vs found.1 in
-          (swap vs i j, AllZip-swap l vs i j p q found.1, IsPermutation-trans ys vs (swap vs i j) found.2 (IsPermutation-swap vs (swap vs i j) i j (omega arith) (omega arith) refl))
+          let moved = IsPermutation-swap vs (swap vs i j) i j (omega arith) (omega arith) refl in
+          (swap vs i j, AllZip-swap l vs i j p q found.1, IsPermutation-trans ys vs (swap vs i j) found.2 moved)
 
 -- what goes with lent values goes with the values
 pub AllZip-lent : {X Y : Type 0} (R : X → Y → Type 0) (xs : List (Bor X)) (ys : List Y) → AllZip (λ x y. R x.now y) xs ys → AllZip R (map (λ x. x.now) xs) ys
@@ -96,8 +97,8 @@ few_parts times values fs runways made plans each same own =
         ∙ (λ i. length-map p.slots (λ (x : SlotRecord). x.name) i + length-map p.blocked (λ (b : BlockedFlight). b.name) i)
 
 -- plans that were made runway by runway make the day's plan
-pub runways_make : (times : TaxiTimes) (values : DayValues) (fs : List Record) (runways : List RunwayRules) (aims : List AimResult) (made : List RunwayPlanRecord)
-    (plan : PlanRecord) → AreAims fs times values aims → IsDistinct same_name (map (λ r. r.name) runways)
+pub runways_make : (times : TaxiTimes) (values : DayValues) (fs : List Record) (runways : List RunwayRules) (aims : List AimResult)
+    (made : List RunwayPlanRecord) (plan : PlanRecord) → AreAims fs times values aims → IsDistinct same_name (map (λ r. r.name) runways)
     → AllZip (λ r p. IsSequence r (fixed_on r.name fs) (targets_on r.name (targets_in aims)) p) runways made → plan.clock ≡ values.clock
     → HasParts (early_in fs aims) made plan → IsPlanOf fs times values runways plan
 runways_make times values fs runways aims made plan are own all clock parts =

@@ -50,7 +50,8 @@ AllZip-weaker R S h _ _ all = absurd all
 pub aims_are : (times : TaxiTimes) (values : DayValues) (fs : List Record) (aims : List AimResult) → AllZip (λ f a. IsAim f times values a) fs aims
     → map (λ f. aim_of f times values) fs ≡ aims
 aims_are times values fs aims all =
-    sym (AllZip-map (λ f. aim_of f times values) fs aims (AllZip-weaker (λ f a. IsAim f times values a) (λ f a. a ≡ aim_of f times values) (λ f a h. sym (aim_is f times values a h)) fs aims all))
+    let same = AllZip-weaker (λ f a. IsAim f times values a) (λ f a. a ≡ aim_of f times values) (λ f a h. sym (aim_is f times values a h)) fs aims all in
+    sym (AllZip-map (λ f. aim_of f times values) fs aims same)
 
 pub aims_mean : (times : TaxiTimes) (values : DayValues) (fs : List Record) → AllZip (λ f a. IsAim f times values a) fs (map (λ f. aim_of f times values) fs)
 aims_mean times values [] = tt
@@ -98,7 +99,8 @@ parted : {X : Type 0} (a b : X → Bool) → ((x : X) → a x ≡ true → b x �
 parted a b apart [] = IsPermutation-refl []
 parted {X} a b apart (x ∷ xs) = go (a x) (b x) refl refl (parted a b apart xs) where
   go : (u v : Bool) → a x ≡ u → b x ≡ v → IsPermutation (filter (λ x. a x || b x) xs) (filter a xs ++ filter b xs)
-      → IsPermutation (cond (u || v) (x ∷ filter (λ x. a x || b x) xs) (filter (λ x. a x || b x) xs)) (cond u (x ∷ filter a xs) (filter a xs) ++ cond v (x ∷ filter b xs) (filter b xs))
+      → IsPermutation (cond (u || v) (x ∷ filter (λ x. a x || b x) xs) (filter (λ x. a x || b x) xs))
+      (cond u (x ∷ filter a xs) (filter a xs) ++ cond v (x ∷ filter b xs) (filter b xs))
   go true true e f rest = absurd (false≢true (sym (apart x e) ∙ f))
   go true false e f rest = IsPermutation-append_right (x ∷ []) _ _ rest
   go false true e f rest =
@@ -218,7 +220,8 @@ stands times values r f = is_some (fixed_at r f) || is_some (target_at r times v
 pub stands_here : (times : TaxiTimes) (values : DayValues) (r : List ℕ) (f : Record) → stands times values r f ≡ true
     → (is_on r f ≡ true) × (is_some (early_at times values f) ≡ false)
 stands_here times values r f h =
-    (by (is_on r f) refl, false_from_ne_true (is_some (early_at times values f)) (λ k. false≢true (sym (early (is_planned f.status) (aim_of f times values) refl k) ∙ h)))
+    let other = λ (k : is_some (early_at times values f) ≡ true). false≢true (sym (early (is_planned f.status) (aim_of f times values) refl k) ∙ h) in
+    (by (is_on r f) refl, false_from_ne_true (is_some (early_at times values f)) other)
   where
     by : (b : Bool) → is_on r f ≡ b → is_on r f ≡ true
     by true e = e
@@ -250,7 +253,7 @@ names_stand r times values fs =
 pub names_on : (r : List ℕ) (times : TaxiTimes) (values : DayValues) (fs : List Record) → IsDistinct same_name (map (λ f. f.name) fs)
     → IsDistinct same_name (flight_names (fixed_on r fs) (targets_on r (targets_of fs times values)))
 names_on r times values fs own =
-    IsDistinct-IsPermutation same_name same_flips (map (λ (f : Record). f.name) (filter (stands times values r) fs)) (flight_names (fixed_on r fs) (targets_on r (targets_of fs times values)))
+    IsDistinct-IsPermutation same_name same_flips _ _
     (names_stand r times values fs) (distinct_filter same_name (λ (f : Record). f.name) (stands times values r) fs own)
 
 -- no more names than elements
@@ -276,7 +279,8 @@ few_on r times values fs =
 
 -- the flights that are blocked early, by name
 pub early_named : (times : TaxiTimes) (values : DayValues) (fs : List Record)
-    → IsPermutation (map (λ f. f.name) (filter (λ f. is_some (early_at times values f)) fs)) (map (λ (b : BlockedFlight). b.name) (blocked_early fs times values))
+    → IsPermutation (map (λ f. f.name) (filter (λ f. is_some (early_at times values f)) fs))
+    (map (λ (b : BlockedFlight). b.name) (blocked_early fs times values))
 early_named times values fs =
     let name : Record → List ℕ = λ f. f.name in
     let own : (f : Record) (a : AimResult) → IfSome (blocked_in f.name a) (λ b. b.name ≡ f.name) = λ f. elim [ Ready t ↦ tt | Early rule ↦ refl ] in

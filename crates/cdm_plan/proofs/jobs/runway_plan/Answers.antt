@@ -9,11 +9,13 @@ sequence-requires-clause-runway c = rw (c.deref-2.ensures.value, c.in_ok-targets
 
 pub sequence-requires-clause-names : goal.sequence-requires-clause-names
 sequence-requires-clause-names c =
-    rw (c.deref-2.ensures.value, c.in_ok-targets.ensures, c.name-2.ensures, c.deref.ensures.value, c.in_ok-fixed.ensures, fixed_on-lent c.name.result c.args.flights.now, c.name.ensures) c.requires.names
+    let lent = fixed_on-lent c.name.result c.args.flights.now in
+    rw (c.deref-2.ensures.value, c.in_ok-targets.ensures, c.name-2.ensures, c.deref.ensures.value, c.in_ok-fixed.ensures, lent, c.name.ensures) c.requires.names
 
 pub sequence-requires-clause-few : goal.sequence-requires-clause-few
 sequence-requires-clause-few c =
-    rw (c.deref-2.ensures.value, c.in_ok-targets.ensures, c.name-2.ensures, c.deref.ensures.value, c.in_ok-fixed.ensures, fixed_on-lent c.name.result c.args.flights.now, c.name.ensures) c.requires.few
+    let lent = fixed_on-lent c.name.result c.args.flights.now in
+    rw (c.deref-2.ensures.value, c.in_ok-targets.ensures, c.name-2.ensures, c.deref.ensures.value, c.in_ok-fixed.ensures, lent, c.name.ensures) c.requires.few
 
 pub returns : goal.returns
 returns c =
