@@ -1,12 +1,12 @@
 -- The plan of what records tell is that of their day.
-use Rattle.std.proofs.Common.{◌≡◌, ℕ, ◌+◌, ◌≤◌, ◌++◌, take, List, [], length, Option, None, Some, refl, sym, ◌∙◌, ap, subst, map, filter, arith}
-use Rattle.cdm_plan.proofs.ListWords.{is_some, slice_get, option_and_then, AllZip, filter_map, flat_map, cons_option, IsDistinct, IsPermutation}
+use Rattle.std.proofs.Common.{◌≡◌, ℕ, ◌+◌, ◌≤◌, ◌++◌, take, List, [], length, IfSome, Option, None, Some, refl, sym, ◌∙◌, ap, subst, map, filter, arith}
+use Rattle.cdm_plan.proofs.ListWords.{is_some, slice_get, option_and_then, AllZip, filter_map, cons_option, IsDistinct, IsPermutation}
 use Rattle.cdm_plan.proofs.ListWords.{filter_map-append, IsPermutation-map, IsPermutation-refl, IsPermutation-sym, IsPermutation-trans, map_fixed}
 use Rattle.cdm_plan.proofs.ListWords.{distinct_filter, length-map}
 use Rattle.cdm_plan.proofs.PlanWords.{same_name, Record, Update, AirportRows, flight_of, values_of, taxi_of, status_of-record, RunwayRules}
-use Rattle.cdm_plan.proofs.PlanWords.{IsSequence, PlanRecord, RunwayPlanRecord, TargetRecord, BlockedFlight, IsAirport, runway_names, DayRecord}
+use Rattle.cdm_plan.proofs.PlanWords.{IsSequence, PlanRecord, RunwayPlanRecord, TargetRecord, IsAirport, runway_names, DayRecord}
 use Rattle.cdm_plan.proofs.PlanWords.{flights_in, rules_of, rows_by_name, rules_in, IsDayPlan, day_rules, records_in, HasParts}
-use Rattle.cdm_plan.proofs.PlanWords.{fixed_on, planned_of, targets_in, targets_on, IsPlanOn, fixed_in, IsSound}
+use Rattle.cdm_plan.proofs.PlanWords.{planned_of, targets_on, IsPlanOn, fixed_in, IsSound}
 use Rattle.cdm_plan.proofs.PlanningLemmas.{aim_list, aims_are, aims_mean, blocked_early, early-aims, few_names, targets-aims, targets_of}
 use Rattle.cdm_sequence.proofs.NameLemmas.{names_given}
 use Rattle.cdm_plan.proofs.NameLemmas.{rows_permutation, runway-names, take-next}
@@ -19,24 +19,36 @@ record_name g a f r e = sym (ap (λ (x : Record). x.name) (status_of-record f g 
 -- The day's flights.
 
 -- they are those that the journal says something of
-record_names : (d : DayRecord) → map (λ (r : Record). r.name) (records_in d.airport d.journal) ≡ map (λ f. f) (filter (λ f. is_some (flight_of d.airport d.journal f)) (flights_in d.journal))
-record_names d = names_given (λ (r : Record). r.name) (λ f. f) (flight_of d.airport d.journal) (record_name d.airport d.journal) (flights_in d.journal)
+record_names : (d : DayRecord)
+    → map (λ (r : Record). r.name) (records_in d.airport d.journal)
+    ≡ map (λ f. f) (filter (λ f. is_some (flight_of d.airport d.journal f)) (flights_in d.journal))
+record_names d =
+    names_given (λ (r : Record). r.name) (λ f. f) (flight_of d.airport d.journal) (λ f. named f (flight_of d.airport d.journal f) refl) (flights_in d.journal)
+  where
+    named : (f : List ℕ) (o : Option Record) → flight_of d.airport d.journal f ≡ o → IfSome o (λ r. r.name ≡ f)
+    named f None e = tt
+    named f (Some r) e = record_name d.airport d.journal f r e
 
-pub record_names_differ : (d : DayRecord) → IsDistinct same_name (flights_in d.journal) → IsDistinct same_name (map (λ (r : Record). r.name) (records_in d.airport d.journal))
+pub record_names_differ : (d : DayRecord) → IsDistinct same_name (flights_in d.journal)
+    → IsDistinct same_name (map (λ (r : Record). r.name) (records_in d.airport d.journal))
 record_names_differ d own =
     let itself : map (λ (f : List ℕ). f) (flights_in d.journal) ≡ flights_in d.journal = map_fixed (λ (f : List ℕ). f) (flights_in d.journal) (λ k f l. refl) in
     subst (λ (ns : List (List ℕ)). IsDistinct same_name ns) (sym (record_names d))
-    (distinct_filter same_name (λ (f : List ℕ). f) (λ f. is_some (flight_of d.airport d.journal f)) (flights_in d.journal) (subst (λ (ns : List (List ℕ)). IsDistinct same_name ns) (sym itself) own))
+    (distinct_filter same_name (λ (f : List ℕ). f) (λ f. is_some (flight_of d.airport d.journal f)) (flights_in d.journal) (rw itself own))
 
 pub few_records : (d : DayRecord) → IsSound d → length (records_in d.airport d.journal) ≤ 2000
 few_records d sound =
-    let few = few_names (λ f. f) (flights_in d.journal) (λ f. is_some (flight_of d.airport d.journal f)) _ (subst (IsPermutation _) (sym (record_names d)) (IsPermutation-refl _)) in
+    let few = few_names (λ f. f) (flights_in d.journal) (λ f. is_some (flight_of d.airport d.journal f)) _
+    (subst (IsPermutation _) (sym (record_names d)) (IsPermutation-refl _)) in
     let long = length-map (records_in d.airport d.journal) (λ (r : Record). r.name) in
     omega (arith, few, long, sound.few)
 
 -- one more of them
-pub records-next : (h : List ℕ → Option Record) (ks : List (List ℕ)) (i : ℕ) → filter_map h (take (i + 1) ks) ≡ filter_map h (take i ks) ++ cons_option (option_and_then h (slice_get ks i)) []
-records-next h ks i = ap (filter_map h) (take-next ks i) ∙ (filter_map-append h (take i ks) (cons_option (slice_get ks i) []) ∙ ap (λ l. filter_map h (take i ks) ++ l) (by (slice_get ks i)))
+pub records-next : (h : List ℕ → Option Record) (ks : List (List ℕ)) (i : ℕ)
+    → filter_map h (take (i + 1) ks) ≡ filter_map h (take i ks) ++ cons_option (option_and_then h (slice_get ks i)) []
+records-next h ks i =
+    ap (filter_map h) (take-next ks i)
+    ∙ (filter_map-append h (take i ks) (cons_option (slice_get ks i) []) ∙ ap (λ l. filter_map h (take i ks) ++ l) (by (slice_get ks i)))
   where
     by : (o : Option (List ℕ)) → filter_map h (cons_option o []) ≡ cons_option (option_and_then h o) []
     by None = refl
@@ -59,7 +71,7 @@ is_plan_on d r p e =
     record {
       aims = aim_list fs times values;
       aimed = aims_mean times values (planned_of fs);
-      sequence = subst (λ (ts : List TargetRecord). IsSequence r (fixed_in d r.name) (targets_on r.name ts) p) (sym (targets-aims times values fs)) e;
+      sequence = rw (targets-aims times values fs) e;
     }
 
 pub has_sequence : (d : DayRecord) (r : RunwayRules) (p : RunwayPlanRecord) → IsPlanOn d r p → HasSequence d r p
@@ -67,16 +79,17 @@ has_sequence d r p e =
     let fs = records_in d.airport d.journal in
     let times = taxi_of d.airport d.journal in
     let values = values_of d.journal in
-    subst (λ (ts : List TargetRecord). IsSequence r (fixed_in d r.name) (targets_on r.name ts) p)
-    (ap targets_in (sym (aims_are times values (planned_of fs) e.aims e.aimed)) ∙ targets-aims times values fs) e.sequence
+    rw (← targets-aims times values fs, aims_are times values (planned_of fs) e.aims e.aimed) e.sequence
 
 -- the names of the runways differ
 pub day_rules_differ : (d : DayRecord) → IsDistinct same_name (runway_names d.airport) → IsDistinct same_name (map (λ r. r.name) (day_rules d))
-day_rules_differ d own = subst (λ (ns : List (List ℕ)). IsDistinct same_name ns) (sym (runway-names d.airport d.journal d.airport.runways)) own
+day_rules_differ d own = rw (runway-names d.airport d.journal d.airport.runways) own
 
 -- a plan made from the plans of the runways by name is the day's
-pub day_plan : (d : DayRecord) (made plans : List RunwayPlanRecord) (plan : PlanRecord) → IsAirport d.airport → AllZip (HasSequence d) (rules_in d.airport d.journal) made → IsPermutation made plans
-    → plan.clock ≡ (values_of d.journal).clock → HasParts (blocked_early (records_in d.airport d.journal) (taxi_of d.airport d.journal) (values_of d.journal)) plans plan → IsDayPlan d plan
+pub day_plan : (d : DayRecord) (made plans : List RunwayPlanRecord) (plan : PlanRecord) → IsAirport d.airport
+    → AllZip (HasSequence d) (rules_in d.airport d.journal) made → IsPermutation made plans
+    → plan.clock ≡ (values_of d.journal).clock
+    → HasParts (blocked_early (records_in d.airport d.journal) (taxi_of d.airport d.journal) (values_of d.journal)) plans plan → IsDayPlan d plan
 unfolding IsDayPlan
 day_plan d made plans plan airport each same clock parts =
     let g = d.airport in
@@ -84,14 +97,15 @@ day_plan d made plans plan airport each same clock parts =
     let fs = records_in g a in
     let times = taxi_of g a in
     let values = values_of a in
-    let back = IsPermutation-sym (day_rules d) (rules_in g a) (IsPermutation-map (rules_of g a) g.runways (rows_by_name g.runways) (rows_permutation g.runways)) in
+    let back = IsPermutation-sym (day_rules d) (rules_in g a)
+    (IsPermutation-map (rules_of g a) g.runways (rows_by_name g.runways) (rows_permutation g.runways)) in
     let found = AllZip-reordered (HasSequence d) (rules_in g a) (day_rules d) made back each in
-    runways_make times values fs (day_rules d) (aim_list fs times values) found.0 plan (aims_mean times values (planned_of fs)) (day_rules_differ d airport.names)
-    (subst (λ (ts : List TargetRecord). AllZip (λ r p. IsSequence r (fixed_on r.name fs) (targets_on r.name ts) p) (day_rules d) found.0) (sym (targets-aims times values fs)) found.1)
-    clock
+    runways_make times values fs (day_rules d) (aim_list fs times values) found.0 plan (aims_mean times values (planned_of fs))
+    (day_rules_differ d airport.names)
+    (rw (targets-aims times values fs) found.1) clock
     record {
       runways = IsPermutation-trans found.0 made plan.runways found.2 (IsPermutation-trans made plans plan.runways same parts.runways);
       runway_order = parts.runway_order;
-      blocked = subst (λ (bs : List BlockedFlight). IsPermutation (bs ++ flat_map (λ p. p.blocked) plan.runways) plan.blocked) (sym (early-aims times values fs)) parts.blocked;
+      blocked = rw (early-aims times values fs) parts.blocked;
       blocked_order = parts.blocked_order;
     }

@@ -1,7 +1,9 @@
 -- The flights that a journal makes known, and what no word refuses.
-use Rattle.std.proofs.Common.{◌≡◌, ℕ, ◌+◌, Bool, true, false, cond, ◌&&◌, ◌||◌, List, [], ◌∷◌, ◌++◌, length, Option, None, Some, refl, sym, ap, ◌∙◌, subst, arith}
-use Rattle.cdm_plan.proofs.ListWords.{count_by, option_map_or, option_or, if◌then◌else◌, list_any, cons_option, IsDistinct, IsDistinct-push, append-nil, filter_map-append, nat_list_eq_equiv}
-use Rattle.cdm_plan.proofs.PlanWords.{Update, flight_of_update, is_fresh, same_reach, AirportRows, flight_refusal, is_disordered, is_full, is_known, is_unknown, refusal_of}
+use Rattle.std.proofs.Common.{◌≡◌, ℕ, ◌+◌, Bool, true, false, cond, ◌&&◌, ◌||◌, List, [], ◌∷◌, ◌++◌, length, Option, None, Some, refl, sym, ap, ◌∙◌, arith}
+use Rattle.cdm_plan.proofs.ListWords.{count_by, option_map_or, option_or, if◌then◌else◌, list_any, cons_option, IsDistinct, IsDistinct-push, append-nil}
+use Rattle.cdm_plan.proofs.ListWords.{filter_map-append, nat_list_eq_equiv}
+use Rattle.cdm_plan.proofs.PlanWords.{Update, flight_of_update, is_fresh, same_reach, AirportRows, flight_refusal, is_disordered, is_full, is_known}
+use Rattle.cdm_plan.proofs.PlanWords.{is_unknown, refusal_of}
 use Rattle.cdm_plan.proofs.PlanWords.{new_flight, flights_in, of_flight, reach_of, same_is, same_name, Flt}
 use Rattle.std.proofs.lemmas.Grind.{common_steps}
 use Rattle.cdm_flight.specs.declared.reach.Reach.{Reach}
@@ -80,8 +82,8 @@ accepted_is g a u good =
     record { known = known.0; new = new.0; ordered = ordered.0; room = room.0 }
 
 -- each flight becomes known once
-pub names_after : (g : AirportRows) (a : List Update) (u : Update) → refusal_of g a u ≡ None → IsDistinct same_name (flights_in a) → IsDistinct same_name (flights_in (a ++ u ∷ []))
+pub names_after : (g : AirportRows) (a : List Update) (u : Update) → refusal_of g a u ≡ None → IsDistinct same_name (flights_in a)
+    → IsDistinct same_name (flights_in (a ++ u ∷ []))
 names_after g a (Flt f p) good own =
-    subst (λ (l : List (List ℕ)). IsDistinct same_name l) (sym (flights_in-push a (Flt f p)))
-    (IsDistinct-push nat_list_eq_equiv (flights_in a) f own (sym (known-among a f) ∙ (accepted_is g a (Flt f p) good).new))
-names_after g a u good own = subst (λ (l : List (List ℕ)). IsDistinct same_name l) (sym (flights_in-push a u ∙ append-nil (flights_in a))) own
+    rw (flights_in-push a (Flt f p)) (IsDistinct-push nat_list_eq_equiv (flights_in a) f own (sym (known-among a f) ∙ (accepted_is g a (Flt f p) good).new))
+names_after g a u good own = rw (flights_in-push a u, append-nil (flights_in a)) own

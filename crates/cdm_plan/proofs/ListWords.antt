@@ -6,7 +6,8 @@ pub use Rattle.std.proofs.Math.Bool.{or-false, or_comm}
 pub use Rattle.std.proofs.lemmas.Bool.{false_from_ne_true, false≢true, not-false, or_parts, or_right}
 pub use Rattle.std.proofs.lemmas.Bool.Decides.{nat_tests}
 pub use Rattle.std.proofs.lemmas.Cmp.{nat_list_cmp_total, nat_list_eq_equiv}
-pub use Rattle.std.proofs.lemmas.List.{append-nil, append_assoc, ext_get_or, get_or-replicate, get_or_default, length-map, map-append, places, take-append-drop, take-append-le, take_all, take_more}
+pub use Rattle.std.proofs.lemmas.List.{append-nil, append_assoc, ext_get_or, get_or-replicate, get_or_default, length-map, map-append, places}
+pub use Rattle.std.proofs.lemmas.List.{take-append-drop, take-append-le, take_all, take_more}
 pub use Rattle.std.proofs.lemmas.List.Elements.{All-cons, All-contains, All-contains_itself, All-from_recursion, All-head, All-map, All-more, All-nil}
 pub use Rattle.std.proofs.lemmas.List.Elements.{All-tail, All-weaker, Contains-append_cases, filter_map-append, filter_passes, recursion_from_All}
 pub use Rattle.std.proofs.lemmas.List.Folds.{find-append, list_any-append, list_any_at, map_fixed}
@@ -24,4 +25,5 @@ unfoldable pub use Rattle.std.specs.List.{IsDistinct}
 pub use Rattle.std.specs.List.Sorted.{IsPermutation, IsSortedBy}
 pub use Rattle.std.specs.Option.{option_and_then, option_copied, option_map, option_map_or, option_or}
 pub use Rattle.std.specs.Ordering.{is_lt, nat_cmp, ordering_reverse}
-pub use Rattle.std.specs.Prelude.{OnOk, count_by, fold, if◌then◌else◌, insert, is_none, is_some, nat_le, nat_lt, not, slice_get, slice_index_or, unwrap_or, zip, ◌%◌, ◌==◌, ◌↔◌}
+pub use Rattle.std.specs.Prelude.{OnOk, count_by, fold, if◌then◌else◌, insert, is_none, is_some, nat_le, nat_lt, not, slice_get, slice_index_or, unwrap_or}
+pub use Rattle.std.specs.Prelude.{zip, ◌%◌, ◌==◌, ◌↔◌}

@@ -4,7 +4,8 @@ use Rattle.cdm_plan.proofs.ListWords.{is_lt, All, AllZip, Contains, IsDistinct, 
 use Rattle.cdm_plan.proofs.ListWords.{map-append, nat_list_cmp_total, All-contains, All-permutation}
 use Rattle.cdm_plan.proofs.ListWords.{IsPermutation-append_comm, IsPermutation-map, IsPermutation-refl, IsPermutation-trans}
 use Rattle.cdm_plan.proofs.ListWords.{IsPermutation-append_left, IsPermutation-append_right, append_assoc}
-use Rattle.cdm_plan.proofs.ListWords.{IsDistinct-IsPermutation, contains_head, contains_tail, contains_cases, distinct_filter, distinct_right, list_any-find, list_any-map, one_of_key}
+use Rattle.cdm_plan.proofs.ListWords.{IsDistinct-IsPermutation, contains_head, contains_tail, contains_cases, distinct_filter, distinct_right}
+use Rattle.cdm_plan.proofs.ListWords.{list_any-find, list_any-map, one_of_key}
 use Rattle.cdm_plan.proofs.PlanWords.{DayValues, name_cmp, same_name, Record, RunwayRules, TaxiTimes, SlotRecord, IsSequence, IsSequenceBy}
 use Rattle.cdm_plan.proofs.PlanWords.{PlanRecord, RunwayPlanRecord, TargetRecord, AimResult, BlockedFlight, Placing, IsEarlier}
 use Rattle.cdm_plan.proofs.PlanWords.{is_same, same_flips, tied_names}
@@ -55,35 +56,37 @@ partner R _ _ y all i = absurd all
 -- Plans.
 
 module _ (times : TaxiTimes) (values : DayValues) (fs : List Record) (own : IsDistinct same_name (map (λ f. f.name) fs)) where
-  abbrev targets_at : List ℕ → List TargetRecord
-  targets_at r = targets_on r (targets_of fs times values)
+  abbrev targets_here : List ℕ → List TargetRecord
+  targets_here r = targets_on r (targets_of fs times values)
 
-  abbrev IsMade : RunwayRules → RunwayPlanRecord → Type 0
-  IsMade r p = IsSequence r (fixed_on r.name fs) (targets_at r.name) p
+  abbrev IsSequenced : RunwayRules → RunwayPlanRecord → Type 0
+  IsSequenced r p = IsSequence r (fixed_on r.name fs) (targets_here r.name) p
 
-  abbrev IsMadeBy : Placing → RunwayRules → RunwayPlanRecord → Type 0
-  IsMadeBy placing r p = IsSequenceBy placing r (fixed_on r.name fs) (targets_at r.name) p
+  abbrev IsSequencedBy : Placing → RunwayRules → RunwayPlanRecord → Type 0
+  IsSequencedBy placing r p = IsSequenceBy placing r (fixed_on r.name fs) (targets_here r.name) p
 
   -- the plans of the runways are determined
-  made_one : (rs : List RunwayRules) (xs ys : List RunwayPlanRecord) → AllZip IsMade rs xs → AllZip IsMade rs ys → xs ≡ ys
+  made_one : (rs : List RunwayRules) (xs ys : List RunwayPlanRecord) → AllZip IsSequenced rs xs → AllZip IsSequenced rs ys → xs ≡ ys
   made_one [] [] [] a b = refl
   made_one (r ∷ rs) (x ∷ xs) (y ∷ ys) a b =
       let fixed = fixed_on r.name fs in
-      let targets = targets_at r.name in
-      let same : x ≡ y = sequence_one r fixed fixed targets targets x y (names_on r.name times values fs own) (IsPermutation-refl fixed) (IsPermutation-refl targets) a.0 b.0 in
+      let targets = targets_here r.name in
+      let same : x ≡ y = sequence_one r fixed fixed targets targets x y (names_on r.name times values fs own) (IsPermutation-refl fixed)
+      (IsPermutation-refl targets) a.0 b.0 in
       let rest = made_one rs xs ys a.1 b.1 in
       λ i. same i ∷ rest i
   made_one [] [] (y ∷ ys) a b = absurd b
   made_one (r ∷ rs) (x ∷ xs) [] a b = absurd b
   made_one _ _ _ a b = absurd a
 
-  module _ (placing : Placing) (rs : List RunwayRules) (rs_own : IsDistinct same_name (map (λ r. r.name) rs)) (made : List RunwayPlanRecord) (all : AllZip (IsMadeBy placing) rs made) where
-    each_made : AllZip IsMade rs made
-    each_made = AllZip-weaker (IsMadeBy placing) IsMade (λ r p h. (placing, h)) rs made all
+  module _ (placing : Placing) (rs : List RunwayRules) (rs_own : IsDistinct same_name (map (λ r. r.name) rs)) (made : List RunwayPlanRecord)
+      (all : AllZip (IsSequencedBy placing) rs made) where
+    each_made : AllZip IsSequenced rs made
+    each_made = AllZip-weaker (IsSequencedBy placing) IsSequenced (λ r p h. (placing, h)) rs made all
 
     -- the plans of the runways have names of their own
     made_own : IsDistinct same_name (map (λ p. p.runway) made)
-    made_own = subst (λ (ns : List (List ℕ)). IsDistinct same_name ns) (sym (made_named (λ r. fixed_on r fs) targets_at rs made each_made)) rs_own
+    made_own = rw (made_named (λ r. fixed_on r fs) targets_here rs made each_made) rs_own
 
     -- and so have all blocked flights
     blocked_own : (ps : List RunwayPlanRecord) → IsPermutation made ps
@@ -99,8 +102,10 @@ module _ (times : TaxiTimes) (values : DayValues) (fs : List Record) (own : IsDi
         let front = IsPermutation-append_left early _ _ (flat_map-parts slots blocked ps) in
         let back = IsPermutation-append_right (flat_map slots ps) _ _ (IsPermutation-append_comm (flat_map blocked ps) early) in
         let parts = IsPermutation-trans _ _ _ (IsPermutation-trans _ _ _ all front) (rw (append_assoc (flat_map slots ps) (flat_map blocked ps) early) back) in
-        let apart = IsDistinct-IsPermutation same_name same_flips _ _ parts (distinct_filter same_name (λ (f : Record). f.name) (stands_in times values fs ps) fs own) in
-        rw (map-append name (blocked_early fs times values) (flat_map (λ (p : RunwayPlanRecord). p.blocked) ps), ← names_of_lists (λ (p : RunwayPlanRecord). p.blocked) name ps)
+        let apart = IsDistinct-IsPermutation same_name same_flips _ _ parts
+        (distinct_filter same_name (λ (f : Record). f.name) (stands_in times values fs ps) fs own) in
+        let flights : RunwayPlanRecord → List BlockedFlight = λ p. p.blocked in
+        rw (map-append name (blocked_early fs times values) (flat_map flights ps), ← names_of_lists flights name ps)
         (distinct_right same_name (flat_map slots ps) (early ++ flat_map blocked ps) apart)
 
   -- a plan has parts
@@ -108,7 +113,7 @@ module _ (times : TaxiTimes) (values : DayValues) (fs : List Record) (own : IsDi
     clock : plan.clock ≡ values.clock
     placing : Placing
     made : List RunwayPlanRecord
-    all : AllZip (IsMadeBy placing) rs made
+    all : AllZip (IsSequencedBy placing) rs made
     parts : HasParts (blocked_early fs times values) made plan
 
   parts_of : (rs : List RunwayRules) (plan : PlanRecord) → IsPlanOf fs times values rs plan → Parts rs plan
@@ -118,24 +123,27 @@ module _ (times : TaxiTimes) (values : DayValues) (fs : List Record) (own : IsDi
         clock = e.clock;
         placing = placing;
         made = e.made;
-        all = subst (λ (ts : List TargetRecord). AllZip (λ r p. IsSequenceBy placing r (fixed_on r.name fs) (targets_on r.name ts) p) rs e.made) (sym (ap targets_in are)
-            ∙ targets-aims times values fs) e.sequences;
-        parts = subst (λ (bs : List BlockedFlight). HasParts bs e.made plan) (sym (ap (early_in fs) are) ∙ early-aims times values fs) e.parts;
+        all = subst (λ (ts : List TargetRecord). AllZip (λ r p. IsSequenceBy placing r (fixed_on r.name fs) (targets_on r.name ts) p) rs e.made)
+            (sym (ap targets_in are) ∙ targets-aims times values fs) e.sequences;
+        parts = rw (← early-aims times values fs, are) e.parts;
       }
 
   -- there is one plan
-  pub one_plan : (rs : List RunwayRules) → IsDistinct same_name (map (λ r. r.name) rs) → (p q : PlanRecord) → IsPlanOf fs times values rs p → IsPlanOf fs times values rs q → p ≡ q
+  pub one_plan : (rs : List RunwayRules) → IsDistinct same_name (map (λ r. r.name) rs) → (p q : PlanRecord) → IsPlanOf fs times values rs p
+      → IsPlanOf fs times values rs q → p ≡ q
   one_plan rs rs_own p q x y =
       let a = parts_of rs p x in
       let b = parts_of rs q y in
       let equal : b.made ≡ a.made = made_one rs b.made a.made (each_made b.placing rs rs_own b.made b.all) (each_made a.placing rs rs_own a.made a.all) in
-      let other : IsPermutation a.made q.runways = subst (λ (ms : List RunwayPlanRecord). IsPermutation ms q.runways) equal b.parts.runways in
+      let other : IsPermutation a.made q.runways = rw equal at b.parts.runways in
       let clock : p.clock ≡ q.clock = a.clock ∙ sym b.clock in
       let runways : p.runways ≡ q.runways =
-      by_name (λ (p : RunwayPlanRecord). p.runway) a.made p.runways q.runways (made_own a.placing rs rs_own a.made a.all) a.parts.runways other a.parts.runway_order b.parts.runway_order in
+      by_name (λ (p : RunwayPlanRecord). p.runway) a.made p.runways q.runways (made_own a.placing rs rs_own a.made a.all)
+      a.parts.runways other a.parts.runway_order b.parts.runway_order in
       let left = blocked_early fs times values ++ flat_map (λ p. p.blocked) p.runways in
       let others : IsPermutation left q.blocked =
-      subst (λ (ps : List RunwayPlanRecord). IsPermutation (blocked_early fs times values ++ flat_map (λ p. p.blocked) ps) q.blocked) (sym runways) b.parts.blocked in
+      subst (λ (ps : List RunwayPlanRecord). IsPermutation (blocked_early fs times values ++ flat_map (λ p. p.blocked) ps) q.blocked)
+      (sym runways) b.parts.blocked in
       let blocked : p.blocked ≡ q.blocked =
       by_name (λ (b : BlockedFlight). b.name) left p.blocked q.blocked
       (blocked_own a.placing rs rs_own a.made a.all p.runways a.parts.runways) a.parts.blocked others a.parts.blocked_order b.parts.blocked_order in
@@ -143,10 +151,12 @@ module _ (times : TaxiTimes) (values : DayValues) (fs : List Record) (own : IsDi
 
 -- Days.
 
-pub one_day_plan : (d : DayRecord) (p q : PlanRecord) → IsDistinct same_name (runway_names d.airport) → IsDistinct same_name (flights_in d.journal) → IsDayPlan d p → IsDayPlan d q → p ≡ q
+pub one_day_plan : (d : DayRecord) (p q : PlanRecord) → IsDistinct same_name (runway_names d.airport) → IsDistinct same_name (flights_in d.journal)
+    → IsDayPlan d p → IsDayPlan d q → p ≡ q
 unfolding IsDayPlan
 one_day_plan d p q runways flights a b =
-    one_plan (taxi_of d.airport d.journal) (values_of d.journal) (records_in d.airport d.journal) (record_names_differ d flights) (day_rules d) (day_rules_differ d runways) p q a b
+    one_plan (taxi_of d.airport d.journal) (values_of d.journal) (records_in d.airport d.journal) (record_names_differ d flights) (day_rules d)
+    (day_rules_differ d runways) p q a b
 
 -- plans of the runways make the day's
 pub day_made : (d : DayRecord) (aims : List AimResult) (made : List RunwayPlanRecord) (plan : PlanRecord) → IsDistinct same_name (runway_names d.airport)
@@ -155,7 +165,8 @@ pub day_made : (d : DayRecord) (aims : List AimResult) (made : List RunwayPlanRe
     → plan.clock ≡ (values_of d.journal).clock → HasParts (early_in (records_in d.airport d.journal) aims) made plan → IsDayPlan d plan
 unfolding IsDayPlan
 day_made d aims made plan own are all clock parts =
-    runways_make (taxi_of d.airport d.journal) (values_of d.journal) (records_in d.airport d.journal) (day_rules d) aims made plan are (day_rules_differ d own) all clock parts
+    runways_make (taxi_of d.airport d.journal) (values_of d.journal) (records_in d.airport d.journal) (day_rules d) aims made plan are
+    (day_rules_differ d own) all clock parts
 
 -- it is allowed
 pub day_allowed : (d : DayRecord) (aims : List AimResult) (placing : Placing) (plan : PlanRecord) → IsDistinct same_name (flights_in d.journal)
@@ -169,12 +180,14 @@ day_allowed d aims placing plan own e =
     allowed_on (λ r. fixed_on r fs) (targets_in aims) placing (day_rules d) e.made
     (λ r.
     subst (λ (ts : List TargetRecord). IsDistinct same_name (map (λ f. f.key.name) (targets_on r ts))) targets
-    (distinct_right same_name (map (λ (x : SlotRecord). x.name) (fixed_on r fs)) (map (λ (t : TargetRecord). t.key.name) (targets_on r (targets_of fs times values)))
+    (distinct_right same_name (map (λ (x : SlotRecord). x.name) (fixed_on r fs))
+    (map (λ (t : TargetRecord). t.key.name) (targets_on r (targets_of fs times values)))
     (names_on r times values fs (record_names_differ d own))))
     e.sequences
 
 -- and none that is allowed is earlier
-pub day_none_earlier : (d : DayRecord) (aims : List AimResult) (placing other : Placing) (plan : PlanRecord) → All (λ f. has_runway d.airport f.runway ≡ true) (targets_in aims)
+pub day_none_earlier : (d : DayRecord) (aims : List AimResult) (placing other : Placing) (plan : PlanRecord)
+    → All (λ f. has_runway d.airport f.runway ≡ true) (targets_in aims)
     → IsDayPlanBy placing aims d plan → IsDayAllowed aims d other → IsEarlier (targets_in aims) other placing → ⊥
 unfolding IsDayPlanBy
 day_none_earlier d aims placing other plan known e allowed sooner =

@@ -1,5 +1,6 @@
 -- The plans of the runways, in some order, make the plan of the day.
-use Rattle.std.proofs.Common.{◌≡◌, ℕ, zero, suc, ◌+◌, ◌≤◌, ◌<◌, List, [], ◌∷◌, ◌++◌, refl, sym, ◌∙◌, subst, arith, Bor, map, length, length-append, sum_by, get_or, set}
+use Rattle.std.proofs.Common.{◌≡◌, ℕ, zero, suc, ◌+◌, ◌≤◌, ◌<◌, List, [], ◌∷◌, ◌++◌, refl, sym, ◌∙◌, subst, arith, Bor, map, length, length-append, sum_by}
+use Rattle.std.proofs.Common.{get_or, set}
 use Rattle.cdm_plan.proofs.ListWords.{length-map, All, AllZip, IsDistinct, flat_map, swap, IsPermutation, All-cons, All-head, All-nil}
 use Rattle.cdm_plan.proofs.ListWords.{All-tail, IsPermutation-keeps, IsPermutation-refl, IsPermutation-swap, IsPermutation-sym, IsPermutation-trans}
 use Rattle.cdm_plan.proofs.ListWords.{length_permutation, sum_by-IsPermutation, sum_by-add}
@@ -40,11 +41,13 @@ module _ {X Y : Type 0} (R : X → Y → Type 0) where
       let found = IsPermutation-keeps xs (λ (l : List X). (vs : List Y) × AllZip R l vs × IsPermutation ys vs) (ys, all, IsPermutation-refl ys) step us same in
       (found.0, found.1, IsPermutation-sym ys found.0 found.2)
     where
-      step : (l : List X) (i j : ℕ) → i < length l → j < length l → (vs : List Y) × AllZip R l vs × IsPermutation ys vs → (vs : List Y) × AllZip R (swap l i j) vs × IsPermutation ys vs
+      step : (l : List X) (i j : ℕ) → i < length l → j < length l → (vs : List Y) × AllZip R l vs × IsPermutation ys vs
+          → (vs : List Y) × AllZip R (swap l i j) vs × IsPermutation ys vs
       step l i j p q found =
           let vs = found.0 in
           let long : length vs ≡ length l = AllZip-long R l vs found.1 in
-          (swap vs i j, AllZip-swap l vs i j p q found.1, IsPermutation-trans ys vs (swap vs i j) found.2 (IsPermutation-swap vs (swap vs i j) i j (omega arith) (omega arith) refl))
+          let moved = IsPermutation-swap vs (swap vs i j) i j (omega arith) (omega arith) refl in
+          (swap vs i j, AllZip-swap l vs i j p q found.1, IsPermutation-trans ys vs (swap vs i j) found.2 moved)
 
 -- what goes with lent values goes with the values
 pub AllZip-lent : {X Y : Type 0} (R : X → Y → Type 0) (xs : List (Bor X)) (ys : List Y) → AllZip (λ x y. R x.now y) xs ys → AllZip R (map (λ x. x.now) xs) ys
@@ -75,7 +78,8 @@ few_joined early made ordered blocked most same others few =
 -- and the parts have at most as many flights as there are
 pub few_parts : (times : TaxiTimes) (values : DayValues) (fs : List Record) (runways : List RunwayRules) (made plans : List RunwayPlanRecord)
     → AllZip (λ r p. IsSequence r (fixed_on r.name fs) (targets_on r.name (targets_of fs times values)) p) runways made → IsPermutation made plans
-    → IsDistinct same_name (map (λ r. r.name) runways) → sum_by (λ p. length p.slots + length p.blocked) plans + length (blocked_early fs times values) ≤ length fs
+    → IsDistinct same_name (map (λ r. r.name) runways)
+    → sum_by (λ p. length p.slots + length p.blocked) plans + length (blocked_early fs times values) ≤ length fs
 few_parts times values fs runways made plans each same own =
     let names = sym (made_named (λ r. fixed_on r fs) (λ r. targets_on r (targets_of fs times values)) runways made each) in
     let rest = map (λ (b : BlockedFlight). b.name) (blocked_early fs times values) in
@@ -93,8 +97,8 @@ few_parts times values fs runways made plans each same own =
         ∙ (λ i. length-map p.slots (λ (x : SlotRecord). x.name) i + length-map p.blocked (λ (b : BlockedFlight). b.name) i)
 
 -- plans that were made runway by runway make the day's plan
-pub runways_make : (times : TaxiTimes) (values : DayValues) (fs : List Record) (runways : List RunwayRules) (aims : List AimResult) (made : List RunwayPlanRecord)
-    (plan : PlanRecord) → AreAims fs times values aims → IsDistinct same_name (map (λ r. r.name) runways)
+pub runways_make : (times : TaxiTimes) (values : DayValues) (fs : List Record) (runways : List RunwayRules) (aims : List AimResult)
+    (made : List RunwayPlanRecord) (plan : PlanRecord) → AreAims fs times values aims → IsDistinct same_name (map (λ r. r.name) runways)
     → AllZip (λ r p. IsSequence r (fixed_on r.name fs) (targets_on r.name (targets_in aims)) p) runways made → plan.clock ≡ values.clock
     → HasParts (early_in fs aims) made plan → IsPlanOf fs times values runways plan
 runways_make times values fs runways aims made plan are own all clock parts =

@@ -1,6 +1,7 @@
 -- Each flight of a day stands once: as a fixed flight or a target of one runway, or blocked early.
 use Rattle.std.proofs.lemmas.Slice.Zip.{AllZip-map}
-use Rattle.std.proofs.Common.{Bor, ◌≡◌, ℕ, ◌+◌, ◌≤◌, Bool, true, false, not, cond, ◌||◌, List, [], ◌∷◌, ◌++◌, Option, None, Some, refl, sym, ◌∙◌, ap, subst, arith, map, filter, length}
+use Rattle.std.proofs.Common.{Bor, ◌≡◌, ℕ, ◌+◌, ◌≤◌, Bool, true, false, not, cond, ◌||◌, List, [], ◌∷◌, ◌++◌, Option, None, Some, refl, sym, ◌∙◌, ap}
+use Rattle.std.proofs.Common.{subst, arith, map, filter, length}
 use Rattle.cdm_plan.proofs.ListWords.{is_some, zip, option_map, option_map_or, All, All-cons, All-head, All-nil, All-tail, append_assoc}
 use Rattle.cdm_plan.proofs.ListWords.{cons_option, filter_map, flat_map, IsDistinct, AllByRecursion, IsPermutation, false_from_ne_true, false≢true}
 use Rattle.cdm_plan.proofs.ListWords.{IsPermutation-append, IsPermutation-refl, IsPermutation-trans, IsPermutation-append_right, IsPermutation-middle}
@@ -10,7 +11,8 @@ use Rattle.cdm_plan.proofs.ListWords.{filter_map-filter, if_so, length_permutati
 use Rattle.cdm_plan.proofs.PlanWords.{DayValues, same_name, Record, is_planned, TaxiTimes, IsAim, aim_of, aim_is, aim_means, same_flips, same_is}
 use Rattle.cdm_plan.proofs.PlanWords.{SlotRecord, fixed_slot, slot_by, flight_names, IsSequence, TargetRecord}
 use Rattle.cdm_plan.proofs.PlanWords.{AimResult, BlockedFlight, early_in, planned_of}
-use Rattle.cdm_plan.proofs.PlanWords.{target_in, targets_in, blocked_in, is_on, fixed_on, targets_on, IsAimed, if_on, if_passes, target_for, CanSequence, RunwayRules, RunwayPlanRecord, Ready, Early}
+use Rattle.cdm_plan.proofs.PlanWords.{target_in, targets_in, blocked_in, is_on, fixed_on, targets_on, IsAimed, if_on, if_passes, target_for, CanSequence}
+use Rattle.cdm_plan.proofs.PlanWords.{RunwayRules, RunwayPlanRecord, Ready, Early}
 use Rattle.std.proofs.lemmas.List.Filters.{length-filter_both}
 use Rattle.cdm_flight.specs.declared.flight.Status.{Status}
 use Rattle.cdm_flight.specs.declared.flight.Status.TheVariants as status
@@ -45,16 +47,19 @@ AllZip-weaker R S h (x ∷ xs) (y ∷ ys) all = (h x y all.0, AllZip-weaker R S 
 AllZip-weaker R S h _ _ all = absurd all
 
 -- the aims of flights are one list
-pub aims_are : (times : TaxiTimes) (values : DayValues) (fs : List Record) (aims : List AimResult) → AllZip (λ f a. IsAim f times values a) fs aims → map (λ f. aim_of f times values) fs ≡ aims
+pub aims_are : (times : TaxiTimes) (values : DayValues) (fs : List Record) (aims : List AimResult) → AllZip (λ f a. IsAim f times values a) fs aims
+    → map (λ f. aim_of f times values) fs ≡ aims
 aims_are times values fs aims all =
-    sym (AllZip-map (λ f. aim_of f times values) fs aims (AllZip-weaker (λ f a. IsAim f times values a) (λ f a. a ≡ aim_of f times values) (λ f a h. sym (aim_is f times values a h)) fs aims all))
+    let same = AllZip-weaker (λ f a. IsAim f times values a) (λ f a. a ≡ aim_of f times values) (λ f a h. sym (aim_is f times values a h)) fs aims all in
+    sym (AllZip-map (λ f. aim_of f times values) fs aims same)
 
 pub aims_mean : (times : TaxiTimes) (values : DayValues) (fs : List Record) → AllZip (λ f a. IsAim f times values a) fs (map (λ f. aim_of f times values) fs)
 aims_mean times values [] = tt
 aims_mean times values (f ∷ fs) = (aim_means f times values, aims_mean times values fs)
 
 -- and so they are with the names
-pub aimed_are : (times : TaxiTimes) (values : DayValues) (fs : List Record) (aims : List Aimed) → AllZip (IsAimed times values) fs aims → aims ≡ map (aimed times values) fs
+pub aimed_are : (times : TaxiTimes) (values : DayValues) (fs : List Record) (aims : List Aimed) → AllZip (IsAimed times values) fs aims
+    → aims ≡ map (aimed times values) fs
 unfolding aimed
 aimed_are times values fs aims all =
     AllZip-map (aimed times values) fs aims (AllZip-weaker (IsAimed times values) (λ f a. a ≡ aimed times values f)
@@ -89,49 +94,52 @@ filter-filter_map {X} {Y} q h (f ∷ fs) = go (h f) (filter-filter_map q h fs) w
   go (Some y) e = by (q y) y _ _ e
 
 -- two tests of which at most one holds part what passes either
-parted : {X : Type 0} (a b : X → Bool) → ((x : X) → a x ≡ true → b x ≡ false) → (xs : List X) → IsPermutation (filter (λ x. a x || b x) xs) (filter a xs ++ filter b xs)
+parted : {X : Type 0} (a b : X → Bool) → ((x : X) → a x ≡ true → b x ≡ false) → (xs : List X)
+    → IsPermutation (filter (λ x. a x || b x) xs) (filter a xs ++ filter b xs)
 parted a b apart [] = IsPermutation-refl []
 parted {X} a b apart (x ∷ xs) = go (a x) (b x) refl refl (parted a b apart xs) where
   go : (u v : Bool) → a x ≡ u → b x ≡ v → IsPermutation (filter (λ x. a x || b x) xs) (filter a xs ++ filter b xs)
-      → IsPermutation (cond (u || v) (x ∷ filter (λ x. a x || b x) xs) (filter (λ x. a x || b x) xs)) (cond u (x ∷ filter a xs) (filter a xs) ++ cond v (x ∷ filter b xs) (filter b xs))
+      → IsPermutation (cond (u || v) (x ∷ filter (λ x. a x || b x) xs) (filter (λ x. a x || b x) xs))
+      (cond u (x ∷ filter a xs) (filter a xs) ++ cond v (x ∷ filter b xs) (filter b xs))
   go true true e f rest = absurd (false≢true (sym (apart x e) ∙ f))
   go true false e f rest = IsPermutation-append_right (x ∷ []) _ _ rest
   go false true e f rest =
-      IsPermutation-trans _ (x ∷ (filter a xs ++ filter b xs)) _ (IsPermutation-append_right (x ∷ []) _ _ rest) (IsPermutation-sym _ _ (IsPermutation-middle (filter a xs) x (filter b xs)))
+      IsPermutation-trans _ (x ∷ (filter a xs ++ filter b xs)) _ (IsPermutation-append_right (x ∷ []) _ _ rest)
+      (IsPermutation-sym _ _ (IsPermutation-middle (filter a xs) x (filter b xs)))
   go false false e f rest = rest
 
 -- Flights.
 
+-- what holds of what a flight gives holds where a test leaves it
+if_so-keeps : {Y : Type 0} (P : Y → Type 0) (b : Bool) (o : Option Y) → IfSome o P → IfSome (if_so b o) P
+if_so-keeps P true o h = h
+if_so-keeps P false o h = tt
+
+if_on-keeps : (P : TargetRecord → Type 0) (r : List ℕ) (o : Option TargetRecord) → IfSome o P → IfSome (if_on r o) P
+if_on-keeps P r None h = tt
+if_on-keeps P r (Some t) h = if_so-keeps P (same_name t.runway r) (Some t) h
+
 -- a target has its flight's name
-pub key_name : (f : Record) (times : TaxiTimes) (values : DayValues) (t : TargetRecord) → aim_of f times values ≡ Ready t → t.key.name ≡ f.name
-key_name f times values t e = by f.tobt refl (subst (IsAim f times values) e (aim_means f times values)).key
+key_name : (f : Record) (times : TaxiTimes) (values : DayValues) → IfSome (target_in (aim_of f times values)) (λ t. t.key.name ≡ f.name)
+key_name f times values = by (aim_of f times values) (aim_means f times values)
   where
-    by : (o : Option ℕ) → f.tobt ≡ o → option_map (λ tobt. record { priority = f.priority; tobt = tobt; name = f.name }) o ≡ Some t.key → t.key.name ≡ f.name
-    by None g k = cc
-    by (Some tobt) g k = sym (ap (λ (x : Option Key). option_map_or (λ y. y.name) x []) k)
+    named : (o : Option ℕ) (k : Key) → option_map (λ tobt. record { priority = f.priority; tobt = tobt; name = f.name }) o ≡ Some k → k.name ≡ f.name
+    named None k e = cc
+    named (Some tobt) k e = sym (ap (λ (x : Option Key). option_map_or (λ y. y.name) x []) e)
 
-pub target_name : (r : List ℕ) (times : TaxiTimes) (values : DayValues) (f : Record) (t : TargetRecord)
-    → if_so (is_planned f.status) (if_on r (target_in (aim_of f times values))) ≡ Some t → t.key.name ≡ f.name
-target_name r times values f t e = go (is_planned f.status) (aim_of f times values) refl e
-  where
-    on : (b : Bool) (s : TargetRecord) → aim_of f times values ≡ Ready s → cond b (Some s) None ≡ Some t → t.key.name ≡ f.name
-    on true s is k = let same : s ≡ t = cc in key_name f times values t (is ∙ ap Ready same)
-    on false s is k = cc
-
-    go : (p : Bool) (a : AimResult) → aim_of f times values ≡ a → if_so p (if_on r (target_in a)) ≡ Some t → t.key.name ≡ f.name
-    go true (Ready s) is k = on (same_name s.runway r) s is k
-    go true (Early rule) is k = cc
-    go false a is k = cc
+    by : (a : AimResult) → IsAim f times values a → IfSome (target_in a) (λ t. t.key.name ≡ f.name)
+    by (Ready t) is = named f.tobt t.key is.key
+    by (Early rule) is = tt
 
 -- a fixed flight has its flight's name, and has left
-fixed_name : (f : Record) (x : SlotRecord) → fixed_slot f ≡ Some x → x.name ≡ f.name
+fixed_name : (f : Record) → IfSome (fixed_slot f) (λ x. x.name ≡ f.name)
 unfolding fixed_slot
-fixed_name f x e = go f.status e
+fixed_name f = by f.status
   where
-    go : (s : Status) → slot_by f s ≡ Some x → x.name ≡ f.name
-    go (status.OffBlock aobt exot) k = sym (ap (λ (o : Option SlotRecord). option_map_or (λ y. y.name) o []) k)
-    go (status.Airborne aobt atot) k = sym (ap (λ (o : Option SlotRecord). option_map_or (λ y. y.name) o []) k)
-    go _ k = cc
+    by : (s : Status) → IfSome (slot_by f s) (λ x. x.name ≡ f.name)
+    by (status.OffBlock aobt exot) = refl
+    by (status.Airborne aobt atot) = refl
+    by _ = tt
 
 fixed_left : (f : Record) → is_some (fixed_slot f) ≡ true → is_planned f.status ≡ false
 unfolding fixed_slot
@@ -157,7 +165,8 @@ pub fixed_on-given : (r : List ℕ) (fs : List Record) → fixed_on r fs ≡ fil
 unfolding fixed_on
 fixed_on-given r fs = filter_map-filter fixed_slot (is_on r) fs
 
-pub targets_on-given : (r : List ℕ) (times : TaxiTimes) (values : DayValues) (fs : List Record) → targets_on r (targets_of fs times values) ≡ filter_map (target_at r times values) fs
+pub targets_on-given : (r : List ℕ) (times : TaxiTimes) (values : DayValues) (fs : List Record)
+    → targets_on r (targets_of fs times values) ≡ filter_map (target_at r times values) fs
 unfolding targets_of
 targets_on-given r times values fs =
     filter-filter_map (λ (t : TargetRecord). same_name t.runway r) (λ f. target_in (aim_of f times values)) (planned_of fs)
@@ -190,13 +199,6 @@ apart r times values f h =
     let left = fixed_left f (some_inside (is_on r f) (fixed_slot f) h) in
     ap (λ (b : Bool). is_some (if_so b (if_on r (target_in (aim_of f times values))))) left
 
-fixed_at_name : (r : List ℕ) (f : Record) (x : SlotRecord) → fixed_at r f ≡ Some x → x.name ≡ f.name
-fixed_at_name r f x e = go (is_on r f) e
-  where
-    go : (b : Bool) → if_so b (fixed_slot f) ≡ Some x → x.name ≡ f.name
-    go true k = fixed_name f x k
-    go false k = cc
-
 -- what a flight gives, it gives to its own runway
 pub no_target_at : (r : List ℕ) (times : TaxiTimes) (values : DayValues) (f : Record) → is_on r f ≡ false → target_at r times values f ≡ None
 no_target_at r times values f h = in_any (is_planned f.status) (by (aim_of f times values) refl)
@@ -215,15 +217,20 @@ no_target_at r times values f h = in_any (is_planned f.status) (by (aim_of f tim
 abbrev pub stands : TaxiTimes → DayValues → List ℕ → Record → Bool
 stands times values r f = is_some (fixed_at r f) || is_some (target_at r times values f)
 
-pub stands_here : (times : TaxiTimes) (values : DayValues) (r : List ℕ) (f : Record) → stands times values r f ≡ true → (is_on r f ≡ true) × (is_some (early_at times values f) ≡ false)
-stands_here times values r f h = (by (is_on r f) refl, false_from_ne_true (is_some (early_at times values f)) (λ k. false≢true (sym (early (is_planned f.status) (aim_of f times values) refl k) ∙ h)))
+pub stands_here : (times : TaxiTimes) (values : DayValues) (r : List ℕ) (f : Record) → stands times values r f ≡ true
+    → (is_on r f ≡ true) × (is_some (early_at times values f) ≡ false)
+stands_here times values r f h =
+    let other = λ (k : is_some (early_at times values f) ≡ true). false≢true (sym (early (is_planned f.status) (aim_of f times values) refl k) ∙ h) in
+    (by (is_on r f) refl, false_from_ne_true (is_some (early_at times values f)) other)
   where
     by : (b : Bool) → is_on r f ≡ b → is_on r f ≡ true
     by true e = e
     by false e = absurd (false≢true (sym (λ i. is_some (if_so (e i) (fixed_slot f)) || is_some (no_target_at r times values f e i)) ∙ h))
 
-    early : (p : Bool) (a : AimResult) → is_planned f.status ≡ p → is_some (if_so p (blocked_in f.name a)) ≡ true → (is_some (fixed_at r f) || is_some (if_so p (if_on r (target_in a)))) ≡ false
-    early true (Early rule) e k = ap (λ b. b || false) (false_from_ne_true (is_some (fixed_at r f)) (λ l. false≢true (sym (fixed_left f (some_inside (is_on r f) (fixed_slot f) l)) ∙ e)))
+    early : (p : Bool) (a : AimResult) → is_planned f.status ≡ p → is_some (if_so p (blocked_in f.name a)) ≡ true
+        → (is_some (fixed_at r f) || is_some (if_so p (if_on r (target_in a)))) ≡ false
+    early true (Early rule) e k =
+        ap (λ b. b || false) (false_from_ne_true (is_some (fixed_at r f)) (λ l. false≢true (sym (fixed_left f (some_inside (is_on r f) (fixed_slot f) l)) ∙ e)))
     early true (Ready t) e k = absurd (false≢true k)
     early false a e k = absurd (false≢true k)
 
@@ -234,8 +241,11 @@ names_stand r times values fs =
     let a : Record → Bool = λ f. is_some (fixed_at r f) in
     let b : Record → Bool = λ f. is_some (target_at r times values f) in
     let name : Record → List ℕ = λ f. f.name in
-    let fixed = ap (map (λ (x : SlotRecord). x.name)) (fixed_on-given r fs) ∙ names_given (λ x. x.name) name (fixed_at r) (fixed_at_name r) fs in
-    let targets = ap (map (λ (t : TargetRecord). t.key.name)) (targets_on-given r times values fs) ∙ names_given (λ t. t.key.name) name (target_at r times values) (target_name r times values) fs in
+    let fixed = ap (map (λ (x : SlotRecord). x.name)) (fixed_on-given r fs)
+    ∙ names_given (λ x. x.name) name (fixed_at r) (λ f. if_so-keeps _ (is_on r f) (fixed_slot f) (fixed_name f)) fs in
+    let targets = ap (map (λ (t : TargetRecord). t.key.name)) (targets_on-given r times values fs)
+    ∙ names_given (λ t. t.key.name) name (target_at r times values)
+    (λ f. if_so-keeps _ (is_planned f.status) _ (if_on-keeps _ r (target_in (aim_of f times values)) (key_name f times values))) fs in
     subst (IsPermutation (map name (filter (stands times values r) fs))) (map-append name (filter a fs) (filter b fs) ∙ (λ i. sym fixed i ++ sym targets i))
     (IsPermutation-map name (filter (stands times values r) fs) (filter a fs ++ filter b fs) (parted a b (apart r times values) fs))
 
@@ -243,11 +253,12 @@ names_stand r times values fs =
 pub names_on : (r : List ℕ) (times : TaxiTimes) (values : DayValues) (fs : List Record) → IsDistinct same_name (map (λ f. f.name) fs)
     → IsDistinct same_name (flight_names (fixed_on r fs) (targets_on r (targets_of fs times values)))
 names_on r times values fs own =
-    IsDistinct-IsPermutation same_name same_flips (map (λ (f : Record). f.name) (filter (stands times values r) fs)) (flight_names (fixed_on r fs) (targets_on r (targets_of fs times values)))
+    IsDistinct-IsPermutation same_name same_flips _ _
     (names_stand r times values fs) (distinct_filter same_name (λ (f : Record). f.name) (stands times values r) fs own)
 
 -- no more names than elements
-pub few_names : {X : Type 0} (name : X → List ℕ) (fs : List X) (p : X → Bool) (ns : List (List ℕ)) → IsPermutation (map name (filter p fs)) ns → length ns ≤ length fs
+pub few_names : {X : Type 0} (name : X → List ℕ) (fs : List X) (p : X → Bool) (ns : List (List ℕ)) → IsPermutation (map name (filter p fs)) ns
+    → length ns ≤ length fs
 few_names name fs p ns same =
     let long = length_permutation (map name (filter p fs)) ns same in
     let mapped = length-map (filter p fs) name in
@@ -255,28 +266,29 @@ few_names name fs p ns same =
     omega arith
 
 -- and so has each runway
-pub few_on : (r : List ℕ) (times : TaxiTimes) (values : DayValues) (fs : List Record) → length (fixed_on r fs) + length (targets_on r (targets_of fs times values)) ≤ length fs
+pub few_on : (r : List ℕ) (times : TaxiTimes) (values : DayValues) (fs : List Record)
+    → length (fixed_on r fs) + length (targets_on r (targets_of fs times values)) ≤ length fs
 few_on r times values fs =
-    let few = few_names (λ (f : Record). f.name) fs (stands times values r) (flight_names (fixed_on r fs) (targets_on r (targets_of fs times values))) (names_stand r times values fs) in
-    let parts = length-append (map (λ (x : SlotRecord). x.name) (fixed_on r fs)) (map (λ (t : TargetRecord). t.key.name) (targets_on r (targets_of fs times values))) in
+    let few = few_names (λ (f : Record). f.name) fs (stands times values r) (flight_names (fixed_on r fs) (targets_on r (targets_of fs times values)))
+    (names_stand r times values fs) in
+    let parts = length-append (map (λ (x : SlotRecord). x.name) (fixed_on r fs))
+    (map (λ (t : TargetRecord). t.key.name) (targets_on r (targets_of fs times values))) in
     let fixed = length-map (fixed_on r fs) (λ (x : SlotRecord). x.name) in
     let targets = length-map (targets_on r (targets_of fs times values)) (λ (t : TargetRecord). t.key.name) in
     omega arith
 
 -- the flights that are blocked early, by name
 pub early_named : (times : TaxiTimes) (values : DayValues) (fs : List Record)
-    → IsPermutation (map (λ f. f.name) (filter (λ f. is_some (early_at times values f)) fs)) (map (λ (b : BlockedFlight). b.name) (blocked_early fs times values))
+    → IsPermutation (map (λ f. f.name) (filter (λ f. is_some (early_at times values f)) fs))
+    (map (λ (b : BlockedFlight). b.name) (blocked_early fs times values))
 early_named times values fs =
     let name : Record → List ℕ = λ f. f.name in
-    subst (IsPermutation (map name (filter (λ f. is_some (early_at times values f)) fs)))
-    (sym (ap (map (λ (b : BlockedFlight). b.name)) (early-given times values fs)
-    ∙ names_given (λ b. b.name) name (early_at times values) (λ f b e. own f b (is_planned f.status) (aim_of f times values) e) fs))
-    (IsPermutation-refl _)
-  where
-    own : (f : Record) (b : BlockedFlight) (p : Bool) (a : AimResult) → if_so p (blocked_in f.name a) ≡ Some b → b.name ≡ f.name
-    own f b true (Early rule) e = cc
-    own f b true (Ready t) e = cc
-    own f b false a e = cc
+    let own : (f : Record) (a : AimResult) → IfSome (blocked_in f.name a) (λ b. b.name ≡ f.name) = λ f. elim [ Ready t ↦ tt | Early rule ↦ refl ] in
+    rw (
+      early-given times values fs,
+      names_given (λ b. b.name) name (early_at times values)
+          (λ f. if_so-keeps _ (is_planned f.status) _ (own f (aim_of f times values))) fs,
+    ) (IsPermutation-refl _)
 
 -- Each flight of a day once.
 
@@ -328,7 +340,8 @@ on_it r aims = All-given (target_for r) (λ t. t.runway ≡ r) aims (λ a i. giv
     given (Some t) = by (same_name t.runway r) t refl
 
 -- what holds of all that goes with something
-pub all_zipped : {X Y : Type 0} (R : X → Y → Type 0) (P : Y → Type 0) → ((x : X) (y : Y) → R x y → P y) → (xs : List X) (ys : List Y) → AllZip R xs ys → All P ys
+pub all_zipped : {X Y : Type 0} (R : X → Y → Type 0) (P : Y → Type 0) → ((x : X) (y : Y) → R x y → P y) → (xs : List X) (ys : List Y) → AllZip R xs ys
+    → All P ys
 all_zipped R P h [] [] all = All-nil P
 all_zipped R P h (x ∷ xs) (y ∷ ys) all = All-cons P y ys (h x y all.0) (all_zipped R P h xs ys all.1)
 all_zipped R P h _ _ all = absurd all
@@ -361,7 +374,8 @@ pub planned_are : (fs : List Record) → All (λ f. is_planned f.status ≡ true
 planned_are fs = filter_passes (λ f. is_planned f.status) fs
 
 -- the flights of a runway among lent ones
-pub fixed_on-lent : (r : List ℕ) (fs : List (Bor Record)) → filter_map (λ f. fixed_slot f.now) (filter (λ f. is_on r f.now) fs) ≡ fixed_on r (map (λ f. f.now) fs)
+pub fixed_on-lent : (r : List ℕ) (fs : List (Bor Record))
+    → filter_map (λ f. fixed_slot f.now) (filter (λ f. is_on r f.now) fs) ≡ fixed_on r (map (λ f. f.now) fs)
 fixed_on-lent r fs =
     filter_map-filter (λ (f : Bor Record). fixed_slot f.now) (λ f. is_on r f.now) fs
     ∙ sym (fixed_on-given r (map (λ (f : Bor Record). f.now) fs) ∙ filter_map-map (fixed_at r) (λ (f : Bor Record). f.now) fs)

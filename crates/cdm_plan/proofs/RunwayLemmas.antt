@@ -6,7 +6,8 @@ use Rattle.cdm_plan.proofs.ListWords.{option_map_or, range_with_len, unwrap_or}
 use Rattle.cdm_plan.proofs.PlanWords.{RunwayRow, Update, AirportRows, cap_given, closed_given, last_value, reach_of, rules_of, runway_row, same_reach}
 
 -- an update that touches something else
-pub rules-same : (g : AirportRows) (a : List Update) (row : RunwayRow) (u : Update) → same_reach (reach_of u) (reach.Runway row.name) ≡ false → rules_of g a row ≡ rules_of g (a ++ u ∷ []) row
+pub rules-same : (g : AirportRows) (a : List Update) (row : RunwayRow) (u : Update) → same_reach (reach_of u) (reach.Runway row.name) ≡ false
+    → rules_of g a row ≡ rules_of g (a ++ u ∷ []) row
 unfolding rules_of
 rules-same g a row u other =
     let same = untouched (reach.Runway row.name) a u other in

@@ -1,12 +1,12 @@
 //! What planned flights could have.
-ghost use Rattle.std.specs.Prelude.{◌≡◌, true, IfOk, map};
+ghost use Rattle.std.specs.Prelude.{◌≡◌, true, IfOk};
 ghost use Rattle.std.specs.List.{filter_map};
 ghost use Rattle.std.specs.FinMap as finite;
 ghost use Rattle.cdm_flight.specs.Record.{is_planned};
-ghost use Rattle.cdm_plan.specs.Planning.{blocked_in, planned_of};
+ghost use Rattle.cdm_plan.specs.Planning.{blocked_in};
 ghost use Rattle.cdm_plan.specs.inner.Aimed.{IsAimed, early_among, target_for};
 
-use cdm_flight::{DayValues, Flight, FlightName, RunwayName, Status, push_last};
+use cdm_flight::{DayValues, Flight, FlightName, RunwayName};
 use cdm_sequence::{AimResult, BlockedFlight, Target, aim};
 use cdm_taxi::TaxiTable;
 use std::alloc::{AllocError, Global};
@@ -16,23 +16,6 @@ use std::alloc::{AllocError, Global};
 pub(crate) struct Aimed {
     pub(crate) name: FlightName,
     pub(crate) aim: AimResult,
-}
-
-/// The flights on their stands, in order.
-pub(crate) fn planned_flights<'a>(
-    alloc: Global,
-    flights: &[&'a Flight],
-) -> Result<Vec<&'a Flight>, AllocError>
-    ensures { IfOk result (λ v. map (λ f. f.now) v.items ≡ planned_of (map (λ f. f.now) flights.now)) }
-{
-    let mut planned = Vec::new(alloc);
-    for flight in flights {
-        let flight: &'a Flight = flight;
-        if flight.status == Status::Planned {
-            push_last(&mut planned, flight)?;
-        }
-    }
-    Ok(planned)
 }
 
 /// A planned flight with what it could have.

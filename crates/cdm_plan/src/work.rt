@@ -4,13 +4,13 @@ ghost use Rattle.std.specs.List.{cons_option};
 ghost use Rattle.std.specs.Option.{option_copied};
 ghost use Rattle.cdm_plan.specs.Day.{rules_in};
 ghost use Rattle.cdm_plan.specs.DayPlan.{records_in};
+ghost use Rattle.cdm_plan.specs.Planning.{planned_of};
 ghost use Rattle.cdm_plan.specs.Sound.{IsSound};
 ghost use Rattle.cdm_plan.specs.inner.Work.{IsWork};
 
-use crate::aimed::planned_flights;
 use crate::kept::Kept;
 use crate::records::Records;
-use cdm_flight::{Flight, push_last};
+use cdm_flight::{Flight, Status, push_last};
 use cdm_runway::Runway;
 use std::alloc::{AllocError, Global};
 
@@ -44,6 +44,20 @@ fn all_flights<R: Records>(alloc: Global, records: &R) -> Result<Vec<&Flight>, A
         push_known(&mut flights, records.flight_at(place))?;
     }
     Ok(flights)
+}
+
+// The flights on their stands, in order.
+fn planned_flights<'a>(alloc: Global, flights: &[&'a Flight]) -> Result<Vec<&'a Flight>, AllocError>
+    ensures { IfOk result (λ v. map (λ f. f.now) v.items ≡ planned_of (map (λ f. f.now) flights.now)) }
+{
+    let mut planned = Vec::new(alloc);
+    for flight in flights {
+        let flight: &'a Flight = flight;
+        if flight.status == Status::Planned {
+            push_last(&mut planned, flight)?;
+        }
+    }
+    Ok(planned)
 }
 
 // All runways by name.

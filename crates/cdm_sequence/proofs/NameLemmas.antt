@@ -1,5 +1,5 @@
 -- The names that a sequence shows.
-use Rattle.std.proofs.Common.{◌≡◌, ℕ, not, cond, List, [], ◌∷◌, ◌++◌, Option, Some, None, is_none, sym, ◌∙◌, ap, subst, refl, filter, map, append_assoc}
+use Rattle.std.proofs.Common.{◌≡◌, ℕ, not, cond, List, [], ◌∷◌, ◌++◌, Option, Some, None, IfSome, is_none, sym, ◌∙◌, ap, subst, refl, filter, map, append_assoc}
 use Rattle.std.specs.List.{filter_map, cons_option}
 use Rattle.std.specs.List.Sorted.{IsPermutation}
 use Rattle.std.specs.Option.{is_some, option_map}
@@ -13,17 +13,17 @@ use Rattle.cdm_sequence.specs.Targets.{TargetRecord}
 use Rattle.cdm_sequence.specs.inner.Shown.{slots_by, names_left}
 
 -- the names of what flights give are those of the flights that give something
-pub names_given : {X Y : Type 0} (name : Y → List ℕ) (key : X → List ℕ) (h : X → Option Y) → ((f : X) (y : Y) → h f ≡ Some y → name y ≡ key f)
+pub names_given : {X Y : Type 0} (name : Y → List ℕ) (key : X → List ℕ) (h : X → Option Y) → ((f : X) → IfSome (h f) (λ y. name y ≡ key f))
     → (fs : List X) → map name (filter_map h fs) ≡ map key (filter (λ f. is_some (h f)) fs)
 names_given name key h own [] = refl
-names_given {X} {Y} name key h own (f ∷ fs) = go (h f) refl (names_given name key h own fs) where
+names_given {X} {Y} name key h own (f ∷ fs) = go (h f) (own f) (names_given name key h own fs) where
   given : List X
   given = filter (λ f. is_some (h f)) fs
 
-  go : (o : Option Y) → h f ≡ o → map name (filter_map h fs) ≡ map key given
+  go : (o : Option Y) → IfSome o (λ y. name y ≡ key f) → map name (filter_map h fs) ≡ map key given
       → map name (cons_option o (filter_map h fs)) ≡ map key (cond (is_some o) (f ∷ given) given)
   go None e rest = rest
-  go (Some y) e rest = λ i. own f y e i ∷ rest i
+  go (Some y) e rest = λ i. e i ∷ rest i
 
 -- each flight has a slot, or is left without one
 pub shown_by : (p : Placing) (fixed : List SlotRecord) (ts : List TargetRecord)
@@ -32,14 +32,13 @@ shown_by p fixed ts =
     let key : TargetRecord → List ℕ = λ t. t.key.name in
     let slot : TargetRecord → Option SlotRecord = λ t. option_map (planned_slot t) (p t) in
     let name : SlotRecord → List ℕ = λ x. x.name in
-    let own : (t : TargetRecord) (o : Option ℕ) (x : SlotRecord) → option_map (planned_slot t) o ≡ Some x → x.name ≡ t.key.name = λ t.
-    elim [ None ↦ λ x e. cc | Some m ↦ λ x e. let same : planned_slot t m ≡ x = cc in sym (ap name same) ] in
+    let own : (t : TargetRecord) (o : Option ℕ) → IfSome (option_map (planned_slot t) o) (λ x. x.name ≡ t.key.name) = λ t. elim [ None ↦ tt | Some m ↦ refl ] in
     let other : (t : TargetRecord) (o : Option ℕ) → is_none o ≡ not (is_some (option_map (planned_slot t) o)) = λ t. elim [ None ↦ refl | Some m ↦ refl ] in
     let given = filter (λ t. is_some (slot t)) ts in
     let left = filter (λ t. is_none (p t)) ts in
     let parted = IsPermutation-map key ts (given ++ left) (IsPermutation-filter_both (λ t. is_some (slot t)) (λ t. is_none (p t)) (λ t. other t (p t)) ts) in
     let named : map key (given ++ left) ≡ map name (filter_map slot ts) ++ names_left p ts =
-    map-append key given left ∙ ap (λ (ns : List (List ℕ)). ns ++ names_left p ts) (sym (names_given name key slot (λ t x e. own t (p t) x e) ts)) in
+    map-append key given left ∙ ap (λ (ns : List (List ℕ)). ns ++ names_left p ts) (sym (names_given name key slot (λ t. own t (p t)) ts)) in
     let whole : map name fixed ++ (map name (filter_map slot ts) ++ names_left p ts) ≡ map name (slots_by p fixed ts) ++ names_left p ts =
     sym (append_assoc (map name fixed) (map name (filter_map slot ts)) (names_left p ts))
     ∙ ap (λ (ns : List (List ℕ)). ns ++ names_left p ts) (sym (map-append name fixed (filter_map slot ts))) in

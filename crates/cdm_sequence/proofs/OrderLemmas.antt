@@ -29,9 +29,6 @@ same_is m n h = (names_decide m n).0 h
 pub is_same : (m n : List ℕ) → m ≡ n → same_name m n ≡ true
 is_same m n e = (names_decide m n).1 e
 
-pub same_itself : (n : List ℕ) → same_name n n ≡ true
-same_itself n = is_same n n refl
-
 pub same_flips : (m n : List ℕ) → same_name m n ≡ same_name n m
 same_flips = nat_list_eq_equiv.symm
 

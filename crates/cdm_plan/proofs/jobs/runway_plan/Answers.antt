@@ -9,15 +9,18 @@ sequence-requires-clause-runway c = rw (c.deref-2.ensures.value, c.in_ok-targets
 
 pub sequence-requires-clause-names : goal.sequence-requires-clause-names
 sequence-requires-clause-names c =
-    rw (c.deref-2.ensures.value, c.in_ok-targets.ensures, c.name-2.ensures, c.deref.ensures.value, c.in_ok-fixed.ensures, fixed_on-lent c.name.result c.args.flights.now, c.name.ensures) c.requires.names
+    let lent = fixed_on-lent c.name.result c.args.flights.now in
+    rw (c.deref-2.ensures.value, c.in_ok-targets.ensures, c.name-2.ensures, c.deref.ensures.value, c.in_ok-fixed.ensures, lent, c.name.ensures) c.requires.names
 
 pub sequence-requires-clause-few : goal.sequence-requires-clause-few
 sequence-requires-clause-few c =
-    rw (c.deref-2.ensures.value, c.in_ok-targets.ensures, c.name-2.ensures, c.deref.ensures.value, c.in_ok-fixed.ensures, fixed_on-lent c.name.result c.args.flights.now, c.name.ensures) c.requires.few
+    let lent = fixed_on-lent c.name.result c.args.flights.now in
+    rw (c.deref-2.ensures.value, c.in_ok-targets.ensures, c.name-2.ensures, c.deref.ensures.value, c.in_ok-fixed.ensures, lent, c.name.ensures) c.requires.few
 
 pub returns : goal.returns
 returns c =
-    let targets : c.deref-2.result.now ≡ filter_map (target_for c.args.runway.now.name) c.args.aims.now = rw (c.deref-2.ensures.value, c.in_ok-targets.ensures, c.name-2.ensures) in
+    let targets : c.deref-2.result.now ≡ filter_map (target_for c.args.runway.now.name) c.args.aims.now =
+    rw (c.deref-2.ensures.value, c.in_ok-targets.ensures, c.name-2.ensures) in
     let fixed : c.deref.result.now ≡ fixed_on c.args.runway.now.name (map (λ (f : Bor Record). f.now) c.args.flights.now) =
     rw (c.deref.ensures.value, c.in_ok-fixed.ensures, fixed_on-lent c.name.result c.args.flights.now, c.name.ensures) in
     rw (← targets, ← fixed) c.in_ok-plan.ensures.sequence

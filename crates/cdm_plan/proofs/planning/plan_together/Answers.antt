@@ -5,4 +5,6 @@ pub joined-requires : goal.joined-requires
 joined-requires g c = rw c.in_ok-copies.ensures c.requires.few
 
 pub returns : goal.returns
-returns g c = c.requires.made c.in_ok-plan.plan (c.in_ok-plan.ensures.clock ∙ ap (λ v. v.clock) c.values.ensures.value) (rw c.in_ok-copies.ensures at c.in_ok-plan.ensures.parts)
+returns g c =
+    c.requires.made c.in_ok-plan.plan (c.in_ok-plan.ensures.clock ∙ ap (λ v. v.clock) c.values.ensures.value)
+    (rw c.in_ok-copies.ensures at c.in_ok-plan.ensures.parts)

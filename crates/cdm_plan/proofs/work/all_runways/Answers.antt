@@ -7,7 +7,8 @@ use Rattle.cdm_plan.proofs.work.all_runways.Goals as goal
 pub loop-place-preserved : goal.loop-place-preserved
 loop-place-preserved g c =
     let d = g.R.Records.day c.args.records.now in
-    c.in_ok-push_known.ensures ∙ ((λ i. c.loop-place.invariant i ++ cons_option (c.runway_at.ensures.value i) []) ∙ sym (take-next (rules_in d.airport d.journal) c.loop-place.place))
+    c.in_ok-push_known.ensures
+    ∙ ((λ i. c.loop-place.invariant i ++ cons_option (c.runway_at.ensures.value i) []) ∙ sym (take-next (rules_in d.airport d.journal) c.loop-place.place))
 
 pub returns : goal.returns
 returns g c =

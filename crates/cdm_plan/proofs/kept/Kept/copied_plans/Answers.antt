@@ -11,5 +11,6 @@ loop-runway-preserved c =
     let kept = kept_plan c.args.self.now.touched.now c.args.self.now.plans.now in
     let stands : Bor RunwayRules → Option RunwayPlanRecord = λ r. kept r.now.name in
     let inside : k < length rs = omega arith in
-    let next = ap (filter_map stands) (take_more rs k r inside ∙ ap (λ (x : Bor RunwayRules). take k rs ++ x ∷ []) (sym c.runway-item.is)) ∙ filter_map-append stands (take k rs) (r ∷ []) in
+    let next = ap (filter_map stands) (take_more rs k r inside ∙ ap (λ (x : Bor RunwayRules). take k rs ++ x ∷ []) (sym c.runway-item.is))
+    ∙ filter_map-append stands (take k rs) (r ∷ []) in
     c.in_ok-push_copy.ensures ∙ ((λ i. c.loop-runway.invariant i ++ cons_option ((c.plan_on.ensures ∙ ap kept c.name.ensures) i) []) ∙ sym next)

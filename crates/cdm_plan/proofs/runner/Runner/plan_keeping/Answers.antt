@@ -3,15 +3,17 @@ use Rattle.cdm_plan.proofs.MadeLemmas.{work_can, work_done, work_planned}
 use Rattle.cdm_plan.proofs.runner.Runner.plan_keeping.Goals as goal
 
 pub run_phase-requires-clause-can : goal.run_phase-requires-clause-can
-run_phase-requires-clause-can g c κs within = work_planned c.in_ok-work.ensures c.deref.result.now c.deref.ensures.value
+run_phase-requires-clause-can g c κs within = rw c.deref.ensures.value (work_planned c.in_ok-work.ensures)
 
 pub run_phase-requires-2-clause-can : goal.run_phase-requires-2-clause-can
 run_phase-requires-2-clause-can g c κs within = λ k x l.
-    work_can c.in_ok-work.ensures c.taxi.result.now c.taxi.ensures.value c.values.result c.values.ensures.value c.deref.result.now c.deref.ensures.value c.in_ok-aims.aims.items c.in_ok-aims.ensures
-    c.deref-2.result.now c.deref-2.ensures.value c.deref-3.result.now c.deref-3.ensures.value (slice_index_or c.deref-4.result.now k x).now.name
+    let aims = rw c.deref.ensures.value at c.in_ok-aims.ensures in
+    rw (c.deref-2.ensures.value, c.deref-3.ensures.value)
+    (work_can c.in_ok-work.ensures c.taxi.ensures.value c.values.ensures.value c.in_ok-aims.aims.items aims (slice_index_or c.deref-4.result.now k x).now.name)
 
 pub plan_together-requires : goal.plan_together-requires
 plan_together-requires g c =
-    work_done c.in_ok-work.ensures c.taxi.result.now c.taxi.ensures.value c.values.result c.values.ensures.value c.deref.result.now c.deref.ensures.value c.in_ok-aims.aims.items c.in_ok-aims.ensures
-    c.deref-2.result.now c.deref-2.ensures.value c.deref-3.result.now c.deref-3.ensures.value c.deref-6.result.now c.deref-5.result.now c.deref-4.result.now c.in_ok-made.made.items
-    c.deref-6.ensures.value c.deref-5.ensures.value c.deref-4.ensures.value c.requires c.in_ok-made.ensures
+    let aims = rw c.deref.ensures.value at c.in_ok-aims.ensures in
+    let made = rw (c.deref-2.ensures.value, c.deref-3.ensures.value, c.deref-4.ensures.value) at c.in_ok-made.ensures in
+    rw (c.deref-5.ensures.value, c.deref-6.ensures.value)
+    (work_done c.in_ok-work.ensures c.taxi.ensures.value c.values.ensures.value c.in_ok-aims.aims.items aims c.in_ok-made.made.items c.requires made)
