@@ -17,9 +17,10 @@ use Rattle.std.proofs.lemmas.List.Filters.{length-filter_both}
 use Rattle.cdm_flight.specs.declared.flight.Status.{Status}
 use Rattle.cdm_flight.specs.declared.flight.Status.TheVariants as status
 use Rattle.cdm_flight.specs.declared.key.Key.{Key}
-use Rattle.std.proofs.Common.{IfSome, length-append}
+use Rattle.std.proofs.Common.{IfSome, IsTrue, length-append}
 use Rattle.cdm_plan.specs.declared.aimed.Aimed.{Aimed}
 use Rattle.cdm_plan.proofs.JournalFacts.{some_named}
+use Rattle.cdm_sequence.specs.Slots.{is_fixed}
 use Rattle.cdm_sequence.proofs.NameLemmas.{all_shown, names_given, shown}
 
 -- Aims.
@@ -361,10 +362,21 @@ shows_made times values fs = all_zipped _ (Shows times values fs) (λ r p h.
     let targets = targets_on r.name (targets_of fs times values) in
     rw h.1.runway (IsPermutation-trans _ _ _ (names_stand r.name times values fs) (all_shown r fixed targets p h)))
 
+-- its fixed flights have left their stands
+all_left : (r : List ℕ) (fs : List Record) → All (λ (x : SlotRecord). IsTrue (is_fixed x.mark)) (fixed_on r fs)
+unfolding fixed_on fixed_slot
+all_left r fs = All-given fixed_slot (λ x. IsTrue (is_fixed x.mark)) (filter (is_on r) fs) (λ f i. by f f.status)
+  where
+    by : (f : Record) (s : Status) → IfSome (slot_by f s) (λ x. IsTrue (is_fixed x.mark))
+    by f (status.OffBlock aobt exot) = refl
+    by f (status.Airborne aobt atot) = refl
+    by f _ = tt
+
 -- each runway can be sequenced
 pub can_sequence : (times : TaxiTimes) (values : DayValues) (fs : List Record) → IsDistinct same_name (map (λ f. f.name) fs) → length fs ≤ 2000 → (r : List ℕ)
     → CanSequence (fixed_on r fs) (targets_on r (targets_of fs times values))
 can_sequence times values fs own few r = record {
+  left = all_left r fs;
   names = names_on r times values fs own;
   few = let a = few_on r times values fs in omega arith;
 }

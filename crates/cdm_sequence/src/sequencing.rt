@@ -1,12 +1,12 @@
 //! One runway's sequence.
-ghost use Rattle.std.specs.Prelude.{◌≡◌, ℕ, ◌+◌, ◌≤◌, ◌++◌, length, map, All, IfOk, IsPermutation, IsSorted, IsSortedByKey};
+ghost use Rattle.std.specs.Prelude.{◌≡◌, ℕ, ◌+◌, ◌≤◌, ◌++◌, length, map, All, IfOk, IsPermutation, IsSorted, IsSortedByKey, IsTrue};
 ghost use Rattle.std.specs.List.{filter_map, IsDistinct};
 ghost use Rattle.std.specs.Option.{option_map};
 ghost use Rattle.cdm_flight.specs.Names.{name_cmp, same_name};
 ghost use Rattle.cdm_sequence.specs.Fixed.{takeoffs};
 ghost use Rattle.cdm_sequence.specs.Plan.{Placing, IsAllowed, IsEarlier};
 ghost use Rattle.cdm_sequence.specs.Sequence.{IsSequence, IsSequenceBy, flight_names, planned_slot};
-ghost use Rattle.cdm_sequence.specs.Slots.{slot_cmp};
+ghost use Rattle.cdm_sequence.specs.Slots.{is_fixed, slot_cmp};
 ghost use Rattle.cdm_sequence.specs.inner.Turns.{blocked_from, placed_at};
 
 use crate::decision::Decision;
@@ -115,6 +115,7 @@ pub fn sequence(
     targets: &[Target],
 ) -> Result<RunwayPlan, AllocError>
     requires runway { All (λ f. f.runway ≡ runway.now.name) targets.now }
+    requires fixed { All (λ x. IsTrue (is_fixed x.mark)) fixed.now }
     requires names { IsDistinct same_name (flight_names fixed.now targets.now) }
     requires few { length fixed.now + length targets.now ≤ 2000 }
     ensures sequence { IfOk result (λ plan. IsSequence runway.now fixed.now targets.now plan) }

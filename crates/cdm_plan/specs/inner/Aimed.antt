@@ -1,5 +1,5 @@
 -- What planned flights could have.
-use Rattle.std.specs.Prelude.{◌≡◌, ℕ, ◌+◌, ◌≤◌, Bool, false, List, length, Option, None, Some, if◌then◌else◌}
+use Rattle.std.specs.Prelude.{◌≡◌, ℕ, ◌+◌, ◌≤◌, Bool, false, List, length, Option, None, Some, All, IsTrue, if◌then◌else◌}
 use Rattle.std.specs.List.{IsDistinct, filter_map}
 use Rattle.std.specs.Option.{option_map_or}
 use Rattle.cdm_flight.specs.declared.values.DayValues.{DayValues}
@@ -7,7 +7,7 @@ use Rattle.cdm_flight.specs.Names.{same_name}
 use Rattle.cdm_flight.specs.Record.{Record}
 use Rattle.cdm_sequence.specs.Aims.{TaxiTimes, IsAim}
 use Rattle.cdm_sequence.specs.Sequence.{flight_names}
-use Rattle.cdm_sequence.specs.Slots.{SlotRecord}
+use Rattle.cdm_sequence.specs.Slots.{SlotRecord, is_fixed}
 use Rattle.cdm_sequence.specs.Targets.{TargetRecord}
 use Rattle.cdm_plan.specs.Planning.{blocked_in, target_in}
 use Rattle.cdm_sequence.specs.declared.slot.BlockedFlight.{BlockedFlight}
@@ -39,7 +39,8 @@ target_for r a = if_on r (target_in a.aim)
 abbrev pub early_among : List Aimed → List BlockedFlight
 early_among aims = filter_map (λ a. blocked_in a.name a.aim) aims
 
--- the names of a runway's flights differ, and there are at most 2,000
+-- a runway's fixed flights have left their stands, the names of all its flights differ, and there are at most 2,000
 pub record CanSequence (fixed : List SlotRecord) (targets : List TargetRecord) : Type 0 where
+  pub left : All (λ x. IsTrue (is_fixed x.mark)) fixed
   pub names : IsDistinct same_name (flight_names fixed targets)
   pub few : length fixed + length targets ≤ 2000

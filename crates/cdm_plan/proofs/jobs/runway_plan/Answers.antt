@@ -12,6 +12,11 @@ sequence-requires-clause-names c =
     let lent = fixed_on-lent c.name.result c.args.flights.now in
     rw (c.deref-2.ensures.value, c.in_ok-targets.ensures, c.name-2.ensures, c.deref.ensures.value, c.in_ok-fixed.ensures, lent, c.name.ensures) c.requires.names
 
+pub sequence-requires-clause-fixed : goal.sequence-requires-clause-fixed
+sequence-requires-clause-fixed c =
+    let lent = fixed_on-lent c.name.result c.args.flights.now in
+    rw (c.deref.ensures.value, c.in_ok-fixed.ensures, lent, c.name.ensures) c.requires.left
+
 pub sequence-requires-clause-few : goal.sequence-requires-clause-few
 sequence-requires-clause-few c =
     let lent = fixed_on-lent c.name.result c.args.flights.now in
