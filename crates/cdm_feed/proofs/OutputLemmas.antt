@@ -15,7 +15,8 @@ use Rattle.cdm_day.specs.Airport.{with_runway, with_taxi}
 use Rattle.cdm_plan.specs.Airport.{IsAirport, runway_names}
 use Rattle.cdm_plan.specs.Day.{DayRecord, flights_in}
 use Rattle.cdm_plan.proofs.OnePlanLemmas.{one_day_plan}
-use Rattle.cdm_day.proofs.BatchLemmas.{good_from}
+use Rattle.cdm_day.proofs.BatchLemmas.{accepted-keeps}
+use Rattle.cdm_scenario.specs.inner.OneOutcome.{one_each}
 use Rattle.cdm_day.proofs.AirportLemmas.{airport_after_runway, airport_after_taxi, airport_without_rows}
 use Rattle.cdm_plan.proofs.JournalFacts.{names_after}
 use Rattle.cdm_feed.specs.AirportFile.{airport_in, with_record}
@@ -38,19 +39,9 @@ use Rattle.cdm_feed.specs.declared.airport_record.AirportRecord.TheVariants.{Day
 
 -- Each flight becomes known once.
 
-taken-or_not : (g : AirportRows) (a : List Update) (p : Role × Update) → IsDistinct same_name (flights_in a)
-    → IsDistinct same_name (flights_in (after_one g a p))
-taken-or_not g a p own = by (refusal g a p.0 p.1) refl
-  where
-    by : (o : Option RefusalWord) → refusal g a p.0 p.1 ≡ o → IsDistinct same_name (flights_in (if is_none o then a ++ p.1 ∷ [] else a))
-    by None h = names_after g a p.1 (good_from (record { airport = g; journal = a }) p.0 p.1 h) own
-    by (Some word) h = own
-
-pub own_flights : (g : AirportRows) (a : List Update) (batch : List (Role × Update)) → IsDistinct same_name (flights_in a)
-    → IsDistinct same_name (flights_in (accepted g a batch))
-unfolding accepted
-own_flights g a [] own = own
-own_flights g a (p ∷ later) own = own_flights g (after_one g a p) later (taken-or_not g a p own)
+pub own_flights : (g : AirportRows) (batch : List (Role × Update)) → IsDistinct same_name (flights_in (accepted g [] batch))
+unfolding IsDistinct
+own_flights g batch = accepted-keeps (λ a. IsDistinct same_name (flights_in a)) g (names_after g) [] batch tt
 
 -- An airport file gives its runways names of their own.
 
@@ -109,25 +100,12 @@ own_runways text g h =
 
 -- One text.
 
-none_distinct : IsDistinct same_name []
-unfolding IsDistinct
-none_distinct = tt
-
 same-ok : {T E : Type 0} (r : Result T E) (x y : T) → r ≡ Ok x → r ≡ Ok y → x ≡ y
 same-ok r x y a b = cc
 
 own_journal : (g : AirportRows) (feed : List ℕ) → IsDistinct same_name (flights_in (accepted_in g feed))
 unfolding accepted_in
-own_journal g feed = own_flights g [] (updates_in (spelled_in g feed)) none_distinct
-
-one-answers : (R : ScenarioRecord → List ℕ → Type 0) → ((s : ScenarioRecord) (x y : List ℕ) → R s x → R s y → x ≡ y)
-    → (ss : List ScenarioRecord) (xs ys : List (List ℕ)) → AllZip R ss xs → AllZip R ss ys → xs ≡ ys
-one-answers R one [] [] [] a b = refl
-one-answers R one [] (x ∷ xs) ys a b = absurd a
-one-answers R one [] [] (y ∷ ys) a b = absurd b
-one-answers R one (s ∷ ss) [] ys a b = absurd a
-one-answers R one (s ∷ ss) (x ∷ xs) [] a b = absurd b
-one-answers R one (s ∷ ss) (x ∷ xs) (y ∷ ys) a b = λ i. one s x y a.0 b.0 i ∷ one-answers R one ss xs ys a.1 b.1 i
+own_journal g feed = own_flights g (updates_in (spelled_in g feed))
 
 one-report : (airport : List ℕ) (g : AirportRows) (feed : List ℕ) (questions : List ScenarioRecord) (x y : List ℕ) → airport_in airport ≡ Ok g
     → IsReport g feed questions x → IsReport g feed questions y → x ≡ y
@@ -139,7 +117,7 @@ one-report airport g feed questions x y is a b =
     let also : AllZip (IsAnswer day (counts_of a.plan)) questions b.answers =
     subst (λ (p : PlanRecord). AllZip (IsAnswer day (counts_of p)) questions b.answers) (sym plans) b.of_scenarios in
     let answers : a.answers ≡ b.answers =
-    one-answers (IsAnswer day (counts_of a.plan)) (λ s. one_answer day (counts_of a.plan) s runways flights) questions a.answers b.answers a.of_scenarios also in
+    one_each (IsAnswer day (counts_of a.plan)) (λ s. one_answer day (counts_of a.plan) s runways flights) questions a.answers b.answers a.of_scenarios also in
     a.bytes ∙ (λ i. report_bytes g.day (plans i) (refusals_in g feed) ++ concat (answers i)) ∙ sym b.bytes
 
 pub one-output : (airport feed scenarios x y : List ℕ) (c d : RunCounts) → IsOutput airport feed scenarios x c → IsOutput airport feed scenarios y d → x ≡ y

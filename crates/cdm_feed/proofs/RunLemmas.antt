@@ -18,27 +18,31 @@ use Rattle.cdm_feed.specs.declared.common_fault.Input.{Input}
 use Rattle.cdm_feed.specs.declared.run_error.RunError.{RunError}
 use Rattle.cdm_feed.specs.declared.run_error.RunError.TheVariants as error
 
--- an input that isn't read yet is unfailed
-pub unread-unfailed : (name : Input) (left : Option (List ℕ)) (failed : Bool) → failed ≡ false
-    → IsUnfailed (record { name = name; before = left; after = left; failed = failed })
-unread-unfailed name left failed sound = (sound, ([], kept left, omega arith)) where
+-- it is as it was, and unfailed
+abbrev IsWaiting : Reading → Type 0
+IsWaiting r = r.IsUnread × IsUnfailed r
+
+-- so is an input that isn't read yet
+pub waits : {T : Type 0} (name : Input) (left : Option (List ℕ)) (failed : Bool) (device : T) → failed ≡ false
+    → IsWaiting (record { name = name; before = left; after = left; failed = failed; IsUnread = device ≡ device })
+waits name left failed device sound = (refl, (sound, ([], kept left, omega arith))) where
   kept : (o : Option (List ℕ)) → Consumes o o []
   kept None = tt
   kept (Some bytes) = refl
 
 -- a fault of an input is the first, where those before it were read and those after it not yet
-pub airport_fault-first : (a s t : Reading) (e : CommonFault) → IsInputFault a e → IsUnfailed s → IsUnfailed t → IsFirstInputFault a s t e
-airport_fault-first a s t (common.Read name) fault next last = inl fault
-airport_fault-first a s t (common.TooLong name) fault next last = inl fault
+pub airport_fault-first : (a s t : Reading) (e : CommonFault) → IsInputFault a e → IsWaiting s → IsWaiting t → IsFirstInputFault a s t e
+airport_fault-first a s t (common.Read name) fault next last = inl (fault, next.0, last.0)
+airport_fault-first a s t (common.TooLong name) fault next last = inl (fault, next.0, last.0)
 airport_fault-first a s t (common.Airport number word) fault next last = absurd fault
-airport_fault-first a s t common.Memory fault next last = (fault, next, last)
+airport_fault-first a s t common.Memory fault next last = (fault, next.1, last.1)
 airport_fault-first a s t common.Write fault next last = absurd fault
 
-pub second_fault-first : (a s t : Reading) (e : CommonFault) → IsRead a → IsInputFault s e → IsUnfailed t → IsFirstInputFault a s t e
-second_fault-first a s t (common.Read name) read fault last = inr (read, inl fault)
-second_fault-first a s t (common.TooLong name) read fault last = inr (read, inl fault)
+pub second_fault-first : (a s t : Reading) (e : CommonFault) → IsRead a → IsInputFault s e → IsWaiting t → IsFirstInputFault a s t e
+second_fault-first a s t (common.Read name) read fault last = inr (read, inl (fault, last.0))
+second_fault-first a s t (common.TooLong name) read fault last = inr (read, inl (fault, last.0))
 second_fault-first a s t (common.Airport number word) read fault last = absurd fault
-second_fault-first a s t common.Memory read fault last = (read.unfailed, fault, last)
+second_fault-first a s t common.Memory read fault last = (read.unfailed, fault, last.1)
 second_fault-first a s t common.Write read fault last = absurd fault
 
 pub third_fault-first : (a s t : Reading) (e : CommonFault) → IsRead a → IsRead s → IsInputFault t e → IsFirstInputFault a s t e

@@ -5,16 +5,19 @@ use Rattle.cdm_feed.specs.Device.{Wrapped}
 use Rattle.cdm_feed.specs.Input.{input_limit}
 use Rattle.cdm_feed.specs.declared.common_fault.Input.{Input}
 
--- an input: its name, what its reader had left before a run, what it has left after it, and whether it failed
-pub record Reading : Type 0 where
+-- an input: its name, what its reader had left before a run, what it has left after it, whether it failed, and that
+-- it is as it was
+pub record Reading : Type 1 where
   pub name : Input
   pub before : Option (List ℕ)
   pub after : Option (List ℕ)
   pub failed : Bool
+  pub IsUnread : Type 0
 
 -- the input of this name whose reader, wrapped in a device, was this before a run and is that after it
 abbrev pub reading : {T : Type 0} → Input → (T → Option (List ℕ)) → Wrapped T → Wrapped T → Reading
-reading name remaining old new = record { name = name; before = remaining old.inner; after = remaining new.inner; failed = new.failed }
+reading name remaining old new =
+    record { name = name; before = remaining old.inner; after = remaining new.inner; failed = new.failed; IsUnread = new ≡ old }
 
 -- the number of bytes that the reader has given is so
 abbrev pub Gives : (ℕ → Type 0) → Reading → Type 0
@@ -41,9 +44,10 @@ IsTooLong name r = (r.name ≡ name) × (r.failed ≡ false) × Gives (λ n. n �
 abbrev pub AreRead : Reading → Reading → Reading → Type 0
 AreRead a s t = IsRead a × IsRead s × IsRead t
 
--- it holds of one of three inputs, and those before it, in the order in which they are read, were read
+-- it holds of one of three inputs; those before it, in the order in which they are read, were read, and those after it
+-- were not
 abbrev pub HoldsFirst : Reading → Reading → Reading → (Reading → Type 0) → Type 0
-HoldsFirst a s t Holds = Holds a ⊎ (IsRead a × (Holds s ⊎ (IsRead s × Holds t)))
+HoldsFirst a s t Holds = (Holds a × s.IsUnread × t.IsUnread) ⊎ (IsRead a × ((Holds s × t.IsUnread) ⊎ (IsRead s × Holds t)))
 
 -- it holds of the bytes of three inputs, where their readers tell those that they have left
 abbrev pub IfTold : Option (List ℕ) → Option (List ℕ) → Option (List ℕ) → (List ℕ → List ℕ → List ℕ → Type 0) → Type 0

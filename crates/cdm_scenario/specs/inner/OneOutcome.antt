@@ -1,5 +1,5 @@
 -- A day has one outcome by further updates.
-use Rattle.std.proofs.Common.{◌≡◌, ℕ, zero, suc, ◌+◌, ◌<◌, ◌≤◌, take, length, get_or, Option, None, Some, List, [], ◌∷◌}
+use Rattle.std.proofs.Common.{◌≡◌, ℕ, zero, suc, ◌+◌, ◌<◌, ◌≤◌, take, length, get_or, Option, None, Some, List, [], ◌∷◌, refl}
 use Rattle.std.proofs.Common.{◌++◌, sym, ap, ◌∙◌, subst, add-one, inl, inr, arith}
 use Rattle.std.specs.Prelude.{slice_get}
 use Rattle.std.specs.Option.{option_and_then}
