@@ -1,5 +1,5 @@
 -- A cell of a runway has one capacity.
-use Rattle.std.proofs.Common.{◌≡◌, ◌<◌, ◌≤◌, ◌+◌, ◌*◌, ◌/◌, ◌%◌, ◌==◌, ◌||◌, ◌&&◌, ℕ, zero, Bool, true, false, not, None, Some, Option, List, [], ◌∷◌, ◌++◌, refl, sym, ap, ◌∙◌, subst, arith}
+use Rattle.std.proofs.Common.{◌≡◌, ◌<◌, ◌*◌, ◌/◌, ◌%◌, ◌==◌, ◌||◌, ◌&&◌, ℕ, Bool, true, false, not, None, Some, Option, List, [], ◌∷◌, ◌++◌, refl, sym, ap, ◌∙◌, arith}
 use Rattle.std.specs.Prelude.{nat_le, nat_lt, unwrap_or}
 use Rattle.std.specs.Option.{option_map_or, option_or}
 use Rattle.std.proofs.Math.Nat.{mul-div_cancel}
@@ -10,8 +10,8 @@ use Rattle.cdm_plan.proofs.JournalFacts.{accepted_is}
 use Rattle.cdm_plan.proofs.PlanWords.{same_is}
 use Rattle.cdm_runway.proofs.CellLemmas.{cell_from, cell_to}
 use Rattle.cdm_day.proofs.BatchLemmas.{accepted-keeps}
-use Rattle.cdm_day.proofs.DayWords.{AirportRows, Clock, Close, Flt, Rate, Reopen, Rwy, Taxi, RunwayRow, Update, accepted, cap_given, cap_of, last_value, last_value-push, reach_of}
-use Rattle.cdm_day.proofs.DayWords.{refusal_of, runway_row, same_name, same_reach, touching, touching-push, untouched, window_has, only_if}
+use Rattle.cdm_day.proofs.DayWords.{AirportRows, Rate, RunwayRow, Update, accepted, cap_given, cap_of, last_value, last_value-push, reach_of}
+use Rattle.cdm_day.proofs.DayWords.{refusal_of, runway_row, same_reach, touching, touching-push, untouched, window_has, only_if}
 
 module _ (g : AirportRows) (row : RunwayRow) (there : runway_row g row.name ≡ Some row) (positive : 0 < row.cell) where
   -- the first minute of a minute's cell

@@ -1,10 +1,10 @@
 -- A run has one text.
 use Rattle.std.proofs.Common.{◌≡◌, ◌++◌, ◌∙◌, ℕ, ◌+◌, List, [], ◌∷◌, Option, None, Some, Result, Ok, Err, IfOk, refl, sym, subst}
-use Rattle.std.specs.Prelude.{⊤, if◌then◌else◌, is_none}
+use Rattle.std.specs.Prelude.{⊤}
 use Rattle.std.specs.Result.{result_map_both}
 use Rattle.std.specs.List.{AllZip, concat, IsDistinct}
 use Rattle.std.specs.Option.{ok_or}
-use Rattle.cdm_flight.specs.Accepted.{accepted, after_one, refusal}
+use Rattle.cdm_flight.specs.Accepted.{accepted}
 use Rattle.cdm_flight.specs.Journal.{AirportRows}
 use Rattle.cdm_flight.specs.Names.{same_name}
 use Rattle.cdm_flight.specs.declared.role.Role.{Role}

@@ -1,16 +1,16 @@
 -- Written records are read back.
-use Rattle.std.proofs.Common.{◌≡◌, ◌<◌, ◌≤◌, ◌+◌, ◌∷◌, ◌++◌, ◌∙◌, ◌==◌, ◌||◌, ◌&&◌, ℕ, zero, suc, Bool, true, false, not, List, [], length, map, Option, Some, None, IsTrue, refl, sym, ap, arith, append_assoc}
+use Rattle.std.proofs.Common.{◌≡◌, ◌<◌, ◌≤◌, ◌+◌, ◌∷◌, ◌++◌, ◌∙◌, ◌==◌, ◌||◌, ◌&&◌, ℕ, zero, suc, Bool, true, false, not, List, [], length, map, Option, Some, IsTrue, refl, sym, ap, arith, append_assoc}
 use Rattle.std.proofs.lemmas.List.{length-append, append-nil}
 use Rattle.std.proofs.lemmas.List.Elements.{All-head, All-tail}
 use Rattle.std.specs.List.{All, filter_map, flat_map, list_any, list_all, cons_option}
 use Rattle.csv.specs.Machine.{Read, next_record}
-use Rattle.csv.specs.Reading.{default_config, records_from, strip_bom}
+use Rattle.csv.specs.Reading.{default_config, records_from}
 use Rattle.csv.specs.Writing.{default_writer, escaped, needs_byte}
 use Rattle.csv.specs.declared.parser.State.{State}
 use Rattle.csv.specs.declared.parser.State.TheVariants as st
 use Rattle.csv.proofs.RoundTrip.{plain-run, quoted-run, record-same, start-same}
 use Rattle.cdm_feed.specs.Records.{records_of}
-use Rattle.cdm_feed.specs.Written.{AreWritten, Field, InQuotes, Line, LineEnd, Lf, CrLf, Plain, after_commas, end_of, field_bytes, field_text, is_field, is_lone_empty, is_mark, is_written, joined, record_of, records_in, text_of}
+use Rattle.cdm_feed.specs.Written.{AreWritten, Field, InQuotes, Line, LineEnd, Lf, CrLf, Plain, after_commas, end_of, field_bytes, field_text, is_field, is_mark, is_written, joined, record_of, records_in, text_of}
 
 -- the state of the reader after the bytes of a field
 abbrev state_in : Field → State
@@ -160,7 +160,7 @@ unfolding records_from next_record
 last_read n [] h = refl
 last_read n (f ∷ fs) h =
     let one : next_record default_config st.StartRecord [] [] (joined (f ∷ fs)) ≡ Some (map field_bytes (f ∷ fs), st.StartRecord, []) =
-        ap (next_record default_config st.StartRecord [] []) (sym (append-nil (joined (f ∷ fs)))) ∙ whole (λ us. Some (us, st.StartRecord, [])) [] text_end f fs h in
+    ap (next_record default_config st.StartRecord [] []) (sym (append-nil (joined (f ∷ fs)))) ∙ whole (λ us. Some (us, st.StartRecord, [])) [] text_end f fs h in
     rw one (ap (λ rs. map field_bytes (f ∷ fs) ∷ rs) (no_more n))
 
 end_length : (end : LineEnd) → 0 < length (end_of end)
@@ -175,7 +175,7 @@ unfolding records_from
 line_read n [] end rest records h later few = blank_line (suc n) end rest ∙ later (suc n) (omega arith) (omega (arith, length-append (end_of end) rest))
 line_read n (f ∷ fs) end rest records h later few =
     let one = ap (next_record default_config st.StartRecord [] []) (append_assoc (joined (f ∷ fs)) (end_of end) rest)
-        ∙ whole (λ us. Some (us, state_after end, bytes_after end rest)) (end_of end ++ rest) (λ us g. line_end us g end rest) f fs h in
+    ∙ whole (λ us. Some (us, state_after end, bytes_after end rest)) (end_of end ++ rest) (λ us g. line_end us g end rest) f fs h in
     let long = length-append (joined (f ∷ fs) ++ end_of end) rest in
     let ended = length-append (joined (f ∷ fs)) (end_of end) in
     let some = end_length end in

@@ -21,7 +21,7 @@ pub fn answer(alloc: Global, base: &DayState, scenario: &Scenario) -> Result<Out
     ensures only { IfOk result (λ outcome. (other : AnOutcome) → IsOutcome base.now scenario.now.updates other → other ≡ outcome) }
 {
     // What the base's records tell is sound, which makes the answer the only one.
-    let _values = base.values();
+    let _of_base = base.values();
     let mut overlay = Overlay::over(alloc, base);
     let updates = scenario.updates();
     for (place, update) in updates.iter().enumerate() {

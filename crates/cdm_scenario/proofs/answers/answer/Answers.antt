@@ -32,10 +32,10 @@ loop-place-init c = none_taken c.args.base.now c.updates-updates.result.now c.ov
 
 pub returns-in-Refused-clause-only : goal.returns-in-Refused-clause-only
 returns-in-Refused-clause-only c = λ other is.
-    let sound = c.values-values.ensures.sound in
+    let sound = c.values-of_base.ensures.sound in
     one_outcome c.args.base.now c.args.scenario.now.updates sound.airport.names sound.names other _ is (returns-in-Refused-clause-of_day c)
 
 pub returns-clause-only : goal.returns-clause-only
 returns-clause-only c = λ other is.
-    let sound = c.values-values.ensures.sound in
+    let sound = c.values-of_base.ensures.sound in
     one_outcome c.args.base.now c.args.scenario.now.updates sound.airport.names sound.names other _ is (returns-clause-of_day c)

@@ -1,4 +1,4 @@
-use Rattle.std.proofs.Common.{◌≡◌, List, Vec}
+use Rattle.std.proofs.Common.{◌≡◌, List}
 use Rattle.std.specs.List.{AllZip}
 use Rattle.std.proofs.lemmas.Result.{IfOk-weaker}
 use Rattle.cdm_scenario.specs.declared.outcome.Outcome.{Outcome}
