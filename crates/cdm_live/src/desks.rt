@@ -1,17 +1,16 @@
 //! Two desks that share a board, each on a thread of its own.
-ghost use Rattle.std.specs.Prelude.{◌≡◌, ◌≢◌, ℕ, [], IfErr, IfOk, MatchResult, flat_map};
+ghost use Rattle.std.specs.Prelude.{◌≡◌, ◌≢◌, ℕ, [], IfErr, IfOk, flat_map};
 ghost use Rattle.std.specs.List.{AllZip};
-ghost use Rattle.cdm_board.specs.History.{IsLegal, calls_of, day_of, fresh_desk, journal_of};
+ghost use Rattle.cdm_board.specs.History.{IsLegal, calls_of, day_of, fresh_desk, fresh_desks, journal_of, opened_of};
 ghost use Rattle.cdm_live.specs.Live.{IsPostOf, batches, replies_of};
 ghost use Rattle.cdm_live.specs.inner.LiveSteps.{HasMerged, HasWorked, IsDeskFault};
 
 use crate::live_error::LiveError;
-use cdm_board::{Board, Desk, History, MOST_UPDATES};
+use cdm_board::{Board, BoardError, Desk, History, MOST_UPDATES};
 use cdm_day::{DayState, Reply};
-use cdm_feed::CommonFault;
 use cdm_flight::{Role, Update};
 use cdm_phase::{Gate, PhaseName};
-use std::alloc::Global;
+use std::alloc::{AllocError, Global};
 use std::sync::Wait;
 use std::thread;
 use std::thread::Threads;
@@ -30,12 +29,11 @@ fn post_all<R: Wait>(
     board: &Board,
     desk: Desk,
     updates: &[(Role, Update)],
-) -> Result<Worked, LiveError>
+) -> Result<Worked, BoardError>
     requires { desk.receipts ≡ [] }
     ensures number { IfOk result (λ w. w.desk.number ≡ desk.number) }
     ensures posts { IfOk result (λ w. AllZip IsPostOf (batches updates.now) w.desk.receipts) }
     ensures replied { IfOk result (λ w. w.replies.items ≡ flat_map replies_of w.desk.receipts) }
-    ensures fault { IfErr result IsDeskFault }
 {
     let mut desk = desk;
     let mut replies = Vec::new(alloc);
@@ -54,9 +52,9 @@ fn work<R: Wait, G: Gate>(
     desk: Desk,
     updates: &[(Role, Update)],
     gate: &G,
-) -> Result<Worked, LiveError>
+) -> Result<Worked, BoardError>
     requires { desk.receipts ≡ [] }
-    ensures { MatchResult result (λ w. HasWorked desk.number updates.now w.desk w.replies.items) IsDeskFault }
+    ensures { IfOk result (λ w. HasWorked desk.number updates.now w.desk w.replies.items) }
 {
     gate.pass(PhaseName::Desks, desk.number() - 1);
     let Worked { mut desk, replies } = post_all(rt, alloc, board, desk, updates)?;
@@ -74,25 +72,34 @@ fn work_both<R: Threads + Wait + Sync, G: Gate>(
     updates1: &[(Role, Update)],
     updates2: &[(Role, Update)],
     gate: &G,
-) -> Result<(Worked, Worked), LiveError>
+) -> Result<(Worked, Worked), BoardError>
     requires first { first ≡ fresh_desk 1 }
     requires second { second ≡ fresh_desk 2 }
     ensures first { IfOk result (λ w. HasWorked 1 updates1.now w.0.desk w.0.replies.items) }
     ensures second { IfOk result (λ w. HasWorked 2 updates2.now w.1.desk w.1.replies.items) }
-    ensures fault { IfErr result IsDeskFault }
 {
     let (one, other) = thread::join(
         rt,
-        move || -> Result<Worked, LiveError>
+        move || -> Result<Worked, BoardError>
             requires { first ≡ fresh_desk 1 }
-            ensures { MatchResult result (λ w. HasWorked 1 updates1.entry.now w.desk w.replies.items) IsDeskFault }
+            ensures { IfOk result (λ w. HasWorked 1 updates1.entry.now w.desk w.replies.items) }
         { work(rt, alloc, board, first, updates1, gate) },
-        move || -> Result<Worked, LiveError>
+        move || -> Result<Worked, BoardError>
             requires { second ≡ fresh_desk 2 }
-            ensures { MatchResult result (λ w. HasWorked 2 updates2.entry.now w.desk w.replies.items) IsDeskFault }
+            ensures { IfOk result (λ w. HasWorked 2 updates2.entry.now w.desk w.replies.items) }
         { work(rt, alloc, board, second, updates2, gate) },
     );
     Ok((one?, other?))
+}
+
+// Opens a board on a day for two desks, for which there may only be no memory.
+fn open_board(alloc: Global, day: DayState) -> Result<(Board, Vec<Desk>), AllocError>
+    ensures { IfOk result (λ r. (r.0 ≡ opened_of day 2) × (r.1.items ≡ fresh_desks 2)) }
+{
+    match Board::open(alloc, day, 2) {
+        Ok(opened) => Ok(opened),
+        Err(_) => Err(AllocError),
+    }
 }
 
 /// A board that two desks have closed: its history, its day, and the replies to each desk.
@@ -120,11 +127,9 @@ pub(crate) fn run_desks<R: Threads + Wait + Sync, G: Gate>(
         HasMerged day.airport updates1.now updates2.now m.history m.state m.replies1.items m.replies2.items) }
     ensures fault { IfErr result IsDeskFault }
 {
-    let Ok((board, mut desks)) = Board::open(alloc, day, 2) else {
-        return Err(LiveError::Common(CommonFault::Memory));
-    };
+    let (board, mut desks) = open_board(alloc, day)?;
     let (Some(second), Some(first)) = (desks.pop(), desks.pop()) else {
-        return Err(LiveError::Mismatch);
+        unreachable!()
     };
     let (first, second) = work_both(rt, alloc, &board, first, second, updates1, updates2, gate)?;
     close(board, first, second, desks)

@@ -1,4 +1,5 @@
 //! Live runs: two desks that meet, feeds that fill a board, devices that fail, refused memory.
+mod gate;
 mod memory;
 
 use super::devices::{Meeting, Sink, Source, Stop};
