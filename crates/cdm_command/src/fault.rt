@@ -1,11 +1,15 @@
 //! What stops the program, and how it is told.
 ghost use Rattle.std.specs.Prelude.{◌≡◌};
-ghost use Rattle.cdm_main.specs.Statuses.{status_of_common, status_of_fault};
+ghost use Rattle.cdm_command.specs.Statuses.{status_of_command_fault, status_of_common, status_of_fault};
 
+use crate::command::CommandFault;
 use cdm_feed::{CommonFault, Device, Input, RunError};
 use cdm_live::LiveError;
 use std::io::Write;
 use thiserror::Error;
+
+/// The status where the words name no command.
+const USAGE_STATUS: u8 = 2;
 
 /// What stops the program.
 #[derive(Clone, Copy, PartialEq, Eq, Hash, Debug, Error)]
@@ -56,4 +60,18 @@ pub fn report_fault<W: Write>(fault: &Fault, device: &mut Device<W>) -> u8
 {
     let _ = writeln!(device, "cdmseq: {fault}");
     fault.status()
+}
+
+/// Writes the text of wrong words, or of the help that they ask for, or the line of want of memory, and
+/// answers the exit status, also where that can't be written.
+pub fn report_command_fault<W: Write>(fault: &CommandFault, device: &mut Device<W>) -> u8
+    ensures { result ≡ status_of_command_fault fault.now }
+{
+    match fault {
+        CommandFault::Usage(text) => {
+            let _ = device.write_all(text.as_bytes());
+            USAGE_STATUS
+        }
+        CommandFault::Memory => report_fault(&Fault::NoMemory, device),
+    }
 }

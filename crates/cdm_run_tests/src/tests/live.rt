@@ -1,18 +1,14 @@
-//! Live runs: two desks that meet, feeds that fill a board, devices that fail, refused memory.
-mod memory;
-
+//! Live runs: two desks that meet, and devices that fail.
 use super::devices::{Meeting, Sink, Source, Stop};
 use cdm_feed::{CommonFault, Device, Input};
 use cdm_live::{LiveCounts, LiveError, run_live};
 use cdm_phase::{Gate, OpenGate, PhaseName};
-use std::alloc::{AllocError, Global};
 use std::process::Abort;
 use std::sync::Wait;
-use std::test::Fail;
 use std::thread::Threads;
 
 /// An airport with one runway, on which two flights take off in ten minutes.
-pub const AIRPORT: &str = "\
+const AIRPORT: &str = "\
 DAY,2025-03-10
 RUNWAY,27L,10,2
 TAXI,*,27L,15
@@ -20,21 +16,21 @@ TAXI,A1,27L,10
 ";
 
 /// A flight for the first desk, ready at 06:00.
-pub const FEED1: &str = "\
+const FEED1: &str = "\
 AP,FLT,AB1,5
 ATC,RWY,AB1,27L
 AO,TOBT,AB1,2025-03-10T06:00Z
 ";
 
 /// A flight for the second desk, ready at 06:00.
-pub const FEED2: &str = "\
+const FEED2: &str = "\
 AP,FLT,CD2,5
 ATC,RWY,CD2,27L
 AO,TOBT,CD2,2025-03-10T06:00Z
 ";
 
 /// What a live run of the two writes.
-pub const TEXT: &str = "\
+const TEXT: &str = "\
 DAY 2025-03-10 NOW 100000
 RUNWAY 27L
 AB1     100600   15 ------ 100600 100615 P    0
@@ -70,22 +66,11 @@ fn run_of<R: AllocGlobal + Threads + Wait + Sync + Abort>(
     (answer, out.into_inner().text)
 }
 
-// What a live run of two feeds answers, and what it has written.
-fn run_feeds<R: AllocGlobal + Threads + Wait + Sync + Abort>(
-    rt: &R,
-    feed1: &[u8],
-    feed2: &[u8],
-    gate: &impl Gate,
-) -> (Result<LiveCounts, LiveError>, Vec<u8>) {
-    let files = [AIRPORT.as_bytes(), feed1, feed2].map(|text| Source::whole(text));
-    run_of(rt, files, gate, Stop::Never)
-}
-
 // Desks that ran one after the other, on one thread or under one lock, would meet every clause.
 #[test]
 fn desks_meet(rt: HostRuntime) {
     let gate = Meeting::new(PhaseName::Desks, 1_000_000);
-    let (answer, text) = run_feeds(&rt, FEED1.as_bytes(), FEED2.as_bytes(), &gate);
+    let (answer, text) = run_of(&rt, files(), &gate, Stop::Never);
     let counts = answer.map(|counts| (counts.accepted, counts.refused, counts.calls));
     assert_eq!(rt; counts, Ok((6, 0, 4)));
     assert_eq!(rt; text.as_slice(), TEXT.as_bytes());
@@ -95,42 +80,18 @@ fn desks_meet(rt: HostRuntime) {
     assert!(rt; !gate.is_missed());
 }
 
-// So many records of a flight that isn't known.
-fn cancellations(alloc: Global, count: usize) -> Result<Vec<u8>, AllocError> {
-    let mut feed = Vec::new(alloc);
-    for _ in 0..count {
-        feed.extend_from_slice(b"AO,CNL,A\n")?;
-    }
-    Ok(feed)
-}
-
-// 2,047 batches of 256 updates and a look for each desk are 4,096 calls.
-#[test]
-fn feeds_may_fill_the_board(rt: HostRuntime) -> Result<(), Fail> {
-    let full = cancellations(rt.alloc(), 524_032)?;
-    let (answer, text) = run_feeds(&rt, &full, &full, &OpenGate);
-    let counts = answer.map(|counts| (counts.accepted, counts.refused, counts.calls));
-    assert_eq!(rt; counts, Ok((0, 1_048_064, 4_096)));
-    assert!(rt; text.ends_with(b"REFUSED 524031 UNKNOWN\nREFUSED 524032 UNKNOWN\n"));
-    let longer = cancellations(rt.alloc(), 524_033)?;
-    let (answer, text) = run_feeds(&rt, &full, &longer, &OpenGate);
-    assert_eq!(rt; answer.err(), Some(LiveError::HistoryFull));
-    assert!(rt; text.is_empty());
-    Ok(())
-}
-
-// The fault of a run with this input in the place of the desks' own, before which nothing was written.
+// The fault of a run whose read of this number fails in this input, before which nothing was written.
 // Without one, the desks' text was.
-fn fault_with<R: AllocGlobal + Threads + Wait + Sync + Abort>(
+fn fault_at<R: AllocGlobal + Threads + Wait + Sync + Abort>(
     rt: &R,
     input: Input,
-    source: Source<'_>,
+    read: usize,
 ) -> Option<LiveError> {
     let [airport, feed1, feed2] = files();
     let files = match input {
-        Input::Airport => [source, feed1, feed2],
-        Input::Feed1 => [airport, source, feed2],
-        _ => [airport, feed1, source],
+        Input::Airport => [airport.failing(read), feed1, feed2],
+        Input::Feed1 => [airport, feed1.failing(read), feed2],
+        _ => [airport, feed1, feed2.failing(read)],
     };
     let (answer, text) = run_of(rt, files, &OpenGate, Stop::Never);
     let wanted = if answer.is_ok() { TEXT } else { "" };
@@ -138,32 +99,20 @@ fn fault_with<R: AllocGlobal + Threads + Wait + Sync + Abort>(
     answer.err()
 }
 
-// Each read of each input fails in turn, the one at its end too. Blank lines follow the input up to one
-// byte more than it may have, and then without that byte.
+// Each read of each input fails in turn, the one at its end too.
 #[test]
-fn failing_reads(rt: HostRuntime) -> Result<(), Fail> {
+fn failing_reads(rt: HostRuntime) {
     let table = [
-        (Input::Airport, AIRPORT),
-        (Input::Feed1, FEED1),
-        (Input::Feed2, FEED2),
+        (Input::Airport, AIRPORT.len()),
+        (Input::Feed1, FEED1.len()),
+        (Input::Feed2, FEED2.len()),
     ];
-    for (input, text) in table {
-        for read in 0..=text.len().saturating_add(1) {
-            let source = Source::new(text.as_bytes(), 1, read);
+    for (input, len) in table {
+        for read in 0..=len.saturating_add(1) {
             let fault = (read > 0).then_some(LiveError::Common(CommonFault::Read(input)));
-            assert_eq!(rt; fault_with(&rt, input, source), fault, "at read {read}");
+            assert_eq!(rt; fault_at(&rt, input, read), fault, "at read {read}");
         }
-        let mut long = vec![in rt.alloc(); b'\n'; 8_388_609]?;
-        for (place, byte) in long.iter_mut().zip(text.as_bytes()) {
-            *place = *byte;
-        }
-        let fault = fault_with(&rt, input, Source::whole(&long));
-        assert_eq!(rt; fault, Some(LiveError::Common(CommonFault::TooLong(input))));
-        long.pop();
-        let fault = fault_with(&rt, input, Source::whole(&long));
-        assert_eq!(rt; fault, None);
     }
-    Ok(())
 }
 
 // Asserts that a run on a writer that stops here leaves this text, whole or a prefix.

@@ -1,6 +1,6 @@
 //! The command line.
 ghost use Rattle.std.specs.Prelude.{◌≡◌};
-ghost use Rattle.cdm_main.specs.declared.command.CommandFault.TheVariants as command;
+ghost use Rattle.cdm_command.specs.declared.command.CommandFault.TheVariants as command;
 
 use crate::manual::{ABOUT, HELP_ABOUT, LIVE_ABOUT, MANUAL, PLAN_ABOUT, SHORT_HELP, VERSION};
 use cdm_phase::Workers;

@@ -27,6 +27,11 @@ impl<'a> Source<'a> {
         }
     }
 
+    /// The same, which fails at the read of this number.
+    pub fn failing(self, read: usize) -> Source<'a> {
+        Source::new(self.left, self.at_a_time, read)
+    }
+
     /// Gives the text whole.
     pub fn whole(text: &'a [u8]) -> Source<'a> {
         Source::new(text, usize::MAX, 0)

@@ -1,5 +1,6 @@
 //! Words of which one request for memory may be refused.
-use crate::command::{Command, CommandFault, command_of};
+use super::TRY;
+use cdm_command::{Command, CommandFault, command_of};
 use std::alloc::Global;
 
 // The text that the words are answered, or the last file that they name. Nothing for want of memory.
@@ -27,7 +28,6 @@ fn is_told(alloc: Global, words: &[&str], end: &str) -> bool {
 /// Words are answered by the whole text or by want of memory.
 #[test]
 fn refused_memory_tells_no_half_text(rt: HostRuntime) {
-    const TRY: &str = "For more information, try '--help'.\n";
     let table: [(&[&str], &str); 6] = [
         (&["plan", "a.csv", "--workers", "2", "f.csv"], "f.csv"),
         (&["live", "a.csv", "f.csv", "g.csv"], "g.csv"),
