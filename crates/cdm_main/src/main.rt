@@ -3,15 +3,12 @@
 
 ghost use Rattle.std.specs.Prelude.{◌≡◌, false};
 
-mod command;
-mod fault;
-mod manual;
-
+pub use cdm_command::{
+    Command, CommandFault, Fault, command_of, report_command_fault, report_fault,
+};
 use cdm_feed::{Device, Input, WriteFault, run, write_text};
 pub use cdm_live::{LiveCounts, LiveError, run_live};
 use cdm_phase::{OpenGate, Workers};
-use command::{Command, CommandFault, command_of};
-use fault::{Fault, report_fault};
 use std::alloc::AllocError;
 use std::io::{ErrorKind, Read, Write};
 use std::process::ExitCode;
@@ -19,9 +16,6 @@ use std::rt::{Env, Files};
 use std::sync::Wait;
 use std::thread::Threads;
 use std::{env, fs, io};
-
-/// The status where the words name no command.
-const USAGE_STATUS: u8 = 2;
 
 /// The bytes that Linux gives a word at most.
 const LONGEST_WORD: usize = 131_072;
@@ -82,17 +76,6 @@ fn place_not_utf8<R: AllocGlobal + Env>(rt: &R) -> Result<usize, AllocError> {
         }
     }
     Ok(0)
-}
-
-// Writes a usage text or the line of a fault, and answers the exit status.
-fn report_command_fault<W: Write>(fault: &CommandFault, device: &mut Device<W>) -> u8 {
-    match fault {
-        CommandFault::Usage(text) => {
-            let _ = device.write_all(text.as_bytes());
-            USAGE_STATUS
-        }
-        CommandFault::Memory => report_fault(&Fault::NoMemory, device),
-    }
 }
 
 fn run_command<R: AllocGlobal + Files + Threads + Wait + Sync, W: Write>(
@@ -185,6 +168,3 @@ fn live<R: AllocGlobal + Threads + Wait + Sync, A: Read + Drop, F: Read + Drop, 
     )?;
     Ok(())
 }
-
-#[cfg(test)]
-mod tests;

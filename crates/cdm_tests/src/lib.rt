@@ -1,5 +1,5 @@
-//! Tests of what no clause can say: that pieces and desks run side by side, what a gate sees, devices that
-//! fail, and that each call which takes memory changes nothing where a request for it is refused.
+//! Tests of what no clause can say of the libraries below the runs: that pieces and desks run side by side, what a
+//! gate sees, and a worker without memory.
 #![tactic(auto)]
 
 #[cfg(test)]

@@ -3,8 +3,5 @@
 mod board;
 mod day;
 mod days;
-mod devices;
-mod feed;
-mod live;
 mod phase;
 mod scenario;

@@ -1,5 +1,4 @@
 //! A day that many workers plan.
 
 mod parallel;
-mod slots;
 mod updates;

@@ -53,11 +53,18 @@ pub fn day_with(alloc: Global, runways: &[&str]) -> Option<DayState> {
     DayState::new(alloc, airport).ok()
 }
 
+// Makes the updates that plan a flight for 06:00.
+fn plan_flight(alloc: Global, state: &mut DayState, name: &str) -> Option<()> {
+    let batch = planned(name)?;
+    state.apply(alloc, &batch).ok()?;
+    Some(())
+}
+
 /// The day of an airport with one runway after the updates that plan these flights for 06:00.
 pub fn day_of(alloc: Global, flights: &[&str]) -> Option<DayState> {
     let mut state = day_with(alloc, &["27L"])?;
     for name in flights {
-        state.apply(alloc, &planned(name)?).ok()?;
+        plan_flight(alloc, &mut state, name)?;
     }
     Some(state)
 }

@@ -1,16 +1,11 @@
 //! A day that many workers plan: that the pieces of a phase run side by side, and which pieces there
 //! are.
-ghost use Rattle.std.specs.Prelude.{◌≡◌};
-
-use super::slots::{Line, assert_slots};
 use super::updates::{Short, batch_of};
 use crate::tests::days::day_with;
-use cdm_day::{DayState, Reply};
-use cdm_flight::{FlightName, Priority, RefusalWord, Role, Update};
+use cdm_day::DayState;
+use cdm_flight::{FlightName, Priority, Role, Update};
 use cdm_phase::{Gate, PhaseName, Workers};
-use cdm_sequence::{Mark, Plan};
-use std::alloc::{AllocError, Global};
-use std::process::Abort;
+use std::alloc::Global;
 use std::sync::atomic::{AtomicBool, AtomicUsize, Ordering};
 use std::test::Fail;
 use std::thread;
@@ -48,8 +43,19 @@ impl Meeting {
         }
     }
 
-    fn count(&self, phase: PhaseName, piece: usize) -> usize {
-        self.passes(phase, piece).load(Ordering::SeqCst)
+    // How often pieces 0 and 1 of the flights passed, those of the runways, and all others.
+    fn counts(&self) -> [usize; 5] {
+        [
+            self.targets[0].load(Ordering::SeqCst),
+            self.targets[1].load(Ordering::SeqCst),
+            self.runways[0].load(Ordering::SeqCst),
+            self.runways[1].load(Ordering::SeqCst),
+            self.others.load(Ordering::SeqCst),
+        ]
+    }
+
+    fn is_missed(&self) -> bool {
+        self.missed.load(Ordering::SeqCst)
     }
 }
 
@@ -79,57 +85,8 @@ fn other_flight(number: u8) -> Option<(Role, Update)> {
 }
 
 /// So many of them.
-fn other_flights(alloc: Global, count: u8) -> Result<Vec<(Role, Update)>, AllocError> {
-    (0..count).filter_map(other_flight).collect(alloc)
-}
-
-// The day of an airport with two runways, of which the second is the first by name.
-fn two_runways(alloc: Global) -> Result<DayState, Fail> {
-    Ok(day_with(alloc, &["27L", "09"]).ok_or("no day")?)
-}
-
-/// The caller alone plans a batch of these updates.
-fn take_all(alloc: Global, day: &mut DayState, updates: &[Short]) -> Result<(), Fail> {
-    let batch = batch_of(alloc, updates)?;
-    day.apply(alloc, &batch)?;
-    Ok(())
-}
-
-/// The day with a flight on each of its two runways.
-fn planned_day(alloc: Global) -> Result<DayState, Fail> {
-    let mut day = two_runways(alloc)?;
-    take_all(alloc, &mut day, &ON_TWO_RUNWAYS)?;
-    Ok(day)
-}
-
-/// So many workers plan the batch behind the gate. The replies to all its updates are this one.
-fn reply_to_all<R: Abort + Threads + Sync>(
-    rt: &R,
-    alloc: Global,
-    day: &mut DayState,
-    batch: &[(Role, Update)],
-    reply: Reply,
-    workers: usize,
-    gate: &Meeting,
-) -> Result<(), Fail> {
-    let workers = Workers::new(workers).ok_or("no workers")?;
-    let replies = day.apply_all(rt, alloc, batch, workers, gate)?;
-    assert_eq!(rt; replies.len(), batch.len());
-    assert!(rt; replies.iter().all(|given| *given == reply));
-    assert!(rt; !gate.missed.load(Ordering::SeqCst));
-    Ok(())
-}
-
-/// The same, where all updates are accepted.
-fn accept_all<R: Abort + Threads + Sync>(
-    rt: &R,
-    alloc: Global,
-    day: &mut DayState,
-    batch: &[(Role, Update)],
-    workers: usize,
-    gate: &Meeting,
-) -> Result<(), Fail> {
-    reply_to_all(rt, alloc, day, batch, Reply::Accepted, workers, gate)
+fn other_flights(alloc: Global, count: u8) -> Option<Vec<(Role, Update)>> {
+    (0..count).filter_map(other_flight).collect(alloc).ok()
 }
 
 const ON_TWO_RUNWAYS: [Short; 6] = [
@@ -141,48 +98,86 @@ const ON_TWO_RUNWAYS: [Short; 6] = [
     ("TOBT", "AB2", "09", 360),
 ];
 
-const APART: [Line; 2] = [
-    ("09", "AB2", 15, 360, 375, Mark::Planned, Some(0)),
-    ("27L", "AB1", 15, 360, 375, Mark::Planned, Some(0)),
-];
+/// The day of an airport with two runways, of which the second is the first by name, after a batch.
+fn day_after(alloc: Global, batch: &[(Role, Update)]) -> Option<DayState> {
+    let mut day = day_with(alloc, &["27L", "09"])?;
+    day.apply(alloc, batch).ok()?;
+    Some(day)
+}
 
-const TOGETHER: [Line; 2] = [
-    ("27L", "AB1", 15, 360, 375, Mark::Planned, Some(0)),
-    ("27L", "AB2", 15, 360, 375, Mark::Planned, Some(0)),
-];
-
-/// Two workers, who meet in the phase, plan a flight on each runway. Then one flight moves to the
-/// other's runway. With 63 flights more there are two pieces of flights.
-#[test]
-fn pieces_run_side_by_side(rt: HostRuntime) -> Result<(), Fail> {
-    let change = [("RWY", "AB2", "27L", 0)];
-    for (phase, others) in [(PhaseName::Runways, 0), (PhaseName::Targets, 63)] {
-        let mut day = two_runways(rt.alloc())?;
-        let flights = other_flights(rt.alloc(), others)?;
-        day.apply(rt.alloc(), &flights)?;
-        for (updates, lines) in [(ON_TWO_RUNWAYS.as_slice(), APART), (&change, TOGETHER)] {
-            let batch = batch_of(rt.alloc(), updates)?;
-            let gate = Meeting::of(phase);
-            accept_all(&rt, rt.alloc(), &mut day, &batch, 2, &gate)?;
-            assert_slots(&rt, &day, &lines);
-        }
+/// Whether so many workers plan the batch behind the gate.
+fn is_planned<R: Threads + Sync>(
+    rt: &R,
+    alloc: Global,
+    day: &mut DayState,
+    batch: &[(Role, Update)],
+    count: usize,
+    gate: &Meeting,
+) -> bool {
+    match Workers::new(count) {
+        Some(workers) => day.apply_all(rt, alloc, batch, workers, gate).is_ok(),
+        None => false,
     }
-    Ok(())
+}
+
+/// Whether two workers, who meet in the phase, plan the updates.
+fn meet<R: Threads + Sync>(
+    rt: &R,
+    alloc: Global,
+    day: &mut DayState,
+    updates: &[Short],
+    phase: PhaseName,
+) -> Option<bool> {
+    let batch = batch_of(alloc, updates)?;
+    let gate = Meeting::of(phase);
+    Some(is_planned(rt, alloc, day, &batch, 2, &gate) && !gate.is_missed())
+}
+
+/// Whether they do so with a flight on each of two runways, on a day with so many flights more, and then with a
+/// flight that moves to the other's runway.
+fn meet_twice<R: Threads + Sync>(
+    rt: &R,
+    alloc: Global,
+    phase: PhaseName,
+    others: u8,
+) -> Option<bool> {
+    let mut day = day_after(alloc, &other_flights(alloc, others)?)?;
+    let change = [("RWY", "AB2", "27L", 0)];
+    let first = meet(rt, alloc, &mut day, &ON_TWO_RUNWAYS, phase)?;
+    let second = meet(rt, alloc, &mut day, &change, phase)?;
+    Some(first && second)
+}
+
+/// Two workers meet at the two runways, and with 63 flights more at two pieces of flights.
+#[test]
+fn pieces_run_side_by_side(rt: HostRuntime) {
+    for (phase, others) in [(PhaseName::Runways, 0), (PhaseName::Targets, 63)] {
+        let met = meet_twice(&rt, rt.alloc(), phase, others);
+        assert_eq!(rt; met, Some(true), "{phase:?}");
+    }
+}
+
+/// Which pieces pass where so many workers plan a batch over a day after another.
+fn passes<R: Threads + Sync>(
+    rt: &R,
+    alloc: Global,
+    before: &[(Role, Update)],
+    batch: &[(Role, Update)],
+    count: usize,
+) -> Option<[usize; 5]> {
+    let mut day = day_after(alloc, before)?;
+    let gate = Meeting::of(PhaseName::Desks);
+    is_planned(rt, alloc, &mut day, batch, count, &gate).then_some(gate.counts())
 }
 
 /// 64 flights on their stands are one piece, and 65 are two. They have no runway, so they touch none.
 #[test]
 fn each_piece_passes_once(rt: HostRuntime) -> Result<(), Fail> {
     for (flights, second) in [(64, 0), (65, 1)] {
-        let batch = other_flights(rt.alloc(), flights)?;
+        let batch = other_flights(rt.alloc(), flights).ok_or("no batch")?;
         for workers in [1, 2, 7, 64] {
-            let mut day = two_runways(rt.alloc())?;
-            let gate = Meeting::of(PhaseName::Desks);
-            accept_all(&rt, rt.alloc(), &mut day, &batch, workers, &gate)?;
-            assert_eq!(rt; gate.count(PhaseName::Targets, 0), 1);
-            assert_eq!(rt; gate.count(PhaseName::Targets, 1), second);
-            assert_eq!(rt; gate.count(PhaseName::Runways, 0), 0);
-            assert_eq!(rt; gate.others.load(Ordering::SeqCst), 0);
+            let counts = passes(&rt, rt.alloc(), &[], &batch, workers);
+            assert_eq!(rt; counts, Some([1, second, 0, 0, 0]), "{workers} workers");
         }
     }
     Ok(())
@@ -192,55 +187,20 @@ fn each_piece_passes_once(rt: HostRuntime) -> Result<(), Fail> {
 /// CLOCK. A batch of which nothing is accepted, and one without updates, plan nothing.
 #[test]
 fn touched_runways_are_the_pieces(rt: HostRuntime) -> Result<(), Fail> {
-    let unknown = Reply::Refused(RefusalWord::Unknown);
-    let prio: [Short; 1] = [("PRIO", "AB1", "27L", 1)];
-    let table: [(&[Short], Reply, usize, [usize; 2]); 5] = [
-        (&prio, Reply::Accepted, 1, [1, 0]),
-        (&[("RWY", "AB2", "27L", 0)], Reply::Accepted, 1, [1, 1]),
-        (&[("CLOCK", "AB1", "27L", 300)], Reply::Accepted, 1, [1, 1]),
-        (&[("TOBT", "AB3", "27L", 300)], unknown, 0, [0, 0]),
-        (&[], Reply::Accepted, 0, [0, 0]),
+    let table: [(&[Short], [usize; 5]); 5] = [
+        (&[("PRIO", "AB1", "27L", 1)], [1, 0, 1, 0, 0]),
+        (&[("RWY", "AB2", "27L", 0)], [1, 0, 1, 1, 0]),
+        (&[("CLOCK", "AB1", "27L", 300)], [1, 0, 1, 1, 0]),
+        (&[("TOBT", "AB3", "27L", 300)], [0, 0, 0, 0, 0]),
+        (&[], [0, 0, 0, 0, 0]),
     ];
-    for workers in [1, 2, 7, 64] {
-        for (updates, reply, targets, runways) in table {
-            let mut day = planned_day(rt.alloc())?;
-            let batch = batch_of(rt.alloc(), updates)?;
-            let gate = Meeting::of(PhaseName::Desks);
-            reply_to_all(&rt, rt.alloc(), &mut day, &batch, reply, workers, &gate)?;
-            assert_eq!(rt; gate.count(PhaseName::Targets, 0), targets);
-            assert_eq!(rt; gate.count(PhaseName::Runways, 0), runways[0]);
-            assert_eq!(rt; gate.count(PhaseName::Runways, 1), runways[1]);
-            assert_eq!(rt; gate.others.load(Ordering::SeqCst), 0);
+    let before = batch_of(rt.alloc(), &ON_TWO_RUNWAYS).ok_or("no batch")?;
+    for (updates, wanted) in table {
+        let batch = batch_of(rt.alloc(), updates).ok_or("no batch")?;
+        for workers in [1, 2, 7, 64] {
+            let counts = passes(&rt, rt.alloc(), &before, &batch, workers);
+            assert_eq!(rt; counts, Some(wanted), "{workers} workers");
         }
     }
-    Ok(())
-}
-
-// The plans of two states of one journal are one.
-fn plans_of<'a>(day: &'a DayState, other: &'a DayState) -> (&'a Plan, &'a Plan)
-    requires { day.now ≡ other.now }
-    ensures { result.0.now ≡ result.1.now }
-{
-    (day.plan(), other.plan())
-}
-
-/// A copy shares its parts with the day, and stays as it was while 100 batches change it.
-#[test]
-fn copy_stays(rt: HostRuntime) -> Result<(), Fail> {
-    let mut day = planned_day(rt.alloc())?;
-    let copied = day.copy(rt.alloc())?;
-    let (plan, same) = plans_of(&day, &copied);
-    assert_eq!(rt; plan.blocked.as_slice(), same.blocked.as_slice());
-    for number in 0..100 {
-        let runway = if number % 2 == 0 { "27L" } else { "09" };
-        let updates = [
-            ("TOBT", "AB1", "27L", 400 + number),
-            ("RWY", "AB2", runway, 0),
-        ];
-        take_all(rt.alloc(), &mut day, &updates)?;
-    }
-    assert_eq!(rt; day.journal().len(), 206);
-    assert_eq!(rt; copied.journal().len(), 6);
-    assert_slots(&rt, &copied, &APART);
     Ok(())
 }

@@ -2,7 +2,6 @@
 use cdm_flight::{FlightName, Priority, Role, RunwayName, Update};
 use cdm_time::Minute;
 use std::alloc::Global;
-use std::test::Fail;
 
 /// An update in short: its kind, a flight, a runway, and a priority or a minute of the horizon, as 360
 /// for 06:00. What its kind hasn't is not read.
@@ -27,10 +26,7 @@ fn update_of(short: Short) -> Option<(Role, Update)> {
 }
 
 /// The batch of the updates.
-pub fn batch_of(alloc: Global, updates: &[Short]) -> Result<Vec<(Role, Update)>, Fail> {
-    let mut batch = Vec::new(alloc);
-    for short in updates {
-        batch.push(update_of(*short).ok_or("no update")?)?;
-    }
-    Ok(batch)
+pub fn batch_of(alloc: Global, updates: &[Short]) -> Option<Vec<(Role, Update)>> {
+    let batch = updates.iter().copied().filter_map(update_of);
+    batch.collect(alloc).ok()
 }

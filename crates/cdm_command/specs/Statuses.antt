@@ -1,0 +1,31 @@
+-- The exit statuses of faults: 3 where an input is refused, 1 where a device fails, memory is short or the board gives
+-- a wrong answer, 2 where the words name no command.
+use Rattle.std.specs.Prelude.{ℕ}
+use Rattle.cdm_feed.specs.declared.common_fault.CommonFault.{CommonFault}
+use Rattle.cdm_feed.specs.declared.common_fault.CommonFault.TheVariants as common
+use Rattle.cdm_feed.specs.declared.run_error.RunError.TheVariants as run
+use Rattle.cdm_live.specs.declared.live_error.LiveError.TheVariants as live
+use Rattle.cdm_command.specs.declared.command.CommandFault.{CommandFault}
+use Rattle.cdm_command.specs.declared.command.CommandFault.TheVariants as command
+use Rattle.cdm_command.specs.declared.fault.Fault.{Fault}
+use Rattle.cdm_command.specs.declared.fault.Fault.TheVariants as fault
+
+abbrev pub status_of_common : CommonFault → ℕ
+status_of_common (common.Read input) = 1
+status_of_common (common.TooLong input) = 3
+status_of_common (common.Airport number word) = 3
+status_of_common common.Memory = 1
+status_of_common common.Write = 1
+
+abbrev pub status_of_fault : Fault → ℕ
+status_of_fault (fault.CannotOpen input) = 1
+status_of_fault fault.NoMemory = 1
+status_of_fault (fault.Run (run.Common e)) = status_of_common e
+status_of_fault (fault.Run (run.Scenario number word)) = 3
+status_of_fault (fault.Live (live.Common e)) = status_of_common e
+status_of_fault (fault.Live live.HistoryFull) = 3
+status_of_fault (fault.Live live.Mismatch) = 1
+
+abbrev pub status_of_command_fault : CommandFault → ℕ
+status_of_command_fault (command.Usage text) = 2
+status_of_command_fault command.Memory = 1

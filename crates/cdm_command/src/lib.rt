@@ -1,0 +1,9 @@
+//! The command line: what its words ask for, its help, and the lines and exit statuses of faults.
+#![tactic(auto)]
+
+mod command;
+mod fault;
+mod manual;
+
+pub use command::{Command, CommandFault, command_of};
+pub use fault::{Fault, report_command_fault, report_fault};

@@ -1,0 +1,6 @@
+//! Parts of runs and whole runs, and the command line.
+
+mod command;
+mod devices;
+mod feed;
+mod live;

@@ -1,0 +1,135 @@
+//! What no clause says of the command line: what is made of words, the help, the lines of faults, and what is
+//! answered where memory is refused.
+mod faults;
+mod help;
+mod memory;
+
+use cdm_command::{Command, CommandFault, command_of};
+use cdm_phase::Workers;
+use std::alloc::Global;
+
+/// How the text of wrong words ends.
+const TRY: &str = "For more information, try '--help'.\n";
+
+// Whether the words ask for the plan of the files a.csv and f.csv, with these scenarios and so many workers.
+fn is_plan(alloc: Global, words: &[&str], scenarios: Option<&str>, count: usize) -> bool {
+    let Some(workers) = Workers::new(count) else {
+        return false;
+    };
+    let wanted = Command::Plan {
+        airport: "a.csv",
+        feed: "f.csv",
+        scenarios,
+        workers,
+    };
+    match command_of(alloc, words) {
+        Ok(command) => command == wanted,
+        Err(_) => false,
+    }
+}
+
+#[test]
+fn plans_with_one_worker_or_as_many_as_asked_for(rt: HostRuntime) {
+    let table: [(&[&str], Option<&str>, usize); 10] = [
+        (&["plan", "a.csv", "f.csv"], None, 1),
+        (&["plan", "a.csv", "f.csv", "--workers", "1"], None, 1),
+        (&["plan", "a.csv", "f.csv", "--workers", "64"], None, 64),
+        (&["plan", "a.csv", "f.csv", "--workers", "007"], None, 7),
+        (&["plan", "a.csv", "f.csv", "--workers=4"], None, 4),
+        (&["plan", "--workers", "2", "a.csv", "f.csv"], None, 2),
+        (&["plan", "a.csv", "--workers", "3", "--", "f.csv"], None, 3),
+        (
+            &["plan", "a.csv", "f.csv", "--scenarios", "s.csv"],
+            Some("s.csv"),
+            1,
+        ),
+        (
+            &["plan", "--scenarios=s.csv", "a.csv", "f.csv"],
+            Some("s.csv"),
+            1,
+        ),
+        (
+            &[
+                "plan",
+                "a.csv",
+                "--workers",
+                "3",
+                "f.csv",
+                "--scenarios",
+                "s.csv",
+            ],
+            Some("s.csv"),
+            3,
+        ),
+    ];
+    for (words, scenarios, count) in table {
+        let is_plan = is_plan(rt.alloc(), words, scenarios, count);
+        assert!(rt; is_plan, "{words:?}");
+    }
+}
+
+// Whether the words are told to be wrong for this cause.
+fn is_wrong(alloc: Global, words: &[&str], cause: &str) -> bool {
+    match command_of(alloc, words) {
+        Err(CommandFault::Usage(text)) => {
+            text.starts_with("error: ") && text.contains(cause) && text.ends_with(TRY)
+        }
+        _ => false,
+    }
+}
+
+#[test]
+fn wrong_words_are_told(rt: HostRuntime) {
+    let table: [(&[&str], &str); 20] = [
+        (&["fly"], "unrecognized subcommand 'fly'"),
+        (&["Plan", "a", "f"], "unrecognized subcommand 'Plan'"),
+        (&["live"], "<AIRPORT>"),
+        (&["live", "a"], "<FEED1>"),
+        (&["live", "a", "f"], "<FEED2>"),
+        (&["live", "a", "f", "g", "h"], "unexpected argument 'h'"),
+        (
+            &["live", "a", "f", "g", "--workers", "2"],
+            "unexpected argument '--workers'",
+        ),
+        (&["plan"], "<AIRPORT>"),
+        (&["plan", "a"], "<FEED>"),
+        (&["plan", "a", "f", "g"], "unexpected argument 'g'"),
+        (&["help", "plan"], "unexpected argument 'plan'"),
+        (
+            &["plan", "a", "f", "--worker", "2"],
+            "unexpected argument '--worker'",
+        ),
+        (
+            &["plan", "a", "f", "--scenarios"],
+            "a value is required for '--scenarios <FILE>'",
+        ),
+        (
+            &["plan", "a", "f", "--workers"],
+            "a value is required for '--workers <N>'",
+        ),
+        (&["plan", "a", "f", "--workers", "0"], "0 is not in 1..=64"),
+        (
+            &["plan", "a", "f", "--workers", "65"],
+            "65 is not in 1..=64",
+        ),
+        (
+            &["plan", "a", "f", "--workers", "two"],
+            "invalid value 'two' for '--workers <N>'",
+        ),
+        (
+            &["plan", "a", "f", "--workers", "2.0"],
+            "invalid value '2.0' for '--workers <N>'",
+        ),
+        (
+            &["plan", "a", "f", "--workers=-1"],
+            "invalid value '-1' for '--workers <N>'",
+        ),
+        (
+            &["plan", "a", "f", "--workers", "2", "--workers", "2"],
+            "'--workers <N>' cannot be used multiple times",
+        ),
+    ];
+    for (words, cause) in table {
+        assert!(rt; is_wrong(rt.alloc(), words, cause), "{cause}");
+    }
+}

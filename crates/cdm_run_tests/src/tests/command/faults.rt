@@ -1,0 +1,62 @@
+//! The lines of faults. Their statuses are told by clauses.
+use crate::tests::devices::Page;
+use cdm_command::{Fault, report_fault};
+use cdm_feed::{CommonFault, Device, RunError};
+use cdm_flight::RefusalWord;
+use cdm_live::LiveError;
+use std::process::Abort;
+
+// The fault has this line.
+fn check_line(rt: &impl Abort, fault: Fault, line: &str) {
+    let mut device = Device::new(Page::new());
+    report_fault(&fault, &mut device);
+    let page = device.into_inner();
+    let told = page.text().strip_prefix(b"cdmseq: ".as_slice());
+    let told = told.and_then(|text| text.strip_suffix(b"\n".as_slice()));
+    assert_eq!(rt; told, Some(line.as_bytes()));
+}
+
+#[test]
+fn faults_have_lines(rt: HostRuntime) {
+    use Fault::{CannotOpen, Live, NoMemory, Run};
+    use cdm_feed::Input::{Airport, Feed, Feed1, Feed2, Scenarios};
+    let unknown = CommonFault::Airport(5, RefusalWord::Unknown);
+    let common = [
+        (CommonFault::Read(Airport), "cannot read AIRPORT"),
+        (CommonFault::Read(Feed), "cannot read FEED"),
+        (CommonFault::Read(Feed1), "cannot read FEED1"),
+        (
+            CommonFault::TooLong(Feed),
+            "FEED is longer than 8388608 bytes",
+        ),
+        (
+            CommonFault::TooLong(Feed2),
+            "FEED2 is longer than 8388608 bytes",
+        ),
+        (unknown, "AIRPORT record 5: UNKNOWN"),
+        (CommonFault::Memory, "out of memory"),
+        (CommonFault::Write, "cannot write"),
+    ];
+    for (fault, line) in common {
+        check_line(&rt, Run(RunError::Common(fault)), line);
+        check_line(&rt, Live(LiveError::Common(fault)), line);
+    }
+    let disordered = RunError::Scenario(1, RefusalWord::Order);
+    let cases = [
+        (CannotOpen(Airport), "cannot read AIRPORT"),
+        (CannotOpen(Feed), "cannot read FEED"),
+        (CannotOpen(Scenarios), "cannot read SCENARIOS"),
+        (CannotOpen(Feed1), "cannot read FEED1"),
+        (CannotOpen(Feed2), "cannot read FEED2"),
+        (NoMemory, "out of memory"),
+        (Run(disordered), "SCENARIOS record 1: ORDER"),
+        (
+            Live(LiveError::HistoryFull),
+            "board is full after 4096 calls",
+        ),
+        (Live(LiveError::Mismatch), "board and desk differ"),
+    ];
+    for (fault, line) in cases {
+        check_line(&rt, fault, line);
+    }
+}

@@ -1,0 +1,42 @@
+//! Words of which one request for memory may be refused.
+use super::TRY;
+use cdm_command::{Command, CommandFault, command_of};
+use std::alloc::Global;
+
+// The text that the words are answered, or the last file that they name. Nothing for want of memory.
+fn text_in<'a>(answer: &'a Result<Command<'_>, CommandFault>) -> &'a str {
+    match answer {
+        Ok(Command::Plan { feed, .. }) => feed,
+        Ok(Command::Live { feed2, .. }) => feed2,
+        Ok(Command::Print(text)) | Err(CommandFault::Usage(text)) => text.as_str(),
+        Err(CommandFault::Memory) => "",
+    }
+}
+
+// Whether the words are answered twice by the same text, with this end, but for want of memory at one time.
+fn is_told(alloc: Global, words: &[&str], end: &str) -> bool {
+    let first = command_of(alloc, words);
+    let second = command_of(alloc, words);
+    let (text, again) = (text_in(&first), text_in(&second));
+    if text.is_empty() {
+        again.ends_with(end)
+    } else {
+        text.ends_with(end) && (again.is_empty() || again == text)
+    }
+}
+
+/// Words are answered by the whole text or by want of memory.
+#[test]
+fn refused_memory_tells_no_half_text(rt: HostRuntime) {
+    let table: [(&[&str], &str); 6] = [
+        (&["plan", "a.csv", "--workers", "2", "f.csv"], "f.csv"),
+        (&["live", "a.csv", "f.csv", "g.csv"], "g.csv"),
+        (&["--version"], "cdmseq 0.1.0\n"),
+        (&["help"], "The help of status 2 goes there too.\n"),
+        (&["plan", "-h"], "cdmseq help | less\n"),
+        (&["plan", "a.csv", "f.csv", "--workers", "65"], TRY),
+    ];
+    for (words, end) in table {
+        assert!(rt; is_told(rt.alloc(), words, end), "{end}");
+    }
+}
