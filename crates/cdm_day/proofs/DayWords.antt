@@ -1,8 +1,9 @@
 -- Words of flights, runways, and days that the proofs share.
 pub use Rattle.cdm_day.specs.Airport.{with_runway, with_taxi}
 pub use Rattle.cdm_plan.specs.Airport.{IsAirport, runway_names}
-pub use Rattle.cdm_plan.specs.Day.{DayRecord, flights_in, put_by_name, rules_in, with_update}
-unfoldable pub use Rattle.cdm_plan.specs.Day.{rows_by_name, rules_of}
+pub use Rattle.cdm_plan.specs.Day.{DayRecord, flights_in, with_update}
+unfoldable pub use Rattle.cdm_plan.specs.Day.{rules_of}
+pub use Rattle.cdm_plan.specs.DayPlan.{AreByName, day_rules}
 pub use Rattle.cdm_day.specs.Changes.{ChangesRunway, IsChange, has_window, with_change}
 pub use Rattle.cdm_day.specs.inner.Tables.{plain_of}
 pub use Rattle.cdm_plan.specs.Sound.{IsSound, TellTaxi}

@@ -5,7 +5,7 @@ use Rattle.cdm_time.specs.Times.{day_of}
 use Rattle.cdm_flight.specs.Cells.{is_cell_length}
 use Rattle.cdm_flight.specs.declared.word.RefusalWord.{RefusalWord}
 use Rattle.cdm_flight.specs.declared.word.RefusalWord.TheVariants as word
-use Rattle.cdm_feed.specs.Fields.{cap_field, counted, field, number_field, of_one, of_three, place_field, refused_by_word, runway_field, taxi_field}
+use Rattle.cdm_feed.specs.Fields.{counted, field, from_to, number_field, of_one, of_three, place_field, refused_by_word, runway_field}
 use Rattle.cdm_feed.specs.declared.airport_record.AirportRecord.{AirportRecord}
 use Rattle.cdm_feed.specs.declared.airport_record.AirportRecord.TheVariants.{Day, Runway, Taxi}
 
@@ -14,7 +14,7 @@ unfoldable pub airport_record_of : List (List ℕ) → Result AirportRecord Refu
 airport_record_of fields =
     if bytes_eq (field fields 0) (codes "DAY") then counted 2 (length fields) (of_one Day (refused_by_word (day_of (field fields 1))))
     else if bytes_eq (field fields 0) (codes "RUNWAY") then
-    counted 4 (length fields) (of_three Runway (runway_field (field fields 1)) (number_field is_cell_length (field fields 2)) (cap_field (field fields 3)))
+    counted 4 (length fields) (of_three Runway (runway_field (field fields 1)) (number_field is_cell_length (field fields 2)) (number_field (from_to 0 60) (field fields 3)))
     else if bytes_eq (field fields 0) (codes "TAXI") then
-    counted 4 (length fields) (of_three Taxi (place_field (field fields 1)) (runway_field (field fields 2)) (taxi_field (field fields 3)))
+    counted 4 (length fields) (of_three Taxi (place_field (field fields 1)) (runway_field (field fields 2)) (number_field (from_to 1 120) (field fields 3)))
     else Err word.Kind

@@ -76,43 +76,28 @@ flight_field = name_field (is_name 7)
 abbrev pub runway_field : List ℕ → Result (List ℕ) RefusalWord
 runway_field = name_field (is_name 3)
 
-abbrev pub stand_field : List ℕ → Result (List ℕ) RefusalWord
-stand_field = name_field (is_name 5)
-
 -- a stand, or `*` for the runway's default
 unfoldable pub place_field : List ℕ → Result Place RefusalWord
-place_field text = if bytes_eq text (codes "*") then Ok place.Default else of_one place.Stand (stand_field text)
+place_field text = if bytes_eq text (codes "*") then Ok place.Default else of_one place.Stand (name_field (is_name 5) text)
 
 -- Numbers.
+
+-- a number that is neither below the least nor above the most
+abbrev pub from_to : ℕ → ℕ → ℕ → Bool
+from_to least most n = nat_le least n && nat_le n most
 
 -- a number of 1 to 4 digits that is in a range
 unfoldable pub number_field : (ℕ → Bool) → List ℕ → Result ℕ RefusalWord
 number_field in_range text =
-    if not (nat_le 1 (length text) && nat_le (length text) 4 && are_digits text) then Err Text
+    if not (from_to 1 4 (length text) && are_digits text) then Err Text
     else if in_range (number_in text) then Ok (number_in text) else Err Range
 
--- a priority
-abbrev pub priority_field : List ℕ → Result ℕ RefusalWord
-priority_field = number_field (λ n. nat_le n 9)
-
--- the capacity of a cell
-abbrev pub cap_field : List ℕ → Result ℕ RefusalWord
-cap_field = number_field (λ n. nat_le n 60)
-
--- the minutes of a taxi time
-abbrev pub taxi_field : List ℕ → Result ℕ RefusalWord
-taxi_field = number_field (λ n. nat_le 1 n && nat_le n 120)
-
--- the minutes of a de-icing
-abbrev pub ice_minutes : List ℕ → Result ℕ RefusalWord
-ice_minutes = number_field (λ n. nat_le 1 n && nat_le n 60)
-
--- NONE with 0 minutes, STAND or REMOTE with its minutes
+-- NONE with 0 minutes, STAND or REMOTE with 1 to 60
 unfoldable pub ice_field : List ℕ → List ℕ → Result Ice RefusalWord
 ice_field kind minutes =
     if bytes_eq kind (codes "NONE") then of_one (λ n. NoIce) (number_field (λ n. n == 0) minutes)
-    else if bytes_eq kind (codes "STAND") then of_one AtStand (ice_minutes minutes)
-    else if bytes_eq kind (codes "REMOTE") then of_one Remote (ice_minutes minutes)
+    else if bytes_eq kind (codes "STAND") then of_one AtStand (number_field (from_to 1 60) minutes)
+    else if bytes_eq kind (codes "REMOTE") then of_one Remote (number_field (from_to 1 60) minutes)
     else Err Text
 
 -- Days and times.

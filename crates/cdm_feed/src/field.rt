@@ -1,13 +1,13 @@
 //! The fields of a record. Each has a form, else it is refused by Text, and may have a range, else it
 //! is refused by Range.
-ghost use Rattle.std.specs.Prelude.{◌≤◌, ◌≡◌, ◌&&◌, nat_le, not, length, Ok, Err, if◌then◌else◌};
+ghost use Rattle.std.specs.Prelude.{◌≤◌, ◌≡◌, ◌&&◌, not, length, Ok, Err, if◌then◌else◌};
 ghost use Rattle.csv.specs.Records.{fields_of};
 ghost use Rattle.cdm_time.specs.Digits.{are_digits, number_in};
 ghost use Rattle.cdm_time.specs.Times.{day_of};
 ghost use Rattle.cdm_flight.specs.Cells.{is_cell_length};
 ghost use Rattle.cdm_flight.specs.Names.{is_name};
 ghost use Rattle.cdm_flight.specs.declared.word.RefusalWord.TheVariants as word;
-ghost use Rattle.cdm_feed.specs.Fields.{all_four, all_three, both, bound_field, cap_field, counted, ctot_field, field, ice_field, ice_minutes, name_field, number_field, place_field, priority_field, refused_by_word, taxi_field, time_field, word_of};
+ghost use Rattle.cdm_feed.specs.Fields.{all_four, all_three, both, bound_field, counted, ctot_field, field, from_to, ice_field, name_field, number_field, place_field, refused_by_word, time_field, word_of};
 
 use cdm_flight::{
     Cap, CellLength, Ice, IceMinutes, Name, Place, Priority, RefusalWord, TaxiMinutes,
@@ -44,7 +44,7 @@ pub(crate) fn place_field(text: &[u8]) -> Result<Place, RefusalWord>
 
 // A number of 1 to 4 digits, with leading zeros or without.
 fn number_field(text: &[u8]) -> Result<u16, RefusalWord>
-    ensures { result ≡ (if not (nat_le 1 (length text.now) && nat_le (length text.now) 4 && are_digits text.now) then Err word.Text else Ok (number_in text.now)) }
+    ensures { result ≡ (if not (from_to 1 4 (length text.now) && are_digits text.now) then Err word.Text else Ok (number_in text.now)) }
 {
     if text.is_empty() || text.len() > 4 {
         return Err(RefusalWord::Text);
@@ -55,7 +55,7 @@ fn number_field(text: &[u8]) -> Result<u16, RefusalWord>
 /// A priority, 0 to 9.
 #[tactic(auto, unfolding(crate::specs::Fields::number_field))]
 pub(crate) fn priority_field(text: &[u8]) -> Result<Priority, RefusalWord>
-    ensures { result ≡ priority_field text.now }
+    ensures { result ≡ number_field (from_to 0 9) text.now }
 {
     Priority::new(number_field(text)?).ok_or(RefusalWord::Range)
 }
@@ -63,7 +63,7 @@ pub(crate) fn priority_field(text: &[u8]) -> Result<Priority, RefusalWord>
 /// A capacity, 0 to 60.
 #[tactic(auto, unfolding(crate::specs::Fields::number_field))]
 pub(crate) fn cap_field(text: &[u8]) -> Result<Cap, RefusalWord>
-    ensures { result ≡ cap_field text.now }
+    ensures { result ≡ number_field (from_to 0 60) text.now }
 {
     Cap::new(number_field(text)?).ok_or(RefusalWord::Range)
 }
@@ -79,7 +79,7 @@ pub(crate) fn cell_field(text: &[u8]) -> Result<CellLength, RefusalWord>
 /// A taxi time, 1 to 120 minutes.
 #[tactic(auto, unfolding(crate::specs::Fields::number_field))]
 pub(crate) fn taxi_field(text: &[u8]) -> Result<TaxiMinutes, RefusalWord>
-    ensures { result ≡ taxi_field text.now }
+    ensures { result ≡ number_field (from_to 1 120) text.now }
 {
     TaxiMinutes::new(number_field(text)?).ok_or(RefusalWord::Range)
 }
@@ -87,7 +87,7 @@ pub(crate) fn taxi_field(text: &[u8]) -> Result<TaxiMinutes, RefusalWord>
 // How long de-icing takes, 1 to 60 minutes.
 #[tactic(auto, unfolding(crate::specs::Fields::number_field))]
 fn ice_minutes(text: &[u8]) -> Result<IceMinutes, RefusalWord>
-    ensures { result ≡ ice_minutes text.now }
+    ensures { result ≡ number_field (from_to 1 60) text.now }
 {
     IceMinutes::new(number_field(text)?).ok_or(RefusalWord::Range)
 }

@@ -5,11 +5,11 @@ use Rattle.cdm_plan.proofs.ListWords.{filter_map-append, IsPermutation-map, IsPe
 use Rattle.cdm_plan.proofs.ListWords.{distinct_filter, length-map}
 use Rattle.cdm_plan.proofs.PlanWords.{same_name, Record, Update, AirportRows, flight_of, values_of, taxi_of, status_of-record, RunwayRules}
 use Rattle.cdm_plan.proofs.PlanWords.{IsSequence, PlanRecord, RunwayPlanRecord, TargetRecord, IsAirport, runway_names, DayRecord}
-use Rattle.cdm_plan.proofs.PlanWords.{flights_in, rules_of, rows_by_name, rules_in, IsDayPlan, day_rules, records_in, HasParts}
+use Rattle.cdm_plan.proofs.PlanWords.{flights_in, IsDayPlan, day_rules, records_in, HasParts}
 use Rattle.cdm_plan.proofs.PlanWords.{planned_of, targets_on, IsPlanOn, fixed_in, IsSound}
 use Rattle.cdm_plan.proofs.PlanningLemmas.{aim_list, aims_are, aims_mean, blocked_early, early-aims, few_names, targets-aims, targets_of}
 use Rattle.cdm_sequence.proofs.NameLemmas.{names_given}
-use Rattle.cdm_plan.proofs.NameLemmas.{rows_permutation, runway-names, take-next}
+use Rattle.cdm_plan.proofs.NameLemmas.{day_rules_differ, take-next}
 use Rattle.cdm_plan.proofs.PartLemmas.{AllZip-reordered, runways_make}
 
 -- the record that the journal says of a flight has its name
@@ -81,25 +81,19 @@ has_sequence d r p e =
     let values = values_of d.journal in
     rw (← targets-aims times values fs, aims_are times values (planned_of fs) e.aims e.aimed) e.sequence
 
--- the names of the runways differ
-pub day_rules_differ : (d : DayRecord) → IsDistinct same_name (runway_names d.airport) → IsDistinct same_name (map (λ r. r.name) (day_rules d))
-day_rules_differ d own = rw (runway-names d.airport d.journal d.airport.runways) own
-
--- a plan made from the plans of the runways by name is the day's
-pub day_plan : (d : DayRecord) (made plans : List RunwayPlanRecord) (plan : PlanRecord) → IsAirport d.airport
-    → AllZip (HasSequence d) (rules_in d.airport d.journal) made → IsPermutation made plans
+-- a plan made from the plans of all runways is the day's
+pub day_plan : (d : DayRecord) (rules : List RunwayRules) (made plans : List RunwayPlanRecord) (plan : PlanRecord) → IsAirport d.airport
+    → IsPermutation (day_rules d) rules → AllZip (HasSequence d) rules made → IsPermutation made plans
     → plan.clock ≡ (values_of d.journal).clock
     → HasParts (blocked_early (records_in d.airport d.journal) (taxi_of d.airport d.journal) (values_of d.journal)) plans plan → IsDayPlan d plan
 unfolding IsDayPlan
-day_plan d made plans plan airport each same clock parts =
+day_plan d rules made plans plan airport all each same clock parts =
     let g = d.airport in
     let a = d.journal in
     let fs = records_in g a in
     let times = taxi_of g a in
     let values = values_of a in
-    let back = IsPermutation-sym (day_rules d) (rules_in g a)
-    (IsPermutation-map (rules_of g a) g.runways (rows_by_name g.runways) (rows_permutation g.runways)) in
-    let found = AllZip-reordered (HasSequence d) (rules_in g a) (day_rules d) made back each in
+    let found = AllZip-reordered (HasSequence d) rules (day_rules d) made (IsPermutation-sym (day_rules d) rules all) each in
     runways_make times values fs (day_rules d) (aim_list fs times values) found.0 plan (aims_mean times values (planned_of fs))
     (day_rules_differ d airport.names)
     (rw (targets-aims times values fs) found.1) clock

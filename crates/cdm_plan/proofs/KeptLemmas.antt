@@ -6,15 +6,15 @@ use Rattle.cdm_plan.proofs.PlanWords.{DayValues, RunwayRow, Place, Update, reach
 use Rattle.cdm_plan.proofs.PlanWords.{values_of, values_of-untouched, taxi_of, taxi_of-untouched, flight_of-untouched}
 use Rattle.cdm_plan.proofs.PlanWords.{RunwayRules, TaxiTimes, SlotRecord, fixed_slot, IsSequence, IsSequenceBy}
 use Rattle.cdm_plan.proofs.PlanWords.{PlanRecord, RunwayPlanRecord, TargetRecord, aim_of, aim_with, aim_with_exot, is_same, same_flips, same_is}
-use Rattle.cdm_plan.proofs.PlanWords.{if_on, DayRecord, flights_in, new_flight, rows_by_name, rules_of, with_update, IsDayPlan, day_rules, records_in}
+use Rattle.cdm_plan.proofs.PlanWords.{if_on, DayRecord, flights_in, new_flight, rules_of, with_update, IsDayPlan, day_rules, records_in}
 use Rattle.cdm_plan.proofs.PlanWords.{is_on, target_in, targets_in, targets_on, Adds, AreKept, IsMade}
 use Rattle.cdm_plan.proofs.PlanWords.{IsPlanOn, IsSince, fixed_in, is_noted, is_touched, Flt}
 use Rattle.cdm_flight.specs.declared.reach.Reach.{Reach}
 use Rattle.cdm_flight.specs.declared.reach.Reach.TheVariants as reach
 use Rattle.cdm_plan.specs.declared.touched.Touched.{Touched}
 use Rattle.cdm_plan.proofs.JournalFacts.{flight_named, flights_in-push, some_named}
-use Rattle.cdm_plan.proofs.DayPlanLemmas.{day_rules_differ, has_sequence, is_plan_on, targets_at}
-use Rattle.cdm_plan.proofs.NameLemmas.{find_some, rows_permutation}
+use Rattle.cdm_plan.proofs.DayPlanLemmas.{has_sequence, is_plan_on, targets_at}
+use Rattle.cdm_plan.proofs.NameLemmas.{day_rules_differ, find_some}
 use Rattle.cdm_plan.proofs.OnePlanLemmas.{partner}
 use Rattle.cdm_plan.proofs.PlanningLemmas.{fixed_at, fixed_on-given, no_target_at, target_at, targets_on-given}
 use Rattle.cdm_plan.proofs.RunwayLemmas.{rules-same}
@@ -167,19 +167,17 @@ kept_since first d t plan made since r p i e = by (is_touched t r.name) refl e
         let placing = made.of_day.0 in
         let aims = made.of_day.1 in
         let day = made.of_day.2 in
-        let rows = rows_by_name first.airport.runways in
         let rules : RunwayRow → RunwayRules = rules_of first.airport first.journal in
         let R : RunwayRules → RunwayPlanRecord → Type 0 = λ x p. IsSequenceBy placing x (fixed_in first x.name) (targets_on x.name (targets_in aims)) p in
         let found = find_some (λ (p : RunwayPlanRecord). same_name p.runway r.name) plan.runways p k in
         let old = partner R (day_rules first) day.made p day.sequences
         (Contains-permutation plan.runways day.made p (IsPermutation-sym day.made plan.runways day.parts.runways) found.0) in
-        let at = contains_from_map (rules_of d.airport d.journal) (rows_by_name d.airport.runways) r i in
+        let at = contains_from_map (rules_of d.airport d.journal) d.airport.runways r i in
         let row = at.0 in
         let named : row.name ≡ r.name = ap (λ (x : RunwayRules). x.name) at.2 in
-        let among : Contains rows row = subst (λ g. Contains (rows_by_name g.runways) row) since.airport at.1 in
+        let among : Contains first.airport.runways row = subst (λ g. Contains g.runways row) since.airport at.1 in
         let there =
-        contains_map rules first.airport.runways row (Contains-permutation rows first.airport.runways row
-        (IsPermutation-sym first.airport.runways rows (rows_permutation first.airport.runways)) among) in
+        contains_map rules first.airport.runways row among in
         let name : old.0.name ≡ row.name = sym old.1.runway ∙ (same_is p.runway r.name found.1 ∙ sym named) in
         let one : old.0 ≡ rules row = one_of_key same_name same_flips (λ (x : RunwayRules). x.name) (day_rules first) old.0 (rules row)
         (day_rules_differ first made.airport.names) old.2 there (is_same old.0.name (rules row).name name) in

@@ -2,17 +2,17 @@
 use Rattle.std.proofs.Common.{Bor, ◌≡◌, ℕ, true, cond, List, [], ◌∷◌, ◌++◌, Option, None, Some, refl, ◌∙◌, ap, subst, arith, map, filter, length}
 use Rattle.cdm_plan.proofs.ListWords.{is_none, All, AllZip, Contains, cons_option, filter_map, IsPermutation, IsPermutation-append_right}
 use Rattle.cdm_plan.proofs.ListWords.{IsPermutation-middle, IsPermutation-refl, IsPermutation-sym, IsPermutation-trans, contains_head, contains_map}
-use Rattle.cdm_plan.proofs.ListWords.{contains_tail}
+use Rattle.cdm_plan.proofs.ListWords.{Contains-permutation, contains_tail}
 use Rattle.cdm_plan.proofs.PlanWords.{DayValues, Record, is_planned, TaxiRows, values_of, taxi_of, RunwayRules, TaxiTimes, IsSequence}
 use Rattle.cdm_plan.proofs.PlanWords.{RunwayPlanRecord, BlockedFlight, CanSequence, IsAimed, early_among, target_for, DayRecord}
-use Rattle.cdm_plan.proofs.PlanWords.{rules_in, records_in, HasParts, fixed_on, planned_of, TellTaxi, AreKept, Together, kept_plan}
+use Rattle.cdm_plan.proofs.PlanWords.{day_rules, records_in, HasParts, fixed_on, planned_of, TellTaxi, AreKept, Together, kept_plan}
 use Rattle.std.specs.FinMap as finite
 use Rattle.cdm_plan.specs.declared.aimed.Aimed.{Aimed}
 use Rattle.cdm_plan.specs.declared.touched.Touched.{Touched}
 use Rattle.cdm_plan.specs.declared.work.Work.{Work}
 use Rattle.cdm_plan.specs.inner.Work.{IsWork}
 use Rattle.cdm_plan.proofs.DayPlanLemmas.{HasSequence, day_plan, few_records, has_sequence, record_names_differ, targets_at}
-use Rattle.cdm_plan.proofs.NameLemmas.{rule_names_differ}
+use Rattle.cdm_plan.proofs.NameLemmas.{by_name_differ}
 use Rattle.cdm_plan.proofs.OnePlanLemmas.{one_day_plan}
 use Rattle.cdm_plan.proofs.PartLemmas.{All-lent, AllZip-lent, few_parts}
 use Rattle.cdm_plan.proofs.PlanningLemmas.{AllZip-weaker, aimed, aimed_are, blocked-among, blocked_early, can_sequence, planned_are, targets-among}
@@ -88,23 +88,25 @@ module _ {d : DayRecord} {t : Touched} {old : List RunwayPlanRecord} {w : Work} 
         let R : Bor RunwayRules → RunwayPlanRecord → Type 0 = λ r p. HasSequence d r.now p in
         let stands : Bor RunwayRules → Option RunwayPlanRecord = λ r. kept_plan t old r.now.name in
         let runways = w.runways.items in
+        let rule : Bor RunwayRules → RunwayRules = λ r. r.now in
+        let rules = map rule runways in
         let right : (r : Bor RunwayRules) (p : RunwayPlanRecord) → IsSequence r.now (fixed_on r.now.name (map now w.flights.items))
         (filter_map (target_for r.now.name) aims) p → R r p = λ r p h.
         rw (targets_are r.now.name, is.flights) at h in
         let new = rw is.left at (AllZip-weaker _ R right w.left.items made each) in
         let zip = merged R stands runways made
-        (λ r p i e. has_sequence d r.now p (kept r.now p (rw is.runways at (contains_map (λ (x : Bor RunwayRules). x.now) runways r i)) e)) new in
-        let whole = subst (λ (l : List RunwayRules). AllZip (HasSequence d) l zip.0) is.runways (AllZip-lent (HasSequence d) runways zip.0 zip.1) in
+        (λ r p i e. has_sequence d r.now p (kept r.now p (Contains-permutation rules (day_rules d) r.now (IsPermutation-sym (day_rules d) rules is.runways.all) (contains_map rule runways r i)) e)) new in
+        let whole : AllZip (HasSequence d) rules zip.0 = AllZip-lent (HasSequence d) runways zip.0 zip.1 in
         let early : early_among aims ≡ blocked_early (flights_of d) (times_of d) (values_of d.journal) =
         ap early_among aims_are ∙ blocked-among (times_of d) (values_of d.journal) (flights_of d) in
-        let names = rule_names_differ d.airport d.journal is.sound.airport in
-        let few = few_parts (times_of d) (values_of d.journal) (flights_of d) (rules_in d.airport d.journal) zip.0
+        let names = by_name_differ d rules is.sound.airport is.runways in
+        let few = few_parts (times_of d) (values_of d.journal) (flights_of d) rules zip.0
         (filter_map stands runways ++ made) whole zip.2 names in
         record {
           few = omega (arith, few, few_records d is.sound, ap length early);
           made = λ plan clock parts.
               let plan_is =
-              day_plan d zip.0 (filter_map stands runways ++ made) plan is.sound.airport whole zip.2 clock
+              day_plan d rules zip.0 (filter_map stands runways ++ made) plan is.sound.airport is.runways.all whole zip.2 clock
               (subst (λ (bs : List BlockedFlight). HasParts bs (filter_map stands runways ++ made) plan) early parts) in
               record {
                 airport = is.sound.airport;

@@ -1,15 +1,18 @@
 -- The runways by name.
 use Rattle.std.proofs.Common.{◌≡◌, ℕ, ◌+◌, ◌≤◌, Bool, true, false, cond, List, [], ◌∷◌, ◌++◌, length, take, drop, map, Option, None, Some, refl, sym, ap}
-use Rattle.std.proofs.Common.{◌∙◌, subst, true≢false, zero, suc, add-one}
-use Rattle.cdm_plan.proofs.ListWords.{fold, insert, is_some, slice_get, if◌then◌else◌, option_map, is_lt, AllByRecursion, Contains, cons_option, find}
-use Rattle.cdm_plan.proofs.ListWords.{IsDistinct, position_or_len, IsPermutation, same_text, false_from_ne_true, append_assoc, append-nil, length-map}
+use Rattle.std.proofs.Common.{◌∙◌, subst, true≢false, zero, suc, add-one, ◌<◌, get_or, arith}
+use Rattle.cdm_plan.proofs.ListWords.{is_some, slice_get, if◌then◌else◌, option_map, is_lt, AllByRecursion, Contains, cons_option, find}
+use Rattle.cdm_plan.proofs.ListWords.{IsDistinct, IsPermutation, same_text, false_from_ne_true, length-map}
 use Rattle.cdm_plan.proofs.ListWords.{take_all, All-contains}
 use Rattle.cdm_plan.proofs.ListWords.{All-from_recursion, recursion_from_All, list_any_at, All-permutation, Contains-permutation, IsPermutation-refl}
-use Rattle.cdm_plan.proofs.ListWords.{IsPermutation-sym, IsPermutation-trans, IsPermutation-append_left, IsPermutation-insert, IsPermutation-map}
-use Rattle.cdm_plan.proofs.ListWords.{IsPermutation-to_front, length_permutation}
+use Rattle.cdm_plan.proofs.ListWords.{IsPermutation-sym, IsPermutation-trans, IsPermutation-append_right, IsPermutation-map}
+use Rattle.cdm_plan.proofs.ListWords.{IsPermutation-middle, IsSortedBy, length_permutation, nat_list_cmp_total, ranks_by}
+use Rattle.std.proofs.lemmas.List.{get_or-map}
+use Rattle.cdm_flight.proofs.Lists.{sorted_rest}
+use Rattle.cdm_sequence.proofs.OneLemmas.{one_order}
 use Rattle.cdm_plan.proofs.ListWords.{IsDistinct-IsPermutation, contains_head, contains_tail, list_any-find, one_of_key}
 use Rattle.cdm_plan.proofs.PlanWords.{RunwayRow, Update, same_name, name_cmp, AirportRows, runway_row, RunwayRules, same_flips, IsAirport, runway_names}
-use Rattle.cdm_plan.proofs.PlanWords.{rules_of, put_by_name, rows_by_name, rules_in}
+use Rattle.cdm_plan.proofs.PlanWords.{rules_of, AreByName, DayRecord, IsRunwayAt, day_rules, is_same, tied_names}
 
 -- What `find` finds.
 
@@ -57,20 +60,73 @@ one_row rows own r x y i j h k =
     let same = subst (λ (n : List ℕ). same_name x.name n ≡ true) (sym (same_text y.name r (sym k))) h in
     one_of_key same_name same_flips (λ (row : RunwayRow). row.name) rows x y own i j same
 
--- Rows by name.
+-- Rows by name: there is an order by name, since this is one.
 
-put_each : (done rows : List RunwayRow) → IsPermutation (done ++ rows) (fold put_by_name done rows)
-put_each done [] = rw (append-nil done) (IsPermutation-refl done)
-put_each done (row ∷ rows) =
-    let i = position_or_len (λ (x : RunwayRow). is_lt (name_cmp row.name x.name)) done in
-    let front = IsPermutation-append_left rows (done ++ row ∷ []) (row ∷ done) (IsPermutation-to_front done row) in
-    let moved : IsPermutation (done ++ row ∷ rows) ((row ∷ done) ++ rows) = rw (append_assoc done (row ∷ []) rows) at front in
-    let put = IsPermutation-append_left rows (row ∷ done) (insert done i row) (IsPermutation-insert done i row) in
-    IsPermutation-trans _ _ _ moved (IsPermutation-trans _ _ _ put (put_each (insert done i row) rows))
+put_by_name : RunwayRow → List RunwayRow → List RunwayRow
+put_by_name x [] = x ∷ []
+put_by_name x (y ∷ ys) = if is_lt (name_cmp x.name y.name) then x ∷ y ∷ ys else y ∷ put_by_name x ys
+
+pub rows_by_name : List RunwayRow → List RunwayRow
+rows_by_name [] = []
+rows_by_name (x ∷ xs) = put_by_name x (rows_by_name xs)
+
+abbrev pub rules_in : AirportRows → List Update → List RunwayRules
+rules_in g a = map (rules_of g a) (rows_by_name g.runways)
+
+put_permutation : (x : RunwayRow) (ys : List RunwayRow) → IsPermutation (x ∷ ys) (put_by_name x ys)
+unfolding put_by_name
+put_permutation x [] = IsPermutation-refl (x ∷ [])
+put_permutation x (y ∷ ys) = by (is_lt (name_cmp x.name y.name)) (put_permutation x ys)
+  where
+    by : (b : Bool) → IsPermutation (x ∷ ys) (put_by_name x ys) → IsPermutation (x ∷ y ∷ ys) (if b then x ∷ y ∷ ys else y ∷ put_by_name x ys)
+    by true h = IsPermutation-refl (x ∷ y ∷ ys)
+    by false h =
+        IsPermutation-trans _ (y ∷ x ∷ ys) _ (IsPermutation-sym (y ∷ x ∷ ys) (x ∷ y ∷ ys) (IsPermutation-middle (y ∷ []) x ys))
+        (IsPermutation-append_right (y ∷ []) (x ∷ ys) (put_by_name x ys) h)
 
 pub rows_permutation : (rows : List RunwayRow) → IsPermutation rows (rows_by_name rows)
 unfolding rows_by_name
-rows_permutation rows = put_each [] rows
+rows_permutation [] = IsPermutation-refl []
+rows_permutation (x ∷ xs) =
+    IsPermutation-trans _ _ _ (IsPermutation-append_right (x ∷ []) xs (rows_by_name xs) (rows_permutation xs)) (put_permutation x (rows_by_name xs))
+
+abbrev is_below : RunwayRow → RunwayRow → Bool
+is_below x y = is_lt (name_cmp x.name y.name)
+
+-- one more in front of a list that rises
+rise_more : (x : RunwayRow) (ys : List RunwayRow) → ((d : RunwayRow) → 0 < length ys → is_below (get_or ys 0 d) x ≡ false) → IsSortedBy is_below ys → IsSortedBy is_below (x ∷ ys)
+rise_more x ys first up = at
+  where
+    at : (k : ℕ) (d : RunwayRow) → 0 ≤ k → k + 1 < length (x ∷ ys) → is_below (get_or (x ∷ ys) (k + 1) d) (get_or (x ∷ ys) k d) ≡ false
+    at zero d a b = first d (omega arith)
+    at (suc k) d a b =
+        let next : suc (k + 1) ≡ suc k + 1 = omega arith in
+        subst (λ n. is_below (get_or (x ∷ ys) n d) (get_or ys k d) ≡ false) next (up k d (omega arith) (omega arith))
+
+-- its first is one of two
+put_first : (x : RunwayRow) (ys : List RunwayRow) (y d : RunwayRow) → is_below x y ≡ false → ((d : RunwayRow) → 0 < length ys → is_below (get_or ys 0 d) y ≡ false)
+    → is_below (get_or (put_by_name x ys) 0 d) y ≡ false
+unfolding put_by_name
+put_first x [] y d h first = h
+put_first x (z ∷ zs) y d h first = by (is_below x z)
+  where
+    by : (b : Bool) → is_below (get_or (if b then x ∷ z ∷ zs else z ∷ put_by_name x zs) 0 d) y ≡ false
+    by true = h
+    by false = first d (omega arith)
+
+put_rises : (x : RunwayRow) (ys : List RunwayRow) → IsSortedBy is_below ys → IsSortedBy is_below (put_by_name x ys)
+unfolding put_by_name
+put_rises x [] up = λ k d a b. absurd (omega arith)
+put_rises x (y ∷ ys) up = by (is_below x y) refl (put_rises x ys (sorted_rest is_below y ys up))
+  where
+    by : (b : Bool) → is_below x y ≡ b → IsSortedBy is_below (put_by_name x ys) → IsSortedBy is_below (if b then x ∷ y ∷ ys else y ∷ put_by_name x ys)
+    by true e rest = rise_more x (y ∷ ys) (λ d l. (ranks_by nat_list_cmp_total (λ (r : RunwayRow). r.name)).one_way x y e) up
+    by false e rest = rise_more y (put_by_name x ys) (λ d l. put_first x ys y d e (λ d l. up 0 d (omega arith) (omega arith))) rest
+
+rows_rise : (rows : List RunwayRow) → IsSortedBy is_below (rows_by_name rows)
+unfolding rows_by_name
+rows_rise [] = λ k d a b. absurd (omega arith)
+rows_rise (x ∷ xs) = put_rises x (rows_by_name xs) (rows_rise xs)
 
 find-map : (g : AirportRows) (a : List Update) (r : List ℕ) (rows : List RunwayRow)
     → find (λ x. same_name x.name r) (map (rules_of g a) rows) ≡ option_map (rules_of g a) (find (λ row. same_name row.name r) rows)
@@ -99,14 +155,48 @@ find-rules g a r airport =
     (find-permutation (λ (row : RunwayRow). same_name row.name r) g.runways (rows_by_name g.runways) (rows_permutation g.runways)
     (one_row g.runways airport.names r))
 
-pub length-rules_in : (g : AirportRows) (a : List Update) → length (rules_in g a) ≡ length g.runways
-length-rules_in g a = length-map (rows_by_name g.runways) (rules_of g a) ∙ length_permutation g.runways (rows_by_name g.runways) (rows_permutation g.runways)
-
 -- their names differ
-pub rule_names_differ : (g : AirportRows) (a : List Update) → IsAirport g → IsDistinct same_name (map (λ (r : RunwayRules). r.name) (rules_in g a))
-rule_names_differ g a airport =
-    rw (runway-names g a (rows_by_name g.runways)) (IsDistinct-IsPermutation same_name same_flips (runway_names g) _
-    (IsPermutation-map (λ (row : RunwayRow). row.name) g.runways (rows_by_name g.runways) (rows_permutation g.runways)) airport.names)
+pub day_rules_differ : (d : DayRecord) → IsDistinct same_name (runway_names d.airport) → IsDistinct same_name (map (λ r. r.name) (day_rules d))
+day_rules_differ d own = rw (runway-names d.airport d.journal d.airport.runways) own
+
+pub by_name_differ : (d : DayRecord) (rs : List RunwayRules) → IsAirport d.airport → AreByName d rs → IsDistinct same_name (map (λ r. r.name) rs)
+by_name_differ d rs airport is =
+    IsDistinct-IsPermutation same_name same_flips (map (λ r. r.name) (day_rules d)) _ (IsPermutation-map (λ (r : RunwayRules). r.name) (day_rules d) rs is.all) (day_rules_differ d airport.names)
+
+pub length-by_name : (d : DayRecord) (rs : List RunwayRules) → AreByName d rs → length rs ≡ length d.airport.runways
+length-by_name d rs is = length_permutation (day_rules d) rs is.all ∙ length-map d.airport.runways (rules_of d.airport d.journal)
+
+-- The order of runways by name.
+
+-- a list whose elements differ by name has one order by name
+pub by_name : {X : Type 0} (name : X → List ℕ) (all xs ys : List X) → IsDistinct same_name (map name all) → IsPermutation all xs → IsPermutation all ys
+    → IsSortedBy (λ a b. is_lt (name_cmp (name a) (name b))) xs → IsSortedBy (λ a b. is_lt (name_cmp (name a) (name b))) ys → xs ≡ ys
+by_name name all xs ys own =
+    one_order nat_list_cmp_total name all xs ys
+    (λ a b i j tied. one_of_key same_name same_flips name all a b own i j (is_same (name a) (name b) (tied_names (name a) (name b) tied)))
+
+pub rules_by_name : (d : DayRecord) → AreByName d (rules_in d.airport d.journal)
+unfolding rules_of
+rules_by_name d =
+    let g = d.airport in
+    let rows = rows_by_name g.runways in
+    let f : RunwayRow → RunwayRules = rules_of g d.journal in
+    record {
+      all = IsPermutation-map f g.runways rows (rows_permutation g.runways);
+      by_name = λ k e a b.
+          let short : k + 1 < length rows = omega (arith, length-map rows f) in
+          let row : RunwayRow = record { name = []; cell = 0; cap = 0 } in
+          rw (get_or-map f rows (k + 1) row e short, get_or-map f rows k row e (omega arith)) (rows_rise g.runways k row (omega arith) short);
+    }
+
+-- the runways by name are these
+pub in_order : (d : DayRecord) (rs : List RunwayRules) → IsAirport d.airport → AreByName d rs → rs ≡ rules_in d.airport d.journal
+in_order d rs airport is =
+    let these = rules_by_name d in
+    by_name (λ (r : RunwayRules). r.name) (day_rules d) rs (rules_in d.airport d.journal) (day_rules_differ d airport.names) is.all these.all is.by_name these.by_name
+
+pub runway_is : (d : DayRecord) (place : ℕ) (o : Option RunwayRules) → IsAirport d.airport → IsRunwayAt d place o → o ≡ slice_get (rules_in d.airport d.journal) place
+runway_is d place o airport (rs, is, at) = at ∙ ap (λ l. slice_get l place) (in_order d rs airport is)
 
 -- what holds of all holds of each
 pub all_at : {X : Type 0} (P : X → Type 0) (xs : List X) → AllByRecursion P xs → (y : X) → Contains xs y → P y

@@ -12,22 +12,15 @@ use Rattle.cdm_plan.proofs.PlanWords.{is_same, same_flips, tied_names}
 use Rattle.cdm_plan.proofs.PlanWords.{runway_names, DayRecord, flights_in, IsDayAllowed, IsDayPlan, IsDayPlanBy, day_rules, records_in, has_runway}
 use Rattle.cdm_plan.proofs.PlanWords.{values_of, taxi_of, RunwayRow, AreAims, HasParts, IsPlanOf, early_in, fixed_on, planned_of, targets_in}
 use Rattle.cdm_plan.proofs.PlanWords.{targets_on}
-use Rattle.cdm_sequence.proofs.OneLemmas.{one_order, sequence_one}
-use Rattle.cdm_plan.proofs.DayPlanLemmas.{day_rules_differ, record_names_differ}
-use Rattle.cdm_plan.proofs.NameLemmas.{runway-names}
+use Rattle.cdm_sequence.proofs.OneLemmas.{sequence_one}
+use Rattle.cdm_plan.proofs.DayPlanLemmas.{record_names_differ}
+use Rattle.cdm_plan.proofs.NameLemmas.{by_name, day_rules_differ, runway-names}
 use Rattle.cdm_plan.proofs.PartLemmas.{runways_make}
 use Rattle.cdm_plan.proofs.PlacingLemmas.{allowed_on, none_earlier_on}
 use Rattle.cdm_plan.proofs.PlanningLemmas.{AllZip-weaker, aims_are, blocked_early, early-aims, made_named, names_on, once}
 use Rattle.cdm_plan.proofs.PlanningLemmas.{Shows, shows_made, stands_in, targets-aims, targets_of}
 
 -- Lists by name.
-
--- a list whose elements differ by name has one order by name
-by_name : {X : Type 0} (name : X → List ℕ) (all xs ys : List X) → IsDistinct same_name (map name all) → IsPermutation all xs → IsPermutation all ys
-    → IsSortedBy (λ a b. is_lt (name_cmp (name a) (name b))) xs → IsSortedBy (λ a b. is_lt (name_cmp (name a) (name b))) ys → xs ≡ ys
-by_name name all xs ys own =
-    one_order nat_list_cmp_total name all xs ys
-    (λ a b i j tied. one_of_key same_name same_flips name all a b own i j (is_same (name a) (name b) (tied_names (name a) (name b) tied)))
 
 -- lists of two parts each, put together, are the first parts and the second ones
 flat_map-parts : {X Y : Type 0} (f g : X → List Y) (xs : List X) → IsPermutation (flat_map (λ x. f x ++ g x) xs) (flat_map f xs ++ flat_map g xs)

@@ -1,8 +1,6 @@
 -- What a contract sees of a day, and what its journal says of flights and runways.
-use Rattle.std.specs.Prelude.{ℕ, ◌*◌, ◌/◌, List, [], ◌∷◌, ◌++◌, map, fold, insert, Option, None, if◌then◌else◌}
-use Rattle.std.specs.List.{filter_map, position_or_len, range_with_len}
-use Rattle.std.specs.Ordering.{is_lt}
-use Rattle.cdm_flight.specs.Names.{name_cmp}
+use Rattle.std.specs.Prelude.{ℕ, ◌*◌, ◌/◌, List, [], ◌∷◌, ◌++◌, map, Option, None, if◌then◌else◌}
+use Rattle.std.specs.List.{filter_map, range_with_len}
 use Rattle.cdm_flight.specs.declared.airport.RunwayRow.{RunwayRow}
 use Rattle.cdm_flight.specs.declared.update.Update.{Update}
 use Rattle.cdm_flight.specs.Reach.{flight_of_update}
@@ -35,15 +33,3 @@ rules_of g a row = record {
   caps = map (λ k. cap_of g a row.name (k * row.cell)) (range_with_len 0 (2880 / row.cell));
   closed = map (λ m. closed_of a row.name m) (range_with_len 0 2880);
 }
-
--- one more row, before the first whose name comes later
-abbrev pub put_by_name : List RunwayRow → RunwayRow → List RunwayRow
-put_by_name rows row = insert rows (position_or_len (λ x. is_lt (name_cmp row.name x.name)) rows) row
-
--- the airport's runways by name
-unfoldable pub rows_by_name : List RunwayRow → List RunwayRow
-rows_by_name rows = fold put_by_name [] rows
-
--- what the airport and the journal allow on each runway, by name
-abbrev pub rules_in : AirportRows → List Update → List RunwayRules
-rules_in g a = map (rules_of g a) (rows_by_name g.runways)

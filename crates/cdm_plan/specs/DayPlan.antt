@@ -1,7 +1,8 @@
 -- The plan of a day is that of its journal.
-use Rattle.std.specs.Prelude.{List, All, map}
+use Rattle.std.specs.Prelude.{◌≡◌, ℕ, List, All, IsPermutation, IsSortedByKey, map, Option, slice_get}
 use Rattle.std.specs.List.{filter_map}
 use Rattle.cdm_flight.specs.declared.update.Update.{Update}
+use Rattle.cdm_flight.specs.Names.{name_cmp}
 use Rattle.cdm_flight.specs.Record.{Record}
 use Rattle.cdm_flight.specs.Journal.{AirportRows, flight_of, taxi_of, values_of}
 use Rattle.cdm_runway.specs.Rules.{RunwayRules}
@@ -19,6 +20,15 @@ records_in g a = filter_map (flight_of g a) (flights_in a)
 -- what the airport and the journal allow on the runways
 abbrev pub day_rules : DayRecord → List RunwayRules
 day_rules day = map (rules_of day.airport day.journal) day.airport.runways
+
+-- all runways of the day, in rising order of names
+pub record AreByName (day : DayRecord) (runways : List RunwayRules) : Type 0 where
+  pub all : IsPermutation (day_rules day) runways
+  pub by_name : IsSortedByKey (λ r. r.name) name_cmp runways
+
+-- the runway at a place in the order of names
+abbrev pub IsRunwayAt : DayRecord → ℕ → Option RunwayRules → Type 0
+IsRunwayAt day place found = (runways : List RunwayRules) × AreByName day runways × (found ≡ slice_get runways place)
 
 -- the plan is that of the flights, taxi times, values and runways that the airport and the journal say
 unfoldable pub IsDayPlan : DayRecord → PlanRecord → Type 0

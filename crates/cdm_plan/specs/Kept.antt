@@ -15,8 +15,8 @@ use Rattle.cdm_plan.specs.declared.touched.Touched.{Touched}
 use Rattle.cdm_plan.specs.declared.touched.Touched.TheVariants.{All, Named}
 use Rattle.cdm_plan.specs.inner.Aimed.{is_on}
 use Rattle.cdm_plan.specs.Airport.{IsAirport}
-use Rattle.cdm_plan.specs.Day.{DayRecord, rules_in, rules_of}
-use Rattle.cdm_plan.specs.DayPlan.{IsDayPlan, records_in}
+use Rattle.cdm_plan.specs.Day.{DayRecord, rules_of}
+use Rattle.cdm_plan.specs.DayPlan.{IsDayPlan, day_rules, records_in}
 use Rattle.cdm_plan.specs.Planning.{AreAims, fixed_on, targets_in, targets_on}
 
 -- the runway is one of those that were touched
@@ -57,7 +57,7 @@ kept_plan t plans r = if is_touched t r then None else find (λ p. same_name p.r
 
 -- the plans that stand are those of the day
 abbrev pub AreKept : DayRecord → Touched → List RunwayPlanRecord → Type 0
-AreKept d t plans = (r : RunwayRules) (p : RunwayPlanRecord) → Contains (rules_in d.airport d.journal) r → kept_plan t plans r.name ≡ Some p → IsPlanOn d r p
+AreKept d t plans = (r : RunwayRules) (p : RunwayPlanRecord) → Contains (day_rules d) r → kept_plan t plans r.name ≡ Some p → IsPlanOn d r p
 
 -- the plan is the day's, and no other is
 pub record IsMade (d : DayRecord) (plan : PlanRecord) : Type 0 where

@@ -10,7 +10,8 @@ pub trait Records {
     ghost use Rattle.std.specs.Prelude.{◌≡◌, length, slice_get};
     ghost use Rattle.std.specs.Option.{option_and_then, option_copied};
     ghost use Rattle.cdm_flight.specs.Journal.{flight_of, values_of};
-    ghost use Rattle.cdm_plan.specs.Day.{DayRecord, flights_in, rules_in};
+    ghost use Rattle.cdm_plan.specs.Day.{DayRecord, flights_in};
+    ghost use Rattle.cdm_plan.specs.DayPlan.{IsRunwayAt};
     ghost use Rattle.cdm_plan.specs.Sound.{IsSound, TellTaxi};
 
     // The airport and the accepted updates.
@@ -40,7 +41,7 @@ pub trait Records {
     /// The runway at a place in the order of names.
     fn runway_at(&self, place: usize) -> Option<&Runway>
         ensures sound { IsSound (day self.now) }
-        ensures value { let d = day self.now in option_copied result ≡ slice_get (rules_in d.airport d.journal) place };
+        ensures value { IsRunwayAt (day self.now) place (option_copied result) };
 
     /// The taxi times.
     fn taxi(&self) -> &TaxiTable

@@ -2,8 +2,7 @@
 ghost use Rattle.std.specs.Prelude.{◌≡◌, ◌++◌, [], map, IfOk, OnOk};
 ghost use Rattle.std.specs.List.{cons_option};
 ghost use Rattle.std.specs.Option.{option_copied};
-ghost use Rattle.cdm_plan.specs.Day.{rules_in};
-ghost use Rattle.cdm_plan.specs.DayPlan.{records_in};
+ghost use Rattle.cdm_plan.specs.DayPlan.{AreByName, records_in};
 ghost use Rattle.cdm_plan.specs.Planning.{planned_of};
 ghost use Rattle.cdm_plan.specs.Sound.{IsSound};
 ghost use Rattle.cdm_plan.specs.inner.Work.{IsWork};
@@ -62,7 +61,7 @@ fn planned_flights<'a>(alloc: Global, flights: &[&'a Flight]) -> Result<Vec<&'a 
 
 // All runways by name.
 fn all_runways<R: Records>(alloc: Global, records: &R) -> Result<Vec<&Runway>, AllocError>
-    ensures { IfOk result (λ v. let d = R.day records.now in map (λ r. r.now) v.items ≡ rules_in d.airport d.journal) }
+    ensures { IfOk result (λ v. AreByName (R.day records.now) (map (λ r. r.now) v.items)) }
 {
     let mut runways = Vec::new(alloc);
     for place in 0..records.runways() {

@@ -1,10 +1,8 @@
 -- What a scenario changes in the indicators.
-use Rattle.std.specs.Prelude.{ℕ, ◌-◌, List, [], ◌++◌, ◌==◌, codes, flat_map, nat_le, if◌then◌else◌}
+use Rattle.std.specs.Prelude.{ℕ, ◌-◌, List, [], ◌++◌, ◌==◌, codes, flat_map, nat_le, zip, if◌then◌else◌}
 use Rattle.std.specs.Fmt.{decimal}
 use Rattle.cdm_sequence.specs.declared.rule.Rule.{Rule}
-use Rattle.cdm_sequence.specs.Words.{all_rules}
 use Rattle.cdm_report.specs.declared.counts.Counts.{Counts}
-use Rattle.cdm_report.specs.Counts.{count_of}
 use Rattle.cdm_report.specs.Report.{indicators_told, line_end, rule_told}
 
 -- by how much a number grew, with its sign
@@ -12,11 +10,10 @@ unfoldable pub change : ℕ → ℕ → List ℕ
 change from to = if nat_le from to then codes "+" ++ decimal (to - from) else codes "-" ++ decimal (from - to)
 
 -- by how much a rule's count grew, where it changed
-unfoldable pub rule_change : Counts → Counts → Rule → List ℕ
-rule_change base scenario rule =
-    if count_of base rule == count_of scenario rule then [] else rule_told rule (change (count_of base rule) (count_of scenario rule))
+unfoldable pub rule_change : (Rule × ℕ) × (Rule × ℕ) → List ℕ
+rule_change ((rule, from), (_, to)) = if from == to then [] else rule_told rule (change from to)
 
 -- by how much each indicator grew from the base to the scenario
 unfoldable pub delta_line : Counts → Counts → List ℕ
 delta_line base scenario =
-    indicators_told (codes "DELTA") (λ of. change (of base) (of scenario)) ++ flat_map (rule_change base scenario) all_rules ++ line_end
+    indicators_told (codes "DELTA") (λ of. change (of base) (of scenario)) ++ flat_map rule_change (zip base.by_rule scenario.by_rule) ++ line_end

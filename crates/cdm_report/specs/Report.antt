@@ -9,10 +9,10 @@ use Rattle.cdm_flight.specs.Words.{text_of}
 use Rattle.cdm_sequence.specs.declared.rule.Rule.{Rule}
 use Rattle.cdm_sequence.specs.declared.slot.BlockedFlight.{BlockedFlight}
 use Rattle.cdm_sequence.specs.Slots.{RunwayPlanRecord, PlanRecord}
-use Rattle.cdm_sequence.specs.Words.{all_rules, rule_text}
+use Rattle.cdm_sequence.specs.Words.{rule_text}
 use Rattle.cdm_report.specs.declared.counts.Counts.{Counts}
 use Rattle.cdm_report.specs.Columns.{left_in, flight_line}
-use Rattle.cdm_report.specs.Counts.{count_of, counts_of}
+use Rattle.cdm_report.specs.Counts.{counts_of}
 
 -- a line's end
 abbrev pub line_end : List ℕ
@@ -35,8 +35,8 @@ abbrev pub rule_told : Rule → List ℕ → List ℕ
 rule_told rule told = concat (codes " " ∷ rule_text rule ∷ codes " " ∷ told ∷ [])
 
 -- how many flights a rule blocks, where it blocks one
-unfoldable pub rule_count : Counts → Rule → List ℕ
-rule_count counts rule = if count_of counts rule == 0 then [] else rule_told rule (decimal (count_of counts rule))
+unfoldable pub rule_count : Rule × ℕ → List ℕ
+rule_count (rule, count) = if count == 0 then [] else rule_told rule (decimal count)
 
 -- the indicators without the rules: a title, and what is told of each
 unfoldable pub indicators_told : List ℕ → ((Counts → ℕ) → List ℕ) → List ℕ
@@ -49,7 +49,7 @@ indicators_told title told = concat (
 
 -- the indicators, with each rule that blocks a flight
 unfoldable pub total_line : Counts → List ℕ
-total_line counts = indicators_told (codes "TOTAL") (λ of. decimal (of counts)) ++ flat_map (rule_count counts) all_rules ++ line_end
+total_line counts = indicators_told (codes "TOTAL") (λ of. decimal (of counts)) ++ flat_map rule_count counts.by_rule ++ line_end
 
 -- a refused record, by its number, and why it was refused
 unfoldable pub refused_line : (ℕ × RefusalWord) → List ℕ

@@ -1,6 +1,6 @@
 //! The indicators of a plan.
 ghost use Rattle.std.specs.Prelude.{◌≡◌, ◌+◌, ◌*◌, ◌^◌, ◌<◌, ◌≤◌, length, fold};
-ghost use Rattle.cdm_report.specs.Counts.{blocked_by, count_of, counts_of};
+ghost use Rattle.cdm_report.specs.Counts.{blocked_by, counts_of};
 ghost use Rattle.cdm_report.specs.inner.Counting.{delays_in, only_blocked, with_delay};
 
 use cdm_sequence::{BlockedFlight, Plan, Rule, Slot};
@@ -10,7 +10,7 @@ const LATE_ABOVE: u32 = 15;
 
 /// The indicators of a plan (local profile): how many planned flights get a take-off minute and how
 /// long they are delayed, and how many get none. Delays are whole minutes.
-#[derive(Clone, Copy, Debug, Default, PartialEq, Eq)]
+#[derive(Clone, Copy, Debug, PartialEq, Eq)]
 pub struct Counts {
     /// The planned flights that get a take-off minute.
     pub placed: u32,
@@ -22,38 +22,11 @@ pub struct Counts {
     pub late: u32,
     /// The planned flights that get no take-off minute.
     pub blocked: u32,
-    /// Those that have no TOBT.
-    pub tobt: u32,
-    /// Those that have no runway.
-    pub runway: u32,
-    /// Those for which there is no taxi-out time.
-    pub exot: u32,
-    /// Those that can't reach their runway within the horizon.
-    pub horizon: u32,
-    /// Those that miss their CTOT.
-    pub ctot: u32,
-    /// Those that find their runway closed.
-    pub closure: u32,
-    /// Those that find all cells of their runway full.
-    pub rate: u32,
+    /// Each rule with how many of those it blocks, in the order of the rules.
+    pub by_rule: [(Rule, u32); 7],
 }
 
 impl Counts {
-    /// How many flights the rule blocks.
-    pub fn of(&self, rule: Rule) -> u32
-        ensures { result ≡ count_of self.now rule }
-    {
-        match rule {
-            Rule::Tobt => self.tobt,
-            Rule::Runway => self.runway,
-            Rule::Exot => self.exot,
-            Rule::Horizon => self.horizon,
-            Rule::Ctot => self.ctot,
-            Rule::Closure => self.closure,
-            Rule::Rate => self.rate,
-        }
-    }
-
     // Counts in a planned flight that gets a minute.
     fn add_delay(&mut self, delay: u16)
         requires placed { self.old.placed + 1 < 2 ^ 32 }
@@ -91,12 +64,13 @@ impl Counts {
     }
 }
 
-// How many of the flights the rule blocks.
-fn count_blocked(rule: Rule, flights: &[BlockedFlight]) -> u32
+// The rule with how many of the flights it blocks.
+fn count_blocked(rule: Rule, flights: &[BlockedFlight]) -> (Rule, u32)
     requires { length flights.now ≤ 2000 }
-    ensures { result ≡ blocked_by rule flights.now }
+    ensures { result ≡ (rule, blocked_by rule flights.now) }
 {
-    flights.iter().filter(|flight| flight.rule == rule).count() as u32
+    let count = flights.iter().filter(|flight| flight.rule == rule).count();
+    (rule, count as u32)
 }
 
 // The indicators where these flights are blocked and no other is planned.
@@ -105,15 +79,20 @@ fn blocked_counts(flights: &[BlockedFlight]) -> Counts
     ensures { result ≡ only_blocked flights.now }
 {
     Counts {
+        placed: 0,
+        delay: 0,
+        greatest: 0,
+        late: 0,
         blocked: flights.len() as u32,
-        tobt: count_blocked(Rule::Tobt, flights),
-        runway: count_blocked(Rule::Runway, flights),
-        exot: count_blocked(Rule::Exot, flights),
-        horizon: count_blocked(Rule::Horizon, flights),
-        ctot: count_blocked(Rule::Ctot, flights),
-        closure: count_blocked(Rule::Closure, flights),
-        rate: count_blocked(Rule::Rate, flights),
-        ..Counts::default()
+        by_rule: [
+            count_blocked(Rule::Tobt, flights),
+            count_blocked(Rule::Runway, flights),
+            count_blocked(Rule::Exot, flights),
+            count_blocked(Rule::Horizon, flights),
+            count_blocked(Rule::Ctot, flights),
+            count_blocked(Rule::Closure, flights),
+            count_blocked(Rule::Rate, flights),
+        ],
     }
 }
 

@@ -1,5 +1,5 @@
 //! What a scenario changes in the indicators.
-ghost use Rattle.std.specs.Prelude.{◌≡◌, ◌++◌, IfOk, OnOk, Some, flat_map};
+ghost use Rattle.std.specs.Prelude.{◌≡◌, ◌++◌, IfOk, OnOk, Some, flat_map, length, zip};
 ghost use Rattle.std.specs.String.{string_bytes};
 ghost use Rattle.cdm_report.specs.Delta.{change, delta_line, rule_change};
 
@@ -61,21 +61,21 @@ pub fn delta_text(alloc: Global, base: &Counts, scenario: &Counts) -> Result<Vec
         text,
         "DELTA PLACED {placed} DELAY {delay} MAX {greatest} LATE {late} BLOCKED {blocked}"
     )?;
-    push_rule_changes(&mut text, base, scenario, &Rule::all())?;
+    push_rule_changes(&mut text, &base.by_rule, &scenario.by_rule)?;
     writeln!(text)?;
     Ok(text.into_bytes())
 }
 
 fn push_rule_changes(
     text: &mut String,
-    base: &Counts,
-    scenario: &Counts,
-    rules: &[Rule],
+    base: &[(Rule, u32)],
+    scenario: &[(Rule, u32)],
 ) -> Result<(), AllocError>
-    ensures { OnOk result (string_bytes text.new ≡ string_bytes text.old ++ flat_map (rule_change base.now scenario.now) rules.now) }
+    requires { length scenario.now ≡ length base.now }
+    ensures { OnOk result (string_bytes text.new ≡ string_bytes text.old ++ flat_map rule_change (zip base.now scenario.now)) }
 {
-    for rule in rules {
-        push_rule_change(text, base, scenario, *rule)?;
+    for place in 0..base.len() {
+        push_rule_change(text, base[place], scenario[place])?;
     }
     Ok(())
 }
@@ -84,18 +84,16 @@ fn push_rule_changes(
 #[tactic(auto, unfolding(crate::specs::Delta::rule_change))]
 fn push_rule_change(
     text: &mut String,
-    base: &Counts,
-    scenario: &Counts,
-    rule: Rule,
+    base: (Rule, u32),
+    scenario: (Rule, u32),
 ) -> Result<(), AllocError>
-    ensures { OnOk result (string_bytes text.new ≡ string_bytes text.old ++ rule_change base.now scenario.now rule) }
+    ensures { OnOk result (string_bytes text.new ≡ string_bytes text.old ++ rule_change (base, scenario)) }
 {
-    let change = Change {
-        from: base.of(rule),
-        to: scenario.of(rule),
-    };
-    if change.from == change.to {
+    let (rule, from) = base;
+    let (_, to) = scenario;
+    if from == to {
         return Ok(());
     }
+    let change = Change { from, to };
     write!(text, " {rule} {change}")
 }

@@ -97,7 +97,7 @@ fn push_total(text: &mut String, counts: &Counts) -> Result<(), AllocError>
     ensures { OnOk result (string_bytes text.new ≡ string_bytes text.old ++ total_line counts.now) }
 {
     push_total_head(text, counts)?;
-    push_rule_counts(text, counts, &Rule::all())?;
+    push_rule_counts(text, &counts.by_rule)?;
     writeln!(text)
 }
 
@@ -119,20 +119,20 @@ fn push_total_head(text: &mut String, counts: &Counts) -> Result<(), AllocError>
     )
 }
 
-fn push_rule_counts(text: &mut String, counts: &Counts, rules: &[Rule]) -> Result<(), AllocError>
-    ensures { OnOk result (string_bytes text.new ≡ string_bytes text.old ++ flat_map (rule_count counts.now) rules.now) }
+fn push_rule_counts(text: &mut String, by_rule: &[(Rule, u32)]) -> Result<(), AllocError>
+    ensures { OnOk result (string_bytes text.new ≡ string_bytes text.old ++ flat_map rule_count by_rule.now) }
 {
-    for rule in rules {
-        push_rule_count(text, counts, *rule)?;
+    for counted in by_rule {
+        let (rule, count) = *counted;
+        push_rule_count(text, rule, count)?;
     }
     Ok(())
 }
 
 #[tactic(auto, unfolding(crate::specs::Report::rule_count))]
-fn push_rule_count(text: &mut String, counts: &Counts, rule: Rule) -> Result<(), AllocError>
-    ensures { OnOk result (string_bytes text.new ≡ string_bytes text.old ++ rule_count counts.now rule) }
+fn push_rule_count(text: &mut String, rule: Rule, count: u32) -> Result<(), AllocError>
+    ensures { OnOk result (string_bytes text.new ≡ string_bytes text.old ++ rule_count (rule, count)) }
 {
-    let count = counts.of(rule);
     if count == 0 {
         return Ok(());
     }

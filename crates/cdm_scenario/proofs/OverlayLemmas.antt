@@ -23,7 +23,8 @@ use Rattle.cdm_flight.specs.Journal.{AirportRows, flight_of, runway_row, values_
 use Rattle.cdm_flight.specs.Accepted.{refusal_of}
 use Rattle.cdm_flight.proofs.JournalLemmas.{same_name-refl}
 use Rattle.cdm_runway.specs.Rules.{RunwayRules}
-use Rattle.cdm_plan.specs.Day.{DayRecord, flights_in, rules_of, rules_in, rows_by_name}
+use Rattle.cdm_plan.specs.Day.{DayRecord, flights_in, rules_of}
+use Rattle.cdm_plan.specs.DayPlan.{IsRunwayAt}
 use Rattle.cdm_plan.specs.Sound.{IsSound, TellTaxi}
 use Rattle.cdm_day.specs.Changes.{ChangesRunway, IsChange, has_window, with_change}
 use Rattle.cdm_day.specs.declared.change.Change.{Change}
@@ -33,7 +34,7 @@ use Rattle.cdm_day.specs.inner.Put.{flight_with, made_known, rows_with, rules_wi
 use Rattle.cdm_day.specs.inner.Tables.{Flights}
 use Rattle.cdm_plan.proofs.DayPlanLemmas.{record_name}
 use Rattle.cdm_plan.proofs.JournalFacts.{known-among}
-use Rattle.cdm_plan.proofs.NameLemmas.{find_some, rows_permutation}
+use Rattle.cdm_plan.proofs.NameLemmas.{find_some, rows_by_name, rows_permutation, rules_by_name, rules_in, runway_is}
 use Rattle.cdm_day.proofs.ChangeLemmas.{SaysWith, says_with, the_row}
 use Rattle.cdm_day.proofs.WordLemmas.{known_is, taxi-fits}
 use Rattle.cdm_scenario.specs.inner.Changed.{Runways, TaxiOver, TellChanged}
@@ -100,11 +101,13 @@ module _ {g : AirportRows} {a e : List Update} {m : Flights} {new : List (List �
 
   -- The runway at a place.
 
-  pub over_runway : {d : DayRecord} → record { airport = g; journal = e } ≡ d → (i : ℕ) (x : RunwayRules) (o : Option RunwayRules) → Some x ≡ slice_get (rules_in g a) i → o ≡ get same_name own x.name
-      → Some (unwrap_or o x) ≡ slice_get (rules_in d.airport d.journal) i
-  over_runway is i x o at mine =
-      sym (slice_get-map (rules_of g e) (rows_by_name g.runways) i ∙ by (slice_get (rows_by_name g.runways) i) refl (sym (slice_get-map (rules_of g a) (rows_by_name g.runways) i) ∙ sym at))
-      ∙ ap (λ (d : DayRecord). slice_get (rules_in d.airport d.journal) i) is
+  pub over_runway : {d : DayRecord} → record { airport = g; journal = e } ≡ d → (i : ℕ) (x : RunwayRules) (o : Option RunwayRules)
+      → IsRunwayAt (record { airport = g; journal = a }) i (Some x) → o ≡ get same_name own x.name → IsRunwayAt d i (Some (unwrap_or o x))
+  over_runway {d} is i x o here mine =
+      let rows = rows_by_name g.runways in
+      let at = runway_is (record { airport = g; journal = a }) i (Some x) told.sound.airport here in
+      let now = sym (slice_get-map (rules_of g e) rows i ∙ by (slice_get rows i) refl (sym (slice_get-map (rules_of g a) rows i) ∙ sym at)) in
+      (rules_in d.airport d.journal, rules_by_name d, now ∙ ap (λ (d : DayRecord). slice_get (rules_in d.airport d.journal) i) is)
     where
       by : (q : Option RunwayRow) → slice_get (rows_by_name g.runways) i ≡ q → option_map (rules_of g a) q ≡ Some x
           → option_map (rules_of g e) q ≡ Some (unwrap_or o x)
@@ -116,6 +119,18 @@ module _ {g : AirportRows} {a e : List Update} {m : Flights} {new : List (List �
           Contains-permutation (rows_by_name g.runways) g.runways row (IsPermutation-sym g.runways (rows_by_name g.runways) (rows_permutation g.runways))
           (i, slice_get_within (rows_by_name g.runways) i row h, get_or_from_slice_get (rows_by_name g.runways) i row row h) in
           ap Some (told.runways row here ∙ (λ j. unwrap_or ((ap (get same_name own) name ∙ sym mine) j) (is_x j)))
+
+  -- where the base has none there is none
+  pub over_no_runway : {d : DayRecord} → record { airport = g; journal = e } ≡ d → (i : ℕ) → IsRunwayAt (record { airport = g; journal = a }) i None → IsRunwayAt d i None
+  over_no_runway {d} is i here =
+      let rows = rows_by_name g.runways in
+      let at = runway_is (record { airport = g; journal = a }) i None told.sound.airport here in
+      let now = sym (slice_get-map (rules_of g e) rows i ∙ none (slice_get rows i) (sym (slice_get-map (rules_of g a) rows i) ∙ sym at)) in
+      (rules_in d.airport d.journal, rules_by_name d, now ∙ ap (λ (d : DayRecord). slice_get (rules_in d.airport d.journal) i) is)
+    where
+      none : (q : Option RunwayRow) → option_map (rules_of g a) q ≡ None → option_map (rules_of g e) q ≡ None
+      none None h = refl
+      none (Some row) h = cc
 
   -- The name of the flight at a place.
 

@@ -1,7 +1,7 @@
 -- Indicators that are counted one delay after another.
-use Rattle.std.specs.Prelude.{ℕ, ◌+◌, List, length, max, nat_lt, if◌then◌else◌}
+use Rattle.std.specs.Prelude.{ℕ, ◌+◌, List, length, map, max, nat_lt, if◌then◌else◌}
 use Rattle.std.specs.List.{filter_map}
-use Rattle.cdm_sequence.specs.declared.rule.Rule.TheVariants as rules
+use Rattle.cdm_sequence.specs.Words.{all_rules}
 use Rattle.cdm_sequence.specs.declared.slot.BlockedFlight.{BlockedFlight}
 use Rattle.cdm_sequence.specs.Slots.{SlotRecord}
 use Rattle.cdm_report.specs.declared.counts.Counts.{Counts}
@@ -19,13 +19,7 @@ only_blocked blocked = record {
   greatest = 0;
   late = 0;
   blocked = length blocked;
-  tobt = blocked_by rules.Tobt blocked;
-  runway = blocked_by rules.Runway blocked;
-  exot = blocked_by rules.Exot blocked;
-  horizon = blocked_by rules.Horizon blocked;
-  ctot = blocked_by rules.Ctot blocked;
-  closure = blocked_by rules.Closure blocked;
-  rate = blocked_by rules.Rate blocked;
+  by_rule = map (λ rule. (rule, blocked_by rule blocked)) all_rules;
 }
 
 -- a delay counted in

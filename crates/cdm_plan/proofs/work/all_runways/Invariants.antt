@@ -1,5 +1,5 @@
 use Rattle.std.proofs.Common.{◌≡◌, take, map}
-use Rattle.cdm_plan.proofs.PlanWords.{rules_in}
+use Rattle.cdm_plan.proofs.NameLemmas.{rules_in}
 use Rattle.cdm_plan.proofs.work.all_runways.Given as goal
 
 -- those so far

@@ -1,8 +1,8 @@
 use Rattle.std.proofs.Common.{◌≡◌, ◌++◌, take}
-use Rattle.std.specs.Prelude.{flat_map}
+use Rattle.std.specs.Prelude.{flat_map, zip}
 use Rattle.std.specs.String.{string_bytes}
 use Rattle.cdm_report.specs.Delta.{rule_change}
 use Rattle.cdm_report.proofs.delta.push_rule_changes.Given as goal
 
-abbrev pub invariant-loop-rule : goal.invariant-loop-rule
-invariant-loop-rule l = string_bytes l.text ≡ string_bytes l.initial.text ++ flat_map (rule_change l.base l.scenario) (take l.rule-index l.rules)
+abbrev pub invariant-loop-place : goal.invariant-loop-place
+invariant-loop-place l = string_bytes l.text ≡ string_bytes l.initial.text ++ flat_map rule_change (take l.place (zip l.base l.scenario))

@@ -1,0 +1,6 @@
+use Rattle.std.proofs.Common.{rules}
+use Rattle.cdm_plan.proofs.ListWords.{answers_always}
+use Rattle.cdm_day.proofs.tables.runways.plain_runways.Goals as goal
+
+pub returns-clause-sorted : goal.returns-clause-sorted
+returns-clause-sorted c = c.sort_unstable_by_key.ensures.sorted (λ runway. runway.name) (answers_always _ _ _ (λ f a r q k. search rules))
