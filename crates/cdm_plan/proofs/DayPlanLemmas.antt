@@ -1,10 +1,10 @@
 -- The plan of what records tell is that of their day.
 use Rattle.std.proofs.Common.{◌≡◌, ℕ, ◌+◌, ◌≤◌, ◌++◌, take, List, [], length, IfSome, Option, None, Some, refl, sym, ◌∙◌, ap, subst, map, filter, arith}
 use Rattle.cdm_plan.proofs.ListWords.{is_some, slice_get, option_and_then, AllZip, filter_map, cons_option, IsDistinct, IsPermutation}
-use Rattle.cdm_plan.proofs.ListWords.{filter_map-append, IsPermutation-map, IsPermutation-refl, IsPermutation-sym, IsPermutation-trans, map_fixed}
+use Rattle.cdm_plan.proofs.ListWords.{filter_map-append, IsPermutation-refl, IsPermutation-sym, IsPermutation-trans, map_fixed}
 use Rattle.cdm_plan.proofs.ListWords.{distinct_filter, length-map}
 use Rattle.cdm_plan.proofs.PlanWords.{same_name, Record, Update, AirportRows, flight_of, values_of, taxi_of, status_of-record, RunwayRules}
-use Rattle.cdm_plan.proofs.PlanWords.{IsSequence, PlanRecord, RunwayPlanRecord, TargetRecord, IsAirport, runway_names, DayRecord}
+use Rattle.cdm_plan.proofs.PlanWords.{IsSequence, PlanRecord, RunwayPlanRecord, TargetRecord, IsAirport, DayRecord}
 use Rattle.cdm_plan.proofs.PlanWords.{flights_in, IsDayPlan, day_rules, records_in, HasParts}
 use Rattle.cdm_plan.proofs.PlanWords.{planned_of, targets_on, IsPlanOn, fixed_in, IsSound}
 use Rattle.cdm_plan.proofs.PlanningLemmas.{aim_list, aims_are, aims_mean, blocked_early, early-aims, few_names, targets-aims, targets_of}

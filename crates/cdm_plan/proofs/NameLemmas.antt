@@ -1,10 +1,10 @@
 -- The runways by name.
 use Rattle.std.proofs.Common.{◌≡◌, ℕ, ◌+◌, ◌≤◌, Bool, true, false, cond, List, [], ◌∷◌, ◌++◌, length, take, drop, map, Option, None, Some, refl, sym, ap}
 use Rattle.std.proofs.Common.{◌∙◌, subst, true≢false, zero, suc, add-one, ◌<◌, get_or, arith}
-use Rattle.cdm_plan.proofs.ListWords.{is_some, slice_get, if◌then◌else◌, option_map, is_lt, AllByRecursion, Contains, cons_option, find}
+use Rattle.cdm_plan.proofs.ListWords.{is_some, slice_get, if◌then◌else◌, option_map, is_lt, Contains, cons_option, find}
 use Rattle.cdm_plan.proofs.ListWords.{IsDistinct, IsPermutation, same_text, false_from_ne_true, length-map}
-use Rattle.cdm_plan.proofs.ListWords.{take_all, All-contains}
-use Rattle.cdm_plan.proofs.ListWords.{All-from_recursion, recursion_from_All, list_any_at, All-permutation, Contains-permutation, IsPermutation-refl}
+use Rattle.cdm_plan.proofs.ListWords.{take_all}
+use Rattle.cdm_plan.proofs.ListWords.{list_any_at, Contains-permutation, IsPermutation-refl}
 use Rattle.cdm_plan.proofs.ListWords.{IsPermutation-sym, IsPermutation-trans, IsPermutation-append_right, IsPermutation-map}
 use Rattle.cdm_plan.proofs.ListWords.{IsPermutation-middle, IsSortedBy, length_permutation, nat_list_cmp_total, ranks_by}
 use Rattle.std.proofs.lemmas.List.{get_or-map}
@@ -197,14 +197,6 @@ in_order d rs airport is =
 
 pub runway_is : (d : DayRecord) (place : ℕ) (o : Option RunwayRules) → IsAirport d.airport → IsRunwayAt d place o → o ≡ slice_get (rules_in d.airport d.journal) place
 runway_is d place o airport (rs, is, at) = at ∙ ap (λ l. slice_get l place) (in_order d rs airport is)
-
--- what holds of all holds of each
-pub all_at : {X : Type 0} (P : X → Type 0) (xs : List X) → AllByRecursion P xs → (y : X) → Contains xs y → P y
-all_at P xs all y = All-contains P xs y (All-from_recursion P xs all)
-
--- what holds of all rows holds of them in another order
-pub all_by_permutation : {X : Type 0} (P : X → Type 0) (xs ys : List X) → IsPermutation xs ys → AllByRecursion P xs → AllByRecursion P ys
-all_by_permutation P xs ys same all = recursion_from_All P ys (All-permutation P xs ys same (All-from_recursion P xs all))
 
 -- Lists from place to place.
 

@@ -1,14 +1,14 @@
 -- A day has one plan.
 use Rattle.std.proofs.Common.{◌≡◌, ℕ, true, List, [], ◌∷◌, ◌++◌, refl, sym, ◌∙◌, ap, subst, inl, inr, map, arith}
-use Rattle.cdm_plan.proofs.ListWords.{is_lt, All, AllZip, Contains, IsDistinct, flat_map, list_any, IsPermutation, IsSortedBy}
-use Rattle.cdm_plan.proofs.ListWords.{map-append, nat_list_cmp_total, All-contains, All-permutation}
+use Rattle.cdm_plan.proofs.ListWords.{All, AllZip, Contains, IsDistinct, flat_map, list_any, IsPermutation}
+use Rattle.cdm_plan.proofs.ListWords.{map-append, All-contains, All-permutation}
 use Rattle.cdm_plan.proofs.ListWords.{IsPermutation-append_comm, IsPermutation-map, IsPermutation-refl, IsPermutation-trans}
 use Rattle.cdm_plan.proofs.ListWords.{IsPermutation-append_left, IsPermutation-append_right, append_assoc}
 use Rattle.cdm_plan.proofs.ListWords.{IsDistinct-IsPermutation, contains_head, contains_tail, contains_cases, distinct_filter, distinct_right}
-use Rattle.cdm_plan.proofs.ListWords.{list_any-find, list_any-map, one_of_key}
-use Rattle.cdm_plan.proofs.PlanWords.{DayValues, name_cmp, same_name, Record, RunwayRules, TaxiTimes, SlotRecord, IsSequence, IsSequenceBy}
+use Rattle.cdm_plan.proofs.ListWords.{list_any-find, list_any-map}
+use Rattle.cdm_plan.proofs.PlanWords.{DayValues, same_name, Record, RunwayRules, TaxiTimes, SlotRecord, IsSequence, IsSequenceBy}
 use Rattle.cdm_plan.proofs.PlanWords.{PlanRecord, RunwayPlanRecord, TargetRecord, AimResult, BlockedFlight, Placing, IsEarlier}
-use Rattle.cdm_plan.proofs.PlanWords.{is_same, same_flips, tied_names}
+use Rattle.cdm_plan.proofs.PlanWords.{same_flips}
 use Rattle.cdm_plan.proofs.PlanWords.{runway_names, DayRecord, flights_in, IsDayAllowed, IsDayPlan, IsDayPlanBy, day_rules, records_in, has_runway}
 use Rattle.cdm_plan.proofs.PlanWords.{values_of, taxi_of, RunwayRow, AreAims, HasParts, IsPlanOf, early_in, fixed_on, planned_of, targets_in}
 use Rattle.cdm_plan.proofs.PlanWords.{targets_on}

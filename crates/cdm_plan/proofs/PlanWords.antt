@@ -33,8 +33,7 @@ pub use Rattle.cdm_sequence.specs.Aims.{IsAim, TaxiTimes}
 pub use Rattle.cdm_sequence.specs.Fixed.{slot_by, takeoffs}
 unfoldable pub use Rattle.cdm_sequence.specs.Fixed.{fixed_slot}
 pub use Rattle.cdm_sequence.specs.Plan.{IsAllowed, IsEarlier, Placing}
-pub use Rattle.cdm_sequence.specs.Sequence.{IsSequence, IsSequenceBy, flight_names, planned_slot}
-pub use Rattle.cdm_sequence.specs.inner.Shown.{names_left}
+pub use Rattle.cdm_sequence.specs.Sequence.{IsSequence, IsSequenceBy, flight_names}
 pub use Rattle.cdm_sequence.specs.Slots.{PlanRecord, RunwayPlanRecord, SlotRecord}
 pub use Rattle.cdm_sequence.specs.Targets.{TargetRecord}
 pub use Rattle.cdm_sequence.specs.declared.aims.AimResult.{AimResult}
