@@ -5,7 +5,7 @@ use Rattle.cdm_runway.specs.declared.load.Blocked.TheVariants as blocked
 use Rattle.cdm_sequence.specs.declared.rule.Rule.{Rule}
 use Rattle.cdm_sequence.specs.declared.rule.Rule.TheVariants.{Tobt, Runway, Exot, Horizon, Ctot, Closure, Rate}
 
--- the rules in their order
+-- the rules in the order in which they are tested
 abbrev pub all_rules : List Rule
 all_rules = Tobt ∷ Runway ∷ Exot ∷ Horizon ∷ Ctot ∷ Closure ∷ Rate ∷ []
 

@@ -1,6 +1,6 @@
 //! Why a flight gets no minute.
 ghost use Rattle.std.specs.Prelude.{◌≡◌, Some};
-ghost use Rattle.cdm_sequence.specs.Words.{all_rules, rule_text, rule_for};
+ghost use Rattle.cdm_sequence.specs.Words.{rule_text, rule_for};
 
 use cdm_runway::Blocked;
 use std::fmt;
@@ -26,21 +26,6 @@ pub enum Rule {
 }
 
 impl Rule {
-    /// The rules in their order.
-    pub fn all() -> [Rule; 7]
-        ensures { result ≡ all_rules }
-    {
-        [
-            Rule::Tobt,
-            Rule::Runway,
-            Rule::Exot,
-            Rule::Horizon,
-            Rule::Ctot,
-            Rule::Closure,
-            Rule::Rate,
-        ]
-    }
-
     /// The rule as the report prints it.
     pub fn text(self) -> &'static str
         ensures { result.now ≡ rule_text self }
