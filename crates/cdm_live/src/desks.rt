@@ -92,7 +92,7 @@ fn work_both<R: Threads + Wait + Sync, G: Gate>(
     Ok((one?, other?))
 }
 
-// Opens a board on a day for two desks, for which there may only be no memory.
+// Opens a board on a day for two desks. It fails for want of memory alone.
 fn open_board(alloc: Global, day: DayState) -> Result<(Board, Vec<Desk>), AllocError>
     ensures { IfOk result (λ r. (r.0 ≡ opened_of day 2) × (r.1.items ≡ fresh_desks 2)) }
 {

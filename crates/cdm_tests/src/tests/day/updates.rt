@@ -25,8 +25,9 @@ fn update_of(short: Short) -> Option<(Role, Update)> {
     })
 }
 
-/// The batch of the updates.
+/// The batch of the updates, if each of them is one.
 pub fn batch_of(alloc: Global, updates: &[Short]) -> Option<Vec<(Role, Update)>> {
     let batch = updates.iter().copied().filter_map(update_of);
-    batch.collect(alloc).ok()
+    let batch: Vec<(Role, Update)> = batch.collect(alloc).ok()?;
+    (batch.len() == updates.len()).then_some(batch)
 }
