@@ -6,7 +6,7 @@ use Rattle.cdm_flight.specs.contracts.update.UpdatePartialEq.TheImpl as update_e
 use Rattle.cdm_flight.specs.contracts.role.RolePartialEq.TheImpl as role_eq
 use Rattle.cdm_flight.specs.declared.role.Role.{Role}
 use Rattle.cdm_flight.specs.declared.update.Update.{Update}
-use Rattle.cdm_flight.specs.declared.update.Update.TheVariants.{Flt, Tobt, Stand, Rwy, Ctot, Ice, Prio, Off, Air, Cnl, Rate, Close, Reopen, Taxi, Clock}
+use Rattle.cdm_flight.specs.declared.update.Update.TheVariants.{Flt, Tobt, Stand, Rwy, Ctot, Ice, Prio, Group, Off, Air, Cnl, Rate, Close, Reopen, Taxi, Clock}
 
 apart : {P : Type 0} → (P → ⊥) → Decides false P
 apart never = ((λ (untrue : false ≡ true). cc), λ p. absurd (never p))
@@ -19,6 +19,7 @@ update_eq-Decides (Rwy f r) (Rwy g s) = search rules
 update_eq-Decides (Ctot f c) (Ctot g d) = search rules
 update_eq-Decides (Ice f i) (Ice g j) = search rules
 update_eq-Decides (Prio f p) (Prio g q) = search rules
+update_eq-Decides (Group f w) (Group g v) = search rules
 update_eq-Decides (Off f m) (Off g n) = search rules
 update_eq-Decides (Air f m) (Air g n) = search rules
 update_eq-Decides (Cnl f) (Cnl g) = search rules

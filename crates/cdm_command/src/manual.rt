@@ -51,6 +51,10 @@ WHAT IT DOES
       the minutes of de-icing on the stand, or now if that is later,
     - lies in the tolerance of its CTOT, if it has one,
     - isn't closed on its runway,
+    - keeps the spacing: from its take-off on a flight occupies its runway for
+      as many minutes as the airport file gives its group there, and no planned
+      flight may share one of them with a flight off-block, a flight airborne or
+      one that got its minute before,
     - lies in a cell of its runway that has room beside the flights off-block,
       the flights airborne and those that got their minute before. A cell is a
       stretch of so many minutes; its cap says how many flights may take off in
@@ -73,6 +77,7 @@ DAY,2025-03-10
 RUNWAY,27L,10,2
 TAXI,*,27L,15
 TAXI,A1,27L,10
+SPACE,27L,H,2
 
     DAY,day                    the first day; the first record, and once
     RUNWAY,runway,cell,cap     a runway: minutes of a cell (1, 2, 3, 4, 5, 6,
@@ -80,6 +85,9 @@ TAXI,A1,27L,10
     TAXI,stand,runway,minutes  taxi minutes (1 to 120) from a stand to a runway,
                                * for the stands without a row; of two rows for
                                one stand and runway the last counts
+    SPACE,runway,group,minutes how long a flight of a group (L, M or H) occupies
+                               a runway, 0 to 5 minutes, 0 without a row; of two
+                               rows for one runway and group the last counts
 
   FEED, and FEED1 and FEED2 of live, a record a line, in the order in which the
   updates came:
@@ -102,6 +110,7 @@ AO,CTOT,AB1,2025-03-10T06:40Z
                                    60 STAND (on the stand, before it is ready)
                                    or REMOTE (on the way, part of EXOT)
     ATC,PRIO,flight,priority       its priority, 0 to 9
+    AP,GROUP,flight,group          how heavy it is: L, M or H, at first M
     ATC,OFF,flight,time            it went off-block at this AOBT, which fixes
                                    its EXOT
     ATC,AIR,flight,time            it took off at this ATOT
@@ -163,7 +172,8 @@ THE OUTPUT
              HORIZON  it can't take off within the two days
              CTOT     no such minute lies in its tolerance
              CLOSURE  all those minutes are closed
-             RATE     those that are open are all in full cells
+             SPACING  at each of those that are open it would meet another
+             RATE     those at which it meets none are all in full cells
   TOTAL    PLACED planned flights with a minute, DELAY the sum and MAX the
            greatest of their delays, LATE how many are above 15 minutes, BLOCKED
            the blocked flights, and how many by each cause

@@ -1,23 +1,23 @@
 -- A run has one text.
-use Rattle.std.proofs.Common.{◌≡◌, ◌++◌, ◌∙◌, ℕ, ◌+◌, List, [], ◌∷◌, Option, None, Some, Result, Ok, Err, IfOk, refl, sym, subst}
-use Rattle.std.specs.Prelude.{⊤}
+use Rattle.std.proofs.Common.{◌≡◌, ◌++◌, ◌∙◌, ℕ, ◌+◌, Bool, true, false, not, List, [], ◌∷◌, Option, None, Some, Result, Ok, Err, IfOk, refl, sym, subst}
+use Rattle.std.specs.Prelude.{⊤, if◌then◌else◌}
 use Rattle.std.specs.Result.{result_map_both}
 use Rattle.std.specs.List.{AllZip, concat, IsDistinct}
 use Rattle.std.specs.Option.{ok_or}
-use Rattle.cdm_flight.specs.Accepted.{accepted}
+use Rattle.cdm_flight.specs.Accepted.{accepted, has_runway}
 use Rattle.cdm_flight.specs.Journal.{AirportRows}
 use Rattle.cdm_flight.specs.Names.{same_name}
 use Rattle.cdm_flight.specs.declared.role.Role.{Role}
 use Rattle.cdm_flight.specs.declared.update.Update.{Update}
 use Rattle.cdm_flight.specs.declared.word.RefusalWord.{RefusalWord}
-use Rattle.cdm_flight.specs.declared.word.RefusalWord.TheVariants.{Order}
-use Rattle.cdm_day.specs.Airport.{with_runway, with_taxi}
+use Rattle.cdm_flight.specs.declared.word.RefusalWord.TheVariants.{Order, Unknown}
+use Rattle.cdm_day.specs.Airport.{with_runway, with_space, with_taxi}
 use Rattle.cdm_plan.specs.Airport.{IsAirport, runway_names}
 use Rattle.cdm_plan.specs.Day.{DayRecord, flights_in}
 use Rattle.cdm_plan.proofs.OnePlanLemmas.{one_day_plan}
 use Rattle.cdm_day.proofs.BatchLemmas.{accepted-keeps}
 use Rattle.cdm_scenario.specs.inner.OneOutcome.{one_each}
-use Rattle.cdm_day.proofs.AirportLemmas.{airport_after_runway, airport_after_taxi, airport_without_rows}
+use Rattle.cdm_day.proofs.AirportLemmas.{airport_after_runway, airport_after_taxi, airport_with_space, airport_without_rows}
 use Rattle.cdm_plan.proofs.JournalFacts.{names_after}
 use Rattle.cdm_feed.specs.AirportFile.{airport_in, with_record}
 use Rattle.cdm_feed.specs.AirportRecords.{airport_record_of}
@@ -35,7 +35,7 @@ use Rattle.cdm_report.specs.Report.{report_bytes}
 use Rattle.cdm_sequence.specs.Slots.{PlanRecord}
 use Rattle.cdm_feed.specs.declared.runs.RunCounts.{RunCounts}
 use Rattle.cdm_feed.specs.declared.airport_record.AirportRecord.{AirportRecord}
-use Rattle.cdm_feed.specs.declared.airport_record.AirportRecord.TheVariants.{Day, Runway, Taxi}
+use Rattle.cdm_feed.specs.declared.airport_record.AirportRecord.TheVariants.{Day, Runway, Space, Taxi}
 
 -- Each flight becomes known once.
 
@@ -57,14 +57,21 @@ if_made : (r : Result AirportRows RefusalWord) → ((h : AirportRows) → r ≡ 
 if_made (Ok h) k = k h refl
 if_made (Err word) k = tt
 
+unless-refused : (b : Bool) (word : RefusalWord) (h : AirportRows) → IsAirport h → IfOk (if b then Err word else Ok h) IsAirport
+unless-refused true word h k = tt
+unless-refused false word h k = k
+
 record-kept : (s : Option AirportRows) (said : AirportRecord) → Keeps s → IfOk (with_record s said) Keeps
 unfolding with_record
 record-kept None (Day day) k = airport_without_rows _ refl refl
 record-kept None (Runway r cell cap) k = tt
 record-kept None (Taxi place r minutes) k = tt
+record-kept None (Space r group minutes) k = tt
 record-kept (Some g) (Day day) k = tt
 record-kept (Some g) (Runway r cell cap) k = row-kept (with_runway g r cell cap) (if_made (with_runway g r cell cap) (λ h. airport_after_runway g h r cell cap k))
 record-kept (Some g) (Taxi place r minutes) k = row-kept (with_taxi g place r minutes) (if_made (with_taxi g place r minutes) (λ h. airport_after_taxi g h place r minutes k))
+record-kept (Some g) (Space r group minutes) k =
+    row-kept (with_space g r group minutes) (unless-refused (not (has_runway g r)) Unknown _ (airport_with_space r group minutes g k))
 
 fields-kept : (s : Option AirportRows) (fields : List (List ℕ)) → Keeps s → IfOk (and_then (airport_record_of fields) (with_record s)) Keeps
 fields-kept s fields k = by (airport_record_of fields)

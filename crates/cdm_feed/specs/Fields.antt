@@ -1,6 +1,7 @@
 -- What the fields of a record spell: a value, or the word that refuses it. A field that hasn't its
 -- form is refused by TEXT, one out of its range by RANGE.
 use Rattle.std.specs.Prelude.{ℕ, Bool, ◌&&◌, ◌==◌, not, nat_le, List, [], length, codes, bytes_eq, Option, Some, None, unwrap_or, Result, Ok, Err, if◌then◌else◌}
+use Rattle.std.specs.Option.{ok_or}
 use Rattle.std.specs.Result.{result_map_both}
 use Rattle.csv.specs.Records.{field_at}
 use Rattle.cdm_time.specs.Digits.{are_digits, number_in}
@@ -9,6 +10,8 @@ use Rattle.cdm_time.specs.declared.calendar.CalendarDate.{CalendarDate}
 use Rattle.cdm_time.specs.declared.day.TimeFault.{TimeFault}
 use Rattle.cdm_time.specs.declared.day.TimeFault.TheVariants as fault
 use Rattle.cdm_flight.specs.Names.{is_name}
+use Rattle.cdm_flight.specs.Spacing.{group_of}
+use Rattle.cdm_flight.specs.declared.group.Group.{Group}
 use Rattle.cdm_flight.specs.declared.ice.Ice.{Ice}
 use Rattle.cdm_flight.specs.declared.ice.Ice.TheVariants.{NoIce, AtStand, Remote}
 use Rattle.cdm_flight.specs.declared.place.Place.{Place}
@@ -79,6 +82,10 @@ runway_field = name_field (is_name 3)
 -- a stand, or `*` for the runway's default
 unfoldable pub place_field : List ℕ → Result Place RefusalWord
 place_field text = if bytes_eq text (codes "*") then Ok place.Default else of_one place.Stand (name_field (is_name 5) text)
+
+-- a group: L, M or H
+abbrev pub group_field : List ℕ → Result Group RefusalWord
+group_field text = ok_or (group_of text) Text
 
 -- Numbers.
 

@@ -6,7 +6,7 @@ use Rattle.cdm_flight.specs.declared.update.Update.TheVariants as update
 use Rattle.cdm_flight.specs.declared.word.RefusalWord.{RefusalWord}
 use Rattle.cdm_flight.specs.declared.word.RefusalWord.TheVariants as word
 use Rattle.cdm_flight.specs.Names.{is_name}
-use Rattle.cdm_feed.specs.Fields.{bound_field, counted, ctot_field, flight_field, from_to, ice_field, name_field, number_field, of_four, of_one, of_three, of_two, place_field, runway_field, time_field}
+use Rattle.cdm_feed.specs.Fields.{bound_field, counted, ctot_field, flight_field, from_to, group_field, ice_field, name_field, number_field, of_four, of_one, of_three, of_two, place_field, runway_field, time_field}
 
 -- the update of the kind that a field names, which so many fields follow, the first four of them these
 unfoldable pub update_of : CalendarDate → List ℕ → ℕ → List ℕ → List ℕ → List ℕ → List ℕ → Result Update RefusalWord
@@ -18,6 +18,7 @@ update_of day kind n a b c d =
     else if bytes_eq kind (codes "CTOT") then counted 2 n (of_two update.Ctot (flight_field a) (ctot_field day b))
     else if bytes_eq kind (codes "ICE") then counted 3 n (of_two update.Ice (flight_field a) (ice_field b c))
     else if bytes_eq kind (codes "PRIO") then counted 2 n (of_two update.Prio (flight_field a) (number_field (from_to 0 9) b))
+    else if bytes_eq kind (codes "GROUP") then counted 2 n (of_two update.Group (flight_field a) (group_field b))
     else if bytes_eq kind (codes "OFF") then counted 2 n (of_two update.Off (flight_field a) (time_field day b))
     else if bytes_eq kind (codes "AIR") then counted 2 n (of_two update.Air (flight_field a) (time_field day b))
     else if bytes_eq kind (codes "CNL") then counted 1 n (of_one update.Cnl (flight_field a))

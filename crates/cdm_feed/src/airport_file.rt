@@ -35,7 +35,9 @@ fn add(alloc: Global, airport: Option<Airport>, said: AirportRecord) -> Result<A
 {
     match (airport, said) {
         (None, AirportRecord::Day(day)) => Ok(Airport::new(alloc, day)),
-        (None, AirportRecord::Taxi { .. }) => Err(RecordFault::Refused(RefusalWord::Unknown)),
+        (None, AirportRecord::Taxi { .. } | AirportRecord::Space { .. }) => {
+            Err(RecordFault::Refused(RefusalWord::Unknown))
+        }
         (None, AirportRecord::Runway { .. }) | (Some(_), AirportRecord::Day(_)) => {
             Err(RecordFault::Refused(RefusalWord::Order))
         }
@@ -53,6 +55,17 @@ fn add(alloc: Global, airport: Option<Airport>, said: AirportRecord) -> Result<A
                 minutes,
             },
         ) => match airport.add_taxi(place, runway, minutes) {
+            Ok(()) => Ok(airport),
+            Err(fault) => Err(row_fault(fault)),
+        },
+        (
+            Some(mut airport),
+            AirportRecord::Space {
+                runway,
+                group,
+                occupancy,
+            },
+        ) => match airport.add_space(runway, group, occupancy) {
             Ok(()) => Ok(airport),
             Err(fault) => Err(row_fault(fault)),
         },
@@ -74,8 +87,8 @@ fn add_record(
     }
 }
 
-/// The airport that a file says: its day, its runways and its taxi times. Records are numbered from 1,
-/// and a blank line is none.
+/// The airport that a file says: its day, its runways with their occupancies, and its taxi times. Records
+/// are numbered from 1, and a blank line is none.
 ///
 /// `Refused` with the number and the word of the first faulty record, the first that holds of Fields,
 /// Kind, Text, Range, Unknown, Exists, Order and Full; a file without records is refused with record 1

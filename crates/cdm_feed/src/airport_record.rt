@@ -3,9 +3,10 @@ ghost use Rattle.std.specs.Prelude.{◌≡◌, ◌==◌, Ok, Err};
 ghost use Rattle.csv.specs.Records.{fields_of};
 
 use crate::field::{
-    all_three, cap_field, cell_field, day_field, field, name_field, place_field, taxi_field,
+    all_three, cap_field, cell_field, day_field, field, group_field, name_field, occupancy_field,
+    place_field, taxi_field,
 };
-use cdm_flight::{Cap, CellLength, Place, RefusalWord, RunwayName, TaxiMinutes};
+use cdm_flight::{Cap, CellLength, Group, Occupancy, Place, RefusalWord, RunwayName, TaxiMinutes};
 use cdm_time::Day;
 use csv::ByteRecord;
 
@@ -25,6 +26,12 @@ pub(crate) enum AirportRecord {
         place: Place,
         runway: RunwayName,
         minutes: TaxiMinutes,
+    },
+    /// SPACE: for how long a departure of a group occupies a runway.
+    Space {
+        runway: RunwayName,
+        group: Group,
+        occupancy: Occupancy,
     },
 }
 
@@ -66,6 +73,20 @@ pub(crate) fn airport_record(row: &ByteRecord) -> Result<AirportRecord, RefusalW
             place,
             runway,
             minutes,
+        })
+    } else if kind == b"SPACE".as_slice() {
+        if row.len() != 4 {
+            return Err(RefusalWord::Fields);
+        }
+        let (runway, group, occupancy) = all_three(
+            name_field(first),
+            group_field(second),
+            occupancy_field(third),
+        )?;
+        Ok(AirportRecord::Space {
+            runway,
+            group,
+            occupancy,
         })
     } else {
         Err(RefusalWord::Kind)

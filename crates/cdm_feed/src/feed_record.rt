@@ -5,8 +5,8 @@ ghost use Rattle.cdm_feed.specs.Kinds.{update_of};
 ghost use Rattle.cdm_feed.specs.Parsing.{parse_of};
 
 use crate::field::{
-    all_four, all_three, both, bound_field, cap_field, counted, ctot_field, field, ice_field,
-    name_field, place_field, priority_field, taxi_field, time_field,
+    all_four, all_three, both, bound_field, cap_field, counted, ctot_field, field, group_field,
+    ice_field, name_field, place_field, priority_field, taxi_field, time_field,
 };
 use crate::role::role_of;
 use cdm_flight::{RefusalWord, Role, Update};
@@ -61,6 +61,8 @@ pub(crate) fn update_of(
         update!(count == 3, Ice, flight: name_field(first), ice: ice_field(second, third))
     } else if kind == b"PRIO".as_slice() {
         update!(count == 2, Prio, flight: name_field(first), priority: priority_field(second))
+    } else if kind == b"GROUP".as_slice() {
+        update!(count == 2, Group, flight: name_field(first), group: group_field(second))
     } else if kind == b"OFF".as_slice() {
         update!(count == 2, Off, flight: name_field(first), aobt: time_field(day, second))
     } else if kind == b"AIR".as_slice() {

@@ -7,10 +7,11 @@ ghost use Rattle.cdm_time.specs.Times.{day_of};
 ghost use Rattle.cdm_flight.specs.Cells.{is_cell_length};
 ghost use Rattle.cdm_flight.specs.Names.{is_name};
 ghost use Rattle.cdm_flight.specs.declared.word.RefusalWord.TheVariants as word;
-ghost use Rattle.cdm_feed.specs.Fields.{all_four, all_three, both, bound_field, counted, ctot_field, field, from_to, ice_field, name_field, number_field, place_field, refused_by_word, time_field, word_of};
+ghost use Rattle.cdm_feed.specs.Fields.{all_four, all_three, both, bound_field, counted, ctot_field, field, from_to, group_field, ice_field, name_field, number_field, place_field, refused_by_word, time_field, word_of};
 
 use cdm_flight::{
-    Cap, CellLength, Ice, IceMinutes, Name, Place, Priority, RefusalWord, TaxiMinutes,
+    Cap, CellLength, Group, Ice, IceMinutes, Name, Occupancy, Place, Priority, RefusalWord,
+    TaxiMinutes,
 };
 use cdm_time::{Bound, Day, Minute, TimeFault, number_of};
 use csv::ByteRecord;
@@ -42,6 +43,13 @@ pub(crate) fn place_field(text: &[u8]) -> Result<Place, RefusalWord>
     Ok(Place::Stand(name_field(text)?))
 }
 
+/// A group: L, M or H.
+pub(crate) fn group_field(text: &[u8]) -> Result<Group, RefusalWord>
+    ensures { result ≡ group_field text.now }
+{
+    Group::new(text).ok_or(RefusalWord::Text)
+}
+
 // A number of 1 to 4 digits, with leading zeros or without.
 fn number_field(text: &[u8]) -> Result<u16, RefusalWord>
     ensures { result ≡ (if not (from_to 1 4 (length text.now) && are_digits text.now) then Err word.Text else Ok (number_in text.now)) }
@@ -66,6 +74,14 @@ pub(crate) fn cap_field(text: &[u8]) -> Result<Cap, RefusalWord>
     ensures { result ≡ number_field (from_to 0 60) text.now }
 {
     Cap::new(number_field(text)?).ok_or(RefusalWord::Range)
+}
+
+/// For how long a departure occupies a runway, 0 to 5 minutes.
+#[tactic(auto, unfolding(crate::specs::Fields::number_field))]
+pub(crate) fn occupancy_field(text: &[u8]) -> Result<Occupancy, RefusalWord>
+    ensures { result ≡ number_field (from_to 0 5) text.now }
+{
+    Occupancy::new(number_field(text)?).ok_or(RefusalWord::Range)
 }
 
 /// The length of a runway's cells, a divisor of the hour.

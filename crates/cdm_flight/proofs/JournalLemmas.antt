@@ -11,6 +11,7 @@ use Rattle.std.proofs.lemmas.List.Sums.{take_while-cons}
 use Rattle.cdm_flight.proofs.Lists.{option_or-none, option_or-assoc, list_any-push, take_while-all, take_while-append}
 use Rattle.cdm_flight.specs.declared.flight.Status.{Status}
 use Rattle.cdm_flight.specs.declared.flight.Status.TheVariants.{Planned, OffBlock, Airborne, Cancelled}
+use Rattle.cdm_flight.specs.declared.group.Group.TheVariants.{Medium}
 use Rattle.cdm_flight.specs.declared.ice.Ice.TheVariants.{NoIce}
 use Rattle.cdm_flight.specs.declared.place.Place.{Place}
 use Rattle.cdm_flight.specs.declared.reach.Reach.{Reach}
@@ -21,7 +22,7 @@ use Rattle.cdm_flight.specs.Names.{same_name}
 use Rattle.cdm_flight.specs.Reach.{reach_of, same_reach, touching}
 use Rattle.cdm_flight.specs.Record.{Record, fresh}
 use Rattle.cdm_flight.specs.Step.{airborne_at, is_fresh, off_block_from, stepped, step_refusal}
-use Rattle.cdm_flight.specs.Journal.{AirportRows, last_value, tobt_given, stand_given, runway_given, ctot_given, ice_given, priority_given}
+use Rattle.cdm_flight.specs.Journal.{AirportRows, last_value, tobt_given, stand_given, runway_given, ctot_given, ice_given, group_given, priority_given}
 use Rattle.cdm_flight.specs.Journal.{aobt_given, atot_given, is_cancel, taxi_given, clock_given, taxi_of, of_flight, aobt_of, atot_of, is_known}
 use Rattle.cdm_flight.specs.Journal.{is_cancelled, exot_now}
 use Rattle.cdm_flight.specs.Journal.{before_off, status_from, status_of, record_with, exot_of, flight_of, values_of}
@@ -178,6 +179,7 @@ fields f own u s t exot old = λ i. record {
   runway = last_value-push runway_given own u i;
   ctot = unwrap_or (last_value-push ctot_given own u i) None;
   ice = unwrap_or (last_value-push ice_given own u i) NoIce;
+  group = unwrap_or (last_value-push group_given own u i) Medium;
   status = t;
 }
 

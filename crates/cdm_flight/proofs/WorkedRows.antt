@@ -13,6 +13,7 @@ use Rattle.cdm_flight.specs.declared.word.RefusalWord.TheVariants as word
 use Rattle.cdm_flight.specs.Journal.{AirportRows, cap_of, closed_of, exot_of, flight_of, values_of}
 use Rattle.cdm_flight.specs.Accepted.{refusal, refusal_of, replies_to}
 use Rattle.cdm_flight.specs.Order.{is_before}
+use Rattle.cdm_flight.specs.Spacing.{no_spacing}
 
 abbrev r27 : List ℕ
 r27 = codes "27L"
@@ -25,7 +26,7 @@ cd2 = codes "CD2"
 
 -- an airport of one runway
 abbrev IsBase : AirportRows → Type 0
-IsBase g = (g.runways ≡ record { name = r27; cell = 10; cap = 2 } ∷ []) × (map.get g.taxi (place.Default, r27) ≡ Some 15)
+IsBase g = (g.runways ≡ record { name = r27; cell = 10; cap = 2; spacing = no_spacing } ∷ []) × (map.get g.taxi (place.Default, r27) ≡ Some 15)
 
 -- a flight planned for a TOBT
 abbrev planned : List ℕ → ℕ → List (Role × Update)

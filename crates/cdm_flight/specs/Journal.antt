@@ -6,6 +6,8 @@ use Rattle.std.specs.FinMap as map
 use Rattle.cdm_time.specs.Windows.{has_minute}
 use Rattle.cdm_time.specs.declared.calendar.CalendarDate.{CalendarDate}
 use Rattle.cdm_flight.specs.declared.airport.RunwayRow.{RunwayRow}
+use Rattle.cdm_flight.specs.declared.group.Group.{Group}
+use Rattle.cdm_flight.specs.declared.group.Group.TheVariants.{Medium}
 use Rattle.cdm_flight.specs.declared.ice.Ice.{Ice}
 use Rattle.cdm_flight.specs.declared.ice.Ice.TheVariants.{NoIce}
 use Rattle.cdm_flight.specs.declared.place.Place.{Place}
@@ -13,7 +15,7 @@ use Rattle.cdm_flight.specs.declared.flight.Status.{Status}
 use Rattle.cdm_flight.specs.declared.flight.Status.TheVariants.{Planned, OffBlock, Airborne, Cancelled}
 use Rattle.cdm_flight.specs.declared.reach.Reach.TheVariants as reach
 use Rattle.cdm_flight.specs.declared.update.Update.{Update}
-use Rattle.cdm_flight.specs.declared.update.Update.TheVariants.{Flt, Tobt, Stand, Rwy, Ctot, Ice as IceOf, Prio, Off, Air, Cnl, Rate, Close, Reopen, Taxi, Clock}
+use Rattle.cdm_flight.specs.declared.update.Update.TheVariants.{Flt, Tobt, Stand, Rwy, Ctot, Ice as IceOf, Prio, Group as GroupOf, Off, Air, Cnl, Rate, Close, Reopen, Taxi, Clock}
 use Rattle.cdm_flight.specs.declared.values.DayValues.{DayValues}
 use Rattle.cdm_flight.specs.Names.{same_name}
 use Rattle.cdm_flight.specs.Record.{Record}
@@ -67,6 +69,10 @@ abbrev pub priority_given : Update → Option ℕ
 priority_given (Flt f p) = Some p
 priority_given (Prio f p) = Some p
 priority_given _ = None
+
+abbrev pub group_given : Update → Option Group
+group_given (GroupOf f w) = Some w
+group_given _ = None
 
 abbrev pub aobt_given : Update → Option ℕ
 aobt_given (Off f m) = Some m
@@ -192,6 +198,7 @@ record_with f own status = record {
   runway = last_value runway_given own;
   ctot = unwrap_or (last_value ctot_given own) None;
   ice = unwrap_or (last_value ice_given own) NoIce;
+  group = unwrap_or (last_value group_given own) Medium;
   status = status;
 }
 

@@ -1,6 +1,7 @@
 pub mod Names
 pub mod Cells
 pub mod Words
+pub mod Spacing
 pub mod Authority
 pub mod Record
 pub mod Order

@@ -3,7 +3,7 @@ use Rattle.std.specs.Prelude.{ℕ, Bool, true, false, List, filter, Option, None
 use Rattle.cdm_flight.specs.declared.reach.Reach.{Reach}
 use Rattle.cdm_flight.specs.declared.reach.Reach.TheVariants.{Flight, Runway, Taxi as TaxiTo, Day}
 use Rattle.cdm_flight.specs.declared.update.Update.{Update}
-use Rattle.cdm_flight.specs.declared.update.Update.TheVariants.{Flt, Tobt, Stand, Rwy, Ctot, Ice, Prio, Off, Air, Cnl, Rate, Close, Reopen, Taxi, Clock}
+use Rattle.cdm_flight.specs.declared.update.Update.TheVariants.{Flt, Tobt, Stand, Rwy, Ctot, Ice, Prio, Group, Off, Air, Cnl, Rate, Close, Reopen, Taxi, Clock}
 use Rattle.cdm_flight.specs.Names.{same_name}
 
 -- what an update touches: a flight, a runway, the taxi times to a runway, or the day
@@ -15,6 +15,7 @@ reach_of (Rwy f r) = Flight f
 reach_of (Ctot f c) = Flight f
 reach_of (Ice f i) = Flight f
 reach_of (Prio f p) = Flight f
+reach_of (Group f w) = Flight f
 reach_of (Off f m) = Flight f
 reach_of (Air f m) = Flight f
 reach_of (Cnl f) = Flight f

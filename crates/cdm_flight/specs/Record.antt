@@ -1,6 +1,8 @@
 -- What a contract sees of a flight.
 use Rattle.std.specs.Prelude.{ℕ, ◌+◌, Bool, true, false, ◌&&◌, nat_le, List, Option, None, is_some}
 use Rattle.std.specs.Option.{option_map}
+use Rattle.cdm_flight.specs.declared.group.Group.{Group}
+use Rattle.cdm_flight.specs.declared.group.Group.TheVariants.{Medium}
 use Rattle.cdm_flight.specs.declared.ice.Ice.{Ice}
 use Rattle.cdm_flight.specs.declared.ice.Ice.TheVariants.{NoIce}
 use Rattle.cdm_flight.specs.declared.flight.Status.{Status}
@@ -16,6 +18,7 @@ pub record Record : Type 0 where
   pub runway : Option (List ℕ)
   pub ctot : Option ℕ
   pub ice : Ice
+  pub group : Group
   pub status : Status
 
 -- off-block or airborne it has a runway, it takes off within the horizon, and not before it left
@@ -35,6 +38,7 @@ fresh name priority = record {
   runway = None;
   ctot = None;
   ice = NoIce;
+  group = Medium;
   status = Planned;
 }
 

@@ -3,7 +3,7 @@ use Rattle.std.specs.Prelude.{ℕ, ◌+◌, Bool, true, false, nat_lt, if◌then
 use Rattle.cdm_flight.specs.declared.flight.Status.{Status}
 use Rattle.cdm_flight.specs.declared.flight.Status.TheVariants.{Planned, OffBlock, Airborne, Cancelled}
 use Rattle.cdm_flight.specs.declared.update.Update.{Update}
-use Rattle.cdm_flight.specs.declared.update.Update.TheVariants.{Flt, Tobt, Stand, Rwy, Ctot, Ice, Prio, Off, Air, Cnl}
+use Rattle.cdm_flight.specs.declared.update.Update.TheVariants.{Flt, Tobt, Stand, Rwy, Ctot, Ice, Prio, Group, Off, Air, Cnl}
 use Rattle.cdm_flight.specs.declared.word.RefusalWord.{RefusalWord}
 use Rattle.cdm_flight.specs.declared.word.RefusalWord.TheVariants.{Ended, OffBlock as OffBlockWord, Order, NotReady}
 use Rattle.cdm_flight.specs.Record.{Record}
@@ -42,6 +42,7 @@ stepped r (Rwy f runway) exot = record r { runway = Some runway }
 stepped r (Ctot f c) exot = record r { ctot = c }
 stepped r (Ice f i) exot = record r { ice = i }
 stepped r (Prio f p) exot = record r { priority = p }
+stepped r (Group f w) exot = record r { group = w }
 stepped r (Off f aobt) exot = record r { status = off_block_from aobt exot }
 stepped r (Air f atot) exot = record r { status = airborne_at r.status atot }
 stepped r (Cnl f) exot = record r { status = Cancelled }

@@ -6,7 +6,7 @@ ghost use Rattle.cdm_flight.specs.Reach.{reach_of};
 ghost use Rattle.cdm_flight.specs.Step.{step_of, is_fresh};
 ghost use Rattle.cdm_flight.specs.Record.{fresh, key_of};
 
-use crate::{FlightName, Ice, Key, Priority, RefusalWord, RunwayName, StandName, Update};
+use crate::{FlightName, Group, Ice, Key, Priority, RefusalWord, RunwayName, StandName, Update};
 use cdm_time::Minute;
 use std::marker::Model;
 
@@ -34,6 +34,7 @@ pub struct Flight {
     pub runway: Option<RunwayName>,
     pub ctot: Option<Minute>,
     pub ice: Ice,
+    pub group: Group,
     pub status: Status,
 }
 
@@ -51,6 +52,7 @@ impl Model for Flight {
       runway = f.runway;
       ctot = f.ctot;
       ice = f.ice;
+      group = f.group;
       status = f.status;
     } };
 
@@ -64,6 +66,7 @@ impl Model for Flight {
       runway = f.runway;
       ctot = f.ctot;
       ice = f.ice;
+      group = f.group;
       status = f.status;
     } };
 }
@@ -81,6 +84,7 @@ impl Flight {
             runway: None,
             ctot: None,
             ice: Ice::NoIce,
+            group: Group::Medium,
             status: Status::Planned,
         }
     }
@@ -132,6 +136,7 @@ impl Flight {
             Update::Ctot { ctot, .. } => next.ctot = ctot,
             Update::Ice { ice, .. } => next.ice = ice,
             Update::Prio { priority, .. } => next.priority = priority,
+            Update::Group { group, .. } => next.group = group,
             Update::Off { aobt, .. } => {
                 let (Some(_), Some(exot)) = (self.runway, exot) else {
                     return Err(RefusalWord::NotReady);

@@ -3,6 +3,7 @@
 
 mod airport;
 mod flight;
+mod group;
 mod ice;
 mod key;
 mod list;
@@ -10,6 +11,7 @@ mod name;
 mod place;
 mod reach;
 mod role;
+mod spacing;
 mod units;
 mod update;
 mod values;
@@ -17,6 +19,7 @@ mod word;
 
 pub use airport::RunwayRow;
 pub use flight::{Flight, Status};
+pub use group::Group;
 pub use ice::Ice;
 pub use key::{Key, before};
 pub use list::{Listed, push_last, push_reserved};
@@ -24,7 +27,8 @@ pub use name::Name;
 pub use place::Place;
 pub use reach::Reach;
 pub use role::{Role, allows};
-pub use units::{Cap, CellLength, IceMinutes, Priority, TaxiMinutes};
+pub use spacing::Spacing;
+pub use units::{Cap, CellLength, IceMinutes, Occupancy, Priority, TaxiMinutes};
 pub use update::Update;
 pub use values::DayValues;
 pub use word::RefusalWord;

@@ -25,7 +25,9 @@ pub fn allows(role: Role, update: &Update) -> bool
     ensures { result ≡ may_make role update.now }
 {
     match update {
-        Update::Flt { .. } | Update::Stand { .. } => role == Role::AirportOperator,
+        Update::Flt { .. } | Update::Stand { .. } | Update::Group { .. } => {
+            role == Role::AirportOperator
+        }
         Update::Tobt { .. } => role == Role::AircraftOperator || role == Role::GroundHandler,
         Update::Ice { .. } => role == Role::GroundHandler,
         Update::Ctot { .. } => role == Role::NetworkManager,

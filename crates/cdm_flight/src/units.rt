@@ -152,6 +152,47 @@ impl IceMinutes {
     }
 }
 
+/// For how many minutes from its take-off on a departure occupies its runway, 0 to 5
+/// (local profile).
+#[derive(Clone, Copy, Debug, PartialEq, Eq, Hash, PartialOrd, Ord)]
+pub struct Occupancy {
+    number: u16,
+}
+
+impl Model for Occupancy {
+    ghost Value = { ℕ };
+
+    ghost view = { λ n. n.number };
+
+    ghost invariant = { λ n. n.number ≤ 5 };
+
+    ghost inverse = { λ n. record { number = n } };
+}
+
+impl Occupancy {
+    /// No minute.
+    pub const NONE: Occupancy = Occupancy { number: 0 };
+
+    /// The occupancy of so many minutes, or None above 5.
+    pub fn new(number: u16) -> Option<Occupancy>
+        ensures { result ≡ (if nat_le number 5 then Some number else None) }
+    {
+        if number <= 5 {
+            Some(Occupancy { number })
+        } else {
+            None
+        }
+    }
+
+    /// The number.
+    pub fn get(self) -> u16
+        ensures value { result ≡ self }
+        ensures range { result ≤ 5 }
+    {
+        self.number
+    }
+}
+
 /// The length of a runway's cells, a divisor of the hour: 1, 2, 3, 4, 5, 6, 10, 12, 15, 20, 30
 /// or 60 minutes (local profile).
 #[derive(Clone, Copy, Debug, PartialEq, Eq, Hash, PartialOrd, Ord)]

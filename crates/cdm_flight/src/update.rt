@@ -2,7 +2,9 @@
 ghost use Rattle.std.specs.Prelude.{◌≡◌};
 ghost use Rattle.cdm_flight.specs.Reach.{reach_of};
 
-use crate::{Cap, FlightName, Ice, Place, Priority, Reach, RunwayName, StandName, TaxiMinutes};
+use crate::{
+    Cap, FlightName, Group, Ice, Place, Priority, Reach, RunwayName, StandName, TaxiMinutes,
+};
 use cdm_time::{Bound, Minute};
 
 /// An update that a partner makes, one variant for each kind of feed record. Windows run from a
@@ -43,6 +45,11 @@ pub enum Update {
     Prio {
         flight: FlightName,
         priority: Priority,
+    },
+    /// GROUP: how heavy it is.
+    Group {
+        flight: FlightName,
+        group: Group,
     },
     /// OFF: its actual off-block time.
     Off {
@@ -102,6 +109,7 @@ impl Update {
             | Update::Ctot { flight, .. }
             | Update::Ice { flight, .. }
             | Update::Prio { flight, .. }
+            | Update::Group { flight, .. }
             | Update::Off { flight, .. }
             | Update::Air { flight, .. }
             | Update::Cnl { flight } => Reach::Flight(flight),

@@ -11,7 +11,7 @@ use Rattle.std.proofs.lemmas.List.{get_or-map}
 use Rattle.cdm_flight.proofs.Lists.{sorted_rest}
 use Rattle.cdm_sequence.proofs.OneLemmas.{one_order}
 use Rattle.cdm_plan.proofs.ListWords.{IsDistinct-IsPermutation, contains_head, contains_tail, list_any-find, one_of_key}
-use Rattle.cdm_plan.proofs.PlanWords.{RunwayRow, Update, same_name, name_cmp, AirportRows, runway_row, RunwayRules, same_flips, IsAirport, runway_names}
+use Rattle.cdm_plan.proofs.PlanWords.{RunwayRow, Update, no_spacing, same_name, name_cmp, AirportRows, runway_row, RunwayRules, same_flips, IsAirport, runway_names}
 use Rattle.cdm_plan.proofs.PlanWords.{rules_of, AreByName, DayRecord, IsRunwayAt, day_rules, is_same, tied_names}
 
 -- What `find` finds.
@@ -185,7 +185,7 @@ rules_by_name d =
       all = IsPermutation-map f g.runways rows (rows_permutation g.runways);
       by_name = λ k e a b.
           let short : k + 1 < length rows = omega (arith, length-map rows f) in
-          let row : RunwayRow = record { name = []; cell = 0; cap = 0 } in
+          let row : RunwayRow = record { name = []; cell = 0; cap = 0; spacing = no_spacing } in
           rw (get_or-map f rows (k + 1) row e short, get_or-map f rows k row e (omega arith)) (rows_rise g.runways k row (omega arith) short);
     }
 

@@ -54,19 +54,19 @@ module _ (fixed : List ℕ → List SlotRecord) (targets : List TargetRecord) wh
 
   -- the placing is allowed on the runway
   abbrev Allows : Placing → RunwayRules → Type 0
-  Allows p r = IsAllowed r (takeoffs (fixed r.name)) (on r.name) p
+  Allows p r = IsAllowed r (takeoffs r (fixed r.name)) (on r.name) p
 
   -- a plan's is, on each runway
   pub allowed_on : (p : Placing) (rs : List RunwayRules) (ps : List RunwayPlanRecord) → ((r : List ℕ) → IsDistinct same_name (map (λ f. f.key.name) (on r)))
-      → AllZip (IsSequencedBy p) rs ps → All (λ r. IsAllowed r (takeoffs (fixed r.name)) (on r.name) p) rs
+      → AllZip (IsSequencedBy p) rs ps → All (λ r. IsAllowed r (takeoffs r (fixed r.name)) (on r.name) p) rs
   allowed_on p [] ps own all = All-nil (Allows p)
   allowed_on p (r ∷ rs) [] own all = absurd all
   allowed_on p (r ∷ rs) (x ∷ ps) own all =
-      All-cons (Allows p) r rs (plan_allowed r (takeoffs (fixed r.name)) (on r.name) p (own r.name) all.0.minutes) (allowed_on p rs ps own all.1)
+      All-cons (Allows p) r rs (plan_allowed r (takeoffs r (fixed r.name)) (on r.name) p (own r.name) all.0.minutes) (allowed_on p rs ps own all.1)
 
   -- and none that is allowed is earlier
   pub none_earlier_on : (p q : Placing) (rs : List RunwayRules) (ps : List RunwayPlanRecord) → AllZip (IsSequencedBy p) rs ps
-      → All (λ r. IsAllowed r (takeoffs (fixed r.name)) (on r.name) q) rs
+      → All (λ r. IsAllowed r (takeoffs r (fixed r.name)) (on r.name) q) rs
       → (e : IsEarlier targets q p) → list_any (λ n. same_name n e.first.runway) (map (λ r. r.name) rs) ≡ true → ⊥
   none_earlier_on p q [] ps all allowed e known = false≢true known
   none_earlier_on p q (r ∷ rs) [] all allowed e known = absurd all
@@ -80,7 +80,7 @@ module _ (fixed : List ℕ → List SlotRecord) (targets : List TargetRecord) wh
       here f = same_name f.runway r.name
 
       go : (b : Bool) → same_name r.name e.first.runway ≡ b → (among ≡ true → ⊥) → (b || among) ≡ true → ⊥
-      go true h others k = none_earlier r (takeoffs (fixed r.name)) (on r.name) p q all.0.minutes (All-head (Allows q) r rs allowed) record {
+      go true h others k = none_earlier r (takeoffs r (fixed r.name)) (on r.name) p q all.0.minutes (All-head (Allows q) r rs allowed) record {
         first = e.first;
         among = contains_kept here targets e.first e.among (same_flips e.first.runway r.name ∙ h);
         sooner = e.sooner;

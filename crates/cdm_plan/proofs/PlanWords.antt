@@ -19,6 +19,7 @@ unfoldable pub use Rattle.cdm_flight.specs.Journal.{flight_of}
 pub use Rattle.cdm_flight.specs.Names.{name_cmp, same_name}
 pub use Rattle.cdm_flight.specs.Record.{Record, is_planned}
 pub use Rattle.cdm_flight.specs.Reach.{flight_of_update, reach_of, same_reach}
+pub use Rattle.cdm_flight.specs.Spacing.{no_spacing}
 pub use Rattle.cdm_flight.specs.Step.{is_fresh}
 pub use Rattle.cdm_flight.specs.Taxi.{TaxiRows, taxi_out}
 pub use Rattle.cdm_flight.specs.declared.airport.RunwayRow.{RunwayRow}

@@ -17,4 +17,5 @@ rules-same g a row u other =
       cell = row.cell;
       caps = map (λ k. unwrap_or (last_value (cap_given (k * row.cell)) (sym same i)) plain) (range_with_len 0 (2880 / row.cell));
       closed = map (λ m. unwrap_or (last_value (closed_given m) (sym same i)) false) (range_with_len 0 2880);
+      spacing = row.spacing;
     }

@@ -32,4 +32,5 @@ rules_of g a row = record {
   cell = row.cell;
   caps = map (λ k. cap_of g a row.name (k * row.cell)) (range_with_len 0 (2880 / row.cell));
   closed = map (λ m. closed_of a row.name m) (range_with_len 0 2880);
+  spacing = row.spacing;
 }

@@ -42,4 +42,4 @@ IsDayPlanBy placing aims day plan =
 -- the placing is allowed on each runway of the day
 abbrev pub IsDayAllowed : List AimResult → DayRecord → Placing → Type 0
 IsDayAllowed aims day placing =
-    All (λ r. IsAllowed r (takeoffs (fixed_on r.name (records_in day.airport day.journal))) (targets_on r.name (targets_in aims)) placing) (day_rules day)
+    All (λ r. IsAllowed r (takeoffs r (fixed_on r.name (records_in day.airport day.journal))) (targets_on r.name (targets_in aims)) placing) (day_rules day)

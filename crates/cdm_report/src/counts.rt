@@ -23,7 +23,7 @@ pub struct Counts {
     /// The planned flights that get no take-off minute.
     pub blocked: u32,
     /// Each rule with how many of those it blocks, in the order of the rules.
-    pub by_rule: [(Rule, u32); 7],
+    pub by_rule: [(Rule, u32); 8],
 }
 
 impl Counts {
@@ -91,6 +91,7 @@ fn blocked_counts(flights: &[BlockedFlight]) -> Counts
             count_blocked(Rule::Horizon, flights),
             count_blocked(Rule::Ctot, flights),
             count_blocked(Rule::Closure, flights),
+            count_blocked(Rule::Spacing, flights),
             count_blocked(Rule::Rate, flights),
         ],
     }

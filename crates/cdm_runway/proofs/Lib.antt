@@ -1,4 +1,5 @@
 pub mod CellLemmas
+pub mod LoadLemmas
 pub mod IntervalLemmas
 pub mod RangeLemmas
 pub mod RulesLemmas

@@ -1,15 +1,18 @@
 -- What a runway allows.
 use Rattle.std.specs.Prelude.{◌≡◌, ℕ, ◌-◌, ◌/◌, ◌%◌, ◌==◌, Bool, false, ◌&&◌, nat_lt, List, length, replicate, IsTrue}
 use Rattle.std.specs.List.{splice}
+use Rattle.cdm_flight.specs.declared.spacing.Spacing.{Spacing}
 use Rattle.cdm_flight.specs.Cells.{is_cell_length}
+use Rattle.cdm_flight.specs.Spacing.{no_spacing}
 
--- what a runway allows: the capacity of each cell, by its number, and at which minutes of the
--- horizon it is closed
+-- what a runway allows: the capacity of each cell, by its number, at which minutes of the horizon it
+-- is closed, and for how long a departure occupies it
 pub record RunwayRules : Type 0 where
   pub name : List ℕ
   pub cell : ℕ
   pub caps : List ℕ
   pub closed : List Bool
+  pub spacing : Spacing
 
 -- the horizon has as many cells as there are capacities, and as many minutes as there are closures
 pub record AreRules (cell : ℕ) (caps : List ℕ) (closed : List Bool) : Type 0 where
@@ -17,13 +20,14 @@ pub record AreRules (cell : ℕ) (caps : List ℕ) (closed : List Bool) : Type 0
   pub cells : length caps ≡ 2880 / cell
   pub minutes : length closed ≡ 2880
 
--- one capacity everywhere and no closure
+-- one capacity everywhere, no closure and no spacing
 unfoldable pub plain_rules : List ℕ → ℕ → ℕ → RunwayRules
 plain_rules name cell cap = record {
   name = name;
   cell = cell;
   caps = replicate (2880 / cell) cap;
   closed = replicate 2880 false;
+  spacing = no_spacing;
 }
 
 -- a window that has a minute and cuts no cell

@@ -1,8 +1,9 @@
 //! The minutes that are taken on a runway.
-ghost use Rattle.std.specs.Prelude.{◌≡◌, ℕ, ◌<◌, ◌≤◌, ◌/◌, ◌++◌, [], ◌∷◌, length, slice_index};
+ghost use Rattle.std.specs.Prelude.{◌≡◌, ℕ, ◌+◌, ◌-◌, ◌<◌, ◌≤◌, ◌/◌, ◌++◌, [], ◌∷◌, length, max, min, slice_index, MatchOption};
+ghost use Rattle.cdm_runway.specs.inner.Tally.{EndsBy, IsReach};
 
 use crate::Runway;
-use cdm_flight::CellLength;
+use cdm_flight::{CellLength, Group, Occupancy};
 use cdm_time::{HORIZON_MINUTES, Minute, Window};
 use std::marker::Model;
 
@@ -17,17 +18,27 @@ const MOST_CELLS: usize = HORIZON_MINUTES as usize;
 pub enum Blocked {
     /// The runway is closed at each of its minutes.
     Closure = 1,
-    /// The runway is open at some of its minutes, and each of those is in a full cell.
+    /// At some of its open minutes the flight meets no other one, and each of those is in a full cell.
     Rate = 2,
+    /// The runway is open at some of its minutes, and at each of those the flight meets another one.
+    Spacing = 3,
 }
 
-/// The minutes that flights have taken on one runway, at most 2,000.
+/// A minute that a flight takes, and for how many minutes from it on it occupies the runway.
+#[derive(Clone, Copy, PartialEq, Eq, Debug)]
+pub struct Taken {
+    pub minute: Minute,
+    pub occupancy: Occupancy,
+}
+
+/// The minutes that flights have taken on one runway, at most 2,000, with their occupancies.
 #[derive(Debug, Drop)]
 pub struct RunwayLoad {
     cell: CellLength,
-    minutes: [Minute; MOST_FLIGHTS],
+    taken: [Taken; MOST_FLIGHTS],
     len: usize,
     counts: [u16; MOST_CELLS],
+    longest: [Occupancy; HORIZON_MINUTES as usize],
 }
 
 impl Model for RunwayLoad {
@@ -37,9 +48,9 @@ impl Model for RunwayLoad {
 
     ghost Value = { Load };
 
-    ghost view = { λ l. record { cell = l.cell; taken = take l.len l.minutes } };
+    ghost view = { λ l. record { cell = l.cell; taken = take l.len l.taken } };
 
-    ghost invariant = { λ l. AreCounted l.cell l.len l.minutes l.counts };
+    ghost invariant = { λ l. AreCounted l.cell l.len l.taken l.counts l.longest };
 }
 
 // The minute of a number.
@@ -60,6 +71,39 @@ fn next_cell(minute: Minute, cell: CellLength) -> u16
     minute + cell - minute % cell
 }
 
+// The end of an occupancy that begins up to four minutes before the minute, or less than so many
+// minutes after it, and reaches beyond it.
+fn reach_beyond(longest: &[Occupancy], minute: Minute, minutes: Occupancy) -> Option<u16>
+    requires { length longest.now ≡ 2880 }
+    ensures { let end = min 2880 (minute + minutes) in MatchOption result (EndsBy longest.now minute (minute - 4) end) (IsReach longest.now minute end) }
+{
+    let minute = minute.get();
+    let first = minute.saturating_sub(4);
+    let last = HORIZON_MINUTES.min(minute + minutes.get());
+    for start in first..last {
+        let end = start + longest[start as usize].get();
+        if start < end && minute < end {
+            return Some(end);
+        }
+    }
+    None
+}
+
+// The longer of the two.
+fn longer(one: Occupancy, other: Occupancy) -> Occupancy
+    ensures { result ≡ max one other }
+{
+    one.max(other)
+}
+
+// No occupancy from any minute on.
+fn no_occupancies() -> [Occupancy; HORIZON_MINUTES as usize]
+    ensures minutes { length result ≡ 2880 }
+    ensures none { (k : ℕ) → k < 2880 → slice_index result k ≡ 0 }
+{
+    [Occupancy::NONE; HORIZON_MINUTES as usize]
+}
+
 // No flight in any cell.
 fn no_counts() -> [u16; MOST_CELLS]
     ensures { (k : ℕ) → k < 2880 → slice_index result k ≡ 0 }
@@ -68,32 +112,39 @@ fn no_counts() -> [u16; MOST_CELLS]
 }
 
 impl RunwayLoad {
-    ghost use Rattle.cdm_runway.specs.Room.{held_in_cell, Gives};
+    ghost use Rattle.cdm_runway.specs.Room.{held_in_cell, taken_by, Gives, IsSpaced};
 
     /// A load of the runway's cells with no minute taken.
     pub fn empty(runway: &Runway) -> RunwayLoad
         ensures { result ≡ record { cell = runway.now.cell; taken = [] } }
     {
         let counts = no_counts();
+        let nothing = Taken {
+            minute: Minute::FIRST,
+            occupancy: Occupancy::NONE,
+        };
         RunwayLoad {
             cell: runway.cell(),
-            minutes: [Minute::FIRST; MOST_FLIGHTS],
+            taken: [nothing; MOST_FLIGHTS],
             len: 0,
             counts,
+            longest: no_occupancies(),
         }
     }
 
-    /// Takes one more minute of the runway.
-    pub fn take(&mut self, runway: &Runway, minute: Minute)
+    /// A flight of the group takes one more minute of the runway.
+    pub fn take(&mut self, runway: &Runway, minute: Minute, group: Group)
         requires cell { self.old.cell ≡ runway.now.cell }
         requires room { length self.old.taken < 2000 }
-        ensures { self.new ≡ record self.old { taken = self.old.taken ++ minute ∷ [] } }
+        ensures { self.new ≡ record self.old { taken = self.old.taken ++ taken_by runway.now group minute ∷ [] } }
     {
+        let occupancy = runway.occupancy(group);
         let cell = (minute.get() / runway.cell().get()) as usize;
-        let len = self.len;
-        self.minutes[len] = minute;
+        let (len, place) = (self.len, minute.get() as usize);
+        self.taken[len] = Taken { minute, occupancy };
         self.len = len + 1;
         self.counts[cell] += 1;
+        self.longest[place] = longer(self.longest[place], occupancy);
     }
 
     // How many minutes of the minute's cell are taken.
@@ -103,30 +154,49 @@ impl RunwayLoad {
         self.counts[(minute.get() / self.cell.get()) as usize]
     }
 
-    /// The earliest minute of the window at which the runway is open and whose cell has taken fewer
-    /// flights than it may, else the first of the two reasons for which there is none.
-    pub fn earliest(&self, runway: &Runway, window: Window) -> Result<Minute, Blocked>
+    // The end of an occupancy that a flight of the group would meet at the minute, if it met one.
+    fn met_until(&self, runway: &Runway, minute: Minute, group: Group) -> Option<u16>
+        ensures { MatchOption result (IsSpaced runway.now self.now.taken group minute)
+            (λ end. (minute < end) × ((k : ℕ) → minute ≤ k → k < end → IsSpaced runway.now self.now.taken group k → ⊥)) }
+    {
+        let occupancy = runway.occupancy(group);
+        if occupancy == Occupancy::NONE {
+            return None;
+        }
+        reach_beyond(&self.longest, minute, occupancy)
+    }
+
+    /// The earliest minute of the window at which the runway is open, a flight of the group meets no
+    /// other one, and the cell has taken fewer flights than it may; else the first of the three
+    /// reasons for which there is none.
+    pub fn earliest(&self, runway: &Runway, window: Window, group: Group) -> Result<Minute, Blocked>
         requires { self.now.cell ≡ runway.now.cell }
-        ensures { Gives runway.now self.now.taken window.from window.to result }
+        ensures { Gives runway.now self.now.taken group window.from window.to result }
     {
         let end = window.to().get();
         let mut number = window.from().get();
-        let mut some_open = false;
+        let (mut some_open, mut some_spaced) = (false, false);
         while number < end {
             let minute = minute_at(number);
-            match runway.closed_until(minute) {
-                Some(opening) => number = opening,
-                None => {
-                    some_open = true;
-                    if self.held(minute) < runway.cap_at(minute).get() {
-                        return Ok(minute);
-                    }
-                    number = next_cell(minute, self.cell);
-                }
+            if let Some(opening) = runway.closed_until(minute) {
+                number = opening;
+                continue;
             }
+            some_open = true;
+            if let Some(free) = self.met_until(runway, minute, group) {
+                number = free;
+                continue;
+            }
+            some_spaced = true;
+            if self.held(minute) < runway.cap_at(minute).get() {
+                return Ok(minute);
+            }
+            number = next_cell(minute, self.cell);
         }
-        if some_open {
+        if some_spaced {
             Err(Blocked::Rate)
+        } else if some_open {
+            Err(Blocked::Spacing)
         } else {
             Err(Blocked::Closure)
         }

@@ -1,9 +1,10 @@
 //! Rates and closures of a runway.
 ghost use Rattle.std.specs.Prelude.{◌≡◌, ℕ, ◌<◌, ◌≤◌, ◌↔◌, true, false, Err, IfOk, OnOk, OnErr, MatchOption, if◌then◌else◌};
 ghost use Rattle.cdm_flight.specs.Journal.{window_has};
+ghost use Rattle.cdm_flight.specs.Spacing.{occupancy_of, with_occupancy};
 
 use crate::intervals::Intervals;
-use cdm_flight::{Cap, CellLength, RunwayName};
+use cdm_flight::{Cap, CellLength, Group, Occupancy, RunwayName, Spacing};
 use cdm_time::{Bound, Minute};
 use std::alloc::{AllocError, Global};
 use std::marker::Model;
@@ -27,14 +28,15 @@ impl From<AllocError> for RunwayFault {
     }
 }
 
-/// A runway: its name, the length of its cells, how many flights each cell takes, and the minutes
-/// at which it is closed.
+/// A runway: its name, the length of its cells, how many flights each cell takes, the minutes at
+/// which it is closed, and for how long a departure of each group occupies it.
 #[derive(Debug, Drop)]
 pub struct Runway {
     name: RunwayName,
     cell: CellLength,
     caps: Intervals<Cap>,
     closed: Intervals<bool>,
+    spacing: Spacing,
 }
 
 impl Model for Runway {
@@ -47,6 +49,7 @@ impl Model for Runway {
       cell = r.cell;
       caps = r.caps;
       closed = r.closed;
+      spacing = r.spacing;
     } };
 
     ghost invariant = { λ r. AreRules r.cell r.caps r.closed };
@@ -56,7 +59,7 @@ impl Runway {
     ghost use Rattle.cdm_runway.specs.Rules.{plain_rules, is_rate_window, with_rate, with_closed};
     ghost use Rattle.cdm_runway.specs.Room.{cap_at, is_closed, IsOpen, AllClosed};
 
-    /// A runway with one capacity everywhere and no closure.
+    /// A runway with one capacity everywhere, no closure, and no minute of occupancy for any group.
     pub fn new(
         alloc: Global,
         name: RunwayName,
@@ -71,6 +74,7 @@ impl Runway {
             cell,
             caps: Intervals::new(alloc, minutes / cell.get(), cap),
             closed: Intervals::new(alloc, minutes, false),
+            spacing: Spacing::none(),
         })
     }
 
@@ -86,6 +90,21 @@ impl Runway {
         ensures { result ≡ self.now.cell }
     {
         self.cell
+    }
+
+    /// For how many minutes from its take-off on a departure of the group occupies the runway.
+    pub fn occupancy(&self, group: Group) -> Occupancy
+        ensures value { result ≡ occupancy_of self.now.spacing group }
+        ensures range { result ≤ 5 }
+    {
+        self.spacing.occupancy(group)
+    }
+
+    /// Sets for how long departures of the group occupy the runway.
+    pub fn space(&mut self, group: Group, occupancy: Occupancy)
+        ensures { self.new ≡ record self.old { spacing = with_occupancy self.old.spacing group occupancy } }
+    {
+        self.spacing = self.spacing.with(group, occupancy);
     }
 
     /// How many flights the minute's cell takes.
@@ -193,6 +212,7 @@ impl Runway {
             cell: self.cell,
             caps,
             closed,
+            spacing: self.spacing,
         })
     }
 }

@@ -68,6 +68,7 @@ target_of f values tobt runway exot = record {
   key = record { priority = f.priority; tobt = tobt; name = f.name };
   runway = runway;
   ctot = f.ctot;
+  group = f.group;
   exot = exot;
   ready = ready_at f tobt values;
   window = window_of (ready_at f tobt values + exot) f.ctot;
@@ -115,6 +116,7 @@ module _ (f : Record) (times : TaxiTimes) (values : DayValues) where
       key = refl;
       runway = refl;
       ctot = refl;
+      group = refl;
       exot = h;
       ready = refl;
       some_minute = grind (arith, nat_tests);
@@ -171,7 +173,7 @@ module _ (f : Record) (times : TaxiTimes) (values : DayValues) where
         let window : found.window ≡ t.window = window_one found.window t.window (λ m. window_minutes (ready_at f tobt values + t.exot) f.ctot m
         ∙ ((λ i. is_candidate (ready i + t.exot) (sym e.ctot i) m) ∙ sym (e.minutes m))) e.some_minute in
         let possible = reached (ready_at f tobt values + t.exot) f.ctot (subst (λ (w : Interval). w.from < w.to) (sym window) e.some_minute) in
-        let target : found ≡ t = λ i. record { key = key i; runway = runway_is i; ctot = sym e.ctot i; exot = t.exot; ready = ready i; window = window i } in
+        let target : found ≡ t = λ i. record { key = key i; runway = runway_is i; ctot = sym e.ctot i; group = sym e.group i; exot = t.exot; ready = ready i; window = window i } in
         ap (aim_with_exot f values tobt runway) (sym h ∙ ap (exot_to times f) runway_is ∙ e.exot) ∙ (λ i. if_possible (possible.0 i) (possible.1 i) found)
         ∙ ap Ready target
     by x h _ e = absurd e

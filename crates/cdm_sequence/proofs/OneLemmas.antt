@@ -18,15 +18,16 @@ use Rattle.cdm_flight.specs.Order.{is_before}
 use Rattle.cdm_flight.proofs.Lists.{filter_map_same, filter_same, sum_map, sorted_one, IsPermutation-filter_map, IsPermutation-filter}
 use Rattle.cdm_flight.proofs.Lists.{distinct_left, distinct_right, one_of_key}
 use Rattle.cdm_runway.specs.Rules.{RunwayRules}
-use Rattle.cdm_runway.specs.Room.{held_in_cell}
+use Rattle.cdm_runway.specs.Room.{held_in_cell, meets, taken_by, IsFree, IsSpaced}
+use Rattle.cdm_runway.specs.declared.load.Taken.{Taken}
 use Rattle.cdm_sequence.specs.Fixed.{takeoffs}
-use Rattle.cdm_sequence.specs.Plan.{Placing, taken_before, IsLeast}
+use Rattle.cdm_sequence.specs.Plan.{Placing, taken_before, taken_of, IsLeast}
 use Rattle.cdm_sequence.specs.Sequence.{planned_slot, flight_names, Blocks, IsRightlyBlocked, IsSequenceBy, IsSequence}
 use Rattle.cdm_sequence.specs.inner.Shown.{slots_by, names_left}
 use Rattle.cdm_sequence.specs.Slots.{SlotRecord, RunwayPlanRecord, slot_cmp}
 use Rattle.cdm_sequence.specs.Targets.{TargetRecord}
 use Rattle.cdm_sequence.specs.declared.rule.Rule.{Rule}
-use Rattle.cdm_sequence.specs.declared.rule.Rule.TheVariants.{Closure, Rate}
+use Rattle.cdm_sequence.specs.declared.rule.Rule.TheVariants.{Closure, Spacing, Rate}
 use Rattle.cdm_sequence.specs.declared.slot.BlockedFlight.{BlockedFlight}
 use Rattle.cdm_sequence.proofs.NameLemmas.{shown_by}
 use Rattle.cdm_sequence.proofs.OrderLemmas.{same_flips, is_same, tied_names, last_ties}
@@ -34,53 +35,78 @@ use Rattle.cdm_sequence.proofs.PlanLemmas.{plan_agree, plan_one, taken_agree}
 
 -- Any order.
 
--- how full a cell is doesn't depend on the order of the minutes
-held_permuted : (c m : ℕ) (xs ys : List ℕ) → IsPermutation xs ys → held_in_cell c ys m ≡ held_in_cell c xs m
-held_permuted c m xs ys same = sum_by-IsPermutation (λ t. cond (t / c == m / c) 1 0) xs ys same
+-- how full a cell is doesn't depend on the order of what is taken
+held_permuted : (c m : ℕ) (xs ys : List Taken) → IsPermutation xs ys → held_in_cell c ys m ≡ held_in_cell c xs m
+held_permuted c m xs ys same = sum_by-IsPermutation (λ t. cond (t.minute / c == m / c) 1 0) xs ys same
 
--- nor does a flight's earliest minute
-least_permuted : (r : RunwayRules) (xs ys : List ℕ) (f : TargetRecord) (o : Option ℕ) → IsPermutation xs ys → IsLeast r xs f o → IsLeast r ys f o
-least_permuted r xs ys f None same e = λ k a b o room. e k a b o (let h = held_permuted r.cell k xs ys same in omega arith)
-least_permuted r xs ys f (Some m) same e = record {
-  after = e.after;
-  before = e.before;
-  is_open = e.is_open;
-  has_room = let h = held_permuted r.cell m xs ys same in let t = e.has_room in omega arith;
-  least = λ k a b o room. e.least k a b o (let h = held_permuted r.cell k xs ys same in omega arith);
-}
+module _ (r : RunwayRules) (xs ys : List Taken) (f : TargetRecord) (same : IsPermutation xs ys) where
+  spaced_permuted : (m : ℕ) → IsSpaced r xs f.group m → IsSpaced r ys f.group m
+  spaced_permuted m = All-permutation (λ t. meets (taken_by r f.group m) t ≡ false) xs ys same
 
--- nor why it is blocked
-blocks_permuted : (r : RunwayRules) (xs ys : List ℕ) (f : TargetRecord) (rule : Rule) → IsPermutation xs ys → Blocks r xs f rule → Blocks r ys f rule
-blocks_permuted r xs ys f Closure same e = e
-blocks_permuted r xs ys f Rate same e = record {
-  some_open = e.some_open;
-  full = λ k a b o. let h = held_permuted r.cell k xs ys same in let t = e.full k a b o in omega arith;
-}
-blocks_permuted r xs ys f _ same e = absurd e
+  spaced_back : (m : ℕ) → IsSpaced r ys f.group m → IsSpaced r xs f.group m
+  spaced_back m = All-permutation (λ t. meets (taken_by r f.group m) t ≡ false) ys xs (IsPermutation-sym xs ys same)
+
+  -- nor does which minute a flight may take
+  free_permuted : (m : ℕ) → IsFree r xs f.group m → IsFree r ys f.group m
+  free_permuted m free = record {
+    is_open = free.is_open;
+    is_spaced = spaced_permuted m free.is_spaced;
+    has_room = let h = held_permuted r.cell m xs ys same in let t = free.has_room in omega arith;
+  }
+
+  free_back : (m : ℕ) → IsFree r ys f.group m → IsFree r xs f.group m
+  free_back m free = record {
+    is_open = free.is_open;
+    is_spaced = spaced_back m free.is_spaced;
+    has_room = let h = held_permuted r.cell m xs ys same in let t = free.has_room in omega arith;
+  }
+
+  -- nor its earliest one
+  least_permuted : (o : Option ℕ) → IsLeast r xs f o → IsLeast r ys f o
+  least_permuted None e = λ k a b free. e k a b (free_back k free)
+  least_permuted (Some m) e = record {
+    after = e.after;
+    before = e.before;
+    free = free_permuted m e.free;
+    least = λ k a b free. e.least k a b (free_back k free);
+  }
+
+  -- nor why it is blocked
+  blocks_permuted : (rule : Rule) → Blocks r xs f rule → Blocks r ys f rule
+  blocks_permuted Closure e = e
+  blocks_permuted Spacing e = record {
+    some_open = e.some_open;
+    met = λ k a b o spaced. e.met k a b o (spaced_back k spaced);
+  }
+  blocks_permuted Rate e = record {
+    some_spaced = let (k, a, b, o, spaced) = e.some_spaced in (k, a, b, o, spaced_permuted k spaced);
+    full = λ k a b o spaced. let h = held_permuted r.cell k xs ys same in let t = e.full k a b o (spaced_back k spaced) in omega arith;
+  }
+  blocks_permuted _ e = absurd e
 
 -- the sequence of flights is that of the same flights in another order
 reordered_by : (p : Placing) (r : RunwayRules) (fixed fixed' : List SlotRecord) (ts us : List TargetRecord) (plan : RunwayPlanRecord)
     → IsPermutation fixed fixed' → IsPermutation ts us → IsSequenceBy p r fixed ts plan → IsSequenceBy p r fixed' us plan
 reordered_by p r fixed fixed' ts us plan same order e =
-    let xs = takeoffs fixed in
-    let ys = takeoffs fixed' in
-    let taken : (f : TargetRecord) → IsPermutation (taken_before xs ts p f) (taken_before ys us p f) = λ f.
+    let xs = takeoffs r fixed in
+    let ys = takeoffs r fixed' in
+    let taken : (f : TargetRecord) → IsPermutation (taken_before r xs ts p f) (taken_before r ys us p f) = λ f.
     let earlier : TargetRecord → Bool = λ g. is_before g.key f.key in
-    IsPermutation-append _ _ _ _ (IsPermutation-map (λ (x : SlotRecord). x.ttot) fixed fixed' same)
-    (IsPermutation-filter_map p (filter earlier ts) (filter earlier us) (IsPermutation-filter earlier ts us order)) in
+    IsPermutation-append _ _ _ _ (IsPermutation-map (λ (x : SlotRecord). taken_by r x.group x.ttot) fixed fixed' same)
+    (IsPermutation-filter_map (taken_of r p) (filter earlier ts) (filter earlier us) (IsPermutation-filter earlier ts us order)) in
     let slot : TargetRecord → Option SlotRecord = λ f. option_map (planned_slot f) (p f) in
     let free : TargetRecord → Bool = λ f. is_none (p f) in
     record {
       runway = e.runway;
-      minutes = All-permutation (λ f. IsLeast r (taken_before ys us p f) f (p f)) ts us order
-          (λ k d l. let f = get_or ts k d in least_permuted r (taken_before xs ts p f) (taken_before ys us p f) f (p f) (taken f) (e.minutes k d l));
+      minutes = All-permutation (λ f. IsLeast r (taken_before r ys us p f) f (p f)) ts us order
+          (λ k d l. let f = get_or ts k d in least_permuted r (taken_before r xs ts p f) (taken_before r ys us p f) f (taken f) (p f) (e.minutes k d l));
       slots = IsPermutation-trans _ _ _ (IsPermutation-sym _ _ (IsPermutation-append _ _ _ _ same (IsPermutation-filter_map slot ts us order))) e.slots;
       slot_order = e.slot_order;
       blocked = IsPermutation-trans _ _ _
           (IsPermutation-sym _ _ (IsPermutation-map (λ (f : TargetRecord). f.key.name) _ _ (IsPermutation-filter free ts us order))) e.blocked;
       rules = All-weaker (IsRightlyBlocked r xs ts p) (IsRightlyBlocked r ys us p)
           (λ b w.
-          let other = blocks_permuted r (taken_before xs ts p w.0) (taken_before ys us p w.0) w.0 b.rule (taken w.0) w.3 in
+          let other = blocks_permuted r (taken_before r xs ts p w.0) (taken_before r ys us p w.0) w.0 (taken w.0) b.rule w.3 in
           (w.0, Contains-permutation ts us w.0 order w.1, w.2, other))
           plan.blocked e.rules;
       blocked_order = e.blocked_order;
@@ -96,7 +122,7 @@ reordered r fixed fixed' ts us plan same order (p, e) = (p, reordered_by p r fix
 pub sequence_agree : (p q : Placing) (r : RunwayRules) (fixed : List SlotRecord) (ts : List TargetRecord) (plan : RunwayPlanRecord)
     → ((f : TargetRecord) → Contains ts f → p f ≡ q f) → IsSequenceBy p r fixed ts plan → IsSequenceBy q r fixed ts plan
 sequence_agree p q r fixed ts plan agree e =
-    let xs = takeoffs fixed in
+    let xs = takeoffs r fixed in
     let slots = filter_map_same (λ f. option_map (planned_slot f) (p f)) (λ f. option_map (planned_slot f) (q f)) ts
     (λ f i. ap (option_map (planned_slot f)) (agree f i)) in
     let left = filter_same (λ f. is_none (p f)) (λ f. is_none (q f)) ts (λ f i. ap is_none (agree f i)) in
@@ -107,7 +133,7 @@ sequence_agree p q r fixed ts plan agree e =
       slot_order = e.slot_order;
       blocked = rw (← left) e.blocked;
       rules = All-weaker (IsRightlyBlocked r xs ts p) (IsRightlyBlocked r xs ts q)
-          (λ b w. let taken = taken_agree xs ts p q w.0 (λ g l t. agree g l) in (w.0, w.1, w.2, rw (← taken) w.3)) plan.blocked e.rules;
+          (λ b w. let taken = taken_agree r xs ts p q w.0 (λ g l t. agree g l) in (w.0, w.1, w.2, rw (← taken) w.3)) plan.blocked e.rules;
       blocked_order = e.blocked_order;
     }
 
@@ -134,12 +160,18 @@ slot_total : IsTotalOrder slot_cmp
 slot_total = then_total (on_total (λ (s : SlotRecord). s.ttot) nat_cmp_total) (on_total (λ (s : SlotRecord). s.name) nat_list_cmp_total)
 
 -- one rule blocks a flight
-rule_one : (r : RunwayRules) (taken : List ℕ) (f : TargetRecord) (a b : Rule) → Blocks r taken f a → Blocks r taken f b → a ≡ b
+rule_one : (r : RunwayRules) (taken : List Taken) (f : TargetRecord) (a b : Rule) → Blocks r taken f a → Blocks r taken f b → a ≡ b
 rule_one r taken f Closure Closure h k = refl
+rule_one r taken f Spacing Spacing h k = refl
 rule_one r taken f Rate Rate h k = refl
-rule_one r taken f Closure Rate h k = let (m, from, to, o) = k.some_open in absurd (false≢true (sym o ∙ h m from to))
-rule_one r taken f Rate Closure h k = let (m, from, to, o) = h.some_open in absurd (false≢true (sym o ∙ k m from to))
+rule_one r taken f Closure Spacing h k = let (m, from, to, o) = k.some_open in absurd (false≢true (sym o ∙ h m from to))
+rule_one r taken f Spacing Closure h k = let (m, from, to, o) = h.some_open in absurd (false≢true (sym o ∙ k m from to))
+rule_one r taken f Closure Rate h k = let (m, from, to, o, s) = k.some_spaced in absurd (false≢true (sym o ∙ h m from to))
+rule_one r taken f Rate Closure h k = let (m, from, to, o, s) = h.some_spaced in absurd (false≢true (sym o ∙ k m from to))
+rule_one r taken f Spacing Rate h k = let (m, from, to, o, s) = k.some_spaced in absurd (h.met m from to o s)
+rule_one r taken f Rate Spacing h k = let (m, from, to, o, s) = h.some_spaced in absurd (k.met m from to o s)
 rule_one r taken f Closure _ h k = absurd k
+rule_one r taken f Spacing _ h k = absurd k
 rule_one r taken f Rate _ h k = absurd k
 rule_one r taken f _ b h k = absurd h
 
@@ -147,7 +179,7 @@ rule_one r taken f _ b h k = absurd h
 same_plan : (p : Placing) (r : RunwayRules) (fixed : List SlotRecord) (ts : List TargetRecord) (x y : RunwayPlanRecord)
     → IsDistinct same_name (flight_names fixed ts) → IsSequenceBy p r fixed ts x → IsSequenceBy p r fixed ts y → x ≡ y
 same_plan p r fixed ts x y own a b =
-    let xs = takeoffs fixed in
+    let xs = takeoffs r fixed in
     let all = slots_by p fixed ts in
     let slot_name : SlotRecord → List ℕ = λ s. s.name in
     let key : TargetRecord → List ℕ = λ f. f.key.name in
@@ -166,8 +198,8 @@ same_plan p r fixed ts x y own a b =
     let w : IsRightlyBlocked r xs ts p d = All-contains (IsRightlyBlocked r xs ts p) y.blocked d b.rules j in
     let named : w.0.key.name ≡ v.0.key.name = sym w.2 ∙ sym same ∙ v.2 in
     let target : w.0 ≡ v.0 = one_of_key same_name same_flips key ts w.0 v.0 own_targets w.1 v.1 (is_same _ _ named) in
-    let other : Blocks r (taken_before xs ts p v.0) v.0 d.rule = subst (λ (f : TargetRecord). Blocks r (taken_before xs ts p f) f d.rule) target w.3 in
-    let rule : c.rule ≡ d.rule = rule_one r (taken_before xs ts p v.0) v.0 c.rule d.rule v.3 other in
+    let other : Blocks r (taken_before r xs ts p v.0) v.0 d.rule = subst (λ (f : TargetRecord). Blocks r (taken_before r xs ts p f) f d.rule) target w.3 in
+    let rule : c.rule ≡ d.rule = rule_one r (taken_before r xs ts p v.0) v.0 c.rule d.rule v.3 other in
     λ i. record { name = same i; rule = rule i })
     a.blocked_order b.blocked_order
     (λ g.
@@ -182,4 +214,4 @@ pub sequence_one : (r : RunwayRules) (fixed fixed' : List SlotRecord) (ts us : L
     → IsPermutation fixed fixed' → IsPermutation ts us → IsSequence r fixed ts x → IsSequence r fixed' us y → x ≡ y
 sequence_one r fixed fixed' ts us x y own same order (p, a) (q, b) =
     let back = reordered_by q r fixed' fixed us ts y (IsPermutation-sym fixed fixed' same) (IsPermutation-sym ts us order) b in
-    same_plan p r fixed ts x y own a (sequence_agree q p r fixed ts y (plan_one r (takeoffs fixed) ts q p back.minutes a.minutes) back)
+    same_plan p r fixed ts x y own a (sequence_agree q p r fixed ts y (plan_one r (takeoffs r fixed) ts q p back.minutes a.minutes) back)

@@ -3,7 +3,7 @@ use Rattle.std.proofs.Common.{◌≡◌, ℕ, ◌+◌, ◌<◌, ◌≤◌, ◌/�
 use Rattle.std.specs.Prelude.{slice_index}
 use Rattle.std.proofs.Common.{sym, ◌∙◌, ap, subst, refl, arith, inl, inr, count_by, filter, map, length, get_or, eq-eqb}
 use Rattle.std.specs.List.{filter_map, cons_option, Contains, IsDistinct}
-use Rattle.std.specs.Option.{IfSome, option_map_or}
+use Rattle.std.specs.Option.{IfSome, option_map, option_map_or}
 use Rattle.std.proofs.lemmas.Bool.{false≢true, and_parts, not-true, true_from_ne_false}
 use Rattle.std.proofs.lemmas.Bool.Decides.{Decides-eqb}
 use Rattle.std.proofs.lemmas.List.Sums.{sum_by-append, sum_by-cons}
@@ -12,77 +12,78 @@ use Rattle.cdm_flight.specs.Names.{same_name}
 use Rattle.cdm_flight.specs.Order.{is_before}
 use Rattle.cdm_flight.proofs.Lists.{apart_from_head, contains_all, contains_kept, contains_head, contains_tail, distinct_filter, filter_map_same}
 use Rattle.cdm_runway.specs.Rules.{RunwayRules}
-use Rattle.cdm_runway.specs.Room.{cap_at, held_in_cell, IsOpen, HasRoom}
-use Rattle.cdm_sequence.specs.Plan.{Placing, taken_before, IsLeast, IsPlan, MayHave, IsAllowed, IsSooner, IsEarlier}
+use Rattle.cdm_runway.specs.Room.{cap_at, held_in_cell, taken_by, HasRoom, IsFree}
+use Rattle.cdm_runway.specs.declared.load.Taken.{Taken}
+use Rattle.cdm_sequence.specs.Plan.{Placing, taken_before, taken_of, IsLeast, IsPlan, MayHave, IsAllowed, IsSooner, IsEarlier}
 use Rattle.cdm_sequence.specs.Targets.{TargetRecord}
 use Rattle.cdm_sequence.proofs.OrderLemmas.{before_itself, before_or_after, first_in, is_same, keys_weak, same_is}
 use Rattle.cdm_sequence.proofs.DifferenceLemmas.{compared}
 use Rattle.std.proofs.lemmas.List.Sorted.{IsStrictWeakOrder-flip}
 
 -- placings that agree on the flights before f leave it the same
-pub taken_agree : (fixed : List ℕ) (ts : List TargetRecord) (p q : Placing) (f : TargetRecord)
-    → ((g : TargetRecord) → Contains ts g → is_before g.key f.key ≡ true → p g ≡ q g) → taken_before fixed ts p f ≡ taken_before fixed ts q f
-taken_agree fixed ts p q f same =
+pub taken_agree : (r : RunwayRules) (fixed : List Taken) (ts : List TargetRecord) (p q : Placing) (f : TargetRecord)
+    → ((g : TargetRecord) → Contains ts g → is_before g.key f.key ≡ true → p g ≡ q g) → taken_before r fixed ts p f ≡ taken_before r fixed ts q f
+taken_agree r fixed ts p q f same =
     let earlier : TargetRecord → Bool = λ g. is_before g.key f.key in
     let passes = filter_passes earlier ts in
-    ap (λ (xs : List ℕ). fixed ++ xs) (filter_map_same p q (filter earlier ts) (λ g i.
-    same g (contains_all earlier ts g i) (All-contains (λ g. earlier g ≡ true) (filter earlier ts) g passes i)))
+    ap (λ (xs : List Taken). fixed ++ xs) (filter_map_same (taken_of r p) (taken_of r q) (filter earlier ts) (λ g i.
+    ap (option_map (taken_by r g.group)) (same g (contains_all earlier ts g i) (All-contains (λ g. earlier g ≡ true) (filter earlier ts) g passes i))))
 
 -- a minute at which the flight could take off
-abbrev Fits : RunwayRules → List ℕ → TargetRecord → ℕ → Type 0
-Fits r taken f m = (f.window.from ≤ m) × (m < f.window.to) × IsOpen r m × HasRoom r taken m
+abbrev Fits : RunwayRules → List Taken → TargetRecord → ℕ → Type 0
+Fits r taken f m = (f.window.from ≤ m) × (m < f.window.to) × IsFree r taken f.group m
 
 -- none is sooner than its earliest
-fits_later : (r : RunwayRules) (taken : List ℕ) (f : TargetRecord) (o u : Option ℕ) → IfSome o (Fits r taken f) → IsLeast r taken f u → IsSooner o u → ⊥
+fits_later : (r : RunwayRules) (taken : List Taken) (f : TargetRecord) (o u : Option ℕ) → IfSome o (Fits r taken f) → IsLeast r taken f u → IsSooner o u → ⊥
 fits_later r taken f None u fits least s = s
-fits_later r taken f (Some m) None fits least s = least m fits.0 fits.1 fits.2 fits.3
-fits_later r taken f (Some m) (Some n) fits least s = let l = least.least m fits.0 fits.1 fits.2 fits.3 in omega arith
+fits_later r taken f (Some m) None fits least s = least m fits.0 fits.1 fits.2
+fits_later r taken f (Some m) (Some n) fits least s = let l = least.least m fits.0 fits.1 fits.2 in omega arith
 
-least_fits : (r : RunwayRules) (taken : List ℕ) (f : TargetRecord) (o : Option ℕ) → IsLeast r taken f o → IfSome o (Fits r taken f)
+least_fits : (r : RunwayRules) (taken : List Taken) (f : TargetRecord) (o : Option ℕ) → IsLeast r taken f o → IfSome o (Fits r taken f)
 least_fits r taken f None least = tt
-least_fits r taken f (Some m) least = (least.after, least.before, least.is_open, least.has_room)
+least_fits r taken f (Some m) least = (least.after, least.before, least.free)
 
-module _ (r : RunwayRules) (fixed : List ℕ) (ts : List TargetRecord) where
+module _ (r : RunwayRules) (fixed : List Taken) (ts : List TargetRecord) where
   -- each flight has its earliest minute
-  least_of : (p : Placing) → IsPlan r fixed ts p → (f : TargetRecord) → Contains ts f → IsLeast r (taken_before fixed ts p f) f (p f)
-  least_of p plan f = All-contains (λ f. IsLeast r (taken_before fixed ts p f) f (p f)) ts f plan
+  least_of : (p : Placing) → IsPlan r fixed ts p → (f : TargetRecord) → Contains ts f → IsLeast r (taken_before r fixed ts p f) f (p f)
+  least_of p plan f = All-contains (λ f. IsLeast r (taken_before r fixed ts p f) f (p f)) ts f plan
 
   -- where a placing is earlier than the plan, its first other minute doesn't fit
-  none_fits : (p q : Placing) → IsPlan r fixed ts p → (e : IsEarlier ts q p) → IfSome (q e.first) (Fits r (taken_before fixed ts q e.first) e.first) → ⊥
+  none_fits : (p q : Placing) → IsPlan r fixed ts p → (e : IsEarlier ts q p) → IfSome (q e.first) (Fits r (taken_before r fixed ts q e.first) e.first) → ⊥
   none_fits p q plan e fits =
-      fits_later r (taken_before fixed ts q e.first) e.first (q e.first) (p e.first) fits
-      (subst (λ (xs : List ℕ). IsLeast r xs e.first (p e.first)) (sym (taken_agree fixed ts q p e.first e.agree)) (least_of p plan e.first e.among)) e.sooner
+      fits_later r (taken_before r fixed ts q e.first) e.first (q e.first) (p e.first) fits
+      (subst (λ (xs : List Taken). IsLeast r xs e.first (p e.first)) (sym (taken_agree r fixed ts q p e.first e.agree)) (least_of p plan e.first e.among)) e.sooner
 
   -- there is one plan
   pub plan_one : (p q : Placing) → IsPlan r fixed ts p → IsPlan r fixed ts q → (f : TargetRecord) → Contains ts f → p f ≡ q f
   plan_one p q a b = elim (compared ts p q) [
     | inl same ↦ same
-    | inr (inl e) ↦ absurd (none_fits q p b e (least_fits r (taken_before fixed ts p e.first) e.first (p e.first) (least_of p a e.first e.among)))
-    | inr (inr e) ↦ absurd (none_fits p q a e (least_fits r (taken_before fixed ts q e.first) e.first (q e.first) (least_of q b e.first e.among)))
+    | inr (inl e) ↦ absurd (none_fits q p b e (least_fits r (taken_before r fixed ts p e.first) e.first (p e.first) (least_of p a e.first e.among)))
+    | inr (inr e) ↦ absurd (none_fits p q a e (least_fits r (taken_before r fixed ts q e.first) e.first (q e.first) (least_of q b e.first e.among)))
   ]
 
   -- a placing that agrees with the plan on its targets is the plan
   pub plan_agree : (p q : Placing) → ((g : TargetRecord) → Contains ts g → p g ≡ q g) → IsPlan r fixed ts p → IsPlan r fixed ts q
   plan_agree p q same plan = λ k d l.
       let f = get_or ts k d in
-      let taken = taken_agree fixed ts p q f (λ g i b. same g i) in
+      let taken = taken_agree r fixed ts p q f (λ g i b. same g i) in
       let own = same f (Contains-get_or ts k d l) in
-      subst (λ (xs : List ℕ). IsLeast r xs f (q f)) taken (subst (λ (o : Option ℕ). IsLeast r (taken_before fixed ts p f) f o) own (plan k d l))
+      subst (λ (xs : List Taken). IsLeast r xs f (q f)) taken (subst (λ (o : Option ℕ). IsLeast r (taken_before r fixed ts p f) f o) own (plan k d l))
 
 -- What a cell holds.
 
 -- what passes a test among what a list gives is given by the elements that pass another test, or by others
-given_parted : {X : Type 0} (t : ℕ → Bool) (p : X → Option ℕ) (b : X → Bool) (xs : List X)
+given_parted : {X Y : Type 0} (t : Y → Bool) (p : X → Option Y) (b : X → Bool) (xs : List X)
     → count_by t (filter_map p xs) ≡ count_by t (filter_map p (filter b xs)) + length (filter (λ x. not (b x) && option_map_or t (p x) false) xs)
 given_parted t p b [] = refl
-given_parted {X} t p b (x ∷ xs) = go (b x) (given_parted t p b xs) where
+given_parted {X} {Y} t p b (x ∷ xs) = go (b x) (given_parted t p b xs) where
   others : List X
   others = filter (λ x. not (b x) && option_map_or t (p x) false) xs
 
-  all : List ℕ
+  all : List Y
   all = filter_map p xs
 
-  some : List ℕ
+  some : List Y
   some = filter_map p (filter b xs)
 
   go : (v : Bool) → count_by t all ≡ count_by t some + length others → count_by t (cons_option (p x) all)
@@ -111,32 +112,32 @@ one_at_most name (f ∷ g ∷ fs) own same =
     let next = same_is g.key.name name (same g (contains_tail f (g ∷ fs) g (contains_head g fs))) in
     absurd (false≢true (sym apart ∙ is_same f.key.name g.key.name (here ∙ sym next)))
 
-module _ (r : RunwayRules) (fixed : List ℕ) (ts : List TargetRecord) (p : Placing) (m : ℕ) where
+module _ (r : RunwayRules) (fixed : List Taken) (ts : List TargetRecord) (p : Placing) (m : ℕ) where
   -- the placing puts the flight into the cell of m
   here : TargetRecord → Bool
-  here f = option_map_or (λ t. t / r.cell == m / r.cell) (p f) false
+  here f = option_map_or (λ t. t.minute / r.cell == m / r.cell) (taken_of r p f) false
 
   -- those that it puts there, and that don't come before f
   rest : TargetRecord → TargetRecord → Bool
   rest f g = not (is_before g.key f.key) && here g
 
   held_parted : (f : TargetRecord)
-      → held_in_cell r.cell (fixed ++ filter_map p ts) m ≡ held_in_cell r.cell (taken_before fixed ts p f) m + length (filter (rest f) ts)
+      → held_in_cell r.cell (fixed ++ filter_map (taken_of r p) ts) m ≡ held_in_cell r.cell (taken_before r fixed ts p f) m + length (filter (rest f) ts)
   unfolding rest here
   held_parted f =
-      let w : ℕ → ℕ = λ t. cond (t / r.cell == m / r.cell) 1 0 in
-      let a = sum_by-append w fixed (filter_map p ts) in
-      let b = sum_by-append w fixed (filter_map p (filter (λ g. is_before g.key f.key) ts)) in
-      let c = given_parted (λ t. t / r.cell == m / r.cell) p (λ g. is_before g.key f.key) ts in
+      let w : Taken → ℕ = λ t. cond (t.minute / r.cell == m / r.cell) 1 0 in
+      let a = sum_by-append w fixed (filter_map (taken_of r p) ts) in
+      let b = sum_by-append w fixed (filter_map (taken_of r p) (filter (λ g. is_before g.key f.key) ts)) in
+      let c = given_parted (λ (t : Taken). t.minute / r.cell == m / r.cell) (taken_of r p) (λ g. is_before g.key f.key) ts in
       omega arith
 
   is_here : (f : TargetRecord) → p f ≡ Some m → here f ≡ true
   unfolding here
-  is_here f e = ap (λ (o : Option ℕ). option_map_or (λ t. t / r.cell == m / r.cell) o false) e ∙ eq-eqb (m / r.cell) (m / r.cell) refl
+  is_here f e = ap (λ (o : Option ℕ). option_map_or (λ t. t.minute / r.cell == m / r.cell) (option_map (taken_by r f.group) o) false) e ∙ eq-eqb (m / r.cell) (m / r.cell) refl
 
   -- where the placing has f at m, its cell has all that stands before f, and f
   room_for : (f : TargetRecord) → Contains ts f → p f ≡ Some m
-      → held_in_cell r.cell (taken_before fixed ts p f) m < held_in_cell r.cell (fixed ++ filter_map p ts) m
+      → held_in_cell r.cell (taken_before r fixed ts p f) m < held_in_cell r.cell (fixed ++ filter_map (taken_of r p) ts) m
   unfolding rest
   room_for f i e =
       let own = contains_kept (rest f) ts f i (ap (λ (b : Bool). not b && here f) (before_itself f.key) ∙ is_here f e) in
@@ -146,7 +147,7 @@ module _ (r : RunwayRules) (fixed : List ℕ) (ts : List TargetRecord) (p : Plac
 
   -- the cell of a minute that a plan gives isn't overfilled
   cell_within : IsDistinct same_name (map (λ f. f.key.name) ts) → IsPlan r fixed ts p → (f : TargetRecord) → Contains ts f → p f ≡ Some m
-      → held_in_cell r.cell (fixed ++ filter_map p ts) m ≤ cap_at r m
+      → held_in_cell r.cell (fixed ++ filter_map (taken_of r p) ts) m ≤ cap_at r m
   unfolding rest here
   cell_within own plan f i e =
       let order = IsStrictWeakOrder-flip (λ (x y : TargetRecord). is_before x.key y.key) keys_weak in
@@ -161,28 +162,29 @@ module _ (r : RunwayRules) (fixed : List ℕ) (ts : List TargetRecord) (p : Plac
             let back = last h (contains_kept here ts h (contains_all (rest g) ts h k) parts.1) in
             true_from_ne_false (same_name h.key.name g.key.name) (λ n. false≢true (sym later ∙ before_or_after h.key g.key back n))) in
             let all = held_parted g in
-            let taken = taken_before fixed ts p g in
-            let within : (o : Option ℕ) → option_map_or (λ t. t / r.cell == m / r.cell) o false ≡ true → IsLeast r taken g o → HasRoom r taken m =
+            let taken = taken_before r fixed ts p g in
+            let within : (o : Option ℕ) → option_map_or (λ t. t.minute / r.cell == m / r.cell) (option_map (taken_by r g.group) o) false ≡ true → IsLeast r taken g o → HasRoom r taken m =
             elim [
               | None ↦ λ t least. absurd (false≢true t)
               | Some n ↦ λ t least.
-                  subst (λ (k : ℕ). count_by (λ t. t / r.cell == k) taken < slice_index r.caps k) ((Decides-eqb (n / r.cell) (m / r.cell)).0 t) least.has_room
+                  subst (λ (k : ℕ). count_by (λ t. t.minute / r.cell == k) taken < slice_index r.caps k) ((Decides-eqb (n / r.cell) (m / r.cell)).0 t) least.free.has_room
             ] in
             let room = within (p g) (All-contains (λ f. here f ≡ true) (filter here ts) g (filter_passes here ts) j) (least_of r fixed ts p plan g among) in
             omega arith
       ]
 
-module _ (r : RunwayRules) (fixed : List ℕ) (ts : List TargetRecord) where
+module _ (r : RunwayRules) (fixed : List Taken) (ts : List TargetRecord) where
   -- a plan of flights with names of their own is allowed
   pub plan_allowed : (p : Placing) → IsDistinct same_name (map (λ f. f.key.name) ts) → IsPlan r fixed ts p → IsAllowed r fixed ts p
   plan_allowed p own plan = λ k d l.
       let f = get_or ts k d in
-      let go : (o : Option ℕ) → p f ≡ o → IsLeast r (taken_before fixed ts p f) f o → IfSome o (MayHave r (fixed ++ filter_map p ts) f) = elim [
+      let go : (o : Option ℕ) → p f ≡ o → IsLeast r (taken_before r fixed ts p f) f o → IfSome o (MayHave r (taken_before r fixed ts p f) (fixed ++ filter_map (taken_of r p) ts) f) = elim [
         | None ↦ λ e least. tt
         | Some m ↦ λ e least. record {
           after = least.after;
           before = least.before;
-          is_open = least.is_open;
+          is_open = least.free.is_open;
+          is_spaced = least.free.is_spaced;
           within_cap = cell_within r fixed ts p m own plan f (Contains-get_or ts k d l) e;
         }
       ] in
@@ -192,8 +194,9 @@ module _ (r : RunwayRules) (fixed : List ℕ) (ts : List TargetRecord) where
   pub none_earlier : (p q : Placing) → IsPlan r fixed ts p → IsAllowed r fixed ts q → IsEarlier ts q p → ⊥
   none_earlier p q plan allowed e =
       let f = e.first in
-      let go : (o : Option ℕ) → q f ≡ o → IfSome o (MayHave r (fixed ++ filter_map q ts) f) → IfSome o (Fits r (taken_before fixed ts q f) f) = elim [
+      let go : (o : Option ℕ) → q f ≡ o → IfSome o (MayHave r (taken_before r fixed ts q f) (fixed ++ filter_map (taken_of r q) ts) f) → IfSome o (Fits r (taken_before r fixed ts q f) f) = elim [
         | None ↦ λ h may. tt
-        | Some m ↦ λ h may. let room = room_for r fixed ts q m f e.among h in let within = may.within_cap in (may.after, may.before, may.is_open, omega arith)
+        | Some m ↦ λ h may. let room = room_for r fixed ts q m f e.among h in let within = may.within_cap in
+            (may.after, may.before, record { is_open = may.is_open; is_spaced = may.is_spaced; has_room = omega arith })
       ] in
-      none_fits r fixed ts p q plan e (go (q f) refl (All-contains (λ f. IfSome (q f) (MayHave r (fixed ++ filter_map q ts) f)) ts f allowed e.among))
+      none_fits r fixed ts p q plan e (go (q f) refl (All-contains (λ f. IfSome (q f) (MayHave r (taken_before r fixed ts q f) (fixed ++ filter_map (taken_of r q) ts) f)) ts f allowed e.among))

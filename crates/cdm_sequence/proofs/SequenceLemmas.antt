@@ -19,14 +19,15 @@ use Rattle.cdm_flight.specs.Order.{key_cmp, is_before}
 use Rattle.cdm_flight.proofs.Lists.{contains_cases, contains_from_map, contains_head, contains_map, contains_tail, All-given, filter_map-map, filter_map_cons}
 use Rattle.cdm_flight.proofs.Lists.{filter_map_same, distinct_by, distinct_right}
 use Rattle.cdm_runway.specs.Rules.{RunwayRules}
-use Rattle.cdm_runway.specs.Room.{Gives}
+use Rattle.cdm_runway.specs.Room.{taken_by, Gives}
+use Rattle.cdm_runway.specs.declared.load.Taken.{Taken}
 use Rattle.cdm_runway.specs.declared.load.Blocked.{Blocked}
-use Rattle.cdm_runway.specs.declared.load.Blocked.TheVariants.{Closure, Rate}
+use Rattle.cdm_runway.specs.declared.load.Blocked.TheVariants.{Closure, Spacing, Rate}
 use Rattle.cdm_sequence.specs.Fixed.{takeoffs}
-use Rattle.cdm_sequence.specs.Plan.{Placing, taken_before, IsLeast}
+use Rattle.cdm_sequence.specs.Plan.{Placing, taken_before, taken_of, IsLeast}
 use Rattle.cdm_sequence.specs.Sequence.{planned_slot, flight_names, Blocks, IsRightlyBlocked, IsSequence}
 use Rattle.cdm_sequence.specs.inner.Shown.{names_left}
-use Rattle.cdm_sequence.specs.inner.Turns.{placed_at, blocked_from, IsDecided, AreDecided}
+use Rattle.cdm_sequence.specs.inner.Turns.{placed_at, taken_in, blocked_from, IsDecided, AreDecided}
 use Rattle.cdm_sequence.specs.Slots.{SlotRecord, RunwayPlanRecord, slot_cmp}
 use Rattle.cdm_sequence.specs.Targets.{TargetRecord}
 use Rattle.cdm_sequence.specs.Words.{rule_for}
@@ -38,8 +39,8 @@ use Rattle.cdm_sequence.proofs.OrderLemmas.{before_itself, before_or_after, keys
 abbrev pub targets_of : List Decision → List TargetRecord
 targets_of ds = map (λ d. d.target) ds
 
-abbrev pub minutes_of : List Decision → List ℕ
-minutes_of ds = filter_map (λ d. placed_at d.outcome) ds
+abbrev pub minutes_of : RunwayRules → List Decision → List Taken
+minutes_of r ds = filter_map (taken_in r) ds
 
 abbrev pub slots_given : List Decision → List SlotRecord
 slots_given ds = filter_map (λ d. option_map (planned_slot d.target) (placed_at d.outcome)) ds
@@ -49,24 +50,24 @@ blocked_given ds = filter_map (λ d. blocked_from d.target d.outcome) ds
 
 -- One after another.
 
-pub at_most_one : (o : Option ℕ) → length (option_to_list o) ≤ 1
+pub at_most_one : (o : Option Taken) → length (option_to_list o) ≤ 1
 at_most_one None = omega arith
 at_most_one (Some m) = omega arith
 
 -- one more decision at the end
-pub decided_push : (r : RunwayRules) (taken : List ℕ) (ds : List Decision) (d : Decision) → AreDecided r taken ds → IsDecided r (taken ++ minutes_of ds) d
+pub decided_push : (r : RunwayRules) (taken : List Taken) (ds : List Decision) (d : Decision) → AreDecided r taken ds → IsDecided r (taken ++ minutes_of r ds) d
     → AreDecided r taken (ds ++ d ∷ [])
-decided_push r taken [] d a h = (subst (λ (xs : List ℕ). IsDecided r xs d) (append-nil taken) h, tt)
+decided_push r taken [] d a h = (subst (λ (xs : List Taken). IsDecided r xs d) (append-nil taken) h, tt)
 decided_push r taken (e ∷ ds) d a h =
-    let now : List ℕ = option_to_list (placed_at e.outcome) in
-    let same = ap (λ (xs : List ℕ). taken ++ xs) (filter_map_cons (λ (d : Decision). placed_at d.outcome) e ds)
-    ∙ sym (append_assoc taken now (minutes_of ds)) in
-    (a.0, decided_push r (taken ++ now) ds d a.1 (subst (λ (xs : List ℕ). IsDecided r xs d) same h))
+    let now : List Taken = option_to_list (taken_in r e) in
+    let same = ap (λ (xs : List Taken). taken ++ xs) (filter_map_cons (taken_in r) e ds)
+    ∙ sym (append_assoc taken now (minutes_of r ds)) in
+    (a.0, decided_push r (taken ++ now) ds d a.1 (subst (λ (xs : List Taken). IsDecided r xs d) same h))
 
-pub minutes_push : (ds : List Decision) (d : Decision) → minutes_of (ds ++ d ∷ []) ≡ minutes_of ds ++ option_to_list (placed_at d.outcome)
-minutes_push ds d =
-    let minute : Decision → Option ℕ = λ d. placed_at d.outcome in
-    filter_map-append minute ds (d ∷ []) ∙ ap (λ (xs : List ℕ). minutes_of ds ++ xs) (filter_map_cons minute d [] ∙ append-nil (option_to_list (minute d)))
+pub minutes_push : (r : RunwayRules) (ds : List Decision) (d : Decision) → minutes_of r (ds ++ d ∷ []) ≡ minutes_of r ds ++ option_to_list (taken_in r d)
+minutes_push r ds d =
+    filter_map-append (taken_in r) ds (d ∷ [])
+    ∙ ap (λ (xs : List Taken). minutes_of r ds ++ xs) (filter_map_cons (taken_in r) d [] ∙ append-nil (option_to_list (taken_in r d)))
 
 -- as many slots and blocked flights as decisions
 given_lengths : (ds : List Decision) → length (slots_given ds) + length (blocked_given ds) ≡ length ds
@@ -111,8 +112,8 @@ rise_from_sorted fs up own = λ i j d l u.
     (apart_from_distinct (λ f g. same_name f.key.name g.key.name) fs i j d own l u)
 
 -- each decision, by what the flights before it take
-decided_each : (r : RunwayRules) (p : Placing) (taken : List ℕ) (ds : List Decision) → AreDecided r taken ds → Rise (targets_of ds) → Agrees p ds
-    → (d : Decision) → Contains ds d → IsDecided r (taken_before taken (targets_of ds) p d.target) d
+decided_each : (r : RunwayRules) (p : Placing) (taken : List Taken) (ds : List Decision) → AreDecided r taken ds → Rise (targets_of ds) → Agrees p ds
+    → (d : Decision) → Contains ds d → IsDecided r (taken_before r taken (targets_of ds) p d.target) d
 decided_each r p taken [] a up agree d i = absurd (omega (arith, i.1))
 decided_each r p taken (e ∷ ds) a up agree d i =
     let f = e.target in
@@ -126,30 +127,33 @@ decided_each r p taken (e ∷ ds) a up agree d i =
     elim (contains_cases e ds d i) [
       | inl same ↦
           let none = front e false (before_itself f.key) ∙ filter_none (earlier e) fs (λ g j. not_back f.key g.key (after g j)) in
-          let first : taken_before taken (f ∷ fs) p f ≡ taken = ap (λ (gs : List TargetRecord). taken ++ filter_map p gs) none ∙ append-nil taken in
-          subst (λ (d : Decision). IsDecided r (taken_before taken (f ∷ fs) p d.target) d) same (subst (λ (xs : List ℕ). IsDecided r xs e) (sym first) a.0)
+          let first : taken_before r taken (f ∷ fs) p f ≡ taken = ap (λ (gs : List TargetRecord). taken ++ filter_map (taken_of r p) gs) none ∙ append-nil taken in
+          subst (λ (d : Decision). IsDecided r (taken_before r taken (f ∷ fs) p d.target) d) same (subst (λ (xs : List Taken). IsDecided r xs e) (sym first) a.0)
       | inr j ↦
-          let now = option_to_list (placed_at e.outcome) in
+          let now = option_to_list (taken_in r e) in
           let gs = filter (earlier d) fs in
-          let next : taken_before taken (f ∷ fs) p d.target ≡ taken_before (taken ++ now) fs p d.target =
-          ap (λ (gs : List TargetRecord). taken ++ filter_map p gs) (front d true (after d.target (contains_map (λ (d : Decision). d.target) ds d j)))
-          ∙ ap (λ (xs : List ℕ). taken ++ xs)
-          (filter_map_cons p f gs ∙ ap (λ (o : Option ℕ). option_to_list o ++ filter_map p gs) (agree e (contains_head e ds)))
-          ∙ sym (append_assoc taken now (filter_map p gs)) in
-          subst (λ (xs : List ℕ). IsDecided r xs d) (sym next)
+          let next : taken_before r taken (f ∷ fs) p d.target ≡ taken_before r (taken ++ now) fs p d.target =
+          ap (λ (gs : List TargetRecord). taken ++ filter_map (taken_of r p) gs) (front d true (after d.target (contains_map (λ (d : Decision). d.target) ds d j)))
+          ∙ ap (λ (xs : List Taken). taken ++ xs)
+          (filter_map_cons (taken_of r p) f gs
+          ∙ ap (λ (o : Option ℕ). option_to_list (option_map (taken_by r f.group) o) ++ filter_map (taken_of r p) gs) (agree e (contains_head e ds)))
+          ∙ sym (append_assoc taken now (filter_map (taken_of r p) gs)) in
+          subst (λ (xs : List Taken). IsDecided r xs d) (sym next)
           (decided_each r p (taken ++ now) ds a.1 (λ k l x u v. up (suc k) (suc l) x (omega arith) (omega arith))
           (λ x k. agree x (contains_tail e ds x k)) d j)
     ]
 
-least_from_gives : (r : RunwayRules) (xs : List ℕ) (f : TargetRecord) (o : Result ℕ Blocked) → Gives r xs f.window.from f.window.to o
+least_from_gives : (r : RunwayRules) (xs : List Taken) (f : TargetRecord) (o : Result ℕ Blocked) → Gives r xs f.group f.window.from f.window.to o
     → IsLeast r xs f (placed_at o)
 least_from_gives r xs f (Ok m) e = e
-least_from_gives r xs f (Err Closure) e = λ k a b o room. absurd (false≢true (sym o ∙ e k a b))
-least_from_gives r xs f (Err Rate) e = λ k a b o room. let t = e.full k a b o in omega arith
+least_from_gives r xs f (Err Closure) e = λ k a b free. absurd (false≢true (sym free.is_open ∙ e k a b))
+least_from_gives r xs f (Err Spacing) e = λ k a b free. e.met k a b free.is_open free.is_spaced
+least_from_gives r xs f (Err Rate) e = λ k a b free. let t = e.full k a b free.is_open free.is_spaced in let room = free.has_room in omega arith
 
-blocks_from_gives : (r : RunwayRules) (xs : List ℕ) (f : TargetRecord) (reason : Blocked) → Gives r xs f.window.from f.window.to (Err reason)
+blocks_from_gives : (r : RunwayRules) (xs : List Taken) (f : TargetRecord) (reason : Blocked) → Gives r xs f.group f.window.from f.window.to (Err reason)
     → Blocks r xs f (rule_for reason)
 blocks_from_gives r xs f Closure e = e
+blocks_from_gives r xs f Spacing e = e
 blocks_from_gives r xs f Rate e = e
 
 -- What is shown.
@@ -173,7 +177,7 @@ pub record IsMade (r : RunwayRules) (fixed : List SlotRecord) (targets : List Ta
   pub names : IsDistinct same_name (flight_names fixed targets)
   pub same : IsPermutation targets (targets_of ds)
   pub sorted : IsSortedByKey (λ (t : TargetRecord). t.key) key_cmp (targets_of ds)
-  pub decided : AreDecided r (takeoffs fixed) ds
+  pub decided : AreDecided r (takeoffs r fixed) ds
   pub runway : plan.runway ≡ r.name
   pub slots : IsPermutation (fixed ++ slots_given ds) plan.slots
   pub slot_order : IsSorted slot_cmp plan.slots
@@ -185,7 +189,7 @@ pub sequence_made : (r : RunwayRules) (fixed : List SlotRecord) (targets : List 
     → IsMade r fixed targets ds plan → IsSequence r fixed targets plan
 sequence_made r fixed targets ds plan made =
     let us = targets_of ds in
-    let xs = takeoffs fixed in
+    let xs = takeoffs r fixed in
     let key : TargetRecord → List ℕ = λ f. f.key.name in
     let entry : Decision → List ℕ × Option ℕ = λ d. (d.target.key.name, placed_at d.outcome) in
     let p : Placing = λ f. option_and_then (λ o. o) (lookup (same_name f.key.name) (map entry ds)) in
@@ -198,17 +202,17 @@ sequence_made r fixed targets ds plan made =
     (subst (IsDistinct same_name) named own) (contains_map entry ds d i)) in
     let up : Rise us = rise_from_sorted us made.sorted (distinct_by same_name key us own) in
     let each = decided_each r p xs ds made.decided up agree in
-    let P : TargetRecord → Type 0 = λ f. IsLeast r (taken_before xs us p f) f (p f) in
+    let P : TargetRecord → Type 0 = λ f. IsLeast r (taken_before r xs us p f) f (p f) in
     let least : (d : Decision) → Contains ds d → P d.target = λ d i.
-    subst (IsLeast r (taken_before xs us p d.target) d.target) (sym (agree d i))
-    (least_from_gives r (taken_before xs us p d.target) d.target d.outcome (each d i)) in
+    subst (IsLeast r (taken_before r xs us p d.target) d.target) (sym (agree d i))
+    (least_from_gives r (taken_before r xs us p d.target) d.target d.outcome (each d i)) in
     let blocked : (d : Decision) → Contains ds d → IfSome (blocked_from d.target d.outcome) (IsRightlyBlocked r xs us p) = λ d i.
-    let go : (o : Result ℕ Blocked) → Gives r (taken_before xs us p d.target) d.target.window.from d.target.window.to o
+    let go : (o : Result ℕ Blocked) → Gives r (taken_before r xs us p d.target) d.target.group d.target.window.from d.target.window.to o
     → IfSome (blocked_from d.target o) (IsRightlyBlocked r xs us p) =
     elim [
       | Ok m ↦ λ g. tt
       | Err reason ↦ λ g.
-          let blocks = blocks_from_gives r (taken_before xs us p d.target) d.target reason g in
+          let blocks = blocks_from_gives r (taken_before r xs us p d.target) d.target reason g in
           (d.target, contains_map (λ (d : Decision). d.target) ds d i, refl, blocks)
     ] in
     go d.outcome (each d i) in

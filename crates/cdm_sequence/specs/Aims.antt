@@ -39,6 +39,7 @@ pub record IsTarget (f : Record) (times : TaxiTimes) (values : DayValues) (t : T
   pub key : key_of f ≡ Some t.key
   pub runway : f.runway ≡ Some t.runway
   pub ctot : t.ctot ≡ f.ctot
+  pub group : t.group ≡ f.group
   pub exot : exot_to times f t.runway ≡ Some t.exot
   pub ready : t.ready ≡ ready_at f t.key.tobt values
   pub some_minute : t.window.from < t.window.to

@@ -1,41 +1,49 @@
 -- The plan of one runway, as a fact about which flight has which minute.
 use Rattle.std.specs.Prelude.{◌≡◌, ℕ, ◌<◌, ◌≤◌, ◌++◌, true, List, Option, Some, None, IfSome, All, Contains, filter}
 use Rattle.std.specs.List.{filter_map}
+use Rattle.std.specs.Option.{option_map}
 use Rattle.cdm_flight.specs.Order.{is_before}
 use Rattle.cdm_runway.specs.Rules.{RunwayRules}
-use Rattle.cdm_runway.specs.Room.{cap_at, held_in_cell, IsOpen, HasRoom, IsEarliest}
+use Rattle.cdm_runway.specs.Room.{cap_at, held_in_cell, taken_by, IsEarliest, IsFree, IsOpen, IsSpaced}
+use Rattle.cdm_runway.specs.declared.load.Taken.{Taken}
 use Rattle.cdm_sequence.specs.Targets.{TargetRecord}
 
 -- a set of pairs of a flight and a minute, at most one for each flight
 abbrev pub Placing : Type 0
 Placing = TargetRecord → Option ℕ
 
--- the minutes taken when a flight's turn comes: those of the fixed flights, and of the flights
--- before it
-abbrev pub taken_before : List ℕ → List TargetRecord → Placing → TargetRecord → List ℕ
-taken_before fixed targets placing f = fixed ++ filter_map placing (filter (λ g. is_before g.key f.key) targets)
+-- what a flight takes of a runway by a placing
+abbrev pub taken_of : RunwayRules → Placing → TargetRecord → Option Taken
+taken_of r placing f = option_map (taken_by r f.group) (placing f)
 
--- the earliest open minute of the flight's window with room, or nothing where there is none
-abbrev pub IsLeast : RunwayRules → List ℕ → TargetRecord → Option ℕ → Type 0
-IsLeast r taken f (Some m) = IsEarliest r taken f.window.from f.window.to m
-IsLeast r taken f None = (k : ℕ) → f.window.from ≤ k → k < f.window.to → IsOpen r k → HasRoom r taken k → ⊥
+-- what is taken when a flight's turn comes: by the fixed flights, and by the flights before it
+abbrev pub taken_before : RunwayRules → List Taken → List TargetRecord → Placing → TargetRecord → List Taken
+taken_before r fixed targets placing f = fixed ++ filter_map (taken_of r placing) (filter (λ g. is_before g.key f.key) targets)
+
+-- the earliest minute of its window that the flight may take, or nothing where there is none
+abbrev pub IsLeast : RunwayRules → List Taken → TargetRecord → Option ℕ → Type 0
+IsLeast r taken f (Some m) = IsEarliest r taken f.group f.window.from f.window.to m
+IsLeast r taken f None = (k : ℕ) → f.window.from ≤ k → k < f.window.to → IsFree r taken f.group k → ⊥
 
 -- each flight has the earliest minute that the fixed flights and those before it leave, and no
 -- minute where they leave none
-abbrev pub IsPlan : RunwayRules → List ℕ → List TargetRecord → Placing → Type 0
-IsPlan r fixed targets placing = All (λ f. IsLeast r (taken_before fixed targets placing f) f (placing f)) targets
+abbrev pub IsPlan : RunwayRules → List Taken → List TargetRecord → Placing → Type 0
+IsPlan r fixed targets placing = All (λ f. IsLeast r (taken_before r fixed targets placing f) f (placing f)) targets
 
--- a minute that a flight may have, where these minutes are taken, its own too
-pub record MayHave (r : RunwayRules) (taken : List ℕ) (f : TargetRecord) (m : ℕ) : Type 0 where
+-- a minute that a flight may have, where the fixed flights and those before it take these, and all flights
+-- those
+pub record MayHave (r : RunwayRules) (earlier all : List Taken) (f : TargetRecord) (m : ℕ) : Type 0 where
   pub after : f.window.from ≤ m
   pub before : m < f.window.to
   pub is_open : IsOpen r m
-  pub within_cap : held_in_cell r.cell taken m ≤ cap_at r m
+  pub is_spaced : IsSpaced r earlier f.group m
+  pub within_cap : held_in_cell r.cell all m ≤ cap_at r m
 
--- each flight that has a minute may have it: it is open, in the flight's window, and in a cell that
--- isn't overfilled
-abbrev pub IsAllowed : RunwayRules → List ℕ → List TargetRecord → Placing → Type 0
-IsAllowed r fixed targets placing = All (λ f. IfSome (placing f) (λ m. MayHave r (fixed ++ filter_map placing targets) f m)) targets
+-- each flight that has a minute may have it: it is open and in the flight's window, no two flights meet, of
+-- which the later in the order is asked, and the cell isn't overfilled
+abbrev pub IsAllowed : RunwayRules → List Taken → List TargetRecord → Placing → Type 0
+IsAllowed r fixed targets placing =
+    All (λ f. IfSome (placing f) (MayHave r (taken_before r fixed targets placing f) (fixed ++ filter_map (taken_of r placing) targets) f)) targets
 
 -- a smaller minute, or a minute against none
 abbrev pub IsSooner : Option ℕ → Option ℕ → Type 0

@@ -3,17 +3,19 @@ use Rattle.std.specs.Prelude.{◌≡◌, ℕ, ◌+◌, ◌<◌, ◌≤◌, Bool,
 use Rattle.std.specs.declared.cmp.Ordering.{Ordering}
 use Rattle.std.specs.Ordering.{nat_cmp, ordering_then}
 use Rattle.std.specs.Option.{ForSome}
+use Rattle.cdm_flight.specs.declared.group.Group.{Group}
 use Rattle.cdm_flight.specs.Names.{name_cmp}
 use Rattle.cdm_sequence.specs.declared.slot.BlockedFlight.{BlockedFlight}
 use Rattle.cdm_sequence.specs.declared.slot.Mark.{Mark}
 use Rattle.cdm_sequence.specs.declared.slot.Mark.TheVariants.{Planned}
 
--- the columns of a flight's line
+-- the columns of a flight's line, and its group
 pub record SlotRecord : Type 0 where
   pub name : List ℕ
   pub tobt : Option ℕ
   pub exot : ℕ
   pub ctot : Option ℕ
+  pub group : Group
   pub tsat : ℕ
   pub ttot : ℕ
   pub mark : Mark

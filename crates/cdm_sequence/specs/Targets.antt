@@ -1,6 +1,7 @@
 -- What contracts see of a target.
 use Rattle.std.specs.Prelude.{ℕ, ◌+◌, ◌≤◌, List, Option}
 use Rattle.cdm_time.specs.Windows.{Interval}
+use Rattle.cdm_flight.specs.declared.group.Group.{Group}
 use Rattle.cdm_flight.specs.declared.key.Key.{Key}
 
 -- a planned flight that has a TOBT, a runway and a taxi-out time, and the minutes at which it may
@@ -9,6 +10,7 @@ pub record TargetRecord : Type 0 where
   pub key : Key
   pub runway : List ℕ
   pub ctot : Option ℕ
+  pub group : Group
   pub exot : ℕ
   pub ready : ℕ
   pub window : Interval

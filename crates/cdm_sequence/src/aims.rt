@@ -75,6 +75,7 @@ pub fn aim(flight: &Flight, taxi: &TaxiTable, values: DayValues) -> AimResult
         key,
         runway,
         ctot: flight.ctot,
+        group: flight.group,
         exot,
         ready: Minute::new(ready).unwrap(),
         window,

@@ -26,6 +26,7 @@ pub fn fixed_of(flight: &Flight) -> Option<Slot>
         tobt: flight.tobt,
         exot,
         ctot: flight.ctot,
+        group: flight.group,
         tsat,
         ttot,
         mark,

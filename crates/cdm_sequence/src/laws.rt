@@ -5,6 +5,7 @@ ghost use Rattle.cdm_flight.specs.declared.values.DayValues.{DayValues};
 ghost use Rattle.cdm_flight.specs.Names.{same_name};
 ghost use Rattle.cdm_flight.specs.Record.{Record};
 ghost use Rattle.cdm_runway.specs.Rules.{RunwayRules};
+ghost use Rattle.cdm_runway.specs.declared.load.Taken.{Taken};
 ghost use Rattle.cdm_sequence.specs.Aims.{TaxiTimes, IsAim};
 ghost use Rattle.cdm_sequence.specs.Plan.{Placing, IsPlan, IsAllowed, IsEarlier};
 ghost use Rattle.cdm_sequence.specs.Sequence.{IsSequence, flight_names};
@@ -27,7 +28,7 @@ pub fn one_aim()
 
 /// Two plans of the same flights give each flight the same.
 pub fn one_plan()
-    ensures { (r : RunwayRules) (fixed : List ℕ) (targets : List TargetRecord) (p q : Placing) →
+    ensures { (r : RunwayRules) (fixed : List Taken) (targets : List TargetRecord) (p q : Placing) →
         IsPlan r fixed targets p → IsPlan r fixed targets q →
         (f : TargetRecord) → Contains targets f → p f ≡ q f }
 {}
@@ -35,14 +36,14 @@ pub fn one_plan()
 /// A plan of flights with names of their own is allowed.
 #[tactic(auto, using(crate::proofs::PlanLemmas::plan_allowed))]
 pub fn plans_are_allowed()
-    ensures { (r : RunwayRules) (fixed : List ℕ) (targets : List TargetRecord) (p : Placing) →
+    ensures { (r : RunwayRules) (fixed : List Taken) (targets : List TargetRecord) (p : Placing) →
         IsDistinct same_name (map (λ f. f.key.name) targets) →
         IsPlan r fixed targets p → IsAllowed r fixed targets p }
 {}
 
 /// No allowed placing is earlier than the plan.
 pub fn none_is_earlier()
-    ensures { (r : RunwayRules) (fixed : List ℕ) (targets : List TargetRecord) (p q : Placing) →
+    ensures { (r : RunwayRules) (fixed : List Taken) (targets : List TargetRecord) (p q : Placing) →
         IsPlan r fixed targets p → IsAllowed r fixed targets q → IsEarlier targets q p → ⊥ }
 {}
 

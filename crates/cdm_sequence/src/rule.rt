@@ -21,7 +21,9 @@ pub enum Rule {
     Ctot,
     /// All of those minutes are closed.
     Closure,
-    /// All of those minutes that are open lie in full cells.
+    /// At each of those minutes that is open it meets another flight.
+    Spacing,
+    /// All of those open minutes at which it meets no other one lie in full cells.
     Rate,
 }
 
@@ -37,6 +39,7 @@ impl Rule {
             Rule::Horizon => "HORIZON",
             Rule::Ctot => "CTOT",
             Rule::Closure => "CLOSURE",
+            Rule::Spacing => "SPACING",
             Rule::Rate => "RATE",
         }
     }
@@ -48,6 +51,7 @@ impl From<Blocked> for Rule {
     fn from(reason: Blocked) -> Rule {
         match reason {
             Blocked::Closure => Rule::Closure,
+            Blocked::Spacing => Rule::Spacing,
             Blocked::Rate => Rule::Rate,
         }
     }

@@ -105,8 +105,8 @@ fn shown(
 }
 
 /// The sequence of one runway: each planned flight, in the order of priority, TOBT and name, gets
-/// the earliest minute of its window at which the runway is open and whose cell has room, after
-/// the fixed flights, which have left their stands, and the flights before it. The others are
+/// the earliest minute of its window at which the runway is open, it meets no other flight, and the
+/// cell has room, after the fixed flights, which have left their stands, and the flights before it. The others are
 /// blocked. The targets may come in any order.
 pub fn sequence(
     alloc: Global,
@@ -126,9 +126,9 @@ pub fn sequence(
 
     // The plan's placing is allowed, and no allowed placing is earlier.
     ensures allowed { IfOk result (λ plan. (placing : Placing) → IsSequenceBy placing runway.now fixed.now targets.now plan →
-        IsAllowed runway.now (takeoffs fixed.now) targets.now placing) }
+        IsAllowed runway.now (takeoffs runway.now fixed.now) targets.now placing) }
     ensures first { IfOk result (λ plan. (placing other : Placing) → IsSequenceBy placing runway.now fixed.now targets.now plan →
-        IsAllowed runway.now (takeoffs fixed.now) targets.now other → IsEarlier targets.now other placing → ⊥) }
+        IsAllowed runway.now (takeoffs runway.now fixed.now) targets.now other → IsEarlier targets.now other placing → ⊥) }
 {
     let ordered = in_order(alloc, targets)?;
     let load = load_of(runway, fixed);

@@ -1,6 +1,6 @@
 //! The lines of a plan: flights with their minutes, and flights without.
 use crate::Rule;
-use cdm_flight::FlightName;
+use cdm_flight::{FlightName, Group};
 use cdm_time::Minute;
 use std::marker::Model;
 
@@ -27,6 +27,8 @@ pub struct Slot {
     pub exot: u16,
     /// Calculated take-off time, if there is one.
     pub ctot: Option<Minute>,
+    /// By which it is spaced from the flights around it.
+    pub group: Group,
     /// Target start-up approval time, or the actual off-block time (AOBT).
     pub tsat: Minute,
     /// Target take-off time, or the actual one (ATOT) of a flight that is airborne.
@@ -46,6 +48,7 @@ impl Model for Slot {
       tobt = s.tobt;
       exot = s.exot;
       ctot = s.ctot;
+      group = s.group;
       tsat = s.tsat;
       ttot = s.ttot;
       mark = s.mark;
@@ -59,6 +62,7 @@ impl Model for Slot {
       tobt = s.tobt;
       exot = s.exot;
       ctot = s.ctot;
+      group = s.group;
       tsat = s.tsat;
       ttot = s.ttot;
       mark = s.mark;

@@ -2,7 +2,7 @@
 ghost use Rattle.std.specs.Prelude.{◌≡◌, ◌+◌, ◌-◌, ◌≤◌};
 
 use crate::{Mark, Slot};
-use cdm_flight::{Key, RunwayName};
+use cdm_flight::{Group, Key, RunwayName};
 use cdm_time::{Minute, Window};
 use std::marker::Model;
 
@@ -14,6 +14,8 @@ pub struct Target {
     pub key: Key,
     pub runway: RunwayName,
     pub ctot: Option<Minute>,
+    /// By which it is spaced from the flights around it.
+    pub group: Group,
     /// Estimated taxi-out time in minutes, with remote de-icing.
     pub exot: u16,
     /// When it can leave its stand: TOBT and de-icing on the stand, and not before now.
@@ -31,6 +33,7 @@ impl Model for Target {
       key = t.key;
       runway = t.runway;
       ctot = t.ctot;
+      group = t.group;
       exot = t.exot;
       ready = t.ready;
       window = t.window;
@@ -42,6 +45,7 @@ impl Model for Target {
       key = t.key;
       runway = t.runway;
       ctot = t.ctot;
+      group = t.group;
       exot = t.exot;
       ready = t.ready;
       window = t.window;
@@ -70,6 +74,7 @@ impl Target {
             tobt: Some(self.key.tobt),
             exot: self.exot,
             ctot: self.ctot,
+            group: self.group,
             tsat,
             ttot,
             mark: Mark::Planned,

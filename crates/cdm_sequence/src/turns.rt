@@ -3,7 +3,7 @@ ghost use Rattle.std.specs.Prelude.{◌≡◌, ◌+◌, ◌<◌, ◌≤◌, ◌+
 ghost use Rattle.std.specs.Option.{option_to_list};
 ghost use Rattle.cdm_flight.specs.Order.{key_cmp};
 ghost use Rattle.cdm_sequence.specs.Fixed.{takeoffs};
-ghost use Rattle.cdm_sequence.specs.inner.Turns.{placed_at, IsDecided, AreDecided};
+ghost use Rattle.cdm_sequence.specs.inner.Turns.{taken_in, IsDecided, AreDecided};
 
 use crate::decision::Decision;
 use crate::{Slot, Target};
@@ -21,14 +21,14 @@ pub(crate) fn in_order(alloc: Global, targets: &[Target]) -> Result<Vec<Target>,
     Ok(sorted)
 }
 
-/// A load of the runway that has taken the minutes of the fixed flights.
+/// A load of the runway on which the fixed flights have taken their minutes.
 pub(crate) fn load_of(runway: &Runway, fixed: &[Slot]) -> RunwayLoad
     requires { length fixed.now ≤ 2000 }
-    ensures { result ≡ record { cell = runway.now.cell; taken = takeoffs fixed.now } }
+    ensures { result ≡ record { cell = runway.now.cell; taken = takeoffs runway.now fixed.now } }
 {
     let mut load = RunwayLoad::empty(runway);
     for flight in fixed {
-        load.take(runway, flight.ttot);
+        load.take(runway, flight.ttot, flight.group);
     }
     load
 }
@@ -39,11 +39,11 @@ fn decide(runway: &Runway, load: &mut RunwayLoad, target: &Target) -> Decision
     requires room { length load.old.taken < 2000 }
     ensures target { result.target ≡ target.now }
     ensures decided { IsDecided runway.now load.old.taken result }
-    ensures taken { load.new ≡ record load.old { taken = load.old.taken ++ option_to_list (placed_at result.outcome) } }
+    ensures taken { load.new ≡ record load.old { taken = load.old.taken ++ option_to_list (taken_in runway.now result) } }
 {
-    let outcome = load.earliest(runway, target.window);
+    let outcome = load.earliest(runway, target.window, target.group);
     if let Ok(minute) = outcome {
-        load.take(runway, minute);
+        load.take(runway, minute, target.group);
     }
     Decision {
         target: *target,

@@ -5,8 +5,9 @@ use std::alloc::Global;
 // What the long help says of times, records, columns, words and statuses, among other things.
 const TOLD: &str = "\
 TOBT   target|EXOT   estimated|CTOT   calculated|TSAT   target|TTOT   target|\
-\nDAY,2025-03-10\n|\nRUNWAY,27L,10,2\n|\nTAXI,*,27L,15\n|\nTAXI,A1,27L,10\n|\
+\nDAY,2025-03-10\n|\nRUNWAY,27L,10,2\n|\nTAXI,*,27L,15\n|\nTAXI,A1,27L,10\n|\nSPACE,27L,H,2\n|\
 DAY,day|RUNWAY,runway,cell,cap|TAXI,stand,runway,minutes|\
+SPACE,runway,group,minutes|AP,GROUP,|SPACING  at|\
 SCENARIO,name|\nSCENARIO,SHUT\n|SCENARIO each|DELTA: the numbers|\
 AP,FLT,|AO,TOBT,|AP,STAND,|ATC,RWY,|NM,CTOT,|GH,ICE,|ATC,PRIO,|ATC,OFF,|ATC,AIR,|AO,CNL,|\
 ATC,RATE,|ATC,CLOSE,|ATC,OPEN,|ATC,TAXI,|ATC,CLOCK,|P  planned|O  off-block|A  airborne|\

@@ -3,6 +3,7 @@ use Rattle.std.proofs.lemmas.List.{length-map}
 use Rattle.std.proofs.lemmas.List.Sorted.{length_permutation}
 use Rattle.cdm_flight.specs.Names.{same_name}
 use Rattle.cdm_runway.specs.Load.{Load}
+use Rattle.cdm_runway.specs.Room.{taken_by}
 use Rattle.cdm_sequence.specs.declared.decision.Decision.{Decision}
 use Rattle.cdm_sequence.specs.Fixed.{takeoffs}
 use Rattle.cdm_sequence.specs.Slots.{SlotRecord}
@@ -15,7 +16,7 @@ use Rattle.cdm_sequence.proofs.sequencing.sequence.Goals as goal
 
 pub decide_all-requires-clause-room : goal.decide_all-requires-clause-room
 decide_all-requires-clause-room c =
-    let few = length-map c.args.fixed.now (λ (x : SlotRecord). x.ttot) in
+    let few = length-map c.args.fixed.now (λ (x : SlotRecord). taken_by c.args.runway.now x.group x.ttot) in
     let taken = ap (λ (l : Load). length l.taken) c.load_of-load.ensures in
     omega (arith, length_permutation _ _ c.in_ok-ordered.ensures.same, ap length c.deref.ensures.value)
 
@@ -28,7 +29,7 @@ shown-requires c =
 made : (c : goal.After-drop-ordered-2) → IsMade c.args.runway.now c.args.fixed.now c.args.targets.now c.in_ok-decisions.decisions.items c.in_ok-plan.plan
 made c =
     let targets : targets_of c.in_ok-decisions.decisions.items ≡ c.in_ok-ordered.ordered.items = c.in_ok-decisions.ensures.targets ∙ c.deref.ensures.value in
-    let taken : c.load_of-load.result.taken ≡ takeoffs c.args.fixed.now = ap (λ (l : Load). l.taken) c.load_of-load.ensures in
+    let taken : c.load_of-load.result.taken ≡ takeoffs c.args.runway.now c.args.fixed.now = ap (λ (l : Load). l.taken) c.load_of-load.ensures in
     record {
       names = c.requires.names;
       same = rw targets c.in_ok-ordered.ensures.same;
@@ -49,10 +50,10 @@ returns-clause-each_once c = all_shown c.args.runway.now c.args.fixed.now c.args
 
 pub returns-clause-allowed : goal.returns-clause-allowed
 returns-clause-allowed c = λ placing made.
-    plan_allowed c.args.runway.now (takeoffs c.args.fixed.now) c.args.targets.now placing
+    plan_allowed c.args.runway.now (takeoffs c.args.runway.now c.args.fixed.now) c.args.targets.now placing
     (distinct_right same_name (map (λ (x : SlotRecord). x.name) c.args.fixed.now)
     (map (λ (f : TargetRecord). f.key.name) c.args.targets.now) c.requires.names) made.minutes
 
 pub returns-clause-first : goal.returns-clause-first
 returns-clause-first c = λ placing other made allowed sooner.
-    none_earlier c.args.runway.now (takeoffs c.args.fixed.now) c.args.targets.now placing other made.minutes allowed sooner
+    none_earlier c.args.runway.now (takeoffs c.args.runway.now c.args.fixed.now) c.args.targets.now placing other made.minutes allowed sooner

@@ -1,9 +1,10 @@
-use Rattle.std.proofs.Common.{◌≡◌, ◌++◌, ◌∷◌, [], length, List, ap, ◌∙◌, arith, ℕ, append_assoc}
+use Rattle.std.proofs.Common.{◌≡◌, ◌++◌, ◌∷◌, [], length, List, ap, ◌∙◌, arith, append_assoc}
 use Rattle.std.specs.Option.{option_to_list}
 use Rattle.std.proofs.lemmas.Grind.{common_steps}
 use Rattle.std.proofs.lemmas.List.{length-append}
 use Rattle.cdm_runway.specs.Load.{Load}
-use Rattle.cdm_sequence.specs.inner.Turns.{placed_at}
+use Rattle.cdm_runway.specs.declared.load.Taken.{Taken}
+use Rattle.cdm_sequence.specs.inner.Turns.{taken_in}
 use Rattle.cdm_sequence.proofs.SequenceLemmas.{decided_push, minutes_of, at_most_one, minutes_push}
 use Rattle.cdm_sequence.proofs.turns.decide_all.Goals as goal
 
@@ -12,13 +13,13 @@ loop-target-preserved c =
     let inv = c.loop-target.invariant in
     let d = c.decide-decision.result in
     let ds = c.loop-target.decisions.items in
-    let now = option_to_list (placed_at d.outcome) in
+    let now = option_to_list (taken_in c.args.runway.now d) in
     let items : c.push_last.new.items.items ≡ ds ++ d ∷ [] = c.in_ok-push_last.ensures in
     let taken = ap (λ (l : Load). l.taken) c.decide-decision.ensures.taken in
     record {
       cell = ap (λ (l : Load). l.cell) c.decide-decision.ensures.taken ∙ inv.cell;
-      room = omega (arith, ap length taken, length-append c.loop-target.load.taken now, at_most_one (placed_at d.outcome));
+      room = omega (arith, ap length taken, length-append c.loop-target.load.taken now, at_most_one (taken_in c.args.runway.now d));
       targets = grind (arith, common_steps);
-      taken = rw (items, minutes_push ds d) (taken ∙ ap (λ (xs : List ℕ). xs ++ now) inv.taken ∙ append_assoc c.args.load.taken (minutes_of ds) now);
+      taken = rw (items, minutes_push c.args.runway.now ds d) (taken ∙ ap (λ (xs : List Taken). xs ++ now) inv.taken ∙ append_assoc c.args.load.taken (minutes_of c.args.runway.now ds) now);
       decided = rw items (decided_push c.args.runway.now c.args.load.taken ds d inv.decided (rw (← inv.taken) c.decide-decision.ensures.decided));
     }

@@ -1,6 +1,6 @@
 use Rattle.std.proofs.Common.{◌≡◌, ◌≤◌, ◌+◌, ◌++◌, take, map, length}
 use Rattle.std.specs.List.{filter_map}
-use Rattle.cdm_sequence.specs.inner.Turns.{placed_at, AreDecided}
+use Rattle.cdm_sequence.specs.inner.Turns.{taken_in, AreDecided}
 use Rattle.cdm_sequence.proofs.turns.decide_all.Given as goal
 
 abbrev pub invariant-loop-target : goal.invariant-loop-target
@@ -8,6 +8,6 @@ invariant-loop-target l = record {
   cell : l.load.cell ≡ l.runway.cell;
   room : length l.load.taken ≤ length l.fn.load.taken + l.target-index;
   targets : map (λ d. d.target) l.decisions.items ≡ take l.target-index l.targets;
-  taken : l.load.taken ≡ l.fn.load.taken ++ filter_map (λ d. placed_at d.outcome) l.decisions.items;
+  taken : l.load.taken ≡ l.fn.load.taken ++ filter_map (taken_in l.runway) l.decisions.items;
   decided : AreDecided l.runway l.fn.load.taken l.decisions.items;
 }

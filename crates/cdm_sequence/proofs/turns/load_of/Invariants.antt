@@ -3,4 +3,4 @@ use Rattle.cdm_sequence.specs.Fixed.{takeoffs}
 use Rattle.cdm_sequence.proofs.turns.load_of.Given as goal
 
 abbrev pub invariant-loop-flight : goal.invariant-loop-flight
-invariant-loop-flight l = l.load ≡ record { cell = l.runway.cell; taken = takeoffs (take l.flight-index l.fixed) }
+invariant-loop-flight l = l.load ≡ record { cell = l.runway.cell; taken = takeoffs l.runway (take l.flight-index l.fixed) }

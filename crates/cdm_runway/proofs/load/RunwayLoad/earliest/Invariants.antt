@@ -1,15 +1,19 @@
 use Rattle.std.proofs.Common.{ℕ, ◌-◌, ◌<◌, ◌≤◌, MatchBool}
-use Rattle.cdm_runway.specs.Room.{held_in_cell, cap_at, IsOpen, AllClosed}
+use Rattle.cdm_runway.specs.Room.{held_in_cell, cap_at, AllClosed, IsOpen, IsSpaced}
 use Rattle.cdm_runway.proofs.load.RunwayLoad.earliest.Given as goal
 
--- each open minute so far is in a full cell, and the flag says whether there was one
+-- each open minute so far at which the flight meets no other one is in a full cell, and the flags say whether
+-- there was an open one, and one of those
 abbrev pub invariant-loop-number : goal.invariant-loop-number
 invariant-loop-number l =
     let r = l.runway in
+    let from = l.fn.window.from in
     record {
-      begun : l.fn.window.from ≤ l.number;
-      full : (k : ℕ) → l.fn.window.from ≤ k → k < l.number → IsOpen r k → cap_at r k ≤ held_in_cell r.cell l.self.taken k;
-      flag : MatchBool l.some_open ((k : ℕ) × (l.fn.window.from ≤ k) × (k < l.end) × IsOpen r k) (AllClosed r l.fn.window.from l.number);
+      begun : from ≤ l.number;
+      full : (k : ℕ) → from ≤ k → k < l.number → IsOpen r k → IsSpaced r l.self.taken l.group k → cap_at r k ≤ held_in_cell r.cell l.self.taken k;
+      met : MatchBool l.some_spaced ((k : ℕ) × (from ≤ k) × (k < l.end) × IsOpen r k × IsSpaced r l.self.taken l.group k)
+          ((k : ℕ) → from ≤ k → k < l.number → IsOpen r k → IsSpaced r l.self.taken l.group k → ⊥);
+      flag : MatchBool l.some_open ((k : ℕ) × (from ≤ k) × (k < l.end) × IsOpen r k) (AllClosed r from l.number);
     }
 
 -- the minutes that are left
