@@ -6,7 +6,7 @@ use Rattle.cdm_flight.specs.contracts.update.UpdatePartialEq.TheImpl as update_e
 use Rattle.cdm_flight.specs.contracts.role.RolePartialEq.TheImpl as role_eq
 use Rattle.cdm_flight.specs.declared.role.Role.{Role}
 use Rattle.cdm_flight.specs.declared.update.Update.{Update}
-use Rattle.cdm_flight.specs.declared.update.Update.TheVariants.{Flt, Tobt, Stand, Rwy, Ctot, Ice, Prio, Group, Off, Air, Cnl, Rate, Close, Reopen, Taxi, Clock}
+use Rattle.cdm_flight.specs.declared.update.Update.TheVariants.{Flt, Tobt, Stand, Rwy, Ctot, Ice, Prio, Group, Off, Air, Cnl, Rate, Close, Reopen, Taxi, Clock, Tol}
 
 apart : {P : Type 0} → (P → ⊥) → Decides false P
 apart never = ((λ (untrue : false ≡ true). cc), λ p. absurd (never p))
@@ -28,6 +28,7 @@ update_eq-Decides (Close r from to) (Close s start end) = search rules
 update_eq-Decides (Reopen r from to) (Reopen s start end) = search rules
 update_eq-Decides (Taxi p r m) (Taxi q s n) = search rules
 update_eq-Decides (Clock m) (Clock n) = search rules
+update_eq-Decides (Tol t) (Tol u) = search rules
 update_eq-Decides a b = apart (λ (e : a ≡ b). cc)
 
 pub role_eq-Decides : (a b : Role) → Decides ((role_eq.ghosts).eq a b) (a ≡ b)

@@ -37,7 +37,7 @@ WHAT IT DOES
   EXOT   estimated taxi-out minutes: the taxi time from the stand to the runway,
          and remote de-icing
   CTOT   calculated take-off time of the Network Manager; its tolerance is from
-         5 minutes before to 10 minutes after
+         5 minutes before to 10 minutes after, unless TOL gives another
   TSAT   target start-up approval time: when start-up can be expected to be
          approved
   TTOT   target take-off time: TSAT + EXOT
@@ -123,6 +123,8 @@ AO,CTOT,AB1,2025-03-10T06:40Z
                                    the stands without a row
     ATC,CLOCK,time                 it is this time now; at first it is 00:00 of
                                    the first day
+    NM,TOL,before,after            the tolerance of every CTOT: 0 to 15 minutes
+                                   before and 0 to 30 after, at first 5 and 10
   Of several updates of one item the last counts.
 
   SCENARIOS, a file that --scenarios names, asks what the day would be if other

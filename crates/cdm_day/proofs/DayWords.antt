@@ -8,12 +8,12 @@ pub use Rattle.cdm_day.specs.Changes.{ChangesRunway, IsChange, has_window, with_
 pub use Rattle.cdm_day.specs.inner.Tables.{plain_of}
 pub use Rattle.cdm_plan.specs.Sound.{IsSound, TellTaxi}
 pub use Rattle.cdm_plan.specs.Kept.{AreKept, IsSince}
-pub use Rattle.cdm_flight.proofs.JournalLemmas.{before_off-all, flight_of-fresh, flight_of-step, flight_of-untouched, last_value-push, planned_says}
+pub use Rattle.cdm_flight.proofs.JournalLemmas.{aobt_of, atot_of, is_cancelled, before_off-all, flight_of-fresh, flight_of-step, flight_of-untouched, last_value-push, planned_says}
 pub use Rattle.cdm_flight.proofs.JournalLemmas.{same_name-refl, status_of-record, taxi_of-untouched, touching-push, untouched}
 pub use Rattle.cdm_flight.proofs.JournalLemmas.{values_of-untouched}
 pub use Rattle.cdm_flight.specs.Accepted.{after_one, has_runway, is_full, is_unknown, stand_with_taxi, stands_with_rows}
 unfoldable pub use Rattle.cdm_flight.specs.Accepted.{accepted, refusal, refusal_of, replies_to}
-pub use Rattle.cdm_flight.specs.Journal.{AirportRows, aobt_of, atot_of, cap_given, cap_of, closed_given, closed_of, exot_now, is_cancelled, is_known}
+pub use Rattle.cdm_flight.specs.Journal.{AirportRows, cap_given, cap_of, closed_given, closed_of, exot_now, is_known}
 pub use Rattle.cdm_flight.specs.Journal.{last_value, of_flight, only_if, record_with, runway_given, runway_of, runway_row, same_place, status_from}
 pub use Rattle.cdm_flight.specs.Journal.{status_of, taxi_given, taxi_of, window_has}
 unfoldable pub use Rattle.cdm_flight.specs.Journal.{exot_of, flight_of, values_of}

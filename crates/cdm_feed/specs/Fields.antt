@@ -6,6 +6,7 @@ use Rattle.std.specs.Result.{result_map_both}
 use Rattle.csv.specs.Records.{field_at}
 use Rattle.cdm_time.specs.Digits.{are_digits, number_in}
 use Rattle.cdm_time.specs.Times.{minute_up_to}
+use Rattle.cdm_time.specs.Windows.{Margins}
 use Rattle.cdm_time.specs.declared.calendar.CalendarDate.{CalendarDate}
 use Rattle.cdm_time.specs.declared.day.TimeFault.{TimeFault}
 use Rattle.cdm_time.specs.declared.day.TimeFault.TheVariants as fault
@@ -98,6 +99,11 @@ unfoldable pub number_field : (ℕ → Bool) → List ℕ → Result ℕ Refusal
 number_field in_range text =
     if not (from_to 1 4 (length text) && are_digits text) then Err Text
     else if in_range (number_in text) then Ok (number_in text) else Err Range
+
+-- a tolerance: 0 to 15 minutes before a CTOT, and 0 to 30 after it
+unfoldable pub tolerance_fields : List ℕ → List ℕ → Result Margins RefusalWord
+tolerance_fields before after =
+    of_two (λ b a. record { before = b; after = a }) (number_field (from_to 0 15) before) (number_field (from_to 0 30) after)
 
 -- NONE with 0 minutes, STAND or REMOTE with 1 to 60
 unfoldable pub ice_field : List ℕ → List ℕ → Result Ice RefusalWord

@@ -6,7 +6,7 @@ use Rattle.cdm_flight.specs.declared.update.Update.TheVariants as update
 use Rattle.cdm_flight.specs.declared.word.RefusalWord.{RefusalWord}
 use Rattle.cdm_flight.specs.declared.word.RefusalWord.TheVariants as word
 use Rattle.cdm_flight.specs.Names.{is_name}
-use Rattle.cdm_feed.specs.Fields.{bound_field, counted, ctot_field, flight_field, from_to, group_field, ice_field, name_field, number_field, of_four, of_one, of_three, of_two, place_field, runway_field, time_field}
+use Rattle.cdm_feed.specs.Fields.{bound_field, counted, ctot_field, flight_field, from_to, group_field, ice_field, name_field, number_field, of_four, of_one, of_three, of_two, place_field, runway_field, time_field, tolerance_fields}
 
 -- the update of the kind that a field names, which so many fields follow, the first four of them these
 unfoldable pub update_of : CalendarDate → List ℕ → ℕ → List ℕ → List ℕ → List ℕ → List ℕ → Result Update RefusalWord
@@ -27,4 +27,5 @@ update_of day kind n a b c d =
     else if bytes_eq kind (codes "OPEN") then counted 3 n (of_three update.Reopen (runway_field a) (time_field day b) (bound_field day c))
     else if bytes_eq kind (codes "TAXI") then counted 3 n (of_three update.Taxi (place_field a) (runway_field b) (number_field (from_to 1 120) c))
     else if bytes_eq kind (codes "CLOCK") then counted 1 n (of_one update.Clock (time_field day a))
+    else if bytes_eq kind (codes "TOL") then counted 2 n (of_one update.Tol (tolerance_fields a b))
     else Err word.Kind

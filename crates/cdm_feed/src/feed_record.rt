@@ -6,7 +6,7 @@ ghost use Rattle.cdm_feed.specs.Parsing.{parse_of};
 
 use crate::field::{
     all_four, all_three, both, bound_field, cap_field, counted, ctot_field, field, group_field,
-    ice_field, name_field, place_field, priority_field, taxi_field, time_field,
+    ice_field, name_field, place_field, priority_field, taxi_field, time_field, tolerance_fields,
 };
 use crate::role::role_of;
 use cdm_flight::{RefusalWord, Role, Update};
@@ -83,6 +83,8 @@ pub(crate) fn update_of(
             minutes: taxi_field(third))
     } else if kind == b"CLOCK".as_slice() {
         update!(count == 1, Clock, now: time_field(day, first))
+    } else if kind == b"TOL".as_slice() {
+        update!(count == 2, Tol, tolerance: tolerance_fields(first, second))
     } else {
         Err(RefusalWord::Kind)
     }

@@ -7,13 +7,13 @@ ghost use Rattle.cdm_time.specs.Times.{day_of};
 ghost use Rattle.cdm_flight.specs.Cells.{is_cell_length};
 ghost use Rattle.cdm_flight.specs.Names.{is_name};
 ghost use Rattle.cdm_flight.specs.declared.word.RefusalWord.TheVariants as word;
-ghost use Rattle.cdm_feed.specs.Fields.{all_four, all_three, both, bound_field, counted, ctot_field, field, from_to, group_field, ice_field, name_field, number_field, place_field, refused_by_word, time_field, word_of};
+ghost use Rattle.cdm_feed.specs.Fields.{all_four, all_three, both, bound_field, counted, ctot_field, field, from_to, group_field, ice_field, name_field, number_field, place_field, refused_by_word, time_field, tolerance_fields, word_of};
 
 use cdm_flight::{
     Cap, CellLength, Group, Ice, IceMinutes, Name, Occupancy, Place, Priority, RefusalWord,
     TaxiMinutes,
 };
-use cdm_time::{Bound, Day, Minute, TimeFault, number_of};
+use cdm_time::{Bound, Day, Minute, TimeFault, Tolerance, number_of};
 use csv::ByteRecord;
 
 /// The field at a place, counted from 0. A field that the record hasn't is empty.
@@ -211,6 +211,15 @@ pub(crate) fn all_four<A: Drop, B: Drop, C: Drop, D: Drop>(
 {
     let (one, (two, three, four)) = both(one, all_three(two, three, four))?;
     Ok((one, two, three, four))
+}
+
+/// A tolerance: 0 to 15 minutes before a CTOT, and 0 to 30 after it.
+#[tactic(auto, unfolding(crate::specs::Fields::both, crate::specs::Fields::number_field, crate::specs::Fields::tolerance_fields))]
+pub(crate) fn tolerance_fields(before: &[u8], after: &[u8]) -> Result<Tolerance, RefusalWord>
+    ensures { result ≡ tolerance_fields before.now after.now }
+{
+    let (before, after) = both(number_field(before), number_field(after))?;
+    Tolerance::new(before, after).ok_or(RefusalWord::Range)
 }
 
 /// What so many fields spell; another number of them is refused by Fields.

@@ -8,6 +8,7 @@ use Rattle.std.proofs.lemmas.Grind.{common_steps}
 use Rattle.std.proofs.lemmas.List.{append-nil}
 use Rattle.std.proofs.lemmas.List.Elements.{filter-append}
 use Rattle.std.proofs.lemmas.List.Sums.{take_while-cons}
+use Rattle.cdm_time.specs.Windows.{Margins}
 use Rattle.cdm_flight.proofs.Lists.{option_or-none, option_or-assoc, list_any-push, take_while-all, take_while-append}
 use Rattle.cdm_flight.specs.declared.flight.Status.{Status}
 use Rattle.cdm_flight.specs.declared.flight.Status.TheVariants.{Planned, OffBlock, Airborne, Cancelled}
@@ -17,15 +18,27 @@ use Rattle.cdm_flight.specs.declared.place.Place.{Place}
 use Rattle.cdm_flight.specs.declared.reach.Reach.{Reach}
 use Rattle.cdm_flight.specs.declared.reach.Reach.TheVariants as reach
 use Rattle.cdm_flight.specs.declared.update.Update.{Update}
-use Rattle.cdm_flight.specs.declared.update.Update.TheVariants.{Flt, Off, Air, Cnl, Clock}
+use Rattle.cdm_flight.specs.declared.update.Update.TheVariants.{Flt, Off, Air, Cnl, Clock, Tol}
 use Rattle.cdm_flight.specs.Names.{same_name}
 use Rattle.cdm_flight.specs.Reach.{reach_of, same_reach, touching}
 use Rattle.cdm_flight.specs.Record.{Record, fresh}
 use Rattle.cdm_flight.specs.Step.{airborne_at, is_fresh, off_block_from, stepped, step_refusal}
 use Rattle.cdm_flight.specs.Journal.{AirportRows, last_value, tobt_given, stand_given, runway_given, ctot_given, ice_given, group_given, priority_given}
-use Rattle.cdm_flight.specs.Journal.{aobt_given, atot_given, is_cancel, taxi_given, clock_given, taxi_of, of_flight, aobt_of, atot_of, is_known}
-use Rattle.cdm_flight.specs.Journal.{is_cancelled, exot_now}
+use Rattle.cdm_flight.specs.Journal.{aobt_given, atot_given, is_cancel, taxi_given, clock_given, tolerance_given, taxi_of, of_flight, is_known}
+use Rattle.cdm_flight.specs.Journal.{exot_now}
 use Rattle.cdm_flight.specs.Journal.{before_off, status_from, status_of, record_with, exot_of, flight_of, values_of}
+
+-- Last values of a flight.
+
+abbrev pub aobt_of : List Update → List ℕ → Option ℕ
+aobt_of a f = last_value aobt_given (of_flight f a)
+
+abbrev pub atot_of : List Update → List ℕ → Option ℕ
+atot_of a f = last_value atot_given (of_flight f a)
+
+-- there is a CNL of the flight
+abbrev pub is_cancelled : List Update → List ℕ → Bool
+is_cancelled a f = list_any is_cancel (of_flight f a)
 
 -- one more update gives the value, or leaves it
 pub last_value-push : {U X : Type 0} (given : U → Option X) (a : List U) (u : U) → last_value given (a ++ u ∷ []) ≡ option_or (given u) (last_value given a)
@@ -58,10 +71,18 @@ pub values_of-untouched : (a : List Update) (u : Update) → same_reach (reach_o
 unfolding values_of
 values_of-untouched a u h = rw (untouched reach.Day a u h) refl
 
--- a CLOCK sets the clock
+-- a CLOCK sets the clock, and a TOL the tolerance
 pub values_of-clock : (a : List Update) (m : ℕ) → values_of (a ++ Clock m ∷ []) ≡ record (values_of a) { clock = m }
 unfolding values_of
-values_of-clock a m = rw (touching-push reach.Day a (Clock m) refl, last_value-push clock_given (touching reach.Day a) (Clock m)) refl
+values_of-clock a m =
+    let own = touching reach.Day a in
+    rw (touching-push reach.Day a (Clock m) refl, last_value-push clock_given own (Clock m), last_value-push tolerance_given own (Clock m)) refl
+
+pub values_of-tolerance : (a : List Update) (t : Margins) → values_of (a ++ Tol t ∷ []) ≡ record (values_of a) { tolerance = t }
+unfolding values_of
+values_of-tolerance a t =
+    let own = touching reach.Day a in
+    rw (touching-push reach.Day a (Tol t) refl, last_value-push clock_given own (Tol t), last_value-push tolerance_given own (Tol t)) refl
 
 is_some-option_or : (o p : Option ℕ) → is_some (option_or o p) ≡ (is_some o || is_some p)
 is_some-option_or o p = grind arith

@@ -3,7 +3,7 @@ use Rattle.std.specs.Prelude.{ℕ, Bool, true, false, not, ◌&&◌, if◌then�
 use Rattle.std.specs.Option.{option_and_then, option_eq, option_map, option_map_or, option_or}
 use Rattle.std.specs.List.{find, list_any, take_while}
 use Rattle.std.specs.FinMap as map
-use Rattle.cdm_time.specs.Windows.{has_minute}
+use Rattle.cdm_time.specs.Windows.{Margins, has_minute, usual_tolerance}
 use Rattle.cdm_time.specs.declared.calendar.CalendarDate.{CalendarDate}
 use Rattle.cdm_flight.specs.declared.airport.RunwayRow.{RunwayRow}
 use Rattle.cdm_flight.specs.declared.group.Group.{Group}
@@ -15,7 +15,7 @@ use Rattle.cdm_flight.specs.declared.flight.Status.{Status}
 use Rattle.cdm_flight.specs.declared.flight.Status.TheVariants.{Planned, OffBlock, Airborne, Cancelled}
 use Rattle.cdm_flight.specs.declared.reach.Reach.TheVariants as reach
 use Rattle.cdm_flight.specs.declared.update.Update.{Update}
-use Rattle.cdm_flight.specs.declared.update.Update.TheVariants.{Flt, Tobt, Stand, Rwy, Ctot, Ice as IceOf, Prio, Group as GroupOf, Off, Air, Cnl, Rate, Close, Reopen, Taxi, Clock}
+use Rattle.cdm_flight.specs.declared.update.Update.TheVariants.{Flt, Tobt, Stand, Rwy, Ctot, Ice as IceOf, Prio, Group as GroupOf, Off, Air, Cnl, Rate, Close, Reopen, Taxi, Clock, Tol}
 use Rattle.cdm_flight.specs.declared.values.DayValues.{DayValues}
 use Rattle.cdm_flight.specs.Names.{same_name}
 use Rattle.cdm_flight.specs.Record.{Record}
@@ -112,40 +112,31 @@ abbrev pub clock_given : Update → Option ℕ
 clock_given (Clock m) = Some m
 clock_given _ = None
 
+abbrev pub tolerance_given : Update → Option Margins
+tolerance_given (Tol t) = Some t
+tolerance_given _ = None
+
 -- Last values of a flight.
 
 -- the updates of the flight
 abbrev pub of_flight : List ℕ → List Update → List Update
 of_flight f a = touching (reach.Flight f) a
 
-abbrev pub stand_of : List Update → List ℕ → Option (List ℕ)
-stand_of a f = last_value stand_given (of_flight f a)
-
 abbrev pub runway_of : List Update → List ℕ → Option (List ℕ)
 runway_of a f = last_value runway_given (of_flight f a)
-
-abbrev pub ice_of : List Update → List ℕ → Ice
-ice_of a f = unwrap_or (last_value ice_given (of_flight f a)) NoIce
-
-abbrev pub aobt_of : List Update → List ℕ → Option ℕ
-aobt_of a f = last_value aobt_given (of_flight f a)
-
-abbrev pub atot_of : List Update → List ℕ → Option ℕ
-atot_of a f = last_value atot_given (of_flight f a)
 
 -- there is an FLT of the flight
 abbrev pub is_known : List Update → List ℕ → Bool
 is_known a f = list_any is_fresh (of_flight f a)
 
--- there is a CNL of the flight
-abbrev pub is_cancelled : List Update → List ℕ → Bool
-is_cancelled a f = list_any is_cancel (of_flight f a)
-
 -- Last values of the day, of runways and of taxi times.
 
--- the clock: the last CLOCK, at first minute 0
+-- the clock: the last CLOCK, at first minute 0; the tolerance: the last TOL, at first the usual one
 unfoldable pub values_of : List Update → DayValues
-values_of a = record { clock = unwrap_or (last_value clock_given (touching reach.Day a)) 0 }
+values_of a = record {
+  clock = unwrap_or (last_value clock_given (touching reach.Day a)) 0;
+  tolerance = unwrap_or (last_value tolerance_given (touching reach.Day a)) usual_tolerance;
+}
 
 -- the capacity of a minute's cell: the last RATE of the runway whose window has the minute, else
 -- the airport's
@@ -164,7 +155,10 @@ taxi_of g a place r = option_or (last_value (taxi_given place) (touching (reach.
 
 -- the taxi-out time of the flight to its runway, as it is known now
 abbrev pub exot_now : AirportRows → List Update → List ℕ → Option ℕ
-exot_now g a f = option_and_then (λ r. taxi_out (λ place. taxi_of g a place r) (stand_of a f) (ice_of a f)) (runway_of a f)
+exot_now g a f =
+    let own = of_flight f a in
+    let ice = unwrap_or (last_value ice_given own) NoIce in
+    option_and_then (λ r. taxi_out (λ place. taxi_of g a place r) (last_value stand_given own) ice) (last_value runway_given own)
 
 -- the journal up to just before the flight's OFF, or all of it
 abbrev pub before_off : List ℕ → List Update → List Update
@@ -186,7 +180,9 @@ status_from false None None exot false = None
 
 -- how far the flight has come, if it is known
 abbrev pub status_of : AirportRows → List Update → List ℕ → Option Status
-status_of g a f = status_from (is_cancelled a f) (atot_of a f) (aobt_of a f) (exot_of g a f) (is_known a f)
+status_of g a f =
+    let own = of_flight f a in
+    status_from (list_any is_cancel own) (last_value atot_given own) (last_value aobt_given own) (exot_of g a f) (is_known a f)
 
 -- all the last values of a flight among its updates
 abbrev pub record_with : List ℕ → List Update → Status → Record

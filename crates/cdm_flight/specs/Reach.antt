@@ -3,7 +3,7 @@ use Rattle.std.specs.Prelude.{ℕ, Bool, true, false, List, filter, Option, None
 use Rattle.cdm_flight.specs.declared.reach.Reach.{Reach}
 use Rattle.cdm_flight.specs.declared.reach.Reach.TheVariants.{Flight, Runway, Taxi as TaxiTo, Day}
 use Rattle.cdm_flight.specs.declared.update.Update.{Update}
-use Rattle.cdm_flight.specs.declared.update.Update.TheVariants.{Flt, Tobt, Stand, Rwy, Ctot, Ice, Prio, Group, Off, Air, Cnl, Rate, Close, Reopen, Taxi, Clock}
+use Rattle.cdm_flight.specs.declared.update.Update.TheVariants.{Flt, Tobt, Stand, Rwy, Ctot, Ice, Prio, Group, Off, Air, Cnl, Rate, Close, Reopen, Taxi, Clock, Tol}
 use Rattle.cdm_flight.specs.Names.{same_name}
 
 -- what an update touches: a flight, a runway, the taxi times to a runway, or the day
@@ -24,6 +24,7 @@ reach_of (Close r from to) = Runway r
 reach_of (Reopen r from to) = Runway r
 reach_of (Taxi place r minutes) = TaxiTo r
 reach_of (Clock m) = Day
+reach_of (Tol t) = Day
 
 -- both are the same
 abbrev pub same_reach : Reach → Reach → Bool

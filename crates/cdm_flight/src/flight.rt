@@ -153,7 +153,8 @@ impl Flight {
             | Update::Close { .. }
             | Update::Reopen { .. }
             | Update::Taxi { .. }
-            | Update::Clock { .. } => unreachable!(),
+            | Update::Clock { .. }
+            | Update::Tol { .. } => unreachable!(),
         }
         Ok(next)
     }

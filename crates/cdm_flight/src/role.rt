@@ -30,7 +30,7 @@ pub fn allows(role: Role, update: &Update) -> bool
         }
         Update::Tobt { .. } => role == Role::AircraftOperator || role == Role::GroundHandler,
         Update::Ice { .. } => role == Role::GroundHandler,
-        Update::Ctot { .. } => role == Role::NetworkManager,
+        Update::Ctot { .. } | Update::Tol { .. } => role == Role::NetworkManager,
         Update::Cnl { .. } => role == Role::AircraftOperator,
         Update::Rwy { .. }
         | Update::Prio { .. }

@@ -5,7 +5,7 @@ ghost use Rattle.cdm_flight.specs.Reach.{reach_of};
 use crate::{
     Cap, FlightName, Group, Ice, Place, Priority, Reach, RunwayName, StandName, TaxiMinutes,
 };
-use cdm_time::{Bound, Minute};
+use cdm_time::{Bound, Minute, Tolerance};
 
 /// An update that a partner makes, one variant for each kind of feed record. Windows run from a
 /// minute up to a bound, which is not among them.
@@ -94,6 +94,10 @@ pub enum Update {
     Clock {
         now: Minute,
     },
+    /// TOL: the tolerance of every CTOT.
+    Tol {
+        tolerance: Tolerance,
+    },
 }
 
 impl Update {
@@ -117,7 +121,7 @@ impl Update {
             | Update::Close { runway, .. }
             | Update::Reopen { runway, .. } => Reach::Runway(runway),
             Update::Taxi { runway, .. } => Reach::Taxi(runway),
-            Update::Clock { .. } => Reach::Day,
+            Update::Clock { .. } | Update::Tol { .. } => Reach::Day,
         }
     }
 }

@@ -4,13 +4,15 @@ ghost use Rattle.cdm_flight.specs.declared.update.Update.{Update as AnUpdate};
 ghost use Rattle.cdm_flight.specs.Journal.{values_of};
 
 use crate::Update;
-use cdm_time::Minute;
+use cdm_time::{Minute, Tolerance};
 
 /// The values of the whole day.
 #[derive(Clone, Copy, Debug, PartialEq, Eq, Hash)]
 pub struct DayValues {
     /// The minute that it is now.
     pub clock: Minute,
+    /// How far from their CTOT flights may take off.
+    pub tolerance: Tolerance,
 }
 
 impl DayValues {
@@ -21,6 +23,7 @@ impl DayValues {
     {
         DayValues {
             clock: Minute::FIRST,
+            tolerance: Tolerance::usual(),
         }
     }
 
@@ -29,7 +32,8 @@ impl DayValues {
         ensures { (a : List AnUpdate) → values_of a ≡ self → values_of (a ++ update.now ∷ []) ≡ result }
     {
         match *update {
-            Update::Clock { now } => DayValues { clock: now },
+            Update::Clock { now } => DayValues { clock: now, ..self },
+            Update::Tol { tolerance } => DayValues { tolerance, ..self },
             _ => self,
         }
     }

@@ -180,7 +180,7 @@ kept_since first d t plan made since r p i e = by (is_touched t r.name) refl e
         contains_map rules first.airport.runways row among in
         let name : old.0.name ≡ row.name = sym old.1.runway ∙ (same_is p.runway r.name found.1 ∙ sym named) in
         let one : old.0 ≡ rules row = one_of_key same_name same_flips (λ (x : RunwayRules). x.name) (day_rules first) old.0 (rules row)
-        (day_rules_differ first made.airport.names) old.2 there (is_same old.0.name (rules row).name name) in
+        (day_rules_differ first made.sound.airport.names) old.2 there (is_same old.0.name (rules row).name name) in
         let here : IsPlanOn first (rules row) p = subst (λ (x : RunwayRules). IsPlanOn first x p) one
         (record { aims = aims; aimed = day.aimed; sequence = (placing, old.1) }) in
         subst (λ (x : RunwayRules). IsPlanOn d x p) at.2 (since.keeps row p (ap (is_touched t) named ∙ h) here)

@@ -9,4 +9,5 @@ pub mod PartLemmas
 pub mod DayPlanLemmas
 pub mod MadeLemmas
 pub mod OnePlanLemmas
+pub mod FirstLemmas
 pub mod KeptLemmas

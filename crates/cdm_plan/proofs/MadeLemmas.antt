@@ -109,7 +109,7 @@ module _ {d : DayRecord} {t : Touched} {old : List RunwayPlanRecord} {w : Work} 
               day_plan d rules zip.0 (filter_map stands runways ++ made) plan is.sound.airport is.runways.all whole zip.2 clock
               (subst (λ (bs : List BlockedFlight). HasParts bs (filter_map stands runways ++ made) plan) early parts) in
               record {
-                airport = is.sound.airport;
+                sound = is.sound;
                 of_day = plan_is;
                 only = λ other other_is. one_day_plan d other plan is.sound.airport.names is.sound.names other_is plan_is;
               };

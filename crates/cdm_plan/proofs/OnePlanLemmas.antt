@@ -1,22 +1,20 @@
 -- A day has one plan.
-use Rattle.std.proofs.Common.{◌≡◌, ℕ, true, List, [], ◌∷◌, ◌++◌, refl, sym, ◌∙◌, ap, subst, inl, inr, map, arith}
-use Rattle.cdm_plan.proofs.ListWords.{All, AllZip, Contains, IsDistinct, flat_map, list_any, IsPermutation}
-use Rattle.cdm_plan.proofs.ListWords.{map-append, All-contains, All-permutation}
+use Rattle.std.proofs.Common.{◌≡◌, ℕ, List, [], ◌∷◌, ◌++◌, refl, sym, ◌∙◌, ap, subst, inl, inr, map, arith}
+use Rattle.cdm_plan.proofs.ListWords.{AllZip, Contains, IsDistinct, flat_map, IsPermutation}
+use Rattle.cdm_plan.proofs.ListWords.{map-append, All-permutation}
 use Rattle.cdm_plan.proofs.ListWords.{IsPermutation-append_comm, IsPermutation-map, IsPermutation-refl, IsPermutation-trans}
 use Rattle.cdm_plan.proofs.ListWords.{IsPermutation-append_left, IsPermutation-append_right, append_assoc}
 use Rattle.cdm_plan.proofs.ListWords.{IsDistinct-IsPermutation, contains_head, contains_tail, contains_cases, distinct_filter, distinct_right}
-use Rattle.cdm_plan.proofs.ListWords.{list_any-find, list_any-map}
-use Rattle.cdm_plan.proofs.PlanWords.{DayValues, same_name, Record, RunwayRules, TaxiTimes, SlotRecord, IsSequence, IsSequenceBy}
-use Rattle.cdm_plan.proofs.PlanWords.{PlanRecord, RunwayPlanRecord, TargetRecord, AimResult, BlockedFlight, Placing, IsEarlier}
+use Rattle.cdm_plan.proofs.PlanWords.{DayValues, same_name, Record, RunwayRules, TaxiTimes, IsSequence, IsSequenceBy}
+use Rattle.cdm_plan.proofs.PlanWords.{PlanRecord, RunwayPlanRecord, TargetRecord, AimResult, BlockedFlight, Placing}
 use Rattle.cdm_plan.proofs.PlanWords.{same_flips}
-use Rattle.cdm_plan.proofs.PlanWords.{runway_names, DayRecord, flights_in, IsDayAllowed, IsDayPlan, IsDayPlanBy, day_rules, records_in, has_runway}
-use Rattle.cdm_plan.proofs.PlanWords.{values_of, taxi_of, RunwayRow, AreAims, HasParts, IsPlanOf, early_in, fixed_on, planned_of, targets_in}
+use Rattle.cdm_plan.proofs.PlanWords.{runway_names, DayRecord, flights_in, IsDayPlan, day_rules, records_in}
+use Rattle.cdm_plan.proofs.PlanWords.{values_of, taxi_of, AreAims, HasParts, IsPlanOf, early_in, fixed_on, planned_of, targets_in}
 use Rattle.cdm_plan.proofs.PlanWords.{targets_on}
 use Rattle.cdm_sequence.proofs.OneLemmas.{sequence_one}
 use Rattle.cdm_plan.proofs.DayPlanLemmas.{record_names_differ}
-use Rattle.cdm_plan.proofs.NameLemmas.{by_name, day_rules_differ, runway-names}
+use Rattle.cdm_plan.proofs.NameLemmas.{by_name, day_rules_differ}
 use Rattle.cdm_plan.proofs.PartLemmas.{runways_make}
-use Rattle.cdm_plan.proofs.PlacingLemmas.{allowed_on, none_earlier_on}
 use Rattle.cdm_plan.proofs.PlanningLemmas.{AllZip-weaker, aims_are, blocked_early, early-aims, made_named, names_on, once}
 use Rattle.cdm_plan.proofs.PlanningLemmas.{Shows, shows_made, stands_in, targets-aims, targets_of}
 
@@ -160,34 +158,3 @@ unfolding IsDayPlan
 day_made d aims made plan own are all clock parts =
     runways_make (taxi_of d.airport d.journal) (values_of d.journal) (records_in d.airport d.journal) (day_rules d) aims made plan are
     (day_rules_differ d own) all clock parts
-
--- it is allowed
-pub day_allowed : (d : DayRecord) (aims : List AimResult) (placing : Placing) (plan : PlanRecord) → IsDistinct same_name (flights_in d.journal)
-    → IsDayPlanBy placing aims d plan → IsDayAllowed aims d placing
-unfolding IsDayPlanBy
-day_allowed d aims placing plan own e =
-    let fs = records_in d.airport d.journal in
-    let times = taxi_of d.airport d.journal in
-    let values = values_of d.journal in
-    let targets = sym (targets-aims times values fs) ∙ ap targets_in (aims_are times values (planned_of fs) aims e.aimed) in
-    allowed_on (λ r. fixed_on r fs) (targets_in aims) placing (day_rules d) e.made
-    (λ r.
-    subst (λ (ts : List TargetRecord). IsDistinct same_name (map (λ f. f.key.name) (targets_on r ts))) targets
-    (distinct_right same_name (map (λ (x : SlotRecord). x.name) (fixed_on r fs))
-    (map (λ (t : TargetRecord). t.key.name) (targets_on r (targets_of fs times values)))
-    (names_on r times values fs (record_names_differ d own))))
-    e.sequences
-
--- and none that is allowed is earlier
-pub day_none_earlier : (d : DayRecord) (aims : List AimResult) (placing other : Placing) (plan : PlanRecord)
-    → All (λ f. has_runway d.airport f.runway ≡ true) (targets_in aims)
-    → IsDayPlanBy placing aims d plan → IsDayAllowed aims d other → IsEarlier (targets_in aims) other placing → ⊥
-unfolding IsDayPlanBy
-day_none_earlier d aims placing other plan known e allowed sooner =
-    let g = d.airport in
-    let runway = sooner.first.runway in
-    let there : has_runway g runway ≡ true = All-contains (λ f. has_runway g f.runway ≡ true) (targets_in aims) sooner.first known sooner.among in
-    let named : list_any (λ n. same_name n runway) (runway_names g) ≡ true = list_any-map (λ n. same_name n runway) (λ (row : RunwayRow). row.name) g.runways
-    ∙ list_any-find (λ (row : RunwayRow). same_name row.name runway) g.runways ∙ there in
-    none_earlier_on (λ r. fixed_on r (records_in g d.journal)) (targets_in aims) placing other (day_rules d) e.made e.sequences allowed sooner
-    (ap (list_any (λ n. same_name n runway)) (runway-names g d.journal g.runways) ∙ named)

@@ -2,7 +2,7 @@
 pub use Rattle.cdm_plan.specs.Airport.{IsAirport, runway_names}
 pub use Rattle.cdm_plan.specs.Day.{DayRecord, flights_in, with_update}
 unfoldable pub use Rattle.cdm_plan.specs.Day.{rules_of}
-pub use Rattle.cdm_plan.specs.DayPlan.{AreByName, IsDayAllowed, IsRunwayAt, day_rules, records_in}
+pub use Rattle.cdm_plan.specs.DayPlan.{AreByName, IsDayAllowed, IsDayFirst, IsRunwayAt, day_rules, records_in}
 unfoldable pub use Rattle.cdm_plan.specs.DayPlan.{IsDayPlan, IsDayPlanBy}
 pub use Rattle.cdm_plan.specs.Planning.{AreAims, HasParts, IsPlanOf, blocked_in, early_in, planned_of, target_in, targets_in, targets_on}
 unfoldable pub use Rattle.cdm_plan.specs.Planning.{fixed_on}

@@ -7,7 +7,7 @@ use Rattle.cdm_flight.specs.Record.{Record}
 use Rattle.cdm_flight.specs.Journal.{AirportRows, flight_of, taxi_of, values_of}
 use Rattle.cdm_runway.specs.Rules.{RunwayRules}
 use Rattle.cdm_sequence.specs.Fixed.{takeoffs}
-use Rattle.cdm_sequence.specs.Plan.{Placing, IsAllowed}
+use Rattle.cdm_sequence.specs.Plan.{Placing, IsAllowed, IsEarlier}
 use Rattle.cdm_sequence.specs.Slots.{PlanRecord}
 use Rattle.cdm_sequence.specs.declared.aims.AimResult.{AimResult}
 use Rattle.cdm_plan.specs.Day.{DayRecord, flights_in, rules_of}
@@ -43,3 +43,8 @@ IsDayPlanBy placing aims day plan =
 abbrev pub IsDayAllowed : List AimResult → DayRecord → Placing → Type 0
 IsDayAllowed aims day placing =
     All (λ r. IsAllowed r (takeoffs r (fixed_on r.name (records_in day.airport day.journal))) (targets_on r.name (targets_in aims)) placing) (day_rules day)
+
+-- first in order: it is allowed, and no placing that is allowed on the day is earlier
+pub record IsDayFirst (aims : List AimResult) (day : DayRecord) (placing : Placing) : Type 0 where
+  pub allowed : IsDayAllowed aims day placing
+  pub none_earlier : (other : Placing) → IsDayAllowed aims day other → IsEarlier (targets_in aims) other placing → ⊥

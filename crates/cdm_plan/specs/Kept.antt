@@ -14,10 +14,10 @@ use Rattle.cdm_sequence.specs.declared.aims.AimResult.{AimResult}
 use Rattle.cdm_plan.specs.declared.touched.Touched.{Touched}
 use Rattle.cdm_plan.specs.declared.touched.Touched.TheVariants.{All, Named}
 use Rattle.cdm_plan.specs.inner.Aimed.{is_on}
-use Rattle.cdm_plan.specs.Airport.{IsAirport}
 use Rattle.cdm_plan.specs.Day.{DayRecord, rules_of}
 use Rattle.cdm_plan.specs.DayPlan.{IsDayPlan, day_rules, records_in}
 use Rattle.cdm_plan.specs.Planning.{AreAims, fixed_on, targets_in, targets_on}
+use Rattle.cdm_plan.specs.Sound.{IsSound}
 
 -- the runway is one of those that were touched
 abbrev pub is_touched : Touched → List ℕ → Bool
@@ -59,8 +59,8 @@ kept_plan t plans r = if is_touched t r then None else find (λ p. same_name p.r
 abbrev pub AreKept : DayRecord → Touched → List RunwayPlanRecord → Type 0
 AreKept d t plans = (r : RunwayRules) (p : RunwayPlanRecord) → Contains (day_rules d) r → kept_plan t plans r.name ≡ Some p → IsPlanOn d r p
 
--- the plan is the day's, and no other is
+-- the day is sound, the plan is its plan, and no other is
 pub record IsMade (d : DayRecord) (plan : PlanRecord) : Type 0 where
-  pub airport : IsAirport d.airport
+  pub sound : IsSound d
   pub of_day : IsDayPlan d plan
   pub only : (other : PlanRecord) → IsDayPlan d other → other ≡ plan

@@ -1,18 +1,18 @@
-//! Laws of the day's plan: there is one, runway plans make it, it is allowed, and none that is allowed
-//! is earlier.
-ghost use Rattle.std.specs.Prelude.{◌≡◌, true, List, All};
+//! Laws of the day's plan: there is one, runway plans make it, and it is first in order.
+ghost use Rattle.std.specs.Prelude.{◌≡◌, List, Contains};
 ghost use Rattle.std.specs.List.{AllZip, IsDistinct};
-ghost use Rattle.cdm_flight.specs.Accepted.{has_runway};
 ghost use Rattle.cdm_flight.specs.Journal.{taxi_of, values_of};
 ghost use Rattle.cdm_flight.specs.Names.{same_name};
-ghost use Rattle.cdm_sequence.specs.Plan.{Placing, IsEarlier};
+ghost use Rattle.cdm_sequence.specs.Plan.{Placing};
 ghost use Rattle.cdm_sequence.specs.Sequence.{IsSequence};
 ghost use Rattle.cdm_sequence.specs.Slots.{PlanRecord, RunwayPlanRecord};
+ghost use Rattle.cdm_sequence.specs.Targets.{TargetRecord};
 ghost use Rattle.cdm_sequence.specs.declared.aims.AimResult.{AimResult};
 ghost use Rattle.cdm_plan.specs.Airport.{runway_names};
 ghost use Rattle.cdm_plan.specs.Day.{DayRecord, flights_in};
-ghost use Rattle.cdm_plan.specs.DayPlan.{IsDayAllowed, IsDayPlan, IsDayPlanBy, day_rules, records_in};
+ghost use Rattle.cdm_plan.specs.DayPlan.{IsDayFirst, IsDayPlan, IsDayPlanBy, day_rules, records_in};
 ghost use Rattle.cdm_plan.specs.Planning.{AreAims, HasParts, early_in, fixed_on, targets_in, targets_on};
+ghost use Rattle.cdm_plan.specs.Sound.{IsSound};
 
 /// A day whose runways have names of their own, and whose flights become known once each, has one
 /// plan.
@@ -32,16 +32,15 @@ pub fn runways_make_the_day()
         plan.clock ≡ (values_of d.journal).clock → HasParts (early_in (records_in d.airport d.journal) aims) made plan → IsDayPlan d plan }
 {}
 
-/// The plan of a day whose flights become known once each is allowed.
-pub fn plans_of_a_day_are_allowed()
+/// The plan of a day is first in order: it is allowed, and no allowed placing is earlier at the first
+/// flight, in the order of sequence, at which the two differ.
+pub fn plans_of_a_day_are_first()
     ensures { (d : DayRecord) (aims : List AimResult) (placing : Placing) (plan : PlanRecord) →
-        IsDistinct same_name (flights_in d.journal) → IsDayPlanBy placing aims d plan → IsDayAllowed aims d placing }
+        IsSound d → IsDayPlanBy placing aims d plan → IsDayFirst aims d placing }
 {}
 
-/// No allowed placing of a day is earlier than its plan, where the targets have runways of the
-/// airport.
-pub fn none_is_earlier_in_a_day()
-    ensures { (d : DayRecord) (aims : List AimResult) (placing other : Placing) (plan : PlanRecord) →
-        All (λ f. has_runway d.airport f.runway ≡ true) (targets_in aims) →
-        IsDayPlanBy placing aims d plan → IsDayAllowed aims d other → IsEarlier (targets_in aims) other placing → ⊥ }
+/// No two placings of a day that differ are first in order.
+pub fn one_is_first_in_a_day()
+    ensures { (d : DayRecord) (aims : List AimResult) (p q : Placing) → IsDayFirst aims d p → IsDayFirst aims d q →
+        (f : TargetRecord) → Contains (targets_in aims) f → p f ≡ q f }
 {}

@@ -14,7 +14,7 @@ mod work;
 
 pub use kept::Kept;
 pub use laws::{
-    none_is_earlier_in_a_day, one_plan_of_a_day, plans_of_a_day_are_allowed, runways_make_the_day,
+    one_is_first_in_a_day, one_plan_of_a_day, plans_of_a_day_are_first, runways_make_the_day,
 };
 pub use planning::{plan_keeping, plan_of};
 pub use records::Records;

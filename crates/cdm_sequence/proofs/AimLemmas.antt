@@ -3,7 +3,7 @@ use Rattle.std.proofs.Common.{◌≡◌, ℕ, ◌+◌, ◌-◌, ◌<◌, ◌≤�
 use Rattle.std.proofs.Common.{arith, ap}
 use Rattle.std.proofs.lemmas.Bool.Decides.{nat_tests}
 use Rattle.std.specs.Prelude.{if◌then◌else◌}
-use Rattle.cdm_time.specs.Windows.{Interval, has_minute, tolerance_before, tolerance_after}
+use Rattle.cdm_time.specs.Windows.{Interval, Margins, has_minute}
 use Rattle.cdm_flight.specs.declared.key.Key.{Key}
 use Rattle.cdm_flight.specs.declared.values.DayValues.{DayValues}
 use Rattle.cdm_flight.specs.Record.{Record}
@@ -16,21 +16,22 @@ use Rattle.cdm_sequence.specs.declared.rule.Rule.TheVariants.{Tobt, Runway, Exot
 -- Windows.
 
 -- the first of the candidates, and the end of them
-abbrev pub window_from : ℕ → Option ℕ → ℕ
-window_from earliest None = earliest
-window_from earliest (Some ctot) = max earliest (ctot - tolerance_before)
+abbrev pub window_from : Margins → ℕ → Option ℕ → ℕ
+window_from tolerance earliest None = earliest
+window_from tolerance earliest (Some ctot) = max earliest (ctot - tolerance.before)
 
-abbrev pub window_to : Option ℕ → ℕ
-window_to None = 2880
-window_to (Some ctot) = min 2880 (ctot + tolerance_after + 1)
+abbrev pub window_to : Margins → Option ℕ → ℕ
+window_to tolerance None = 2880
+window_to tolerance (Some ctot) = min 2880 (ctot + tolerance.after + 1)
 
-abbrev pub window_of : ℕ → Option ℕ → Interval
-window_of earliest ctot = record { from = window_from earliest ctot; to = window_to ctot }
+abbrev pub window_of : Margins → ℕ → Option ℕ → Interval
+window_of tolerance earliest ctot = record { from = window_from tolerance earliest ctot; to = window_to tolerance ctot }
 
 -- the window's minutes are the candidates
-pub window_minutes : (earliest : ℕ) (ctot : Option ℕ) (m : ℕ) → has_minute (window_of earliest ctot) m ≡ is_candidate earliest ctot m
-window_minutes earliest None m = grind (arith, nat_tests)
-window_minutes earliest (Some ctot) m = grind (arith, nat_tests)
+pub window_minutes : (tolerance : Margins) (earliest : ℕ) (ctot : Option ℕ) (m : ℕ)
+    → has_minute (window_of tolerance earliest ctot) m ≡ is_candidate tolerance earliest ctot m
+window_minutes tolerance earliest None m = grind (arith, nat_tests)
+window_minutes tolerance earliest (Some ctot) m = grind (arith, nat_tests)
 
 -- a minute lies in a window where it lies between its bounds
 has : (w : Interval) (m : ℕ) → w.from ≤ m → m < w.to → has_minute w m ≡ true
@@ -56,10 +57,10 @@ window_one v w same some =
     let to : v.to ≡ w.to = omega (arith, a.1, b.1, d.1, some) in
     λ i. record { from = from i; to = to i }
 
-reached : (earliest : ℕ) (ctot : Option ℕ) → window_from earliest ctot < window_to ctot
-    → (nat_le 2880 earliest ≡ false) × (nat_lt (window_from earliest ctot) (window_to ctot) ≡ true)
-reached earliest None h = (grind (arith, nat_tests), grind (arith, nat_tests))
-reached earliest (Some ctot) h = (grind (arith, nat_tests), grind (arith, nat_tests))
+reached : (tolerance : Margins) (earliest : ℕ) (ctot : Option ℕ) → window_from tolerance earliest ctot < window_to tolerance ctot
+    → (nat_le 2880 earliest ≡ false) × (nat_lt (window_from tolerance earliest ctot) (window_to tolerance ctot) ≡ true)
+reached tolerance earliest None h = (grind (arith, nat_tests), grind (arith, nat_tests))
+reached tolerance earliest (Some ctot) h = (grind (arith, nat_tests), grind (arith, nat_tests))
 
 -- The answer, step by step.
 
@@ -71,8 +72,12 @@ target_of f values tobt runway exot = record {
   group = f.group;
   exot = exot;
   ready = ready_at f tobt values;
-  window = window_of (ready_at f tobt values + exot) f.ctot;
+  window = window_of values.tolerance (ready_at f tobt values + exot) f.ctot;
 }
+
+-- the flight has a candidate from the earliest minute on
+abbrev has_some : Record → DayValues → ℕ → Bool
+has_some f values earliest = nat_lt (window_from values.tolerance earliest f.ctot) (window_to values.tolerance f.ctot)
 
 -- the target, unless no minute is in reach, or none of those is a candidate
 abbrev if_possible : Bool → Bool → TargetRecord → AimResult
@@ -81,8 +86,7 @@ if_possible out some t = if out then Early Horizon else if some then Ready t els
 abbrev pub aim_with_exot : Record → DayValues → ℕ → List ℕ → Option ℕ → AimResult
 aim_with_exot f values tobt runway None = Early Exot
 aim_with_exot f values tobt runway (Some exot) =
-    if_possible (nat_le 2880 (ready_at f tobt values + exot)) (nat_lt (window_from (ready_at f tobt values + exot) f.ctot) (window_to f.ctot))
-    (target_of f values tobt runway exot)
+    if_possible (nat_le 2880 (ready_at f tobt values + exot)) (has_some f values (ready_at f tobt values + exot)) (target_of f values tobt runway exot)
 
 abbrev pub aim_with : Record → TaxiTimes → DayValues → Option ℕ → Option (List ℕ) → AimResult
 aim_with f times values None runway = Early Tobt
@@ -109,7 +113,7 @@ module _ (f : Record) (times : TaxiTimes) (values : DayValues) where
   means (Some tobt) None = (refl, refl)
   means (Some tobt) (Some runway) = by (exot_to times f runway) refl where
     with_exot : (exot : ℕ) → exot_to times f runway ≡ Some exot → (b c : Bool) → nat_le 2880 (ready_at f tobt values + exot) ≡ b
-        → nat_lt (window_from (ready_at f tobt values + exot) f.ctot) (window_to f.ctot) ≡ c
+        → has_some f values (ready_at f tobt values + exot) ≡ c
         → IsAim (flight_with (Some tobt) (Some runway)) times values (if_possible b c (target_of f values tobt runway exot))
     with_exot exot h true c p q = rw h (grind (arith, nat_tests))
     with_exot exot h false true p q = record {
@@ -120,11 +124,11 @@ module _ (f : Record) (times : TaxiTimes) (values : DayValues) where
       exot = h;
       ready = refl;
       some_minute = grind (arith, nat_tests);
-      minutes = window_minutes (ready_at f tobt values + exot) f.ctot;
+      minutes = window_minutes values.tolerance (ready_at f tobt values + exot) f.ctot;
     }
     with_exot exot h false false p q =
-        let window = window_of (ready_at f tobt values + exot) f.ctot in
-        rw h (grind (arith, nat_tests), λ m. sym (window_minutes (ready_at f tobt values + exot) f.ctot m) ∙ has_none window m q)
+        let window = window_of values.tolerance (ready_at f tobt values + exot) f.ctot in
+        rw h (grind (arith, nat_tests), λ m. sym (window_minutes values.tolerance (ready_at f tobt values + exot) f.ctot m) ∙ has_none window m q)
 
     by : (x : Option ℕ) → exot_to times f runway ≡ x → IsAim (flight_with (Some tobt) (Some runway)) times values (aim_with_exot f values tobt runway x)
     by None h = (refl, (runway, refl, h))
@@ -158,11 +162,12 @@ module _ (f : Record) (times : TaxiTimes) (values : DayValues) where
         ap (λ b. if_possible b (nat_lt t.window.from t.window.to) t) out
     by None h (Early Ctot) e = absurd (rw h at e)
     by (Some exot) h (Early Ctot) e =
-        let held : (ready_at f tobt values + exot < 2880) × ((k : ℕ) → is_candidate (ready_at f tobt values + exot) f.ctot k ≡ false) = rw h at e in
+        let earliest = ready_at f tobt values + exot in
+        let held : (earliest < 2880) × ((k : ℕ) → is_candidate values.tolerance earliest f.ctot k ≡ false) = rw h at e in
         let t = target_of f values tobt runway exot in
         let near = held.0 in
-        let out : nat_le 2880 (ready_at f tobt values + exot) ≡ false = grind (arith, nat_tests) in
-        let none = had_none t.window (window_minutes (ready_at f tobt values + exot) f.ctot t.window.from ∙ held.1 t.window.from) in
+        let out : nat_le 2880 earliest ≡ false = grind (arith, nat_tests) in
+        let none = had_none t.window (window_minutes values.tolerance earliest f.ctot t.window.from ∙ held.1 t.window.from) in
         λ i. if_possible (out i) (none i) t
     by x h (Ready t) e =
         let own : Key = record { priority = f.priority; tobt = tobt; name = f.name } in
@@ -170,9 +175,10 @@ module _ (f : Record) (times : TaxiTimes) (values : DayValues) where
         let runway_is : runway ≡ t.runway = cc in
         let ready : ready_at f tobt values ≡ t.ready = ap (λ (k : Key). ready_at f k.tobt values) key ∙ sym e.ready in
         let found = target_of f values tobt runway t.exot in
-        let window : found.window ≡ t.window = window_one found.window t.window (λ m. window_minutes (ready_at f tobt values + t.exot) f.ctot m
-        ∙ ((λ i. is_candidate (ready i + t.exot) (sym e.ctot i) m) ∙ sym (e.minutes m))) e.some_minute in
-        let possible = reached (ready_at f tobt values + t.exot) f.ctot (subst (λ (w : Interval). w.from < w.to) (sym window) e.some_minute) in
+        let earliest = ready_at f tobt values + t.exot in
+        let window : found.window ≡ t.window = window_one found.window t.window (λ m. window_minutes values.tolerance earliest f.ctot m
+        ∙ ((λ i. is_candidate values.tolerance (ready i + t.exot) (sym e.ctot i) m) ∙ sym (e.minutes m))) e.some_minute in
+        let possible = reached values.tolerance earliest f.ctot (subst (λ (w : Interval). w.from < w.to) (sym window) e.some_minute) in
         let target : found ≡ t = λ i. record { key = key i; runway = runway_is i; ctot = sym e.ctot i; group = sym e.group i; exot = t.exot; ready = ready i; window = window i } in
         ap (aim_with_exot f values tobt runway) (sym h ∙ ap (exot_to times f) runway_is ∙ e.exot) ∙ (λ i. if_possible (possible.0 i) (possible.1 i) found)
         ∙ ap Ready target

@@ -14,7 +14,7 @@ use Rattle.cdm_flight.proofs.Lists.{apart_from_head, contains_all, contains_kept
 use Rattle.cdm_runway.specs.Rules.{RunwayRules}
 use Rattle.cdm_runway.specs.Room.{cap_at, held_in_cell, taken_by, HasRoom, IsFree}
 use Rattle.cdm_runway.specs.declared.load.Taken.{Taken}
-use Rattle.cdm_sequence.specs.Plan.{Placing, taken_before, taken_of, IsLeast, IsPlan, MayHave, IsAllowed, IsSooner, IsEarlier}
+use Rattle.cdm_sequence.specs.Plan.{Placing, taken_before, taken_of, IsLeast, IsPlan, MayHave, IsAllowed, IsSooner, IsEarlier, IsFirst}
 use Rattle.cdm_sequence.specs.Targets.{TargetRecord}
 use Rattle.cdm_sequence.proofs.OrderLemmas.{before_itself, before_or_after, first_in, is_same, keys_weak, same_is}
 use Rattle.cdm_sequence.proofs.DifferenceLemmas.{compared}
@@ -200,3 +200,15 @@ module _ (r : RunwayRules) (fixed : List Taken) (ts : List TargetRecord) where
             (may.after, may.before, record { is_open = may.is_open; is_spaced = may.is_spaced; has_room = omega arith })
       ] in
       none_fits r fixed ts p q plan e (go (q f) refl (All-contains (λ f. IfSome (q f) (MayHave r (taken_before r fixed ts q f) (fixed ++ filter_map (taken_of r q) ts) f)) ts f allowed e.among))
+
+  -- so it is first
+  pub plan_first : (p : Placing) → IsDistinct same_name (map (λ f. f.key.name) ts) → IsPlan r fixed ts p → IsFirst r fixed ts p
+  plan_first p own plan = record { allowed = plan_allowed p own plan; none_earlier = λ q allowed e. none_earlier p q plan allowed e }
+
+  -- and no other is
+  pub first_one : (p q : Placing) → IsFirst r fixed ts p → IsFirst r fixed ts q → (f : TargetRecord) → Contains ts f → p f ≡ q f
+  first_one p q a b = elim (compared ts p q) [
+    | inl same ↦ same
+    | inr (inl e) ↦ absurd (b.none_earlier p a.allowed e)
+    | inr (inr e) ↦ absurd (a.none_earlier q b.allowed e)
+  ]

@@ -1,7 +1,7 @@
 -- Whether a planned flight can be sequenced, and when it may take off.
 use Rattle.std.specs.Prelude.{◌≡◌, ℕ, ◌+◌, ◌<◌, ◌≤◌, max, Bool, true, false, ◌&&◌, nat_le, nat_lt, List, Option, Some, None, IsSome}
 use Rattle.std.specs.Option.{IsSomeAnd, option_map_or}
-use Rattle.cdm_time.specs.Windows.{has_minute, horizon, is_in_tolerance}
+use Rattle.cdm_time.specs.Windows.{Margins, has_minute, horizon, is_in_tolerance}
 use Rattle.cdm_flight.specs.declared.ice.Ice.{Ice}
 use Rattle.cdm_flight.specs.declared.ice.Ice.TheVariants.{AtStand}
 use Rattle.cdm_flight.specs.declared.place.Place.{Place}
@@ -31,8 +31,8 @@ abbrev pub exot_to : TaxiTimes → Record → List ℕ → Option ℕ
 exot_to times f runway = taxi_out (λ place. times place runway) f.stand f.ice
 
 -- a minute of the horizon from the earliest on, within the tolerance of the CTOT, if there is one
-abbrev pub is_candidate : ℕ → Option ℕ → ℕ → Bool
-is_candidate earliest ctot m = nat_le earliest m && nat_lt m horizon && option_map_or (λ c. is_in_tolerance c m) ctot true
+abbrev pub is_candidate : Margins → ℕ → Option ℕ → ℕ → Bool
+is_candidate tolerance earliest ctot m = nat_le earliest m && nat_lt m horizon && option_map_or (λ c. is_in_tolerance tolerance c m) ctot true
 
 -- the target is that of the flight, and the minutes of its window are the candidates
 pub record IsTarget (f : Record) (times : TaxiTimes) (values : DayValues) (t : TargetRecord) : Type 0 where
@@ -43,7 +43,7 @@ pub record IsTarget (f : Record) (times : TaxiTimes) (values : DayValues) (t : T
   pub exot : exot_to times f t.runway ≡ Some t.exot
   pub ready : t.ready ≡ ready_at f t.key.tobt values
   pub some_minute : t.window.from < t.window.to
-  pub minutes : (m : ℕ) → has_minute t.window m ≡ is_candidate (t.ready + t.exot) t.ctot m
+  pub minutes : (m : ℕ) → has_minute t.window m ≡ is_candidate values.tolerance (t.ready + t.exot) t.ctot m
 
 -- the flight has a TOBT, a runway and a taxi-out time, and P holds of the minute from which on it could take
 -- off by them
@@ -59,5 +59,5 @@ IsAim f times values (Early Tobt) = f.tobt ≡ None
 IsAim f times values (Early Runway) = IsSome f.tobt × (f.runway ≡ None)
 IsAim f times values (Early Exot) = IsSome f.tobt × ((runway : List ℕ) × (f.runway ≡ Some runway) × (exot_to times f runway ≡ None))
 IsAim f times values (Early Horizon) = ReachesAt f times values (λ m. horizon ≤ m)
-IsAim f times values (Early Ctot) = ReachesAt f times values (λ m. (m < horizon) × ((k : ℕ) → is_candidate m f.ctot k ≡ false))
+IsAim f times values (Early Ctot) = ReachesAt f times values (λ m. (m < horizon) × ((k : ℕ) → is_candidate values.tolerance m f.ctot k ≡ false))
 IsAim f times values (Early rule) = ⊥

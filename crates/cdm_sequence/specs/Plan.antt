@@ -57,3 +57,8 @@ pub record IsEarlier (targets : List TargetRecord) (p q : Placing) : Type 0 wher
   pub among : Contains targets first
   pub sooner : IsSooner (p first) (q first)
   pub agree : (g : TargetRecord) → Contains targets g → is_before g.key first.key ≡ true → p g ≡ q g
+
+-- first in order: it is allowed, and no allowed placing is earlier
+pub record IsFirst (r : RunwayRules) (fixed : List Taken) (targets : List TargetRecord) (placing : Placing) : Type 0 where
+  pub allowed : IsAllowed r fixed targets placing
+  pub none_earlier : (other : Placing) → IsAllowed r fixed targets other → IsEarlier targets other placing → ⊥

@@ -6,7 +6,7 @@ ghost use Rattle.cdm_flight.specs.Record.{is_planned};
 use crate::{Rule, Target};
 use cdm_flight::{DayValues, Flight, Ice};
 use cdm_taxi::TaxiTable;
-use cdm_time::{Bound, Minute, Window, ctot_window};
+use cdm_time::{Bound, Minute, Tolerance, Window, ctot_window};
 
 /// What a planned flight could have before the traffic of its runway is asked.
 #[derive(Clone, Copy, Debug, PartialEq, Eq)]
@@ -31,15 +31,16 @@ fn minutes_on_stand(ice: Ice) -> u16
     }
 }
 
-// The minutes of the horizon from the earliest on that keep the CTOT tolerance, if there are any.
-fn candidates(earliest: Minute, ctot: Option<Minute>) -> Option<Window>
-    ensures minutes { AreCandidates earliest ctot result }
+// The minutes of the horizon from the earliest on that keep the tolerance of the CTOT, if there are
+// any.
+fn candidates(earliest: Minute, ctot: Option<Minute>, tolerance: Tolerance) -> Option<Window>
+    ensures minutes { AreCandidates tolerance earliest ctot result }
     ensures reachable { IfSome result (λ window. earliest ≤ window.from) }
 {
     let (from, to) = match ctot {
         Some(ctot) => {
-            let tolerance = ctot_window(ctot);
-            (earliest.max(tolerance.from()), tolerance.to())
+            let slot = ctot_window(ctot, tolerance);
+            (earliest.max(slot.from()), slot.to())
         }
         None => (earliest, Bound::END),
     };
@@ -49,7 +50,7 @@ fn candidates(earliest: Minute, ctot: Option<Minute>) -> Option<Window>
 /// When a planned flight may take off: its target, or the first of these rules that leaves it
 /// none. Tobt, Runway, Exot: it has no TOBT, no runway, or no taxi-out time to it. Horizon: no
 /// minute of the horizon is at or after its readiness and EXOT. Ctot: none of those is within the
-/// CTOT tolerance. It is ready after its TOBT and de-icing on the stand, and not before the clock
+/// day's tolerance of its CTOT. It is ready after its TOBT and de-icing on the stand, and not before the clock
 /// (local profile).
 pub fn aim(flight: &Flight, taxi: &TaxiTable, values: DayValues) -> AimResult
     requires { is_planned flight.now.status ≡ true }
@@ -68,7 +69,7 @@ pub fn aim(flight: &Flight, taxi: &TaxiTable, values: DayValues) -> AimResult
     let Some(earliest) = Minute::new(ready + exot) else {
         return AimResult::Early(Rule::Horizon);
     };
-    let Some(window) = candidates(earliest, flight.ctot) else {
+    let Some(window) = candidates(earliest, flight.ctot, values.tolerance) else {
         return AimResult::Early(Rule::Ctot);
     };
     AimResult::Ready(Target {

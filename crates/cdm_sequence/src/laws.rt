@@ -1,4 +1,4 @@
-//! Laws of the sequence: there is one, it is allowed, and none that is allowed is earlier.
+//! Laws of the sequence: there is one, and it is first in order.
 ghost use Rattle.std.specs.Prelude.{◌≡◌, ◌⊎◌, ℕ, List, map, Contains, IsPermutation};
 ghost use Rattle.std.specs.List.{IsDistinct};
 ghost use Rattle.cdm_flight.specs.declared.values.DayValues.{DayValues};
@@ -7,7 +7,7 @@ ghost use Rattle.cdm_flight.specs.Record.{Record};
 ghost use Rattle.cdm_runway.specs.Rules.{RunwayRules};
 ghost use Rattle.cdm_runway.specs.declared.load.Taken.{Taken};
 ghost use Rattle.cdm_sequence.specs.Aims.{TaxiTimes, IsAim};
-ghost use Rattle.cdm_sequence.specs.Plan.{Placing, IsPlan, IsAllowed, IsEarlier};
+ghost use Rattle.cdm_sequence.specs.Plan.{Placing, IsPlan, IsEarlier, IsFirst};
 ghost use Rattle.cdm_sequence.specs.Sequence.{IsSequence, flight_names};
 ghost use Rattle.cdm_sequence.specs.Slots.{RunwayPlanRecord, SlotRecord};
 ghost use Rattle.cdm_sequence.specs.Targets.{TargetRecord};
@@ -33,18 +33,19 @@ pub fn one_plan()
         (f : TargetRecord) → Contains targets f → p f ≡ q f }
 {}
 
-/// A plan of flights with names of their own is allowed.
-#[tactic(auto, using(crate::proofs::PlanLemmas::plan_allowed))]
-pub fn plans_are_allowed()
+/// A plan of flights with names of their own is first in order: it is allowed, and no allowed placing is
+/// earlier.
+pub fn plans_are_first()
     ensures { (r : RunwayRules) (fixed : List Taken) (targets : List TargetRecord) (p : Placing) →
         IsDistinct same_name (map (λ f. f.key.name) targets) →
-        IsPlan r fixed targets p → IsAllowed r fixed targets p }
+        IsPlan r fixed targets p → IsFirst r fixed targets p }
 {}
 
-/// No allowed placing is earlier than the plan.
-pub fn none_is_earlier()
+/// No two placings that differ are first in order.
+pub fn one_is_first()
     ensures { (r : RunwayRules) (fixed : List Taken) (targets : List TargetRecord) (p q : Placing) →
-        IsPlan r fixed targets p → IsAllowed r fixed targets q → IsEarlier targets q p → ⊥ }
+        IsFirst r fixed targets p → IsFirst r fixed targets q →
+        (f : TargetRecord) → Contains targets f → p f ≡ q f }
 {}
 
 /// Of two placings that differ one is earlier.

@@ -16,7 +16,7 @@ mod turns;
 pub use aims::{AimResult, aim};
 pub use fixed::fixed_of;
 pub use laws::{
-    any_order, none_is_earlier, one_aim, one_is_earlier, one_plan, one_sequence, plans_are_allowed,
+    any_order, one_aim, one_is_earlier, one_is_first, one_plan, one_sequence, plans_are_first,
     some_aim,
 };
 pub use plan::{Plan, RunwayPlan};

@@ -1,12 +1,13 @@
 //! One runway's sequence.
-ghost use Rattle.std.specs.Prelude.{◌≡◌, ℕ, ◌+◌, ◌≤◌, ◌++◌, length, map, All, IfOk, IsPermutation, IsSorted, IsSortedByKey, IsTrue};
+ghost use Rattle.std.specs.Prelude.{◌≡◌, ℕ, ◌+◌, ◌≤◌, ◌++◌, length, map, All, Contains, IfOk, IsPermutation, IsSorted, IsSortedByKey, IsTrue};
 ghost use Rattle.std.specs.List.{filter_map, IsDistinct};
 ghost use Rattle.std.specs.Option.{option_map};
 ghost use Rattle.cdm_flight.specs.Names.{name_cmp, same_name};
 ghost use Rattle.cdm_sequence.specs.Fixed.{takeoffs};
-ghost use Rattle.cdm_sequence.specs.Plan.{Placing, IsAllowed, IsEarlier};
+ghost use Rattle.cdm_sequence.specs.Plan.{Placing, IsFirst};
 ghost use Rattle.cdm_sequence.specs.Sequence.{IsSequence, IsSequenceBy, flight_names, planned_slot};
 ghost use Rattle.cdm_sequence.specs.Slots.{is_fixed, slot_cmp};
+ghost use Rattle.cdm_sequence.specs.Targets.{TargetRecord};
 ghost use Rattle.cdm_sequence.specs.inner.Turns.{blocked_from, placed_at};
 
 use crate::decision::Decision;
@@ -124,11 +125,13 @@ pub fn sequence(
     ensures each_once { IfOk result (λ plan. IsPermutation (flight_names fixed.now targets.now)
         (map (λ s. s.name) plan.slots ++ map (λ b. b.name) plan.blocked)) }
 
-    // The plan's placing is allowed, and no allowed placing is earlier.
-    ensures allowed { IfOk result (λ plan. (placing : Placing) → IsSequenceBy placing runway.now fixed.now targets.now plan →
-        IsAllowed runway.now (takeoffs runway.now fixed.now) targets.now placing) }
-    ensures first { IfOk result (λ plan. (placing other : Placing) → IsSequenceBy placing runway.now fixed.now targets.now plan →
-        IsAllowed runway.now (takeoffs runway.now fixed.now) targets.now other → IsEarlier targets.now other placing → ⊥) }
+    // The plan's placing is allowed, and no allowed placing is earlier at the first flight, in the
+    // order of sequence, at which the two differ; no other placing is so.
+    ensures first { IfOk result (λ plan. (placing : Placing) → IsSequenceBy placing runway.now fixed.now targets.now plan →
+        IsFirst runway.now (takeoffs runway.now fixed.now) targets.now placing) }
+    ensures only { IfOk result (λ plan. (placing other : Placing) → IsSequenceBy placing runway.now fixed.now targets.now plan →
+        IsFirst runway.now (takeoffs runway.now fixed.now) targets.now other →
+        (f : TargetRecord) → Contains targets.now f → other f ≡ placing f) }
 {
     let ordered = in_order(alloc, targets)?;
     let load = load_of(runway, fixed);

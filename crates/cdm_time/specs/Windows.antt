@@ -14,13 +14,15 @@ has_minute i m = nat_le i.from m && nat_lt m i.to
 abbrev pub horizon : ℕ
 horizon = 2880
 
--- the CTOT tolerance, in minutes before the CTOT and after it
-abbrev pub tolerance_before : ℕ
-tolerance_before = 5
+-- a CTOT tolerance: how many minutes before the CTOT a flight may take off, and how many after it
+pub record Margins : Type 0 where
+  pub before : ℕ
+  pub after : ℕ
 
-abbrev pub tolerance_after : ℕ
-tolerance_after = 10
+-- the tolerance without another
+abbrev pub usual_tolerance : Margins
+usual_tolerance = record { before = 5; after = 10 }
 
 -- a take-off at this minute is within the tolerance of the CTOT
-abbrev pub is_in_tolerance : ℕ → ℕ → Bool
-is_in_tolerance ctot m = nat_le ctot (m + tolerance_before) && nat_le m (ctot + tolerance_after)
+abbrev pub is_in_tolerance : Margins → ℕ → ℕ → Bool
+is_in_tolerance tolerance ctot m = nat_le ctot (m + tolerance.before) && nat_le m (ctot + tolerance.after)

@@ -9,6 +9,7 @@ mod calendar;
 mod day;
 mod digits;
 mod minute;
+mod tolerance;
 mod window;
 
 pub use bound::{Bound, HORIZON_MINUTES};
@@ -16,4 +17,5 @@ pub use calendar::CalendarDate;
 pub use day::{Day, TimeFault};
 pub use digits::number_of;
 pub use minute::Minute;
-pub use window::{TOLERANCE_AFTER, TOLERANCE_BEFORE, Window, ctot_window};
+pub use tolerance::Tolerance;
+pub use window::{Window, ctot_window};

@@ -1,18 +1,11 @@
 //! Windows of minutes.
 ghost use Rattle.std.specs.Prelude.{◌≡◌, ℕ, ◌+◌, ◌-◌, ◌≤◌, ◌<◌, nat_lt, min, Some, None, if◌then◌else◌};
-ghost use Rattle.cdm_time.specs.Windows.{has_minute, is_in_tolerance, tolerance_after, tolerance_before};
+ghost use Rattle.cdm_time.specs.Windows.{has_minute, is_in_tolerance};
 
 use crate::bound::Bound;
 use crate::minute::Minute;
+use crate::tolerance::Tolerance;
 use std::marker::Model;
-
-/// How many minutes before its CTOT a flight may take off: the lower end of the CTOT tolerance
-/// (local profile, after the usual slot tolerance of 5 minutes before).
-pub const TOLERANCE_BEFORE: u16 = 5;
-
-/// How many minutes after its CTOT a flight may take off: the upper end of the CTOT tolerance
-/// (local profile, after the usual slot tolerance of 10 minutes after).
-pub const TOLERANCE_AFTER: u16 = 10;
 
 /// The minutes from one up to a bound, which is not among them. No window is empty.
 #[derive(Clone, Copy, PartialEq, Eq, Hash, Debug)]
@@ -71,15 +64,15 @@ impl Window {
     }
 }
 
-/// The minutes at which a flight with this CTOT may take off: those of the horizon within the CTOT
-/// tolerance.
-pub fn ctot_window(ctot: Minute) -> Window
-    ensures from { result.from ≡ ctot - tolerance_before }
-    ensures to { result.to ≡ min 2880 (ctot + tolerance_after + 1) }
-    ensures minutes { (m : ℕ) → m < 2880 → has_minute result m ≡ is_in_tolerance ctot m }
+/// The minutes at which a flight with this CTOT may take off: those of the horizon within the
+/// tolerance of the CTOT.
+pub fn ctot_window(ctot: Minute, tolerance: Tolerance) -> Window
+    ensures from { result.from ≡ ctot - tolerance.before }
+    ensures to { result.to ≡ min 2880 (ctot + tolerance.after + 1) }
+    ensures minutes { (m : ℕ) → m < 2880 → has_minute result m ≡ is_in_tolerance tolerance ctot m }
 {
-    let from = ctot.get().saturating_sub(TOLERANCE_BEFORE);
-    let to = (ctot.get() + TOLERANCE_AFTER + 1).min(Bound::END.get());
+    let from = ctot.get().saturating_sub(tolerance.before());
+    let to = (ctot.get() + tolerance.after() + 1).min(Bound::END.get());
     Window {
         from: Minute { number: from },
         to: Bound { number: to },

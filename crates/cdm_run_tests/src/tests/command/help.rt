@@ -10,7 +10,7 @@ DAY,day|RUNWAY,runway,cell,cap|TAXI,stand,runway,minutes|\
 SPACE,runway,group,minutes|AP,GROUP,|SPACING  at|\
 SCENARIO,name|\nSCENARIO,SHUT\n|SCENARIO each|DELTA: the numbers|\
 AP,FLT,|AO,TOBT,|AP,STAND,|ATC,RWY,|NM,CTOT,|GH,ICE,|ATC,PRIO,|ATC,OFF,|ATC,AIR,|AO,CNL,|\
-ATC,RATE,|ATC,CLOSE,|ATC,OPEN,|ATC,TAXI,|ATC,CLOCK,|P  planned|O  off-block|A  airborne|\
+ATC,RATE,|ATC,CLOSE,|ATC,OPEN,|ATC,TAXI,|ATC,CLOCK,|NM,TOL,|P  planned|O  off-block|A  airborne|\
 PLACED|DELAY|MAX|LATE|BLOCKED|FIELDS |ROLE |KIND |TEXT |RANGE |AUTHORITY |UNKNOWN |EXISTS |\
 ENDED |OFFBLOCK |ORDER |NOTREADY |FULL |TOBT     it|RUNWAY   it|EXOT     no|HORIZON  it|\
 CTOT     no|CLOSURE  all|RATE     those|0  done|1  a file|2  the words|3  a file|\

@@ -10,7 +10,9 @@ use Rattle.cdm_sequence.specs.Slots.{SlotRecord}
 use Rattle.cdm_sequence.specs.Targets.{TargetRecord}
 use Rattle.cdm_sequence.proofs.NameLemmas.{all_shown}
 use Rattle.cdm_flight.proofs.Lists.{distinct_right}
-use Rattle.cdm_sequence.proofs.PlanLemmas.{none_earlier, plan_allowed}
+use Rattle.cdm_sequence.specs.Plan.{Placing, IsFirst}
+use Rattle.cdm_sequence.specs.Sequence.{IsSequenceBy}
+use Rattle.cdm_sequence.proofs.PlanLemmas.{first_one, plan_first}
 use Rattle.cdm_sequence.proofs.SequenceLemmas.{IsMade, targets_of, sequence_made}
 use Rattle.cdm_sequence.proofs.sequencing.sequence.Goals as goal
 
@@ -48,12 +50,17 @@ returns-clause-sequence c = sequence_made c.args.runway.now c.args.fixed.now c.a
 pub returns-clause-each_once : goal.returns-clause-each_once
 returns-clause-each_once c = all_shown c.args.runway.now c.args.fixed.now c.args.targets.now c.in_ok-plan.plan (returns-clause-sequence c)
 
-pub returns-clause-allowed : goal.returns-clause-allowed
-returns-clause-allowed c = λ placing made.
-    plan_allowed c.args.runway.now (takeoffs c.args.runway.now c.args.fixed.now) c.args.targets.now placing
+first : (c : goal.After-drop-ordered-2) (placing : Placing)
+    → IsSequenceBy placing c.args.runway.now c.args.fixed.now c.args.targets.now c.in_ok-plan.plan
+    → IsFirst c.args.runway.now (takeoffs c.args.runway.now c.args.fixed.now) c.args.targets.now placing
+first c placing made =
+    plan_first c.args.runway.now (takeoffs c.args.runway.now c.args.fixed.now) c.args.targets.now placing
     (distinct_right same_name (map (λ (x : SlotRecord). x.name) c.args.fixed.now)
     (map (λ (f : TargetRecord). f.key.name) c.args.targets.now) c.requires.names) made.minutes
 
 pub returns-clause-first : goal.returns-clause-first
-returns-clause-first c = λ placing other made allowed sooner.
-    none_earlier c.args.runway.now (takeoffs c.args.runway.now c.args.fixed.now) c.args.targets.now placing other made.minutes allowed sooner
+returns-clause-first c = first c
+
+pub returns-clause-only : goal.returns-clause-only
+returns-clause-only c = λ placing other made is_first.
+    first_one c.args.runway.now (takeoffs c.args.runway.now c.args.fixed.now) c.args.targets.now other placing is_first (first c placing made)
