@@ -2,8 +2,12 @@
 ghost use Rattle.std.specs.Prelude.{◌≡◌};
 ghost use Rattle.cdm_command.specs.declared.command.CommandFault.TheVariants as command;
 
-use crate::manual::{ABOUT, HELP_ABOUT, LIVE_ABOUT, MANUAL, PLAN_ABOUT, SHORT_HELP, VERSION};
+use crate::manual::{
+    ABOUT, HELP_ABOUT, LIVE_ABOUT, LOAD_ABOUT, MANUAL, PLAN_ABOUT, SHORT_HELP, VERSION, WHY_ABOUT,
+};
+use cdm_flight::{FlightName, RunwayName};
 use cdm_phase::Workers;
+use cdm_view::Question;
 use clap::error::ErrorKind;
 use clap::{Arg, ArgMatches, Command as Parser, Error as ParseError, value_parser};
 use std::alloc::{AllocError, Global};
@@ -25,6 +29,12 @@ pub enum Command<'a> {
         airport: &'a str,
         feed1: &'a str,
         feed2: &'a str,
+    },
+    /// Answer a question of the day that a feed makes at an airport.
+    Ask {
+        airport: &'a str,
+        feed: &'a str,
+        question: Question,
     },
     /// Print this text, the help or the version.
     Print(String),
@@ -64,6 +74,8 @@ pub fn command_of<'a, S: AsStr>(
     let command = match matches.subcommand() {
         Some(("plan", plan)) => plan_of(plan),
         Some(("live", live)) => live_of(live),
+        Some(("why", why)) => why_of(alloc, why)?,
+        Some(("load", load)) => load_of(alloc, load)?,
         Some(_) => Some(Command::Print(parser(alloc)?.render_long_help()?)),
         None => None,
     };
@@ -104,14 +116,76 @@ fn live_of<'a>(live: &ArgMatches<'a>) -> Option<Command<'a>> {
     })
 }
 
+// The words of `why`, all of which the parser has seen to but the form of the flight.
+fn why_of<'a>(alloc: Global, why: &ArgMatches<'a>) -> Result<Option<Command<'a>>, CommandFault> {
+    let (Some(airport), Some(feed), Some(word)) = (
+        why.get_str("AIRPORT"),
+        why.get_str("FEED"),
+        why.get_str("FLIGHT"),
+    ) else {
+        return Ok(None);
+    };
+    let Some(flight) = FlightName::new(word.as_bytes()) else {
+        return Err(wrong_value(
+            alloc,
+            word,
+            "<FLIGHT>",
+            "a flight has 1 to 7 of A-Z and 0-9",
+        )?);
+    };
+    let question = Question::Why(flight);
+    Ok(Some(Command::Ask {
+        airport,
+        feed,
+        question,
+    }))
+}
+
+// The words of `load`, all of which the parser has seen to but the form of the runway.
+fn load_of<'a>(alloc: Global, load: &ArgMatches<'a>) -> Result<Option<Command<'a>>, CommandFault> {
+    let (Some(airport), Some(feed)) = (load.get_str("AIRPORT"), load.get_str("FEED")) else {
+        return Ok(None);
+    };
+    let runway = match load.get_str("RUNWAY") {
+        Some(word) => Some(runway_in(alloc, word)?),
+        None => None,
+    };
+    let question = Question::Load(runway);
+    Ok(Some(Command::Ask {
+        airport,
+        feed,
+        question,
+    }))
+}
+
+// The runway that a word names.
+fn runway_in(alloc: Global, word: &str) -> Result<RunwayName, CommandFault> {
+    match RunwayName::new(word.as_bytes()) {
+        Some(runway) => Ok(runway),
+        None => Err(wrong_value(
+            alloc,
+            word,
+            "[RUNWAY]",
+            "a runway has 1 to 3 of A-Z and 0-9",
+        )?),
+    }
+}
+
+// What is told of a word that hasn't the form of its argument.
+fn wrong_value(
+    alloc: Global,
+    word: &str,
+    argument: &str,
+    form: &str,
+) -> Result<CommandFault, AllocError> {
+    let text = format!(in alloc;
+        "error: invalid value '{word}' for '{argument}': {form}\n\nFor more information, try '--help'.\n"
+    )?;
+    Ok(CommandFault::Usage(text))
+}
+
 // The words that `plan` takes.
 fn plan_parser<'a>(alloc: Global) -> Result<Parser<'a>, AllocError> {
-    let airport = Arg::new(alloc, "AIRPORT")
-        .required(true)
-        .help("Airport file: the day, the runways, the taxi times");
-    let feed = Arg::new(alloc, "FEED")
-        .required(true)
-        .help("Feed of updates, in the order in which they came");
     let scenarios = Arg::new(alloc, "scenarios")
         .long("scenarios")
         .value_name("FILE")
@@ -122,12 +196,7 @@ fn plan_parser<'a>(alloc: Global) -> Result<Parser<'a>, AllocError> {
         .value_parser(value_parser!(usize).range(1..=64))
         .default_value("1")
         .help("1 to 64 threads; the output is the same");
-    Parser::new(alloc, "plan")
-        .about(PLAN_ABOUT)
-        .after_help(SHORT_HELP)
-        .after_long_help(MANUAL)
-        .arg(airport)?
-        .arg(feed)?
+    day_parser(alloc, "plan", PLAN_ABOUT)?
         .arg(scenarios)?
         .arg(workers)
 }
@@ -152,6 +221,36 @@ fn live_parser<'a>(alloc: Global) -> Result<Parser<'a>, AllocError> {
         .arg(feed2)
 }
 
+// A command about the day of a feed at an airport.
+fn day_parser<'a>(alloc: Global, name: &'a str, about: &'a str) -> Result<Parser<'a>, AllocError> {
+    let airport = Arg::new(alloc, "AIRPORT")
+        .required(true)
+        .help("Airport file: the day, the runways, the taxi times");
+    let feed = Arg::new(alloc, "FEED")
+        .required(true)
+        .help("Feed of updates, in the order in which they came");
+    Parser::new(alloc, name)
+        .about(about)
+        .after_help(SHORT_HELP)
+        .after_long_help(MANUAL)
+        .arg(airport)?
+        .arg(feed)
+}
+
+// The words that `why` takes.
+fn why_parser<'a>(alloc: Global) -> Result<Parser<'a>, AllocError> {
+    let flight = Arg::new(alloc, "FLIGHT")
+        .required(true)
+        .help("The flight that is asked for");
+    day_parser(alloc, "why", WHY_ABOUT)?.arg(flight)
+}
+
+// The words that `load` takes.
+fn load_parser<'a>(alloc: Global) -> Result<Parser<'a>, AllocError> {
+    let runway = Arg::new(alloc, "RUNWAY").help("One runway alone");
+    day_parser(alloc, "load", LOAD_ABOUT)?.arg(runway)
+}
+
 fn parser<'a>(alloc: Global) -> Result<Parser<'a>, AllocError> {
     let help = Parser::new(alloc, "help")
         .about(HELP_ABOUT)
@@ -167,6 +266,8 @@ fn parser<'a>(alloc: Global) -> Result<Parser<'a>, AllocError> {
         .subcommand_required(true)
         .arg_required_else_help(true)
         .subcommand(plan_parser(alloc)?)?
+        .subcommand(why_parser(alloc)?)?
+        .subcommand(load_parser(alloc)?)?
         .subcommand(live_parser(alloc)?)?
         .subcommand(help)
 }

@@ -3,7 +3,7 @@ ghost use Rattle.std.specs.Prelude.{◌≡◌};
 ghost use Rattle.cdm_command.specs.Statuses.{status_of_command_fault, status_of_common, status_of_fault};
 
 use crate::command::CommandFault;
-use cdm_feed::{CommonFault, Device, Input, RunError};
+use cdm_feed::{CommonFault, Device, Input, RunError, ViewError};
 use cdm_live::LiveError;
 use std::io::Write;
 use thiserror::Error;
@@ -23,22 +23,27 @@ pub enum Fault {
     /// The run has not written its whole text.
     #[error(transparent)]
     Run(#[from] RunError),
+    /// The run has not answered the question.
+    #[error(transparent)]
+    View(#[from] ViewError),
     /// The live run has not written its whole text.
     #[error(transparent)]
     Live(#[from] LiveError),
 }
 
 impl Fault {
-    /// The exit status: 3 where an input is refused, and 1 where a device fails, memory is short or the
+    /// The exit status: 3 where an input is refused or doesn't know what is asked for, and 1 where a device fails, memory is short or the
     /// board gives a wrong answer.
     pub fn status(&self) -> u8
         ensures { result ≡ status_of_fault self.now }
     {
         match self {
-            Fault::Run(RunError::Common(fault)) | Fault::Live(LiveError::Common(fault)) => {
-                common_status(*fault)
-            }
-            Fault::Run(RunError::Scenario(..)) | Fault::Live(LiveError::HistoryFull) => 3,
+            Fault::Run(RunError::Common(fault))
+            | Fault::View(ViewError::Common(fault))
+            | Fault::Live(LiveError::Common(fault)) => common_status(*fault),
+            Fault::Run(RunError::Scenario(..))
+            | Fault::View(ViewError::NoFlight(_) | ViewError::NoRunway(_))
+            | Fault::Live(LiveError::HistoryFull) => 3,
             Fault::CannotOpen(_) | Fault::NoMemory | Fault::Live(LiveError::Mismatch) => 1,
         }
     }

@@ -11,6 +11,12 @@ each departure of an airport the time at which its start-up can be approved.";
 /// What `plan` does.
 pub const PLAN_ABOUT: &str = "Plan a feed of updates, and print the sequence of each runway";
 
+/// What `why` does.
+pub const WHY_ABOUT: &str = "Tell what holds a flight, and until when";
+
+/// What `load` does.
+pub const LOAD_ABOUT: &str = "Tell how full each runway is, cell by cell";
+
 /// What `live` does.
 pub const LIVE_ABOUT: &str = "Let two desks post a feed each to one board, and print its day";
 
@@ -22,6 +28,8 @@ pub const SHORT_HELP: &str = "\
 For example:
   cdmseq plan airport.csv feed.csv
   cdmseq plan airport.csv feed.csv --scenarios what_if.csv
+  cdmseq why airport.csv feed.csv AB1
+  cdmseq load airport.csv feed.csv 27L
   cdmseq live airport.csv desk_1.csv desk_2.csv
 What the files hold and what the output says:
   cdmseq help | less";
@@ -223,6 +231,43 @@ THE OUTPUT
            its first update that can't be, by its number in the scenario, from
            1, and the cause, from UNKNOWN to FULL.
 
+  why tells what holds a flight, and load how full the runways are, or the one
+  that it is asked for. Of the example files AIRPORT and FEED
+  cdmseq why airport.csv feed.csv AB1 prints
+
+    DAY 2025-03-10 NOW 100000
+    FLIGHT AB1 RUNWAY 27L STAND - PRIORITY 5 GROUP M
+    TOBT 100600 ICE NONE 0 EXOT 15 CTOT ------
+    TSAT 100600 TTOT 100615 DELAY 0
+
+  and cdmseq load airport.csv feed.csv
+
+    DAY 2025-03-10 NOW 100000
+    RUNWAY 27L CELL 10
+    100610  1/2  CLOSED  0 AB1
+
+  FLIGHT   and TOBT: what is known of the flight last, - or dashes where nothing
+           is. EXOT is that of its line, and - once it took off or is cancelled.
+  WAIT     the first and the last minute of a while, from TOBT + EXOT on, in
+           which the flight can't take off, and the first cause that holds:
+             ICE      it is de-iced on its stand until later
+             NOW      it would have had to leave its stand before now
+             CTOT     not in the tolerance of its CTOT
+             CLOSURE  the runway is closed
+             SPACING  it would meet the flights that are named
+             RATE     so many may take off in the cell, and the flights that are
+                      named do
+           These minutes are its delay, or all to the end of the two days if it
+           is blocked. Only flights that come before it are named.
+  TSAT     its TSAT, TTOT and delay; or else BLOCKED and the cause as in a plan,
+           OFFBLOCK and its AOBT, with its TTOT, or AIRBORNE and its ATOT, or
+           CANCELLED
+  RUNWAY   in load, each runway by name with the minutes of its cells; a line
+           for each cell from the first to the last with a flight, a closed
+           minute or another cap than the one of AIRPORT: its first minute, how
+           many flights of how many it has, how many of its minutes are closed,
+           and its flights by TTOT and name
+
   live has two desks, which post FEED1 and FEED2 at the same time to one board,
   in batches of 256 updates, and each looks at the board after its last batch.
   It prints the plan of the day that they made together, from DAY to TOTAL, and
@@ -243,8 +288,9 @@ STATUS
   1  a file can't be read, the text can't be written, memory is short, or the
      board gave a wrong answer
   2  the words are wrong, or asked for help by -h or --help
-  3  a file has more than 8388608 bytes, AIRPORT or SCENARIOS is refused, or
-     FEED1 and FEED2 need more than 4096 calls
+  3  a file has more than 8388608 bytes, AIRPORT or SCENARIOS is refused, FEED1
+     and FEED2 need more than 4096 calls, or the flight or runway that is asked
+     for isn't known
   For 1 and 3 one line on standard error names the cause, as
   cdmseq: AIRPORT record 5: UNKNOWN. The help of status 2 goes there too.
 ";

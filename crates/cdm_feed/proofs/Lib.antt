@@ -3,6 +3,7 @@ pub mod RefusedLemmas
 pub mod WrittenLemmas
 mod WorkedRecords
 pub mod RunLemmas
+pub mod ViewLemmas
 pub mod OutputLemmas
 pub mod ScenarioLemmas
 pub mod StretchLemmas

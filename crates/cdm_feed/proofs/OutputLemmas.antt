@@ -98,19 +98,21 @@ began-kept (Ok (Some g)) fault h = h
 began-kept (Ok None) fault h = tt
 began-kept (Err other) fault h = tt
 
-pub own_runways : (text : List ℕ) (g : AirportRows) → airport_in text ≡ Ok g → IsDistinct same_name (runway_names g)
+pub own_airport : (text : List ℕ) (g : AirportRows) → airport_in text ≡ Ok g → IsAirport g
 unfolding airport_in
-own_runways text g h =
+own_airport text g h =
     let kept = began-kept (after_records airport_record_of with_record None 1 (records_of text)) (1, Order) (records-kept None 1 (records_of text) tt) in
-    let airport : IsAirport g = subst (λ (r : Result AirportRows (ℕ × RefusalWord)). IfOk r IsAirport) h kept in
-    airport.names
+    subst (λ (r : Result AirportRows (ℕ × RefusalWord)). IfOk r IsAirport) h kept
+
+pub own_runways : (text : List ℕ) (g : AirportRows) → airport_in text ≡ Ok g → IsDistinct same_name (runway_names g)
+own_runways text g h = (own_airport text g h).names
 
 -- One text.
 
-same-ok : {T E : Type 0} (r : Result T E) (x y : T) → r ≡ Ok x → r ≡ Ok y → x ≡ y
+pub same-ok : {T E : Type 0} (r : Result T E) (x y : T) → r ≡ Ok x → r ≡ Ok y → x ≡ y
 same-ok r x y a b = cc
 
-own_journal : (g : AirportRows) (feed : List ℕ) → IsDistinct same_name (flights_in (accepted_in g feed))
+pub own_journal : (g : AirportRows) (feed : List ℕ) → IsDistinct same_name (flights_in (accepted_in g feed))
 unfolding accepted_in
 own_journal g feed = own_flights g (updates_in (spelled_in g feed))
 

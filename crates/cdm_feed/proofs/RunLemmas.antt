@@ -1,14 +1,16 @@
 -- Faults of a run.
-use Rattle.std.proofs.Common.{◌≡◌, ℕ, Bool, arith, List, [], Option, None, Some, IfSome, Result, Ok, Err, false, refl, sym, ap, subst, ◌∙◌, inl, inr}
+use Rattle.std.proofs.Common.{◌≡◌, ◌+◌, ℕ, Bool, append-nil, arith, List, length, [], Option, None, Some, IfSome, Result, Ok, Err, false, refl, sym, ap, subst, ◌∙◌, inl, inr}
 use Rattle.std.specs.Result.{IsOk, IsOkAnd, is_ok}
 use Rattle.cdm_flight.specs.Journal.{AirportRows}
 use Rattle.cdm_flight.specs.declared.word.RefusalWord.{RefusalWord}
 use Rattle.cdm_scenario.specs.Scenarios.{ScenarioRecord}
+use Rattle.std.proofs.lemmas.Bool.{false≢true}
 use Rattle.std.proofs.lemmas.Option.{IfSome_then}
 use Rattle.std.specs.Io.KnownBytes.{Consumes}
 use Rattle.cdm_feed.specs.AirportFile.{airport_in}
 use Rattle.cdm_feed.specs.CommonFaults.{IsAirportFault, IsFirstCommonFault, IsFirstInputFault, IsInputFault}
-use Rattle.cdm_feed.specs.Readings.{AreRead, IfTold, IsRead, IsUnfailed, Reading}
+use Rattle.cdm_feed.specs.Input.{input_limit}
+use Rattle.cdm_feed.specs.Readings.{AreRead, Gives, IfTold, IsRead, IsUnfailed, Reading, no_input}
 use Rattle.cdm_feed.specs.RunFaults.{Asks, IsFirstFault}
 use Rattle.cdm_feed.specs.ScenarioFile.{scenarios_in}
 use Rattle.cdm_feed.specs.inner.Faults.{IsRecordFault, IsScenarioFault}
@@ -29,6 +31,13 @@ waits name left failed device sound = (refl, (sound, ([], kept left, omega arith
   kept : (o : Option (List ℕ)) → Consumes o o []
   kept None = tt
   kept (Some bytes) = refl
+
+-- and so is a last input that a run doesn't read, which counts as read too
+pub no_input-waits : IsWaiting no_input
+no_input-waits = (tt, (refl, ([], refl, omega arith)))
+
+pub no_input-read : IsRead no_input
+no_input-read = record { unfailed = no_input-waits.1; ended = refl }
 
 -- a fault of an input is the first, where those before it were read and those after it not yet
 pub airport_fault-first : (a s t : Reading) (e : CommonFault) → IsInputFault a e → IsWaiting s → IsWaiting t → IsFirstInputFault a s t e
@@ -52,6 +61,23 @@ third_fault-first a s t (common.Airport number word) read also fault = absurd fa
 third_fault-first a s t common.Memory read also fault = (read.unfailed, also.unfailed, fault)
 third_fault-first a s t common.Write read also fault = absurd fault
 
+-- a fault of the first two inputs is the first where a third isn't read yet
+pub two_fault-first : (a s t : Reading) (e : CommonFault) → IsFirstInputFault a s no_input e → IsWaiting t → IsFirstInputFault a s t e
+two_fault-first a s t (common.Read name) (inl (failed, unread, _)) last = inl (failed, unread, last.0)
+two_fault-first a s t (common.Read name) (inr (read, inl (failed, _))) last = inr (read, inl (failed, last.0))
+two_fault-first a s t (common.Read name) (inr (read, inr (also, failed))) last = absurd (false≢true failed.1)
+two_fault-first a s t (common.TooLong name) (inl (failed, unread, _)) last = inl (failed, unread, last.0)
+two_fault-first a s t (common.TooLong name) (inr (read, inl (failed, _))) last = inr (read, inl (failed, last.0))
+two_fault-first a s t (common.TooLong name) (inr (read, inr (also, failed))) last = absurd (not_too_long failed.2)
+  where
+    not_too_long : Gives (λ n. n ≡ input_limit + 1) no_input → ⊥
+    not_too_long (given, none, count) =
+        let empty : given ≡ [] = sym (none ∙ append-nil given) in
+        omega (arith, ap length empty, count)
+two_fault-first a s t (common.Airport number word) fault last = absurd fault
+two_fault-first a s t common.Memory fault last = (fault.0, fault.1, last.1)
+two_fault-first a s t common.Write fault last = absurd fault
+
 -- a fault of the inputs is the first, whatever is asked of them
 pub input_fault-first : (a s t : Reading) (Good : Type 0) (e : CommonFault) → IsFirstInputFault a s t e → IsFirstCommonFault a s t Good e
 input_fault-first a s t Good (common.Read name) fault = fault
@@ -71,7 +97,7 @@ airport_record-first a s t Good airport common.Memory read is fault = (read.0.un
 airport_record-first a s t Good airport common.Write read is fault = absurd fault
 
 -- what is said of the bytes that were read is said of the inputs
-of_both : (P : List ℕ → List ℕ → Type 0) (a s : Option (List ℕ)) (airport scenarios : List ℕ)
+pub of_both : (P : List ℕ → List ℕ → Type 0) (a s : Option (List ℕ)) (airport scenarios : List ℕ)
     → IfSome a (λ bytes. airport ≡ bytes) → IfSome s (λ bytes. scenarios ≡ bytes)
     → P airport scenarios → IfSome a (λ x. IfSome s (P x))
 of_both P a s airport scenarios is also p =

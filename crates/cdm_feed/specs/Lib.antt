@@ -18,4 +18,5 @@ pub mod RunFaults
 pub mod InputNames
 pub mod ScenarioRecords
 pub mod ScenarioFile
+pub mod Views
 pub mod inner

@@ -1,9 +1,10 @@
 -- What becomes of the inputs that a run reads.
-use Rattle.std.specs.Prelude.{◌≡◌, ◌≤◌, ◌+◌, ◌⊎◌, ℕ, Bool, true, false, List, length, Option, IfSome}
+use Rattle.std.specs.Prelude.{◌≡◌, ◌≤◌, ◌+◌, ◌⊎◌, ⊤, ℕ, Bool, true, false, List, [], length, Option, Some, IfSome}
 use Rattle.std.specs.Io.KnownBytes.{Consumes, IsAtEnd}
 use Rattle.cdm_feed.specs.Device.{Wrapped}
 use Rattle.cdm_feed.specs.Input.{input_limit}
 use Rattle.cdm_feed.specs.declared.common_fault.Input.{Input}
+use Rattle.cdm_feed.specs.declared.common_fault.Input.TheVariants.{Scenarios}
 
 -- an input: its name, what its reader had left before a run, what it has left after it, whether it failed, and that
 -- it is as it was
@@ -18,6 +19,10 @@ pub record Reading : Type 1 where
 abbrev pub reading : {T : Type 0} → Input → (T → Option (List ℕ)) → Wrapped T → Wrapped T → Reading
 reading name remaining old new =
     record { name = name; before = remaining old.inner; after = remaining new.inner; failed = new.failed; IsUnread = new ≡ old }
+
+-- a last input of a run that reads none: it has no byte, and was read to its end
+abbrev pub no_input : Reading
+no_input = record { name = Scenarios; before = Some []; after = Some []; failed = false; IsUnread = ⊤ }
 
 -- the number of bytes that the reader has given is so
 abbrev pub Gives : (ℕ → Type 0) → Reading → Type 0

@@ -23,6 +23,8 @@ mod run_error;
 mod runs;
 mod scenario_file;
 mod scenario_record;
+mod view_error;
+mod view_run;
 
 pub use airport_file::{airport_of, read_airport};
 pub use common_fault::{CommonFault, Input};
@@ -37,3 +39,5 @@ pub use refused::{refusals_of, updates_of};
 pub use run_error::RunError;
 pub use runs::{RunCounts, run};
 pub use scenario_file::read_scenarios;
+pub use view_error::ViewError;
+pub use view_run::run_view;

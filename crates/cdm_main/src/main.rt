@@ -6,9 +6,10 @@ ghost use Rattle.std.specs.Prelude.{◌≡◌, false};
 pub use cdm_command::{
     Command, CommandFault, Fault, command_of, report_command_fault, report_fault,
 };
-use cdm_feed::{Device, Input, WriteFault, run, write_text};
+use cdm_feed::{Device, Input, WriteFault, run, run_view, write_text};
 pub use cdm_live::{LiveCounts, LiveError, run_live};
 use cdm_phase::{OpenGate, Workers};
+use cdm_view::Question;
 use std::alloc::AllocError;
 use std::io::{ErrorKind, Read, Write};
 use std::process::ExitCode;
@@ -112,6 +113,15 @@ fn run_command<R: AllocGlobal + Files + Threads + Wait + Sync, W: Write>(
             let feed2 = open(rt, feed2, Input::Feed2)?;
             live(rt, airport, feed1, feed2, out)
         }
+        Command::Ask {
+            airport,
+            feed,
+            question,
+        } => {
+            let airport = open(rt, airport, Input::Airport)?;
+            let feed = open(rt, feed, Input::Feed)?;
+            ask(rt, airport, feed, *question, out)
+        }
         Command::Print(text) => {
             write_text(out, text.as_bytes()).map_err(|fault: WriteFault| Fault::Run(fault.into()))
         }
@@ -141,6 +151,29 @@ fn plan<R: AllocGlobal + Threads + Sync, F: Read + Drop, S: Read + Drop, W: Writ
         &mut Device::new(feed),
         &mut Device::new(scenarios),
         workers,
+        &OpenGate,
+        out,
+    )?;
+    Ok(())
+}
+
+// Writes the answer to a question of the day.
+fn ask<R: AllocGlobal + Threads + Sync, F: Read + Drop, W: Write>(
+    rt: &R,
+    airport: F,
+    feed: F,
+    question: Question,
+    out: &mut Device<W>,
+) -> Result<(), Fault>
+    requires { out.old.failed ≡ false }
+{
+    run_view(
+        rt,
+        rt.alloc(),
+        &mut Device::new(airport),
+        &mut Device::new(feed),
+        question,
+        Workers::new(1).unwrap(),
         &OpenGate,
         out,
     )?;

@@ -7,10 +7,13 @@ use cdm_sequence::{Mark, Slot};
 use cdm_time::{Day, Minute};
 use std::{fmt, str};
 
-/// A minute as DDHHMM, or dashes where there is none.
+/// A minute as the day of the month, hour and minute, DDHHMM, or six dashes where there is none
+/// (local profile).
 #[derive(Clone, Copy)]
-pub(crate) struct TimeColumn {
+pub struct TimeColumn {
+    /// The horizon's first day, from whose 00:00 on minutes are counted.
     pub day: Day,
+    /// The minute.
     pub minute: Option<Minute>,
 }
 

@@ -37,8 +37,10 @@ pub fn report_text(
     Ok(text.into_bytes())
 }
 
+/// Puts the line of the day and of the minute that it is now behind a text (local profile). Only want
+/// of memory makes it fail.
 #[tactic(auto, unfolding(crate::specs::Report::day_line, crate::specs::Columns::time_column))]
-fn push_day(text: &mut String, day: Day, now: Minute) -> Result<(), AllocError>
+pub fn push_day(text: &mut String, day: Day, now: Minute) -> Result<(), AllocError>
     ensures { OnOk result (string_bytes text.new ≡ string_bytes text.old ++ day_line day now) }
 {
     let date = day.date_text();

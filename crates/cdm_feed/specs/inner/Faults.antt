@@ -1,9 +1,14 @@
 -- The faults of a run's parts.
 use Rattle.std.specs.Prelude.{◌≡◌, ⊤, ℕ, List, Err}
 use Rattle.cdm_time.specs.declared.calendar.CalendarDate.{CalendarDate}
+use Rattle.cdm_view.specs.declared.fault.ViewFault.TheVariants as fault
+use Rattle.cdm_view.specs.declared.question.Question.{Question}
 use Rattle.cdm_feed.specs.CommonFaults.{IsAirportFault}
 use Rattle.cdm_feed.specs.RunFaults.{Asks}
 use Rattle.cdm_feed.specs.ScenarioFile.{scenarios_in}
+use Rattle.cdm_feed.specs.Views.{IsUnknown}
+use Rattle.cdm_feed.specs.declared.view_error.ViewError.{ViewError}
+use Rattle.cdm_feed.specs.declared.view_error.ViewError.TheVariants as view
 use Rattle.cdm_feed.specs.declared.common_fault.CommonFault.TheVariants as common
 use Rattle.cdm_feed.specs.declared.run_error.RunError.{RunError}
 use Rattle.cdm_feed.specs.declared.run_error.RunError.TheVariants as error
@@ -18,3 +23,9 @@ IsScenarioFault day scenarios fault = ⊥
 abbrev pub IsRecordFault : List ℕ → List ℕ → RunError → Type 0
 IsRecordFault airport scenarios (error.Common fault) = IsAirportFault airport fault
 IsRecordFault airport scenarios (error.Scenario number refusal) = Asks (λ said. said ≡ Err (number, refusal)) airport scenarios
+
+-- why whole inputs give a question no answer
+abbrev pub IsUnmade : Question → List ℕ → List ℕ → ViewError → Type 0
+IsUnmade question airport feed (view.Common cause) = IsAirportFault airport cause
+IsUnmade question airport feed (view.NoFlight name) = IsUnknown question (fault.NoFlight name) airport feed
+IsUnmade question airport feed (view.NoRunway name) = IsUnknown question (fault.NoRunway name) airport feed

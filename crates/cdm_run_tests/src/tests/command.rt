@@ -5,7 +5,9 @@ mod help;
 mod memory;
 
 use cdm_command::{Command, CommandFault, command_of};
+use cdm_flight::{FlightName, RunwayName};
 use cdm_phase::Workers;
+use cdm_view::Question;
 use std::alloc::Global;
 
 /// How the text of wrong words ends.
@@ -68,6 +70,36 @@ fn plans_with_one_worker_or_as_many_as_asked_for(rt: HostRuntime) {
     }
 }
 
+// Whether the words ask this of the day of the files a.csv and f.csv.
+fn is_asked(alloc: Global, words: &[&str], question: Question) -> bool {
+    let wanted = Command::Ask {
+        airport: "a.csv",
+        feed: "f.csv",
+        question,
+    };
+    match command_of(alloc, words) {
+        Ok(command) => command == wanted,
+        Err(_) => false,
+    }
+}
+
+#[test]
+fn questions_name_a_flight_or_a_runway(rt: HostRuntime) {
+    let flight = FlightName::new(b"AB12345").expect(&rt, "flight");
+    let runway = RunwayName::new(b"27L").expect(&rt, "runway");
+    let table: [(&[&str], Question); 3] = [
+        (&["why", "a.csv", "f.csv", "AB12345"], Question::Why(flight)),
+        (&["load", "a.csv", "f.csv"], Question::Load(None)),
+        (
+            &["load", "a.csv", "f.csv", "27L"],
+            Question::Load(Some(runway)),
+        ),
+    ];
+    for (words, question) in table {
+        assert!(rt; is_asked(rt.alloc(), words, question), "{words:?}");
+    }
+}
+
 // Whether the words are told to be wrong for this cause.
 fn is_wrong(alloc: Global, words: &[&str], cause: &str) -> bool {
     match command_of(alloc, words) {
@@ -80,7 +112,7 @@ fn is_wrong(alloc: Global, words: &[&str], cause: &str) -> bool {
 
 #[test]
 fn wrong_words_are_told(rt: HostRuntime) {
-    let table: [(&[&str], &str); 20] = [
+    let table: [(&[&str], &str); 26] = [
         (&["fly"], "unrecognized subcommand 'fly'"),
         (&["Plan", "a", "f"], "unrecognized subcommand 'Plan'"),
         (&["live"], "<AIRPORT>"),
@@ -91,6 +123,18 @@ fn wrong_words_are_told(rt: HostRuntime) {
             &["live", "a", "f", "g", "--workers", "2"],
             "unexpected argument '--workers'",
         ),
+        (&["why", "a", "f"], "<FLIGHT>"),
+        (
+            &["why", "a", "f", "AB1", "AB2"],
+            "unexpected argument 'AB2'",
+        ),
+        (
+            &["why", "a", "f", "AB123456"],
+            "invalid value 'AB123456' for '<FLIGHT>'",
+        ),
+        (&["load", "a"], "<FEED>"),
+        (&["load", "a", "f", ""], "invalid value '' for '[RUNWAY]'"),
+        (&["load", "a", "f", "27L", "09"], "unexpected argument '09'"),
         (&["plan"], "<AIRPORT>"),
         (&["plan", "a"], "<FEED>"),
         (&["plan", "a", "f", "g"], "unexpected argument 'g'"),

@@ -1,7 +1,7 @@
 //! The lines of faults. Their statuses are told by clauses.
 use crate::tests::devices::Page;
 use cdm_command::{Fault, report_fault};
-use cdm_feed::{CommonFault, Device, RunError};
+use cdm_feed::{CommonFault, Device, RunError, ViewError};
 use cdm_flight::RefusalWord;
 use cdm_live::LiveError;
 use std::process::Abort;
@@ -18,7 +18,7 @@ fn check_line(rt: &impl Abort, fault: Fault, line: &str) {
 
 #[test]
 fn faults_have_lines(rt: HostRuntime) {
-    use Fault::{CannotOpen, Live, NoMemory, Run};
+    use Fault::{CannotOpen, Live, NoMemory, Run, View};
     use cdm_feed::Input::{Airport, Feed, Feed1, Feed2, Scenarios};
     let unknown = CommonFault::Airport(5, RefusalWord::Unknown);
     let common = [
@@ -39,6 +39,7 @@ fn faults_have_lines(rt: HostRuntime) {
     ];
     for (fault, line) in common {
         check_line(&rt, Run(RunError::Common(fault)), line);
+        check_line(&rt, View(ViewError::Common(fault)), line);
         check_line(&rt, Live(LiveError::Common(fault)), line);
     }
     let disordered = RunError::Scenario(1, RefusalWord::Order);

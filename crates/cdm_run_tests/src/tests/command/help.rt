@@ -14,11 +14,15 @@ ATC,RATE,|ATC,CLOSE,|ATC,OPEN,|ATC,TAXI,|ATC,CLOCK,|NM,TOL,|P  planned|O  off-bl
 PLACED|DELAY|MAX|LATE|BLOCKED|FIELDS |ROLE |KIND |TEXT |RANGE |AUTHORITY |UNKNOWN |EXISTS |\
 ENDED |OFFBLOCK |ORDER |NOTREADY |FULL |TOBT     it|RUNWAY   it|EXOT     no|HORIZON  it|\
 CTOT     no|CLOSURE  all|RATE     those|0  done|1  a file|2  the words|3  a file|\
-FEED1 and FEED2|DESK     the|two runs may print different texts";
+FEED1 and FEED2|DESK     the|WAIT     the|RATE     so many|RUNWAY   in load|two runs may print different texts";
 
 const ALL: &str = "Usage: cdmseq <COMMAND>";
 
 const PLAN: &str = "Usage: cdmseq plan [OPTIONS] <AIRPORT> <FEED>";
+
+const WHY: &str = "Usage: cdmseq why <AIRPORT> <FEED> <FLIGHT>";
+
+const LOAD: &str = "Usage: cdmseq load <AIRPORT> <FEED> [RUNWAY]";
 
 const LIVE: &str = "Usage: cdmseq live <AIRPORT> <FEED1> <FEED2>";
 
@@ -58,12 +62,14 @@ fn is_long(alloc: Global, words: &[&str], usage: &str, is_printed: bool) -> bool
 #[test]
 fn help_is_short_or_complete(rt: HostRuntime) {
     let alloc = rt.alloc();
-    let short: [(&[&str], &str); 5] = [
+    let short: [(&[&str], &str); 7] = [
         (&[], ALL),
         (&["-h"], ALL),
         (&["plan", "-h"], PLAN),
         (&["plan", "a", "-h"], PLAN),
         (&["live", "-h"], LIVE),
+        (&["why", "-h"], WHY),
+        (&["load", "-h"], LOAD),
     ];
     for (words, usage) in short {
         assert!(rt; is_short(alloc, words, usage), "{words:?}");

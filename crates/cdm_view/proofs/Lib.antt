@@ -1,0 +1,14 @@
+pub mod RangeLemmas
+pub mod LoadLemmas
+pub mod CountLemmas
+pub mod ReasonLemmas
+pub mod RuleLemmas
+pub mod EarlierLemmas
+pub mod TurnLemmas
+pub mod WaitingLemmas
+pub mod PlacedLemmas
+pub mod BlockedLemmas
+pub mod EitherLemmas
+pub mod RunLemmas
+pub mod WhyLemmas
+pub mod AnswerLemmas

@@ -1,0 +1,159 @@
+-- Runs of minutes, and how one more minute changes them.
+use Rattle.std.proofs.Common.{◌≡◌, ℕ, ◌+◌, ◌<◌, ◌≤◌, List, [], ◌∷◌, ◌++◌, Option, Some, None, ◌⊎◌, inl, inr, ap, sym, ◌∙◌, refl, subst, arith}
+use Rattle.cdm_view.specs.declared.reason.Reason.{Reason}
+use Rattle.cdm_view.specs.declared.runs.Run.{Run}
+use Rattle.cdm_view.specs.Runs.{AreRuns, IsNextRun}
+
+-- There is one list of runs.
+
+-- no other first run begins later, or ends later
+none_later : (told : ℕ → Option Reason) (from to : ℕ) (r s : Run) → IsNextRun told from to r → IsNextRun told from to s → r.first < s.first → ⊥
+none_later told from to r s a b h =
+    let none : told r.first ≡ None = b.none_before r.first a.after h in
+    let here : told r.first ≡ Some r.reason = a.held r.first (omega arith) a.order in
+    cc
+
+none_longer : (told : ℕ → Option Reason) (from to : ℕ) (r s : Run) → IsNextRun told from to r → IsNextRun told from to s → r.first ≡ s.first → r.reason ≡ s.reason
+    → r.last < s.last → ⊥
+none_longer told from to r s a b first reason h =
+    a.longest (omega (arith, b.within)) (b.held (r.last + 1) (omega (arith, a.order)) (omega arith) ∙ ap Some (sym reason))
+
+-- two first runs are one
+next_one : (told : ℕ → Option Reason) (from to : ℕ) (r s : Run) → IsNextRun told from to r → IsNextRun told from to s → r ≡ s
+next_one told from to r s a b =
+    let one_first : r.first < s.first → ⊥ = none_later told from to r s a b in
+    let other_first : s.first < r.first → ⊥ = none_later told from to s r b a in
+    let first : r.first ≡ s.first = omega (arith, one_first, other_first) in
+    let here : told r.first ≡ Some r.reason = a.held r.first (omega arith) a.order in
+    let there : told s.first ≡ Some s.reason = b.held s.first (omega arith) b.order in
+    let same : Some r.reason ≡ Some s.reason = sym here ∙ ap told first ∙ there in
+    let reason : r.reason ≡ s.reason = cc in
+    let one_last : r.last < s.last → ⊥ = none_longer told from to r s a b first reason in
+    let other_last : s.last < r.last → ⊥ = none_longer told from to s r b a (sym first) (sym reason) in
+    let last : r.last ≡ s.last = omega (arith, one_last, other_last) in
+    λ i. record { first = first i; last = last i; reason = reason i }
+
+-- where a run begins, there is a reason
+no_run : (told : ℕ → Option Reason) (from to : ℕ) (r : Run) → IsNextRun told from to r → ((m : ℕ) → from ≤ m → m < to → told m ≡ None) → ⊥
+no_run told from to r a none =
+    let here : told r.first ≡ Some r.reason = a.held r.first (omega arith) a.order in
+    let nothing : told r.first ≡ None = none r.first a.after (omega (arith, a.order, a.within)) in
+    cc
+
+pub runs_one : (told : ℕ → Option Reason) (from to : ℕ) (xs ys : List Run) → AreRuns told from to xs → AreRuns told from to ys → xs ≡ ys
+unfolding AreRuns
+runs_one told from to [] [] a b = refl
+runs_one told from to [] (s ∷ ys) a b = absurd (no_run told from to s b.0 a)
+runs_one told from to (r ∷ xs) [] a b = absurd (no_run told from to r a.0 b)
+runs_one told from to (r ∷ xs) (s ∷ ys) a b =
+    let same : r ≡ s = next_one told from to r s a.0 b.0 in
+    let rest : AreRuns told (r.last + 1) to ys = subst (λ (x : Run). AreRuns told (x.last + 1) to ys) (sym same) b.1 in
+    let later : xs ≡ ys = runs_one told (r.last + 1) to xs ys a.1 rest in
+    λ i. same i ∷ later i
+
+-- One more minute.
+
+-- a run stays as long as it can be, unless the minute after it has its reason
+next_grows : (told : ℕ → Option Reason) (from m : ℕ) (r : Run) → IsNextRun told from m r → (r.last + 1 ≡ m → told m ≡ Some r.reason → ⊥)
+    → IsNextRun told from (m + 1) r
+next_grows told from m r a other = record {
+  after = a.after;
+  order = a.order;
+  within = omega (arith, a.within);
+  none_before = a.none_before;
+  held = a.held;
+  longest = λ h e.
+      let side : (r.last + 1 < m) ⊎ (r.last + 1 ≡ m) = grind arith in
+      elim side [ inl below ↦ a.longest below e | inr end ↦ other end (sym (ap told end) ∙ e) ];
+}
+
+-- a minute without a reason changes no run
+pub runs_none : (told : ℕ → Option Reason) (from m : ℕ) (runs : List Run) → AreRuns told from m runs → told m ≡ None → AreRuns told from (m + 1) runs
+unfolding AreRuns
+runs_none told from m [] a none = λ k after before.
+    let side : (k < m) ⊎ (k ≡ m) = grind arith in
+    elim side [ inl below ↦ a k after below | inr end ↦ ap told end ∙ none ]
+runs_none told from m (r ∷ later) a none = (next_grows told from m r a.0 (λ end e. cc), runs_none told (r.last + 1) m later a.1 none)
+
+-- the run of one minute
+abbrev pub run_at : ℕ → Reason → Run
+run_at m reason = record { first = m; last = m; reason = reason }
+
+-- it is the first run where no minute before it has a reason
+run_of_one : (told : ℕ → Option Reason) (from m : ℕ) (reason : Reason) → ((k : ℕ) → from ≤ k → k < m → told k ≡ None) → from ≤ m → told m ≡ Some reason
+    → IsNextRun told from (m + 1) (run_at m reason)
+run_of_one told from m reason none after here = record {
+  after = after;
+  order = omega arith;
+  within = omega arith;
+  none_before = none;
+  held = λ k low high.
+      let same : k ≡ m = omega arith in
+      ap told same ∙ here;
+  longest = λ h e. absurd (omega (arith, h));
+}
+
+no_minute : (told : ℕ → Option Reason) (m : ℕ) → AreRuns told (m + 1) (m + 1) []
+unfolding AreRuns
+no_minute told m = λ k low high. absurd (omega (arith, low, high))
+
+pub runs_first : (told : ℕ → Option Reason) (from m : ℕ) (reason : Reason) → AreRuns told from m [] → from ≤ m → told m ≡ Some reason
+    → AreRuns told from (m + 1) (run_at m reason ∷ [])
+unfolding AreRuns
+runs_first told from m reason a after here = (run_of_one told from m reason a after here, no_minute told m)
+
+-- where there is a run, there is a minute
+some_minute : (told : ℕ → Option Reason) (from to : ℕ) (before : List Run) (r : Run) → AreRuns told from to (before ++ r ∷ []) → from < to
+unfolding AreRuns
+some_minute told from to [] r a = omega (arith, a.0.after, a.0.order, a.0.within)
+some_minute told from to (p ∷ before) r a = omega (arith, a.0.after, a.0.order, a.0.within)
+
+-- a new run behind the others
+pub runs_other : (told : ℕ → Option Reason) (from m : ℕ) (reason : Reason) (before : List Run) (r : Run) → AreRuns told from m (before ++ r ∷ []) → told m ≡ Some reason
+    → (r.last + 1 ≡ m → r.reason ≡ reason → ⊥) → AreRuns told from (m + 1) ((before ++ r ∷ []) ++ run_at m reason ∷ [])
+unfolding AreRuns
+runs_other told from m reason [] r a here other =
+    (next_grows told from m r a.0 (λ end e. other end (cc)), (run_of_one told (r.last + 1) m reason a.1 (omega (arith, a.0.within)) here, no_minute told m))
+runs_other told from m reason (p ∷ before) r a here other =
+    let more : p.last + 1 < m = some_minute told (p.last + 1) m before r a.1 in
+    (next_grows told from m p a.0 (λ end e. absurd (omega (arith, more, end))), runs_other told (p.last + 1) m reason before r a.1 here other)
+
+-- the last run longer by the minute
+runs_longer : (told : ℕ → Option Reason) (from m : ℕ) (before : List Run) (r : Run) → AreRuns told from m (before ++ r ∷ []) → told m ≡ Some r.reason → r.last + 1 ≡ m
+    → AreRuns told from (m + 1) (before ++ record r { last = m } ∷ [])
+unfolding AreRuns
+runs_longer told from m [] r a here end =
+    let n = a.0 in (
+      record {
+        after = n.after;
+        order = omega (arith, n.order, end);
+        within = omega arith;
+        none_before = n.none_before;
+        held = λ k low high.
+            let side : (k ≤ r.last) ⊎ (k ≡ m) = grind arith in
+            elim side [ inl below ↦ n.held k low below | inr same ↦ ap told same ∙ here ];
+        longest = λ h e. absurd (omega (arith, h));
+      },
+      no_minute told m,
+    )
+runs_longer told from m (p ∷ before) r a here end =
+    let more : p.last + 1 < m = some_minute told (p.last + 1) m before r a.1 in
+    (next_grows told from m p a.0 (λ same e. absurd (omega (arith, more, same))), runs_longer told (p.last + 1) m before r a.1 here end)
+
+pub runs_same : (told : ℕ → Option Reason) (from m : ℕ) (reason : Reason) (before : List Run) (r : Run) → AreRuns told from m (before ++ r ∷ [])
+    → told m ≡ Some reason → r.reason ≡ reason → r.last + 1 ≡ m → AreRuns told from (m + 1) (before ++ record { first = r.first; last = m; reason = reason } ∷ [])
+runs_same told from m reason before r a here same end =
+    subst (λ (x : Reason). AreRuns told from (m + 1) (before ++ record { first = r.first; last = m; reason = x } ∷ [])) same
+    (runs_longer told from m before r a (here ∙ ap Some (sym same)) end)
+
+-- no minute, and no run
+pub runs_start : (told : ℕ → Option Reason) (from m : ℕ) (runs : List Run) → runs ≡ [] → m ≡ from → AreRuns told from m runs
+unfolding AreRuns
+runs_start told from m runs none same = subst (AreRuns told from m) (sym none) (λ k low high. absurd (omega (arith, low, high, same)))
+
+-- where the minutes end, or where they would have ended before they began
+pub runs_end : (told : ℕ → Option Reason) (from m to : ℕ) (runs : List Run) → AreRuns told from m runs → to ≤ m → (m ≡ to) ⊎ (m ≡ from) → AreRuns told from to runs
+unfolding AreRuns
+runs_end told from m to runs a h (inl end) = subst (λ k. AreRuns told from k runs) end a
+runs_end told from m to [] a h (inr begin) = λ k low high. absurd (omega (arith, low, high, h, begin))
+runs_end told from m to (r ∷ later) a h (inr begin) = absurd (omega (arith, a.0.after, a.0.order, a.0.within, begin))

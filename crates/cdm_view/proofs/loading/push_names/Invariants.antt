@@ -1,0 +1,8 @@
+use Rattle.std.proofs.Common.{◌≡◌, ◌∷◌, ◌++◌, take}
+use Rattle.std.specs.Prelude.{flat_map}
+use Rattle.std.specs.String.{string_bytes}
+use Rattle.cdm_view.specs.Load.{flights_in_cell}
+use Rattle.cdm_view.proofs.loading.push_names.Given as goal
+
+abbrev pub invariant-loop-slot : goal.invariant-loop-slot
+invariant-loop-slot l = string_bytes l.text ≡ string_bytes l.initial.text ++ flat_map (λ s. 32 ∷ s.name) (flights_in_cell l.runway (take l.slot-index l.slots) l.cell)

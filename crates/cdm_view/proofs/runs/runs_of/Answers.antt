@@ -1,0 +1,47 @@
+use Rattle.std.proofs.Common.{◌≡◌, ℕ, ◌+◌, ◌⊎◌, ◌≤◌, inl, inr, refl, Some, None, ap, sym, ◌∙◌, subst, arith}
+use Rattle.std.proofs.lemmas.Grind.{common_steps}
+use Rattle.cdm_view.specs.Reasons.{Waiting, reason_at}
+use Rattle.cdm_view.specs.Runs.{AreRuns}
+use Rattle.cdm_view.proofs.RunLemmas.{runs_end, runs_none, runs_start}
+use Rattle.cdm_view.proofs.runs.runs_of.Goals.{in-Some+in_ok-add_minute, in_default}
+use Rattle.cdm_view.proofs.runs.runs_of.Goals as goal
+
+-- the first minute, by what the code has of the flight
+begins : (v w : Waiting) (tobt : ℕ) → tobt ≡ v.tobt → v ≡ w → tobt + v.exot ≡ w.tobt + w.exot
+begins v w tobt same is = ap (λ t. t + v.exot) same ∙ ap (λ (x : Waiting). x.tobt + x.exot) is
+
+pub loop-number-init : goal.loop-number-init
+loop-number-init c =
+    let w = c.args.waiting.now in
+    record { runs = runs_start (reason_at w) (w.tobt + w.exot) _ _ c.new-runs.ensures.items (begins _ w _ c.get.ensures.value c.waiting.view_is); short = inr refl }
+
+pub loop-number-preserved : goal.loop-number-preserved
+loop-number-preserved c =
+    let w = c.args.waiting.now in
+    let told = reason_at w in
+    let from = w.tobt + w.exot in
+    let m = c.loop-number.number in
+    let at : c.unwrap-minute.result ≡ m = grind (arith, common_steps) in
+    let begin : c.get.result + c.waiting.inside.exot ≡ from = begins _ w _ c.get.ensures.value c.waiting.view_is in
+    let after : from ≤ c.unwrap-minute.result = omega (arith, begin, at) in
+    let runs : AreRuns told from (m + 1) c.match-branch-2.runs.items = elim c.match-branch-2.branch [
+      | in-Some+in_ok-add_minute v ↦
+          let here : told c.unwrap-minute.result ≡ Some v.in-Some.reason = sym c.in_ok-reason.ensures ∙ v.in-Some.is in
+          let before = subst (λ k. AreRuns told from k c.loop-number.runs.items) (sym at) c.loop-number.invariant.runs in
+          let more = v.in_ok-add_minute.ensures told from before after here in
+          subst (λ runs. AreRuns told from (m + 1) runs.items) (sym v.runs-is) (subst (λ k. AreRuns told from (k + 1) v.add_minute.new.runs.items) at more)
+      | in_default v ↦
+          let here : told m ≡ None = ap told (sym at) ∙ sym c.in_ok-reason.ensures ∙ v.in_default.is in
+          subst (λ runs. AreRuns told from (m + 1) runs.items) (sym v.runs-is) (runs_none told from m _ c.loop-number.invariant.runs here)
+    ] in
+    record { runs = runs; short = inl (omega arith) }
+
+pub returns : goal.returns
+returns c =
+    let w = c.args.waiting.now in
+    let begin : c.get.result + c.waiting.inside.exot ≡ w.tobt + w.exot = begins _ w _ c.get.ensures.value c.waiting.view_is in
+    let end : (c.loop-number.number ≡ c.args.to) ⊎ (c.loop-number.number ≡ w.tobt + w.exot) = elim c.loop-number.invariant.short [
+      | inl short ↦ inl (omega (arith, short, c.get-number-end.ensures.value, c.loop-number-test.false))
+      | inr same ↦ inr (same ∙ begin)
+    ] in
+    runs_end (reason_at w) (w.tobt + w.exot) c.loop-number.number c.args.to _ c.loop-number.invariant.runs (omega (arith, c.get-number-end.ensures.value, c.loop-number-test.false)) end

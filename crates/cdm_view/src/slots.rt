@@ -1,0 +1,26 @@
+//! The slots of a runway in a plan.
+ghost use Rattle.std.specs.Prelude.{◌≡◌};
+ghost use Rattle.std.specs.List.{find};
+ghost use Rattle.std.specs.Option.{option_copied};
+ghost use Rattle.cdm_flight.specs.Names.{same_name};
+ghost use Rattle.cdm_view.specs.Reasons.{slots_on};
+
+use cdm_flight::RunwayName;
+use cdm_sequence::{Plan, RunwayPlan, Slot};
+
+// The plan of the runway of this name.
+fn plan_on(plans: &[RunwayPlan], runway: RunwayName) -> Option<&RunwayPlan>
+    ensures { option_copied result ≡ find (λ p. same_name p.runway runway) plans.now }
+{
+    plans.iter().find(|plan| plan.runway == runway)
+}
+
+/// The slots that the plan has on a runway.
+pub(crate) fn slots_on(plan: &Plan, runway: RunwayName) -> &[Slot]
+    ensures { result.now ≡ slots_on plan.entry.now runway }
+{
+    match plan_on(plan.runways.as_slice(), runway) {
+        Some(plan) => plan.slots.as_slice(),
+        None => &[],
+    }
+}

@@ -1,0 +1,215 @@
+//! What a planned flight waits for.
+ghost use Rattle.std.specs.Prelude.{◌≡◌, ◌≤◌, IfOk, filter, true};
+ghost use Rattle.std.specs.Option.{ForSome, option_map_or};
+ghost use Rattle.cdm_time.specs.Windows.{is_in_tolerance};
+ghost use Rattle.cdm_flight.specs.Journal.{taxi_of};
+ghost use Rattle.cdm_runway.specs.Room.{meets, taken_by};
+ghost use Rattle.cdm_sequence.specs.Aims.{exot_to, stand_minutes};
+ghost use Rattle.cdm_view.specs.Reasons.{held_at, is_earlier, met_at, names_of, reason_at, waiting_of};
+
+use crate::reason::Reason;
+use crate::slots::slots_on;
+use cdm_day::runway_named;
+use cdm_flight::{DayValues, Flight, FlightName, Ice, Key, Listed, RunwayName, before, push_last};
+use cdm_plan::Records;
+use cdm_runway::Runway;
+use cdm_sequence::{Mark, Plan, Slot};
+use cdm_time::{Minute, ctot_window};
+use std::alloc::{AllocError, Global};
+use std::marker::Model;
+
+/// A planned flight with its TOBT and its taxi-out time to its runway, the values of the day, the
+/// runway, and the slots on it that are taken when the flight's turn comes.
+#[derive(Drop)]
+pub(crate) struct Waiting<'a> {
+    pub(crate) flight: &'a Flight,
+    pub(crate) tobt: Minute,
+    pub(crate) exot: u16,
+    pub(crate) values: DayValues,
+    pub(crate) runway: &'a Runway,
+    pub(crate) earlier: Vec<Slot>,
+}
+
+impl<'a> Model for Waiting<'a> {
+    ghost use Rattle.std.specs.Prelude.{◌≤◌};
+    ghost use Rattle.cdm_view.specs.Reasons.{Waiting};
+
+    ghost Value = { Waiting };
+
+    ghost view = { λ w. record {
+      flight = w.flight.now;
+      tobt = w.tobt;
+      exot = w.exot;
+      values = w.values;
+      rules = w.runway.now;
+      earlier = w.earlier.items;
+    } };
+
+    ghost invariant = { λ w. w.exot ≤ 180 };
+}
+
+// The minutes of de-icing on the stand.
+fn minutes_on_stand(ice: Ice) -> u16
+    ensures value { result ≡ stand_minutes ice }
+    ensures range { result ≤ 60 }
+{
+    match ice {
+        Ice::AtStand(minutes) => minutes.get(),
+        Ice::NoIce | Ice::Remote(_) => 0,
+    }
+}
+
+impl Waiting<'_> {
+    // Whether the minute is within the tolerance of the flight's CTOT, if it has one.
+    fn keeps_ctot(&self, minute: Minute) -> bool
+        ensures { result ≡ option_map_or (λ c. is_in_tolerance self.now.values.tolerance c minute) self.now.flight.ctot true }
+    {
+        let flight = self.flight;
+        match flight.ctot {
+            Some(ctot) => ctot_window(ctot, self.values.tolerance).contains(minute),
+            None => true,
+        }
+    }
+
+    // Whether the flight would meet that of the slot, if it took off at the minute.
+    fn meets(&self, minute: Minute, slot: &Slot) -> bool
+        ensures { result ≡ meets (taken_by self.now.rules self.now.flight.group minute) (taken_by self.now.rules slot.now.group slot.now.ttot) }
+    {
+        let flight = self.flight;
+        let (own, other) = (minute.get(), slot.ttot.get());
+        let own_end = own + self.runway.occupancy(flight.group).get();
+        let other_end = other + self.runway.occupancy(slot.group).get();
+        own.max(other) < own_end.min(other_end)
+    }
+
+    // The flights that it would meet, if it took off at the minute.
+    fn met_at(&self, alloc: Global, minute: Minute) -> Result<Vec<FlightName>, AllocError>
+        ensures { IfOk result (λ names. names.items ≡ names_of (met_at self.now minute)) }
+    {
+        let met = self.earlier.iter().filter(|slot| self.meets(minute, slot));
+        met.map(|slot| slot.name).collect(alloc)
+    }
+
+    // The flights in the cell of the minute.
+    fn held_at(&self, alloc: Global, minute: Minute) -> Result<Vec<FlightName>, AllocError>
+        ensures { IfOk result (λ names. names.items ≡ names_of (held_at self.now minute)) }
+    {
+        let cell = self.runway.cell().get();
+        let own = minute.get() / cell;
+        let held = self
+            .earlier
+            .iter()
+            .filter(|slot| slot.ttot.get() / cell == own);
+        held.map(|slot| slot.name).collect(alloc)
+    }
+
+    /// Why the flight can't take off at the minute: the first reason that holds.
+    #[tactic(auto, unfolding(crate::specs::Reasons::reason_at))]
+    pub(crate) fn reason_at(
+        &self,
+        alloc: Global,
+        minute: Minute,
+    ) -> Result<Option<Reason>, AllocError>
+        ensures { IfOk result (λ reason. reason ≡ reason_at self.now minute) }
+    {
+        let flight = self.flight;
+        let number = minute.get();
+        if number < self.tobt.get() + minutes_on_stand(flight.ice) + self.exot {
+            return Ok(Some(Reason::Ice));
+        }
+        if number < self.values.clock.get() + self.exot {
+            return Ok(Some(Reason::Now));
+        }
+        if !self.keeps_ctot(minute) {
+            return Ok(Some(Reason::Ctot));
+        }
+        if self.runway.closed(minute) {
+            return Ok(Some(Reason::Closure));
+        }
+        let met = self.met_at(alloc, minute)?;
+        if !met.is_empty() {
+            return Ok(Some(Reason::Spacing(Listed::new(met))));
+        }
+        let cap = self.runway.cap_at(minute);
+        let held = self.held_at(alloc, minute)?;
+        if usize::from(cap.get()) <= held.len() {
+            return Ok(Some(Reason::Rate(cap, Listed::new(held))));
+        }
+        Ok(None)
+    }
+}
+
+/// The flight's taxi-out time to the runway.
+pub(crate) fn exot_to<R: Records>(records: &R, flight: &Flight, runway: RunwayName) -> Option<u16>
+    ensures value { let d = R.day records.now in result ≡ exot_to (taxi_of d.airport d.journal) flight.now runway }
+    ensures range { ForSome result (λ minutes. minutes ≤ 180) }
+{
+    records.taxi().exot(flight.stand, runway, flight.ice)
+}
+
+// Whether the slot is taken when the turn of the flight with this key comes.
+fn is_earlier<R: Records>(records: &R, key: &Key, slot: &Slot) -> bool
+    ensures { result ≡ is_earlier (R.day records.now) key.now slot.now }
+{
+    if slot.mark != Mark::Planned {
+        return true;
+    }
+    let Some(flight) = records.flight(slot.name) else {
+        return false;
+    };
+    match flight.key() {
+        Some(other) => before(&other, key),
+        None => false,
+    }
+}
+
+// The slots that are taken when the turn of the flight with this key comes.
+fn earlier_slots<R: Records>(
+    alloc: Global,
+    records: &R,
+    key: &Key,
+    slots: &[Slot],
+) -> Result<Vec<Slot>, AllocError>
+    ensures { IfOk result (λ v. v.items ≡ filter (is_earlier (R.day records.now) key.now) slots.now) }
+{
+    let mut earlier = Vec::new(alloc);
+    for slot in slots {
+        if is_earlier(records, key, slot) {
+            push_last(&mut earlier, *slot)?;
+        }
+    }
+    Ok(earlier)
+}
+
+/// What the flight waits for, if it has a TOBT, a runway of the airport and a taxi-out time to it.
+#[tactic(auto, unfolding(crate::specs::Reasons::waiting_of))]
+pub(crate) fn waiting_of<'a, R: Records>(
+    alloc: Global,
+    records: &'a R,
+    plan: &Plan,
+    flight: &'a Flight,
+) -> Result<Option<Waiting<'a>>, AllocError>
+    ensures { IfOk result (λ waiting. waiting ≡ waiting_of (R.day records.now) plan.entry.now flight.now) }
+{
+    let Some(key) = flight.key() else {
+        return Ok(None);
+    };
+    let Some(name) = flight.runway else {
+        return Ok(None);
+    };
+    let Some(runway) = runway_named(records, name) else {
+        return Ok(None);
+    };
+    let Some(exot) = exot_to(records, flight, name) else {
+        return Ok(None);
+    };
+    let earlier = earlier_slots(alloc, records, &key, slots_on(plan, name))?;
+    Ok(Some(Waiting {
+        flight,
+        tobt: key.tobt,
+        exot,
+        values: records.values(),
+        runway,
+        earlier,
+    }))
+}
