@@ -8,5 +8,5 @@ mod text;
 
 pub use counts::{Counts, indicators};
 pub use delta::delta_text;
-pub use line::{TimeColumn, line_has_47_bytes};
+pub use line::{FlightLine, TimeColumn, line_has_47_bytes};
 pub use text::{push_day, refused_text, report_text};

@@ -65,10 +65,12 @@ impl fmt::Display for DelayColumn {
     }
 }
 
-/// A flight's line, without its end.
+/// A flight's line, without its end (local profile).
 #[derive(Clone, Copy)]
-pub(crate) struct FlightLine<'a> {
+pub struct FlightLine<'a> {
+    /// The horizon's first day, from whose 00:00 on minutes are counted.
     pub day: Day,
+    /// The flight's slot.
     pub slot: &'a Slot,
 }
 

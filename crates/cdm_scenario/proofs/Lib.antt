@@ -1,2 +1,3 @@
 pub mod OverlayLemmas
 pub mod OutcomeLemmas
+mod NameLemmas

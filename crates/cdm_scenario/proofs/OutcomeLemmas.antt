@@ -1,5 +1,5 @@
 -- The first update that a word refuses.
-use Rattle.std.proofs.Common.{◌≡◌, ℕ, ◌+◌, ◌≤◌, take, length, Option, None, Some, List, ◌++◌, refl, sym, ap, ◌∙◌, subst, arith}
+use Rattle.std.proofs.Common.{◌≡◌, ℕ, ◌+◌, ◌≤◌, take, length, Option, None, Some, Ok, Err, List, ◌++◌, refl, sym, ap, ◌∙◌, subst, arith}
 use Rattle.std.specs.Prelude.{is_none, slice_get, if◌then◌else◌}
 use Rattle.std.specs.Option.{option_and_then}
 use borrow.Author.Count.{below_more}
@@ -15,7 +15,7 @@ use Rattle.cdm_plan.specs.DayPlan.{IsDayPlan}
 use Rattle.cdm_day.specs.Replies.{reply_of}
 use Rattle.cdm_plan.proofs.NameLemmas.{all_taken}
 use Rattle.cdm_scenario.specs.Overlay.{after_judged, with_updates}
-use Rattle.cdm_scenario.specs.Outcome.{AreTaken, IsOutcome, word_at}
+use Rattle.cdm_scenario.specs.Outcome.{AreTaken, IsLaid, word_at}
 use Rattle.cdm_scenario.specs.inner.OneOutcome.{no_more, one_more}
 use Rattle.cdm_scenario.specs.declared.outcome.Outcome.TheVariants.{Planned, Refused}
 
@@ -48,9 +48,8 @@ module _ (d : DayRecord) (us : List Update) where
           taken = below_more (λ j. word_at d us j ≡ None) k so_far.taken (word_here ∙ none);
         }
 
-    pub refused_here : (w : RefusalWord) → reply.Refused w ≡ reply_of (refusal_of day.airport day.journal u) → IsOutcome d us (Refused (k + 1) w)
+    pub refused_here : (w : RefusalWord) → reply.Refused w ≡ reply_of (refusal_of day.airport day.journal u) → IsLaid d us (Err (k + 1, w))
     refused_here w refused = (k, (refl, so_far.taken, word_here ∙ refused_word (refusal_of day.airport day.journal u) w refused))
 
-  pub all_taken_here : (k : ℕ) (day : DayRecord) (plan : PlanRecord) (counts : Counts) → HasTaken d us k day → length us ≤ k → IsDayPlan day plan → counts ≡ counts_of plan → IsOutcome d us (Planned plan counts)
-  all_taken_here k day plan counts so_far all made is =
-      (λ j h. so_far.taken j (omega arith), subst (λ (x : DayRecord). IsDayPlan x plan) (so_far.same ∙ ap (with_updates d) (all_taken us k (omega arith))) made, is)
+  pub all_taken_here : (k : ℕ) (day : DayRecord) → HasTaken d us k day → length us ≤ k → IsLaid d us (Ok day)
+  all_taken_here k day so_far all = (λ j h. so_far.taken j (omega arith), so_far.same ∙ ap (with_updates d) (all_taken us k (omega arith)))

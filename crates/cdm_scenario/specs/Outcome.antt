@@ -1,5 +1,5 @@
 -- What becomes of a day by further updates.
-use Rattle.std.specs.Prelude.{◌≡◌, ℕ, ◌+◌, ◌<◌, List, ◌++◌, length, take, slice_get, Option, None, Some}
+use Rattle.std.specs.Prelude.{◌≡◌, ℕ, ◌+◌, ◌<◌, List, ◌++◌, length, take, slice_get, Option, None, Some, Result, Ok, Err}
 use Rattle.std.specs.Option.{option_and_then}
 use Rattle.cdm_flight.specs.declared.update.Update.{Update}
 use Rattle.cdm_flight.specs.declared.word.RefusalWord.{RefusalWord}
@@ -24,3 +24,9 @@ AreTaken d updates n = (k : ℕ) → k < n → word_at d updates k ≡ None
 abbrev pub IsOutcome : DayRecord → List Update → Outcome → Type 0
 IsOutcome d updates (Planned plan counts) = AreTaken d updates (length updates) × IsDayPlan (with_updates d updates) plan × (counts ≡ counts_of plan)
 IsOutcome d updates (Refused number word) = (k : ℕ) × ((number ≡ k + 1) × AreTaken d updates k × (word_at d updates k ≡ Some word))
+
+-- the day with all of the updates, where no word refuses one; else the number, from 1, of the first that a word
+-- refuses, and the word
+abbrev pub IsLaid : DayRecord → List Update → Result DayRecord (ℕ × RefusalWord) → Type 0
+IsLaid d updates (Ok day) = AreTaken d updates (length updates) × (day ≡ with_updates d updates)
+IsLaid d updates (Err (number, word)) = IsOutcome d updates (Refused number word)

@@ -8,7 +8,7 @@ ghost use Rattle.cdm_scenario.specs.Outcome.{IsOutcome};
 ghost use Rattle.cdm_scenario.specs.inner.OneOutcome.{one_outcome};
 
 use crate::{Outcome, Overlay, Scenario};
-use cdm_day::{DayState, Records, Reply, plan_of};
+use cdm_day::{DayState, Records, plan_of};
 use cdm_phase::{Gate, Job, PhaseName, Workers, run_phase};
 use cdm_report::indicators;
 use std::alloc::{AllocError, Global};
@@ -22,17 +22,14 @@ pub fn answer(alloc: Global, base: &DayState, scenario: &Scenario) -> Result<Out
 {
     // What the base's records tell is sound, which makes the answer the only one.
     let _of_base = base.values();
-    let mut overlay = Overlay::over(alloc, base);
-    let updates = scenario.updates();
-    for (place, update) in updates.iter().enumerate() {
-        match overlay.apply(alloc, update)? {
-            Reply::Refused(word) => return Ok(Outcome::Refused(place + 1, word)),
-            Reply::Accepted => {}
+    match Overlay::after(alloc, base, scenario.updates())? {
+        Err((number, word)) => Ok(Outcome::Refused(number, word)),
+        Ok(day) => {
+            let plan = plan_of(alloc, &day)?;
+            let counts = indicators(&plan);
+            Ok(Outcome::Planned(plan, counts))
         }
     }
-    let plan = plan_of(alloc, &overlay)?;
-    let counts = indicators(&plan);
-    Ok(Outcome::Planned(plan, counts))
 }
 
 // The answer to each scenario over the base that they share.

@@ -1,13 +1,18 @@
 //! Names of scenarios.
-ghost use Rattle.std.specs.Prelude.{◌≡◌, ◌≤◌, ◌==◌, ◌||◌, IsTrue, Some, None, if◌then◌else◌, length};
+ghost use Rattle.std.specs.Prelude.{◌≡◌, ◌≤◌, ◌<◌, ◌==◌, ◌||◌, ℕ, IsTrue, Some, None, if◌then◌else◌, length, slice_index};
 ghost use Rattle.std.specs.Cmp.{partial_equiv_from_equiv};
 ghost use Rattle.std.specs.Cmp.Lexicographic.{nat_list_eq_equiv};
+ghost use Rattle.std.specs.Cmp.Rules.{hashing};
+ghost use Rattle.std.specs.Hash as fed;
+ghost use Rattle.std.proofs.Common.{rules};
 ghost use Rattle.std.specs.List.{list_all};
 ghost use Rattle.cdm_flight.specs.Names.{is_letter_or_digit, same_name};
 ghost use Rattle.cdm_scenario.specs.Names.{is_scenario_name};
 ghost use Rattle.cdm_scenario.specs.inner.Padded.{padded};
 
+use std::hash::{Hash, Hasher};
 use std::marker::Model;
+use std::str;
 
 /// The bytes that a scenario's name has at most.
 const LONGEST: usize = 16;
@@ -80,6 +85,15 @@ impl ScenarioName {
     {
         &self.text[..self.len]
     }
+
+    /// The name as text.
+    pub fn text(&self) -> &str
+        ensures value { result.now ≡ self.now }
+        ensures ascii { (k : ℕ) → slice_index result.now k < 128 }
+        ensures short { length result.now ≤ 16 }
+    {
+        str::from_utf8(self.bytes()).unwrap()
+    }
 }
 
 impl PartialEq for ScenarioName {
@@ -94,4 +108,14 @@ impl PartialEq for ScenarioName {
 
 impl Eq for ScenarioName {
     ghost laws = { nat_list_eq_equiv };
+}
+
+impl Hash for ScenarioName {
+    ghost hash_input = { λ s. fed.slice fed.u8 s };
+
+    ghost respects_eq = { Prim.search (hashing, rules) };
+
+    fn hash<H: Hasher>(&self, state: &mut H) {
+        self.bytes().hash(state);
+    }
 }

@@ -2,13 +2,14 @@
 ghost use Rattle.std.specs.Prelude.{◌≡◌, IfOk, OnOk, OnErr};
 ghost use Rattle.cdm_flight.specs.Accepted.{refusal_of};
 ghost use Rattle.cdm_day.specs.Replies.{reply_of};
+ghost use Rattle.cdm_scenario.specs.Outcome.{IsLaid};
 ghost use Rattle.cdm_scenario.specs.Overlay.{after_judged};
 
 mod records;
 
 use crate::changes::{change_over, set_over};
 use cdm_day::{Change, DayState, Records, Reply, Takes, judge, runway_named};
-use cdm_flight::{DayValues, Flight, FlightName, RunwayName, Update, push_reserved};
+use cdm_flight::{DayValues, Flight, FlightName, RefusalWord, RunwayName, Update, push_reserved};
 use cdm_runway::Runway;
 use cdm_taxi::TaxiTable;
 use indexmap::IndexMap;
@@ -65,6 +66,25 @@ impl<'a> Overlay<'a> {
             runways: IndexMap::new(alloc),
             taxi: None,
         }
+    }
+
+    /// The day with all of the updates, or the number, from 1, of the first that is refused, and the word
+    /// that refuses it.
+    pub fn after(
+        alloc: Global,
+        base: &'a DayState,
+        updates: &[Update],
+    ) -> Result<Result<Overlay<'a>, (usize, RefusalWord)>, AllocError>
+        ensures { IfOk result (IsLaid base.now updates.now) }
+    {
+        let mut overlay = Overlay::over(alloc, base);
+        for (place, update) in updates.iter().enumerate() {
+            match overlay.apply(alloc, update)? {
+                Reply::Refused(word) => return Ok(Err((place + 1, word))),
+                Reply::Accepted => {}
+            }
+        }
+        Ok(Ok(overlay))
     }
 
     /// Judges an update and takes it, unless a word refuses it. Where there is no memory nothing

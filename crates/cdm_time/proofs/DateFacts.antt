@@ -26,7 +26,7 @@ IsCalendarDay-from_is_date d date =
     parts month day last all = grind (arith, nat_tests)
 
 -- by cases: in the month, at a month's end, at the year's end
-day_number-next_date : (d : CalendarDate) → is_date d ≡ true → day_number (next_date d) ≡ day_number d +ℤ pos 1
+pub day_number-next_date : (d : CalendarDate) → is_date d ≡ true → day_number (next_date d) ≡ day_number d +ℤ pos 1
 day_number-next_date d date = by (nat_lt d.day (days_in_month (pos d.year) d.month)) refl (nat_lt d.month 12) refl
   where
     by : (in_month : Bool) → nat_lt d.day (days_in_month (pos d.year) d.month) ≡ in_month → (in_year : Bool) → nat_lt d.month 12 ≡ in_year
@@ -49,16 +49,3 @@ day_number-next_date d date = by (nat_lt d.day (days_in_month (pos d.year) d.mon
 -- a first day is a date
 pub is_date-first_day : (d : CalendarDate) → is_first_day d ≡ true → is_date d ≡ true
 is_date-first_day d h = (and_parts (nat_le 2000 d.year && nat_le d.year 2099) (is_date d) h).1
-
--- the minutes of the second day are on the next date
-pub day_number-date_at : (d : CalendarDate) (minute : ℕ) → minute ≤ 2879 → is_date d ≡ true
-    → day_number (date_at d minute) ≡ day_number d +ℤ pos (minute / 1440)
-day_number-date_at d minute in_horizon date = by (nat_lt minute 1440) refl
-  where
-    by : (on_first : Bool) → nat_lt minute 1440 ≡ on_first → day_number (date_at d minute) ≡ day_number d +ℤ pos (minute / 1440)
-    by true e =
-        let none : minute / 1440 ≡ 0 = grind (arith, nat_tests) in
-        rw (e, none) (omega (arith, ints))
-    by false e =
-        let one : minute / 1440 ≡ 1 = grind (arith, nat_tests) in
-        rw (e, one) (day_number-next_date d date)

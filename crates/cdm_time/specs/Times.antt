@@ -1,5 +1,5 @@
 -- Minutes of the horizon, which begins on a day at 00:00.
-use Rattle.std.specs.Prelude.{ℕ, ◌+◌, ◌*◌, ◌/◌, ◌%◌, Bool, ◌&&◌, ◌==◌, nat_le, nat_lt, List, ◌∷◌, ◌++◌, length, slice_index, slice_range, ℤ, pos, negsuc, ◌+ℤ◌, ◌-ℤ◌, ◌*ℤ◌, Result, Ok, Err, if◌then◌else◌}
+use Rattle.std.specs.Prelude.{ℕ, ◌+◌, ◌*◌, ◌/◌, ◌%◌, Bool, ◌&&◌, ◌==◌, nat_le, nat_lt, List, [], ◌∷◌, ◌++◌, length, slice_index, slice_range, ℤ, pos, negsuc, ◌+ℤ◌, ◌-ℤ◌, ◌*ℤ◌, Result, Ok, Err, if◌then◌else◌}
 use Rattle.std.specs.Str.{byte}
 use Rattle.jiff.specs.Words.{days_in_month}
 use Rattle.cdm_time.specs.Dates.{date_in, day_number, is_date_text, is_first_day}
@@ -59,3 +59,8 @@ stamp day minute = two_digits (date_at day minute).day ++ two_digits (minute % 1
 -- a date as YYYY-MM-DD
 unfoldable pub date_text : CalendarDate → List ℕ
 date_text d = two_digits (d.year / 100) ++ two_digits (d.year % 100) ++ byte "-" ∷ two_digits d.month ++ byte "-" ∷ two_digits d.day
+
+-- a minute as YYYY-MM-DDTHH:MMZ, the form in which files give times
+unfoldable pub time_text : CalendarDate → ℕ → List ℕ
+time_text day minute =
+    date_text (date_at day minute) ++ byte "T" ∷ two_digits (minute % 1440 / 60) ++ byte ":" ∷ two_digits (minute % 60) ++ byte "Z" ∷ []

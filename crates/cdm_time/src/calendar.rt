@@ -1,7 +1,7 @@
 //! Dates of the calendar.
-ghost use Rattle.std.specs.Prelude.{◌≡◌, ◌≤◌, ◌<◌, true, length, Some, None, if◌then◌else◌, IfSome};
+ghost use Rattle.std.specs.Prelude.{◌≡◌, ◌+◌, ◌≤◌, ◌<◌, true, length, Some, None, if◌then◌else◌, IfSome};
 
-use crate::digits::number_of;
+use crate::digits::{digit_pair, number_of};
 use jiff::civil;
 
 /// A year, a month and a day of the month, whether or not the calendar has that date.
@@ -15,7 +15,9 @@ pub struct CalendarDate {
 impl CalendarDate {
     ghost use Rattle.std.specs.Prelude.{not, nat_lt, pos};
     ghost use Rattle.jiff.specs.Words.{IsEpochDay, days_in_month};
+    ghost use Rattle.std.specs.Str.{IsAscii};
     ghost use Rattle.cdm_time.specs.Dates.{date_in, day_number, is_date, is_date_text};
+    ghost use Rattle.cdm_time.specs.Times.{date_text, next_date};
 
     /// The date that a text of the form YYYY-MM-DD names, or `None` where the text has another form
     /// or the calendar has no such date.
@@ -69,5 +71,62 @@ impl CalendarDate {
     {
         let date = civil::date(self.year as i16, self.month as i8, self.day as i8);
         date.day() >= date.days_in_month()
+    }
+
+    /// The day after.
+    pub(crate) fn next(self) -> CalendarDate
+        requires year { self.year < 9999 }
+        requires date { is_date self ≡ true }
+        ensures value { result ≡ next_date self }
+        ensures date { is_date result ≡ true }
+        ensures year { result.year ≤ self.year + 1 }
+    {
+        let CalendarDate { year, month, day } = self;
+        if !self.is_last_of_month() {
+            CalendarDate {
+                year,
+                month,
+                day: day + 1,
+            }
+        } else if month < 12 {
+            CalendarDate {
+                year,
+                month: month + 1,
+                day: 1,
+            }
+        } else {
+            CalendarDate {
+                year: year + 1,
+                month: 1,
+                day: 1,
+            }
+        }
+    }
+
+    /// The date as YYYY-MM-DD.
+    #[tactic(auto, unfolding(crate::specs::Times::date_text))]
+    pub(crate) fn text(self) -> [u8; 10]
+        requires year { self.year ≤ 9999 }
+        requires date { is_date self ≡ true }
+        ensures text { result ≡ date_text self }
+        ensures ascii { IsAscii result }
+    {
+        let CalendarDate { year, month, day } = self;
+        let [century_tens, century_ones] = digit_pair(year / 100);
+        let [year_tens, year_ones] = digit_pair(year % 100);
+        let [month_tens, month_ones] = digit_pair(u16::from(month));
+        let [day_tens, day_ones] = digit_pair(u16::from(day));
+        [
+            century_tens,
+            century_ones,
+            year_tens,
+            year_ones,
+            b'-',
+            month_tens,
+            month_ones,
+            b'-',
+            day_tens,
+            day_ones,
+        ]
     }
 }

@@ -46,10 +46,10 @@ fn minutes_apart(first: i32, day: i32, minute: u16) -> i64
 }
 
 impl Day {
-    ghost use Rattle.std.specs.Prelude.{◌<◌, ◌/◌, Some, None, true};
+    ghost use Rattle.std.specs.Prelude.{◌<◌, ◌≤◌, ◌/◌, Some, None, true};
     ghost use Rattle.std.specs.Str.{IsAscii};
     ghost use Rattle.cdm_time.specs.Dates.{day_number, is_date};
-    ghost use Rattle.cdm_time.specs.Times.{date_at, date_text, day_of, is_time_text, minute_up_to, minutes_between, stamp};
+    ghost use Rattle.cdm_time.specs.Times.{date_at, date_text, day_of, is_time_text, minute_up_to, minutes_between, stamp, time_text};
 
     /// The day that a text of the form YYYY-MM-DD names.
     ///
@@ -107,6 +107,20 @@ impl Day {
         Bound::new(number).ok_or(TimeFault::Range)
     }
 
+    // The date of a minute.
+    fn date_at(self, minute: Minute) -> CalendarDate
+        ensures value { result ≡ date_at self minute }
+        ensures date { is_date result ≡ true }
+        ensures year { result.year ≤ 2100 }
+        ensures day { day_number result ≡ day_number self +ℤ pos (minute / 1440) }
+    {
+        if minute.get() < 1440 {
+            self.date
+        } else {
+            self.date.next()
+        }
+    }
+
     /// A minute as DDHHMM: the day of the month, the hour and the minute, two digits each.
     #[tactic(auto, unfolding(crate::specs::Times::stamp))]
     pub fn print(self, minute: Minute) -> [u8; 6]
@@ -115,15 +129,9 @@ impl Day {
         ensures day { day_number (date_at self minute) ≡ day_number self +ℤ pos (minute / 1440) }
         ensures ascii { IsAscii result }
     {
+        let date = self.date_at(minute);
         let minute = minute.get();
-        let day = if minute < 1440 {
-            self.date.day
-        } else if self.date.is_last_of_month() {
-            1
-        } else {
-            self.date.day + 1
-        };
-        let [day_tens, day_ones] = digit_pair(u16::from(day));
+        let [day_tens, day_ones] = digit_pair(u16::from(date.day));
         let [hour_tens, hour_ones] = digit_pair(minute % 1440 / 60);
         let [minute_tens, minute_ones] = digit_pair(minute % 60);
         [
@@ -136,28 +144,42 @@ impl Day {
         ]
     }
 
+    /// A minute as YYYY-MM-DDTHH:MMZ, the form in which files give times.
+    #[tactic(auto, unfolding(crate::specs::Times::time_text))]
+    pub fn time_text(self, minute: Minute) -> [u8; 17]
+        ensures text { result ≡ time_text self minute }
+        ensures ascii { IsAscii result }
+    {
+        let [y1, y2, y3, y4, d1, m1, m2, d2, d3, d4] = self.date_at(minute).text();
+        let minute = minute.get();
+        let [clock_tens, clock_ones] = digit_pair(minute % 1440 / 60);
+        let [minute_tens, minute_ones] = digit_pair(minute % 60);
+        [
+            y1,
+            y2,
+            y3,
+            y4,
+            d1,
+            m1,
+            m2,
+            d2,
+            d3,
+            d4,
+            b'T',
+            clock_tens,
+            clock_ones,
+            b':',
+            minute_tens,
+            minute_ones,
+            b'Z',
+        ]
+    }
+
     /// The date as YYYY-MM-DD.
-    #[tactic(auto, unfolding(crate::specs::Times::date_text))]
     pub fn date_text(self) -> [u8; 10]
         ensures text { result ≡ date_text self }
         ensures ascii { IsAscii result }
     {
-        let CalendarDate { year, month, day } = self.date;
-        let [century_tens, century_ones] = digit_pair(year / 100);
-        let [year_tens, year_ones] = digit_pair(year % 100);
-        let [month_tens, month_ones] = digit_pair(u16::from(month));
-        let [day_tens, day_ones] = digit_pair(u16::from(day));
-        [
-            century_tens,
-            century_ones,
-            year_tens,
-            year_ones,
-            b'-',
-            month_tens,
-            month_ones,
-            b'-',
-            day_tens,
-            day_ones,
-        ]
+        self.date.text()
     }
 }

@@ -12,3 +12,10 @@ pub mod EitherLemmas
 pub mod RunLemmas
 pub mod WhyLemmas
 pub mod AnswerLemmas
+pub mod NameColumn
+pub mod StandingLemmas
+pub mod EqualLemmas
+pub mod SearchLemmas
+pub mod ChangeLemmas
+pub mod KnownLemmas
+pub mod WorkedStandings

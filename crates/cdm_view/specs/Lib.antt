@@ -4,4 +4,5 @@ pub mod Runs
 pub mod Why
 pub mod Load
 pub mod Questions
+pub mod Standings
 pub mod inner

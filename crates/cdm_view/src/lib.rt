@@ -1,10 +1,11 @@
-//! Views of a day, each from what is known of it and from its plan: how full its runways are, and what
-//! holds a flight.
+//! Views of a day, each from what is known of it and from its plan: how full its runways are, what
+//! holds a flight, and where its flights stand.
 #![tactic(auto)]
 
 mod answering;
 mod cells;
 mod fault;
+mod gathering;
 mod laws;
 mod lines;
 mod loading;
@@ -12,6 +13,8 @@ mod question;
 mod reason;
 mod runs;
 mod slots;
+mod standing;
+mod standings;
 mod waiting;
 mod waiting_laws;
 mod whys;
@@ -19,9 +22,13 @@ mod whys;
 pub use answering::answer;
 pub use fault::ViewFault;
 pub use laws::{counts_add_up, each_flight_in_one_line, one_answer};
+pub use lines::group_letter;
 pub use loading::load;
 pub use question::Question;
 pub use reason::Reason;
+pub use standing::{Standing, push_standing};
+pub use standings::Standings;
+pub use waiting::exot_to;
 pub use waiting_laws::{
     a_blocked_flight_waits_always, a_placed_flight_waits_its_delay,
     a_waiting_flight_is_placed_or_blocked,

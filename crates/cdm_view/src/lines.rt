@@ -53,8 +53,8 @@ impl fmt::Display for IceText {
     }
 }
 
-// The letter of a group.
-fn group_letter(group: Group) -> &'static str
+/// The letter of a group (local profile).
+pub fn group_letter(group: Group) -> &'static str
     ensures { result.now ≡ group_letter group }
 {
     match group {

@@ -139,8 +139,8 @@ impl Waiting<'_> {
     }
 }
 
-/// The flight's taxi-out time to the runway.
-pub(crate) fn exot_to<R: Records>(records: &R, flight: &Flight, runway: RunwayName) -> Option<u16>
+/// The flight's taxi-out time to the runway as it is known now, in minutes, if it is known.
+pub fn exot_to<R: Records>(records: &R, flight: &Flight, runway: RunwayName) -> Option<u16>
     ensures value { let d = R.day records.now in result ≡ exot_to (taxi_of d.airport d.journal) flight.now runway }
     ensures range { ForSome result (λ minutes. minutes ≤ 180) }
 {

@@ -43,6 +43,11 @@ module _ (d : DayRecord) (us : List Update) where
       subst (λ (x : DayRecord). IsDistinct same_name (flights_in x.journal)) (one_more k u at ∙ ap (λ n. with_updates d (take n us)) (add-one k))
       (names_after d.airport (d.journal ++ take k us) u none (names_so_far own taken k (omega arith)))
 
+  -- and with all of them
+  pub names_with_all : IsDistinct same_name (flights_in d.journal) → AreTaken d us (length us) → IsDistinct same_name (flights_in (d.journal ++ us))
+  names_with_all own taken =
+      subst (λ (l : List Update). IsDistinct same_name (flights_in (d.journal ++ l))) (all_taken us (length us) (omega arith)) (names_so_far own taken (length us) (omega arith))
+
   within : (f : Update → Option RefusalWord) (xs : List Update) (k : ℕ) (w : RefusalWord) → option_and_then f (slice_get xs k) ≡ Some w → k < length xs
   within f [] k w h = cc
   within f (x ∷ xs) zero w h = omega arith
@@ -56,8 +61,7 @@ module _ (d : DayRecord) (us : List Update) where
 
   pub one_outcome : IsDistinct same_name (runway_names d.airport) → IsDistinct same_name (flights_in d.journal) → (x y : Outcome) → IsOutcome d us x → IsOutcome d us y → x ≡ y
   one_outcome runways own (Planned p m) (Planned q n) a b =
-      let names = subst (λ (l : List Update). IsDistinct same_name (flights_in (d.journal ++ l))) (all_taken us (length us) (omega arith)) (names_so_far own a.0 (length us) (omega arith)) in
-      let plan : p ≡ q = one_day_plan (with_updates d us) p q runways names a.1 b.1 in
+      let plan : p ≡ q = one_day_plan (with_updates d us) p q runways (names_with_all own a.0) a.1 b.1 in
       let counts : m ≡ n = a.2 ∙ (ap counts_of plan ∙ sym b.2) in
       λ i. Planned (plan i) (counts i)
   one_outcome runways own (Planned p m) (Refused n w) a b = absurd (refused_in b.0 w a.0 b.1.2)

@@ -1,5 +1,5 @@
 use Rattle.cdm_scenario.proofs.OutcomeLemmas.{HasTaken}
-use Rattle.cdm_scenario.proofs.answers.answer.Given as goal
+use Rattle.cdm_scenario.proofs.overlay.Overlay.after.Given as goal
 
 -- no update so far was refused
 abbrev pub invariant-loop-place : goal.invariant-loop-place

@@ -1,0 +1,179 @@
+-- Each known flight has a standing.
+use Rattle.std.proofs.Common.{◌≡◌, ℕ, Bool, true, false, cond, ◌||◌, List, [], ◌∷◌, ◌++◌, Option, None, Some, IfSome, IsTrue, refl, sym, ◌∙◌, ap, subst, inl, inr}
+use Rattle.std.proofs.Common.{arith, map, filter, take, ◌+◌}
+use Rattle.std.specs.Option.{ForSome}
+use Rattle.std.proofs.lemmas.List.Elements.{All-append, All-contains}
+use Rattle.std.proofs.lemmas.Bool.{and_parts}
+use Rattle.cdm_flight.proofs.Lists.{contains_from_given}
+use Rattle.cdm_flight.proofs.JournalLemmas.{aobt_of, atot_of, is_cancelled as has_cancel, same_name-refl}
+use Rattle.cdm_flight.specs.Journal.{exot_of, runway_of, status_from, record_with}
+use Rattle.cdm_flight.specs.Record.{is_sound}
+use Rattle.cdm_flight.specs.declared.flight.Status.{Status}
+use Rattle.cdm_flight.specs.declared.flight.Status.TheVariants as status
+use Rattle.cdm_plan.proofs.ListWords.{All, All-cons, All-nil, append_assoc, cons_option, filter_map, filter_map-append, option_and_then, slice_get}
+use Rattle.cdm_plan.proofs.DayPlanLemmas.{record_name, records-next}
+use Rattle.cdm_plan.proofs.JournalFacts.{known-among}
+use Rattle.cdm_plan.proofs.ListWords.{Contains, Contains-permutation, IsPermutation, contains_cases, contains_head}
+use Rattle.cdm_plan.proofs.ListWords.{contains_map, contains_tail, false≢true, if_so, is_some, list_any_at, map_fixed, option_map}
+use Rattle.cdm_plan.proofs.ListWords.{option_map_or, or_right, if◌then◌else◌}
+use Rattle.cdm_plan.proofs.NameLemmas.{find_some}
+use Rattle.cdm_plan.proofs.PlanWords.{AimResult, DayRecord, DayValues, IsAim, IsDayPlan, IsSound, PlanRecord, Record, RunwayPlanRecord, RunwayRow}
+use Rattle.cdm_plan.proofs.PlanWords.{Early, Ready, TaxiTimes, aim_means, aim_of, blocked_in, fixed_slot, flight_of, flights_in}
+use Rattle.cdm_plan.proofs.PlanWords.{if_on, is_known, is_on, is_planned, of_flight, records_in, runway_row, same_is, same_name, slot_by, status_of-record}
+use Rattle.cdm_plan.proofs.PlanWords.{target_in, taxi_of, values_of}
+use Rattle.cdm_plan.proofs.PlanningLemmas.{early_at, fixed_at, stands, stands_in, target_at}
+use Rattle.cdm_sequence.proofs.NameLemmas.{names_given}
+use Rattle.cdm_view.specs.declared.standing.Standing.{Standing}
+use Rattle.cdm_view.proofs.StandingLemmas as standing
+use Rattle.cdm_view.specs.Standings.{cancelled, flight_name, standings_of}
+use Rattle.cdm_view.specs.inner.Known.{AllSound}
+
+-- what all pass a test of is left as it is
+filter_all : {X : Type 0} (p : X → Bool) (xs : List X) → ((x : X) → Contains xs x → p x ≡ true) → filter p xs ≡ xs
+filter_all p [] passes = refl
+filter_all {X} p (x ∷ xs) passes =
+    (λ i. cond (passes x (contains_head x xs) i) (x ∷ filter p xs) (filter p xs))
+    ∙ ap (λ (ys : List X). x ∷ ys) (filter_all p xs (λ y i. passes y (contains_tail x xs y i)))
+
+-- Flights one after another.
+
+module _ (h : List ℕ → Option Record) (names : List (List ℕ)) (place : ℕ) (o : Option Record)
+    (known : o ≡ option_and_then h (slice_get names place)) where
+  flights_next : filter_map h (take (place + 1) names) ≡ filter_map h (take place names) ++ cons_option o []
+  flights_next = records-next h names place ∙ ap (λ q. filter_map h (take place names) ++ cons_option q []) (sym known)
+
+  -- the cancelled ones of one flight more
+  pub cancelled_next : (first before after : List Standing) → before ≡ first ++ filter_map cancelled (filter_map h (take place names))
+      → after ≡ before ++ filter_map cancelled (cons_option o []) → after ≡ first ++ filter_map cancelled (filter_map h (take (place + 1) names))
+  cancelled_next first before after so_far more =
+      let earlier = filter_map h (take place names) in
+      let whole = append_assoc first (filter_map cancelled earlier) (filter_map cancelled (cons_option o [])) in
+      rw (flights_next, filter_map-append cancelled earlier (cons_option o []), ← whole, ← so_far) more
+
+  -- what holds of each, with one more
+  pub all_next : (P : Record → Type 0) → All P (filter_map h (take place names)) → ForSome o P → All P (filter_map h (take (place + 1) names))
+  all_next P so_far here = rw flights_next (All-append P (filter_map h (take place names)) (cons_option o []) so_far (one o here))
+    where
+      one : (q : Option Record) → ForSome q P → All P (cons_option q [])
+      one None k = All-nil P
+      one (Some f) k = All-cons P f [] (k f refl) (All-nil P)
+
+-- A flight that a plan shows.
+
+module _ (times : TaxiTimes) (values : DayValues) (fs : List Record) (f : Record) where
+  -- it stands where it stands on the runway of one of the plans
+  stands_there : (ps : List RunwayPlanRecord) (r : List ℕ) → Contains (map (λ p. p.runway) ps) r → stands times values r f ≡ true
+      → stands_in times values fs ps f ≡ true
+  stands_there [] r i h = absurd (omega (arith, i.1))
+  stands_there (p ∷ ps) r i h = elim (contains_cases p.runway (map (λ (p : RunwayPlanRecord). p.runway) ps) r i) [
+    | inl same ↦ ap (λ s. stands times values s f || stands_in times values fs ps f) same ∙ ap (λ b. b || stands_in times values fs ps f) h
+    | inr j ↦ or_right (stands times values p.runway f) (stands_in times values fs ps f) (stands_there ps r j h)
+  ]
+
+  -- and where it is blocked early
+  stands_early : (ps : List RunwayPlanRecord) → is_some (early_at times values f) ≡ true → stands_in times values fs ps f ≡ true
+  stands_early [] h = h
+  stands_early (p ∷ ps) h = or_right (stands times values p.runway f) (stands_in times values fs ps f) (stands_early ps h)
+
+  module _ (ps : List RunwayPlanRecord) (planned : (r : List ℕ) → f.runway ≡ Some r → Contains (map (λ p. p.runway) ps) r) where
+    on_own : (r : List ℕ) → f.runway ≡ Some r → is_on r f ≡ true
+    on_own r e = ap (λ o. option_map_or (λ s. same_name s r) o false) e ∙ same_name-refl r
+
+    -- on its stand it is blocked early, or has a target on its runway
+    planned_stands : f.status ≡ status.Planned → stands_in times values fs ps f ≡ true
+    planned_stands e = by (aim_of f times values) refl (aim_means f times values)
+      where
+        by : (a : AimResult) → aim_of f times values ≡ a → IsAim f times values (aim_of f times values) → stands_in times values fs ps f ≡ true
+        by (Early rule) same aim = stands_early ps (λ i. is_some (if_so (is_planned (e i)) (blocked_in f.name (same i))))
+        by (Ready t) same aim =
+            let runway = (subst (IsAim f times values) same aim).runway in
+            let target : is_some (target_at t.runway times values f) ≡ true =
+            (λ i. is_some (if_so (is_planned (e i)) (if_on t.runway (target_in (same i)))))
+            ∙ ap (λ b. is_some (if b then Some t else None)) (same_name-refl t.runway) in
+            stands_there ps t.runway (planned t.runway runway) (or_right (is_some (fixed_at t.runway f)) (is_some (target_at t.runway times values f)) target)
+
+    -- off-block and airborne it has a runway
+    left_stands : (s : Status) → f.status ≡ s → is_some (slot_by f s) ≡ true → is_some f.runway ≡ true → stands_in times values fs ps f ≡ true
+    unfolding fixed_slot
+    left_stands s e left has = by f.runway refl has
+      where
+        by : (o : Option (List ℕ)) → f.runway ≡ o → is_some o ≡ true → stands_in times values fs ps f ≡ true
+        by None same h = absurd (false≢true h)
+        by (Some r) same h =
+            let fixed : is_some (fixed_at r f) ≡ true = (λ i. is_some (if_so (on_own r same i) (slot_by f (e i)))) ∙ left in
+            stands_there ps r (planned r same) (ap (λ b. b || is_some (target_at r times values f)) fixed)
+
+    -- a sound flight stands or is cancelled
+    sound_stands : IsTrue (is_sound f.runway f.status) → (stands_in times values fs ps f || is_some (cancelled f)) ≡ true
+    sound_stands sound = by f.status refl sound
+      where
+        by : (s : Status) → f.status ≡ s → is_sound f.runway s ≡ true → (stands_in times values fs ps f || is_some (cancelled f)) ≡ true
+        by status.Planned e h = ap (λ b. b || is_some (cancelled f)) (planned_stands e)
+        by (status.OffBlock aobt exot) e h = ap (λ b. b || is_some (cancelled f)) (left_stands (status.OffBlock aobt exot) e refl (and_parts _ _ h).0)
+        by (status.Airborne aobt atot) e h = ap (λ b. b || is_some (cancelled f)) (left_stands (status.Airborne aobt atot) e refl (and_parts _ _ h).0)
+        by status.Cancelled e h =
+            let gone : is_some (cancelled f) ≡ true = ap (λ s. is_some (cancelled (record f { status = s }))) e in
+            or_right (stands_in times values fs ps f) (is_some (cancelled f)) gone
+
+-- The flights of a day.
+
+module _ (d : DayRecord) where
+  abbrev pub flights : List Record
+  flights = records_in d.airport d.journal
+
+  -- the journal says something of each flight that it makes known
+  pub each_recorded : (f : List ℕ) → Contains (flights_in d.journal) f → is_some (flight_of d.airport d.journal f) ≡ true
+  unfolding flight_of
+  each_recorded f (k, l, e) =
+      let a = d.journal in
+      let known : is_known a f ≡ true = known-among a f ∙ list_any_at (same_name f) (flights_in a) k f l (ap (same_name f) e ∙ same_name-refl f) in
+      by (has_cancel a f) (atot_of a f) (aobt_of a f) (exot_of d.airport a f) (is_known a f) known
+    where
+      by : (c : Bool) (t b e : Option ℕ) (k : Bool) → k ≡ true
+          → is_some (option_map (record_with f (of_flight f d.journal)) (status_from c t b e k)) ≡ true
+      by true t b e k h = refl
+      by false (Some t) b e k h = refl
+      by false None (Some b) e k h = refl
+      by false None None e true h = refl
+      by false None None e false h = absurd (false≢true h)
+
+  -- so the known flights are those that it says something of
+  known_named : map (λ (f : Record). f.name) flights ≡ flights_in d.journal
+  known_named =
+      names_given (λ (f : Record). f.name) (λ n. n) (flight_of d.airport d.journal) (λ n. named n (flight_of d.airport d.journal n) refl) (flights_in d.journal)
+      ∙ (ap (map (λ (n : List ℕ). n)) (filter_all (λ n. is_some (flight_of d.airport d.journal n)) (flights_in d.journal) each_recorded)
+      ∙ map_fixed (λ (n : List ℕ). n) (flights_in d.journal) (λ k n l. refl))
+    where
+      named : (n : List ℕ) (o : Option Record) → flight_of d.airport d.journal n ≡ o → IfSome o (λ f. f.name ≡ n)
+      named n None e = tt
+      named n (Some f) e = record_name d.airport d.journal n f e
+
+  -- the runway of a flight is one of the airport's
+  own_runway : IsSound d → (f : Record) → Contains (flights) f → (r : List ℕ) → f.runway ≡ Some r → Contains (map (λ row. row.name) d.airport.runways) r
+  own_runway sound f i r e =
+      let from = contains_from_given (flight_of d.airport d.journal) (flights_in d.journal) f i in
+      let says = status_of-record from.0 d.airport d.journal f from.2 in
+      let runway : runway_of d.journal from.0 ≡ Some r = ap (λ (x : Record). x.runway) says.1 ∙ e in
+      by (runway_row d.airport r) refl (sound.runways from.0 r runway)
+    where
+      by : (o : Option RunwayRow) → runway_row d.airport r ≡ o → is_some (runway_row d.airport r) ≡ true → Contains (map (λ row. row.name) d.airport.runways) r
+      by None same h = absurd (false≢true (sym (ap is_some same) ∙ h))
+      by (Some row) same h =
+          let there = find_some (λ (row : RunwayRow). same_name row.name r) d.airport.runways row same in
+          subst (Contains (map (λ (row : RunwayRow). row.name) d.airport.runways)) (same_is row.name r there.1)
+          (contains_map (λ (row : RunwayRow). row.name) d.airport.runways row there.0)
+
+  -- each known flight has one standing, and no other has one
+  pub each_stands : (plan : PlanRecord) → AllSound d → IsDayPlan d plan
+      → IsPermutation (flights_in d.journal) (map flight_name (standings_of d plan))
+  each_stands plan sound is =
+      let fs = flights in
+      let times = taxi_of d.airport d.journal in
+      let values = values_of d.journal in
+      let plans = standing.runways_planned d plan sound.day.airport.names is in
+      let all = filter_all (λ f. standing.stands d plan f || is_some (cancelled f)) fs (λ f i.
+      sound_stands times values fs f plan.runways
+      (λ r e. Contains-permutation _ (map (λ (p : RunwayPlanRecord). p.runway) plan.runways) r plans (own_runway sound.day f i r e))
+      (All-contains (λ (f : Record). IsTrue (is_sound f.runway f.status)) fs f sound.flights i)) in
+      subst (λ (ns : List (List ℕ)). IsPermutation ns (map flight_name (standings_of d plan)))
+      (ap (map (λ (f : Record). f.name)) all ∙ known_named) (standing.standings_named d plan sound.day.airport.names is)
