@@ -1,9 +1,10 @@
--- The exit statuses of faults: 3 where an input is refused or doesn't know what is asked for, 1 where a device fails, memory is short or the board gives
--- a wrong answer, 2 where the words name no command.
+-- The exit statuses of faults: 3 where an input is refused or doesn't know what is asked for, 1 where a file can't be
+-- opened, a device fails, memory is short or the board gives a wrong answer, 2 where the words name no command.
 use Rattle.std.specs.Prelude.{ℕ}
 use Rattle.cdm_feed.specs.declared.common_fault.CommonFault.{CommonFault}
 use Rattle.cdm_feed.specs.declared.common_fault.CommonFault.TheVariants as common
 use Rattle.cdm_feed.specs.declared.run_error.RunError.TheVariants as run
+use Rattle.cdm_feed.specs.declared.table_error.TableError.TheVariants as table
 use Rattle.cdm_feed.specs.declared.view_error.ViewError.TheVariants as view
 use Rattle.cdm_live.specs.declared.live_error.LiveError.TheVariants as live
 use Rattle.cdm_command.specs.declared.command.CommandFault.{CommandFault}
@@ -19,10 +20,13 @@ status_of_common common.Memory = 1
 status_of_common common.Write = 1
 
 abbrev pub status_of_fault : Fault → ℕ
-status_of_fault (fault.CannotOpen input) = 1
+status_of_fault (fault.CannotOpen input file) = 1
 status_of_fault fault.NoMemory = 1
 status_of_fault (fault.Run (run.Common e)) = status_of_common e
 status_of_fault (fault.Run (run.Scenario number word)) = 3
+status_of_fault (fault.Table (table.Common e)) = status_of_common e
+status_of_fault (fault.Table (table.Scenario number word)) = 3
+status_of_fault (fault.Table (table.NoScenario name)) = 3
 status_of_fault (fault.View (view.Common e)) = status_of_common e
 status_of_fault (fault.View (view.NoFlight name)) = 3
 status_of_fault (fault.View (view.NoRunway name)) = 3

@@ -3,10 +3,14 @@ ghost use Rattle.std.specs.Prelude.{◌≡◌};
 ghost use Rattle.cdm_command.specs.declared.command.CommandFault.TheVariants as command;
 
 use crate::manual::{
-    ABOUT, HELP_ABOUT, LIVE_ABOUT, LOAD_ABOUT, MANUAL, PLAN_ABOUT, SHORT_HELP, VERSION, WHY_ABOUT,
+    ABOUT, COMPARE_ABOUT, COMPARE_EXAMPLE, EXAMPLES, HELP_ABOUT, HELP_EXAMPLE, LIVE_ABOUT,
+    LIVE_EXAMPLE, LOAD_ABOUT, LOAD_EXAMPLE, MANUAL, PLAN_ABOUT, PLAN_EXAMPLE, VERSION, WHY_ABOUT,
+    WHY_EXAMPLE,
 };
 use cdm_flight::{FlightName, RunwayName};
 use cdm_phase::Workers;
+use cdm_scenario::ScenarioName;
+use cdm_table::Table;
 use cdm_view::Question;
 use clap::error::ErrorKind;
 use clap::{Arg, ArgMatches, Command as Parser, Error as ParseError, value_parser};
@@ -14,7 +18,13 @@ use std::alloc::{AllocError, Global};
 use std::convert::AsStr;
 use thiserror::Error;
 
-/// What the words ask for. Files are named by their paths.
+/// The name of a file that is standard input.
+pub const STANDARD_INPUT: &str = "-";
+
+/// How a plan can be printed.
+const FORMATS: &[&str] = &["text", "csv"];
+
+/// What the words ask for. Files are named by their paths, one at most as [`STANDARD_INPUT`].
 #[derive(PartialEq, Eq, Debug, Drop)]
 pub enum Command<'a> {
     /// Plan the departures of a feed at an airport, and of each scenario, by so many workers.
@@ -30,20 +40,60 @@ pub enum Command<'a> {
         feed1: &'a str,
         feed2: &'a str,
     },
+    /// Make a table of the day that a feed makes at an airport, and of each scenario, by so many workers.
+    Tabulate {
+        airport: &'a str,
+        feed: &'a str,
+        scenarios: Option<&'a str>,
+        table: Table,
+        workers: Workers,
+    },
     /// Answer a question of the day that a feed makes at an airport.
     Ask {
         airport: &'a str,
         feed: &'a str,
         question: Question,
     },
-    /// Print this text, the help or the version.
+    /// Print this text: the manual, a help or the version.
     Print(String),
+}
+
+impl Command<'_> {
+    // Whether more than one of the files is standard input.
+    fn has_standard_input_twice(&self) -> bool {
+        let files = match self {
+            Command::Plan {
+                airport,
+                feed,
+                scenarios,
+                ..
+            }
+            | Command::Tabulate {
+                airport,
+                feed,
+                scenarios,
+                ..
+            } => [Some(*airport), Some(*feed), *scenarios],
+            Command::Live {
+                airport,
+                feed1,
+                feed2,
+            } => [Some(*airport), Some(*feed1), Some(*feed2)],
+            Command::Ask { airport, feed, .. } => [Some(*airport), Some(*feed), None],
+            Command::Print(_) => [None; 3],
+        };
+        files
+            .iter()
+            .filter(|file| **file == Some(STANDARD_INPUT))
+            .count()
+            > 1
+    }
 }
 
 /// Why the words ask for nothing that can be done.
 #[derive(Debug, Drop, Error)]
 pub enum CommandFault {
-    /// What is wrong with the words, or the help that they ask for.
+    /// What is wrong with the words.
     #[error("{0}")]
     Usage(String),
     /// Want of memory.
@@ -61,8 +111,8 @@ impl From<AllocError> for CommandFault {
 
 /// The command that the words after the program's name ask for.
 ///
-/// `Usage` where they ask for none, or for help by `-h` or `--help`, with the text that says so. Tests
-/// show what is answered.
+/// `Usage` where they ask for none, or where two files are standard input, with the text that says so.
+/// Tests show what is answered.
 pub fn command_of<'a, S: AsStr>(
     alloc: Global,
     words: &'a [S],
@@ -73,38 +123,116 @@ pub fn command_of<'a, S: AsStr>(
     };
     let command = match matches.subcommand() {
         Some(("plan", plan)) => plan_of(plan),
+        Some(("compare", compare)) => compare_of(alloc, compare)?,
         Some(("live", live)) => live_of(live),
         Some(("why", why)) => why_of(alloc, why)?,
         Some(("load", load)) => load_of(alloc, load)?,
-        Some(_) => Some(Command::Print(parser(alloc)?.render_long_help()?)),
+        Some((_, help)) => Some(help_of(alloc, help.get_str("COMMAND"))?),
         None => None,
     };
     match command {
-        Some(command) => Ok(command),
-        None => Err(CommandFault::Usage(String::from_str(
+        Some(command) if command.has_standard_input_twice() => Err(wrong_words(
             alloc,
-            "error: the command is not complete\n",
-        )?)),
+            "only one of the files can be '-' (standard input)",
+        )?),
+        Some(command) => Ok(command),
+        None => Err(wrong_words(alloc, "the command is not complete")?),
     }
 }
 
-// What the parser tells in place of matches: the version, or a usage text.
+// What the parser tells in place of matches: a help, the version, or what is wrong with the words.
 fn told<'a>(alloc: Global, error: &ParseError) -> Result<Command<'a>, CommandFault> {
     match error.kind() {
         ErrorKind::OutOfMemory => Err(CommandFault::Memory),
-        ErrorKind::DisplayVersion => Ok(Command::Print(error.to_string(alloc)?)),
+        ErrorKind::DisplayHelp | ErrorKind::DisplayVersion => {
+            Ok(Command::Print(error.to_string(alloc)?))
+        }
         _ => Err(CommandFault::Usage(error.to_string(alloc)?)),
     }
 }
 
+// The help of the command of this name, which is the one of its `--help`, or else the manual.
+fn help_of<'a>(alloc: Global, name: Option<&str>) -> Result<Command<'a>, CommandFault> {
+    let Some(name) = name else {
+        let manual = parser(alloc)?.after_help(MANUAL).render_help()?;
+        return Ok(Command::Print(manual));
+    };
+    match parser(alloc)?.try_get_matches_from(&[name, "--help"]) {
+        Err(error) => told(alloc, &error),
+        Ok(_) => Err(wrong_words(alloc, "the command has no help")?),
+    }
+}
+
+// A line that says what is wrong with the words.
+fn wrong_words(alloc: Global, cause: &str) -> Result<CommandFault, AllocError> {
+    Ok(CommandFault::Usage(format!(in alloc; "error: {cause}\n")?))
+}
+
 // The words of `plan`, all of which the parser has seen to.
 fn plan_of<'a>(plan: &ArgMatches<'a>) -> Option<Command<'a>> {
-    Some(Command::Plan {
-        airport: plan.get_str("AIRPORT")?,
-        feed: plan.get_str("FEED")?,
-        scenarios: plan.get_str("scenarios"),
-        workers: Workers::new(plan.get_one::<usize>("workers")?)?,
-    })
+    let airport = plan.get_str("AIRPORT")?;
+    let feed = plan.get_str("FEED")?;
+    let scenarios = plan.get_str("scenarios");
+    let workers = workers_of(plan)?;
+    match plan.get_str("format")? {
+        "csv" => Some(Command::Tabulate {
+            airport,
+            feed,
+            scenarios,
+            table: Table::Csv,
+            workers,
+        }),
+        _ => Some(Command::Plan {
+            airport,
+            feed,
+            scenarios,
+            workers,
+        }),
+    }
+}
+
+// The number of workers.
+fn workers_of(words: &ArgMatches<'_>) -> Option<Workers> {
+    Workers::new(words.get_one::<usize>("workers")?)
+}
+
+// The words of `compare`, all of which the parser has seen to but the form of the scenario's name.
+fn compare_of<'a>(
+    alloc: Global,
+    compare: &ArgMatches<'a>,
+) -> Result<Option<Command<'a>>, CommandFault> {
+    let (Some(airport), Some(feed), Some(scenarios), Some(workers)) = (
+        compare.get_str("AIRPORT"),
+        compare.get_str("FEED"),
+        compare.get_str("SCENARIOS"),
+        workers_of(compare),
+    ) else {
+        return Ok(None);
+    };
+    let name = match compare.get_str("NAME") {
+        Some(word) => Some(scenario_in(alloc, word)?),
+        None => None,
+    };
+    Ok(Some(Command::Tabulate {
+        airport,
+        feed,
+        scenarios: Some(scenarios),
+        table: Table::Comparison(name),
+        workers,
+    }))
+}
+
+// The scenario that a word names.
+fn scenario_in(alloc: Global, word: &str) -> Result<ScenarioName, CommandFault> {
+    match ScenarioName::new(word.as_bytes()) {
+        Some(name) => Ok(name),
+        None => Err(wrong_value(
+            alloc,
+            word,
+            "[NAME]",
+            "a scenario has 1 to 16 of A-Z, 0-9 and -",
+        )?),
+    }
 }
 
 // The words of `live`, all of which the parser has seen to.
@@ -190,15 +318,39 @@ fn plan_parser<'a>(alloc: Global) -> Result<Parser<'a>, AllocError> {
         .long("scenarios")
         .value_name("FILE")
         .help("What-if scenarios, each answered over the feed");
-    let workers = Arg::new(alloc, "workers")
+    let format = Arg::new(alloc, "format")
+        .long("format")
+        .value_name("FORMAT")
+        .value_parser(FORMATS)
+        .default_value("text")
+        .hide_possible_values(true)
+        .help("text, or csv: a row for each flight");
+    day_parser(alloc, "plan", PLAN_ABOUT, PLAN_EXAMPLE)?
+        .arg(scenarios)?
+        .arg(format)?
+        .arg(workers_arg(alloc))
+}
+
+// The number of workers.
+fn workers_arg<'a>(alloc: Global) -> Arg<'a> {
+    Arg::new(alloc, "workers")
         .long("workers")
         .value_name("N")
         .value_parser(value_parser!(usize).range(1..=64))
         .default_value("1")
-        .help("1 to 64 threads; the output is the same");
-    day_parser(alloc, "plan", PLAN_ABOUT)?
+        .help("1 to 64 threads; the output is the same")
+}
+
+// The words that `compare` takes.
+fn compare_parser<'a>(alloc: Global) -> Result<Parser<'a>, AllocError> {
+    let scenarios = Arg::new(alloc, "SCENARIOS")
+        .required(true)
+        .help("What-if scenarios, each answered over the feed");
+    let name = Arg::new(alloc, "NAME").help("One scenario, to see what changes by it");
+    day_parser(alloc, "compare", COMPARE_ABOUT, COMPARE_EXAMPLE)?
         .arg(scenarios)?
-        .arg(workers)
+        .arg(name)?
+        .arg(workers_arg(alloc))
 }
 
 // The words that `live` takes.
@@ -214,15 +366,19 @@ fn live_parser<'a>(alloc: Global) -> Result<Parser<'a>, AllocError> {
         .help("Feed of the second desk");
     Parser::new(alloc, "live")
         .about(LIVE_ABOUT)
-        .after_help(SHORT_HELP)
-        .after_long_help(MANUAL)
+        .after_help(LIVE_EXAMPLE)
         .arg(airport)?
         .arg(feed1)?
         .arg(feed2)
 }
 
-// A command about the day of a feed at an airport.
-fn day_parser<'a>(alloc: Global, name: &'a str, about: &'a str) -> Result<Parser<'a>, AllocError> {
+// A command about the day of a feed at an airport, with an example.
+fn day_parser<'a>(
+    alloc: Global,
+    name: &'a str,
+    about: &'a str,
+    example: &'a str,
+) -> Result<Parser<'a>, AllocError> {
     let airport = Arg::new(alloc, "AIRPORT")
         .required(true)
         .help("Airport file: the day, the runways, the taxi times");
@@ -231,8 +387,7 @@ fn day_parser<'a>(alloc: Global, name: &'a str, about: &'a str) -> Result<Parser
         .help("Feed of updates, in the order in which they came");
     Parser::new(alloc, name)
         .about(about)
-        .after_help(SHORT_HELP)
-        .after_long_help(MANUAL)
+        .after_help(example)
         .arg(airport)?
         .arg(feed)
 }
@@ -242,32 +397,40 @@ fn why_parser<'a>(alloc: Global) -> Result<Parser<'a>, AllocError> {
     let flight = Arg::new(alloc, "FLIGHT")
         .required(true)
         .help("The flight that is asked for");
-    day_parser(alloc, "why", WHY_ABOUT)?.arg(flight)
+    day_parser(alloc, "why", WHY_ABOUT, WHY_EXAMPLE)?.arg(flight)
 }
 
 // The words that `load` takes.
 fn load_parser<'a>(alloc: Global) -> Result<Parser<'a>, AllocError> {
     let runway = Arg::new(alloc, "RUNWAY").help("One runway alone");
-    day_parser(alloc, "load", LOAD_ABOUT)?.arg(runway)
+    day_parser(alloc, "load", LOAD_ABOUT, LOAD_EXAMPLE)?.arg(runway)
 }
 
-fn parser<'a>(alloc: Global) -> Result<Parser<'a>, AllocError> {
-    let help = Parser::new(alloc, "help")
+// The words that `help` takes.
+fn help_parser<'a>(alloc: Global) -> Result<Parser<'a>, AllocError> {
+    let command = Arg::new(alloc, "COMMAND").help("The command whose help is asked for");
+    Parser::new(alloc, "help")
         .about(HELP_ABOUT)
-        .visible_alias("manual")?;
+        .after_help(HELP_EXAMPLE)
+        .visible_alias("manual")?
+        .arg(command)
+}
+
+// The words that the program takes.
+fn parser<'a>(alloc: Global) -> Result<Parser<'a>, AllocError> {
     Parser::new(alloc, "cdmseq")
         .bin_name("cdmseq")?
         .version(VERSION)
         .about(ABOUT)
-        .after_help(SHORT_HELP)
-        .after_long_help(MANUAL)
+        .after_help(EXAMPLES)
         .no_binary_name(true)
         .disable_help_subcommand(true)
         .subcommand_required(true)
         .arg_required_else_help(true)
         .subcommand(plan_parser(alloc)?)?
+        .subcommand(compare_parser(alloc)?)?
         .subcommand(why_parser(alloc)?)?
         .subcommand(load_parser(alloc)?)?
         .subcommand(live_parser(alloc)?)?
-        .subcommand(help)
+        .subcommand(help_parser(alloc)?)
 }

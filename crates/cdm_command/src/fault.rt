@@ -1,10 +1,13 @@
 //! What stops the program, and how it is told.
 ghost use Rattle.std.specs.Prelude.{◌≡◌};
 ghost use Rattle.cdm_command.specs.Statuses.{status_of_command_fault, status_of_common, status_of_fault};
+ghost use Rattle.cdm_command.specs.declared.fault.Fault.TheVariants as fault;
 
 use crate::command::CommandFault;
-use cdm_feed::{CommonFault, Device, Input, RunError, ViewError};
+use crate::unopened::UnopenedFile;
+use cdm_feed::{CommonFault, Device, Input, RunError, TableError, ViewError};
 use cdm_live::LiveError;
+use std::alloc::AllocError;
 use std::io::Write;
 use thiserror::Error;
 
@@ -12,17 +15,20 @@ use thiserror::Error;
 const USAGE_STATUS: u8 = 2;
 
 /// What stops the program.
-#[derive(Clone, Copy, PartialEq, Eq, Hash, Debug, Error)]
+#[derive(PartialEq, Eq, Debug, Drop, Error)]
 pub enum Fault {
-    /// This file can't be opened.
-    #[error("cannot read {0}")]
-    CannotOpen(Input),
+    /// The file of this input can't be opened.
+    #[error("cannot read {0} ({1})")]
+    CannotOpen(Input, UnopenedFile),
     /// Want of memory before the run.
     #[error("out of memory")]
     NoMemory,
     /// The run has not written its whole text.
     #[error(transparent)]
     Run(#[from] RunError),
+    /// The run has not made the whole table.
+    #[error(transparent)]
+    Table(#[from] TableError),
     /// The run has not answered the question.
     #[error(transparent)]
     View(#[from] ViewError),
@@ -31,20 +37,30 @@ pub enum Fault {
     Live(#[from] LiveError),
 }
 
+impl From<AllocError> for Fault {
+    ghost from_gives = { λ _ e. e ≡ fault.NoMemory };
+
+    fn from(_error: AllocError) -> Fault {
+        Fault::NoMemory
+    }
+}
+
 impl Fault {
-    /// The exit status: 3 where an input is refused or doesn't know what is asked for, and 1 where a device fails, memory is short or the
-    /// board gives a wrong answer.
+    /// The exit status: 3 where an input is refused or doesn't know what is asked for, and 1 where a file
+    /// can't be opened, a device fails, memory is short or the board gives a wrong answer.
     pub fn status(&self) -> u8
         ensures { result ≡ status_of_fault self.now }
     {
         match self {
             Fault::Run(RunError::Common(fault))
+            | Fault::Table(TableError::Common(fault))
             | Fault::View(ViewError::Common(fault))
             | Fault::Live(LiveError::Common(fault)) => common_status(*fault),
             Fault::Run(RunError::Scenario(..))
+            | Fault::Table(TableError::Scenario(..) | TableError::NoScenario(_))
             | Fault::View(ViewError::NoFlight(_) | ViewError::NoRunway(_))
             | Fault::Live(LiveError::HistoryFull) => 3,
-            Fault::CannotOpen(_) | Fault::NoMemory | Fault::Live(LiveError::Mismatch) => 1,
+            Fault::CannotOpen(..) | Fault::NoMemory | Fault::Live(LiveError::Mismatch) => 1,
         }
     }
 }
@@ -67,8 +83,8 @@ pub fn report_fault<W: Write>(fault: &Fault, device: &mut Device<W>) -> u8
     fault.status()
 }
 
-/// Writes the text of wrong words, or of the help that they ask for, or the line of want of memory, and
-/// answers the exit status, also where that can't be written.
+/// Writes the text of wrong words, or the line of want of memory, and answers the exit status, also where
+/// that can't be written.
 pub fn report_command_fault<W: Write>(fault: &CommandFault, device: &mut Device<W>) -> u8
     ensures { result ≡ status_of_command_fault fault.now }
 {

@@ -4,6 +4,8 @@
 mod command;
 mod fault;
 mod manual;
+mod unopened;
 
-pub use command::{Command, CommandFault, command_of};
+pub use command::{Command, CommandFault, STANDARD_INPUT, command_of};
 pub use fault::{Fault, report_command_fault, report_fault};
+pub use unopened::UnopenedFile;

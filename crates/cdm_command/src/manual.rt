@@ -11,6 +11,9 @@ each departure of an airport the time at which its start-up can be approved.";
 /// What `plan` does.
 pub const PLAN_ABOUT: &str = "Plan a feed of updates, and print the sequence of each runway";
 
+/// What `compare` does.
+pub const COMPARE_ABOUT: &str = "Print scenarios side by side, the best first";
+
 /// What `why` does.
 pub const WHY_ABOUT: &str = "Tell what holds a flight, and until when";
 
@@ -21,18 +24,61 @@ pub const LOAD_ABOUT: &str = "Tell how full each runway is, cell by cell";
 pub const LIVE_ABOUT: &str = "Let two desks post a feed each to one board, and print its day";
 
 /// What `help` does.
-pub const HELP_ABOUT: &str = "Print all of the help on standard output";
+pub const HELP_ABOUT: &str = "Print the manual, or the help of one command";
 
-/// The end of the short help: examples, and where the long help is.
-pub const SHORT_HELP: &str = "\
+/// The end of the program's help: examples, and where there is more.
+pub const EXAMPLES: &str = "\
 For example:
   cdmseq plan airport.csv feed.csv
-  cdmseq plan airport.csv feed.csv --scenarios what_if.csv
+  cdmseq compare airport.csv feed.csv what_if.csv
   cdmseq why airport.csv feed.csv AB1
   cdmseq load airport.csv feed.csv 27L
+The options of one command: cdmseq help plan
+The whole manual: cdmseq help | less";
+
+/// The end of the help of `plan`.
+pub const PLAN_EXAMPLE: &str = "\
+For example:
+  cdmseq plan airport.csv feed.csv --scenarios what_if.csv
+  cdmseq plan airport.csv feed.csv --format csv > day.csv
+One of the files can be -, which is standard input:
+  grep -v AB1 feed.csv | cdmseq plan airport.csv -
+The whole manual: cdmseq help | less";
+
+/// The end of the help of `compare`.
+pub const COMPARE_EXAMPLE: &str = "\
+For example:
+  cdmseq compare airport.csv feed.csv what_if.csv
+  cdmseq compare airport.csv feed.csv what_if.csv SHUT
+One of the files can be -, which is standard input.
+The whole manual: cdmseq help | less";
+
+/// The end of the help of `why`.
+pub const WHY_EXAMPLE: &str = "\
+For example:
+  cdmseq why airport.csv feed.csv AB1
+One of the files can be -, which is standard input.
+The whole manual: cdmseq help | less";
+
+/// The end of the help of `load`.
+pub const LOAD_EXAMPLE: &str = "\
+For example:
+  cdmseq load airport.csv feed.csv 27L
+One of the files can be -, which is standard input.
+The whole manual: cdmseq help | less";
+
+/// The end of the help of `live`.
+pub const LIVE_EXAMPLE: &str = "\
+For example:
   cdmseq live airport.csv desk_1.csv desk_2.csv
-What the files hold and what the output says:
-  cdmseq help | less";
+One of the files can be -, which is standard input.
+The whole manual: cdmseq help | less";
+
+/// The end of the help of `help`.
+pub const HELP_EXAMPLE: &str = "\
+For example:
+  cdmseq help plan
+The whole manual: cdmseq help | less";
 
 /// What the files hold and what the output says, for a reader who has no other paper.
 pub const MANUAL: &str = "\
@@ -73,7 +119,8 @@ WHAT IT DOES
 THE FILES
   Each is a list of comma-separated records, one a line, without a heading;
   blank lines don't count. A field that begins with a double quote goes on to
-  the next double quote, over line ends too.
+  the next double quote, over line ends too. One of the files can be named -,
+  which is standard input.
   A flight has 1 to 7 of A-Z and 0-9, a runway 1 to 3, a stand 1 to 5. A number
   has up to 4 digits. A time is written 2025-03-10T06:00Z. A window has the
   minutes from its first time up to the one before its second, which may be the
@@ -135,8 +182,8 @@ AO,CTOT,AB1,2025-03-10T06:40Z
                                    before and 0 to 30 after, at first 5 and 10
   Of several updates of one item the last counts.
 
-  SCENARIOS, a file that --scenarios names, asks what the day would be if other
-  updates came after those of FEED:
+  SCENARIOS, a file that --scenarios names, or the third of compare, asks what
+  the day would be if other updates came after those of FEED:
 
 SCENARIO,SHUT
 CLOSE,27L,2025-03-10T06:10Z,2025-03-10T06:30Z
@@ -231,6 +278,40 @@ THE OUTPUT
            its first update that can't be, by its number in the scenario, from
            1, and the cause, from UNKNOWN to FULL.
 
+  compare prints the same day and scenarios side by side. Of the three example
+  files cdmseq compare airport.csv feed.csv what_if.csv SHUT prints
+
+    SCENARIO         PLACED  DELAY   MAX  LATE BLOCKED  MOVED
+    -                     1      0     0     0       1      0
+    SHUT                  1     15    15     0       1      1
+    NO-SUCH          REFUSED 2 UNKNOWN
+    - SLOT 27L AB1     100600   15 ------ 100600 100615 P    0
+    + SLOT 27L AB1     100600   15 ------ 100615 100630 P   15
+
+  -        the day itself, which stands among the scenarios: the best first,
+           which blocks fewer flights, then has less delay, then comes first in
+           the file, before which the day comes. Those that are refused stand
+           last, with the number and the cause of REFUSED.
+  PLACED   up to BLOCKED: as in TOTAL
+  MOVED    how many flights stand otherwise than in the day: on another runway
+           or with another line, blocked, by another cause, or cancelled, or not
+           known in the day
+  - and +  of the scenario that is named last, if one is: each such flight by
+           name, where it stands in the day, if it is known there, and where in
+           the scenario. SLOT has its runway and its line. Of a scenario that is
+           refused, REFUSED once more.
+
+  plan --format csv prints a row for each flight by name, of the day and then of
+  each scenario, in place of all other lines:
+
+    scenario,flight,status,runway,stand,priority,group,tobt,exot,ctot,tsat,...
+    ,AB1,PLANNED,27L,,5,M,2025-03-10T06:00Z,15,,2025-03-10T06:00Z,...
+
+  The last columns are ttot, delay and rule. status is PLANNED, BLOCKED,
+  OFFBLOCK, AIRBORNE or CANCELLED, and of a scenario that is refused REFUSED in
+  one row with the cause in rule. Times are written as in the files; tsat and
+  ttot of a flight that has left are its AOBT and its take-off.
+
   why tells what holds a flight, and load how full the runways are, or the one
   that it is asked for. Of the example files AIRPORT and FEED
   cdmseq why airport.csv feed.csv AB1 prints
@@ -287,10 +368,11 @@ STATUS
   0  done: standard output has the whole text, also where records were refused
   1  a file can't be read, the text can't be written, memory is short, or the
      board gave a wrong answer
-  2  the words are wrong, or asked for help by -h or --help
+  2  the words are wrong
   3  a file has more than 8388608 bytes, AIRPORT or SCENARIOS is refused, FEED1
-     and FEED2 need more than 4096 calls, or the flight or runway that is asked
-     for isn't known
+     and FEED2 need more than 4096 calls, or the flight, runway or scenario that
+     is asked for isn't known
   For 1 and 3 one line on standard error names the cause, as
-  cdmseq: AIRPORT record 5: UNKNOWN. The help of status 2 goes there too.
+  cdmseq: cannot read FEED (feed.csv: no such file). A text there says what is
+  wrong with the words of status 2.
 ";

@@ -117,7 +117,7 @@ of_known P (Some x) (Some y) None p = tt
 of_known P (Some x) (Some y) (Some z) p = p x y z
 
 -- what the scenario file of an airport says
-asks : (Said : Result (List ScenarioRecord) (ℕ × RefusalWord) → Type 0) (airport scenarios : List ℕ) (g : AirportRows)
+pub asks : (Said : Result (List ScenarioRecord) (ℕ × RefusalWord) → Type 0) (airport scenarios : List ℕ) (g : AirportRows)
     → airport_in airport ≡ Ok g → Said (scenarios_in g.day scenarios) → Asks Said airport scenarios
 asks Said airport scenarios g file said =
     subst (λ (r : Result AirportRows (ℕ × RefusalWord)). IsOkAnd r (λ h. Said (scenarios_in h.day scenarios))) (sym file) said

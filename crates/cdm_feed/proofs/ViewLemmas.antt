@@ -14,7 +14,7 @@ use Rattle.cdm_view.specs.declared.fault.ViewFault.TheVariants as fault
 use Rattle.cdm_view.specs.declared.question.Question.{Question}
 use Rattle.cdm_view.proofs.AnswerLemmas.{answer_one}
 use Rattle.cdm_feed.specs.AirportFile.{airport_in}
-use Rattle.cdm_feed.specs.Output.{accepted_in, day_in}
+use Rattle.cdm_feed.specs.Output.{day_in}
 use Rattle.cdm_feed.specs.Readings.{AreRead, Reading, no_input}
 use Rattle.cdm_feed.specs.Views.{IsFirstViewFault, IsUnknown, IsView, error_of}
 use Rattle.cdm_feed.specs.inner.Faults.{IsUnmade}

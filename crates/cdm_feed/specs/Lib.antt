@@ -19,4 +19,5 @@ pub mod InputNames
 pub mod ScenarioRecords
 pub mod ScenarioFile
 pub mod Views
+pub mod Tables
 pub mod inner

@@ -23,6 +23,8 @@ mod run_error;
 mod runs;
 mod scenario_file;
 mod scenario_record;
+mod table_error;
+mod table_run;
 mod view_error;
 mod view_run;
 
@@ -39,5 +41,7 @@ pub use refused::{refusals_of, updates_of};
 pub use run_error::RunError;
 pub use runs::{RunCounts, run};
 pub use scenario_file::read_scenarios;
+pub use table_error::TableError;
+pub use table_run::run_table;
 pub use view_error::ViewError;
 pub use view_run::run_view;

@@ -76,8 +76,8 @@ fn report_of<R: Threads + Sync, G: Gate>(
     Ok(Report { text, counts })
 }
 
-// The scenarios of a scenario file.
-fn scenarios_of(alloc: Global, day: &Day, text: &[u8]) -> Result<Vec<Scenario>, RunError>
+/// The scenarios of a scenario file.
+pub(crate) fn scenarios_of(alloc: Global, day: &Day, text: &[u8]) -> Result<Vec<Scenario>, RunError>
     ensures said { IfOk result (λ scenarios. scenarios_in day.now text.now ≡ Ok scenarios.items) }
     ensures fault { IfErr result (IsScenarioFault day.now text.now) }
 {

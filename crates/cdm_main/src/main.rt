@@ -4,12 +4,15 @@
 ghost use Rattle.std.specs.Prelude.{◌≡◌, false};
 
 pub use cdm_command::{
-    Command, CommandFault, Fault, command_of, report_command_fault, report_fault,
+    Command, CommandFault, Fault, STANDARD_INPUT, UnopenedFile, command_of, report_command_fault,
+    report_fault,
 };
-use cdm_feed::{Device, Input, WriteFault, run, run_view, write_text};
+use cdm_feed::{Device, Input, WriteFault, run, run_table, run_view, write_text};
 pub use cdm_live::{LiveCounts, LiveError, run_live};
 use cdm_phase::{OpenGate, Workers};
+use cdm_table::Table;
 use cdm_view::Question;
+use either::Either;
 use std::alloc::AllocError;
 use std::io::{ErrorKind, Read, Write};
 use std::process::ExitCode;
@@ -29,7 +32,7 @@ fn main(rt: HostRuntime) -> ExitCode {
 
 // Runs the command that the program's words name, and answers the exit status. Texts go to `out`,
 // and what stops the program is told on `errors`.
-fn status_of<R: AllocGlobal + Env + Files + Threads + Wait + Sync, O: Write, E: Write>(
+fn status_of<R: AllocGlobal + Env + Files + io::Input + Threads + Wait + Sync, O: Write, E: Write>(
     rt: &R,
     out: &mut Device<O>,
     errors: &mut Device<E>,
@@ -79,7 +82,7 @@ fn place_not_utf8<R: AllocGlobal + Env>(rt: &R) -> Result<usize, AllocError> {
     Ok(0)
 }
 
-fn run_command<R: AllocGlobal + Files + Threads + Wait + Sync, W: Write>(
+fn run_command<R: AllocGlobal + Files + io::Input + Threads + Wait + Sync, W: Write>(
     rt: &R,
     command: &Command<'_>,
     out: &mut Device<W>,
@@ -101,6 +104,23 @@ fn run_command<R: AllocGlobal + Files + Threads + Wait + Sync, W: Write>(
                     plan(rt, airport, feed, scenarios, *workers, out)
                 }
                 None => plan(rt, airport, feed, &[][..], *workers, out),
+            }
+        }
+        Command::Tabulate {
+            airport,
+            feed,
+            scenarios,
+            table,
+            workers,
+        } => {
+            let airport = open(rt, airport, Input::Airport)?;
+            let feed = open(rt, feed, Input::Feed)?;
+            match scenarios {
+                Some(path) => {
+                    let scenarios = open(rt, path, Input::Scenarios)?;
+                    tabulate(rt, airport, feed, scenarios, *table, *workers, out)
+                }
+                None => tabulate(rt, airport, feed, &[][..], *table, *workers, out),
             }
         }
         Command::Live {
@@ -128,9 +148,23 @@ fn run_command<R: AllocGlobal + Files + Threads + Wait + Sync, W: Write>(
     }
 }
 
-// Opens a file, whose fault is named as the input.
-fn open<R: Files>(rt: &R, path: &str, input: Input) -> Result<R::File, Fault> {
-    fs::open(rt, path).map_err(|_: io::Error| Fault::CannotOpen(input))
+// Opens a file, or takes standard input where that is its name. A fault is named as the input.
+fn open<R: AllocGlobal + Files + io::Input>(
+    rt: &R,
+    path: &str,
+    input: Input,
+) -> Result<Either<R::File, R::Reader>, Fault> {
+    if path == STANDARD_INPUT {
+        return Ok(Either::Right(rt.reader()));
+    }
+    match fs::open(rt, path) {
+        Ok(file) => Ok(Either::Left(file)),
+        Err(error) => {
+            let path = String::from_str(rt.alloc(), path)?;
+            let kind = error.kind();
+            Err(Fault::CannotOpen(input, UnopenedFile { path, kind }))
+        }
+    }
 }
 
 // Writes the plan of the day.
@@ -150,6 +184,32 @@ fn plan<R: AllocGlobal + Threads + Sync, F: Read + Drop, S: Read + Drop, W: Writ
         &mut Device::new(airport),
         &mut Device::new(feed),
         &mut Device::new(scenarios),
+        workers,
+        &OpenGate,
+        out,
+    )?;
+    Ok(())
+}
+
+// Writes a table of the day and its scenarios.
+fn tabulate<R: AllocGlobal + Threads + Sync, F: Read + Drop, S: Read + Drop, W: Write>(
+    rt: &R,
+    airport: F,
+    feed: F,
+    scenarios: S,
+    table: Table,
+    workers: Workers,
+    out: &mut Device<W>,
+) -> Result<(), Fault>
+    requires { out.old.failed ≡ false }
+{
+    run_table(
+        rt,
+        rt.alloc(),
+        &mut Device::new(airport),
+        &mut Device::new(feed),
+        &mut Device::new(scenarios),
+        table,
         workers,
         &OpenGate,
         out,

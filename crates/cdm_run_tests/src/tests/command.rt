@@ -7,6 +7,8 @@ mod memory;
 use cdm_command::{Command, CommandFault, command_of};
 use cdm_flight::{FlightName, RunwayName};
 use cdm_phase::Workers;
+use cdm_scenario::ScenarioName;
+use cdm_table::Table;
 use cdm_view::Question;
 use std::alloc::Global;
 
@@ -100,9 +102,58 @@ fn questions_name_a_flight_or_a_runway(rt: HostRuntime) {
     }
 }
 
-// Whether the words are told to be wrong for this cause.
-fn is_wrong(alloc: Global, words: &[&str], cause: &str) -> bool {
+// Whether the words ask for this table of the files a.csv, f.csv and s.csv, with two workers.
+fn is_table(alloc: Global, words: &[&str], table: Table) -> bool {
+    let Some(workers) = Workers::new(2) else {
+        return false;
+    };
+    let wanted = Command::Tabulate {
+        airport: "a.csv",
+        feed: "f.csv",
+        scenarios: Some("s.csv"),
+        table,
+        workers,
+    };
     match command_of(alloc, words) {
+        Ok(command) => command == wanted,
+        Err(_) => false,
+    }
+}
+
+#[test]
+fn scenarios_are_compared_or_printed_as_rows(rt: HostRuntime) {
+    let name = ScenarioName::new(b"SHUT-2").expect(&rt, "scenario");
+    let table = [
+        (
+            "compare a.csv f.csv s.csv --workers 2",
+            Table::Comparison(None),
+        ),
+        (
+            "compare --workers=2 a.csv f.csv s.csv SHUT-2",
+            Table::Comparison(Some(name)),
+        ),
+        (
+            "plan a.csv f.csv --scenarios s.csv --workers 2 --format csv",
+            Table::Csv,
+        ),
+        (
+            "plan --format=csv --workers 2 --scenarios=s.csv a.csv f.csv",
+            Table::Csv,
+        ),
+    ];
+    for (words, wanted) in table {
+        let words = words.split(' ').collect::<Vec<&str>>(rt.alloc());
+        let words = words.expect(&rt, "words");
+        assert!(rt; is_table(rt.alloc(), words.as_slice(), wanted), "{words:?}");
+    }
+}
+
+// Whether these words, with one space between two, are told to be wrong for this cause.
+fn is_wrong(alloc: Global, words: &str, cause: &str) -> bool {
+    let Ok(words) = words.split(' ').collect::<Vec<&str>>(alloc) else {
+        return false;
+    };
+    match command_of(alloc, words.as_slice()) {
         Err(CommandFault::Usage(text)) => {
             text.starts_with("error: ") && text.contains(cause) && text.ends_with(TRY)
         }
@@ -111,69 +162,54 @@ fn is_wrong(alloc: Global, words: &[&str], cause: &str) -> bool {
 }
 
 #[test]
-fn wrong_words_are_told(rt: HostRuntime) {
-    let table: [(&[&str], &str); 26] = [
-        (&["fly"], "unrecognized subcommand 'fly'"),
-        (&["Plan", "a", "f"], "unrecognized subcommand 'Plan'"),
-        (&["live"], "<AIRPORT>"),
-        (&["live", "a"], "<FEED1>"),
-        (&["live", "a", "f"], "<FEED2>"),
-        (&["live", "a", "f", "g", "h"], "unexpected argument 'h'"),
+fn wrong_words_of_a_plan_are_told(rt: HostRuntime) {
+    let table = [
+        ("plan", "<AIRPORT>"),
+        ("plan a", "<FEED>"),
+        ("plan a f g", "unexpected argument 'g'"),
+        ("plan a f --worker 2", "unexpected argument '--worker'"),
+        ("plan a f --scenarios", "required for '--scenarios <FILE>'"),
+        ("plan a f --workers", "required for '--workers <N>'"),
+        ("plan a f --workers 0", "0 is not in 1..=64"),
+        ("plan a f --workers 65", "65 is not in 1..=64"),
+        ("plan a f --workers two", "value 'two' for '--workers <N>'"),
+        ("plan a f --workers 2.0", "value '2.0' for '--workers <N>'"),
+        ("plan a f --workers=-1", "value '-1' for '--workers <N>'"),
+        ("plan a f --workers 2 --workers 2", "used multiple times"),
+        ("plan a f --format", "required for '--format <FORMAT>'"),
         (
-            &["live", "a", "f", "g", "--workers", "2"],
-            "unexpected argument '--workers'",
-        ),
-        (&["why", "a", "f"], "<FLIGHT>"),
-        (
-            &["why", "a", "f", "AB1", "AB2"],
-            "unexpected argument 'AB2'",
-        ),
-        (
-            &["why", "a", "f", "AB123456"],
-            "invalid value 'AB123456' for '<FLIGHT>'",
-        ),
-        (&["load", "a"], "<FEED>"),
-        (&["load", "a", "f", ""], "invalid value '' for '[RUNWAY]'"),
-        (&["load", "a", "f", "27L", "09"], "unexpected argument '09'"),
-        (&["plan"], "<AIRPORT>"),
-        (&["plan", "a"], "<FEED>"),
-        (&["plan", "a", "f", "g"], "unexpected argument 'g'"),
-        (&["help", "plan"], "unexpected argument 'plan'"),
-        (
-            &["plan", "a", "f", "--worker", "2"],
-            "unexpected argument '--worker'",
-        ),
-        (
-            &["plan", "a", "f", "--scenarios"],
-            "a value is required for '--scenarios <FILE>'",
-        ),
-        (
-            &["plan", "a", "f", "--workers"],
-            "a value is required for '--workers <N>'",
-        ),
-        (&["plan", "a", "f", "--workers", "0"], "0 is not in 1..=64"),
-        (
-            &["plan", "a", "f", "--workers", "65"],
-            "65 is not in 1..=64",
-        ),
-        (
-            &["plan", "a", "f", "--workers", "two"],
-            "invalid value 'two' for '--workers <N>'",
-        ),
-        (
-            &["plan", "a", "f", "--workers", "2.0"],
-            "invalid value '2.0' for '--workers <N>'",
-        ),
-        (
-            &["plan", "a", "f", "--workers=-1"],
-            "invalid value '-1' for '--workers <N>'",
-        ),
-        (
-            &["plan", "a", "f", "--workers", "2", "--workers", "2"],
-            "'--workers <N>' cannot be used multiple times",
+            "plan a f --format CSV",
+            "value 'CSV' for '--format <FORMAT>'",
         ),
     ];
     for (words, cause) in table {
-        assert!(rt; is_wrong(rt.alloc(), words, cause), "{cause}");
+        assert!(rt; is_wrong(rt.alloc(), words, cause), "{words}");
+    }
+}
+
+#[test]
+fn other_wrong_words_are_told(rt: HostRuntime) {
+    let table = [
+        ("fly", "unrecognized subcommand 'fly'"),
+        ("Plan a f", "unrecognized subcommand 'Plan'"),
+        ("live", "<AIRPORT>"),
+        ("live a", "<FEED1>"),
+        ("live a f", "<FEED2>"),
+        ("live a f g h", "unexpected argument 'h'"),
+        ("live a f g --workers 2", "unexpected argument '--workers'"),
+        ("compare a f", "<SCENARIOS>"),
+        ("compare a f s shut", "invalid value 'shut' for '[NAME]'"),
+        ("compare a f s A B", "unexpected argument 'B'"),
+        ("why a f", "<FLIGHT>"),
+        ("why a f AB1 AB2", "unexpected argument 'AB2'"),
+        ("why a f AB123456", "value 'AB123456' for '<FLIGHT>'"),
+        ("load a", "<FEED>"),
+        ("load a f ", "invalid value '' for '[RUNWAY]'"),
+        ("load a f 27L 09", "unexpected argument '09'"),
+        ("help fly", "unrecognized subcommand 'fly'"),
+        ("help plan live", "unexpected argument 'live'"),
+    ];
+    for (words, cause) in table {
+        assert!(rt; is_wrong(rt.alloc(), words, cause), "{words}");
     }
 }

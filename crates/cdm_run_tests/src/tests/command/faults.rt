@@ -1,9 +1,10 @@
 //! The lines of faults. Their statuses are told by clauses.
 use crate::tests::devices::Page;
-use cdm_command::{Fault, report_fault};
-use cdm_feed::{CommonFault, Device, RunError, ViewError};
+use cdm_command::{Fault, UnopenedFile, report_fault};
+use cdm_feed::{CommonFault, Device, RunError, TableError, ViewError};
 use cdm_flight::RefusalWord;
 use cdm_live::LiveError;
+use std::io::ErrorKind;
 use std::process::Abort;
 
 // The fault has this line.
@@ -18,8 +19,8 @@ fn check_line(rt: &impl Abort, fault: Fault, line: &str) {
 
 #[test]
 fn faults_have_lines(rt: HostRuntime) {
-    use Fault::{CannotOpen, Live, NoMemory, Run, View};
-    use cdm_feed::Input::{Airport, Feed, Feed1, Feed2, Scenarios};
+    use Fault::{Live, NoMemory, Run, Table, View};
+    use cdm_feed::Input::{Airport, Feed, Feed1, Feed2};
     let unknown = CommonFault::Airport(5, RefusalWord::Unknown);
     let common = [
         (CommonFault::Read(Airport), "cannot read AIRPORT"),
@@ -39,18 +40,16 @@ fn faults_have_lines(rt: HostRuntime) {
     ];
     for (fault, line) in common {
         check_line(&rt, Run(RunError::Common(fault)), line);
+        check_line(&rt, Table(TableError::Common(fault)), line);
         check_line(&rt, View(ViewError::Common(fault)), line);
         check_line(&rt, Live(LiveError::Common(fault)), line);
     }
     let disordered = RunError::Scenario(1, RefusalWord::Order);
+    let unordered = TableError::Scenario(1, RefusalWord::Order);
     let cases = [
-        (CannotOpen(Airport), "cannot read AIRPORT"),
-        (CannotOpen(Feed), "cannot read FEED"),
-        (CannotOpen(Scenarios), "cannot read SCENARIOS"),
-        (CannotOpen(Feed1), "cannot read FEED1"),
-        (CannotOpen(Feed2), "cannot read FEED2"),
         (NoMemory, "out of memory"),
         (Run(disordered), "SCENARIOS record 1: ORDER"),
+        (Table(unordered), "SCENARIOS record 1: ORDER"),
         (
             Live(LiveError::HistoryFull),
             "board is full after 4096 calls",
@@ -59,5 +58,34 @@ fn faults_have_lines(rt: HostRuntime) {
     ];
     for (fault, line) in cases {
         check_line(&rt, fault, line);
+    }
+}
+
+#[test]
+fn unopened_files_are_told_by_path_and_reason(rt: HostRuntime) {
+    use ErrorKind::{NotADirectory, NotFound, PermissionDenied, Uncategorized};
+    let table = [
+        ("f.csv", NotFound, "cannot read FEED (f.csv: no such file)"),
+        (
+            "f.csv",
+            PermissionDenied,
+            "cannot read FEED (f.csv: permission denied)",
+        ),
+        (
+            "f.csv/g",
+            NotADirectory,
+            "cannot read FEED (f.csv/g: not a directory)",
+        ),
+        ("f.csv", Uncategorized, "cannot read FEED (f.csv)"),
+        (
+            "fl\u{fc}ge \u{1b}[2J\n\u{7f}\u{85}",
+            NotFound,
+            "cannot read FEED (fl\u{fc}ge \\x1b[2J\\x0a\\x7f\\xc2\\x85: no such file)",
+        ),
+    ];
+    for (path, kind, line) in table {
+        let path = String::from_str(rt.alloc(), path).expect(&rt, "path");
+        let file = UnopenedFile { path, kind };
+        check_line(&rt, Fault::CannotOpen(cdm_feed::Input::Feed, file), line);
     }
 }

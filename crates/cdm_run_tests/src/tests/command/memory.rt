@@ -6,7 +6,9 @@ use std::alloc::Global;
 // The text that the words are answered, or the last file that they name. Nothing for want of memory.
 fn text_in<'a>(answer: &'a Result<Command<'_>, CommandFault>) -> &'a str {
     match answer {
-        Ok(Command::Plan { feed, .. } | Command::Ask { feed, .. }) => feed,
+        Ok(
+            Command::Plan { feed, .. } | Command::Tabulate { feed, .. } | Command::Ask { feed, .. },
+        ) => feed,
         Ok(Command::Live { feed2, .. }) => feed2,
         Ok(Command::Print(text)) | Err(CommandFault::Usage(text)) => text.as_str(),
         Err(CommandFault::Memory) => "",
@@ -28,14 +30,15 @@ fn is_told(alloc: Global, words: &[&str], end: &str) -> bool {
 /// Words are answered by the whole text or by want of memory.
 #[test]
 fn refused_memory_tells_no_half_text(rt: HostRuntime) {
-    let table: [(&[&str], &str); 8] = [
+    let table: [(&[&str], &str); 9] = [
         (&["plan", "a.csv", "--workers", "2", "f.csv"], "f.csv"),
         (&["live", "a.csv", "f.csv", "g.csv"], "g.csv"),
+        (&["compare", "a.csv", "f.csv", "s.csv", "shut"], TRY),
         (&["why", "a.csv", "f.csv", "AB1"], "f.csv"),
         (&["load", "a.csv", "f.csv", "27-L"], TRY),
         (&["--version"], "cdmseq 0.1.0\n"),
-        (&["help"], "The help of status 2 goes there too.\n"),
-        (&["plan", "-h"], "cdmseq help | less\n"),
+        (&["help"], "wrong with the words of status 2.\n"),
+        (&["help", "plan"], "cdmseq help | less\n"),
         (&["plan", "a.csv", "f.csv", "--workers", "65"], TRY),
     ];
     for (words, end) in table {

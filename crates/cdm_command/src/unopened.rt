@@ -1,0 +1,44 @@
+//! Files that can't be opened.
+use std::fmt;
+use std::fmt::{Display, Formatter, Write};
+use std::io::ErrorKind;
+
+/// A file that can't be opened. It is shown as its path and the reason, where the system tells one.
+#[derive(PartialEq, Eq, Debug, Drop)]
+pub struct UnopenedFile {
+    /// The file's path.
+    pub path: String,
+    /// What the system says of it.
+    pub kind: ErrorKind,
+}
+
+impl Display for UnopenedFile {
+    fn fmt<W: Write>(&self, f: &mut Formatter<W>) -> fmt::Result {
+        write_path(&self.path, f)?;
+        match self.kind {
+            ErrorKind::NotFound => f.write_str(": no such file"),
+            ErrorKind::Other | ErrorKind::Uncategorized => Ok(()),
+            kind => write!(f, ": {kind}"),
+        }
+    }
+}
+
+// Writes a path, with `\xHH` in place of each byte of a control character.
+fn write_path<W: Write>(path: &str, f: &mut Formatter<W>) -> fmt::Result {
+    for character in path.chars() {
+        if character.is_control() {
+            write_bytes(character, f)?;
+        } else {
+            f.write_char(character)?;
+        }
+    }
+    Ok(())
+}
+
+// Writes the bytes of a character, each as `\xHH`.
+fn write_bytes<W: Write>(character: char, f: &mut Formatter<W>) -> fmt::Result {
+    for byte in character.encode_utf8(&mut [0; 4]).bytes() {
+        write!(f, "\\x{byte:02x}")?;
+    }
+    Ok(())
+}

@@ -1,0 +1,137 @@
+-- A day and its scenarios have one table.
+use Rattle.std.proofs.Common.{◌≡◌, ◌∙◌, ◌++◌, ◌+◌, ◌≤◌, ◌<◌, ℕ, List, [], ◌∷◌, Option, None, Some, inl, inr, sym, ap, subst, arith}
+use Rattle.std.specs.Prelude.{Contains, flat_map}
+use Rattle.std.specs.Cmp.{IsTotalOrder, bool_cmp_total}
+use Rattle.std.specs.List.{AllZip, IsDistinct, concat}
+use Rattle.std.specs.Ordering.{nat_cmp}
+use Rattle.std.specs.declared.cmp.Ordering.TheVariants.{Equal}
+use Rattle.std.proofs.lemmas.Bool.Decides.{nat_tests}
+use Rattle.std.proofs.lemmas.Cmp.{nat_cmp_total, on_total, then_total}
+use Rattle.cdm_flight.specs.Names.{same_name}
+use Rattle.cdm_flight.proofs.Lists.{contains_cases}
+use Rattle.cdm_sequence.proofs.OneLemmas.{one_order}
+use Rattle.cdm_sequence.proofs.OrderLemmas.{last_ties}
+use Rattle.cdm_sequence.specs.Slots.{PlanRecord}
+use Rattle.cdm_report.specs.Counts.{counts_of}
+use Rattle.cdm_report.specs.declared.counts.Counts.{Counts}
+use Rattle.cdm_plan.specs.Airport.{runway_names}
+use Rattle.cdm_plan.specs.Day.{DayRecord, flights_in}
+use Rattle.cdm_plan.proofs.OnePlanLemmas.{one_day_plan}
+use Rattle.cdm_view.specs.Standings.{AreStandings}
+use Rattle.cdm_view.specs.declared.standing.Standing.{Standing}
+use Rattle.cdm_view.proofs.StandingLemmas.{one_standings}
+use Rattle.cdm_scenario.specs.Scenarios.{ScenarioRecord}
+use Rattle.cdm_scenario.specs.inner.OneOutcome.{one_each}
+use Rattle.cdm_table.specs.Comparison.{IsComparison, IsRanking, IsSummary, IsToldIf, all_lines, blocked_in, delay_in, heading, is_refused, line_cmp, line_text, lines_from}
+use Rattle.cdm_table.specs.Rows as rows
+use Rattle.cdm_table.specs.Rows.{AreFlightRows, AreScenarioRows, IsCsv, csv_text}
+use Rattle.cdm_table.specs.Tables.{IsTable}
+use Rattle.cdm_table.specs.inner.OneTable.{one_flight_rows, one_scenario_rows, one_summary, one_told}
+use Rattle.cdm_table.specs.declared.line.Line.{Line}
+use Rattle.cdm_table.specs.declared.line.Summary.{Summary}
+use Rattle.cdm_table.specs.declared.line.Summary.TheVariants.{Planned}
+use Rattle.cdm_table.specs.declared.table.Table.{Table}
+use Rattle.cdm_table.specs.declared.table.Table.TheVariants.{Csv, Comparison}
+
+-- No two lines have one place.
+
+later_places : (place : ℕ) (ss : List ScenarioRecord) (xs : List Summary) (line : Line) → Contains (lines_from place ss xs) line → place ≤ line.place
+unfolding lines_from
+later_places place (s ∷ ss) (x ∷ xs) line i = elim (contains_cases _ (lines_from (place + 1) ss xs) line i) [
+  | inl e ↦ let here : place ≡ line.place = ap (λ (l : Line). l.place) e in omega (arith, here)
+  | inr j ↦ let later : place + 1 ≤ line.place = later_places (place + 1) ss xs line j in omega (arith, later)
+]
+later_places place [] xs line i = omega (arith, i.1)
+later_places place (s ∷ ss) [] line i = omega (arith, i.1)
+
+one_in : (first : Line) (rest : List Line) → ((line : Line) → Contains rest line → first.place < line.place)
+    → ((a b : Line) → Contains rest a → Contains rest b → a.place ≡ b.place → a ≡ b)
+    → (a b : Line) → Contains (first ∷ rest) a → Contains (first ∷ rest) b → a.place ≡ b.place → a ≡ b
+one_in first rest after one a b i j same = elim (contains_cases first rest a i) [
+  | inl e ↦ elim (contains_cases first rest b j) [
+    | inl f ↦ sym e ∙ f
+    | inr l ↦
+        let here : first.place ≡ a.place = ap (λ (x : Line). x.place) e in
+        absurd (omega (arith, here, same, after b l))
+  ]
+  | inr k ↦ elim (contains_cases first rest b j) [
+    | inl f ↦
+        let here : first.place ≡ b.place = ap (λ (x : Line). x.place) f in
+        absurd (omega (arith, here, same, after a k))
+    | inr l ↦ one a b k l same
+  ]
+]
+
+one_from : (place : ℕ) (ss : List ScenarioRecord) (xs : List Summary) (a b : Line) → Contains (lines_from place ss xs) a → Contains (lines_from place ss xs) b
+    → a.place ≡ b.place → a ≡ b
+unfolding lines_from
+one_from place (s ∷ ss) (x ∷ xs) a b i j same =
+    one_in (record { place = place; name = Some s.name; summary = x }) (lines_from (place + 1) ss xs)
+    (λ line k. let later : place + 1 ≤ line.place = later_places (place + 1) ss xs line k in omega (arith, later))
+    (one_from (place + 1) ss xs) a b i j same
+one_from place [] xs a b i j same = absurd (omega (arith, i.1))
+one_from place (s ∷ ss) [] a b i j same = absurd (omega (arith, i.1))
+
+one_line : (counts : Counts) (ss : List ScenarioRecord) (xs : List Summary) (a b : Line) → Contains (all_lines counts ss xs) a → Contains (all_lines counts ss xs) b
+    → a.place ≡ b.place → a ≡ b
+one_line counts ss xs =
+    one_in (record { place = 0; name = None; summary = Planned counts 0 }) (lines_from 1 ss xs)
+    (λ line i. let later : 1 ≤ line.place = later_places 1 ss xs line i in omega (arith, later)) (one_from 1 ss xs)
+
+line_total : IsTotalOrder line_cmp
+line_total =
+    then_total (then_total (then_total
+    (on_total (λ (l : Line). is_refused l.summary) bool_cmp_total)
+    (on_total (λ (l : Line). blocked_in l.summary) nat_cmp_total))
+    (on_total (λ (l : Line). delay_in l.summary) nat_cmp_total))
+    (on_total (λ (l : Line). l.place) nat_cmp_total)
+
+tied_places : (a b : ℕ) → nat_cmp a b ≡ Equal → a ≡ b
+tied_places a b tied = grind (arith, nat_tests)
+
+-- lines have one order
+one_ranking : (counts : Counts) (ss : List ScenarioRecord) (summaries : List Summary) (xs ys : List Line) → IsRanking (all_lines counts ss summaries) xs
+    → IsRanking (all_lines counts ss summaries) ys → xs ≡ ys
+one_ranking counts ss summaries xs ys a b =
+    one_order line_total (λ (l : Line). l) (all_lines counts ss summaries) xs ys
+    (λ x y i j tied.
+    let placed = last_ties _ (nat_cmp x.place y.place) tied in
+    one_line counts ss summaries x y i j (tied_places x.place y.place placed))
+    a.all b.all a.best_first b.best_first
+
+-- Tables.
+
+module _ (d : DayRecord) (runways : IsDistinct same_name (runway_names d.airport)) (flights : IsDistinct same_name (flights_in d.journal)) where
+  one_csv : (scenarios : List ScenarioRecord) (x y : List ℕ) → IsCsv d scenarios x → IsCsv d scenarios y → x ≡ y
+  one_csv scenarios x y a b =
+      let plans : a.plan ≡ b.plan = one_day_plan d a.plan b.plan runways flights a.of_day b.of_day in
+      let rows_too : AreFlightRows d a.plan [] b.own = subst (λ (p : PlanRecord). AreFlightRows d p [] b.own) (sym plans) b.rows in
+      let own : a.own ≡ b.own = one_flight_rows d a.plan runways flights a.of_day [] a.own b.own a.rows rows_too in
+      let answers : a.answers ≡ b.answers =
+      one_each (AreScenarioRows d) (one_scenario_rows d runways flights) scenarios a.answers b.answers a.of_scenarios b.of_scenarios in
+      a.bytes ∙ ((λ i. csv_text (rows.heading ∷ []) ++ own i ++ concat (answers i)) ∙ sym b.bytes)
+
+  one_told_if : (before : List Standing) (asked : Option ScenarioRecord) (x y : List ℕ) → IsToldIf d before asked x → IsToldIf d before asked y → x ≡ y
+  one_told_if before None x y a b = a ∙ sym b
+  one_told_if before (Some s) x y a b = one_told d runways flights before s x y a b
+
+  one_comparison : (scenarios : List ScenarioRecord) (asked : Option ScenarioRecord) (x y : List ℕ) → IsComparison d scenarios asked x
+      → IsComparison d scenarios asked y → x ≡ y
+  one_comparison scenarios asked x y a b =
+      let plans : a.plan ≡ b.plan = one_day_plan d a.plan b.plan runways flights a.of_day b.of_day in
+      let stand : AreStandings d a.plan b.before = subst (λ (p : PlanRecord). AreStandings d p b.before) (sym plans) b.stand in
+      let before : a.before ≡ b.before = one_standings d a.plan runways flights a.of_day a.before b.before a.stand stand in
+      let of_scenarios : AllZip (IsSummary d a.before) scenarios b.summaries =
+      subst (λ (l : List Standing). AllZip (IsSummary d l) scenarios b.summaries) (sym before) b.of_scenarios in
+      let summaries : a.summaries ≡ b.summaries =
+      one_each (IsSummary d a.before) (one_summary d runways flights a.before) scenarios a.summaries b.summaries a.of_scenarios of_scenarios in
+      let ranking : IsRanking (all_lines (counts_of a.plan) scenarios a.summaries) b.ranked =
+      rw (plans, summaries) b.ranking in
+      let ranked : a.ranked ≡ b.ranked = one_ranking (counts_of a.plan) scenarios a.summaries a.ranked b.ranked a.ranking ranking in
+      let asked_for : IsToldIf d a.before asked b.told = subst (λ (l : List Standing). IsToldIf d l asked b.told) (sym before) b.of_asked in
+      let told : a.told ≡ b.told = one_told_if a.before asked a.told b.told a.of_asked asked_for in
+      a.bytes ∙ ((λ i. heading ++ flat_map line_text (ranked i) ++ told i) ∙ sym b.bytes)
+
+  pub one_table : (table : Table) (scenarios : List ScenarioRecord) (x y : List ℕ) → IsTable table d scenarios x → IsTable table d scenarios y → x ≡ y
+  one_table Csv scenarios x y a b = one_csv scenarios x y a b
+  one_table (Comparison asked) scenarios x y a b = one_comparison scenarios _ x y a.1 b.1

@@ -1,0 +1,141 @@
+-- A day and its scenarios side by side.
+use Rattle.std.specs.Prelude.{◌≡◌, ℕ, ◌+◌, Bool, true, false, List, [], ◌∷◌, ◌++◌, IsPermutation, IsSorted, codes, flat_map, length, Option, None, Some, Result, Ok, Err, unwrap_or}
+use Rattle.std.specs.declared.cmp.Ordering.{Ordering}
+use Rattle.std.specs.Fmt.{decimal}
+use Rattle.std.specs.List.{AllZip, concat, find, join_with_byte}
+use Rattle.std.specs.Option.{option_map_or}
+use Rattle.std.specs.Ordering.{bool_cmp, nat_cmp, ordering_then}
+use Rattle.cdm_time.specs.declared.calendar.CalendarDate.{CalendarDate}
+use Rattle.cdm_flight.specs.Names.{same_name}
+use Rattle.cdm_flight.specs.Words.{text_of}
+use Rattle.cdm_flight.specs.declared.word.RefusalWord.{RefusalWord}
+use Rattle.cdm_sequence.specs.Slots.{PlanRecord}
+use Rattle.cdm_report.specs.Columns.{left_in, right_in}
+use Rattle.cdm_report.specs.Counts.{counts_of}
+use Rattle.cdm_report.specs.Report.{line_end, refused_line}
+use Rattle.cdm_report.specs.declared.counts.Counts.{Counts}
+use Rattle.cdm_plan.specs.Day.{DayRecord}
+use Rattle.cdm_plan.specs.DayPlan.{IsDayPlan}
+use Rattle.cdm_view.specs.Standings.{AreStandings, changes, flight_name, standing_line}
+use Rattle.cdm_view.specs.declared.standing.Standing.{Standing}
+use Rattle.cdm_scenario.specs.Outcome.{IsOutcome}
+use Rattle.cdm_scenario.specs.Overlay.{with_updates}
+use Rattle.cdm_scenario.specs.Scenarios.{ScenarioRecord}
+use Rattle.cdm_scenario.specs.declared.outcome.Outcome.TheVariants.{Planned, Refused}
+use Rattle.cdm_table.specs.declared.line.Line.{Line}
+use Rattle.cdm_table.specs.declared.line.Summary.{Summary}
+use Rattle.cdm_table.specs.declared.line.Summary.TheVariants as summary
+
+-- What comes of a scenario.
+
+-- the indicators of the plan with all updates, and the standings that differ from those before; or the number of the
+-- first update that is refused, and its word
+abbrev pub IsChanged : DayRecord → List Standing → ScenarioRecord → Result (Counts × List Standing) (ℕ × RefusalWord) → Type 0
+IsChanged d before s (Ok (counts, changed)) =
+    (plan : PlanRecord) × (after : List Standing) × IsOutcome d s.updates (Planned plan counts)
+    × AreStandings (with_updates d s.updates) plan after × (changed ≡ changes d.airport.day before after)
+IsChanged d before s (Err (number, word)) = IsOutcome d s.updates (Refused number word)
+
+-- in numbers: how many standings differ
+abbrev pub summary_of : Result (Counts × List Standing) (ℕ × RefusalWord) → Summary
+summary_of (Ok (counts, changed)) = summary.Planned counts (length changed)
+summary_of (Err (number, word)) = summary.Refused number word
+
+abbrev pub IsSummary : DayRecord → List Standing → ScenarioRecord → Summary → Type 0
+IsSummary d before s is = (by : Result (Counts × List Standing) (ℕ × RefusalWord)) × IsChanged d before s by × (is ≡ summary_of by)
+
+-- Lines and their order.
+
+-- the lines of scenarios, by their places in the file
+unfoldable pub lines_from : ℕ → List ScenarioRecord → List Summary → List Line
+lines_from place (s ∷ scenarios) (is ∷ summaries) =
+    record { place = place; name = Some s.name; summary = is } ∷ lines_from (place + 1) scenarios summaries
+lines_from place _ _ = []
+
+-- the day's own line, and those of the scenarios
+abbrev pub all_lines : Counts → List ScenarioRecord → List Summary → List Line
+all_lines counts scenarios summaries =
+    record { place = 0; name = None; summary = summary.Planned counts 0 } ∷ lines_from 1 scenarios summaries
+
+abbrev pub is_refused : Summary → Bool
+is_refused (summary.Planned counts moved) = false
+is_refused (summary.Refused number word) = true
+
+abbrev pub blocked_in : Summary → ℕ
+blocked_in (summary.Planned counts moved) = counts.blocked
+blocked_in (summary.Refused number word) = 0
+
+abbrev pub delay_in : Summary → ℕ
+delay_in (summary.Planned counts moved) = counts.delay
+delay_in (summary.Refused number word) = 0
+
+-- those that are refused come last; else fewer blocked flights come first, then less delay; then the place decides
+abbrev pub line_cmp : Line → Line → Ordering
+line_cmp a b =
+    ordering_then (ordering_then (ordering_then
+    (bool_cmp (is_refused a.summary) (is_refused b.summary))
+    (nat_cmp (blocked_in a.summary) (blocked_in b.summary)))
+    (nat_cmp (delay_in a.summary) (delay_in b.summary)))
+    (nat_cmp a.place b.place)
+
+pub record IsRanking (lines ranked : List Line) : Type 0 where
+  pub all : IsPermutation lines ranked
+  pub best_first : IsSorted line_cmp ranked
+
+-- Texts.
+
+abbrev pub heading : List ℕ
+heading = codes "SCENARIO         PLACED  DELAY   MAX  LATE BLOCKED  MOVED" ++ line_end
+
+-- the columns of a plan, or the first refusal
+unfoldable pub summary_text : Summary → List ℕ
+summary_text (summary.Planned c moved) = join_with_byte 32 (
+    right_in 6 (decimal c.placed) ∷ right_in 6 (decimal c.delay) ∷ right_in 5 (decimal c.greatest) ∷ right_in 5 (decimal c.late)
+    ∷ right_in 7 (decimal c.blocked) ∷ right_in 6 (decimal moved) ∷ [])
+summary_text (summary.Refused number word) = concat (codes "REFUSED " ∷ decimal number ∷ codes " " ∷ text_of word ∷ [])
+
+-- the name of a scenario, a hyphen for the day itself, and what comes of it
+unfoldable pub line_text : Line → List ℕ
+line_text line = concat (left_in 16 (unwrap_or line.name (codes "-")) ∷ codes " " ∷ summary_text line.summary ∷ line_end ∷ [])
+
+-- a standing after a mark
+abbrev pub marked_line : CalendarDate → List ℕ → Standing → List ℕ
+marked_line day mark s = concat (mark ∷ standing_line day s ∷ line_end ∷ [])
+
+-- a flight's standing in the day, if it has one, and the one that it gets
+unfoldable pub change_lines : CalendarDate → List Standing → Standing → List ℕ
+change_lines day before s =
+    option_map_or (marked_line day (codes "- ")) (find (λ t. same_name (flight_name t) (flight_name s)) before) []
+    ++ marked_line day (codes "+ ") s
+
+-- what is told of a scenario: each change, or the first refusal
+abbrev pub told_of : CalendarDate → List Standing → Result (Counts × List Standing) (ℕ × RefusalWord) → List ℕ
+told_of day before (Ok (counts, changed)) = flat_map (change_lines day before) changed
+told_of day before (Err refusal) = refused_line refusal
+
+abbrev pub AreTold : DayRecord → List Standing → ScenarioRecord → List ℕ → Type 0
+AreTold d before s text =
+    (by : Result (Counts × List Standing) (ℕ × RefusalWord)) × IsChanged d before s by × (text ≡ told_of d.airport.day before by)
+
+-- what is told of the scenario asked for, if one is
+abbrev pub IsToldIf : DayRecord → List Standing → Option ScenarioRecord → List ℕ → Type 0
+IsToldIf d before None text = text ≡ []
+IsToldIf d before (Some s) text = AreTold d before s text
+
+-- the scenario of a name
+abbrev pub scenario_named : List ScenarioRecord → List ℕ → Option ScenarioRecord
+scenario_named scenarios name = find (λ s. same_name s.name name) scenarios
+
+-- a line for the day and one for each scenario, the best first, and then what is told of the one asked for
+pub record IsComparison (d : DayRecord) (scenarios : List ScenarioRecord) (asked : Option ScenarioRecord) (text : List ℕ) : Type 0 where
+  pub plan : PlanRecord
+  pub of_day : IsDayPlan d plan
+  pub before : List Standing
+  pub stand : AreStandings d plan before
+  pub summaries : List Summary
+  pub of_scenarios : AllZip (IsSummary d before) scenarios summaries
+  pub ranked : List Line
+  pub ranking : IsRanking (all_lines (counts_of plan) scenarios summaries) ranked
+  pub told : List ℕ
+  pub of_asked : IsToldIf d before asked told
+  pub bytes : text ≡ heading ++ flat_map line_text ranked ++ told

@@ -1,0 +1,4 @@
+pub mod Rows
+pub mod Comparison
+pub mod Tables
+pub mod inner

@@ -1,0 +1,206 @@
+//! The text of a comparison.
+ghost use Rattle.std.specs.Prelude.{◌≡◌, ◌++◌, ◌<◌, ◌≤◌, ℕ, [], IfOk, OnOk, Some, codes, flat_map, length, slice_index, unwrap_or};
+ghost use Rattle.std.specs.Option.{option_copied, option_map_or};
+ghost use Rattle.std.specs.String.{string_bytes};
+ghost use Rattle.cdm_flight.specs.Names.{same_name};
+ghost use Rattle.cdm_table.specs.Comparison.{IsComparison, IsToldIf, change_lines, heading, line_text, marked_line, scenario_named, summary_text, told_of};
+
+use crate::changing::{Changed, changed_by};
+use crate::comparing::{lines_of, summaries};
+use crate::line::{Line, Summary, ranked};
+use cdm_day::DayState;
+use cdm_phase::{Gate, Workers};
+use cdm_report::{indicators, refused_text};
+use cdm_scenario::{Scenario, ScenarioName};
+use cdm_time::Day;
+use cdm_view::{Standing, Standings, push_standing};
+use std::alloc::{AllocError, Global};
+use std::fmt;
+use std::fmt::Write;
+use std::thread::Threads;
+
+impl fmt::Display for Summary {
+    ghost output = { λ is. Some (summary_text is) };
+
+    #[tactic(auto, unfolding(crate::specs::Comparison::summary_text))]
+    fn fmt<W: fmt::Write>(&self, f: &mut fmt::Formatter<W>) -> fmt::Result {
+        match self {
+            Summary::Planned(counts, moved) => {
+                let placed = counts.placed;
+                let delay = counts.delay;
+                let greatest = counts.greatest;
+                let late = counts.late;
+                let blocked = counts.blocked;
+                write!(
+                    f,
+                    "{placed:>6} {delay:>6} {greatest:>5} {late:>5} {blocked:>7} {moved:>6}"
+                )
+            }
+            Summary::Refused(number, word) => write!(f, "REFUSED {number} {word}"),
+        }
+    }
+}
+
+// The name of a scenario, or a hyphen for the day itself.
+fn name_text(name: &Option<ScenarioName>) -> &str
+    ensures value { result.now ≡ unwrap_or name.now (codes "-") }
+    ensures ascii { (k : ℕ) → slice_index result.now k < 128 }
+    ensures short { length result.now ≤ 16 }
+{
+    match name {
+        Some(name) => name.text(),
+        None => "-",
+    }
+}
+
+#[tactic(auto, unfolding(crate::specs::Comparison::line_text))]
+fn push_line(text: &mut String, line: &Line) -> Result<(), AllocError>
+    ensures { OnOk result (string_bytes text.new ≡ string_bytes text.old ++ line_text line.now) }
+{
+    let name = name_text(&line.name);
+    let summary = line.summary;
+    writeln!(text, "{name:<16} {summary}")
+}
+
+// The lines.
+fn push_lines(text: &mut String, lines: &[Line]) -> Result<(), AllocError>
+    ensures { OnOk result (string_bytes text.new ≡ string_bytes text.old ++ flat_map line_text lines.now) }
+{
+    for line in lines {
+        push_line(text, line)?;
+    }
+    Ok(())
+}
+
+// The heading and the lines.
+fn lines_text(alloc: Global, lines: &[Line]) -> Result<Vec<u8>, AllocError>
+    ensures { IfOk result (λ text. text.items ≡ heading ++ flat_map line_text lines.now) }
+{
+    let mut text = String::new(alloc);
+    writeln!(
+        text,
+        "SCENARIO         PLACED  DELAY   MAX  LATE BLOCKED  MOVED"
+    )?;
+    push_lines(&mut text, lines)?;
+    Ok(text.into_bytes())
+}
+
+// A standing after a mark.
+fn push_marked(
+    text: &mut String,
+    day: Day,
+    mark: &str,
+    standing: &Standing,
+) -> Result<(), AllocError>
+    ensures { OnOk result (string_bytes text.new ≡ string_bytes text.old ++ marked_line day mark.now standing.now) }
+{
+    text.push_str(mark)?;
+    push_standing(text, day, standing)?;
+    writeln!(text)
+}
+
+// A flight's standing in the day, if it has one.
+fn push_before(text: &mut String, day: Day, before: Option<&Standing>) -> Result<(), AllocError>
+    ensures { OnOk result (string_bytes text.new ≡ string_bytes text.old
+        ++ option_map_or (marked_line day (codes "- ")) (option_copied before.entry) []) }
+{
+    match before {
+        Some(standing) => push_marked(text, day, "- ", standing),
+        None => Ok(()),
+    }
+}
+
+// A flight's standing in the day, if it has one, and the one that it gets.
+#[tactic(auto, unfolding(crate::specs::Comparison::change_lines))]
+fn push_change(
+    text: &mut String,
+    day: Day,
+    before: &Standings,
+    standing: &Standing,
+) -> Result<(), AllocError>
+    ensures { OnOk result (string_bytes text.new ≡ string_bytes text.old ++ change_lines day before.now standing.now) }
+{
+    push_before(text, day, before.of_flight(standing.flight()))?;
+    push_marked(text, day, "+ ", standing)
+}
+
+// Each change.
+fn push_changes(
+    text: &mut String,
+    day: Day,
+    before: &Standings,
+    changed: &[Standing],
+) -> Result<(), AllocError>
+    ensures { OnOk result (string_bytes text.new ≡ string_bytes text.old ++ flat_map (change_lines day before.now) changed.now) }
+{
+    for standing in changed {
+        push_change(text, day, before, standing)?;
+    }
+    Ok(())
+}
+
+// What is told of a scenario.
+fn told_of(
+    alloc: Global,
+    day: Day,
+    before: &Standings,
+    changed: &Changed,
+) -> Result<Vec<u8>, AllocError>
+    ensures { IfOk result (λ text. text.items ≡ told_of day before.now changed.now) }
+{
+    match changed {
+        Ok((_, changed)) => {
+            let mut text = String::new(alloc);
+            push_changes(&mut text, day, before, changed.as_slice())?;
+            Ok(text.into_bytes())
+        }
+        Err((number, word)) => refused_text(alloc, *number, *word),
+    }
+}
+
+/// The scenario of a name.
+pub(crate) fn scenario_named(scenarios: &[Scenario], name: ScenarioName) -> Option<&Scenario>
+    ensures { option_copied result ≡ scenario_named scenarios.now name }
+{
+    scenarios.iter().find(|scenario| *scenario.name() == name)
+}
+
+// What is told of the scenario, if one is asked for.
+fn told(
+    alloc: Global,
+    base: &DayState,
+    before: &Standings,
+    asked: Option<&Scenario>,
+) -> Result<Vec<u8>, AllocError>
+    ensures { IfOk result (λ text. IsToldIf base.now before.now (option_copied asked.entry) text.items) }
+{
+    match asked {
+        Some(scenario) => {
+            let changed = changed_by(alloc, base, before, scenario)?;
+            told_of(alloc, *base.day(), before, &changed)
+        }
+        None => Ok(Vec::new(alloc)),
+    }
+}
+
+/// A line for the day and for each scenario, the best first, and then what changes by the scenario that is
+/// asked for, if one is. Each scenario is answered over the base by one of so many workers in phase
+/// `Scenarios`, and every scenario is one piece.
+pub(crate) fn comparison<R: Threads + Sync, G: Gate>(
+    rt: &R,
+    alloc: Global,
+    base: &DayState,
+    scenarios: &[Scenario],
+    asked: Option<&Scenario>,
+    workers: Workers,
+    gate: &G,
+) -> Result<Vec<u8>, AllocError>
+    ensures { IfOk result (λ text. IsComparison base.now scenarios.now (option_copied asked.entry) text.items) }
+{
+    let before = Standings::of(alloc, base, base.plan())?;
+    let summaries = summaries(rt, alloc, base, &before, scenarios, workers, gate)?;
+    let lines = lines_of(alloc, indicators(base.plan()), scenarios, &summaries)?;
+    let mut text = lines_text(alloc, &ranked(lines))?;
+    text.extend_from_slice(&told(alloc, base, &before, asked)?)?;
+    Ok(text)
+}

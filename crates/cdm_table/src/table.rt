@@ -1,0 +1,75 @@
+//! Tables over a day and its scenarios.
+ghost use Rattle.std.specs.Prelude.{◌≡◌, ℕ, List, IfErr, IfOk};
+ghost use Rattle.cdm_table.specs.Tables.{IsTable, IsTableFault};
+ghost use Rattle.cdm_table.specs.declared.table.TableFault.TheVariants as fault;
+
+use crate::comparison::{comparison, scenario_named};
+use crate::csv_rows::csv;
+use cdm_day::{DayState, Records};
+use cdm_phase::{Gate, Workers};
+use cdm_scenario::{Scenario, ScenarioName};
+use std::alloc::{AllocError, Global};
+use std::thread::Threads;
+
+/// What is told of a day and its scenarios.
+#[derive(Clone, Copy, PartialEq, Eq, Debug)]
+pub enum Table {
+    /// Each flight's row, of the day and of each scenario, as CSV.
+    Csv,
+    /// A line for the day and for each scenario, the best first, and then what changes by the scenario of
+    /// this name, if one is asked for.
+    Comparison(Option<ScenarioName>),
+}
+
+/// Why there is no table.
+#[derive(Clone, Copy, PartialEq, Eq, Debug)]
+pub enum TableFault {
+    /// There is no scenario of this name.
+    NoScenario(ScenarioName),
+    /// Want of memory.
+    Memory,
+}
+
+impl From<AllocError> for TableFault {
+    ghost from_gives = { λ _ e. e ≡ fault.Memory };
+
+    fn from(_error: AllocError) -> TableFault {
+        TableFault::Memory
+    }
+}
+
+/// The table of a day and scenarios over it: as CSV each known flight's row by name, of the day and then of
+/// each scenario (`each_flight_has_one_row`), or the scenarios side by side, the best first: fewer blocked
+/// flights, then less delay, then the order of the file, in which the day itself is first; and behind them
+/// those that are refused (local profile). Each scenario is answered over the base, by one of so many workers
+/// in phase `Scenarios`, and every scenario is one piece.
+///
+/// `NoScenario` where none of them has the name that is asked for, and else only `Memory`.
+pub fn tabulate<R: Threads + Sync, G: Gate>(
+    rt: &R,
+    alloc: Global,
+    base: &DayState,
+    scenarios: &[Scenario],
+    table: Table,
+    workers: Workers,
+    gate: &G,
+) -> Result<Vec<u8>, TableFault>
+    ensures table { IfOk result (λ text. IsTable table base.now scenarios.now text.items) }
+    ensures only { IfOk result (λ text. (other : List ℕ) → IsTable table base.now scenarios.now other → other ≡ text.items) }
+    ensures fault { IfErr result (IsTableFault scenarios.now table) }
+{
+    // What the base's records tell is sound, which makes the table the only one.
+    let _values = base.values();
+    let asked = match table {
+        Table::Csv => return Ok(csv(rt, alloc, base, scenarios, workers, gate)?),
+        Table::Comparison(asked) => asked,
+    };
+    let scenario = match asked {
+        Some(name) => match scenario_named(scenarios, name) {
+            Some(scenario) => Some(scenario),
+            None => return Err(TableFault::NoScenario(name)),
+        },
+        None => None,
+    };
+    Ok(comparison(rt, alloc, base, scenarios, scenario, workers, gate)?)
+}
