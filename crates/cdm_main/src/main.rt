@@ -14,7 +14,7 @@ use cdm_table::Table;
 use cdm_view::Question;
 use either::Either;
 use std::alloc::AllocError;
-use std::io::{ErrorKind, Read, Write};
+use std::io::{ErrorKind, Write};
 use std::process::ExitCode;
 use std::rt::{Env, Files};
 use std::sync::Wait;
@@ -82,6 +82,7 @@ fn place_not_utf8<R: AllocGlobal + Env>(rt: &R) -> Result<usize, AllocError> {
     Ok(0)
 }
 
+// Runs the command, whose text goes to `out`.
 fn run_command<R: AllocGlobal + Files + io::Input + Threads + Wait + Sync, W: Write>(
     rt: &R,
     command: &Command<'_>,
@@ -95,53 +96,24 @@ fn run_command<R: AllocGlobal + Files + io::Input + Threads + Wait + Sync, W: Wr
             feed,
             scenarios,
             workers,
-        } => {
-            let airport = open(rt, airport, Input::Airport)?;
-            let feed = open(rt, feed, Input::Feed)?;
-            match scenarios {
-                Some(path) => {
-                    let scenarios = open(rt, path, Input::Scenarios)?;
-                    plan(rt, airport, feed, scenarios, *workers, out)
-                }
-                None => plan(rt, airport, feed, &[][..], *workers, out),
-            }
-        }
+        } => plan(rt, airport, feed, *scenarios, *workers, out),
         Command::Tabulate {
             airport,
             feed,
             scenarios,
             table,
             workers,
-        } => {
-            let airport = open(rt, airport, Input::Airport)?;
-            let feed = open(rt, feed, Input::Feed)?;
-            match scenarios {
-                Some(path) => {
-                    let scenarios = open(rt, path, Input::Scenarios)?;
-                    tabulate(rt, airport, feed, scenarios, *table, *workers, out)
-                }
-                None => tabulate(rt, airport, feed, &[][..], *table, *workers, out),
-            }
-        }
+        } => tabulate(rt, airport, feed, *scenarios, *table, *workers, out),
         Command::Live {
             airport,
             feed1,
             feed2,
-        } => {
-            let airport = open(rt, airport, Input::Airport)?;
-            let feed1 = open(rt, feed1, Input::Feed1)?;
-            let feed2 = open(rt, feed2, Input::Feed2)?;
-            live(rt, airport, feed1, feed2, out)
-        }
+        } => live(rt, airport, feed1, feed2, out),
         Command::Ask {
             airport,
             feed,
             question,
-        } => {
-            let airport = open(rt, airport, Input::Airport)?;
-            let feed = open(rt, feed, Input::Feed)?;
-            ask(rt, airport, feed, *question, out)
-        }
+        } => ask(rt, airport, feed, *question, out),
         Command::Print(text) => {
             write_text(out, text.as_bytes()).map_err(|fault: WriteFault| Fault::Run(fault.into()))
         }
@@ -167,17 +139,31 @@ fn open<R: AllocGlobal + Files + io::Input>(
     }
 }
 
-// Writes the plan of the day.
-fn plan<R: AllocGlobal + Threads + Sync, F: Read + Drop, S: Read + Drop, W: Write>(
+// Opens the scenario file, if one is named. Without one there is no scenario.
+fn open_scenarios<R: AllocGlobal + Files + io::Input>(
     rt: &R,
-    airport: F,
-    feed: F,
-    scenarios: S,
+    path: Option<&str>,
+) -> Result<Either<Either<R::File, R::Reader>, &'static [u8]>, Fault> {
+    match path {
+        Some(path) => Ok(Either::Left(open(rt, path, Input::Scenarios)?)),
+        None => Ok(Either::Right(&[])),
+    }
+}
+
+// Writes the plan of the day, and the answers to its scenarios.
+fn plan<R: AllocGlobal + Files + io::Input + Threads + Sync, W: Write>(
+    rt: &R,
+    airport: &str,
+    feed: &str,
+    scenarios: Option<&str>,
     workers: Workers,
     out: &mut Device<W>,
 ) -> Result<(), Fault>
     requires { out.old.failed ≡ false }
 {
+    let airport = open(rt, airport, Input::Airport)?;
+    let feed = open(rt, feed, Input::Feed)?;
+    let scenarios = open_scenarios(rt, scenarios)?;
     run(
         rt,
         rt.alloc(),
@@ -192,17 +178,20 @@ fn plan<R: AllocGlobal + Threads + Sync, F: Read + Drop, S: Read + Drop, W: Writ
 }
 
 // Writes a table of the day and its scenarios.
-fn tabulate<R: AllocGlobal + Threads + Sync, F: Read + Drop, S: Read + Drop, W: Write>(
+fn tabulate<R: AllocGlobal + Files + io::Input + Threads + Sync, W: Write>(
     rt: &R,
-    airport: F,
-    feed: F,
-    scenarios: S,
+    airport: &str,
+    feed: &str,
+    scenarios: Option<&str>,
     table: Table,
     workers: Workers,
     out: &mut Device<W>,
 ) -> Result<(), Fault>
     requires { out.old.failed ≡ false }
 {
+    let airport = open(rt, airport, Input::Airport)?;
+    let feed = open(rt, feed, Input::Feed)?;
+    let scenarios = open_scenarios(rt, scenarios)?;
     run_table(
         rt,
         rt.alloc(),
@@ -218,15 +207,17 @@ fn tabulate<R: AllocGlobal + Threads + Sync, F: Read + Drop, S: Read + Drop, W: 
 }
 
 // Writes the answer to a question of the day.
-fn ask<R: AllocGlobal + Threads + Sync, F: Read + Drop, W: Write>(
+fn ask<R: AllocGlobal + Files + io::Input + Threads + Sync, W: Write>(
     rt: &R,
-    airport: F,
-    feed: F,
+    airport: &str,
+    feed: &str,
     question: Question,
     out: &mut Device<W>,
 ) -> Result<(), Fault>
     requires { out.old.failed ≡ false }
 {
+    let airport = open(rt, airport, Input::Airport)?;
+    let feed = open(rt, feed, Input::Feed)?;
     run_view(
         rt,
         rt.alloc(),
@@ -241,15 +232,18 @@ fn ask<R: AllocGlobal + Threads + Sync, F: Read + Drop, W: Write>(
 }
 
 // Writes the day that two desks make.
-fn live<R: AllocGlobal + Threads + Wait + Sync, A: Read + Drop, F: Read + Drop, W: Write>(
+fn live<R: AllocGlobal + Files + io::Input + Threads + Wait + Sync, W: Write>(
     rt: &R,
-    airport: A,
-    feed1: F,
-    feed2: F,
+    airport: &str,
+    feed1: &str,
+    feed2: &str,
     out: &mut Device<W>,
 ) -> Result<(), Fault>
     requires { out.old.failed ≡ false }
 {
+    let airport = open(rt, airport, Input::Airport)?;
+    let feed1 = open(rt, feed1, Input::Feed1)?;
+    let feed2 = open(rt, feed2, Input::Feed2)?;
     run_live(
         rt,
         rt.alloc(),
