@@ -4,6 +4,7 @@
 mod command;
 mod fault;
 mod manual;
+mod parsers;
 mod unopened;
 
 pub use command::{Command, CommandFault, STANDARD_INPUT, command_of};

@@ -93,7 +93,7 @@ pub(crate) fn update_of(
 /// What a record of the feed spells, the role and the update, or the first word that refuses it: the
 /// words Fields to Range, which are seen in the record alone (local profile).
 #[tactic(auto, unfolding(crate::specs::Parsing::parse_of))]
-pub(crate) fn parse_record(day: Day, row: &ByteRecord) -> Result<(Role, Update), RefusalWord>
+pub fn parse_record(day: Day, row: &ByteRecord) -> Result<(Role, Update), RefusalWord>
     ensures { result ≡ parse_of day (fields_of row.now) }
 {
     if row.len() < 2 {

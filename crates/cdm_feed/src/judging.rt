@@ -20,9 +20,11 @@ const STRETCH: usize = 32_768;
 
 /// A day after the first records of a feed, and those of them that were refused.
 #[derive(Drop)]
-pub(crate) struct Judged {
-    pub(crate) state: DayState,
-    pub(crate) refused: Vec<(u32, RefusalWord)>,
+pub struct Judged {
+    /// The day.
+    pub state: DayState,
+    /// The refused records by their numbers, from 1, each with its word.
+    pub refused: Vec<(u32, RefusalWord)>,
     // How many records were judged.
     records: u32,
 }
@@ -64,7 +66,7 @@ fn judge_next<R: Threads + Sync, G: Gate>(
 
 /// The day of an airport after a feed, and the feed's refused records. The feed is read and judged
 /// stretch by stretch, so its records are never all in memory.
-pub(crate) fn judge<R: Threads + Sync, G: Gate>(
+pub fn judge<R: Threads + Sync, G: Gate>(
     rt: &R,
     alloc: Global,
     airport: Airport,

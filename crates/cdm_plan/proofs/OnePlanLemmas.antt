@@ -21,7 +21,7 @@ use Rattle.cdm_plan.proofs.PlanningLemmas.{Shows, shows_made, stands_in, targets
 -- Lists by name.
 
 -- lists of two parts each, put together, are the first parts and the second ones
-flat_map-parts : {X Y : Type 0} (f g : X → List Y) (xs : List X) → IsPermutation (flat_map (λ x. f x ++ g x) xs) (flat_map f xs ++ flat_map g xs)
+pub flat_map-parts : {X Y : Type 0} (f g : X → List Y) (xs : List X) → IsPermutation (flat_map (λ x. f x ++ g x) xs) (flat_map f xs ++ flat_map g xs)
 flat_map-parts f g [] = IsPermutation-refl []
 flat_map-parts f g (x ∷ xs) =
     let fs = flat_map f xs in

@@ -95,7 +95,7 @@ filter-filter_map {X} {Y} q h (f ∷ fs) = go (h f) (filter-filter_map q h fs) w
   go (Some y) e = by (q y) y _ _ e
 
 -- two tests of which at most one holds part what passes either
-parted : {X : Type 0} (a b : X → Bool) → ((x : X) → a x ≡ true → b x ≡ false) → (xs : List X)
+pub parted : {X : Type 0} (a b : X → Bool) → ((x : X) → a x ≡ true → b x ≡ false) → (xs : List X)
     → IsPermutation (filter (λ x. a x || b x) xs) (filter a xs ++ filter b xs)
 parted a b apart [] = IsPermutation-refl []
 parted {X} a b apart (x ∷ xs) = go (a x) (b x) refl refl (parted a b apart xs) where

@@ -2,3 +2,4 @@ pub mod TableLemmas
 mod RowLemmas
 mod LineLemmas
 mod NameColumn
+mod OwnLemmas

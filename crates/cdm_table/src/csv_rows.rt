@@ -1,98 +1,130 @@
 //! The rows of a day and of its scenarios.
-ghost use Rattle.std.specs.Prelude.{◌≡◌, ◌++◌, ◌∷◌, [], IfOk, OnOk};
+ghost use Rattle.std.specs.Prelude.{◌≡◌, ◌++◌, ◌∷◌, [], All, IfOk, IfSome, OnOk, flat_map};
 ghost use Rattle.std.specs.List.{concat, cons_option};
 ghost use Rattle.cdm_phase.specs.declared.job.PhaseName.TheVariants.{Scenarios};
 ghost use Rattle.cdm_plan.specs.DayPlan.{IsDayPlan};
 ghost use Rattle.cdm_plan.specs.Sound.{IsSound};
-ghost use Rattle.cdm_table.specs.Rows.{AreFlightRows, AreScenarioRows, IsCsv, csv_text, exot_of, heading as columns, refused_row, rows_of, standing_row};
+ghost use Rattle.csv.specs.Writing.{default_writer, row_text};
+ghost use Rattle.cdm_table.specs.Rows.{AreFlightRows, AreScenarioRows, IsCsv, csv_text, flight_row, heading as columns, refused_row, standing_row};
+ghost use Rattle.cdm_table.specs.inner.OwnRows.{IsOwnRow, own_text};
 ghost use Rattle.cdm_table.specs.inner.OneTable.{one_scenario_rows};
 
-use crate::row::{flight_row, heading, refused_row};
-use crate::row_text::{Row, text_of};
+use crate::own_row::{OwnRow, exot_of, first_of, from_flight, own_rows};
+use crate::row::{heading, refused_row, set_flight};
+use crate::row_text::{Row, RowWriter};
 use cdm_day::{DayState, Records, plan_of};
 use cdm_flight::{Flight, Listed, RefusalWord};
 use cdm_phase::{Gate, Job, PhaseName, Workers, run_phase};
 use cdm_scenario::{Overlay, Scenario, ScenarioName};
 use cdm_sequence::Plan;
 use cdm_time::Day;
-use cdm_view::{Standing, Standings, exot_to};
+use cdm_view::{Standing, Standings};
 use std::alloc::{AllocError, Global};
 use std::thread::Threads;
 
-// The flight's taxi-out time, if it has one.
-fn exot_of<R: Records>(records: &R, flight: &Flight, standing: &Standing) -> Option<u16>
-    ensures { result ≡ exot_of (R.day records.now) flight.now standing.now }
-{
-    match standing {
-        Standing::OnRunway(_, slot) => Some(slot.exot),
-        Standing::Blocked(_) => exot_to(records, flight, flight.runway?),
-        Standing::Cancelled(_) => None,
-    }
-}
+/// For how many bytes the text of a scenario has room at first, for each flight of the day.
+const ROOM: usize = 120;
 
-// The row of a standing, if its flight is known.
-fn standing_row<R: Records>(
+// The row of a flight under a scenario's name, behind the others: the day's own with the name before it, where
+// it is the same, else written anew.
+fn push_flight(
     alloc: Global,
+    text: &mut Vec<u8>,
+    writer: &mut RowWriter,
+    row: &mut Row,
     day: Day,
-    records: &R,
-    scenario: &[u8],
+    scenario: &ScenarioName,
+    flight: &Flight,
+    exot: Option<u16>,
     standing: &Standing,
-) -> Result<Option<Row>, AllocError>
-    requires { day ≡ (R.day records.now).airport.day }
-    ensures { IfOk result (λ row. row ≡ standing_row (R.day records.now) scenario.now standing.now) }
+    own: Option<&OwnRow>,
+) -> Result<(), AllocError>
+    requires { IfSome own (λ own. IsOwnRow day own.now) }
+    ensures { OnOk result (text.new.items ≡ text.old.items ++ row_text default_writer (flight_row day scenario.now flight.now exot standing.now)) }
 {
-    let Some(flight) = records.flight(standing.flight()) else {
-        return Ok(None);
-    };
-    let exot = exot_of(records, flight, standing);
-    Ok(Some(flight_row(alloc, day, scenario, flight, exot, standing)?))
-}
-
-// One more row behind the others, if there is one.
-fn push_if_some(rows: &mut Vec<Row>, row: Option<Row>) -> Result<(), AllocError>
-    ensures { OnOk result (rows.new.items ≡ rows.old.items ++ cons_option row []) }
-{
-    if let Some(row) = row {
-        rows.push(row)?;
+    if let Some(own) = own {
+        if own.is_of(flight, exot, standing) {
+            text.extend_from_slice(scenario.bytes())?;
+            text.extend_from_slice(own.text())?;
+            return Ok(());
+        }
     }
-    Ok(())
+    set_flight(row, day, scenario.bytes(), flight, exot, standing)?;
+    writer.push_row(alloc, text, row)
 }
 
-// The rows of standings behind the others.
-fn push_rows<R: Records>(
+// The row of a standing behind the others, if its flight is known.
+fn push_standing<R: Records>(
     alloc: Global,
-    rows: &mut Vec<Row>,
+    text: &mut Vec<u8>,
+    writer: &mut RowWriter,
+    row: &mut Row,
     day: Day,
     records: &R,
-    scenario: &[u8],
-    standings: &Standings,
+    scenario: &ScenarioName,
+    standing: &Standing,
+    own: Option<&OwnRow>,
 ) -> Result<(), AllocError>
-    requires { day ≡ (R.day records.now).airport.day }
-    ensures { OnOk result (rows.new.items ≡ rows.old.items ++ rows_of (R.day records.now) scenario.now standings.now) }
+    requires day { day ≡ (R.day records.now).airport.day }
+    requires own { IfSome own (λ own. IsOwnRow day own.now) }
+    ensures { OnOk result (text.new.items ≡ text.old.items
+        ++ flat_map (row_text default_writer) (cons_option (standing_row (R.day records.now) scenario.now standing.now) [])) }
 {
-    for standing in standings.as_slice() {
-        let row = standing_row(alloc, day, records, scenario, standing)?;
-        push_if_some(rows, row)?;
+    match records.flight(standing.flight()) {
+        Some(flight) => {
+            let exot = exot_of(records, flight, standing);
+            push_flight(
+                alloc, text, writer, row, day, scenario, flight, exot, standing, own,
+            )
+        }
+        None => Ok(()),
     }
-    Ok(())
 }
 
-// The rows of a day's flights, under a scenario's name or under none.
+// The rows of a day's flights under a scenario's name, of which the day without it has these. Both are by name, so each
+// is gone through once.
 fn flight_rows<R: Records>(
     alloc: Global,
     day: Day,
     records: &R,
     plan: &Plan,
-    scenario: &[u8],
+    scenario: &ScenarioName,
+    own: &[OwnRow],
 ) -> Result<Vec<u8>, AllocError>
     requires day { day ≡ (R.day records.now).airport.day }
     requires of_day { IsDayPlan (R.day records.now) plan.now }
+    requires own { All (IsOwnRow day) own.now }
     ensures { IfOk result (λ text. AreFlightRows (R.day records.now) plan.entry.now scenario.now text.items) }
 {
     let standings = Standings::of(alloc, records, plan)?;
-    let mut rows = Vec::new(alloc);
-    push_rows(alloc, &mut rows, day, records, scenario, &standings)?;
-    text_of(alloc, &rows)
+    let mut writer = RowWriter::new(alloc);
+    let mut row = Row::new(alloc)?;
+    let mut text = Vec::with_capacity(alloc, own.len().saturating_mul(ROOM))?;
+    let mut left = own;
+    for standing in standings.as_slice() {
+        left = from_flight(left, standing.flight());
+        push_standing(
+            alloc,
+            &mut text,
+            &mut writer,
+            &mut row,
+            day,
+            records,
+            scenario,
+            standing,
+            first_of(left),
+        )?;
+    }
+    Ok(text)
+}
+
+// The text of one row.
+fn text_of(alloc: Global, row: &Row) -> Result<Vec<u8>, AllocError>
+    ensures { IfOk result (λ text. text.items ≡ row_text default_writer row.now) }
+{
+    let mut text = Vec::new(alloc);
+    RowWriter::new(alloc).push_row(alloc, &mut text, row)?;
+    Ok(text)
 }
 
 // The row of a scenario that is refused.
@@ -103,18 +135,24 @@ fn refused_text(
 ) -> Result<Vec<u8>, AllocError>
     ensures { IfOk result (λ text. text.items ≡ csv_text (refused_row scenario.now word ∷ [])) }
 {
-    text_of(alloc, &[refused_row(alloc, scenario, word)?])
+    text_of(alloc, &refused_row(alloc, scenario, word)?)
 }
 
-// The rows of a scenario over the base.
-fn scenario_rows(alloc: Global, base: &DayState, scenario: &Scenario) -> Result<Vec<u8>, AllocError>
+// The rows of a scenario over the base, which has these itself.
+fn scenario_rows(
+    alloc: Global,
+    base: &DayState,
+    own: &[OwnRow],
+    scenario: &Scenario,
+) -> Result<Vec<u8>, AllocError>
+    requires { All (IsOwnRow base.now.airport.day) own.now }
     ensures { IfOk result (λ text. AreScenarioRows base.now scenario.now text.items) }
 {
     let name = scenario.name();
     match Overlay::after(alloc, base, scenario.updates())? {
         Ok(day) => {
             let plan = plan_of(alloc, &day)?;
-            let text = flight_rows(alloc, *base.day(), &day, &plan, name.bytes())?;
+            let text = flight_rows(alloc, *base.day(), &day, &plan, name, own)?;
             Ok(text)
         }
         Err((_, word)) => {
@@ -128,6 +166,7 @@ fn scenario_rows(alloc: Global, base: &DayState, scenario: &Scenario) -> Result<
 #[derive(Clone, Copy)]
 struct RowsJob<'a> {
     base: &'a DayState,
+    own: &'a [OwnRow],
 }
 
 impl Job for RowsJob<'_> {
@@ -135,34 +174,54 @@ impl Job for RowsJob<'_> {
 
     type Out = Listed<u8>;
 
-    ghost can_run = { λ job _. IsSound job.base.now };
+    ghost can_run = { λ job _. IsSound job.base.now × All (IsOwnRow job.base.now.airport.day) job.own.now };
 
     ghost gives = { λ job scenario text. AreScenarioRows job.base.now scenario text };
 
     ghost phase_name = { Scenarios };
 
     fn run(&self, alloc: Global, scenario: &Scenario) -> Result<Listed<u8>, AllocError> {
-        Ok(Listed::new(scenario_rows(alloc, self.base, scenario)?))
+        let text = scenario_rows(alloc, self.base, self.own, scenario)?;
+        Ok(Listed::new(text))
     }
 
     fn phase(&self) -> PhaseName {
         PhaseName::Scenarios
     }
 
-    ghost one_value = { λ job scenario x y sound a b. one_scenario_rows job.base.now sound.airport.names sound.names scenario x y a b };
+    ghost one_value = { λ job scenario x y can a b. one_scenario_rows job.base.now can.0.airport.names can.0.names scenario x y a b };
 }
 
 // The row that names the columns.
 fn heading_text(alloc: Global) -> Result<Vec<u8>, AllocError>
     ensures { IfOk result (λ text. text.items ≡ csv_text (columns ∷ [])) }
 {
-    text_of(alloc, &[heading(alloc)?])
+    text_of(alloc, &heading(alloc)?)
+}
+
+// Puts the texts of rows behind what is there.
+fn push_own(text: &mut Vec<u8>, rows: &[OwnRow]) -> Result<(), AllocError>
+    ensures { OnOk result (text.new.items ≡ text.old.items ++ own_text rows.now) }
+{
+    for row in rows {
+        text.extend_from_slice(row.text())?;
+    }
+    Ok(())
+}
+
+// How many bytes the texts have.
+fn room_for(answers: &[Listed<u8>]) -> usize {
+    answers.iter().fold(
+        0,
+        |room: usize, answer| room.saturating_add(answer.as_slice().len()),
+    )
 }
 
 // Puts the texts behind what is there, one after another.
 fn push_all(text: &mut Vec<u8>, answers: &[Listed<u8>]) -> Result<(), AllocError>
     ensures { OnOk result (text.new.items ≡ text.old.items ++ concat answers.now) }
 {
+    text.reserve(room_for(answers))?;
     for answer in answers {
         text.extend_from_slice(answer.as_slice())?;
     }
@@ -184,9 +243,10 @@ pub(crate) fn csv<R: Threads + Sync, G: Gate>(
     // What the base's records tell is sound, which makes each answer the only one.
     let _values = base.values();
     let mut text = heading_text(alloc)?;
-    let own = flight_rows(alloc, *base.day(), base, base.plan(), &[])?;
-    text.extend_from_slice(&own)?;
-    let answers = run_phase(rt, alloc, workers, 1, &RowsJob { base }, scenarios, gate)?;
+    let own = own_rows(alloc, *base.day(), base, base.plan())?;
+    push_own(&mut text, &own)?;
+    let job = RowsJob { base, own: &own };
+    let answers = run_phase(rt, alloc, workers, 1, &job, scenarios, gate)?;
     push_all(&mut text, &answers)?;
     Ok(text)
 }

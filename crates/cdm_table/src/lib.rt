@@ -8,6 +8,7 @@ mod comparison;
 mod csv_rows;
 mod laws;
 mod line;
+mod own_row;
 mod row;
 mod row_text;
 mod table;

@@ -1,7 +1,7 @@
 //! The row of a flight, and of a scenario that is refused.
-ghost use Rattle.std.specs.Prelude.{◌≡◌, ◌++◌, [], IfOk, unwrap_or};
+ghost use Rattle.std.specs.Prelude.{◌≡◌, ◌++◌, [], IfOk, OnOk, unwrap_or};
 ghost use Rattle.std.specs.Option.{option_and_then, option_map};
-ghost use Rattle.cdm_table.specs.Rows.{flight_fields, flight_row, heading, name_field, number_field, refused_row, rule_field, slot_of, status_word, time_field, time_fields};
+ghost use Rattle.cdm_table.specs.Rows.{flight_fields, flight_row, heading, name_field, refused_row, rule_field, slot_of, status_word, time_field, time_fields};
 
 use crate::row_text::Row;
 use cdm_flight::{Flight, Name, RefusalWord};
@@ -86,16 +86,6 @@ fn bytes_of(text: &Option<[u8; 17]>) -> &[u8]
     }
 }
 
-// The digits of a number, if there is one.
-fn number_field(alloc: Global, number: Option<u16>) -> Result<Vec<u8>, AllocError>
-    ensures { IfOk result (λ digits. digits.items ≡ number_field number) }
-{
-    match number {
-        Some(number) => Ok(format!(in alloc; "{number}")?.into_bytes()),
-        None => Ok(Vec::new(alloc)),
-    }
-}
-
 // The rule that blocks the flight, if one does.
 fn rule_field(standing: &Standing) -> &'static [u8]
     ensures { result.now ≡ rule_field standing.now }
@@ -132,69 +122,63 @@ pub(crate) fn heading(alloc: Global) -> Result<Row, AllocError>
     )
 }
 
-// A flight under a scenario's name.
+// A flight under a scenario's name, behind the other fields.
 #[tactic(auto, unfolding(crate::specs::Rows::flight_fields))]
-fn flight_fields(
-    alloc: Global,
+fn push_flight(
+    row: &mut Row,
     scenario: &[u8],
     flight: &Flight,
     standing: &Standing,
-) -> Result<Row, AllocError>
-    ensures { IfOk result (λ row. row ≡ flight_fields scenario.now flight.now standing.now) }
+) -> Result<(), AllocError>
+    ensures { OnOk result (row.new ≡ row.old ++ flight_fields scenario.now flight.now standing.now) }
 {
-    let priority = number_field(alloc, Some(u16::from(flight.priority.get())))?;
-    Row::new(alloc)?
-        .with(scenario)?
-        .with(flight.name.bytes())?
-        .with(status_word(standing).as_bytes())?
-        .with(name_field(&flight.runway))?
-        .with(name_field(&flight.stand))?
-        .with(&priority)?
-        .with(group_letter(flight.group).as_bytes())
+    row.push(scenario)?;
+    row.push(flight.name.bytes())?;
+    row.push(status_word(standing).as_bytes())?;
+    row.push(name_field(&flight.runway))?;
+    row.push(name_field(&flight.stand))?;
+    row.push_number(Some(u16::from(flight.priority.get())))?;
+    row.push(group_letter(flight.group).as_bytes())
 }
 
-// The row with a flight's times behind the others.
+// A flight's times, behind the other fields.
 #[tactic(auto, unfolding(crate::specs::Rows::time_fields))]
-fn with_times(
-    alloc: Global,
-    row: Row,
+fn push_times(
+    row: &mut Row,
     day: Day,
     flight: &Flight,
     exot: Option<u16>,
     standing: &Standing,
-) -> Result<Row, AllocError>
-    ensures { IfOk result (λ made. made ≡ row ++ time_fields day flight.now exot standing.now) }
+) -> Result<(), AllocError>
+    ensures { OnOk result (row.new ≡ row.old ++ time_fields day flight.now exot standing.now) }
 {
-    let exot = number_field(alloc, exot)?;
-    let delay = number_field(alloc, delay_of(standing))?;
     let tobt = time_field(day, flight.tobt);
     let ctot = time_field(day, flight.ctot);
     let tsat = time_field(day, tsat_of(standing));
     let ttot = time_field(day, ttot_of(standing));
-    let row = row
-        .with(bytes_of(&tobt))?
-        .with(&exot)?
-        .with(bytes_of(&ctot))?
-        .with(bytes_of(&tsat))?
-        .with(bytes_of(&ttot))?
-        .with(&delay)?
-        .with(rule_field(standing))?;
-    Ok(row)
+    row.push(bytes_of(&tobt))?;
+    row.push_number(exot)?;
+    row.push(bytes_of(&ctot))?;
+    row.push(bytes_of(&tsat))?;
+    row.push(bytes_of(&ttot))?;
+    row.push_number(delay_of(standing))?;
+    row.push(rule_field(standing))
 }
 
-/// A flight's row under a scenario's name, or under none.
-pub(crate) fn flight_row(
-    alloc: Global,
+/// Makes the row that of a flight, under a scenario's name or under none.
+pub(crate) fn set_flight(
+    row: &mut Row,
     day: Day,
     scenario: &[u8],
     flight: &Flight,
     exot: Option<u16>,
     standing: &Standing,
-) -> Result<Row, AllocError>
-    ensures { IfOk result (λ row. row ≡ flight_row day scenario.now flight.now exot standing.now) }
+) -> Result<(), AllocError>
+    ensures { OnOk result (row.new ≡ flight_row day scenario.now flight.now exot standing.now) }
 {
-    let row = flight_fields(alloc, scenario, flight, standing)?;
-    with_times(alloc, row, day, flight, exot, standing)
+    row.clear();
+    push_flight(row, scenario, flight, standing)?;
+    push_times(row, day, flight, exot, standing)
 }
 
 /// The row of a scenario that is refused, with its word.
@@ -206,19 +190,20 @@ pub(crate) fn refused_row(
 ) -> Result<Row, AllocError>
     ensures { IfOk result (λ row. row ≡ refused_row scenario.now word) }
 {
-    Row::new(alloc)?
-        .with(scenario.bytes())?
-        .with(b"")?
-        .with(b"REFUSED")?
-        .with(b"")?
-        .with(b"")?
-        .with(b"")?
-        .with(b"")?
-        .with(b"")?
-        .with(b"")?
-        .with(b"")?
-        .with(b"")?
-        .with(b"")?
-        .with(b"")?
-        .with(word.text().as_bytes())
+    let mut row = Row::new(alloc)?;
+    row.push(scenario.bytes())?;
+    row.push(b"")?;
+    row.push(b"REFUSED")?;
+    row.push(b"")?;
+    row.push(b"")?;
+    row.push(b"")?;
+    row.push(b"")?;
+    row.push(b"")?;
+    row.push(b"")?;
+    row.push(b"")?;
+    row.push(b"")?;
+    row.push(b"")?;
+    row.push(b"")?;
+    row.push(word.text().as_bytes())?;
+    Ok(row)
 }

@@ -1,9 +1,13 @@
 //! Rows, and their text. Only this module writes by `csv`.
-ghost use Rattle.std.specs.Prelude.{◌≡◌, ◌++◌, ◌∷◌, [], flat_map, map, IfOk};
+ghost use Rattle.std.specs.Prelude.{◌≡◌, ◌++◌, ◌∷◌, [], map, IfOk, OnOk};
+ghost use Rattle.csv.specs.Records.{fields_of};
 ghost use Rattle.csv.specs.Writing.{default_writer, row_text};
+ghost use Rattle.cdm_table.specs.Rows.{number_field};
+ghost use Rattle.cdm_table.specs.inner.Writers.{IsBetweenRows, written};
 
-use csv::{ByteRecord, WriterBuilder};
+use csv::{ByteRecord, Writer, WriterBuilder};
 use std::alloc::{AllocError, Global};
+use std::fmt::Write;
 use std::marker::Model;
 
 /// For how many bytes and fields a row has room at first.
@@ -13,6 +17,8 @@ const ROOM: (usize, usize) = (160, 14);
 #[derive(Drop)]
 pub(crate) struct Row {
     record: ByteRecord,
+    // The digits of a number, while they become a field.
+    digits: String,
 }
 
 impl Model for Row {
@@ -34,6 +40,7 @@ impl Row {
         let (bytes, fields) = ROOM;
         Ok(Row {
             record: ByteRecord::with_capacity(alloc, bytes, fields)?,
+            digits: String::new(alloc),
         })
     }
 
@@ -43,33 +50,98 @@ impl Row {
     {
         Ok(Row {
             record: ByteRecord::from_fields(alloc, fields)?,
+            digits: String::new(alloc),
         })
     }
 
-    /// The row with one more field behind the others.
-    pub(crate) fn with(self, field: &[u8]) -> Result<Row, AllocError>
-        ensures { IfOk result (λ row. row ≡ self ++ field.now ∷ []) }
+    /// Takes all fields away.
+    pub(crate) fn clear(&mut self)
+        ensures { self.new ≡ [] }
     {
-        let Row { mut record } = self;
-        record.push_field(field)?;
-        Ok(Row { record })
+        self.record.clear();
+    }
+
+    /// One more field behind the others.
+    pub(crate) fn push(&mut self, field: &[u8]) -> Result<(), AllocError>
+        ensures { OnOk result (self.new ≡ self.old ++ field.now ∷ []) }
+    {
+        if self.record.push_field(field).is_err() {
+            // What may stand of the field goes.
+            self.record.clear();
+            return Err(AllocError);
+        }
+        Ok(())
+    }
+
+    /// One more field with the digits of a number, or an empty one.
+    pub(crate) fn push_number(&mut self, number: Option<u16>) -> Result<(), AllocError>
+        ensures { OnOk result (self.new ≡ self.old ++ number_field number ∷ []) }
+    {
+        self.digits.clear();
+        if let Some(number) = number {
+            write!(self.digits, "{number}")?;
+        }
+        if self.record.push_field(self.digits.as_bytes()).is_err() {
+            self.record.clear();
+            return Err(AllocError);
+        }
+        Ok(())
     }
 }
 
-/// The text of rows of one length: commas between fields, quotes where they are needed, and each row ended
-/// by LF.
-pub(crate) fn text_of(alloc: Global, rows: &[Row]) -> Result<Vec<u8>, AllocError>
-    ensures { IfOk result (λ text. text.items ≡ flat_map (row_text default_writer) rows.now) }
+/// Writes rows of one length: commas between fields, quotes where they are needed, and each row ended by LF. A
+/// contract sees what it has written.
+#[derive(Drop)]
+pub(crate) struct RowWriter {
+    writer: Writer<Vec<u8>>,
+}
+
+impl Model for RowWriter {
+    ghost use Rattle.std.specs.Prelude.{List, ℕ};
+    ghost use Rattle.cdm_table.specs.inner.Writers.{IsBetweenRows, written};
+
+    ghost Value = { List ℕ };
+
+    ghost view = { λ w. written w.writer };
+
+    ghost invariant = { λ w. IsBetweenRows w.writer };
+}
+
+// Writes a row, with all that the writer holds back.
+fn write_row(writer: &mut Writer<Vec<u8>>, row: &ByteRecord) -> Result<(), csv::Error>
+    requires { IsBetweenRows writer.old }
+    ensures between { OnOk result (IsBetweenRows writer.new) }
+    ensures text { OnOk result (written writer.new ≡ written writer.old ++ row_text default_writer (fields_of row.now)) }
 {
-    let mut writer = WriterBuilder::new().from_writer(Vec::new(alloc));
-    for row in rows {
-        // Memory is written, which fails for want of it alone.
-        writer
-            .write_byte_record(&row.record)
-            .map_err(|_| AllocError)?;
+    writer.write_byte_record(row)?;
+    writer.flush()
+}
+
+impl RowWriter {
+    /// A writer that has written nothing.
+    pub(crate) fn new(alloc: Global) -> RowWriter
+        ensures { result ≡ [] }
+    {
+        RowWriter {
+            writer: WriterBuilder::new().from_writer(Vec::new(alloc)),
+        }
     }
-    match writer.into_inner() {
-        Ok(text) => Ok(text),
-        Err(_) => Err(AllocError),
+
+    /// Writes a row, and puts its text behind the other text. Memory is written, which fails for want of it alone.
+    pub(crate) fn push_row(
+        &mut self,
+        alloc: Global,
+        text: &mut Vec<u8>,
+        row: &Row,
+    ) -> Result<(), AllocError>
+        ensures { OnOk result (text.new.items ≡ text.old.items ++ row_text default_writer row.now) }
+    {
+        let begin = self.writer.get_ref().len();
+        if write_row(&mut self.writer, &row.record).is_err() {
+            *self = RowWriter::new(alloc);
+            return Err(AllocError);
+        }
+        let written = self.writer.get_ref().as_slice();
+        text.extend_from_slice(&written[begin..])
     }
 }

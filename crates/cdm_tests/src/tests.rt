@@ -3,5 +3,6 @@
 mod board;
 mod day;
 mod days;
+mod desk;
 mod phase;
 mod scenario;

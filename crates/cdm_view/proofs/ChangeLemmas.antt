@@ -72,7 +72,7 @@ tied m n h k = tied_names m n (go (name_cmp m n) refl)
     go Equal e = refl
     go Greater e = absurd (false≢true (sym k ∙ ap is_lt (nat_list_cmp_total.antisymm n m ∙ ap ordering_reverse e)))
 
-abbrev order : IsStrictWeakOrder (λ (a b : Standing). is_lt (name_cmp (flight_name a) (flight_name b)))
+abbrev pub order : IsStrictWeakOrder (λ (a b : Standing). is_lt (name_cmp (flight_name a) (flight_name b)))
 order = ranks_by nat_list_cmp_total flight_name
 
 -- after a first that doesn't come before a flight, none is of the flight
@@ -103,7 +103,7 @@ changes_next day before items place s within at b e =
     by false = refl
 
 module _ (day : CalendarDate) where
-  unlike : (s t : Standing) → same_name (flight_name s) (flight_name t) ≡ false → is_same_told day s t ≡ false
+  pub unlike : (s t : Standing) → same_name (flight_name s) (flight_name t) ≡ false → is_same_told day s t ≡ false
   unlike s t = ap (λ b. b && pointwise nat_eq (standing_line day s) (standing_line day t))
 
   -- where the first doesn't come before a flight, only the first can be of the flight

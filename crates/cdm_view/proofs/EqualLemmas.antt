@@ -1,5 +1,6 @@
 -- Standings that `==` finds equal are equal.
-use Rattle.std.proofs.Common.{◌≡◌, ℕ, true, Option, None, Some, refl, ap, rules}
+use Rattle.std.proofs.Common.{◌≡◌, ℕ, Bool, true, List, [], ◌∷◌, Option, None, Some, refl, ap, rules}
+use Rattle.std.specs.Cmp.Lexicographic.{pointwise}
 use Rattle.std.specs.Bool.{Decides}
 use Rattle.std.specs.Option.{option_eq}
 use Rattle.std.specs.Prelude.{nat_eq}
@@ -33,10 +34,10 @@ groups_decide a b = search rules
 marks_decide : (a b : Mark) → Decides ((mark_eq.ghosts).eq a b) (a ≡ b)
 marks_decide a b = search rules
 
-blocked_decide : (a b : BlockedFlight) → Decides ((blocked_eq.ghosts).eq a b) (a ≡ b)
+pub blocked_decide : (a b : BlockedFlight) → Decides ((blocked_eq.ghosts).eq a b) (a ≡ b)
 blocked_decide a b = search rules
 
-equal_slots : (s t : SlotRecord) → (slot_eq.ghosts).eq s t ≡ true → s ≡ t
+pub equal_slots : (s t : SlotRecord) → (slot_eq.ghosts).eq s t ≡ true → s ≡ t
 equal_slots s t h =
     let name = and_parts (same_name s.name t.name) _ h in
     let tobt = and_parts (option_eq (minute_eq.ghosts).eq s.tobt t.tobt) _ name.1 in
@@ -65,3 +66,11 @@ equal_standings (OnRunway r s) (OnRunway q t) h =
 equal_standings (Blocked b) (Blocked c) h = ap Blocked ((blocked_decide b c).0 h)
 equal_standings (Cancelled m) (Cancelled n) h = ap Cancelled (same_is m n h)
 equal_standings _ _ h = absurd (false≢true h)
+
+-- lists that are equal element by element are equal
+pub equal_lists : {X : Type 0} (e : X → X → Bool) → ((x y : X) → e x y ≡ true → x ≡ y) → (xs ys : List X) → pointwise e xs ys ≡ true → xs ≡ ys
+equal_lists e is [] [] h = refl
+equal_lists {X} e is (x ∷ xs) (y ∷ ys) h =
+    let parts = and_parts (e x y) (pointwise e xs ys) h in
+    λ i. is x y parts.0 i ∷ equal_lists e is xs ys parts.1 i
+equal_lists e is _ _ h = absurd (false≢true h)

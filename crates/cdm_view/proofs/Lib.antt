@@ -17,5 +17,6 @@ pub mod StandingLemmas
 pub mod EqualLemmas
 pub mod SearchLemmas
 pub mod ChangeLemmas
+pub mod LeftLemmas
 pub mod KnownLemmas
 pub mod WorkedStandings

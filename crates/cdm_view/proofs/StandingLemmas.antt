@@ -1,9 +1,9 @@
 -- The standings of a day have names of their own, and are one list.
-use Rattle.std.proofs.Common.{◌≡◌, ℕ, Bool, true, false, cond, ◌||◌, List, [], ◌∷◌, ◌++◌, None, Some, refl, sym, ◌∙◌, ap}
+use Rattle.std.proofs.Common.{◌≡◌, ℕ, Bool, true, false, ◌||◌, List, [], ◌∷◌, ◌++◌, None, Some, refl, sym, ◌∙◌, ap}
 use Rattle.std.proofs.Common.{subst, map, filter, IfSome}
 use Rattle.cdm_plan.proofs.ListWords.{is_some, All-permutation, AllZip, IsDistinct, IsDistinct-IsPermutation, IsPermutation}
 use Rattle.cdm_plan.proofs.ListWords.{IsPermutation-append_comm, IsPermutation-append_left, IsPermutation-append_right}
-use Rattle.cdm_plan.proofs.ListWords.{IsPermutation-map, IsPermutation-middle, IsPermutation-refl, IsPermutation-sym, IsPermutation-trans}
+use Rattle.cdm_plan.proofs.ListWords.{IsPermutation-map, IsPermutation-trans}
 use Rattle.cdm_plan.proofs.ListWords.{append_assoc, distinct_filter, false≢true, filter_map, flat_map, if_so, if◌then◌else◌, map-append}
 use Rattle.cdm_plan.proofs.PlanWords.{AimResult, BlockedFlight, DayRecord, IsDayPlan, IsSequence, IsSequenceBy, Placing, PlanRecord, Record}
 use Rattle.cdm_plan.proofs.PlanWords.{RunwayPlanRecord, RunwayRules, SlotRecord, TargetRecord, HasParts, day_rules, fixed_on, flights_in}
@@ -12,7 +12,8 @@ use Rattle.cdm_plan.proofs.PlanWords.{slot_by, fixed_slot, target_in, blocked_in
 use Rattle.cdm_plan.proofs.DayPlanLemmas.{record_names_differ}
 use Rattle.cdm_plan.proofs.NameLemmas.{by_name, day_rules_differ, runway-names}
 use Rattle.cdm_plan.proofs.PlanningLemmas.{AllZip-weaker, Shows, aims_are, blocked_early, early-aims, made_named, once, shows_made, stands_in}
-use Rattle.cdm_plan.proofs.PlanningLemmas.{targets-aims, targets_of}
+use Rattle.cdm_plan.proofs.PlanningLemmas.{parted, targets-aims, targets_of}
+use Rattle.cdm_plan.proofs.OnePlanLemmas.{flat_map-parts}
 use Rattle.cdm_plan.specs.Planning.{IsPlanBy}
 use Rattle.cdm_sequence.proofs.NameLemmas.{names_given}
 use Rattle.cdm_flight.specs.declared.flight.Status.{Status}
@@ -22,31 +23,6 @@ use Rattle.cdm_view.specs.declared.standing.Standing.TheVariants.{OnRunway, Bloc
 use Rattle.cdm_view.specs.Standings.{AreStandings, KeepsFlights, cancelled, flight_name, is_cancelled, on_runway, standings_of}
 
 -- Lists.
-
--- two tests of which at most one holds part what passes either
-parted : {X : Type 0} (a b : X → Bool) → ((x : X) → a x ≡ true → b x ≡ false) → (xs : List X)
-    → IsPermutation (filter (λ x. a x || b x) xs) (filter a xs ++ filter b xs)
-parted a b apart [] = IsPermutation-refl []
-parted {X} a b apart (x ∷ xs) = go (a x) (b x) refl refl (parted a b apart xs) where
-  go : (u v : Bool) → a x ≡ u → b x ≡ v → IsPermutation (filter (λ x. a x || b x) xs) (filter a xs ++ filter b xs)
-      → IsPermutation (cond (u || v) (x ∷ filter (λ x. a x || b x) xs) (filter (λ x. a x || b x) xs))
-      (cond u (x ∷ filter a xs) (filter a xs) ++ cond v (x ∷ filter b xs) (filter b xs))
-  go true true e f rest = absurd (false≢true (sym (apart x e) ∙ f))
-  go true false e f rest = IsPermutation-append_right (x ∷ []) _ _ rest
-  go false true e f rest =
-      IsPermutation-trans _ (x ∷ (filter a xs ++ filter b xs)) _ (IsPermutation-append_right (x ∷ []) _ _ rest)
-      (IsPermutation-sym _ _ (IsPermutation-middle (filter a xs) x (filter b xs)))
-  go false false e f rest = rest
-
--- lists of two parts each, put together, are the first parts and the second ones
-flat_map-parts : {X Y : Type 0} (f g : X → List Y) (xs : List X) → IsPermutation (flat_map (λ x. f x ++ g x) xs) (flat_map f xs ++ flat_map g xs)
-flat_map-parts f g [] = IsPermutation-refl []
-flat_map-parts f g (x ∷ xs) =
-    let fs = flat_map f xs in
-    let gs = flat_map g xs in
-    let crossed = rw (append_assoc (g x) fs gs, append_assoc fs (g x) gs) at (IsPermutation-append_left gs _ _ (IsPermutation-append_comm (g x) fs)) in
-    IsPermutation-trans _ _ _ (IsPermutation-append_right (f x ++ g x) _ _ (flat_map-parts f g xs))
-    (rw (append_assoc (f x) (g x) (fs ++ gs), append_assoc (f x) fs (g x ++ gs)) (IsPermutation-append_right (f x) _ _ crossed))
 
 -- the names of lists put together
 names_of_lists : {X Y : Type 0} (f : X → List Y) (name : Y → List ℕ) (xs : List X) → flat_map (λ x. map name (f x)) xs ≡ map name (flat_map f xs)

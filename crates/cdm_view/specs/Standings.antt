@@ -71,3 +71,8 @@ is_told day told s = list_any (λ t. is_same_told day t s) told
 -- the standings after that were not told before
 abbrev pub changes : CalendarDate → List Standing → List Standing → List Standing
 changes day before after = filter (λ s. not (is_told day before s)) after
+
+-- the changes from a day with its plan to another: by name, the standings there that were not told before
+pub record AreChanges (d : DayRecord) (plan : PlanRecord) (next : DayRecord) (next_plan : PlanRecord) (changed : List Standing) : Type 0 where
+  pub all : IsPermutation (changes d.airport.day (standings_of d plan) (standings_of next next_plan)) changed
+  pub by_name : IsSortedByKey flight_name name_cmp changed

@@ -8,7 +8,7 @@ use cdm_sequence::Slot;
 use cdm_time::{HORIZON_MINUTES, Minute};
 
 /// How many cells the horizon has.
-pub(crate) fn cell_count(runway: &Runway) -> u16
+pub fn cell_count(runway: &Runway) -> u16
     ensures { result ≡ 2880 / runway.now.cell }
 {
     HORIZON_MINUTES / runway.cell().get()
@@ -23,7 +23,7 @@ fn minute_at(number: u16) -> Minute
 }
 
 /// The cell's first minute.
-pub(crate) fn first_minute(runway: &Runway, cell: u16) -> Minute
+pub fn first_minute(runway: &Runway, cell: u16) -> Minute
     requires { cell < 2880 / runway.now.cell }
     ensures value { result ≡ cell * runway.now.cell }
     ensures whole { cell * runway.now.cell + runway.now.cell ≤ 2880 }
@@ -39,7 +39,7 @@ pub(crate) fn is_in_cell(runway: &Runway, slot: &Slot, cell: u16) -> bool
 }
 
 /// How many flights take off in the cell.
-pub(crate) fn flights_in_cell(runway: &Runway, slots: &[Slot], cell: u16) -> usize
+pub fn flights_in_cell(runway: &Runway, slots: &[Slot], cell: u16) -> usize
     ensures { result ≡ length (flights_in_cell runway.now slots.now cell) }
 {
     slots
@@ -49,7 +49,7 @@ pub(crate) fn flights_in_cell(runway: &Runway, slots: &[Slot], cell: u16) -> usi
 }
 
 /// How many minutes of the cell are closed.
-pub(crate) fn closed_in_cell(runway: &Runway, cell: u16) -> u16
+pub fn closed_in_cell(runway: &Runway, cell: u16) -> u16
     requires { cell < 2880 / runway.now.cell }
     ensures { result ≡ closed_in_cell runway.now cell }
 {
@@ -65,7 +65,7 @@ pub(crate) fn closed_in_cell(runway: &Runway, cell: u16) -> u16
 }
 
 /// How many flights the cell takes.
-pub(crate) fn cap_of_cell(runway: &Runway, cell: u16) -> u16
+pub fn cap_of_cell(runway: &Runway, cell: u16) -> u16
     requires { cell < 2880 / runway.now.cell }
     ensures { result ≡ cap_of_cell runway.now cell }
 {

@@ -14,8 +14,8 @@ use cdm_plan::Records;
 use cdm_sequence::{BlockedFlight, Plan, RunwayPlan};
 use std::alloc::{AllocError, Global};
 
-// The slots of a runway behind the others.
-fn push_slots(standings: &mut Vec<Standing>, plan: &RunwayPlan) -> Result<(), AllocError>
+/// The slots of a runway behind the others.
+pub(crate) fn push_slots(standings: &mut Vec<Standing>, plan: &RunwayPlan) -> Result<(), AllocError>
     ensures { OnOk result (standings.new.items ≡ standings.old.items ++ on_runway plan.now) }
 {
     for slot in plan.slots.as_slice() {
@@ -24,8 +24,11 @@ fn push_slots(standings: &mut Vec<Standing>, plan: &RunwayPlan) -> Result<(), Al
     Ok(())
 }
 
-// The slots of all runways behind the others.
-fn push_runways(standings: &mut Vec<Standing>, plans: &[RunwayPlan]) -> Result<(), AllocError>
+/// The slots of all runways behind the others.
+pub(crate) fn push_runways(
+    standings: &mut Vec<Standing>,
+    plans: &[RunwayPlan],
+) -> Result<(), AllocError>
     ensures { OnOk result (standings.new.items ≡ standings.old.items ++ flat_map on_runway plans.now) }
 {
     for plan in plans {
@@ -34,8 +37,11 @@ fn push_runways(standings: &mut Vec<Standing>, plans: &[RunwayPlan]) -> Result<(
     Ok(())
 }
 
-// The blocked flights behind the others.
-fn push_blocked(standings: &mut Vec<Standing>, flights: &[BlockedFlight]) -> Result<(), AllocError>
+/// The blocked flights behind the others.
+pub(crate) fn push_blocked(
+    standings: &mut Vec<Standing>,
+    flights: &[BlockedFlight],
+) -> Result<(), AllocError>
     ensures { OnOk result (standings.new.items ≡ standings.old.items ++ map Blocked flights.now) }
 {
     for flight in flights {
@@ -72,8 +78,11 @@ fn push_if_cancelled(
     }
 }
 
-// The cancelled flights behind the others.
-fn push_cancelled<R: Records>(standings: &mut Vec<Standing>, records: &R) -> Result<(), AllocError>
+/// The cancelled flights behind the others.
+pub(crate) fn push_cancelled<R: Records>(
+    standings: &mut Vec<Standing>,
+    records: &R,
+) -> Result<(), AllocError>
     ensures pushed { let d = R.day records.now in
         OnOk result (standings.new.items ≡ standings.old.items ++ filter_map cancelled (records_in d.airport d.journal)) }
     ensures sound { OnOk result (AllSound (R.day records.now)) }

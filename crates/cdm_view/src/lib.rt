@@ -4,6 +4,7 @@
 
 mod answering;
 mod cells;
+mod differing;
 mod fault;
 mod gathering;
 mod laws;
@@ -20,12 +21,16 @@ mod waiting_laws;
 mod whys;
 
 pub use answering::answer;
+pub use cells::{cap_of_cell, cell_count, closed_in_cell, first_minute, flights_in_cell};
+pub use differing::changes_between;
 pub use fault::ViewFault;
 pub use laws::{counts_add_up, each_flight_in_one_line, one_answer};
-pub use lines::group_letter;
+pub use lines::{group_letter, push_runs};
 pub use loading::load;
 pub use question::Question;
 pub use reason::Reason;
+pub use runs::Run;
+pub use slots::slots_on;
 pub use standing::{Standing, push_standing};
 pub use standings::Standings;
 pub use waiting::exot_to;
@@ -33,4 +38,4 @@ pub use waiting_laws::{
     a_blocked_flight_waits_always, a_placed_flight_waits_its_delay,
     a_waiting_flight_is_placed_or_blocked,
 };
-pub use whys::why;
+pub use whys::{waits_of, why};

@@ -163,7 +163,7 @@ fn push_run(text: &mut String, day: Day, run: &Run) -> Result<(), AllocError>
 }
 
 /// Puts the lines of the runs behind a text.
-pub(crate) fn push_runs(text: &mut String, day: Day, runs: &[Run]) -> Result<(), AllocError>
+pub fn push_runs(text: &mut String, day: Day, runs: &[Run]) -> Result<(), AllocError>
     ensures { OnOk result (string_bytes text.new ≡ string_bytes text.old ++ flat_map (wait_line day) runs.now) }
 {
     for run in runs {

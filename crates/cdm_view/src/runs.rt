@@ -11,10 +11,10 @@ use std::alloc::{AllocError, Global};
 
 /// Minutes one after another, from the first to the last, with the same reason.
 #[derive(Debug, Drop)]
-pub(crate) struct Run {
-    pub(crate) first: Minute,
-    pub(crate) last: Minute,
-    pub(crate) reason: Reason,
+pub struct Run {
+    pub first: Minute,
+    pub last: Minute,
+    pub reason: Reason,
 }
 
 // Puts a minute with a reason behind the runs of those before it.

@@ -16,7 +16,7 @@ fn plan_on(plans: &[RunwayPlan], runway: RunwayName) -> Option<&RunwayPlan>
 }
 
 /// The slots that the plan has on a runway.
-pub(crate) fn slots_on(plan: &Plan, runway: RunwayName) -> &[Slot]
+pub fn slots_on(plan: &Plan, runway: RunwayName) -> &[Slot]
     ensures { result.now ≡ slots_on plan.entry.now runway }
 {
     match plan_on(plan.runways.as_slice(), runway) {

@@ -1,9 +1,8 @@
 //! The standings of a day's flights, and those that changed.
 ghost use Rattle.std.specs.Prelude.{◌≡◌, List, IsPermutation, map, IfOk};
-ghost use Rattle.std.specs.List.{find};
+ghost use Rattle.std.specs.List.{IsDistinct, find};
 ghost use Rattle.std.specs.Option.{option_copied};
 ghost use Rattle.cdm_flight.specs.Names.{same_name};
-ghost use Rattle.cdm_plan.specs.Day.{flights_in};
 ghost use Rattle.cdm_plan.specs.DayPlan.{IsDayPlan};
 ghost use Rattle.cdm_view.specs.declared.standing.Standing.{Standing as Stood};
 ghost use Rattle.cdm_view.specs.Standings.{AreStandings, KeepsFlights, changes, flight_name};
@@ -81,9 +80,19 @@ impl Standings {
         ensures all { IfOk result (AreStandings (R.day records.now) plan.entry.now) }
         ensures only { IfOk result (λ s. (other : List Stood) → AreStandings (R.day records.now) plan.entry.now other → other ≡ s) }
     {
-        let mut items = all_standings(alloc, records, plan)?;
+        let items = all_standings(alloc, records, plan)?;
+        Ok(Standings::by_name(items))
+    }
+
+    /// These standings by name, no two of which are of one flight.
+    pub(crate) fn by_name(standings: Vec<Standing>) -> Standings
+        requires { IsDistinct same_name (map flight_name standings.items) }
+        ensures all { IsPermutation standings.items result }
+        ensures keeps { KeepsFlights result }
+    {
+        let mut items = standings;
         items.sort_unstable_by_key(|standing| standing.flight());
-        Ok(Standings { items })
+        Standings { items }
     }
 
     /// The standings by name.

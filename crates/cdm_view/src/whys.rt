@@ -64,8 +64,9 @@ fn end_of_wait(slot: Option<&Slot>) -> Bound
     }
 }
 
-// The runs of the flight's waiting.
-fn waits_of<R: Records>(
+/// The runs of minutes for which a planned flight waits for the same, from its TOBT and taxi-out time up to its
+/// take-off, or up to the horizon's end where it is blocked. No run of a flight that waits for nothing.
+pub fn waits_of<R: Records>(
     alloc: Global,
     records: &R,
     plan: &Plan,

@@ -15,7 +15,7 @@ returns-in_ok-text-in-Ok c =
     let laid : IsLaid base us (Ok c.in-Ok.day) = rw (c.in-Ok.is, c.updates.ensures.value) at c.in_ok-day.ensures in
     let of_day : IsDayPlan (with_updates base us) plan = rw laid.1 at c.in_ok-plan-in-Ok.ensures.of_day in
     let rows : AreFlightRows (with_updates base us) plan c.args.scenario.now.name c.in_ok-text-in-Ok.text.items =
-    rw (laid.1, c.bytes.ensures.value, c.name-name.ensures) at c.in_ok-text-in-Ok.ensures in
+    rw (laid.1, c.name-name.ensures) at c.in_ok-text-in-Ok.ensures in
     (Planned plan (counts_of plan), (laid.0, of_day, refl), rows)
 
 pub returns-in_ok-text-in-Err : goal.returns-in_ok-text-in-Err

@@ -1,0 +1,135 @@
+//! The words that the program and each command take.
+
+use crate::manual::{
+    ABOUT, COMPARE_ABOUT, COMPARE_EXAMPLE, EXAMPLES, HELP_ABOUT, HELP_EXAMPLE, LIVE_ABOUT,
+    LIVE_EXAMPLE, LOAD_ABOUT, LOAD_EXAMPLE, PLAN_ABOUT, PLAN_EXAMPLE, VERSION, WHY_ABOUT,
+    WHY_EXAMPLE,
+};
+use clap::{Arg, Command as Parser, value_parser};
+use std::alloc::{AllocError, Global};
+
+/// How a plan can be printed.
+const FORMATS: &[&str] = &["text", "csv"];
+
+// The words that `plan` takes.
+fn plan_parser<'a>(alloc: Global) -> Result<Parser<'a>, AllocError> {
+    let scenarios = Arg::new(alloc, "scenarios")
+        .long("scenarios")
+        .value_name("FILE")
+        .help("What-if scenarios, each answered over the feed");
+    let format = Arg::new(alloc, "format")
+        .long("format")
+        .value_name("FORMAT")
+        .value_parser(FORMATS)
+        .default_value("text")
+        .hide_possible_values(true)
+        .help("text, or csv: a row for each flight");
+    day_parser(alloc, "plan", PLAN_ABOUT, PLAN_EXAMPLE)?
+        .arg(scenarios)?
+        .arg(format)?
+        .arg(workers_arg(alloc))
+}
+
+// The number of workers.
+fn workers_arg<'a>(alloc: Global) -> Arg<'a> {
+    Arg::new(alloc, "workers")
+        .long("workers")
+        .value_name("N")
+        .value_parser(value_parser!(usize).range(1..=64))
+        .default_value("1")
+        .help("1 to 64 threads; the output is the same")
+}
+
+// The words that `compare` takes.
+fn compare_parser<'a>(alloc: Global) -> Result<Parser<'a>, AllocError> {
+    let scenarios = Arg::new(alloc, "SCENARIOS")
+        .required(true)
+        .help("What-if scenarios, each answered over the feed");
+    let name = Arg::new(alloc, "NAME").help("One scenario, to see what changes by it");
+    day_parser(alloc, "compare", COMPARE_ABOUT, COMPARE_EXAMPLE)?
+        .arg(scenarios)?
+        .arg(name)?
+        .arg(workers_arg(alloc))
+}
+
+// The words that `live` takes.
+fn live_parser<'a>(alloc: Global) -> Result<Parser<'a>, AllocError> {
+    let airport = Arg::new(alloc, "AIRPORT")
+        .required(true)
+        .help("Airport file: the day, the runways, the taxi times");
+    let feed1 = Arg::new(alloc, "FEED1")
+        .required(true)
+        .help("Feed of the first desk, in the order of its updates");
+    let feed2 = Arg::new(alloc, "FEED2")
+        .required(true)
+        .help("Feed of the second desk");
+    Parser::new(alloc, "live")
+        .about(LIVE_ABOUT)
+        .after_help(LIVE_EXAMPLE)
+        .arg(airport)?
+        .arg(feed1)?
+        .arg(feed2)
+}
+
+// A command about the day of a feed at an airport, with an example.
+fn day_parser<'a>(
+    alloc: Global,
+    name: &'a str,
+    about: &'a str,
+    example: &'a str,
+) -> Result<Parser<'a>, AllocError> {
+    let airport = Arg::new(alloc, "AIRPORT")
+        .required(true)
+        .help("Airport file: the day, the runways, the taxi times");
+    let feed = Arg::new(alloc, "FEED")
+        .required(true)
+        .help("Feed of updates, in the order in which they came");
+    Parser::new(alloc, name)
+        .about(about)
+        .after_help(example)
+        .arg(airport)?
+        .arg(feed)
+}
+
+// The words that `why` takes.
+fn why_parser<'a>(alloc: Global) -> Result<Parser<'a>, AllocError> {
+    let flight = Arg::new(alloc, "FLIGHT")
+        .required(true)
+        .help("The flight that is asked for");
+    day_parser(alloc, "why", WHY_ABOUT, WHY_EXAMPLE)?.arg(flight)
+}
+
+// The words that `load` takes.
+fn load_parser<'a>(alloc: Global) -> Result<Parser<'a>, AllocError> {
+    let runway = Arg::new(alloc, "RUNWAY").help("One runway alone");
+    day_parser(alloc, "load", LOAD_ABOUT, LOAD_EXAMPLE)?.arg(runway)
+}
+
+// The words that `help` takes.
+fn help_parser<'a>(alloc: Global) -> Result<Parser<'a>, AllocError> {
+    let command = Arg::new(alloc, "COMMAND").help("The command whose help is asked for");
+    Parser::new(alloc, "help")
+        .about(HELP_ABOUT)
+        .after_help(HELP_EXAMPLE)
+        .visible_alias("manual")?
+        .arg(command)
+}
+
+/// The words that the program takes.
+pub(crate) fn parser<'a>(alloc: Global) -> Result<Parser<'a>, AllocError> {
+    Parser::new(alloc, "cdmseq")
+        .bin_name("cdmseq")?
+        .version(VERSION)
+        .about(ABOUT)
+        .after_help(EXAMPLES)
+        .no_binary_name(true)
+        .disable_help_subcommand(true)
+        .subcommand_required(true)
+        .arg_required_else_help(true)
+        .subcommand(plan_parser(alloc)?)?
+        .subcommand(compare_parser(alloc)?)?
+        .subcommand(why_parser(alloc)?)?
+        .subcommand(load_parser(alloc)?)?
+        .subcommand(live_parser(alloc)?)?
+        .subcommand(help_parser(alloc)?)
+}

@@ -1,0 +1,46 @@
+-- An update that is posted, and its reply.
+use Rattle.std.proofs.Common.{◌≡◌, ◌∙◌, List, [], ◌∷◌, ◌++◌, map, Option, None, Some, refl, sym, subst}
+use Rattle.std.specs.Prelude.{if◌then◌else◌, is_none}
+use Rattle.cdm_day.specs.Replies.{reply_of}
+use Rattle.cdm_day.specs.declared.reply.Reply.{Reply}
+use Rattle.cdm_flight.specs.Accepted.{accepted, after_one, refusal, replies_to}
+use Rattle.cdm_flight.specs.declared.role.Role.{Role}
+use Rattle.cdm_flight.specs.declared.update.Update.{Update}
+use Rattle.cdm_flight.specs.declared.word.RefusalWord.{RefusalWord}
+use Rattle.cdm_plan.specs.Day.{DayRecord}
+use Rattle.cdm_view.specs.declared.standing.Standing.{Standing}
+use Rattle.cdm_desk.specs.Replies.{IsChangedTo, IsReplyBy}
+use Rattle.cdm_desk.specs.declared.reply.DeskReply.TheVariants.{Accepted, Refused}
+
+module _ (d : DayRecord) (u : Role × Update) where
+  abbrev pub said : Option RefusalWord
+  said = refusal d.airport d.journal u.0 u.1
+
+  abbrev pub with_it : DayRecord
+  with_it = record d { journal = after_one d.airport d.journal u }
+
+  -- the word that the replies to the update alone have is its word
+  pub word_said : (copy : DayRecord) (replies : List Reply) (word : Option RefusalWord) → copy ≡ d
+      → replies ≡ map reply_of (replies_to copy.airport copy.journal (u ∷ []))
+      → ((w : Option RefusalWord) → replies ≡ reply_of w ∷ [] → word ≡ w) → said ≡ word
+  unfolding replies_to
+  word_said copy replies word same are is =
+      sym (is said (are ∙ (λ i. map reply_of (replies_to (same i).airport (same i).journal (u ∷ [])))))
+
+  pub refused_reply : (word : RefusalWord) → said ≡ Some word → IsReplyBy said d with_it (Refused word)
+  refused_reply word is = subst (λ o. IsReplyBy o d with_it (Refused word)) (sym is) refl
+
+  -- a refused update leaves the day as it was
+  pub refused_day : (word : RefusalWord) → said ≡ Some word → d ≡ with_it
+  refused_day word is = λ i. record d { journal = if is_none (sym is i) then d.journal ++ u.1 ∷ [] else d.journal }
+
+  -- the day after the update alone
+  pub day_with : (copy next : DayRecord) → copy ≡ d → next ≡ record copy { journal = accepted copy.airport copy.journal (u ∷ []) } → next ≡ with_it
+  unfolding accepted
+  day_with copy next same is = is ∙ (λ i. record (same i) { journal = accepted (same i).airport (same i).journal (u ∷ []) })
+
+  pub accepted_reply : (next : DayRecord) (changed told : List Standing) → said ≡ None → next ≡ with_it → told ≡ changed → IsChangedTo d next changed
+      → IsReplyBy said d with_it (Accepted told)
+  accepted_reply next changed told none same e is =
+      subst (λ o. IsReplyBy o d with_it (Accepted told)) (sym none)
+      (subst (λ (l : List Standing). IsChangedTo d with_it l) (sym e) (subst (λ (n : DayRecord). IsChangedTo d n changed) same is))

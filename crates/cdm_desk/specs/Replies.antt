@@ -1,0 +1,56 @@
+-- What a day replies to a record.
+use Rattle.std.specs.Prelude.{◌≡◌, ℕ, List, [], ◌∷◌, ◌++◌, codes, flat_map, length, Option, None, Some, Result, Ok, Err}
+use Rattle.std.specs.Fmt.{decimal}
+use Rattle.std.specs.List.{concat}
+use Rattle.cdm_time.specs.declared.calendar.CalendarDate.{CalendarDate}
+use Rattle.cdm_flight.specs.Accepted.{after_one, refusal}
+use Rattle.cdm_flight.specs.Words.{text_of}
+use Rattle.cdm_flight.specs.declared.role.Role.{Role}
+use Rattle.cdm_flight.specs.declared.update.Update.{Update}
+use Rattle.cdm_flight.specs.declared.word.RefusalWord.{RefusalWord}
+use Rattle.cdm_plan.specs.Day.{DayRecord}
+use Rattle.cdm_plan.specs.DayPlan.{IsDayPlan}
+use Rattle.cdm_report.specs.Report.{line_end}
+use Rattle.cdm_sequence.specs.Slots.{PlanRecord}
+use Rattle.cdm_view.specs.Standings.{AreChanges, standing_line}
+use Rattle.cdm_view.specs.declared.standing.Standing.{Standing}
+use Rattle.cdm_desk.specs.declared.reply.DeskReply.{DeskReply}
+use Rattle.cdm_desk.specs.declared.reply.DeskReply.TheVariants.{Accepted, Refused}
+
+-- the word that refuses a record, in itself or by its update
+abbrev pub word_for : DayRecord → Result (Role × Update) RefusalWord → Option RefusalWord
+word_for d (Ok update) = refusal d.airport d.journal update.0 update.1
+word_for d (Err word) = Some word
+
+-- the day after a record: with its update, where no word refuses it
+abbrev pub day_after : DayRecord → Result (Role × Update) RefusalWord → DayRecord
+day_after d (Ok update) = record d { journal = after_one d.airport d.journal update }
+day_after d (Err word) = d
+
+-- these are the changes from a day to another, by their plans
+pub record IsChangedTo (d next : DayRecord) (changed : List Standing) : Type 0 where
+  pub plan : PlanRecord
+  pub next_plan : PlanRecord
+  pub of_day : IsDayPlan d plan
+  pub of_next : IsDayPlan next next_plan
+  pub changes : AreChanges d plan next next_plan changed
+
+-- the reply where this word refuses the record, or none does
+abbrev pub IsReplyBy : Option RefusalWord → DayRecord → DayRecord → DeskReply → Type 0
+IsReplyBy (Some word) d next reply = reply ≡ Refused word
+IsReplyBy None d next (Accepted changed) = IsChangedTo d next changed
+IsReplyBy None d next (Refused word) = ⊥
+
+-- the reply to a record
+abbrev pub IsReply : DayRecord → Result (Role × Update) RefusalWord → DeskReply → Type 0
+IsReply d spelled reply = IsReplyBy (word_for d spelled) d (day_after d spelled) reply
+
+-- a standing's line
+abbrev pub changed_line : CalendarDate → Standing → List ℕ
+changed_line day s = standing_line day s ++ line_end
+
+-- the text of a reply to the record of this number
+unfoldable pub reply_text : CalendarDate → ℕ → DeskReply → List ℕ
+reply_text day number (Refused word) = concat (decimal number ∷ codes " REFUSED " ∷ text_of word ∷ line_end ∷ [])
+reply_text day number (Accepted changed) =
+    concat (decimal number ∷ codes " ACCEPTED " ∷ decimal (length changed) ∷ line_end ∷ []) ++ flat_map (changed_line day) changed

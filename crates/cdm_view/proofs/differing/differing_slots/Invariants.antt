@@ -1,0 +1,8 @@
+use Rattle.std.proofs.Common.{take}
+use Rattle.std.specs.List.{flat_map}
+use Rattle.cdm_view.specs.Standings.{on_runway}
+use Rattle.cdm_view.specs.inner.Left.{AreLeft}
+use Rattle.cdm_view.proofs.differing.differing_slots.Given as goal
+
+abbrev pub invariant-loop-place : goal.invariant-loop-place
+invariant-loop-place l = AreLeft (flat_map on_runway (take l.place l.before)) (flat_map on_runway (take l.place l.after)) l.differing
