@@ -1,6 +1,7 @@
 -- The exit statuses of faults: 3 where an input is refused or doesn't know what is asked for, 1 where a file can't be
 -- opened, a device fails, memory is short or the board gives a wrong answer, 2 where the words name no command.
-use Rattle.std.specs.Prelude.{ℕ}
+use Rattle.std.specs.Prelude.{ℕ, ◌==◌, if◌then◌else◌}
+use Rattle.cdm_check.specs.declared.counts.CheckCounts.{CheckCounts}
 use Rattle.cdm_feed.specs.declared.common_fault.CommonFault.{CommonFault}
 use Rattle.cdm_feed.specs.declared.common_fault.CommonFault.TheVariants as common
 use Rattle.cdm_feed.specs.declared.run_error.RunError.TheVariants as run
@@ -33,6 +34,11 @@ status_of_fault (fault.View (view.NoRunway name)) = 3
 status_of_fault (fault.Live (live.Common e)) = status_of_common e
 status_of_fault (fault.Live live.HistoryFull) = 3
 status_of_fault (fault.Live live.Mismatch) = 1
+status_of_fault (fault.Check e) = status_of_common e
+
+-- the exit status of a check: 4 where a record is refused
+abbrev pub status_of_check : CheckCounts → ℕ
+status_of_check counts = if counts.refused == 0 then 0 else 4
 
 abbrev pub status_of_command_fault : CommandFault → ℕ
 status_of_command_fault (command.Usage text) = 2

@@ -42,11 +42,24 @@ pub enum Command<'a> {
         table: Table,
         workers: Workers,
     },
+    /// Draw the day that a feed makes at an airport, and each scenario, by so many workers.
+    Draw {
+        airport: &'a str,
+        feed: &'a str,
+        scenarios: Option<&'a str>,
+        workers: Workers,
+    },
     /// Answer a question of the day that a feed makes at an airport.
     Ask {
         airport: &'a str,
         feed: &'a str,
         question: Question,
+    },
+    /// Check the files of a day at an airport, and of its scenarios.
+    Check {
+        airport: &'a str,
+        feed: &'a str,
+        scenarios: Option<&'a str>,
     },
     /// Print this text: the manual, a help or the version.
     Print(String),
@@ -67,6 +80,17 @@ impl Command<'_> {
                 feed,
                 scenarios,
                 ..
+            }
+            | Command::Draw {
+                airport,
+                feed,
+                scenarios,
+                ..
+            }
+            | Command::Check {
+                airport,
+                feed,
+                scenarios,
             } => [Some(*airport), Some(*feed), *scenarios],
             Command::Live {
                 airport,
@@ -118,7 +142,9 @@ pub fn command_of<'a, S: AsStr>(
     let command = match matches.subcommand() {
         Some(("plan", plan)) => plan_of(plan),
         Some(("compare", compare)) => compare_of(alloc, compare)?,
+        Some(("picture", picture)) => picture_of(picture),
         Some(("live", live)) => live_of(live),
+        Some(("check", check)) => check_of(check),
         Some(("why", why)) => why_of(alloc, why)?,
         Some(("load", load)) => load_of(alloc, load)?,
         Some((_, help)) => Some(help_of(alloc, help.get_str("COMMAND"))?),
@@ -185,6 +211,16 @@ fn plan_of<'a>(plan: &ArgMatches<'a>) -> Option<Command<'a>> {
     }
 }
 
+// The words of `picture`, all of which the parser has seen to.
+fn picture_of<'a>(picture: &ArgMatches<'a>) -> Option<Command<'a>> {
+    Some(Command::Draw {
+        airport: picture.get_str("AIRPORT")?,
+        feed: picture.get_str("FEED")?,
+        scenarios: picture.get_str("scenarios"),
+        workers: workers_of(picture)?,
+    })
+}
+
 // The number of workers.
 fn workers_of(words: &ArgMatches<'_>) -> Option<Workers> {
     Workers::new(words.get_one::<usize>("workers")?)
@@ -235,6 +271,15 @@ fn live_of<'a>(live: &ArgMatches<'a>) -> Option<Command<'a>> {
         airport: live.get_str("AIRPORT")?,
         feed1: live.get_str("FEED1")?,
         feed2: live.get_str("FEED2")?,
+    })
+}
+
+// The words of `check`, all of which the parser has seen to.
+fn check_of<'a>(check: &ArgMatches<'a>) -> Option<Command<'a>> {
+    Some(Command::Check {
+        airport: check.get_str("AIRPORT")?,
+        feed: check.get_str("FEED")?,
+        scenarios: check.get_str("scenarios"),
     })
 }
 

@@ -1,10 +1,11 @@
 //! What stops the program, and how it is told.
 ghost use Rattle.std.specs.Prelude.{◌≡◌};
-ghost use Rattle.cdm_command.specs.Statuses.{status_of_command_fault, status_of_common, status_of_fault};
+ghost use Rattle.cdm_command.specs.Statuses.{status_of_check, status_of_command_fault, status_of_common, status_of_fault};
 ghost use Rattle.cdm_command.specs.declared.fault.Fault.TheVariants as fault;
 
 use crate::command::CommandFault;
 use crate::unopened::UnopenedFile;
+use cdm_check::CheckCounts;
 use cdm_feed::{CommonFault, Device, Input, RunError, TableError, ViewError};
 use cdm_live::LiveError;
 use std::alloc::AllocError;
@@ -35,6 +36,9 @@ pub enum Fault {
     /// The live run has not written its whole text.
     #[error(transparent)]
     Live(#[from] LiveError),
+    /// The check has not written its whole text.
+    #[error(transparent)]
+    Check(#[from] CommonFault),
 }
 
 impl From<AllocError> for Fault {
@@ -55,7 +59,8 @@ impl Fault {
             Fault::Run(RunError::Common(fault))
             | Fault::Table(TableError::Common(fault))
             | Fault::View(ViewError::Common(fault))
-            | Fault::Live(LiveError::Common(fault)) => common_status(*fault),
+            | Fault::Live(LiveError::Common(fault))
+            | Fault::Check(fault) => common_status(*fault),
             Fault::Run(RunError::Scenario(..))
             | Fault::Table(TableError::Scenario(..) | TableError::NoScenario(_))
             | Fault::View(ViewError::NoFlight(_) | ViewError::NoRunway(_))
@@ -73,6 +78,13 @@ fn common_status(fault: CommonFault) -> u8
         CommonFault::TooLong(_) | CommonFault::Airport(..) => 3,
         CommonFault::Read(_) | CommonFault::Memory | CommonFault::Write => 1,
     }
+}
+
+/// The exit status of a check: 4 where a record is refused.
+pub fn check_status(counts: &CheckCounts) -> u8
+    ensures { result ≡ status_of_check counts.now }
+{
+    if counts.refused == 0 { 0 } else { 4 }
 }
 
 /// Writes the fault's line, and answers its exit status, also where the line can't be written.

@@ -8,5 +8,5 @@ mod parsers;
 mod unopened;
 
 pub use command::{Command, CommandFault, STANDARD_INPUT, command_of};
-pub use fault::{Fault, report_command_fault, report_fault};
-pub use unopened::UnopenedFile;
+pub use fault::{Fault, check_status, report_command_fault, report_fault};
+pub use unopened::{PathText, UnopenedFile};

@@ -20,8 +20,14 @@ pub const WHY_ABOUT: &str = "Tell what holds a flight, and until when";
 /// What `load` does.
 pub const LOAD_ABOUT: &str = "Tell how full each runway is, cell by cell";
 
+/// What `picture` does.
+pub const PICTURE_ABOUT: &str = "Draw the day as a picture (SVG) that a browser shows";
+
 /// What `live` does.
 pub const LIVE_ABOUT: &str = "Let two desks post a feed each to one board, and print its day";
+
+/// What `check` does.
+pub const CHECK_ABOUT: &str = "Tell what is wrong with the files, and where";
 
 /// What `help` does.
 pub const HELP_ABOUT: &str = "Print the manual, or the help of one command";
@@ -30,9 +36,7 @@ pub const HELP_ABOUT: &str = "Print the manual, or the help of one command";
 pub const EXAMPLES: &str = "\
 For example:
   cdmseq plan airport.csv feed.csv
-  cdmseq compare airport.csv feed.csv what_if.csv
   cdmseq why airport.csv feed.csv AB1
-  cdmseq load airport.csv feed.csv 27L
 The options of one command: cdmseq help plan
 The whole manual: cdmseq help | less";
 
@@ -67,10 +71,26 @@ For example:
 One of the files can be -, which is standard input.
 The whole manual: cdmseq help | less";
 
+/// The end of the help of `picture`.
+pub const PICTURE_EXAMPLE: &str = "\
+For example:
+  cdmseq picture airport.csv feed.csv > day.svg
+  cdmseq picture airport.csv feed.csv --scenarios what_if.csv > day.svg
+One of the files can be -, which is standard input.
+The whole manual: cdmseq help | less";
+
 /// The end of the help of `live`.
 pub const LIVE_EXAMPLE: &str = "\
 For example:
   cdmseq live airport.csv desk_1.csv desk_2.csv
+One of the files can be -, which is standard input.
+The whole manual: cdmseq help | less";
+
+/// The end of the help of `check`.
+pub const CHECK_EXAMPLE: &str = "\
+For example:
+  cdmseq check airport.csv feed.csv
+  cdmseq check airport.csv feed.csv --scenarios what_if.csv
 One of the files can be -, which is standard input.
 The whole manual: cdmseq help | less";
 
@@ -349,6 +369,16 @@ THE OUTPUT
            many flights of how many it has, how many of its minutes are closed,
            and its flights by TTOT and name
 
+  picture draws the day and, with --scenarios, each scenario beneath it, as a
+  file for a browser (SVG), over the hours with flights or closures and half an
+  hour around. Each runway is a band. Above are its cells, with their caps as
+  steps and their flights; below each flight is a bar from TOBT + EXOT to its
+  TTOT, painted by what it waits for as why tells it, one off-block or airborne
+  from its AOBT, with its name behind it. Closed minutes are hatched, blocked
+  flights stand below with their causes, and * marks the flights of a scenario
+  that stand otherwise than in the day. The pointer over a flight shows its line
+  and its waiting.
+
   live has two desks, which post FEED1 and FEED2 at the same time to one board,
   in batches of 256 updates, and each looks at the board after its last batch.
   It prints the plan of the day that they made together, from DAY to TOTAL, and
@@ -364,6 +394,19 @@ THE OUTPUT
   right: it is the text of one order of the batches that keeps each feed's own.
   There is room for 4096 calls, which are the batches and the two looks.
 
+  check tells what is wrong with the files, and where. Of the example files AIRPORT
+  and FEED cdmseq check airport.csv feed.csv prints
+
+    feed.csv:5: record 5: AUTHORITY: a CTOT is set by NM; AO may set CNL, TOBT
+    10 records, 1 refused
+
+  A line tells the file, the line on which a record begins, the record's number,
+  the cause as in REFUSED, and what is wrong. If AIRPORT is at fault, its first
+  record at fault is told alone; else each refused record of FEED, and then the
+  first at fault in SCENARIOS, up to 1000 lines. Then come hints on whole files,
+  as: fields are separated by semicolons, not commas. The last line counts the
+  records of all files, and those that are refused.
+
 STATUS
   0  done: standard output has the whole text, also where records were refused
   1  a file can't be read, the text can't be written, memory is short, or the
@@ -372,6 +415,7 @@ STATUS
   3  a file has more than 8388608 bytes, AIRPORT or SCENARIOS is refused, FEED1
      and FEED2 need more than 4096 calls, or the flight, runway or scenario that
      is asked for isn't known
+  4  check has found a refused record
   For 1 and 3 one line on standard error names the cause, as
   cdmseq: cannot read FEED (feed.csv: no such file). A text there says what is
   wrong with the words of status 2.

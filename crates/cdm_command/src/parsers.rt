@@ -1,9 +1,9 @@
 //! The words that the program and each command take.
 
 use crate::manual::{
-    ABOUT, COMPARE_ABOUT, COMPARE_EXAMPLE, EXAMPLES, HELP_ABOUT, HELP_EXAMPLE, LIVE_ABOUT,
-    LIVE_EXAMPLE, LOAD_ABOUT, LOAD_EXAMPLE, PLAN_ABOUT, PLAN_EXAMPLE, VERSION, WHY_ABOUT,
-    WHY_EXAMPLE,
+    ABOUT, CHECK_ABOUT, CHECK_EXAMPLE, COMPARE_ABOUT, COMPARE_EXAMPLE, EXAMPLES, HELP_ABOUT,
+    HELP_EXAMPLE, LIVE_ABOUT, LIVE_EXAMPLE, LOAD_ABOUT, LOAD_EXAMPLE, PICTURE_ABOUT,
+    PICTURE_EXAMPLE, PLAN_ABOUT, PLAN_EXAMPLE, VERSION, WHY_ABOUT, WHY_EXAMPLE,
 };
 use clap::{Arg, Command as Parser, value_parser};
 use std::alloc::{AllocError, Global};
@@ -11,12 +11,27 @@ use std::alloc::{AllocError, Global};
 /// How a plan can be printed.
 const FORMATS: &[&str] = &["text", "csv"];
 
-// The words that `plan` takes.
-fn plan_parser<'a>(alloc: Global) -> Result<Parser<'a>, AllocError> {
-    let scenarios = Arg::new(alloc, "scenarios")
+/// What scenarios are, where they are answered.
+const OVER_THE_FEED: &str = "What-if scenarios, each answered over the feed";
+
+// The scenario file of a plan.
+fn scenarios_arg<'a>(alloc: Global, help: &'a str) -> Arg<'a> {
+    Arg::new(alloc, "scenarios")
         .long("scenarios")
         .value_name("FILE")
-        .help("What-if scenarios, each answered over the feed");
+        .help(help)
+}
+
+// The words that `check` takes.
+fn check_parser<'a>(alloc: Global) -> Result<Parser<'a>, AllocError> {
+    day_parser(alloc, "check", CHECK_ABOUT, CHECK_EXAMPLE)?.arg(scenarios_arg(
+        alloc,
+        "What-if scenarios, to be checked too",
+    ))
+}
+
+// The words that `plan` takes.
+fn plan_parser<'a>(alloc: Global) -> Result<Parser<'a>, AllocError> {
     let format = Arg::new(alloc, "format")
         .long("format")
         .value_name("FORMAT")
@@ -25,7 +40,7 @@ fn plan_parser<'a>(alloc: Global) -> Result<Parser<'a>, AllocError> {
         .hide_possible_values(true)
         .help("text, or csv: a row for each flight");
     day_parser(alloc, "plan", PLAN_ABOUT, PLAN_EXAMPLE)?
-        .arg(scenarios)?
+        .arg(scenarios_arg(alloc, OVER_THE_FEED))?
         .arg(format)?
         .arg(workers_arg(alloc))
 }
@@ -44,11 +59,18 @@ fn workers_arg<'a>(alloc: Global) -> Arg<'a> {
 fn compare_parser<'a>(alloc: Global) -> Result<Parser<'a>, AllocError> {
     let scenarios = Arg::new(alloc, "SCENARIOS")
         .required(true)
-        .help("What-if scenarios, each answered over the feed");
+        .help(OVER_THE_FEED);
     let name = Arg::new(alloc, "NAME").help("One scenario, to see what changes by it");
     day_parser(alloc, "compare", COMPARE_ABOUT, COMPARE_EXAMPLE)?
         .arg(scenarios)?
         .arg(name)?
+        .arg(workers_arg(alloc))
+}
+
+// The words that `picture` takes.
+fn picture_parser<'a>(alloc: Global) -> Result<Parser<'a>, AllocError> {
+    day_parser(alloc, "picture", PICTURE_ABOUT, PICTURE_EXAMPLE)?
+        .arg(scenarios_arg(alloc, OVER_THE_FEED))?
         .arg(workers_arg(alloc))
 }
 
@@ -130,6 +152,8 @@ pub(crate) fn parser<'a>(alloc: Global) -> Result<Parser<'a>, AllocError> {
         .subcommand(compare_parser(alloc)?)?
         .subcommand(why_parser(alloc)?)?
         .subcommand(load_parser(alloc)?)?
+        .subcommand(picture_parser(alloc)?)?
         .subcommand(live_parser(alloc)?)?
+        .subcommand(check_parser(alloc)?)?
         .subcommand(help_parser(alloc)?)
 }

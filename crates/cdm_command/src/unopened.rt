@@ -23,6 +23,16 @@ impl Display for UnopenedFile {
     }
 }
 
+/// A path as lines show it, with `\xHH` in place of each byte of a control character.
+#[derive(Clone, Copy, Debug)]
+pub struct PathText<'a>(pub &'a str);
+
+impl Display for PathText<'_> {
+    fn fmt<W: Write>(&self, f: &mut Formatter<W>) -> fmt::Result {
+        write_path(self.0, f)
+    }
+}
+
 // Writes a path, with `\xHH` in place of each byte of a control character.
 fn write_path<W: Write>(path: &str, f: &mut Formatter<W>) -> fmt::Result {
     for character in path.chars() {

@@ -34,7 +34,7 @@ pub(crate) fn name_field<const MOST: usize>(text: &[u8]) -> Result<Name<MOST>, R
 
 /// The place of a taxi time: the name of a stand, or `*` for the runway's default.
 #[tactic(auto, unfolding(crate::specs::Fields::place_field))]
-pub(crate) fn place_field(text: &[u8]) -> Result<Place, RefusalWord>
+pub fn place_field(text: &[u8]) -> Result<Place, RefusalWord>
     ensures { result ≡ place_field text.now }
 {
     if text == b"*".as_slice() {
@@ -50,8 +50,8 @@ pub(crate) fn group_field(text: &[u8]) -> Result<Group, RefusalWord>
     Group::new(text).ok_or(RefusalWord::Text)
 }
 
-// A number of 1 to 4 digits, with leading zeros or without.
-fn number_field(text: &[u8]) -> Result<u16, RefusalWord>
+/// A number of 1 to 4 digits, with leading zeros or without.
+pub fn number_field(text: &[u8]) -> Result<u16, RefusalWord>
     ensures { result ≡ (if not (from_to 1 4 (length text.now) && are_digits text.now) then Err word.Text else Ok (number_in text.now)) }
 {
     if text.is_empty() || text.len() > 4 {
@@ -161,7 +161,7 @@ pub(crate) fn bound_field(day: Day, text: &[u8]) -> Result<Bound, RefusalWord>
 
 /// A CTOT: a time, or `-` for none any more.
 #[tactic(auto, unfolding(crate::specs::Fields::ctot_field))]
-pub(crate) fn ctot_field(day: Day, text: &[u8]) -> Result<Option<Minute>, RefusalWord>
+pub fn ctot_field(day: Day, text: &[u8]) -> Result<Option<Minute>, RefusalWord>
     ensures { result ≡ ctot_field day text.now }
 {
     if text == b"-".as_slice() {

@@ -42,12 +42,6 @@ impl<'a> RecordReader<'a> {
         }
     }
 
-    /// The line on which the next record begins, counted from 1 with blank lines, or an earlier one where only
-    /// blank lines are between. Tests show it.
-    pub fn line(&self) -> u64 {
-        self.reader.position().line()
-    }
-
     /// Puts the next record in `row`, and says whether there was one. Where there was none, or no
     /// memory for it, the reader has ended.
     pub fn read(&mut self, row: &mut ByteRecord) -> Result<bool, AllocError>

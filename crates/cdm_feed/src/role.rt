@@ -6,7 +6,7 @@ use cdm_flight::Role;
 
 /// The role that a field names: AO, GH, AP, ATC or NM, byte by byte.
 #[tactic(auto, unfolding(crate::specs::Roles::role_of))]
-pub(crate) fn role_of(text: &[u8]) -> Option<Role>
+pub fn role_of(text: &[u8]) -> Option<Role>
     ensures { result ≡ role_of text.now }
 {
     match text {

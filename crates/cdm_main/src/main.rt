@@ -3,17 +3,19 @@
 
 ghost use Rattle.std.specs.Prelude.{◌≡◌, false};
 
+use cdm_check::{FilePaths, run_check};
 pub use cdm_command::{
-    Command, CommandFault, Fault, STANDARD_INPUT, UnopenedFile, command_of, report_command_fault,
-    report_fault,
+    Command, CommandFault, Fault, PathText, STANDARD_INPUT, UnopenedFile, check_status, command_of,
+    report_command_fault, report_fault,
 };
 use cdm_feed::{Device, Input, WriteFault, run, run_table, run_view, write_text};
 pub use cdm_live::{LiveCounts, LiveError, run_live};
 use cdm_phase::{OpenGate, Workers};
+use cdm_picture::run_picture;
 use cdm_table::Table;
 use cdm_view::Question;
 use either::Either;
-use std::alloc::AllocError;
+use std::alloc::{AllocError, Global};
 use std::io::{ErrorKind, Write};
 use std::process::ExitCode;
 use std::rt::{Env, Files};
@@ -48,7 +50,7 @@ fn status_of<R: AllocGlobal + Env + Files + io::Input + Threads + Wait + Sync, O
         Err(fault) => return report_command_fault(&fault, errors),
     };
     match run_command(rt, &command, out) {
-        Ok(()) => 0,
+        Ok(status) => status,
         Err(fault) => report_fault(&fault, errors),
     }
 }
@@ -82,12 +84,12 @@ fn place_not_utf8<R: AllocGlobal + Env>(rt: &R) -> Result<usize, AllocError> {
     Ok(0)
 }
 
-// Runs the command, whose text goes to `out`.
+// Runs the command, whose text goes to `out`, and answers the exit status.
 fn run_command<R: AllocGlobal + Files + io::Input + Threads + Wait + Sync, W: Write>(
     rt: &R,
     command: &Command<'_>,
     out: &mut Device<W>,
-) -> Result<(), Fault>
+) -> Result<u8, Fault>
     requires { out.old.failed ≡ false }
 {
     match command {
@@ -96,28 +98,40 @@ fn run_command<R: AllocGlobal + Files + io::Input + Threads + Wait + Sync, W: Wr
             feed,
             scenarios,
             workers,
-        } => plan(rt, airport, feed, *scenarios, *workers, out),
+        } => plan(rt, airport, feed, *scenarios, *workers, out)?,
         Command::Tabulate {
             airport,
             feed,
             scenarios,
             table,
             workers,
-        } => tabulate(rt, airport, feed, *scenarios, *table, *workers, out),
+        } => tabulate(rt, airport, feed, *scenarios, *table, *workers, out)?,
         Command::Live {
             airport,
             feed1,
             feed2,
-        } => live(rt, airport, feed1, feed2, out),
+        } => live(rt, airport, feed1, feed2, out)?,
+        Command::Draw {
+            airport,
+            feed,
+            scenarios,
+            workers,
+        } => draw(rt, airport, feed, *scenarios, *workers, out)?,
         Command::Ask {
             airport,
             feed,
             question,
-        } => ask(rt, airport, feed, *question, out),
+        } => ask(rt, airport, feed, *question, out)?,
+        Command::Check {
+            airport,
+            feed,
+            scenarios,
+        } => return check(rt, airport, feed, *scenarios, out),
         Command::Print(text) => {
-            write_text(out, text.as_bytes()).map_err(|fault: WriteFault| Fault::Run(fault.into()))
+            write_text(out, text.as_bytes()).map_err(|fault: WriteFault| Fault::Run(fault.into()))?
         }
     }
+    Ok(0)
 }
 
 // Opens a file, or takes standard input where that is its name. A fault is named as the input.
@@ -206,6 +220,33 @@ fn tabulate<R: AllocGlobal + Files + io::Input + Threads + Sync, W: Write>(
     Ok(())
 }
 
+// Draws the day and its scenarios.
+fn draw<R: AllocGlobal + Files + io::Input + Threads + Sync, W: Write>(
+    rt: &R,
+    airport: &str,
+    feed: &str,
+    scenarios: Option<&str>,
+    workers: Workers,
+    out: &mut Device<W>,
+) -> Result<(), Fault>
+    requires { out.old.failed ≡ false }
+{
+    let airport = open(rt, airport, Input::Airport)?;
+    let feed = open(rt, feed, Input::Feed)?;
+    let scenarios = open_scenarios(rt, scenarios)?;
+    run_picture(
+        rt,
+        rt.alloc(),
+        &mut Device::new(airport),
+        &mut Device::new(feed),
+        &mut Device::new(scenarios),
+        workers,
+        &OpenGate,
+        out,
+    )?;
+    Ok(())
+}
+
 // Writes the answer to a question of the day.
 fn ask<R: AllocGlobal + Files + io::Input + Threads + Sync, W: Write>(
     rt: &R,
@@ -254,4 +295,45 @@ fn live<R: AllocGlobal + Files + io::Input + Threads + Wait + Sync, W: Write>(
         out,
     )?;
     Ok(())
+}
+
+// Writes what is wrong with the files, and answers the exit status.
+fn check<R: AllocGlobal + Files + io::Input + Threads + Sync, W: Write>(
+    rt: &R,
+    airport: &str,
+    feed: &str,
+    scenarios: Option<&str>,
+    out: &mut Device<W>,
+) -> Result<u8, Fault>
+    requires { out.old.failed ≡ false }
+{
+    let alloc = rt.alloc();
+    let (airport_path, feed_path) = (shown_path(alloc, airport)?, shown_path(alloc, feed)?);
+    let scenario_path = shown_path(alloc, scenarios.unwrap_or_default())?;
+    let paths = FilePaths {
+        airport: &airport_path,
+        feed: &feed_path,
+        scenarios: scenarios.map(|_| scenario_path.as_str()),
+    };
+    let airport = open(rt, airport, Input::Airport)?;
+    let feed = open(rt, feed, Input::Feed)?;
+    let scenarios = open_scenarios(rt, scenarios)?;
+    let counts = run_check(
+        rt,
+        alloc,
+        paths,
+        &mut Device::new(airport),
+        &mut Device::new(feed),
+        &mut Device::new(scenarios),
+        Workers::new(1).unwrap(),
+        &OpenGate,
+        out,
+    )?;
+    Ok(check_status(&counts))
+}
+
+// A path as the lines of a check show it.
+fn shown_path(alloc: Global, path: &str) -> Result<String, AllocError> {
+    let path = PathText(path);
+    format!(in alloc; "{path}")
 }

@@ -148,6 +148,36 @@ fn scenarios_are_compared_or_printed_as_rows(rt: HostRuntime) {
     }
 }
 
+// Whether the words ask for the picture of the files a.csv, f.csv and s.csv, with two workers.
+fn is_picture(alloc: Global, words: &[&str]) -> bool {
+    let Some(workers) = Workers::new(2) else {
+        return false;
+    };
+    let wanted = Command::Draw {
+        airport: "a.csv",
+        feed: "f.csv",
+        scenarios: Some("s.csv"),
+        workers,
+    };
+    match command_of(alloc, words) {
+        Ok(command) => command == wanted,
+        Err(_) => false,
+    }
+}
+
+#[test]
+fn a_day_is_drawn_with_its_scenarios(rt: HostRuntime) {
+    let table = [
+        "picture a.csv f.csv --scenarios s.csv --workers 2",
+        "picture --workers=2 --scenarios=s.csv a.csv f.csv",
+    ];
+    for words in table {
+        let words = words.split(' ').collect::<Vec<&str>>(rt.alloc());
+        let words = words.expect(&rt, "words");
+        assert!(rt; is_picture(rt.alloc(), words.as_slice()), "{words:?}");
+    }
+}
+
 // Whether these words, with one space between two, are told to be wrong for this cause.
 fn is_wrong(alloc: Global, words: &str, cause: &str) -> bool {
     let Ok(words) = words.split(' ').collect::<Vec<&str>>(alloc) else {

@@ -13,8 +13,8 @@ AP,FLT,|AO,TOBT,|AP,STAND,|ATC,RWY,|NM,CTOT,|GH,ICE,|ATC,PRIO,|ATC,OFF,|ATC,AIR,
 ATC,RATE,|ATC,CLOSE,|ATC,OPEN,|ATC,TAXI,|ATC,CLOCK,|NM,TOL,|P  planned|O  off-block|A  airborne|\
 PLACED|DELAY|MAX|LATE|BLOCKED|FIELDS |ROLE |KIND |TEXT |RANGE |AUTHORITY |UNKNOWN |EXISTS |\
 ENDED |OFFBLOCK |ORDER |NOTREADY |FULL |TOBT     it|RUNWAY   it|EXOT     no|HORIZON  it|\
-CTOT     no|CLOSURE  all|RATE     those|0  done|1  a file|2  the words|3  a file|named -,|\
-FEED1 and FEED2|DESK     the|MOVED    how|scenario,flight,status,|WAIT     the|RATE     so many|RUNWAY   in load|two runs may print different texts";
+CTOT     no|CLOSURE  all|RATE     those|0  done|1  a file|2  the words|3  a file|4  check|named -,|\
+FEED1 and FEED2|DESK     the|MOVED    how|scenario,flight,status,|WAIT     the|RATE     so many|RUNWAY   in load|picture draws|two runs may print different texts";
 
 const ALL: &str = "Usage: cdmseq <COMMAND>";
 
@@ -26,7 +26,11 @@ const WHY: &str = "Usage: cdmseq why <AIRPORT> <FEED> <FLIGHT>";
 
 const LOAD: &str = "Usage: cdmseq load <AIRPORT> <FEED> [RUNWAY]";
 
+const PICTURE: &str = "Usage: cdmseq picture [OPTIONS] <AIRPORT> <FEED>";
+
 const LIVE: &str = "Usage: cdmseq live <AIRPORT> <FEED1> <FEED2>";
+
+const CHECK: &str = "Usage: cdmseq check [OPTIONS] <AIRPORT> <FEED>";
 
 const HELP: &str = "Usage: cdmseq help [COMMAND]";
 
@@ -59,7 +63,7 @@ fn prints_help(alloc: Global, words: &[&str], usage: &str) -> bool {
 
 #[test]
 fn help_of_a_command_is_a_screen(rt: HostRuntime) {
-    let table: [(&[&str], &str); 12] = [
+    let table: [(&[&str], &str); 13] = [
         (&["-h"], ALL),
         (&["--help"], ALL),
         (&["plan", "-h"], PLAN),
@@ -70,7 +74,9 @@ fn help_of_a_command_is_a_screen(rt: HostRuntime) {
         (&["help", "compare"], COMPARE),
         (&["help", "why"], WHY),
         (&["load", "--help"], LOAD),
+        (&["help", "picture"], PICTURE),
         (&["help", "live"], LIVE),
+        (&["help", "check"], CHECK),
         (&["help", "help"], HELP),
     ];
     for (words, usage) in table {

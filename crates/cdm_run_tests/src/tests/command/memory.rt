@@ -7,7 +7,10 @@ use std::alloc::Global;
 fn text_in<'a>(answer: &'a Result<Command<'_>, CommandFault>) -> &'a str {
     match answer {
         Ok(
-            Command::Plan { feed, .. } | Command::Tabulate { feed, .. } | Command::Ask { feed, .. },
+            Command::Plan { feed, .. }
+            | Command::Tabulate { feed, .. }
+            | Command::Draw { feed, .. }
+            | Command::Ask { feed, .. },
         ) => feed,
         Ok(Command::Live { feed2, .. }) => feed2,
         Ok(Command::Print(text)) | Err(CommandFault::Usage(text)) => text.as_str(),

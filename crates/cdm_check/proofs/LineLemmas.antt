@@ -1,0 +1,115 @@
+-- The lines of findings and of hints, one after another.
+use Rattle.std.proofs.Common.{◌≡◌, ◌≤◌, ◌<◌, ◌+◌, ◌∙◌, ◌++◌, ◌&&◌, ℕ, Bool, true, false, cond, List, [], ◌∷◌, length, take, drop, map, get_or, refl, sym, ap, subst, arith, filter, length-append, append_assoc, Result, Ok, Err}
+use Rattle.std.proofs.lemmas.Grind.{common_steps}
+use Rattle.std.proofs.lemmas.List.{append-nil, length-map, map_more, take-append-drop, take-append-le, take-map, take_all}
+use Rattle.std.proofs.lemmas.List.Elements.{All-append, All-cons, All-nil}
+use Rattle.std.proofs.lemmas.List.Folds.{concat-append, list_all-append}
+use Rattle.std.specs.List.{concat, list_all}
+use Rattle.cdm_phase.proofs.Values.{AllZip-append}
+use Rattle.cdm_flight.specs.declared.word.RefusalWord.{RefusalWord}
+use Rattle.cdm_check.specs.Check.{AreHintsOf, AreLinesOf, IsHintOf, IsLineOf, IsSentence, is_printable}
+use Rattle.cdm_check.specs.Findings.{Finding, fault_at, finding}
+
+-- Sentences.
+
+all-filter : (p : ℕ → Bool) (xs : List ℕ) → list_all p (filter p xs) ≡ true
+all-filter p [] = refl
+all-filter p (x ∷ xs) = at (p x) refl (all-filter p xs)
+  where
+    at : (b : Bool) → p x ≡ b → list_all p (filter p xs) ≡ true → list_all p (cond b (x ∷ filter p xs) (filter p xs)) ≡ true
+    at true is rest = rw (is, rest)
+    at false is rest = rest
+
+and_left : (a b : Bool) → (a && b) ≡ true → a ≡ true
+and_left true b h = refl
+and_left false b h = h
+
+all-take : (p : ℕ → Bool) (n : ℕ) (xs : List ℕ) → list_all p xs ≡ true → list_all p (take n xs) ≡ true
+all-take p n xs all =
+    and_left (list_all p (take n xs)) (list_all p (drop n xs)) (sym (list_all-append p (take n xs) (drop n xs)) ∙ ap (list_all p) (take-append-drop n xs) ∙ all)
+
+short-take : (n : ℕ) (xs : List ℕ) → length (take n xs) ≤ n
+short-take n xs = grind (arith, common_steps)
+
+-- the first printable bytes of a text are a sentence
+pub cut_sentence : (text : List ℕ) → IsSentence (take 160 (filter is_printable text))
+cut_sentence text =
+    let kept = filter is_printable text in
+    record { printable = all-take is_printable 160 kept (all-filter is_printable text); short = short-take 160 kept }
+
+-- Lines of findings.
+
+pub no_lines : AreLinesOf [] []
+no_lines = record { lines = []; each = tt; bytes = refl }
+
+pub one_line : (f : Finding) (text : List ℕ) → IsLineOf f text → AreLinesOf (f ∷ []) text
+one_line f text line = record { lines = text ∷ []; each = (line, tt); bytes = sym (append-nil text) }
+
+-- more lines behind others
+pub more_lines : (found also : List Finding) (x y : List ℕ) → AreLinesOf found x → AreLinesOf also y → AreLinesOf (found ++ also) (x ++ y)
+more_lines found also x y a b = record {
+  lines = a.lines ++ b.lines;
+  each = AllZip-append IsLineOf found also a.lines b.lines a.each b.each;
+  bytes = (λ i. a.bytes i ++ b.bytes i) ∙ sym (concat-append a.lines b.lines);
+}
+
+-- the line of the next refused record of a feed
+pub next_line : (path : List ℕ) (refused : List (ℕ × RefusalWord)) (i : ℕ) (d : ℕ × RefusalWord) (x line : List ℕ) → i < length refused
+    → AreLinesOf (map (finding path) (take i refused)) x → IsLineOf (finding path (get_or refused i d)) line
+    → AreLinesOf (map (finding path) (take (i + 1) refused)) (x ++ line)
+next_line path refused i d x line within so_far here =
+    let before = map (finding path) (take i refused) in
+    let longer : map (finding path) (take (i + 1) refused) ≡ before ++ finding path (get_or refused i d) ∷ [] = map_more (finding path) refused i d within in
+    subst (λ (found : List Finding). AreLinesOf found (x ++ line)) (sym longer) (more_lines _ _ _ _ so_far (one_line _ _ here))
+
+-- the lines of the first findings, where there is room for those behind the feed's
+pub with_room : (n : ℕ) (path : List ℕ) (refused : List (ℕ × RefusalWord)) (also : List Finding) (x y : List ℕ) → length refused < n → length also ≤ 1
+    → AreLinesOf (map (finding path) (take n refused)) x → AreLinesOf also y → AreLinesOf (take n (map (finding path) refused ++ also)) (x ++ y)
+with_room n path refused also x y room one told behind =
+    let feed = map (finding path) refused in
+    let front : take n refused ≡ refused = take_all n refused (omega arith) in
+    let count : length (feed ++ also) ≤ n = grind (arith, common_steps, room, one) in
+    let whole : take n (feed ++ also) ≡ feed ++ also = take_all n (feed ++ also) count in
+    let lines : AreLinesOf feed x = subst (λ (rs : List (ℕ × RefusalWord)). AreLinesOf (map (finding path) rs) x) front told in
+    subst (λ (found : List Finding). AreLinesOf found (x ++ y)) (sym whole) (more_lines _ _ _ _ lines behind)
+
+-- and where there is none
+pub without_room : (n : ℕ) (path : List ℕ) (refused : List (ℕ × RefusalWord)) (also : List Finding) (x : List ℕ) → n ≤ length refused
+    → AreLinesOf (map (finding path) (take n refused)) x → AreLinesOf (take n (map (finding path) refused ++ also)) x
+without_room n path refused also x full told =
+    let feed = map (finding path) refused in
+    let count : n ≤ length feed = grind (arith, common_steps, full) in
+    let front : take n (feed ++ also) ≡ map (finding path) (take n refused) = take-append-le n feed also count ∙ take-map (finding path) n refused in
+    subst (λ (found : List Finding). AreLinesOf found x) (sym front) told
+
+-- a file has one first faulty record at most
+pub one_fault : {S : Type 0} (path : List ℕ) (said : Result S (ℕ × RefusalWord)) → length (fault_at path said) ≤ 1
+one_fault path (Ok s) = omega arith
+one_fault path (Err fault) = omega arith
+
+-- how many findings there are in the feed and behind it
+pub counted : (path : List ℕ) (refused : List (ℕ × RefusalWord)) (also : List Finding) (m n : ℕ) → m ≡ length refused → n ≡ length also
+    → m + n ≡ length (map (finding path) refused ++ also)
+counted path refused also m n feed behind =
+    (λ i. feed i + behind i) ∙ sym (length-append (map (finding path) refused) also ∙ ap (λ (k : ℕ). k + length also) (length-map refused (finding path)))
+
+-- Hints.
+
+pub no_hints : (path : List ℕ) → AreHintsOf path []
+no_hints path = record { lines = []; each = All-nil (IsHintOf path); bytes = refl }
+
+-- one more hint
+pub next_hint : (path x line : List ℕ) → AreHintsOf path x → IsHintOf path line → AreHintsOf path (x ++ line)
+next_hint path x line so_far here =
+    let end : line ≡ line ++ [] = sym (append-nil line) in
+    record {
+      lines = so_far.lines ++ line ∷ [];
+      each = All-append (IsHintOf path) so_far.lines (line ∷ []) so_far.each (All-cons (IsHintOf path) line [] here (All-nil (IsHintOf path)));
+      bytes = (λ i. so_far.bytes i ++ end i) ∙ sym (concat-append so_far.lines (line ∷ []));
+    }
+
+-- The text.
+
+-- five parts, put together one after another
+pub parts : (v w x y z : List ℕ) → (((v ++ w) ++ x) ++ y) ++ z ≡ concat (v ∷ w ∷ x ∷ y ∷ z ∷ [])
+parts v w x y z = simp (append_assoc, append-nil)

@@ -1,0 +1,7 @@
+use Rattle.std.proofs.Common.{[], sym, subst}
+use Rattle.cdm_check.specs.Check.{AreLinesOf}
+use Rattle.cdm_check.proofs.LineLemmas.{no_lines}
+use Rattle.cdm_check.proofs.check_run.no_lines.Goals as goal
+
+pub returns-clause-lines : goal.returns-clause-lines
+returns-clause-lines c = subst (AreLinesOf []) (sym c.new.ensures.items) no_lines

@@ -1,0 +1,58 @@
+use Rattle.std.proofs.Common.{◌≡◌, ◌≤◌, ◌<◌, ◌∙◌, ◌++◌, ℕ, List, [], Vec, Global, length, map, take, unwrap_or, sym, ap, subst, arith}
+use Rattle.std.specs.Option.{option_copied}
+use Rattle.cdm_flight.specs.Journal.{AirportRows}
+use Rattle.cdm_flight.specs.declared.word.RefusalWord.{RefusalWord}
+use Rattle.cdm_plan.specs.Day.{DayRecord}
+use Rattle.cdm_feed.specs.Output.{refusals_in}
+use Rattle.cdm_feed.specs.ScenarioFile.{scenarios_in}
+use Rattle.cdm_check.specs.Check.{AreLinesOf}
+use Rattle.cdm_check.specs.Findings.{fault_at, finding}
+use Rattle.cdm_check.proofs.LineLemmas.{counted, one_fault, with_room, without_room}
+use Rattle.cdm_check.proofs.check_run.told_of_day.Goals.{then-len-lt-MOST_TOLD+in_ok-extend_from_slice, else-len-lt-MOST_TOLD}
+use Rattle.cdm_check.proofs.check_run.told_of_day.Goals as goal
+
+pub returns-clause-lines : goal.returns-clause-lines
+returns-clause-lines g c =
+    let path = c.args.paths.feed.now in
+    let behind_path = unwrap_or (option_copied c.args.paths.scenarios) [] in
+    let refused = refusals_in c.args.airport c.args.feed.now in
+    let said = scenarios_in c.args.airport.day c.args.scenarios.now in
+    let lines = c.in_ok-lines.lines.items in
+    let behind = c.in_ok-scenario.scenario.lines.items in
+    let is : c.in_ok-judged.judged.refused.items ≡ refused = c.in_ok-judged.ensures.refused in
+    let first : c.first_of.result.now ≡ take 1000 refused = c.first_of.ensures ∙ ap (λ (rs : List (ℕ × RefusalWord)). take 1000 rs) (c.deref.ensures.value ∙ is) in
+    let told : AreLinesOf (map (finding path) (take 1000 refused)) lines =
+    subst (λ (rs : List (ℕ × RefusalWord)). AreLinesOf (map (finding path) rs) lines) first c.in_ok-lines.ensures in
+    let same : c.airport-airport.result.now ≡ c.args.airport = c.airport-airport.ensures ∙ ap (λ (s : DayRecord). s.airport) c.in_ok-judged.ensures.state in
+    let also : AreLinesOf (fault_at behind_path said) behind =
+    subst (λ (rows : AirportRows). AreLinesOf (fault_at behind_path (scenarios_in rows.day c.args.scenarios.now)) behind) same
+    (subst (λ (p : List ℕ). AreLinesOf (fault_at p (scenarios_in c.airport-airport.result.now.day c.args.scenarios.now)) behind) c.scenario_path.ensures c.in_ok-scenario.ensures.lines) in
+    let count : c.len.result ≡ length refused =
+    c.len.ensures ∙ sym c.deref.ensures.len ∙ ap (λ (rs : List (ℕ × RefusalWord)). length rs) (c.deref.ensures.value ∙ is) in
+    let Told : List ℕ → Type 0 = λ text. AreLinesOf (take 1000 (map (finding path) refused ++ fault_at behind_path said)) text in
+    elim c.if-len-lt-MOST_TOLD.branch [
+      | then-len-lt-MOST_TOLD+in_ok-extend_from_slice w ↦
+          let room : length refused < 1000 = omega (arith, count, w.if-len-lt-MOST_TOLD.true) in
+          let longer = ap (λ (v : Vec ℕ Global). v.items) w.lines-is ∙ w.in_ok-extend_from_slice.ensures.items
+          ∙ ap (λ (x : List ℕ). lines ++ x) w.deref-then-len-lt-MOST_TOLD.ensures.value in
+          subst Told (sym longer) (with_room 1000 path refused (fault_at behind_path said) lines behind room (one_fault behind_path said) told also)
+      | else-len-lt-MOST_TOLD w ↦
+          let full : 1000 ≤ length refused = omega (arith, count, w.if-len-lt-MOST_TOLD.false) in
+          let kept = ap (λ (v : Vec ℕ Global). v.items) w.lines-is in
+          subst Told (sym kept) (without_room 1000 path refused (fault_at behind_path said) lines full told)
+    ]
+
+pub returns-clause-refused : goal.returns-clause-refused
+returns-clause-refused g c =
+    let path = c.args.paths.feed.now in
+    let behind_path = unwrap_or (option_copied c.args.paths.scenarios) [] in
+    let refused = refusals_in c.args.airport c.args.feed.now in
+    let said = scenarios_in c.args.airport.day c.args.scenarios.now in
+    let count : c.len-2.result ≡ length refused =
+    c.len-2.ensures ∙ sym c.deref.ensures.len ∙ ap (λ (rs : List (ℕ × RefusalWord)). length rs) (c.deref.ensures.value ∙ c.in_ok-judged.ensures.refused) in
+    let same : c.airport-airport.result.now ≡ c.args.airport = c.airport-airport.ensures ∙ ap (λ (s : DayRecord). s.airport) c.in_ok-judged.ensures.state in
+    let n = c.in_ok-scenario.scenario.refused in
+    let also : n ≡ length (fault_at behind_path said) =
+    subst (λ (rows : AirportRows). n ≡ length (fault_at behind_path (scenarios_in rows.day c.args.scenarios.now))) same
+    (subst (λ (p : List ℕ). n ≡ length (fault_at p (scenarios_in c.airport-airport.result.now.day c.args.scenarios.now))) c.scenario_path.ensures c.in_ok-scenario.ensures.refused) in
+    counted path refused (fault_at behind_path said) c.len-2.result n count also

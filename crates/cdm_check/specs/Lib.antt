@@ -1,0 +1,4 @@
+pub mod Findings
+pub mod Check
+pub mod CheckFaults
+pub mod Paths

@@ -1,0 +1,371 @@
+//! Why an update of the feed is refused that is right in itself: what is known before it says so.
+
+ghost use Rattle.std.specs.Prelude.{◌<◌, IfSome};
+
+use crate::fields::{field_at, kind_of};
+use crate::kinds::{FileKind, UPDATE_KINDS};
+use crate::known::{Ending, Known, KnownFlight};
+use crate::shown::shown;
+use crate::times::{ClockText, TimeText};
+use cdm_day::Airport;
+use cdm_flight::{FlightName, Place, Reach, RefusalWord, RunwayName, RunwayRow, Update};
+use cdm_time::{Bound, Minute};
+use csv::ByteRecord;
+use std::alloc::{AllocError, Global};
+use std::fmt::Write;
+use std::str;
+
+/// What there is before a record of a feed.
+#[derive(Clone, Copy)]
+pub(crate) struct Before<'a> {
+    /// The airport.
+    pub airport: &'a Airport,
+    /// What the accepted records say.
+    pub known: &'a Known,
+}
+
+// The flight of an update, if it is one of a flight.
+fn flight_of(update: &Update) -> Option<FlightName> {
+    match update.reach() {
+        Reach::Flight(flight) => Some(flight),
+        _ => None,
+    }
+}
+
+// The runway of an update, if it has one.
+fn runway_of(update: &Update) -> Option<RunwayName> {
+    match *update {
+        Update::Rwy { runway, .. }
+        | Update::Rate { runway, .. }
+        | Update::Close { runway, .. }
+        | Update::Reopen { runway, .. }
+        | Update::Taxi { runway, .. } => Some(runway),
+        _ => None,
+    }
+}
+
+/// Why an update is refused by this word, which is one of Authority to Full.
+pub(crate) fn cause_of_day(
+    alloc: Global,
+    before: Before<'_>,
+    row: &ByteRecord,
+    update: &Update,
+    word: RefusalWord,
+) -> Result<String, AllocError> {
+    match word {
+        RefusalWord::Authority => authority(alloc, row),
+        RefusalWord::Unknown => unknown(alloc, before, update),
+        RefusalWord::Exists => exists(alloc, before, update),
+        RefusalWord::Ended => ended(alloc, before, update),
+        RefusalWord::OffBlock => off_block(alloc, before, update),
+        RefusalWord::Order => order(alloc, before, row, update),
+        RefusalWord::NotReady => not_ready(alloc, before, update),
+        _ => full(alloc, before, update),
+    }
+}
+
+// `a` or `an`, as the word needs it.
+fn article_of(word: &str) -> &'static str {
+    match word.as_bytes().first() {
+        Some(b'A' | b'E' | b'I' | b'O' | b'U') => "an",
+        _ => "a",
+    }
+}
+
+// A role may not make this kind of update: who may, and what it may do.
+fn authority(alloc: Global, row: &ByteRecord) -> Result<String, AllocError> {
+    let mut text = String::new(alloc);
+    if let Some(kind) = kind_of(FileKind::Feed, row) {
+        let (article, word) = (article_of(kind.word), kind.word);
+        write!(text, "{article} {word} is set by ")?;
+        push_all(&mut text, kind.roles, " or ")?;
+    }
+    let role = field_at(row, 0);
+    text.push_str("; ")?;
+    text.push_str(str::from_utf8(role).unwrap_or_default())?;
+    text.push_str(" may set ")?;
+    push_kinds_of(&mut text, role)?;
+    Ok(text)
+}
+
+// Puts the words behind the text, with `between` between them.
+fn push_all(text: &mut String, words: &[&str], between: &str) -> Result<(), AllocError> {
+    let mut first = true;
+    for word in words {
+        if !first {
+            text.push_str(between)?;
+        }
+        text.push_str(word)?;
+        first = false;
+    }
+    Ok(())
+}
+
+// Puts the kinds of updates that a role may make behind the text.
+fn push_kinds_of(text: &mut String, role: &[u8]) -> Result<(), AllocError> {
+    let mut first = true;
+    for kind in UPDATE_KINDS {
+        if kind.roles.iter().any(|word| word.as_bytes() == role) {
+            if !first {
+                text.push_str(", ")?;
+            }
+            text.push_str(kind.word)?;
+            first = false;
+        }
+    }
+    Ok(())
+}
+
+/// Puts the names of runways behind the text, or `none`.
+pub(crate) fn push_runways(text: &mut String, runways: &[RunwayRow]) -> Result<(), AllocError> {
+    if runways.is_empty() {
+        text.push_str("none")?;
+    }
+    let mut first = true;
+    for runway in runways {
+        if !first {
+            text.push_str(", ")?;
+        }
+        text.push_str(runway.name.text())?;
+        first = false;
+    }
+    Ok(())
+}
+
+// The flight or the runway isn't known.
+fn unknown(alloc: Global, before: Before<'_>, update: &Update) -> Result<String, AllocError> {
+    if let Some(flight) = flight_of(update) {
+        if before.known.flight(flight).is_none() {
+            let name = flight.text();
+            return format!(in alloc; "{name} has no FLT that was accepted before this record");
+        }
+    }
+    let mut text = String::new(alloc);
+    if let Some(runway) = runway_of(update) {
+        let name = runway.text();
+        write!(text, "no RUNWAY {name} in the airport file; there is ")?;
+    }
+    push_runways(&mut text, before.airport.runways())?;
+    Ok(text)
+}
+
+// What is known of the update's flight.
+fn known_flight(before: Before<'_>, update: &Update) -> Option<(FlightName, KnownFlight)> {
+    let name = flight_of(update)?;
+    let flight = before.known.flight(name)?;
+    Some((name, flight))
+}
+
+// The flight is known already.
+fn exists(alloc: Global, before: Before<'_>, update: &Update) -> Result<String, AllocError> {
+    let Some((name, flight)) = known_flight(before, update) else {
+        return String::from_str(alloc, "the flight is known");
+    };
+    let (name, since) = (name.text(), flight.since);
+    format!(in alloc; "{name} is known since record {since}")
+}
+
+// The flight is airborne or cancelled.
+fn ended(alloc: Global, before: Before<'_>, update: &Update) -> Result<String, AllocError> {
+    let Some((name, flight)) = known_flight(before, update) else {
+        return String::from_str(alloc, "the flight has left");
+    };
+    let name = name.text();
+    match flight.ended {
+        Some((number, Ending::Cancelled)) => {
+            format!(in alloc; "{name} is cancelled since record {number}")
+        }
+        Some((number, Ending::Airborne)) => {
+            format!(in alloc; "{name} is airborne since record {number}")
+        }
+        None => format!(in alloc; "{name} has left"),
+    }
+}
+
+// The flight is off-block.
+fn off_block(alloc: Global, before: Before<'_>, update: &Update) -> Result<String, AllocError> {
+    let Some((name, flight)) = known_flight(before, update) else {
+        return String::from_str(alloc, "the flight is off-block; only AIR may follow");
+    };
+    let name = name.text();
+    match flight.off {
+        Some((number, _)) => {
+            format!(in alloc; "{name} is off-block since record {number}; only AIR may follow")
+        }
+        None => format!(in alloc; "{name} is off-block; only AIR may follow"),
+    }
+}
+
+// Times are out of order, or off the runway's cells.
+fn order(
+    alloc: Global,
+    before: Before<'_>,
+    row: &ByteRecord,
+    update: &Update,
+) -> Result<String, AllocError> {
+    match *update {
+        Update::Clock { .. } => clock_back(alloc, before),
+        Update::Air { atot, .. } => air_order(alloc, before, update, atot),
+        Update::Close { .. } | Update::Reopen { .. } => empty_window(alloc, row),
+        Update::Rate { from, to, .. } if from.get() >= to.get() => empty_window(alloc, row),
+        Update::Rate {
+            runway,
+            from,
+            to,
+            ..
+        } => off_cells(alloc, before, runway, from, to),
+        _ => String::from_str(alloc, "times are out of order"),
+    }
+}
+
+// The clock goes back.
+fn clock_back(alloc: Global, before: Before<'_>) -> Result<String, AllocError> {
+    let Some((number, minute)) = before.known.clock else {
+        return String::from_str(alloc, "the clock can't go back");
+    };
+    let day = *before.airport.day();
+    let time = TimeText { day, minute };
+    format!(in alloc; "the clock can't go back; it is {time} since record {number}")
+}
+
+// A window without a minute, which the fourth field begins and the fifth ends.
+fn empty_window(alloc: Global, row: &ByteRecord) -> Result<String, AllocError> {
+    let from = str::from_utf8(field_at(row, 3)).unwrap_or_default();
+    let to = str::from_utf8(field_at(row, 4)).unwrap_or_default();
+    format!(in alloc; "the window is empty: its end {to} isn't after its begin {from}")
+}
+
+// A rate with an end off the runway's cells.
+fn off_cells(
+    alloc: Global,
+    before: Before<'_>,
+    runway: RunwayName,
+    from: Minute,
+    to: Bound,
+) -> Result<String, AllocError> {
+    let name = runway.text();
+    let Some(cell) = cell_of(before.airport.runways(), runway) else {
+        return format!(in alloc; "an end of the window is within a cell of {name}");
+    };
+    let minute = if from.get() % cell != 0 {
+        from.get()
+    } else {
+        to.get()
+    };
+    let time = ClockText(minute);
+    format!(in alloc; "{time} is no multiple of the {cell}-minute cells of {name}")
+}
+
+// The length of the cells of a runway.
+fn cell_of(runways: &[RunwayRow], name: RunwayName) -> Option<u16>
+    ensures { IfSome result (λ cell. 0 < cell) }
+{
+    let row = runways.iter().find(|row| row.name == name)?;
+    Some(row.cell.get())
+}
+
+// An AIR before its OFF, or before the AOBT.
+fn air_order(
+    alloc: Global,
+    before: Before<'_>,
+    update: &Update,
+    atot: Minute,
+) -> Result<String, AllocError> {
+    let Some((name, flight)) = known_flight(before, update) else {
+        return String::from_str(alloc, "OFF comes before AIR");
+    };
+    let name = name.text();
+    let Some((number, minute)) = flight.off else {
+        return format!(in alloc; "{name} isn't off-block: its OFF comes before AIR");
+    };
+    let day = *before.airport.day();
+    let (atot, aobt) = (TimeText { day, minute: atot }, TimeText { day, minute });
+    format!(in alloc; "{atot} is before {aobt}, the AOBT of {name} in record {number}")
+}
+
+// The flight can't leave its stand.
+fn not_ready(alloc: Global, before: Before<'_>, update: &Update) -> Result<String, AllocError> {
+    let Some((name, flight)) = known_flight(before, update) else {
+        return String::from_str(alloc, "the flight isn't ready");
+    };
+    let name = name.text();
+    let Some(runway) = flight.runway else {
+        return format!(in alloc; "{name} has no runway; RWY comes before OFF");
+    };
+    let Some(exot) = exot_of(before, &flight, runway) else {
+        return no_taxi_time(alloc, name, &flight, runway);
+    };
+    match *update {
+        Update::Off { aobt, .. } => {
+            let day = *before.airport.day();
+            let time = TimeText { day, minute: aobt };
+            format!(in alloc; "AOBT {time} and EXOT {exot} are past the end of the second day")
+        }
+        _ => String::from_str(alloc, "the flight isn't ready"),
+    }
+}
+
+// No taxi time is known for a flight with this runway.
+fn no_taxi_time(
+    alloc: Global,
+    name: &str,
+    flight: &KnownFlight,
+    runway: RunwayName,
+) -> Result<String, AllocError> {
+    let runway = runway.text();
+    match flight.stand {
+        Some(stand) => {
+            let stand = stand.text();
+            format!(in alloc;
+                "no taxi time from {stand} to {runway} is known, and none from * for all stands"
+            )
+        }
+        None => {
+            format!(in alloc; "{name} has no stand, and no taxi time from * to {runway} is known")
+        }
+    }
+}
+
+// The taxi-out time of a flight on its runway, if one is known.
+fn exot_of(before: Before<'_>, flight: &KnownFlight, runway: RunwayName) -> Option<u16> {
+    let own = match flight.stand {
+        Some(stand) => taxi_of(before, Place::Stand(stand), runway),
+        None => None,
+    };
+    let taxi = own.or(taxi_of(before, Place::Default, runway))?;
+    Some(taxi.saturating_add(flight.remote))
+}
+
+// The taxi time from a place to a runway, of the feed or else of the airport file.
+fn taxi_of(before: Before<'_>, place: Place, runway: RunwayName) -> Option<u16> {
+    if let Some(minutes) = before.known.taxi(&place, &runway) {
+        return Some(minutes.get());
+    }
+    let minutes = before.airport.taxi().minutes(place, runway)?;
+    Some(minutes.get())
+}
+
+/// How many updates a day accepts.
+const MOST_UPDATES: usize = 20_000;
+
+// There is no more room.
+fn full(alloc: Global, before: Before<'_>, update: &Update) -> Result<String, AllocError> {
+    if before.known.accepted >= MOST_UPDATES {
+        return String::from_str(
+            alloc,
+            "20,000 updates were accepted before, which is the most of a day",
+        );
+    }
+    match *update {
+        Update::Taxi {
+            place: Place::Stand(stand),
+            ..
+        } => {
+            let stand = stand.text();
+            format!(in alloc;
+                "400 stands have taxi times, which is the most, and {stand} is none of them"
+            )
+        }
+        _ => String::from_str(alloc, "2,000 flights are known, which is the most of a day"),
+    }
+}

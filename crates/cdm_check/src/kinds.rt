@@ -1,0 +1,196 @@
+//! The kinds of records of each file.
+ghost use Rattle.std.specs.Prelude.{◌≤◌};
+
+use crate::forms::Form;
+
+/// The files of a check.
+#[derive(Clone, Copy, PartialEq, Eq, Debug)]
+pub(crate) enum FileKind {
+    /// An airport file.
+    Airport,
+    /// A feed.
+    Feed,
+    /// A scenario file.
+    Scenarios,
+}
+
+/// A kind of records.
+#[derive(Clone, Copy, Debug)]
+pub(crate) struct Kind {
+    /// The word of the kind.
+    pub word: &'static str,
+    /// The names of the fields that follow it.
+    pub names: &'static str,
+    /// What these fields hold.
+    pub forms: &'static [Form],
+    /// The words of the roles that may make it; there are none in an airport file.
+    pub roles: &'static [&'static str],
+}
+
+/// The kinds of an airport file.
+const AIRPORT_KINDS: &[Kind] = &[
+    Kind {
+        word: "DAY",
+        names: "day",
+        forms: &[Form::Day],
+        roles: &[],
+    },
+    Kind {
+        word: "RUNWAY",
+        names: "runway, cell, cap",
+        forms: &[Form::Runway, Form::Cell, Form::Cap],
+        roles: &[],
+    },
+    Kind {
+        word: "SPACE",
+        names: "runway, group, minutes",
+        forms: &[Form::Runway, Form::Group, Form::Occupancy],
+        roles: &[],
+    },
+    Kind {
+        word: "TAXI",
+        names: "stand, runway, minutes",
+        forms: &[Form::Place, Form::Runway, Form::TaxiMinutes],
+        roles: &[],
+    },
+];
+
+/// The kind of a scenario file that begins a scenario.
+const SCENARIO: Kind = Kind {
+    word: "SCENARIO",
+    names: "name",
+    forms: &[Form::ScenarioName],
+    roles: &[],
+};
+
+/// The kinds of updates, in a feed and in a scenario.
+pub(crate) const UPDATE_KINDS: &[Kind] = &[
+    Kind {
+        word: "AIR",
+        names: "flight, time",
+        forms: &[Form::Flight, Form::Time],
+        roles: &["ATC"],
+    },
+    Kind {
+        word: "CLOCK",
+        names: "time",
+        forms: &[Form::Time],
+        roles: &["ATC"],
+    },
+    Kind {
+        word: "CLOSE",
+        names: "runway, from, to",
+        forms: &[Form::Runway, Form::Time, Form::Bound],
+        roles: &["ATC"],
+    },
+    Kind {
+        word: "CNL",
+        names: "flight",
+        forms: &[Form::Flight],
+        roles: &["AO"],
+    },
+    Kind {
+        word: "CTOT",
+        names: "flight, time",
+        forms: &[Form::Flight, Form::Ctot],
+        roles: &["NM"],
+    },
+    Kind {
+        word: "FLT",
+        names: "flight, priority",
+        forms: &[Form::Flight, Form::Priority],
+        roles: &["AP"],
+    },
+    Kind {
+        word: "GROUP",
+        names: "flight, group",
+        forms: &[Form::Flight, Form::Group],
+        roles: &["AP"],
+    },
+    Kind {
+        word: "ICE",
+        names: "flight, kind, minutes",
+        forms: &[Form::Flight, Form::IceKind, Form::IceMinutes],
+        roles: &["GH"],
+    },
+    Kind {
+        word: "OFF",
+        names: "flight, time",
+        forms: &[Form::Flight, Form::Time],
+        roles: &["ATC"],
+    },
+    Kind {
+        word: "OPEN",
+        names: "runway, from, to",
+        forms: &[Form::Runway, Form::Time, Form::Bound],
+        roles: &["ATC"],
+    },
+    Kind {
+        word: "PRIO",
+        names: "flight, priority",
+        forms: &[Form::Flight, Form::Priority],
+        roles: &["ATC"],
+    },
+    Kind {
+        word: "RATE",
+        names: "runway, from, to, cap",
+        forms: &[Form::Runway, Form::Time, Form::Bound, Form::Cap],
+        roles: &["ATC"],
+    },
+    Kind {
+        word: "RWY",
+        names: "flight, runway",
+        forms: &[Form::Flight, Form::Runway],
+        roles: &["ATC"],
+    },
+    Kind {
+        word: "STAND",
+        names: "flight, stand",
+        forms: &[Form::Flight, Form::Stand],
+        roles: &["AP"],
+    },
+    Kind {
+        word: "TAXI",
+        names: "stand, runway, minutes",
+        forms: &[Form::Place, Form::Runway, Form::TaxiMinutes],
+        roles: &["ATC"],
+    },
+    Kind {
+        word: "TOBT",
+        names: "flight, time",
+        forms: &[Form::Flight, Form::Time],
+        roles: &["AO", "GH"],
+    },
+    Kind {
+        word: "TOL",
+        names: "before, after",
+        forms: &[Form::Before, Form::After],
+        roles: &["NM"],
+    },
+];
+
+impl FileKind {
+    /// The place of the kind in a record, counted from 0: behind the role, where there is one.
+    pub fn kind_place(self) -> usize
+        ensures { result ≤ 1 }
+    {
+        match self {
+            FileKind::Feed => 1,
+            FileKind::Airport | FileKind::Scenarios => 0,
+        }
+    }
+
+    /// The kind of records of the file that a field names.
+    pub fn kind_of(self, text: &[u8]) -> Option<Kind> {
+        let kinds = match self {
+            FileKind::Airport => AIRPORT_KINDS,
+            FileKind::Feed => UPDATE_KINDS,
+            FileKind::Scenarios if text == SCENARIO.word.as_bytes() => return Some(SCENARIO),
+            FileKind::Scenarios => UPDATE_KINDS,
+        };
+        kinds
+            .iter()
+            .find(|kind| kind.word.as_bytes() == text)
+            .copied()
+    }
+}

@@ -1,0 +1,26 @@
+//! The check of files: each refused record by its line, its word and a sentence that says what is wrong,
+//! and hints on whole files.
+#![tactic(auto)]
+
+mod airport_words;
+mod check_run;
+mod counts;
+mod day_words;
+mod fields;
+mod forms;
+mod hints;
+mod kinds;
+mod known;
+mod lines;
+mod paths;
+mod place;
+mod quotes;
+mod record_words;
+mod scenario_words;
+mod shown;
+mod times;
+mod walk;
+
+pub use check_run::run_check;
+pub use counts::CheckCounts;
+pub use paths::FilePaths;

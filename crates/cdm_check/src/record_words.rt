@@ -1,0 +1,178 @@
+//! Why a record is refused that is wrong in itself: by Fields, Role, Kind, Text or Range.
+
+use crate::fields::{Field, faulty_field, field_at, kind_of};
+use crate::forms::Form;
+use crate::kinds::{FileKind, Kind, UPDATE_KINDS};
+use crate::shown::{shown, trimmed, where_spaces_are};
+use cdm_feed::role_of;
+use cdm_flight::RefusalWord;
+use cdm_time::Day;
+use csv::ByteRecord;
+use std::alloc::{AllocError, Global};
+use std::fmt::Write;
+use std::str;
+
+/// Why a record of the file is refused by this word, which is one of Fields, Role, Kind, Text and Range.
+pub(crate) fn cause_in_record(
+    alloc: Global,
+    file: FileKind,
+    day: Day,
+    row: &ByteRecord,
+    word: RefusalWord,
+) -> Result<String, AllocError> {
+    let kind = kind_of(file, row);
+    match (word, kind) {
+        (RefusalWord::Fields, Some(kind)) => wrong_count(alloc, file, kind, row),
+        (RefusalWord::Fields, None) => too_few(alloc, row),
+        (RefusalWord::Role, _) => wrong_role(alloc, day, row),
+        (RefusalWord::Text | RefusalWord::Range, Some(kind)) => {
+            match faulty_field(file, kind, day, row, word) {
+                Some(field) if word == RefusalWord::Text => wrong_text(alloc, day, field),
+                Some(field) => wrong_range(alloc, day, field),
+                None => String::from_str(alloc, "a field is wrong"),
+            }
+        }
+        _ => wrong_kind(alloc, file, day, row),
+    }
+}
+
+// A record of the feed that ends before its kind.
+fn too_few(alloc: Global, row: &ByteRecord) -> Result<String, AllocError> {
+    let field = shown(alloc, field_at(row, 0))?;
+    format!(in alloc;
+        "1 field, {field}: a record has a role, a kind and its fields, with commas between them"
+    )
+}
+
+// A record of a known kind that has another number of fields.
+fn wrong_count(
+    alloc: Global,
+    file: FileKind,
+    kind: Kind,
+    row: &ByteRecord,
+) -> Result<String, AllocError> {
+    let (word, names) = (kind.word, kind.names);
+    let role = if file == FileKind::Feed { "role, " } else { "" };
+    let here = row.len();
+    let are = if here == 1 { "is" } else { "are" };
+    let wanted = kind
+        .forms
+        .len()
+        .saturating_add(file.kind_place())
+        .saturating_add(1);
+    let mut text = format!(in alloc;
+        "{word} has {wanted} fields: {role}{word}, {names}; here {are} {here}"
+    )?;
+    let last = here.saturating_sub(1);
+    if here > wanted && field_at(row, last).is_empty() {
+        text.push_str(", the last one empty: remove the comma at the end")?;
+    }
+    Ok(text)
+}
+
+// A field that has another form as it should be written, if spaces or small letters are what is wrong with it.
+fn mended(alloc: Global, day: Day, field: Field<'_>) -> Result<Option<String>, AllocError> {
+    let bare = trimmed(field.text);
+    let spaces = where_spaces_are(field.text);
+    if bare.len() < field.text.len() && has_form(day, field.form, bare) {
+        let bare = shown(alloc, bare)?;
+        return Ok(Some(format!(in alloc; "remove {spaces} {bare}")?));
+    }
+    let capitals = bare.to_ascii_uppercase(alloc)?;
+    if !has_form(day, field.form, &capitals) {
+        return Ok(None);
+    }
+    let written = str::from_utf8(&capitals).unwrap_or_default();
+    if bare.len() < field.text.len() {
+        Ok(Some(format!(in alloc; "write {written} in capitals, and remove {spaces} it")?))
+    } else {
+        Ok(Some(format!(in alloc; "write {written} in capitals")?))
+    }
+}
+
+// Whether a text has the form, in its range or not.
+fn has_form(day: Day, form: Form, text: &[u8]) -> bool {
+    form.fault(day, text) != Some(RefusalWord::Text)
+}
+
+// A field that hasn't its form.
+fn wrong_text(alloc: Global, day: Day, field: Field<'_>) -> Result<String, AllocError> {
+    let number = field.number;
+    let here = shown(alloc, field.text)?;
+    if let Some(mended) = mended(alloc, day, field)? {
+        return format!(in alloc; "field {number} {here}: {mended}");
+    }
+    if field.form.is_no_date(field.text) {
+        return format!(in alloc;
+            "field {number} {here}: the calendar has no such day, or the day no such time"
+        );
+    }
+    let wanted = field.form.wanted(alloc, day)?;
+    format!(in alloc; "field {number} {here}: {wanted}")
+}
+
+// A field that is out of its range.
+fn wrong_range(alloc: Global, day: Day, field: Field<'_>) -> Result<String, AllocError> {
+    let number = field.number;
+    let here = shown(alloc, field.text)?;
+    let range = field.form.range(alloc, day)?;
+    format!(in alloc; "field {number} {here}: {range}")
+}
+
+// A first field of a feed's record that is no role.
+fn wrong_role(alloc: Global, day: Day, row: &ByteRecord) -> Result<String, AllocError> {
+    let text = field_at(row, 0);
+    if FileKind::Feed.kind_of(text).is_some() {
+        let here = shown(alloc, text)?;
+        return format!(in alloc;
+            "field 1 {here} is a kind: before it stands the role, AO, GH, AP, ATC or NM"
+        );
+    }
+    let form = Form::Role;
+    wrong_text(
+        alloc,
+        day,
+        Field {
+            number: 1,
+            form,
+            text,
+        },
+    )
+}
+
+// A record whose kind isn't one of its file's.
+fn wrong_kind(
+    alloc: Global,
+    file: FileKind,
+    day: Day,
+    row: &ByteRecord,
+) -> Result<String, AllocError> {
+    let place = file.kind_place();
+    let text = field_at(row, place);
+    let number = place + 1;
+    let form = Form::Kind(file);
+    let field = Field { number, form, text };
+    let here = shown(alloc, text)?;
+    if file == FileKind::Airport {
+        return wrong_text(alloc, day, field);
+    }
+    if let Some(mended) = mended(alloc, day, field)? {
+        return format!(in alloc; "field {number} {here}: {mended}");
+    }
+    if file == FileKind::Scenarios && role_of(text).is_some() {
+        return format!(in alloc;
+            "field 1 {here} is a role: an update of a scenario has none, and begins with its kind"
+        );
+    }
+    let first = if file == FileKind::Scenarios {
+        " SCENARIO"
+    } else {
+        ""
+    };
+    let mut sentence = format!(in alloc; "field {number} {here} is none of{first}")?;
+    for kind in UPDATE_KINDS {
+        let word = kind.word;
+        write!(sentence, " {word}")?;
+    }
+    Ok(sentence)
+}

@@ -1,0 +1,2 @@
+mod SceneLemmas
+mod SpanLemmas

@@ -1,0 +1,12 @@
+-- Scenarios and what comes of them, place by place.
+use Rattle.std.proofs.Common.{◌≡◌, ℕ, List, Some}
+use Rattle.std.specs.List.{AllZip, slice_get}
+use Rattle.std.specs.Option.{IsSomeAnd}
+use Rattle.std.proofs.lemmas.Slice.Zip.{AllZip-left}
+
+-- what holds place by place holds of the items of a place
+pub zip_at : {A B : Type 0} (R : A → B → Type 0) (xs : List A) (ys : List B) (k : ℕ) (x : A) (y : B) → AllZip R xs ys
+    → slice_get xs k ≡ Some x → slice_get ys k ≡ Some y → R x y
+zip_at R xs ys k x y all first second =
+    let here : IsSomeAnd (slice_get ys k) (R x) = rw first at (AllZip-left R xs ys all k) in
+    rw second at here

@@ -1,0 +1,8 @@
+use Rattle.std.proofs.Common.{◌≡◌, ◌++◌, take}
+use Rattle.std.specs.Prelude.{flat_map}
+use Rattle.std.specs.String.{string_bytes}
+use Rattle.cdm_picture.specs.Svg.{flight_text}
+use Rattle.cdm_picture.proofs.svg.push_flights.Given as goal
+
+abbrev pub invariant-loop-flight : goal.invariant-loop-flight
+invariant-loop-flight l = string_bytes l.text ≡ string_bytes l.initial.text ++ flat_map (flight_text l.day) (take l.flight-index l.flights)

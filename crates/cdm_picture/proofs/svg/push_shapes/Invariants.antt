@@ -1,0 +1,8 @@
+use Rattle.std.proofs.Common.{◌≡◌, ◌++◌, take}
+use Rattle.std.specs.Prelude.{flat_map}
+use Rattle.std.specs.String.{string_bytes}
+use Rattle.cdm_picture.specs.Svg.{shape_text}
+use Rattle.cdm_picture.proofs.svg.push_shapes.Given as goal
+
+abbrev pub invariant-loop-shape : goal.invariant-loop-shape
+invariant-loop-shape l = string_bytes l.text ≡ string_bytes l.initial.text ++ flat_map shape_text (take l.shape-index l.shapes)

@@ -1,0 +1,5 @@
+pub mod Places
+pub mod Svg
+pub mod Sections
+pub mod Pictures
+pub mod inner
