@@ -394,8 +394,8 @@ THE OUTPUT
   right: it is the text of one order of the batches that keeps each feed's own.
   There is room for 4096 calls, which are the batches and the two looks.
 
-  check tells what is wrong with the files, and where. Of the example files AIRPORT
-  and FEED cdmseq check airport.csv feed.csv prints
+  check tells what is wrong with the files, and where. Of the example files
+  AIRPORT and FEED cdmseq check airport.csv feed.csv prints
 
     feed.csv:5: record 5: AUTHORITY: a CTOT is set by NM; AO may set CNL, TOBT
     10 records, 1 refused

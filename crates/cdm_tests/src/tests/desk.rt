@@ -10,12 +10,15 @@ fn replies(alloc: Global) -> Option<String> {
     let day = *state.day();
     let mut text = String::new(alloc);
     let [known, assigned, ready] = planned("AB1")?;
-    let records = [Ok(known), Ok(assigned), Ok(ready), Err(RefusalWord::Text)];
-    let mut number = 0;
-    for record in &records {
-        number += 1;
+    let records = [
+        (1, Ok(known)),
+        (2, Ok(assigned)),
+        (3, Ok(ready)),
+        (4, Err(RefusalWord::Text)),
+    ];
+    for (number, record) in &records {
         let reply = post(alloc, &mut state, record).ok()?;
-        push_reply(&mut text, day, number, &reply).ok()?;
+        push_reply(&mut text, day, *number, &reply).ok()?;
     }
     Some(text)
 }

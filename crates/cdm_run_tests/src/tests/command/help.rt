@@ -63,7 +63,7 @@ fn prints_help(alloc: Global, words: &[&str], usage: &str) -> bool {
 
 #[test]
 fn help_of_a_command_is_a_screen(rt: HostRuntime) {
-    let table: [(&[&str], &str); 13] = [
+    let table: [(&[&str], &str); 14] = [
         (&["-h"], ALL),
         (&["--help"], ALL),
         (&["plan", "-h"], PLAN),

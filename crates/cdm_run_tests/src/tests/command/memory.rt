@@ -10,6 +10,7 @@ fn text_in<'a>(answer: &'a Result<Command<'_>, CommandFault>) -> &'a str {
             Command::Plan { feed, .. }
             | Command::Tabulate { feed, .. }
             | Command::Draw { feed, .. }
+            | Command::Check { feed, .. }
             | Command::Ask { feed, .. },
         ) => feed,
         Ok(Command::Live { feed2, .. }) => feed2,
