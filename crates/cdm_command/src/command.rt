@@ -55,6 +55,14 @@ pub enum Command<'a> {
         feed: &'a str,
         question: Question,
     },
+    /// Trace which record of a feed moved whose start-up at an airport, or that of one flight.
+    Trace {
+        airport: &'a str,
+        feed: &'a str,
+        flight: Option<FlightName>,
+    },
+    /// Serve the day of an airport as it happens, with a journal. Standard input has the records.
+    Serve { airport: &'a str, journal: &'a str },
     /// Check the files of a day at an airport, and of its scenarios.
     Check {
         airport: &'a str,
@@ -97,8 +105,10 @@ impl Command<'_> {
                 feed1,
                 feed2,
             } => [Some(*airport), Some(*feed1), Some(*feed2)],
-            Command::Ask { airport, feed, .. } => [Some(*airport), Some(*feed), None],
-            Command::Print(_) => [None; 3],
+            Command::Ask { airport, feed, .. } | Command::Trace { airport, feed, .. } => {
+                [Some(*airport), Some(*feed), None]
+            }
+            Command::Serve { .. } | Command::Print(_) => [None; 3],
         };
         files
             .iter()
@@ -142,6 +152,8 @@ pub fn command_of<'a, S: AsStr>(
     let command = match matches.subcommand() {
         Some(("plan", plan)) => plan_of(plan),
         Some(("compare", compare)) => compare_of(alloc, compare)?,
+        Some(("trace", trace)) => trace_of(alloc, trace)?,
+        Some(("serve", serve)) => serve_of(alloc, serve)?,
         Some(("picture", picture)) => picture_of(picture),
         Some(("live", live)) => live_of(live),
         Some(("check", check)) => check_of(check),
@@ -292,20 +304,62 @@ fn why_of<'a>(alloc: Global, why: &ArgMatches<'a>) -> Result<Option<Command<'a>>
     ) else {
         return Ok(None);
     };
-    let Some(flight) = FlightName::new(word.as_bytes()) else {
-        return Err(wrong_value(
-            alloc,
-            word,
-            "<FLIGHT>",
-            "a flight has 1 to 7 of A-Z and 0-9",
-        )?);
-    };
-    let question = Question::Why(flight);
+    let question = Question::Why(flight_in(alloc, word, "<FLIGHT>")?);
     Ok(Some(Command::Ask {
         airport,
         feed,
         question,
     }))
+}
+
+// The words of `trace`, all of which the parser has seen to but the form of the flight.
+fn trace_of<'a>(
+    alloc: Global,
+    trace: &ArgMatches<'a>,
+) -> Result<Option<Command<'a>>, CommandFault> {
+    let (Some(airport), Some(feed)) = (trace.get_str("AIRPORT"), trace.get_str("FEED")) else {
+        return Ok(None);
+    };
+    let flight = match trace.get_str("FLIGHT") {
+        Some(word) => Some(flight_in(alloc, word, "[FLIGHT]")?),
+        None => None,
+    };
+    Ok(Some(Command::Trace {
+        airport,
+        feed,
+        flight,
+    }))
+}
+
+// The flight that a word names.
+fn flight_in(alloc: Global, word: &str, argument: &str) -> Result<FlightName, CommandFault> {
+    match FlightName::new(word.as_bytes()) {
+        Some(flight) => Ok(flight),
+        None => Err(wrong_value(
+            alloc,
+            word,
+            argument,
+            "a flight has 1 to 7 of A-Z and 0-9",
+        )?),
+    }
+}
+
+// The words of `serve`, all of which the parser has seen to but that standard input has the records.
+fn serve_of<'a>(
+    alloc: Global,
+    serve: &ArgMatches<'a>,
+) -> Result<Option<Command<'a>>, CommandFault> {
+    let (Some(airport), Some(journal)) = (serve.get_str("AIRPORT"), serve.get_str("JOURNAL"))
+    else {
+        return Ok(None);
+    };
+    if airport == STANDARD_INPUT || journal == STANDARD_INPUT {
+        return Err(wrong_words(
+            alloc,
+            "standard input has the records, so no file can be '-'",
+        )?);
+    }
+    Ok(Some(Command::Serve { airport, journal }))
 }
 
 // The words of `load`, all of which the parser has seen to but the form of the runway.

@@ -8,6 +8,9 @@ use crate::unopened::UnopenedFile;
 use cdm_check::CheckCounts;
 use cdm_feed::{CommonFault, Device, Input, RunError, TableError, ViewError};
 use cdm_live::LiveError;
+use cdm_port::PortFault;
+use cdm_serve::ServeError;
+use cdm_trace::TraceError;
 use std::alloc::AllocError;
 use std::io::Write;
 use thiserror::Error;
@@ -39,6 +42,18 @@ pub enum Fault {
     /// The check has not written its whole text.
     #[error(transparent)]
     Check(#[from] CommonFault),
+    /// The trace has not written its whole text.
+    #[error(transparent)]
+    Trace(#[from] TraceError),
+    /// The journal's file can't be opened.
+    #[error("cannot open JOURNAL ({0})")]
+    CannotOpenJournal(UnopenedFile),
+    /// Another process has the journal.
+    #[error("JOURNAL is in use")]
+    JournalInUse,
+    /// The day was not served to the end of its input.
+    #[error(transparent)]
+    Serve(#[from] ServeError),
 }
 
 impl From<AllocError> for Fault {
@@ -60,12 +75,21 @@ impl Fault {
             | Fault::Table(TableError::Common(fault))
             | Fault::View(ViewError::Common(fault))
             | Fault::Live(LiveError::Common(fault))
+            | Fault::Trace(TraceError::Common(fault))
+            | Fault::Serve(ServeError::Common(fault))
             | Fault::Check(fault) => common_status(*fault),
             Fault::Run(RunError::Scenario(..))
             | Fault::Table(TableError::Scenario(..) | TableError::NoScenario(_))
             | Fault::View(ViewError::NoFlight(_) | ViewError::NoRunway(_))
+            | Fault::Trace(TraceError::NoFlight(_))
+            | Fault::Serve(ServeError::Journal(..) | ServeError::Port(PortFault::JournalTooLong))
             | Fault::Live(LiveError::HistoryFull) => 3,
-            Fault::CannotOpen(..) | Fault::NoMemory | Fault::Live(LiveError::Mismatch) => 1,
+            Fault::CannotOpen(..)
+            | Fault::CannotOpenJournal(_)
+            | Fault::JournalInUse
+            | Fault::NoMemory
+            | Fault::Serve(ServeError::Port(_) | ServeError::TooMany)
+            | Fault::Live(LiveError::Mismatch) => 1,
         }
     }
 }

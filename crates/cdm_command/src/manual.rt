@@ -20,11 +20,17 @@ pub const WHY_ABOUT: &str = "Tell what holds a flight, and until when";
 /// What `load` does.
 pub const LOAD_ABOUT: &str = "Tell how full each runway is, cell by cell";
 
+/// What `trace` does.
+pub const TRACE_ABOUT: &str = "Tell which record moved whose start-up";
+
 /// What `picture` does.
 pub const PICTURE_ABOUT: &str = "Draw the day as a picture (SVG) that a browser shows";
 
 /// What `live` does.
 pub const LIVE_ABOUT: &str = "Let two desks post a feed each to one board, and print its day";
+
+/// What `serve` does.
+pub const SERVE_ABOUT: &str = "Take records as they come, reply to each, and keep a journal";
 
 /// What `check` does.
 pub const CHECK_ABOUT: &str = "Tell what is wrong with the files, and where";
@@ -71,6 +77,14 @@ For example:
 One of the files can be -, which is standard input.
 The whole manual: cdmseq help | less";
 
+/// The end of the help of `trace`.
+pub const TRACE_EXAMPLE: &str = "\
+For example:
+  cdmseq trace airport.csv feed.csv
+  cdmseq trace airport.csv feed.csv AB1
+One of the files can be -, which is standard input.
+The whole manual: cdmseq help | less";
+
 /// The end of the help of `picture`.
 pub const PICTURE_EXAMPLE: &str = "\
 For example:
@@ -84,6 +98,13 @@ pub const LIVE_EXAMPLE: &str = "\
 For example:
   cdmseq live airport.csv desk_1.csv desk_2.csv
 One of the files can be -, which is standard input.
+The whole manual: cdmseq help | less";
+
+/// The end of the help of `serve`.
+pub const SERVE_EXAMPLE: &str = "\
+For example:
+  cdmseq serve airport.csv journal.csv
+Records are read from standard input, one a line; replies go to standard output.
 The whole manual: cdmseq help | less";
 
 /// The end of the help of `check`.
@@ -369,6 +390,22 @@ THE OUTPUT
            many flights of how many it has, how many of its minutes are closed,
            and its flights by TTOT and name
 
+  trace tells which record moved whose start-up. Of the example files AIRPORT and
+  FEED cdmseq trace airport.csv feed.csv prints
+
+    1 ACCEPTED 1
+    BLOCKED AB1     TOBT
+    3 ACCEPTED 1
+    SLOT 27L AB1     100600   15 ------ 100600 100615 P    0
+    4 ACCEPTED 1
+    BLOCKED CD2     TOBT
+    5 REFUSED AUTHORITY
+
+  ACCEPTED how many flights stand otherwise by this record of FEED, which follow
+           by name; a record that moves none isn't told. Of one FLIGHT that is
+           asked for, the records that move it, each with where it stands then.
+  REFUSED  as in a plan
+
   picture draws the day and, with --scenarios, each scenario beneath it, as a
   file for a browser (SVG), over the hours with flights or closures and half an
   hour around. Each runway is a band. Above are its cells, with their caps as
@@ -394,6 +431,26 @@ THE OUTPUT
   right: it is the text of one order of the batches that keeps each feed's own.
   There is room for 4096 calls, which are the batches and the two looks.
 
+  serve takes records of FEED as they come, one a line of standard input, and
+  replies to each before it reads the next. JOURNAL has the accepted ones, each on
+  the disk before its reply, so plan AIRPORT JOURNAL prints the day at any time.
+  With an empty JOURNAL cdmseq serve airport.csv journal.csv < feed.csv prints
+
+    READY 0
+    1 ACCEPTED 1
+    BLOCKED AB1     TOBT
+    2 ACCEPTED 0
+
+  and so on, as trace does but for every record.
+
+  READY    the day is served: how many records JOURNAL has. A last line without
+           an end, which a crash has torn, was cut off before
+  PLAN     a line PLAN asks for the plan, WHY,AB1 what holds a flight, LOAD,27L
+           how full a runway is: the reply has the number, the word and how many
+           lines follow, or REFUSED
+  A line of more than 4096 bytes or without an end is refused by FIELDS. At the
+  end of the input the program ends.
+
   check tells what is wrong with the files, and where. Of the example files
   AIRPORT and FEED cdmseq check airport.csv feed.csv prints
 
@@ -409,12 +466,12 @@ THE OUTPUT
 
 STATUS
   0  done: standard output has the whole text, also where records were refused
-  1  a file can't be read, the text can't be written, memory is short, or the
-     board gave a wrong answer
+  1  a file can't be read or written, the text can't be written, memory is short,
+     JOURNAL is in use, or the board gave a wrong answer
   2  the words are wrong
-  3  a file has more than 8388608 bytes, AIRPORT or SCENARIOS is refused, FEED1
-     and FEED2 need more than 4096 calls, or the flight, runway or scenario that
-     is asked for isn't known
+  3  a file has more than 8388608 bytes, AIRPORT, SCENARIOS or a record of JOURNAL
+     is refused, FEED1 and FEED2 need more than 4096 calls, or the flight, runway
+     or scenario that is asked for isn't known
   4  check has found a refused record
   For 1 and 3 one line on standard error names the cause, as
   cdmseq: cannot read FEED (feed.csv: no such file). A text there says what is

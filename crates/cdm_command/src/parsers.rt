@@ -3,7 +3,8 @@
 use crate::manual::{
     ABOUT, CHECK_ABOUT, CHECK_EXAMPLE, COMPARE_ABOUT, COMPARE_EXAMPLE, EXAMPLES, HELP_ABOUT,
     HELP_EXAMPLE, LIVE_ABOUT, LIVE_EXAMPLE, LOAD_ABOUT, LOAD_EXAMPLE, PICTURE_ABOUT,
-    PICTURE_EXAMPLE, PLAN_ABOUT, PLAN_EXAMPLE, VERSION, WHY_ABOUT, WHY_EXAMPLE,
+    PICTURE_EXAMPLE, PLAN_ABOUT, PLAN_EXAMPLE, SERVE_ABOUT, SERVE_EXAMPLE, TRACE_ABOUT,
+    TRACE_EXAMPLE, VERSION, WHY_ABOUT, WHY_EXAMPLE,
 };
 use clap::{Arg, Command as Parser, value_parser};
 use std::alloc::{AllocError, Global};
@@ -127,6 +128,27 @@ fn load_parser<'a>(alloc: Global) -> Result<Parser<'a>, AllocError> {
     day_parser(alloc, "load", LOAD_ABOUT, LOAD_EXAMPLE)?.arg(runway)
 }
 
+// The words that `trace` takes.
+fn trace_parser<'a>(alloc: Global) -> Result<Parser<'a>, AllocError> {
+    let flight = Arg::new(alloc, "FLIGHT").help("One flight alone, with the records that move it");
+    day_parser(alloc, "trace", TRACE_ABOUT, TRACE_EXAMPLE)?.arg(flight)
+}
+
+// The words that `serve` takes.
+fn serve_parser<'a>(alloc: Global) -> Result<Parser<'a>, AllocError> {
+    let airport = Arg::new(alloc, "AIRPORT")
+        .required(true)
+        .help("Airport file: the day, the runways, the taxi times");
+    let journal = Arg::new(alloc, "JOURNAL")
+        .required(true)
+        .help("File of the accepted records, made if it isn't there");
+    Parser::new(alloc, "serve")
+        .about(SERVE_ABOUT)
+        .after_help(SERVE_EXAMPLE)
+        .arg(airport)?
+        .arg(journal)
+}
+
 // The words that `help` takes.
 fn help_parser<'a>(alloc: Global) -> Result<Parser<'a>, AllocError> {
     let command = Arg::new(alloc, "COMMAND").help("The command whose help is asked for");
@@ -152,8 +174,10 @@ pub(crate) fn parser<'a>(alloc: Global) -> Result<Parser<'a>, AllocError> {
         .subcommand(compare_parser(alloc)?)?
         .subcommand(why_parser(alloc)?)?
         .subcommand(load_parser(alloc)?)?
+        .subcommand(trace_parser(alloc)?)?
         .subcommand(picture_parser(alloc)?)?
         .subcommand(live_parser(alloc)?)?
+        .subcommand(serve_parser(alloc)?)?
         .subcommand(check_parser(alloc)?)?
         .subcommand(help_parser(alloc)?)
 }

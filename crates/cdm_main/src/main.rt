@@ -10,13 +10,19 @@ pub use cdm_command::{
 };
 use cdm_feed::{Device, Input, WriteFault, run, run_table, run_view, write_text};
 pub use cdm_live::{LiveCounts, LiveError, run_live};
+use cdm_flight::FlightName;
 use cdm_phase::{OpenGate, Workers};
 use cdm_picture::run_picture;
+use cdm_serve::serve;
+use cdm_streams::Streams;
 use cdm_table::Table;
+use cdm_trace::run_trace;
 use cdm_view::Question;
 use either::Either;
 use std::alloc::{AllocError, Global};
-use std::io::{ErrorKind, Write};
+use std::fs::{File, OpenFile, OpenOptions, TryLockError};
+use std::io::{BufReader, ErrorKind, Write};
+use std::path::Path;
 use std::process::ExitCode;
 use std::rt::{Env, Files};
 use std::sync::Wait;
@@ -34,11 +40,13 @@ fn main(rt: HostRuntime) -> ExitCode {
 
 // Runs the command that the program's words name, and answers the exit status. Texts go to `out`,
 // and what stops the program is told on `errors`.
-fn status_of<R: AllocGlobal + Env + Files + io::Input + Threads + Wait + Sync, O: Write, E: Write>(
+fn status_of<R, O: Write, E: Write>(
     rt: &R,
     out: &mut Device<O>,
     errors: &mut Device<E>,
 ) -> u8
+where
+    R: AllocGlobal + Env + Files<File = File> + io::Input + Threads + Wait + Sync,
     requires { out.old.failed ≡ false }
 {
     let words = match words_of(rt) {
@@ -85,11 +93,13 @@ fn place_not_utf8<R: AllocGlobal + Env>(rt: &R) -> Result<usize, AllocError> {
 }
 
 // Runs the command, whose text goes to `out`, and answers the exit status.
-fn run_command<R: AllocGlobal + Files + io::Input + Threads + Wait + Sync, W: Write>(
+fn run_command<R, W: Write>(
     rt: &R,
     command: &Command<'_>,
     out: &mut Device<W>,
 ) -> Result<u8, Fault>
+where
+    R: AllocGlobal + Files<File = File> + io::Input + Threads + Wait + Sync,
     requires { out.old.failed ≡ false }
 {
     match command {
@@ -122,6 +132,12 @@ fn run_command<R: AllocGlobal + Files + io::Input + Threads + Wait + Sync, W: Wr
             feed,
             question,
         } => ask(rt, airport, feed, *question, out)?,
+        Command::Trace {
+            airport,
+            feed,
+            flight,
+        } => trace(rt, airport, feed, *flight, out)?,
+        Command::Serve { airport, journal } => serve_day(rt, airport, journal, out)?,
         Command::Check {
             airport,
             feed,
@@ -146,11 +162,16 @@ fn open<R: AllocGlobal + Files + io::Input>(
     match fs::open(rt, path) {
         Ok(file) => Ok(Either::Left(file)),
         Err(error) => {
-            let path = String::from_str(rt.alloc(), path)?;
-            let kind = error.kind();
-            Err(Fault::CannotOpen(input, UnopenedFile { path, kind }))
+            let file = unopened(rt.alloc(), path, error.kind())?;
+            Err(Fault::CannotOpen(input, file))
         }
     }
+}
+
+// A file that can't be opened for this reason.
+fn unopened(alloc: Global, path: &str, kind: ErrorKind) -> Result<UnopenedFile, AllocError> {
+    let path = String::from_str(alloc, path)?;
+    Ok(UnopenedFile { path, kind })
 }
 
 // Opens the scenario file, if one is named. Without one there is no scenario.
@@ -270,6 +291,89 @@ fn ask<R: AllocGlobal + Files + io::Input + Threads + Sync, W: Write>(
         out,
     )?;
     Ok(())
+}
+
+// Writes which record moved whose start-up.
+fn trace<R: AllocGlobal + Files + io::Input + Threads + Sync, W: Write>(
+    rt: &R,
+    airport: &str,
+    feed: &str,
+    flight: Option<FlightName>,
+    out: &mut Device<W>,
+) -> Result<(), Fault>
+    requires { out.old.failed ≡ false }
+{
+    let airport = open(rt, airport, Input::Airport)?;
+    let feed = open(rt, feed, Input::Feed)?;
+    run_trace(
+        rt.alloc(),
+        &mut Device::new(airport),
+        &mut Device::new(feed),
+        flight,
+        out,
+    )?;
+    Ok(())
+}
+
+// Serves the day of an airport: records come from standard input, and replies go to `out`.
+fn serve_day<R, W: Write>(
+    rt: &R,
+    airport: &str,
+    journal: &str,
+    out: &mut Device<W>,
+) -> Result<(), Fault>
+where
+    R: AllocGlobal + Files<File = File> + io::Input + Threads + Sync,
+{
+    let airport = open(rt, airport, Input::Airport)?;
+    let journal = open_journal(rt, journal)?;
+    let Ok(input) = BufReader::new(rt.alloc(), rt.reader()) else {
+        return Err(Fault::NoMemory);
+    };
+    let mut port = Streams::new(input, out, journal);
+    serve(rt, rt.alloc(), &mut Device::new(airport), &mut port)?;
+    Ok(())
+}
+
+// Opens the file of a journal, or makes it, for this process alone.
+fn open_journal<R: AllocGlobal + Files<File = File>>(rt: &R, path: &str) -> Result<File, Fault> {
+    let mut options = OpenOptions::new();
+    options.read(true);
+    options.append(true);
+    options.create(true);
+    let opened = options.open(rt, path).map_err(|error| error.kind());
+    let locked = opened.and_then(|file| locked(file));
+    match locked {
+        Ok(Some(file)) => {
+            sync_folder_of(rt, path);
+            Ok(file)
+        }
+        Ok(None) => Err(Fault::JournalInUse),
+        Err(kind) => {
+            let file = unopened(rt.alloc(), path, kind)?;
+            Err(Fault::CannotOpenJournal(file))
+        }
+    }
+}
+
+// The file with its lock, which is advisory, or none where another process has that.
+fn locked(file: File) -> Result<Option<File>, ErrorKind> {
+    match file.try_lock() {
+        Ok(()) => Ok(Some(file)),
+        Err(TryLockError::WouldBlock) => Ok(None),
+        Err(TryLockError::Error(error)) => Err(error.kind()),
+    }
+}
+
+// Puts the name of a file that was made on the disk, where the system can.
+fn sync_folder_of<R: Files>(rt: &R, path: &str) {
+    let folder = match Path::new(path).parent() {
+        Some(folder) if folder.as_str() != "" => folder.as_str(),
+        _ => ".",
+    };
+    if let Ok(folder) = fs::open(rt, folder) {
+        let _ = folder.sync_all();
+    }
 }
 
 // Writes the day that two desks make.
