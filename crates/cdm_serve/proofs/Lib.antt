@@ -1,0 +1,4 @@
+pub mod Ran
+pub mod Kept
+pub mod Begun
+pub mod Recovered
