@@ -1,0 +1,4 @@
+pub mod WholeLemmas
+pub mod PlainLemmas
+pub mod MachineLemmas
+pub mod RecoveryLemmas
