@@ -1,5 +1,5 @@
 -- The journal from the start of a served day on.
-use Rattle.std.proofs.Common.{◌≡◌, ◌⊎◌, inl, inr, ℕ, ◌<◌, ◌≤◌, Bool, true, false, nat_lt, Option, None, Some, List, [], ◌∷◌, ◌++◌, length, take, drop, refl, sym, ◌∙◌, ap, subst, append_assoc, arith, length-append}
+use Rattle.std.proofs.Common.{◌≡◌, ◌⊎◌, inl, inr, ℕ, ◌<◌, ◌==◌, ◌||◌, Bool, true, false, nat_lt, Option, None, Some, List, [], ◌∷◌, ◌++◌, length, take, drop, refl, sym, ◌∙◌, ap, subst, append_assoc, arith, length-append, lt-ltb, take_at}
 use Rattle.std.specs.Prelude.{⊤, if◌then◌else◌}
 use Rattle.std.specs.Option.{option_to_list}
 use Rattle.std.specs.List.{list_any}
@@ -41,18 +41,45 @@ same_text one other is also =
     front_of_none [] b none = refl
     front_of_none (x ∷ a) b none = absurd (cc none)
 
-take_front : (front rest : List ℕ) → take (length front) (front ++ rest) ≡ front
-take_front front rest = ?
+-- and are whole
+has_as_kept : (bytes : List ℕ) → has_line_feed (whole_lines bytes) ≡ has_line_feed bytes
+unfolding whole_lines
+has_as_kept [] = refl
+has_as_kept (byte ∷ bytes) = by (has_line_feed (byte ∷ bytes)) (ap (λ (b : Bool). (byte == 10) || b) (has_as_kept bytes))
+  where
+    by : (has : Bool) → has_line_feed (byte ∷ whole_lines bytes) ≡ has → has_line_feed (if has then byte ∷ whole_lines bytes else []) ≡ has
+    by true is = is
+    by false is = refl
+
+pub wholes : (bytes : List ℕ) → IsWhole (whole_lines bytes)
+unfolding whole_lines
+wholes [] = refl
+wholes (byte ∷ bytes) = by (has_line_feed (byte ∷ bytes)) (ap (λ (b : Bool). (byte == 10) || b) (has_as_kept bytes)) (wholes bytes)
+  where
+    by : (has : Bool) → has_line_feed (byte ∷ whole_lines bytes) ≡ has → IsWhole (whole_lines bytes)
+        → whole_lines (if has then byte ∷ whole_lines bytes else []) ≡ (if has then byte ∷ whole_lines bytes else [])
+    by true is again = rw is (ap (λ (l : List ℕ). byte ∷ l) again)
+    by false is again = refl
+
+-- a front that is no shorter is all
+no_rest : (front rest : List ℕ) → nat_lt (length front) (length (front ++ rest)) ≡ false → rest ≡ []
+no_rest front [] not_less = refl
+no_rest front (byte ∷ rest) not_less =
+    let less : length front < length (front ++ byte ∷ rest) = simp length-append (omega arith) in
+    absurd (cc (lt-ltb (length front) (length (front ++ byte ∷ rest)) less, not_less))
 
 module _ (bytes : List ℕ) where
   abbrev whole : List ℕ
   whole = whole_lines bytes
 
   kept_of_cut : take (length whole) bytes ≡ whole
-  kept_of_cut = let front : IsPrefix whole bytes = whole_lines-front bytes in ap (take (length whole)) front.1 ∙ take_front whole front.0
+  kept_of_cut = let front : IsPrefix whole bytes = whole_lines-front bytes in ap (take (length whole)) front.1 ∙ take_at whole front.0 (length whole) refl
 
   uncut_is_whole : nat_lt (length whole) (length bytes) ≡ false → bytes ≡ whole
-  uncut_is_whole not_less = ?
+  uncut_is_whole not_less =
+      let front : IsPrefix whole bytes = whole_lines-front bytes in
+      let none : front.0 ≡ [] = no_rest whole front.0 (subst (λ (b : List ℕ). nat_lt (length whole) (length b) ≡ false) front.1 not_less) in
+      front.1 ∙ ap (λ (l : List ℕ). whole ++ l) none ∙ append-nil whole
 
 -- Early, before the first sync, nothing was told or written, and the disk has the whole lines that it had.
 abbrev pub IsEarly : List ℕ → List TakenRecord → Option TakenRecord → Disk → List ℕ → Type 0
@@ -70,7 +97,7 @@ early d bytes = (refl, refl, refl, refl, λ left may. elim may [
   | inr between ↦ ap whole_lines (sym (same_text bytes left between.0 between.1))
 ])
 
-module _ (d : DayRecord) (bytes : List ℕ) (ready : List ℕ) (rest : List Event) (later : AlwaysKeeps d rest) (wholes : IsWhole (whole_lines bytes)) where
+module _ (d : DayRecord) (bytes : List ℕ) (ready : List ℕ) (rest : List Event) (later : AlwaysKeeps d rest) where
   abbrev Late : Disk → List Event → Type 0
   Late disk m = IsEarly bytes (told d None m) (untold d None m) (disk_after disk m) (appended m)
       ⊎ Keeps d (whole_lines bytes) (told d None m) (untold d None m) (disk_after disk m) (appended m)
@@ -91,7 +118,7 @@ module _ (d : DayRecord) (bytes : List ℕ) (ready : List ℕ) (rest : List Even
   cut_is_early : IsEarly bytes [] None cut []
   cut_is_early = (refl, refl, refl, refl, λ left may. elim may [
     | inl same ↦ ap whole_lines same
-    | inr between ↦ ap whole_lines (sym (same_text _ left between.0 between.1) ∙ kept_of_cut bytes) ∙ wholes
+    | inr between ↦ ap whole_lines (sym (same_text _ left between.0 between.1) ∙ kept_of_cut bytes) ∙ wholes bytes
   ])
 
   cut_first : (moment : List Event) → IsStopOf moment (Cut (length (whole_lines bytes)) ∷ Synced ∷ Replied ready ∷ Flushed ∷ rest) → Late (settled bytes) moment
@@ -124,7 +151,7 @@ since_read bytes start moment whole (inr (inl torn)) = absurd torn
 since_read bytes start moment whole (inr (inr (rest, same, stop))) =
     (ap first_read same, subst (λ (m : List Event). IsStopOf m whole) (sym (ap (drop 1) same)) stop)
 
-module _ (wholes : (bytes : List ℕ) → IsWhole (whole_lines bytes)) (g : AirportRows) where
+module _ (g : AirportRows) where
   pub always_begins : (done : List Event) → IsStopped g done → (bytes : List ℕ) (moment : List Event) → IsStopOf (Read bytes ∷ moment) done → Begins (day_of g bytes) bytes moment
   always_begins done (inl (start, stop)) bytes moment now =
       let at : (bytes ≡ start) × IsStopOf moment [] = since_read bytes start moment [] (earlier (Read bytes ∷ moment) done (Read start ∷ []) now stop) in
@@ -139,4 +166,4 @@ module _ (wholes : (bytes : List ℕ) → IsWhole (whole_lines bytes)) (g : Airp
       subst (λ (w : List Event). IsStopOf (Read bytes ∷ moment) (Read start ∷ w)) (append_assoc (cut_of start) (Synced ∷ Replied ready ∷ Flushed ∷ []) rest) all in
       let at : (bytes ≡ start) × IsStopOf moment (cut_of start ++ Synced ∷ Replied (ready_text (length d.journal)) ∷ Flushed ∷ (served d is.exchanges ++ next ∷ [])) = since_read bytes start moment _ later in
       subst (λ (b : List ℕ). Begins (day_of g b) b moment) (sym at.0)
-      (begun d start ready rest (always_keeps d is.exchanges next heard) (wholes start) moment at.1)
+      (begun d start ready rest (always_keeps d is.exchanges next heard) moment at.1)

@@ -17,7 +17,7 @@ use Rattle.cdm_serve.specs.Disk.{Disk, MayBeLeft, disk_after, settled}
 use Rattle.cdm_serve.specs.Promises.{IsAllOrOneMore, IsKept, IsRecovered, IsWritten, appended, lines_of, told, untold, updates_of}
 use Rattle.cdm_serve.specs.Served.{day_of}
 use Rattle.cdm_serve.specs.Taken.{TakenRecord}
-use Rattle.cdm_serve.proofs.Begun.{Begins, IsEarly, whole_lines-front}
+use Rattle.cdm_serve.proofs.Begun.{Begins, whole_lines-front, wholes}
 use Rattle.cdm_serve.proofs.Kept.{AreTaken, Holds, IsTakenBy, Keeps, line_in}
 
 lines_of-append : (a b : List TakenRecord) → lines_of (a ++ b) ≡ lines_of a ++ lines_of b
@@ -140,14 +140,14 @@ module _ (plain : ArePlain) (cuts : CutsTorn) (keeps : KeepsWhole) (gives : Give
         prefix_of (tail ++ x) (tail ++ rest) (line_in last) (y, ap (λ (l : List ℕ). tail ++ l) parts ∙ sym (append_assoc tail x y)) front,
       )
 
-  pub recovered : (wholes : (bytes : List ℕ) → IsWhole (whole_lines bytes)) (bytes : List ℕ) (moment : List Event) → Begins (day_of g bytes) bytes moment → IsRecovered g bytes moment
-  recovered wholes bytes moment (inl is) accepted left may =
+  pub recovered : (bytes : List ℕ) (moment : List Event) → Begins (day_of g bytes) bytes moment → IsRecovered g bytes moment
+  recovered bytes moment (inl is) accepted left may =
       let same : whole_lines left ≡ whole_lines bytes = is.4 left may in
       (
         ap (refusals_in g) same ∙ accepted,
         inl (ap (accepted_in g) same ∙ sym (ap (λ (r : List TakenRecord). accepted_in g (whole_lines bytes) ++ updates_of r) is.0 ∙ append-nil (accepted_in g (whole_lines bytes)))),
       )
-  recovered wholes bytes moment (inr (holds, are)) accepted left may =
+  recovered bytes moment (inr (holds, are)) accepted left may =
       let records : List TakenRecord = told (day_of g bytes) None moment in
       let last : Option TakenRecord = untold (day_of g bytes) None moment in
       let disk : Disk = disk_after (settled bytes) moment in

@@ -1,6 +1,7 @@
 -- What a served day promises at each moment.
-use Rattle.std.specs.Prelude.{◌≡◌, ◌⊎◌, ⊤, ℕ, List, [], ◌∷◌, ◌++◌, map, flat_map, Option, None, Some}
+use Rattle.std.specs.Prelude.{◌≡◌, ◌⊎◌, ⊤, ℕ, List, [], ◌∷◌, ◌++◌, map, flat_map, Option, None, Some, IfOk, IfSome}
 use Rattle.std.specs.Option.{option_to_list}
+use Rattle.cdm_feed.specs.AirportFile.{airport_in}
 use Rattle.cdm_feed.specs.Output.{accepted_in, refusals_in}
 use Rattle.cdm_flight.specs.Journal.{AirportRows}
 use Rattle.cdm_flight.specs.declared.update.Update.{Update}
@@ -89,3 +90,7 @@ IsRecovered g bytes events = refusals_in g (whole_lines bytes) ≡ [] → (left 
 -- It holds at each moment since the journal was read: of its bytes, and of what had happened then.
 abbrev pub AtEachMoment : List Event → (List ℕ → List Event → Type 0) → Type 0
 AtEachMoment done Holds = (bytes : List ℕ) (moment : List Event) → IsStopOf (Read bytes ∷ moment) done → Holds bytes moment
+
+-- it holds of the airport that the bytes of its file say, where its reader tells those that it had left and they say one
+abbrev pub IfAirport : Option (List ℕ) → (AirportRows → Type 0) → Type 0
+IfAirport file Holds = IfSome file (λ bytes. IfOk (airport_in bytes) Holds)

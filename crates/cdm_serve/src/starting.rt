@@ -39,7 +39,8 @@ pub(crate) fn start<R: Threads + Sync, P: Port>(
 {
     let bytes = port.journal(alloc)?;
     let length = kept_length(&bytes);
-    let state = read_journal(rt, alloc, airport, &bytes[..length], Workers::ONE, &OpenGate)?;
+    let one = Workers::new(1).unwrap();
+    let state = read_journal(rt, alloc, airport, &bytes[..length], one, &OpenGate)?;
     let ready = ready_text(alloc, state.journal().len())?;
     if length < bytes.len() {
         port.cut(length)?;

@@ -58,6 +58,14 @@ IsAnswerFault number (error.Journal place word) = ⊥
 IsAnswerFault number (error.Port fault) = ⊥
 IsAnswerFault number error.TooMany = number + 1 ≡ 2 ^ 32
 
+-- why the lines aren't served to the end
+abbrev pub IsLinesFault : ServeError → Type 0
+IsLinesFault (error.Common common.Memory) = ⊤
+IsLinesFault (error.Common fault) = ⊥
+IsLinesFault (error.Journal place word) = ⊥
+IsLinesFault (error.Port fault) = ⊤
+IsLinesFault error.TooMany = ⊤
+
 -- all lines were served to the end
 abbrev pub Serves : DayRecord → ℕ → List Event → List Event → Type 0
 Serves d number old new = (xs : List Exchange) × AreReplies d number xs × (new ≡ old ++ (served d xs ++ End ∷ []))
