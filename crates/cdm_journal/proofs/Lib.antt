@@ -1,3 +1,4 @@
+pub mod TextLemmas
 pub mod WholeLemmas
 pub mod PlainLemmas
 pub mod MachineLemmas

@@ -2,7 +2,7 @@
 use Rattle.std.proofs.Common.{◌≡◌, ◌≢◌, ◌<◌, ◌≤◌, ◌+◌, ◌∙◌, ◌==◌, ◌||◌, ◌&&◌, ℕ, zero, suc, Bool, true, false, not, List, [], ◌∷◌, ◌++◌, length, take, slice_index, IsTrue, Option, Some, None, refl, sym, ap, arith, append_assoc, add-one, inl, inr, if◌then◌else◌}
 use Rattle.std.specs.List.{join_with_byte, list_all, list_any}
 use Rattle.std.proofs.lemmas.List.{append-nil, length-take-le}
-use Rattle.std.proofs.lemmas.Bool.{and_parts, cases_Bool, false_from_ne_true, not-true, or_left, or_parts, or_right}
+use Rattle.std.proofs.lemmas.Bool.{and_parts, cases_Bool, false_from_ne_true, not-true, or_cases, or_left, or_parts, or_right}
 use Rattle.std.proofs.lemmas.List.Folds.{list_any-append}
 use Rattle.memchr.specs.Find.{IsLastByte, Nowhere, Passes, is_byte}
 use Rattle.cdm_feed.specs.Written.{is_mark}
@@ -66,6 +66,26 @@ pub keeps-whole : (text : List ℕ) (fields : List (List ℕ)) → IsWhole text 
 unfolding journal_line
 keeps-whole text fields whole =
     whole-append text (record_text fields ++ 10 ∷ []) whole ∙ ap (λ (l : List ℕ). text ++ l) (line-whole (record_text fields))
+
+-- what is kept has the line feeds of all
+kept-feeds : (bytes : List ℕ) → has_line_feed bytes ≡ true → has_line_feed (whole_lines bytes) ≡ true
+kept-feeds [] some = cc
+kept-feeds (b ∷ bs) some =
+    ap has_line_feed (kept-first b bs some) ∙ elim (or_cases (b == 10) (has_line_feed bs) some) [
+      | inl is ↦ or_left (b == 10) (has_line_feed (whole_lines bs)) is
+      | inr more ↦ or_right (b == 10) (has_line_feed (whole_lines bs)) (kept-feeds bs more)
+    ]
+
+-- what is kept is whole
+pub kept-whole : (bytes : List ℕ) → IsWhole (whole_lines bytes)
+kept-whole [] = ap whole_lines whole-nil
+kept-whole (b ∷ bs) = elim (cases_Bool (has_line_feed (b ∷ bs))) [
+  | inl some ↦
+      let first = kept-first b bs some in
+      let feeds : has_line_feed (b ∷ whole_lines bs) ≡ true = ap has_line_feed (sym first) ∙ kept-feeds (b ∷ bs) some in
+      ap whole_lines first ∙ kept-first b (whole_lines bs) feeds ∙ ap (λ (l : List ℕ). b ∷ l) (kept-whole bs) ∙ sym first
+  | inr none ↦ let empty = none-whole (b ∷ bs) none in ap whole_lines empty ∙ whole-nil ∙ sym empty
+]
 
 -- Torn lines.
 

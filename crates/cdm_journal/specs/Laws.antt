@@ -21,6 +21,10 @@ GoesOn = (day : CalendarDate) (text : List ℕ) (fields : List (List ℕ)) → I
     → All (λ record. IsOk (parse_of day record)) (records_of text) → IsOk (parse_of day fields)
     → records_of (text ++ journal_line fields) ≡ records_of text ++ fields ∷ []
 
+-- what a start keeps is whole
+abbrev pub StartIsWhole : Type 0
+StartIsWhole = (bytes : List ℕ) → IsWhole (whole_lines bytes)
+
 -- the first part of a line, short of its line feed, is cut off
 abbrev pub CutsTorn : Type 0
 CutsTorn = (text part rest : List ℕ) (fields : List (List ℕ)) → IsWhole text → IsTrue (is_plain fields)

@@ -1,5 +1,5 @@
 //! Laws of a journal.
-ghost use Rattle.cdm_journal.specs.Laws.{ArePlain, CutsTorn, GivesUpdate, GoesOn, KeepsWhole, RefusesNone};
+ghost use Rattle.cdm_journal.specs.Laws.{ArePlain, CutsTorn, GivesUpdate, GoesOn, KeepsWhole, RefusesNone, StartIsWhole};
 
 /// A record that spells an update can stand in a journal as it is: no field of it has a comma, a quote, a carriage
 /// return or a line feed.
@@ -14,8 +14,9 @@ pub fn journal_goes_on()
     ensures { GoesOn }
 {}
 
-/// A line that a stop has torn is cut off at the next start, and a whole line is kept.
+/// What a start keeps of a journal are whole lines: a line that a stop has torn is cut off, and a whole line is kept.
 pub fn torn_line_is_cut()
+    ensures start { StartIsWhole }
     ensures torn { CutsTorn }
     ensures whole { KeepsWhole }
 {}
