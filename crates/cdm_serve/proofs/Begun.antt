@@ -1,12 +1,12 @@
 -- The journal from the start of a served day on.
-use Rattle.std.proofs.Common.{◌≡◌, ◌⊎◌, inl, inr, ℕ, ◌<◌, ◌==◌, ◌||◌, Bool, true, false, nat_lt, Option, None, Some, List, [], ◌∷◌, ◌++◌, length, take, drop, refl, sym, ◌∙◌, ap, subst, append_assoc, arith, length-append, lt-ltb, take_at}
+use Rattle.std.proofs.Common.{◌≡◌, ◌⊎◌, inl, inr, ℕ, ◌<◌, Bool, true, false, nat_lt, Option, None, Some, List, [], ◌∷◌, ◌++◌, length, take, drop, refl, sym, ◌∙◌, ap, subst, append_assoc, arith, length-append, lt-ltb, take_at}
 use Rattle.std.specs.Prelude.{⊤, if◌then◌else◌}
 use Rattle.std.specs.Option.{option_to_list}
-use Rattle.std.specs.List.{list_any}
 use Rattle.std.proofs.lemmas.List.{append-nil, append_cancel_left}
 use Rattle.cdm_feed.specs.Output.{refusals_in}
 use Rattle.cdm_flight.specs.Journal.{AirportRows}
-use Rattle.cdm_journal.specs.Journal.{IsWhole, has_line_feed, whole_lines}
+use Rattle.cdm_journal.specs.Journal.{has_line_feed, whole_lines}
+use Rattle.cdm_journal.proofs.WholeLemmas.{kept-whole}
 use Rattle.cdm_plan.specs.Day.{DayRecord}
 use Rattle.cdm_port.specs.Event.{Event}
 use Rattle.cdm_port.specs.Event.Event.{Appended, Broken, Cut, End, Flushed, Line, Read, Replied, Synced}
@@ -40,26 +40,6 @@ same_text one other is also =
     front_of_none : (a b : List ℕ) → [] ≡ a ++ b → a ≡ []
     front_of_none [] b none = refl
     front_of_none (x ∷ a) b none = absurd (cc none)
-
--- and are whole
-has_as_kept : (bytes : List ℕ) → has_line_feed (whole_lines bytes) ≡ has_line_feed bytes
-unfolding whole_lines
-has_as_kept [] = refl
-has_as_kept (byte ∷ bytes) = by (has_line_feed (byte ∷ bytes)) (ap (λ (b : Bool). (byte == 10) || b) (has_as_kept bytes))
-  where
-    by : (has : Bool) → has_line_feed (byte ∷ whole_lines bytes) ≡ has → has_line_feed (if has then byte ∷ whole_lines bytes else []) ≡ has
-    by true is = is
-    by false is = refl
-
-pub wholes : (bytes : List ℕ) → IsWhole (whole_lines bytes)
-unfolding whole_lines
-wholes [] = refl
-wholes (byte ∷ bytes) = by (has_line_feed (byte ∷ bytes)) (ap (λ (b : Bool). (byte == 10) || b) (has_as_kept bytes)) (wholes bytes)
-  where
-    by : (has : Bool) → has_line_feed (byte ∷ whole_lines bytes) ≡ has → IsWhole (whole_lines bytes)
-        → whole_lines (if has then byte ∷ whole_lines bytes else []) ≡ (if has then byte ∷ whole_lines bytes else [])
-    by true is again = rw is (ap (λ (l : List ℕ). byte ∷ l) again)
-    by false is again = refl
 
 -- a front that is no shorter is all
 no_rest : (front rest : List ℕ) → nat_lt (length front) (length (front ++ rest)) ≡ false → rest ≡ []
@@ -118,7 +98,7 @@ module _ (d : DayRecord) (bytes : List ℕ) (ready : List ℕ) (rest : List Even
   cut_is_early : IsEarly bytes [] None cut []
   cut_is_early = (refl, refl, refl, refl, λ left may. elim may [
     | inl same ↦ ap whole_lines same
-    | inr between ↦ ap whole_lines (sym (same_text _ left between.0 between.1) ∙ kept_of_cut bytes) ∙ wholes bytes
+    | inr between ↦ ap whole_lines (sym (same_text _ left between.0 between.1) ∙ kept_of_cut bytes) ∙ kept-whole bytes
   ])
 
   cut_first : (moment : List Event) → IsStopOf moment (Cut (length (whole_lines bytes)) ∷ Synced ∷ Replied ready ∷ Flushed ∷ rest) → Late (settled bytes) moment

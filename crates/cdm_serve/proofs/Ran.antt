@@ -1,15 +1,18 @@
 -- A day that is served, line by line and to the end of the input.
-use Rattle.std.proofs.Common.{◌≡◌, ◌⊎◌, inl, inr, ℕ, Option, None, Some, List, [], ◌∷◌, ◌++◌, refl, sym, ◌∙◌, ap, subst, append_assoc}
+use Rattle.std.proofs.Common.{◌≡◌, ◌⊎◌, inl, inr, ℕ, ◌+◌, ◌≤◌, ◌^◌, Option, None, Some, cond, count_by, length, arith, List, [], ◌∷◌, ◌++◌, refl, sym, ◌∙◌, ap, subst, append_assoc}
 use Rattle.std.proofs.lemmas.List.{append-nil}
+use Rattle.std.proofs.lemmas.List.Sums.{sum_by-append}
 use Rattle.cdm_journal.specs.Lines.{LineRecord}
+use Rattle.cdm_journal.specs.Lines.LineRecord.{Blank, One, Several}
 use Rattle.cdm_plan.specs.Day.{DayRecord}
 use Rattle.cdm_port.specs.Event.{Event}
 use Rattle.cdm_port.specs.Event.Event.{End}
 use Rattle.cdm_port.specs.Stop.{IsStopOf, Stops}
 use Rattle.cdm_port.proofs.Stops.{front, longer, past}
+use Rattle.cdm_serve.specs.Faults.{is_line}
 use Rattle.cdm_serve.specs.Requests.{request_of}
-use Rattle.cdm_serve.specs.Served.{AreReplies, Exchange, IsHeard, IsReplyTo, answered, line_of, numbered, said, served}
-use Rattle.cdm_serve.specs.Taken.{after, record_heard}
+use Rattle.cdm_serve.specs.Served.{AreReplies, Exchange, IsHeard, IsReplyTo, answered, line_of, numbered, said, served, told_of}
+use Rattle.cdm_serve.specs.Taken.{TakenRecord, after, record_heard, taken}
 use Rattle.cdm_serve.specs.inner.Steps.{HearsInVain, HearsLine, ServeStops, Serves}
 
 -- the day after these lines
@@ -142,3 +145,54 @@ module _ (d : DayRecord) (number : ℕ) (today : DayRecord) (count : ℕ) (old s
   -- it came to the end
   pub ended : (new : List Event) → new ≡ so_far ++ End ∷ [] → Serves d number old new
   ended new is = (ran.lines, ran.replies, is ∙ ap (λ (l : List Event). l ++ End ∷ []) ran.events ∙ append_assoc old (served d ran.lines) (End ∷ []))
+
+-- How many lines were heard.
+
+told_none : (last : Option TakenRecord) (reply : List ℕ) → count_by is_line (told_of last reply) ≡ 0
+told_none None reply = refl
+told_none (Some one) reply = refl
+
+answered_none : (d : DayRecord) (line : LineRecord) (reply : List ℕ) → count_by is_line (answered d line reply) ≡ 0
+answered_none d Blank reply = refl
+answered_none d (One fields) reply = told_none (taken d (One fields)) reply
+answered_none d Several reply = refl
+
+said_one : (heard : Option (List ℕ)) (events : List Event) → count_by is_line (said heard ∷ events) ≡ 1 + count_by is_line events
+said_one None events = refl
+said_one (Some line) events = refl
+
+lines_heard : (d : DayRecord) (xs : List Exchange) → count_by is_line (served d xs) ≡ length xs
+lines_heard d [] = refl
+lines_heard d (x ∷ xs) =
+    let rest : List Event = served (after d (line_of x)) xs in
+    let more : count_by is_line (answered d (line_of x) x.reply ++ rest) ≡ count_by is_line (answered d (line_of x) x.reply) + count_by is_line rest =
+    sum_by-append (λ e. cond (is_line e) 1 0) (answered d (line_of x) x.reply) rest in
+    let none : count_by is_line (answered d (line_of x) x.reply) ≡ 0 = answered_none d (line_of x) x.reply in
+    let again : count_by is_line rest ≡ length xs = lines_heard (after d (line_of x)) xs in
+    said_one x.heard (answered d (line_of x) x.reply ++ rest) ∙ omega (arith, more, none, again)
+
+numbered_few : (number : ℕ) (line : LineRecord) → numbered number line ≤ number + 1
+numbered_few number Blank = omega arith
+numbered_few number (One fields) = omega arith
+numbered_few number Several = omega arith
+
+number_few : (number : ℕ) (xs : List Exchange) → number_after number xs ≤ number + length xs
+number_few number [] = omega arith
+number_few number (x ∷ xs) = omega (arith, number_few (numbered number (line_of x)) xs, numbered_few number (line_of x))
+
+-- there are as many lines as numbers
+pub too_many : (d : DayRecord) (number : ℕ) (today : DayRecord) (count : ℕ) (old so_far new : List Event) (line : LineRecord) → Ran d number today count old so_far
+    → HearsLine so_far new line → count + 1 ≡ 2 ^ 32 → (done : List Event) × (new ≡ old ++ done) × (2 ^ 32 ≤ number + count_by is_line done)
+too_many d number today count old so_far new line ran hears most =
+    let one : List Event = said hears.0 ∷ [] in
+    let all : count_by is_line (served d ran.lines ++ said hears.0 ∷ []) ≡ count_by is_line (served d ran.lines) + count_by is_line (said hears.0 ∷ []) =
+    sum_by-append (λ e. cond (is_line e) 1 0) (served d ran.lines) one in
+    let this : count_by is_line (said hears.0 ∷ []) ≡ 1 = said_one hears.0 [] in
+    let before : count_by is_line (served d ran.lines) ≡ length ran.lines = lines_heard d ran.lines in
+    let few : number_after number ran.lines ≤ number + length ran.lines = number_few number ran.lines in
+    let same : count ≡ number_after number ran.lines = ran.counted in
+    (
+      served d ran.lines ++ said hears.0 ∷ [],
+      hears.2 ∙ ap (λ (l : List Event). l ++ said hears.0 ∷ []) ran.events ∙ append_assoc old (served d ran.lines) (said hears.0 ∷ []),
+      omega (arith, all, this, before, few, same, most),
+    )

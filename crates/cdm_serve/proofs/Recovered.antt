@@ -10,6 +10,7 @@ use Rattle.cdm_flight.specs.Journal.{AirportRows}
 use Rattle.cdm_flight.specs.declared.update.Update.{Update}
 use Rattle.cdm_journal.specs.Journal.{IsWhole, is_plain, journal_line, whole_lines}
 use Rattle.cdm_journal.specs.Laws.{ArePlain, CutsTorn, GivesUpdate, KeepsWhole, RefusesNone}
+use Rattle.cdm_journal.proofs.WholeLemmas.{kept-whole}
 use Rattle.cdm_port.specs.Event.{Event}
 use Rattle.cdm_port.specs.Stop.{IsPrefix}
 use Rattle.cdm_port.proofs.Stops.{prefix_of}
@@ -17,7 +18,7 @@ use Rattle.cdm_serve.specs.Disk.{Disk, MayBeLeft, disk_after, settled}
 use Rattle.cdm_serve.specs.Promises.{IsAllOrOneMore, IsKept, IsRecovered, IsWritten, appended, lines_of, told, untold, updates_of}
 use Rattle.cdm_serve.specs.Served.{day_of}
 use Rattle.cdm_serve.specs.Taken.{TakenRecord}
-use Rattle.cdm_serve.proofs.Begun.{Begins, whole_lines-front, wholes}
+use Rattle.cdm_serve.proofs.Begun.{Begins, whole_lines-front}
 use Rattle.cdm_serve.proofs.Kept.{AreTaken, Holds, IsTakenBy, Keeps, line_in}
 
 lines_of-append : (a b : List TakenRecord) → lines_of (a ++ b) ≡ lines_of a ++ lines_of b
@@ -155,6 +156,6 @@ module _ (plain : ArePlain) (cuts : CutsTorn) (keeps : KeepsWhole) (gives : Give
       left_ends (whole_lines bytes) records last disk (appended moment) left holds may in
       let makes : Makes (whole_lines bytes ++ lines_of (told (day_of g bytes) None moment)) (accepted_in g (whole_lines bytes) ++ updates_of (told (day_of g bytes) None moment))
           × AreTaken g (accepted_in g (whole_lines bytes) ++ updates_of (told (day_of g bytes) None moment)) (option_to_list (untold (day_of g bytes) None moment)) =
-      makes_all (whole_lines bytes) (accepted_in g (whole_lines bytes)) records (option_to_list last) (wholes bytes, accepted, refl) are in
+      makes_all (whole_lines bytes) (accepted_in g (whole_lines bytes)) records (option_to_list last) (kept-whole bytes, accepted, refl) are in
       subst (λ (l : List ℕ). Gives l (accepted_in g (whole_lines bytes) ++ updates_of (told (day_of g bytes) None moment)) (untold (day_of g bytes) None moment)) (sym ends.1)
       (part_read (whole_lines bytes ++ lines_of (told (day_of g bytes) None moment)) ends.0 ends.2.0 _ (untold (day_of g bytes) None moment) makes.0 makes.1 ends.2.1)

@@ -1,6 +1,5 @@
 -- Why a served day ends before its input does.
-use Rattle.std.specs.Prelude.{◌≡◌, ◌⊎◌, ◌≤◌, ◌^◌, ⊤, ℕ, Bool, true, false, List, [], ◌∷◌, length, IfSome, Ok, Option, Some}
-use Rattle.std.specs.List.{count_by}
+use Rattle.std.specs.Prelude.{◌≡◌, ◌≤◌, ◌^◌, ⊤, ℕ, Bool, true, false, List, [], ◌∷◌, count_by, IfSome}
 use Rattle.std.specs.Result.{IsOkAnd}
 use Rattle.cdm_feed.specs.AirportFile.{airport_in}
 use Rattle.cdm_feed.specs.CommonFaults.{IsFirstCommonFault}

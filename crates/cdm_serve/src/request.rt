@@ -36,10 +36,8 @@ fn field(row: &ByteRecord, place: usize) -> &[u8]
 fn flight_asked(name: &[u8]) -> Result<Asked, RefusalWord>
     ensures { result ≡ flight_asked name.now }
 {
-    match FlightName::new(name) {
-        Some(flight) => Ok(Asked::View(Question::Why(flight))),
-        None => Err(RefusalWord::Text),
-    }
+    let flight = FlightName::new(name).ok_or(RefusalWord::Text)?;
+    Ok(Asked::View(Question::Why(flight)))
 }
 
 // The question how full a runway is.
@@ -47,10 +45,8 @@ fn flight_asked(name: &[u8]) -> Result<Asked, RefusalWord>
 fn runway_asked(name: &[u8]) -> Result<Asked, RefusalWord>
     ensures { result ≡ runway_asked name.now }
 {
-    match RunwayName::new(name) {
-        Some(runway) => Ok(Asked::View(Question::Load(Some(runway)))),
-        None => Err(RefusalWord::Text),
-    }
+    let runway = RunwayName::new(name).ok_or(RefusalWord::Text)?;
+    Ok(Asked::View(Question::Load(Some(runway))))
 }
 
 // The request of a question of so many fields, which are to be so many.

@@ -46,7 +46,7 @@ fn serve_lines<P: Port>(
 ) -> Result<(), ServeError>
     ensures ok { OnOk result (Serves day.state day.number (P.events port.old) (P.events port.new)) }
     ensures err { OnErr result (ServeStops day.state day.number (P.events port.old) (P.events port.new)) }
-    ensures fault { IfErr result IsLinesFault }
+    ensures fault { IfErr result (IsLinesFault day.number (P.events port.old) (P.events port.new)) }
 {
     'lines: for _ in 0..u64::MAX {
         let Some(read) = hear(alloc, port)? else {

@@ -1,5 +1,5 @@
 -- What the steps of a served day leave.
-use Rattle.std.specs.Prelude.{◌≡◌, ◌⊎◌, ◌+◌, ◌≤◌, ◌^◌, ⊤, ℕ, List, [], ◌∷◌, ◌++◌, length, Option, None, Some}
+use Rattle.std.specs.Prelude.{◌≡◌, ◌⊎◌, ◌+◌, ◌≤◌, ◌^◌, ⊤, ℕ, count_by, List, [], ◌∷◌, ◌++◌, length, Option, None, Some}
 use Rattle.cdm_feed.specs.declared.common_fault.CommonFault.TheVariants as common
 use Rattle.cdm_feed.specs.declared.file_fault.FileFault.{FileFault}
 use Rattle.cdm_feed.specs.declared.file_fault.FileFault.TheVariants as file
@@ -12,6 +12,7 @@ use Rattle.cdm_journal.specs.declared.lines.LineRead.{LineRead}
 use Rattle.cdm_port.specs.Event.{Event}
 use Rattle.cdm_port.specs.Event.Event.{Appended, End, Flushed, Read, Replied, Synced}
 use Rattle.cdm_port.specs.Stop.{Stops}
+use Rattle.cdm_serve.specs.Faults.{is_line}
 use Rattle.cdm_serve.specs.Served.{AreReplies, Exchange, IsHeard, day_of, said, served, started}
 use Rattle.cdm_serve.specs.Taken.{record_heard}
 use Rattle.cdm_plan.specs.Day.{DayRecord}
@@ -58,13 +59,13 @@ IsAnswerFault number (error.Journal place word) = ⊥
 IsAnswerFault number (error.Port fault) = ⊥
 IsAnswerFault number error.TooMany = number + 1 ≡ 2 ^ 32
 
--- why the lines aren't served to the end
-abbrev pub IsLinesFault : ServeError → Type 0
-IsLinesFault (error.Common common.Memory) = ⊤
-IsLinesFault (error.Common fault) = ⊥
-IsLinesFault (error.Journal place word) = ⊥
-IsLinesFault (error.Port fault) = ⊤
-IsLinesFault error.TooMany = ⊤
+-- why the lines aren't served to the end, where so many records and questions were numbered before
+abbrev pub IsLinesFault : ℕ → List Event → List Event → ServeError → Type 0
+IsLinesFault number old new (error.Common common.Memory) = ⊤
+IsLinesFault number old new (error.Common fault) = ⊥
+IsLinesFault number old new (error.Journal place word) = ⊥
+IsLinesFault number old new (error.Port fault) = ⊤
+IsLinesFault number old new error.TooMany = (done : List Event) × (new ≡ old ++ done) × (2 ^ 32 ≤ number + count_by is_line done)
 
 -- all lines were served to the end
 abbrev pub Serves : DayRecord → ℕ → List Event → List Event → Type 0
