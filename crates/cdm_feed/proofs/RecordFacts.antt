@@ -38,7 +38,7 @@ start_record-between c =
     (λ h. cc) (start_field-between c)
 
 -- where a byte ends a record, the machine is between two records
-step-between : (s : State) (c : ℕ) → EndsBetween (step default_config s c)
+pub step-between : (s : State) (c : ℕ) → EndsBetween (step default_config s c)
 step-between st.StartRecord c = start_record-between c
 step-between st.StartField c = start_field-between c
 step-between st.InField c = in_field-between c

@@ -43,7 +43,7 @@ both_false : (a b : Bool) → (a || b) ≡ false → (a ≡ false) × (b ≡ fal
 both_false true b e = cc
 both_false false b e = (refl, e)
 
-unmarked : (x : List ℕ) → list_any is_mark x ≡ false → list_any (needs_byte default_writer) x ≡ false
+pub unmarked : (x : List ℕ) → list_any is_mark x ≡ false → list_any (needs_byte default_writer) x ≡ false
 unmarked [] e = refl
 unmarked (b ∷ bs) e =
     let q = both_false (is_mark b) (list_any is_mark bs) e in

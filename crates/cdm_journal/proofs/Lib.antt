@@ -1,0 +1,5 @@
+pub mod TextLemmas
+pub mod WholeLemmas
+pub mod PlainLemmas
+pub mod MachineLemmas
+pub mod RecoveryLemmas

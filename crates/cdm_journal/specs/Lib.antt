@@ -1,0 +1,4 @@
+pub mod Journal
+pub mod Lines
+pub mod Reading
+pub mod Laws

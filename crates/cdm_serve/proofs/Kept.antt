@@ -1,0 +1,262 @@
+-- At each moment of a served day the journal has what was told.
+use Rattle.std.proofs.Common.{◌≡◌, inl, inr, ℕ, Bool, true, false, Option, None, Some, Result, Ok, Err, List, [], ◌∷◌, ◌++◌, refl, sym, ◌∙◌, ap, subst, append_assoc}
+use Rattle.std.specs.Prelude.{⊤, if◌then◌else◌, bytes_eq, codes, length}
+use Rattle.std.specs.Option.{option_to_list}
+use Rattle.std.proofs.lemmas.List.{append-nil}
+use Rattle.cdm_time.specs.declared.calendar.CalendarDate.{CalendarDate}
+use Rattle.cdm_feed.specs.Fields.{counted, field}
+use Rattle.cdm_feed.specs.Parsing.{parse_of}
+use Rattle.cdm_feed.specs.Refused.{Spelled}
+use Rattle.cdm_flight.specs.Accepted.{refusal}
+use Rattle.cdm_flight.specs.Journal.{AirportRows}
+use Rattle.cdm_flight.specs.declared.role.Role.{Role}
+use Rattle.cdm_flight.specs.declared.update.Update.{Update}
+use Rattle.cdm_flight.specs.declared.word.RefusalWord.{RefusalWord}
+use Rattle.cdm_journal.specs.Journal.{journal_line}
+use Rattle.cdm_journal.specs.Lines.{LineRecord}
+use Rattle.cdm_journal.specs.Lines.LineRecord.{Blank, One, Several}
+use Rattle.cdm_plan.specs.Day.{DayRecord}
+use Rattle.cdm_port.specs.Event.{Event}
+use Rattle.cdm_port.specs.Event.Event.{Appended, Broken, Cut, End, Flushed, Line, Read, Replied, Synced}
+use Rattle.cdm_port.specs.Stop.{IsPrefix, IsStopOf}
+use Rattle.cdm_serve.specs.Disk.{Disk, disk_after, settled}
+use Rattle.cdm_serve.specs.Promises.{appended, lines_of, told, untold}
+use Rattle.cdm_serve.specs.Requests.{asked_by, flight_asked, request_in, runway_asked}
+use Rattle.cdm_serve.specs.Served.{Exchange, IsHeard, answered, line_of, said, served, told_of}
+use Rattle.cdm_serve.specs.Taken.{TakenRecord, after, day_with, record_heard, taken, taken_of, unless_refused}
+use Rattle.cdm_serve.specs.declared.asked.Asked.{Asked}
+use Rattle.cdm_serve.specs.declared.asked.Asked.TheVariants.{Plan}
+use Rattle.cdm_serve.specs.declared.request.Request.{Request}
+use Rattle.cdm_serve.specs.declared.request.Request.TheVariants.{Ask, Nothing, Post}
+
+-- Taken records.
+
+-- no word refuses the update that the record's fields spell
+abbrev pub IsTakenBy : AirportRows → List Update → TakenRecord → Type 0
+IsTakenBy g a one = (role : Role) × (parse_of g.day one.fields ≡ Ok (role, one.update)) × (refusal g a role one.update ≡ None)
+
+-- one after another
+abbrev pub AreTaken : AirportRows → List Update → List TakenRecord → Type 0
+AreTaken g a [] = ⊤
+AreTaken g a (one ∷ more) = IsTakenBy g a one × AreTaken g (a ++ one.update ∷ []) more
+
+abbrev pub IfTaken : DayRecord → Option TakenRecord → Type 0
+IfTaken d None = ⊤
+IfTaken d (Some one) = IsTakenBy d.airport d.journal one
+
+module _ (day : CalendarDate) (fields : List (List ℕ)) where
+  -- a request that posts an update has it of the fields
+  abbrev Spells : Request → Type 0
+  Spells Nothing = ⊤
+  Spells (Ask asked) = ⊤
+  Spells (Post (Err word)) = ⊤
+  Spells (Post (Ok update)) = parse_of day fields ≡ Ok update
+
+  asked_spells : (asked : Result Asked RefusalWord) → Spells (asked_by asked)
+  asked_spells (Ok asked) = tt
+  asked_spells (Err word) = tt
+
+  post_spells : (spelled : Spelled) → parse_of day fields ≡ spelled → Spells (Post spelled)
+  post_spells (Ok update) is = is
+  post_spells (Err word) is = tt
+
+  either_spells : (b : Bool) (one other : Request) → Spells one → Spells other → Spells (if b then one else other)
+  either_spells true one other is also = is
+  either_spells false one other is also = also
+
+  spells : Spells (request_in day fields)
+  unfolding request_in
+  spells =
+      either_spells (bytes_eq (field fields 0) (codes "PLAN")) _ _ (asked_spells (counted 1 (length fields) (Ok Plan)))
+      (either_spells (bytes_eq (field fields 0) (codes "WHY")) _ _ (asked_spells (counted 2 (length fields) (flight_asked (field fields 1))))
+      (either_spells (bytes_eq (field fields 0) (codes "LOAD")) _ _ (asked_spells (counted 2 (length fields) (runway_asked (field fields 1))))
+      (post_spells (parse_of day fields) refl)))
+
+module _ (d : DayRecord) (fields : List (List ℕ)) where
+  unless_is : (word : Option RefusalWord) (update : Role × Update) → refusal d.airport d.journal update.0 update.1 ≡ word → parse_of d.airport.day fields ≡ Ok update
+      → IfTaken d (unless_refused word fields update.1)
+  unless_is None update none is = (update.0, is, none)
+  unless_is (Some word) update none is = tt
+
+  taken_of_is : (request : Request) → Spells d.airport.day fields request → IfTaken d (taken_of d fields request)
+  taken_of_is Nothing is = tt
+  taken_of_is (Ask asked) is = tt
+  taken_of_is (Post (Err word)) is = tt
+  taken_of_is (Post (Ok update)) is = unless_is (refusal d.airport d.journal update.0 update.1) update refl is
+
+pub taken_is : (d : DayRecord) (line : LineRecord) → IfTaken d (taken d line)
+taken_is d Blank = tt
+taken_is d Several = tt
+taken_is d (One fields) = taken_of_is d fields (request_in d.airport.day fields) (spells d.airport.day fields)
+
+one_taken : (d : DayRecord) (last : Option TakenRecord) → IfTaken d last → AreTaken d.airport d.journal (option_to_list last)
+one_taken d None is = tt
+one_taken d (Some one) is = (is, tt)
+
+-- What the journal holds.
+
+abbrev pub line_in : Option TakenRecord → List ℕ
+line_in None = []
+line_in (Some one) = journal_line one.fields
+
+-- The journal was whole. Synced behind it are the lines that were told, and a tail; a rest is unsynced. The tail and the rest begin the line
+-- that isn't told yet.
+abbrev pub Holds : List ℕ → List TakenRecord → Option TakenRecord → Disk → List ℕ → Type 0
+Holds whole records last disk more = (tail : List ℕ) × (rest : List ℕ)
+    × (disk.synced ≡ whole ++ (lines_of records ++ tail)) × (disk.uncut ≡ disk.synced) × (disk.written ≡ disk.synced ++ rest)
+    × (more ≡ lines_of records ++ (tail ++ rest)) × IsPrefix (tail ++ rest) (line_in last)
+
+-- and all of these records were taken by the day
+abbrev pub Keeps : DayRecord → List ℕ → List TakenRecord → Option TakenRecord → Disk → List ℕ → Type 0
+Keeps d whole records last disk more = Holds whole records last disk more × AreTaken d.airport d.journal (records ++ option_to_list last)
+
+-- of a run that stops anywhere
+abbrev pub AlwaysKeeps : DayRecord → List Event → Type 0
+AlwaysKeeps d run = (whole : List ℕ) (moment : List Event) → IsStopOf moment run
+    → Keeps d whole (told d None moment) (untold d None moment) (disk_after (settled whole) moment) (appended moment)
+
+-- nothing is told, and nothing of the last line is written
+untouched : (whole : List ℕ) (last : Option TakenRecord) → Holds whole [] last (settled whole) []
+untouched whole last = ([], [], sym (append-nil whole), refl, sym (append-nil whole), refl, (line_in last, refl))
+
+pub nothing_yet : (d : DayRecord) (whole : List ℕ) → Keeps d whole [] None (settled whole) []
+nothing_yet d whole = (untouched whole None, tt)
+
+module _ (d : DayRecord) (one : TakenRecord) (is : IsTakenBy d.airport d.journal one) (reply : List ℕ) (rest : List Event)
+    (later : AlwaysKeeps (day_with d (Some one)) rest) (whole : List ℕ) where
+  abbrev next : DayRecord
+  next = day_with d (Some one)
+
+  abbrev bytes : List ℕ
+  bytes = journal_line one.fields
+
+  told_now : Keeps d whole (one ∷ []) None (settled (whole ++ bytes)) (bytes ++ [])
+  told_now = (
+    (
+      [],
+      [],
+      ap (λ (l : List ℕ). whole ++ l) (sym (append-nil bytes) ∙ sym (append-nil (bytes ++ []))),
+      refl,
+      sym (append-nil (whole ++ bytes)),
+      sym (append-nil (bytes ++ [])),
+      ([], refl),
+    ),
+    (is, tt),
+  )
+
+  told_then : (records : List TakenRecord) (last : Option TakenRecord) (disk : Disk) (more : List ℕ) → Keeps next (whole ++ bytes) records last disk more
+      → Keeps d whole (one ∷ records) last disk (bytes ++ more)
+  told_then records last disk more (holds, are) = (
+    (
+      holds.0,
+      holds.1,
+      holds.2 ∙ append_assoc whole bytes (lines_of records ++ holds.0) ∙ ap (λ (l : List ℕ). whole ++ l) (sym (append_assoc bytes (lines_of records) holds.0)),
+      holds.3,
+      holds.4,
+      ap (λ (l : List ℕ). bytes ++ l) holds.5 ∙ sym (append_assoc bytes (lines_of records) (holds.0 ++ holds.1)),
+      holds.6,
+    ),
+    (is, are),
+  )
+
+  flushed : (moment : List Event) → IsStopOf moment (Flushed ∷ rest)
+      → Keeps d whole (one ∷ told next None moment) (untold next None moment) (disk_after (settled (whole ++ bytes)) moment) (bytes ++ appended moment)
+  flushed moment (inl none) =
+      subst (λ (m : List Event). Keeps d whole (one ∷ told next None m) (untold next None m) (disk_after (settled (whole ++ bytes)) m) (bytes ++ appended m)) (sym none) told_now
+  flushed moment (inr (inl torn)) = absurd torn
+  flushed moment (inr (inr (m, same, stop))) =
+      subst (λ (m : List Event). Keeps d whole (one ∷ told next None m) (untold next None m) (disk_after (settled (whole ++ bytes)) m) (bytes ++ appended m)) (sym same)
+      (told_then (told next None m) (untold next None m) (disk_after (settled (whole ++ bytes)) m) (appended m) (later (whole ++ bytes) m stop))
+
+  -- from here on the line is the one that isn't told yet
+  abbrev After : Disk → List ℕ → List Event → Type 0
+  After disk before m = Keeps d whole (told next (Some one) m) (untold next (Some one) m) (disk_after disk m) (before ++ appended m)
+
+  untold_now : Keeps d whole [] (Some one) (settled (whole ++ bytes)) (bytes ++ [])
+  untold_now = (
+    (bytes, [], refl, refl, sym (append-nil (whole ++ bytes)), refl, ([], sym (append-nil bytes) ∙ sym (append-nil (bytes ++ [])))),
+    (is, tt),
+  )
+
+  replied : (moment : List Event) → IsStopOf moment (Replied reply ∷ Flushed ∷ rest) → After (settled (whole ++ bytes)) bytes moment
+  replied moment (inl none) = subst (After (settled (whole ++ bytes)) bytes) (sym none) untold_now
+  replied moment (inr (inl torn)) = subst (After (settled (whole ++ bytes)) bytes) (sym torn.2) told_now
+  replied moment (inr (inr (m, same, stop))) = subst (After (settled (whole ++ bytes)) bytes) (sym same) (flushed m stop)
+
+  abbrev unsynced : List ℕ → Disk
+  unsynced part = record { synced = whole; uncut = whole; written = whole ++ part }
+
+  part_only : (part : List ℕ) → IsPrefix part bytes → Keeps d whole [] (Some one) (unsynced part) (part ++ [])
+  part_only part front = (([], part, sym (append-nil whole), refl, refl, append-nil part, front), (is, tt))
+
+  synced_then : (moment : List Event) → IsStopOf moment (Synced ∷ Replied reply ∷ Flushed ∷ rest) → After (unsynced bytes) bytes moment
+  synced_then moment (inl none) = subst (After (unsynced bytes) bytes) (sym none) (part_only bytes ([], sym (append-nil bytes)))
+  synced_then moment (inr (inl torn)) = absurd torn
+  synced_then moment (inr (inr (m, same, stop))) = subst (After (unsynced bytes) bytes) (sym same) (replied m stop)
+
+  pub on_taken : (moment : List Event) → IsStopOf moment (Appended bytes ∷ Synced ∷ Replied reply ∷ Flushed ∷ rest) → After (settled whole) [] moment
+  on_taken moment (inl none) = subst (After (settled whole) []) (sym none) (untouched whole (Some one), (is, tt))
+  on_taken moment (inr (inl torn)) = subst (After (settled whole) []) (sym torn.2) (part_only torn.0 torn.1)
+  on_taken moment (inr (inr (m, same, stop))) = subst (After (settled whole) []) (sym same) (synced_then m stop)
+
+-- a reply that leaves the journal alone
+module _ (d : DayRecord) (reply : List ℕ) (rest : List Event) (later : AlwaysKeeps d rest) (whole : List ℕ) where
+  abbrev Untouched : List Event → Type 0
+  Untouched m = Keeps d whole (told d None m) (untold d None m) (disk_after (settled whole) m) (appended m)
+
+  flushed_only : (moment : List Event) → IsStopOf moment (Flushed ∷ rest) → Untouched moment
+  flushed_only moment (inl none) = subst Untouched (sym none) (nothing_yet d whole)
+  flushed_only moment (inr (inl torn)) = absurd torn
+  flushed_only moment (inr (inr (m, same, stop))) = subst Untouched (sym same) (later whole m stop)
+
+  pub on_other : (moment : List Event) → IsStopOf moment (Replied reply ∷ Flushed ∷ rest) → Untouched moment
+  on_other moment (inl none) = subst Untouched (sym none) (nothing_yet d whole)
+  on_other moment (inr (inl torn)) = subst Untouched (sym torn.2) (nothing_yet d whole)
+  on_other moment (inr (inr (m, same, stop))) = subst Untouched (sym same) (flushed_only m stop)
+
+-- One line, and then the rest.
+
+abbrev Answers : DayRecord → DayRecord → Option TakenRecord → List Event → Type 0
+Answers d next last run = (whole : List ℕ) (moment : List Event) → IsStopOf moment run
+    → Keeps d whole (told next last moment) (untold next last moment) (disk_after (settled whole) moment) (appended moment)
+
+on_told : (d : DayRecord) (last : Option TakenRecord) (reply : List ℕ) (rest : List Event) → IfTaken d last → AlwaysKeeps (day_with d last) rest
+    → Answers d (day_with d last) last (told_of last reply ++ rest)
+on_told d None reply rest is later whole moment stop = on_other d reply rest later whole moment stop
+on_told d (Some one) reply rest is later whole moment stop = on_taken d one is reply rest later whole moment stop
+
+on_answered : (d : DayRecord) (line : LineRecord) (reply : List ℕ) (rest : List Event) → AlwaysKeeps (after d line) rest
+    → Answers d (after d line) (taken d line) (answered d line reply ++ rest)
+on_answered d Blank reply rest later whole moment stop = later whole moment stop
+on_answered d Several reply rest later whole moment stop = on_other d reply rest later whole moment stop
+on_answered d (One fields) reply rest later whole moment stop = on_told d (taken d (One fields)) reply rest (taken_is d (One fields)) later whole moment stop
+
+on_line : (d : DayRecord) (heard : Option (List ℕ)) (run : List Event) → Answers d (after d (record_heard heard)) (taken d (record_heard heard)) run → AlwaysKeeps d (said heard ∷ run)
+on_line d heard run answers whole moment (inl none) = subst (Untouched d whole) (sym none) (nothing_yet d whole)
+on_line d None run answers whole moment (inr (inl torn)) = absurd torn
+on_line d (Some line) run answers whole moment (inr (inl torn)) = absurd torn
+on_line d None run answers whole moment (inr (inr (m, same, stop))) = subst (Untouched d whole) (sym same) (answers whole m stop)
+on_line d (Some line) run answers whole moment (inr (inr (m, same, stop))) = subst (Untouched d whole) (sym same) (answers whole m stop)
+
+heard_last : (d : DayRecord) (next : Event) → IsHeard next → AlwaysKeeps d (next ∷ [])
+heard_last d End is whole moment (inl none) = subst (Untouched d whole) (sym none) (nothing_yet d whole)
+heard_last d End is whole moment (inr (inl torn)) = absurd torn
+heard_last d End is whole moment (inr (inr (m, same, stop))) = subst (Untouched d whole) (sym (same ∙ ap (λ (l : List Event). End ∷ l) stop)) (nothing_yet d whole)
+heard_last d Broken is = on_line d None [] (λ whole moment stop. subst (λ (m : List Event). Keeps d whole (told d None m) (untold d None m) (disk_after (settled whole) m) (appended m)) (sym stop) (nothing_yet d whole))
+heard_last d (Line line) is = on_line d (Some line) [] (λ whole moment stop.
+    let last : Option TakenRecord = taken d (record_heard (Some line)) in
+    subst (λ (m : List Event). Keeps d whole (told (after d (record_heard (Some line))) last m) (untold (after d (record_heard (Some line))) last m) (disk_after (settled whole) m) (appended m)) (sym stop)
+    (untouched whole last, one_taken d last (taken_is d (record_heard (Some line)))))
+heard_last d (Read bytes) is = absurd is
+heard_last d (Cut kept) is = absurd is
+heard_last d (Appended bytes) is = absurd is
+heard_last d Synced is = absurd is
+heard_last d (Replied text) is = absurd is
+heard_last d Flushed is = absurd is
+
+pub always_keeps : (d : DayRecord) (xs : List Exchange) (next : Event) → IsHeard next → AlwaysKeeps d (served d xs ++ next ∷ [])
+always_keeps d [] next is = heard_last d next is
+always_keeps d (x ∷ xs) next is =
+    subst (λ (run : List Event). AlwaysKeeps d (said x.heard ∷ run)) (sym (append_assoc (answered d (line_of x) x.reply) (served (after d (line_of x)) xs) (next ∷ [])))
+    (on_line d x.heard (answered d (line_of x) x.reply ++ (served (after d (line_of x)) xs ++ next ∷ []))
+    (on_answered d (line_of x) x.reply (served (after d (line_of x)) xs ++ next ∷ []) (always_keeps (after d (line_of x)) xs next is)))

@@ -1,0 +1,198 @@
+-- A day that is served, line by line and to the end of the input.
+use Rattle.std.proofs.Common.{◌≡◌, ◌⊎◌, inl, inr, ℕ, ◌+◌, ◌≤◌, ◌^◌, Option, None, Some, cond, count_by, length, arith, List, [], ◌∷◌, ◌++◌, refl, sym, ◌∙◌, ap, subst, append_assoc}
+use Rattle.std.proofs.lemmas.List.{append-nil}
+use Rattle.std.proofs.lemmas.List.Sums.{sum_by-append}
+use Rattle.cdm_journal.specs.Lines.{LineRecord}
+use Rattle.cdm_journal.specs.Lines.LineRecord.{Blank, One, Several}
+use Rattle.cdm_plan.specs.Day.{DayRecord}
+use Rattle.cdm_port.specs.Event.{Event}
+use Rattle.cdm_port.specs.Event.Event.{End}
+use Rattle.cdm_port.specs.Stop.{IsStopOf, Stops}
+use Rattle.cdm_port.proofs.Stops.{front, longer, past}
+use Rattle.cdm_serve.specs.Faults.{is_line}
+use Rattle.cdm_serve.specs.Requests.{request_of}
+use Rattle.cdm_serve.specs.Served.{AreReplies, Exchange, IsHeard, IsReplyTo, answered, line_of, numbered, said, served, told_of}
+use Rattle.cdm_serve.specs.Taken.{TakenRecord, after, record_heard, taken}
+use Rattle.cdm_serve.specs.inner.Steps.{HearsInVain, HearsLine, ServeStops, Serves}
+
+-- the day after these lines
+abbrev pub after_all : DayRecord → List Exchange → DayRecord
+after_all d [] = d
+after_all d (x ∷ xs) = after_all (after d (line_of x)) xs
+
+-- how many are numbered after these lines
+abbrev pub number_after : ℕ → List Exchange → ℕ
+number_after number [] = number
+number_after number (x ∷ xs) = number_after (numbered number (line_of x)) xs
+
+-- some lines were served
+pub record Ran (d : DayRecord) (number : ℕ) (today : DayRecord) (count : ℕ) (old new : List Event) : Type 0 where
+  pub lines : List Exchange
+  pub replies : AreReplies d number lines
+  pub events : new ≡ old ++ served d lines
+  pub day : today ≡ after_all d lines
+  pub counted : count ≡ number_after number lines
+
+pub none : (d : DayRecord) (number : ℕ) (old : List Event) → Ran d number d number old old
+none d number old = record { lines = []; replies = tt; events = sym (append-nil old); day = refl; counted = refl }
+
+abbrev IsNext : DayRecord → ℕ → Exchange → Type 0
+IsNext d number x = IsReplyTo d (numbered number (line_of x)) (request_of d.airport.day (line_of x)) x.reply
+
+served_more : (d : DayRecord) (xs : List Exchange) (x : Exchange)
+    → served d (xs ++ x ∷ []) ≡ served d xs ++ said x.heard ∷ answered (after_all d xs) (line_of x) x.reply
+served_more d [] x = ap (λ (l : List Event). said x.heard ∷ l) (append-nil (answered d (line_of x) x.reply))
+served_more d (first ∷ xs) x =
+    ap (λ (l : List Event). said first.heard ∷ (answered d (line_of first) first.reply ++ l)) (served_more (after d (line_of first)) xs x)
+    ∙ ap (λ (l : List Event). said first.heard ∷ l) (sym (append_assoc (answered d (line_of first) first.reply) (served (after d (line_of first)) xs)
+    (said x.heard ∷ answered (after_all (after d (line_of first)) xs) (line_of x) x.reply)))
+
+replies_more : (d : DayRecord) (number : ℕ) (xs : List Exchange) (x : Exchange)
+    → AreReplies d number xs → IsNext (after_all d xs) (number_after number xs) x → AreReplies d number (xs ++ x ∷ [])
+replies_more d number [] x are is = (is, tt)
+replies_more d number (first ∷ xs) x are is = (are.0, replies_more (after d (line_of first)) (numbered number (line_of first)) xs x are.1 is)
+
+day_more : (d : DayRecord) (xs : List Exchange) (x : Exchange) → after_all d (xs ++ x ∷ []) ≡ after (after_all d xs) (line_of x)
+day_more d [] x = refl
+day_more d (first ∷ xs) x = day_more (after d (line_of first)) xs x
+
+number_more : (number : ℕ) (xs : List Exchange) (x : Exchange) → number_after number (xs ++ x ∷ []) ≡ numbered (number_after number xs) (line_of x)
+number_more number [] x = refl
+number_more number (first ∷ xs) x = number_more (numbered number (line_of first)) xs x
+
+module _ (d : DayRecord) (number : ℕ) (today : DayRecord) (count : ℕ) (old so_far : List Event) (ran : Ran d number today count old so_far) where
+  -- one line more, and its answer in full or in part
+  module _ (read : List Event) (line : LineRecord) (text : List ℕ) (hears : HearsLine so_far read line)
+      (is : IsReplyTo today (numbered count line) (request_of today.airport.day line) text) where
+    abbrev one : Exchange
+    one = record { heard = hears.0; reply = text }
+
+    same_line : line ≡ line_of one
+    same_line = hears.1
+
+    is_next : IsNext (after_all d ran.lines) (number_after number ran.lines) one
+    is_next =
+        subst (λ (d : DayRecord). IsNext d (number_after number ran.lines) one) ran.day
+        (subst (λ (n : ℕ). IsNext today n one) ran.counted
+        (subst (λ (l : LineRecord). IsReplyTo today (numbered count l) (request_of today.airport.day l) text) same_line is))
+
+    replies : AreReplies d number (ran.lines ++ one ∷ [])
+    replies = replies_more d number ran.lines one ran.replies is_next
+
+    same_answer : answered today line text ≡ answered (after_all d ran.lines) (line_of one) text
+    same_answer = ap (λ (l : LineRecord). answered today l text) same_line ∙ ap (λ (d : DayRecord). answered d (line_of one) text) ran.day
+
+    heard_then : (new done : List Event) → new ≡ read ++ done → new ≡ old ++ (served d ran.lines ++ said hears.0 ∷ done)
+    heard_then new done was =
+        was
+        ∙ ap (λ (l : List Event). l ++ done) (hears.2 ∙ ap (λ (l : List Event). l ++ said hears.0 ∷ []) ran.events ∙ append_assoc old (served d ran.lines) (said hears.0 ∷ []))
+        ∙ append_assoc old (served d ran.lines ++ said hears.0 ∷ []) done
+        ∙ ap (λ (l : List Event). old ++ l) (append_assoc (served d ran.lines) (said hears.0 ∷ []) done)
+
+    pub goes_on : (next : DayRecord) (more : ℕ) (new : List Event) → new ≡ read ++ answered today line text → next ≡ after today line → more ≡ numbered count line
+        → Ran d number next more old new
+    goes_on next more new was next_day next_number = record {
+      lines = ran.lines ++ one ∷ [];
+      replies = replies;
+      events =
+          heard_then new (answered today line text) was
+          ∙ ap (λ (l : List Event). old ++ (served d ran.lines ++ said hears.0 ∷ l)) same_answer
+          ∙ ap (λ (l : List Event). old ++ l) (sym (served_more d ran.lines one));
+      day = next_day ∙ ap (after today) same_line ∙ ap (λ (d : DayRecord). after d (line_of one)) ran.day ∙ sym (day_more d ran.lines one);
+      counted = next_number ∙ ap (numbered count) same_line ∙ ap (λ (n : ℕ). numbered n (line_of one)) ran.counted ∙ sym (number_more number ran.lines one);
+    }
+
+    -- it stopped in the midst of an answer
+    pub midst : (new : List Event) → Stops read (answered today line text) new → ServeStops d number old new
+    midst new stop =
+        let in_answer : IsStopOf stop.0 (answered (after_all d ran.lines) (line_of one) text) = subst (λ (l : List Event). IsStopOf stop.0 l) same_answer stop.1 in
+        let at : IsStopOf (served d ran.lines ++ said hears.0 ∷ stop.0) (served d (ran.lines ++ one ∷ [])) =
+        subst (λ (l : List Event). IsStopOf (served d ran.lines ++ said hears.0 ∷ stop.0) l) (sym (served_more d ran.lines one))
+        (past (served d ran.lines) (said hears.0 ∷ stop.0) (said hears.0 ∷ answered (after_all d ran.lines) (line_of one) text)
+        (past (said hears.0 ∷ []) stop.0 (answered (after_all d ran.lines) (line_of one) text) in_answer)) in
+        (
+          ran.lines ++ one ∷ [],
+          End,
+          replies,
+          tt,
+          (
+            served d ran.lines ++ said hears.0 ∷ stop.0,
+            longer (served d ran.lines ++ said hears.0 ∷ stop.0) (served d (ran.lines ++ one ∷ [])) (End ∷ []) at,
+            heard_then new stop.0 stop.2,
+          ),
+        )
+
+  -- it stopped before the next line
+  pub between : ServeStops d number old so_far
+  between = (ran.lines, End, ran.replies, tt, (served d ran.lines, front (served d ran.lines) (End ∷ []), ran.events))
+
+  is_heard : (heard : Option (List ℕ)) → IsHeard (said heard)
+  is_heard None = tt
+  is_heard (Some line) = tt
+
+  -- it stopped behind a line, before its answer
+  pub behind : (new : List Event) (line : LineRecord) → HearsLine so_far new line → ServeStops d number old new
+  behind new line hears =
+      let whole : List Event = served d ran.lines ++ said hears.0 ∷ [] in
+      let all : new ≡ old ++ (served d ran.lines ++ said hears.0 ∷ []) =
+      hears.2 ∙ ap (λ (l : List Event). l ++ said hears.0 ∷ []) ran.events ∙ append_assoc old (served d ran.lines) (said hears.0 ∷ []) in
+      (ran.lines, said hears.0, ran.replies, is_heard hears.0, (whole, subst (λ (l : List Event). IsStopOf whole l) (append-nil whole) (front whole []), all))
+
+  pub in_vain : (new : List Event) → HearsInVain so_far new → ServeStops d number old new
+  in_vain new (inl same) = subst (λ (l : List Event). ServeStops d number old l) (sym same) between
+  in_vain new (inr (line, hears)) = behind new line hears
+
+  -- it came to the end
+  pub ended : (new : List Event) → new ≡ so_far ++ End ∷ [] → Serves d number old new
+  ended new is = (ran.lines, ran.replies, is ∙ ap (λ (l : List Event). l ++ End ∷ []) ran.events ∙ append_assoc old (served d ran.lines) (End ∷ []))
+
+-- How many lines were heard.
+
+told_none : (last : Option TakenRecord) (reply : List ℕ) → count_by is_line (told_of last reply) ≡ 0
+told_none None reply = refl
+told_none (Some one) reply = refl
+
+answered_none : (d : DayRecord) (line : LineRecord) (reply : List ℕ) → count_by is_line (answered d line reply) ≡ 0
+answered_none d Blank reply = refl
+answered_none d (One fields) reply = told_none (taken d (One fields)) reply
+answered_none d Several reply = refl
+
+said_one : (heard : Option (List ℕ)) (events : List Event) → count_by is_line (said heard ∷ events) ≡ 1 + count_by is_line events
+said_one None events = refl
+said_one (Some line) events = refl
+
+lines_heard : (d : DayRecord) (xs : List Exchange) → count_by is_line (served d xs) ≡ length xs
+lines_heard d [] = refl
+lines_heard d (x ∷ xs) =
+    let rest : List Event = served (after d (line_of x)) xs in
+    let more : count_by is_line (answered d (line_of x) x.reply ++ rest) ≡ count_by is_line (answered d (line_of x) x.reply) + count_by is_line rest =
+    sum_by-append (λ e. cond (is_line e) 1 0) (answered d (line_of x) x.reply) rest in
+    let none : count_by is_line (answered d (line_of x) x.reply) ≡ 0 = answered_none d (line_of x) x.reply in
+    let again : count_by is_line rest ≡ length xs = lines_heard (after d (line_of x)) xs in
+    said_one x.heard (answered d (line_of x) x.reply ++ rest) ∙ omega (arith, more, none, again)
+
+numbered_few : (number : ℕ) (line : LineRecord) → numbered number line ≤ number + 1
+numbered_few number Blank = omega arith
+numbered_few number (One fields) = omega arith
+numbered_few number Several = omega arith
+
+number_few : (number : ℕ) (xs : List Exchange) → number_after number xs ≤ number + length xs
+number_few number [] = omega arith
+number_few number (x ∷ xs) = omega (arith, number_few (numbered number (line_of x)) xs, numbered_few number (line_of x))
+
+-- there are as many lines as numbers
+pub too_many : (d : DayRecord) (number : ℕ) (today : DayRecord) (count : ℕ) (old so_far new : List Event) (line : LineRecord) → Ran d number today count old so_far
+    → HearsLine so_far new line → count + 1 ≡ 2 ^ 32 → (done : List Event) × (new ≡ old ++ done) × (2 ^ 32 ≤ number + count_by is_line done)
+too_many d number today count old so_far new line ran hears most =
+    let one : List Event = said hears.0 ∷ [] in
+    let all : count_by is_line (served d ran.lines ++ said hears.0 ∷ []) ≡ count_by is_line (served d ran.lines) + count_by is_line (said hears.0 ∷ []) =
+    sum_by-append (λ e. cond (is_line e) 1 0) (served d ran.lines) one in
+    let this : count_by is_line (said hears.0 ∷ []) ≡ 1 = said_one hears.0 [] in
+    let before : count_by is_line (served d ran.lines) ≡ length ran.lines = lines_heard d ran.lines in
+    let few : number_after number ran.lines ≤ number + length ran.lines = number_few number ran.lines in
+    let same : count ≡ number_after number ran.lines = ran.counted in
+    (
+      served d ran.lines ++ said hears.0 ∷ [],
+      hears.2 ∙ ap (λ (l : List Event). l ++ said hears.0 ∷ []) ran.events ∙ append_assoc old (served d ran.lines) (said hears.0 ∷ []),
+      omega (arith, all, this, before, few, same, most),
+    )

@@ -1,0 +1,85 @@
+-- A run of a served day, from its start to its end.
+use Rattle.std.proofs.Common.{◌≡◌, ◌⊎◌, inl, inr, ℕ, List, [], ◌∷◌, ◌++◌, length, refl, sym, ◌∙◌, ap, subst, append_assoc}
+use Rattle.std.proofs.lemmas.List.{append-nil}
+use Rattle.cdm_feed.specs.Output.{refusals_in}
+use Rattle.cdm_flight.specs.Journal.{AirportRows}
+use Rattle.cdm_journal.specs.Journal.{whole_lines}
+use Rattle.cdm_journal.proofs.PlainLemmas.{plain}
+use Rattle.cdm_journal.proofs.RecoveryLemmas.{gives-update, refuses-none}
+use Rattle.cdm_journal.proofs.WholeLemmas.{cuts-torn, keeps-whole}
+use Rattle.cdm_plan.specs.Day.{DayRecord}
+use Rattle.cdm_port.specs.Event.{Event}
+use Rattle.cdm_port.specs.Event.Event.{End, Read}
+use Rattle.cdm_port.specs.Stop.{IsStopOf, Stops, since}
+use Rattle.cdm_port.proofs.Stops.{front, longer, past, since_is}
+use Rattle.cdm_serve.specs.Promises.{AtEachMoment, IsKept, IsRecovered, IsWritten}
+use Rattle.cdm_serve.specs.Served.{AreReplies, Exchange, IsHeard, IsServed, IsStopped, day_of, served, started}
+use Rattle.cdm_serve.specs.inner.Steps.{ServeStops, Serves, StartStops, Starts}
+use Rattle.cdm_serve.proofs.Begun.{always_begins}
+use Rattle.cdm_serve.proofs.Recovered.{kept, recovered, written}
+
+-- what holds where a run is over or stopped
+pub record Outcome (g : AirportRows) (old new : List Event) : Type 0 where
+  pub log : new ≡ old ++ since old new
+  pub stopped : IsStopped g (since old new)
+  pub all_kept : AtEachMoment (since old new) (IsKept g)
+  pub all_written : AtEachMoment (since old new) (IsWritten g)
+  pub all_recovered : AtEachMoment (since old new) (IsRecovered g)
+
+outcome : (g : AirportRows) (old new done : List Event) → new ≡ old ++ done → IsStopped g done → Outcome g old new
+outcome g old new done is stop =
+    let same : since old new ≡ done = since_is old new done is in
+    let stopped : IsStopped g (since old new) = subst (IsStopped g) (sym same) stop in
+    record {
+      log = is ∙ ap (λ (l : List Event). old ++ l) (sym same);
+      stopped = stopped;
+      all_kept = λ bytes moment now. kept g bytes moment (always_begins g (since old new) stopped bytes moment now);
+      all_written = λ bytes moment now. written g bytes moment (always_begins g (since old new) stopped bytes moment now);
+      all_recovered = λ bytes moment now.
+          recovered plain cuts-torn keeps-whole gives-update refuses-none g bytes moment (always_begins g (since old new) stopped bytes moment now);
+    }
+
+-- nothing has happened
+pub nothing : (g : AirportRows) (old : List Event) → Outcome g old old
+nothing g old = outcome g old old [] (sym (append-nil old)) (inl ([], inl refl))
+
+-- it stopped while it was being started
+pub unstarted : (g : AirportRows) (old new : List Event) → StartStops g old new → Outcome g old new
+unstarted g old new (bytes, inl (done, stop, is)) = outcome g old new done is (inl (bytes, stop))
+unstarted g old new (bytes, inr (accepted, (done, stop, is))) =
+    let d : DayRecord = day_of g bytes in
+    let all : IsServed g bytes End (started bytes (length d.journal) ++ (served d [] ++ End ∷ [])) = record { accepted = accepted; exchanges = []; replies = tt; events = refl } in
+    outcome g old new done is (inr (bytes, End, started bytes (length d.journal) ++ (served d [] ++ End ∷ []), tt, all,
+    longer done (started bytes (length d.journal)) (served d [] ++ End ∷ []) stop))
+
+-- it stopped while lines were served
+pub unserved : (g : AirportRows) (d : DayRecord) (old mid new : List Event) → Starts g old mid d → ServeStops d 0 mid new → Outcome g old new
+unserved g d old mid new start stops =
+    by (subst (λ (d : DayRecord). ServeStops d 0 mid new) start.day stops)
+  where
+    by : ServeStops (day_of g start.bytes) 0 mid new → Outcome g old new
+    by (xs, next, replies, heard, (done, stop, is)) =
+        let d : DayRecord = day_of g start.bytes in
+        let before : List Event = started start.bytes (length d.journal) in
+        let all : IsServed g start.bytes next (before ++ (served d xs ++ next ∷ [])) = record { accepted = start.accepted; exchanges = xs; replies = replies; events = refl } in
+        outcome g old new (before ++ done)
+        (is ∙ ap (λ (l : List Event). l ++ done) start.events ∙ append_assoc old before done)
+        (inr (start.bytes, next, before ++ (served d xs ++ next ∷ []), heard, all, past before done (served d xs ++ next ∷ []) stop))
+
+-- it came to the end of the input
+pub to_the_end : (g : AirportRows) (d : DayRecord) (old mid new : List Event) → Starts g old mid d → Serves d 0 mid new
+    → Outcome g old new × ((bytes : List ℕ) × IsServed g bytes End (since old new))
+to_the_end g d old mid new start serves =
+    by (subst (λ (d : DayRecord). Serves d 0 mid new) start.day serves)
+  where
+    by : Serves (day_of g start.bytes) 0 mid new → Outcome g old new × ((bytes : List ℕ) × IsServed g bytes End (since old new))
+    by (xs, replies, is) =
+        let d : DayRecord = day_of g start.bytes in
+        let before : List Event = started start.bytes (length d.journal) in
+        let done : List Event = before ++ (served d xs ++ End ∷ []) in
+        let all : IsServed g start.bytes End done = record { accepted = start.accepted; exchanges = xs; replies = replies; events = refl } in
+        let whole : new ≡ old ++ done = is ∙ ap (λ (l : List Event). l ++ (served d xs ++ End ∷ [])) start.events ∙ append_assoc old before (served d xs ++ End ∷ []) in
+        (
+          outcome g old new done whole (inr (start.bytes, End, done, tt, all, subst (λ (l : List Event). IsStopOf done l) (append-nil done) (front done []))),
+          (start.bytes, subst (IsServed g start.bytes End) (sym (since_is old new done whole)) all),
+        )

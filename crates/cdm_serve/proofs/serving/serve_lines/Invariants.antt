@@ -1,0 +1,6 @@
+use Rattle.cdm_serve.proofs.Ran.{Ran}
+use Rattle.cdm_serve.proofs.serving.serve_lines.Given as goal
+
+-- some lines have been served
+abbrev pub invariant-lines : goal.invariant-lines
+invariant-lines g l = Ran l.fn.day.state l.fn.day.number l.day.state l.day.number (g.P.Port.events l.fn.port) (g.P.Port.events l.port)

@@ -1,0 +1,42 @@
+-- Questions of a served day, and their replies.
+use Rattle.std.specs.Prelude.{◌≡◌, ◌⊎◌, ◌==◌, ℕ, List, [], ◌∷◌, ◌++◌, codes, count_by, None}
+use Rattle.std.specs.Fmt.{decimal}
+use Rattle.std.specs.List.{concat}
+use Rattle.std.specs.Option.{IsSome}
+use Rattle.cdm_desk.specs.Replies.{reply_text}
+use Rattle.cdm_desk.specs.declared.reply.DeskReply.TheVariants.{Refused}
+use Rattle.cdm_flight.specs.Journal.{flight_of}
+use Rattle.cdm_flight.specs.declared.word.RefusalWord.TheVariants as word
+use Rattle.cdm_plan.specs.Day.{DayRecord}
+use Rattle.cdm_plan.specs.DayPlan.{IsDayPlan}
+use Rattle.cdm_report.specs.Report.{line_end, report_bytes}
+use Rattle.cdm_sequence.specs.Slots.{PlanRecord}
+use Rattle.cdm_view.specs.Load.{unknown_in}
+use Rattle.cdm_view.specs.Questions.{IsAnswer}
+use Rattle.cdm_view.specs.declared.question.Question.{Question}
+use Rattle.cdm_view.specs.declared.question.Question.TheVariants as question
+use Rattle.cdm_serve.specs.declared.asked.Asked.{Asked}
+use Rattle.cdm_serve.specs.declared.asked.Asked.TheVariants.{Plan, View}
+
+-- the word of a question
+abbrev pub word_of : Question → List ℕ
+word_of (question.Why name) = codes "WHY"
+word_of (question.Load runway) = codes "LOAD"
+
+-- a number, a word, how many lines follow, and these
+unfoldable pub told_text : ℕ → List ℕ → List ℕ → List ℕ
+told_text number word body =
+    concat (decimal number ∷ codes " " ∷ word ∷ codes " " ∷ decimal (count_by (λ byte. byte == 10) body) ∷ line_end ∷ []) ++ body
+
+-- the day doesn't know the flight, or its airport has no such runway
+abbrev pub IsUnknown : DayRecord → Question → Type 0
+IsUnknown d (question.Why name) = flight_of d.airport d.journal name ≡ None
+IsUnknown d (question.Load runway) = IsSome (unknown_in d.airport runway)
+
+-- the text replies to a question of this number: the report of the day's plan without refused records, or the answer
+-- of a view; UNKNOWN refuses a flight or a runway that isn't there
+abbrev pub IsAnswerText : DayRecord → ℕ → Asked → List ℕ → Type 0
+IsAnswerText d number Plan text = (plan : PlanRecord) × IsDayPlan d plan × (text ≡ told_text number (codes "PLAN") (report_bytes d.airport.day plan []))
+IsAnswerText d number (View q) text =
+    (IsUnknown d q × (text ≡ reply_text d.airport.day number (Refused word.Unknown)))
+    ⊎ ((plan : PlanRecord) × (body : List ℕ) × IsDayPlan d plan × IsAnswer q d plan body × (text ≡ told_text number (word_of q) body))

@@ -1,0 +1,117 @@
+-- What happens while a day is served.
+use Rattle.std.specs.Prelude.{◌≡◌, ◌⊎◌, ⊤, ℕ, ◌+◌, nat_lt, List, [], ◌∷◌, ◌++◌, codes, length, Option, None, Some, if◌then◌else◌}
+use Rattle.std.specs.Fmt.{decimal}
+use Rattle.std.specs.List.{concat}
+use Rattle.cdm_desk.specs.Replies.{IsReply, reply_text}
+use Rattle.cdm_desk.specs.declared.reply.DeskReply.{DeskReply}
+use Rattle.cdm_feed.specs.Output.{day_in, refusals_in}
+use Rattle.cdm_flight.specs.Journal.{AirportRows}
+use Rattle.cdm_journal.specs.Journal.{journal_line, whole_lines}
+use Rattle.cdm_journal.specs.Lines.{LineRecord}
+use Rattle.cdm_journal.specs.Lines.LineRecord.{Blank, One, Several}
+use Rattle.cdm_plan.specs.Day.{DayRecord}
+use Rattle.cdm_port.specs.Event.{Event}
+use Rattle.cdm_port.specs.Event.Event.{Appended, Broken, Cut, End, Flushed, Line, Read, Replied, Synced}
+use Rattle.cdm_port.specs.Stop.{IsStopOf}
+use Rattle.cdm_report.specs.Report.{line_end}
+use Rattle.cdm_serve.specs.Asked.{IsAnswerText}
+use Rattle.cdm_serve.specs.Requests.{request_of}
+use Rattle.cdm_serve.specs.Taken.{TakenRecord, after, record_heard, taken}
+use Rattle.cdm_serve.specs.declared.request.Request.{Request}
+use Rattle.cdm_serve.specs.declared.request.Request.TheVariants.{Ask, Nothing, Post}
+
+-- One line.
+
+-- a line of the input that was heard: its bytes, or none where it was passed over
+abbrev pub said : Option (List ℕ) → Event
+said (Some line) = Line line
+said None = Broken
+
+-- a record that is accepted is on the disk before its reply is begun; whatever else is replied to leaves the journal alone
+abbrev pub told_of : Option TakenRecord → List ℕ → List Event
+told_of None reply = Replied reply ∷ Flushed ∷ []
+told_of (Some one) reply = Appended (journal_line one.fields) ∷ Synced ∷ Replied reply ∷ Flushed ∷ []
+
+-- what happens where this is the reply to what a line says; a blank line has none
+abbrev pub answered : DayRecord → LineRecord → List ℕ → List Event
+answered d Blank reply = []
+answered d (One fields) reply = told_of (taken d (One fields)) reply
+answered d Several reply = told_of (taken d Several) reply
+
+-- the text replies to a request of this number
+abbrev pub IsReplyTo : DayRecord → ℕ → Request → List ℕ → Type 0
+IsReplyTo d number Nothing text = ⊤
+IsReplyTo d number (Ask asked) text = IsAnswerText d number asked text
+IsReplyTo d number (Post spelled) text = (reply : DeskReply) × IsReply d spelled reply × (text ≡ reply_text d.airport.day number reply)
+
+-- records and questions are numbered together, blank lines aren't
+abbrev pub numbered : ℕ → LineRecord → ℕ
+numbered number Blank = number
+numbered number (One fields) = number + 1
+numbered number Several = number + 1
+
+-- Many lines.
+
+-- a line of the input that was heard, and the text that replies to it
+pub record Exchange : Type 0 where
+  pub heard : Option (List ℕ)
+  pub reply : List ℕ
+
+-- what the line says
+abbrev pub line_of : Exchange → LineRecord
+line_of x = record_heard x.heard
+
+-- the replies are those of the day, line after line, where so many records and questions were numbered before
+abbrev pub AreReplies : DayRecord → ℕ → List Exchange → Type 0
+AreReplies d number [] = ⊤
+AreReplies d number (x ∷ later) = IsReplyTo d (numbered number (line_of x)) (request_of d.airport.day (line_of x)) x.reply
+    × AreReplies (after d (line_of x)) (numbered number (line_of x)) later
+
+-- what happens for these lines
+abbrev pub served : DayRecord → List Exchange → List Event
+served d [] = []
+served d (x ∷ later) = said x.heard ∷ (answered d (line_of x) x.reply ++ served (after d (line_of x)) later)
+
+-- The start.
+
+-- a last line that a stop has torn is cut off
+abbrev pub cut_of : List ℕ → List Event
+cut_of bytes = if nat_lt (length (whole_lines bytes)) (length bytes) then Cut (length (whole_lines bytes)) ∷ [] else []
+
+-- how many updates the day has at the start
+abbrev pub ready_text : ℕ → List ℕ
+ready_text count = concat (codes "READY " ∷ decimal count ∷ line_end ∷ [])
+
+-- what happens at the start, by the bytes of the journal, where so many updates are in its whole lines
+abbrev pub started : List ℕ → ℕ → List Event
+started bytes count = Read bytes ∷ (cut_of bytes ++ Synced ∷ Replied (ready_text count) ∷ Flushed ∷ [])
+
+-- the day that the airport and the whole lines of a journal make
+abbrev pub day_of : AirportRows → List ℕ → DayRecord
+day_of g bytes = day_in g (whole_lines bytes)
+
+-- A run.
+
+-- the next that is heard: a line, or the input's end
+abbrev pub IsHeard : Event → Type 0
+IsHeard End = ⊤
+IsHeard Broken = ⊤
+IsHeard (Line line) = ⊤
+IsHeard (Read bytes) = ⊥
+IsHeard (Cut kept) = ⊥
+IsHeard (Appended bytes) = ⊥
+IsHeard Synced = ⊥
+IsHeard (Replied text) = ⊥
+IsHeard Flushed = ⊥
+
+-- a journal without a refused record is served, line after line, until this is heard
+pub record IsServed (g : AirportRows) (bytes : List ℕ) (next : Event) (whole : List Event) : Type 0 where
+  pub accepted : refusals_in g (whole_lines bytes) ≡ []
+  pub exchanges : List Exchange
+  pub replies : AreReplies (day_of g bytes) 0 exchanges
+  pub events : whole ≡ started bytes (length (day_of g bytes).journal) ++ (served (day_of g bytes) exchanges ++ next ∷ [])
+
+-- what has happened is a part of what is to happen: of reading a journal, or of serving it until something is heard
+abbrev pub IsStopped : AirportRows → List Event → Type 0
+IsStopped g done = ((bytes : List ℕ) × IsStopOf done (Read bytes ∷ []))
+    ⊎ ((bytes : List ℕ) × (next : Event) × (whole : List Event) × IsHeard next × IsServed g bytes next whole × IsStopOf done whole)

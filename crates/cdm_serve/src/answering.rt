@@ -1,0 +1,114 @@
+//! The answer to one line of the input.
+ghost use Rattle.std.specs.Prelude.{◌≡◌, ◌+◌, ◌^◌, IfErr, IfOk, OnErr, OnOk};
+ghost use Rattle.cdm_journal.specs.Journal.{journal_line};
+ghost use Rattle.cdm_journal.specs.Lines.{read_as};
+ghost use Rattle.cdm_serve.specs.Requests.{request_of};
+ghost use Rattle.cdm_serve.specs.Served.{IsReplyTo, answered, numbered, told_of};
+ghost use Rattle.cdm_serve.specs.Taken.{after, day_with, fields_in, taken_of};
+ghost use Rattle.cdm_serve.specs.inner.Steps.{IsAnswerFault, events_of, text_of};
+
+use crate::asked::{asked_text, reply_text};
+use crate::fault::ServeError;
+use crate::request::{Request, request_of};
+use cdm_day::DayState;
+use cdm_desk::{DeskReply, post};
+use cdm_flight::{RefusalWord, Role, Update};
+use cdm_journal::{LineRead, push_journal_line};
+use std::alloc::{AllocError, Global};
+
+/// What is to be done for a line of the input.
+#[derive(Debug, Drop)]
+pub(crate) enum Answer {
+    /// Nothing: the line is blank.
+    Nothing,
+    /// This text is replied.
+    Reply(Vec<u8>),
+    /// This line goes to the journal, and then this text is replied.
+    Record(Vec<u8>, Vec<u8>),
+}
+
+/// A day that is served, and how many records and questions were numbered.
+#[derive(Drop)]
+pub(crate) struct ServedDay {
+    pub state: DayState,
+    pub number: u32,
+}
+
+// The journal's line of a record. What is no record has no fields.
+#[tactic(auto, unfolding(cdm_journal::specs::Journal::journal_line, cdm_journal::specs::Journal::record_text))]
+fn line_of(alloc: Global, read: &LineRead) -> Result<Vec<u8>, AllocError>
+    ensures { IfOk result (λ line. line.items ≡ journal_line (fields_in (read_as read.now))) }
+{
+    let mut line = Vec::new(alloc);
+    match read {
+        LineRead::One(row) => push_journal_line(&mut line, row)?,
+        LineRead::Blank | LineRead::Several => line.push(b'\n')?,
+    }
+    Ok(line)
+}
+
+// Posts what a line spells, and says what is to be done then.
+fn post_line(
+    alloc: Global,
+    state: &mut DayState,
+    number: u32,
+    read: &LineRead,
+    spelled: &Result<(Role, Update), RefusalWord>,
+) -> Result<Answer, AllocError>
+    ensures reply { IfOk result (λ answer. IsReplyTo state.old number (Request.Post spelled.now) (text_of answer)) }
+    ensures events { IfOk result (λ answer. events_of answer ≡
+        told_of (taken_of state.old (fields_in (read_as read.now)) (Request.Post spelled.now)) (text_of answer)) }
+    ensures state { OnOk result (state.new ≡
+        day_with state.old (taken_of state.old (fields_in (read_as read.now)) (Request.Post spelled.now))) }
+{
+    let day = *state.day();
+    let reply = post(alloc, state, spelled)?;
+    let text = reply_text(alloc, day, number, &reply)?;
+    match reply {
+        DeskReply::Refused(_) => Ok(Answer::Reply(text)),
+        DeskReply::Accepted(_) => {
+            let line = line_of(alloc, read)?;
+            Ok(Answer::Record(line, text))
+        }
+    }
+}
+
+impl ServedDay {
+    // Counts one record or question more, and gives its number.
+    fn count(&mut self) -> Result<u32, ServeError>
+        ensures count { IfOk result (λ number. number ≡ self.old.number + 1) }
+        ensures counted { OnOk result (self.new.number ≡ self.old.number + 1) }
+        ensures same { self.new.state ≡ self.old.state }
+        ensures fault { IfErr result (IsAnswerFault self.old.number) }
+    {
+        self.number = self.number.checked_add(1).ok_or(ServeError::TooMany)?;
+        Ok(self.number)
+    }
+
+    /// Answers a line: a record is judged, and the day takes it where no word refuses it; a question is answered of the
+    /// day as it is. The reply and the journal's line are ready then.
+    ///
+    /// `TooMany` where the line's number would be greater than a `u32`, and else only `Memory`.
+    pub(crate) fn answer(&mut self, alloc: Global, read: &LineRead) -> Result<Answer, ServeError>
+        ensures reply { IfOk result (λ answer. IsReplyTo self.old.state (numbered self.old.number (read_as read.now))
+            (request_of self.old.state.airport.day (read_as read.now)) (text_of answer)) }
+        ensures events { IfOk result (λ answer. events_of answer ≡ answered self.old.state (read_as read.now) (text_of answer)) }
+        ensures state { OnOk result (self.new.state ≡ after self.old.state (read_as read.now)) }
+        ensures number { OnOk result (self.new.number ≡ numbered self.old.number (read_as read.now)) }
+        ensures fault { IfErr result (IsAnswerFault self.old.number) }
+    {
+        match request_of(*self.state.day(), read) {
+            Request::Nothing => Ok(Answer::Nothing),
+            Request::Post(spelled) => {
+                let number = self.count()?;
+                let answer = post_line(alloc, &mut self.state, number, read, &spelled)?;
+                Ok(answer)
+            }
+            Request::Ask(asked) => {
+                let number = self.count()?;
+                let text = asked_text(alloc, &self.state, number, asked)?;
+                Ok(Answer::Reply(text))
+            }
+        }
+    }
+}

@@ -1,0 +1,108 @@
+//! Questions of a served day, and their replies.
+ghost use Rattle.std.specs.Prelude.{◌≡◌, ◌++◌, IfOk, OnOk, codes, count_by, ◌==◌};
+ghost use Rattle.std.specs.String.{string_bytes};
+ghost use Rattle.cdm_desk.specs.Replies.{reply_text};
+ghost use Rattle.cdm_desk.specs.declared.reply.DeskReply.TheVariants.{Refused};
+ghost use Rattle.cdm_serve.specs.Asked.{IsAnswerText, told_text, word_of};
+
+use cdm_day::DayState;
+use cdm_desk::{DeskReply, push_reply};
+use cdm_flight::RefusalWord;
+use cdm_report::report_text;
+use cdm_time::Day;
+use cdm_view::{Question, ViewFault, answer};
+use std::alloc::{AllocError, Global};
+use std::fmt::Write;
+
+/// What is asked of a served day (local profile).
+#[derive(Clone, Copy, PartialEq, Eq, Debug)]
+pub enum Asked {
+    /// The report of the plan.
+    Plan,
+    /// What holds a flight, or how full a runway is.
+    View(Question),
+}
+
+// The word of a question.
+fn word_of(question: Question) -> &'static str
+    ensures { result.now ≡ word_of question }
+{
+    match question {
+        Question::Why(_) => "WHY",
+        Question::Load(_) => "LOAD",
+    }
+}
+
+// How many lines a text has.
+fn line_count(text: &[u8]) -> usize
+    ensures { result ≡ count_by (λ byte. byte == 10) text.now }
+{
+    text.iter().filter(|byte| **byte == b'\n').count()
+}
+
+// The reply to a question: its number, its word, how many lines follow, and these.
+#[tactic(auto, unfolding(crate::specs::Asked::told_text))]
+fn told_text(alloc: Global, number: u32, word: &str, body: &[u8]) -> Result<Vec<u8>, AllocError>
+    ensures { IfOk result (λ text. text.items ≡ told_text number word.now body.now) }
+{
+    let mut text = String::new(alloc);
+    let count = line_count(body);
+    writeln!(text, "{number} {word} {count}")?;
+    let mut text = text.into_bytes();
+    text.extend_from_slice(body)?;
+    Ok(text)
+}
+
+/// The text of a reply to the record or the question of this number. Only want of memory makes it fail.
+pub(crate) fn reply_text(
+    alloc: Global,
+    day: Day,
+    number: u32,
+    reply: &DeskReply,
+) -> Result<Vec<u8>, AllocError>
+    ensures { IfOk result (λ text. text.items ≡ reply_text day number reply.now) }
+{
+    let mut text = String::new(alloc);
+    push_reply(&mut text, day, number, reply)?;
+    Ok(text.into_bytes())
+}
+
+// The reply to a question of a view.
+fn view_text(
+    alloc: Global,
+    state: &DayState,
+    number: u32,
+    question: Question,
+) -> Result<Vec<u8>, AllocError>
+    ensures { IfOk result (λ text. IsAnswerText state.now number (Asked.View question) text.items) }
+{
+    match answer(alloc, state.airport(), state, state.plan(), question) {
+        Ok(body) => told_text(alloc, number, word_of(question), &body),
+        Err(ViewFault::Memory) => Err(AllocError),
+        Err(ViewFault::NoFlight(_) | ViewFault::NoRunway(_)) => reply_text(
+            alloc,
+            *state.day(),
+            number,
+            &DeskReply::Refused(RefusalWord::Unknown),
+        ),
+    }
+}
+
+/// The reply to the question of this number: the report of the plan, or the answer to a view, or the refusal of one
+/// that asks for what isn't known. Only want of memory makes it fail.
+pub(crate) fn asked_text(
+    alloc: Global,
+    state: &DayState,
+    number: u32,
+    asked: Asked,
+) -> Result<Vec<u8>, AllocError>
+    ensures { IfOk result (λ text. IsAnswerText state.now number asked text.items) }
+{
+    match asked {
+        Asked::Plan => {
+            let body = report_text(alloc, state.day(), state.plan(), &[])?;
+            told_text(alloc, number, "PLAN", &body)
+        }
+        Asked::View(question) => view_text(alloc, state, number, question),
+    }
+}

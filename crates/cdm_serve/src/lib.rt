@@ -1,0 +1,16 @@
+//! A day served as it happens: records are posted to it and questions are asked of it, one a line, and each
+//! accepted record is on the disk before its reply is written.
+#![tactic(auto)]
+
+mod answering;
+mod asked;
+mod fault;
+mod performing;
+mod request;
+mod serving;
+mod starting;
+
+pub use asked::Asked;
+pub use fault::ServeError;
+pub use request::Request;
+pub use serving::{serve, serve_day};

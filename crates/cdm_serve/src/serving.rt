@@ -1,0 +1,135 @@
+//! A day served over a port.
+ghost use Rattle.std.specs.Prelude.{◌≡◌, ◌++◌, ℕ, List, false, IfErr, IfOk, IfSome, OnErr, OnOk};
+ghost use Rattle.std.specs.Result.{IsOkAnd};
+ghost use Rattle.cdm_feed.specs.AirportFile.{airport_in};
+ghost use Rattle.cdm_feed.specs.CommonFaults.{IsInputFault};
+ghost use Rattle.cdm_feed.specs.Readings.{IsRead, reading};
+ghost use Rattle.cdm_port.specs.Event.Event.{End};
+ghost use Rattle.cdm_port.specs.Stop.{since};
+ghost use Rattle.cdm_serve.specs.Faults.{IsDayFault, IsServeFault};
+ghost use Rattle.cdm_serve.specs.Promises.{AtEachMoment, IfAirport, IsKept, IsRecovered, IsWritten};
+ghost use Rattle.cdm_serve.specs.Served.{IsServed, IsStopped};
+ghost use Rattle.cdm_serve.specs.inner.Steps.{Hears, HearsInVain, IsLinesFault, Serves, ServeStops};
+
+use crate::answering::ServedDay;
+use crate::fault::ServeError;
+use crate::performing::perform;
+use crate::starting::start;
+use cdm_day::Airport;
+use cdm_feed::{CommonFault, Device, Input, InputFault, airport_of, read_input};
+use cdm_journal::{LineRead, read_line};
+use cdm_port::{Heard, Port};
+use std::alloc::Global;
+use std::io::Read;
+use std::thread::Threads;
+
+// The next line of the input, as it is read.
+fn hear<P: Port>(alloc: Global, port: &mut P) -> Result<Option<LineRead>, ServeError>
+    ensures ok { IfOk result (Hears (P.events port.old) (P.events port.new)) }
+    ensures err { OnErr result (HearsInVain (P.events port.old) (P.events port.new)) }
+{
+    match port.line(alloc)? {
+        Heard::Line(bytes) => {
+            let read = read_line(alloc, &bytes)?;
+            Ok(Some(read))
+        }
+        Heard::Broken => Ok(Some(LineRead::Several)),
+        Heard::End => Ok(None),
+    }
+}
+
+// Serves the lines to the input's end.
+fn serve_lines<P: Port>(
+    alloc: Global,
+    port: &mut P,
+    mut day: ServedDay,
+) -> Result<(), ServeError>
+    ensures ok { OnOk result (Serves day.state day.number (P.events port.old) (P.events port.new)) }
+    ensures err { OnErr result (ServeStops day.state day.number (P.events port.old) (P.events port.new)) }
+    ensures fault { IfErr result (IsLinesFault day.number (P.events port.old) (P.events port.new)) }
+{
+    'lines: for _ in 0..u64::MAX {
+        let Some(read) = hear(alloc, port)? else {
+            return Ok(());
+        };
+        let answer = day.answer(alloc, &read)?;
+        perform(port, &answer)?;
+    }
+    Err(ServeError::TooMany)
+}
+
+/// Serves the day of an airport over a port. The journal is read, and its whole lines are judged: the day is that of the
+/// airport and the journal. A last line that a stop has torn is cut off, and the day is told to be ready. Then each line
+/// of the input is answered in its turn: a record that is accepted is appended to the journal and synced before its
+/// reply is begun, and each reply is flushed before the next line is read. `Ok` comes at the input's end.
+///
+/// `Journal` where a record of the journal is refused, and then the journal is as it was; `TooMany` where a line's
+/// number would be greater than a `u32`; `Port` where the port fails, and `Common` for want of memory.
+pub fn serve_day<R: Threads + Sync, P: Port>(
+    rt: &R,
+    alloc: Global,
+    airport: Airport,
+    port: &mut P,
+) -> Result<(), ServeError>
+    // What has happened stays.
+    ensures log { P.events port.new ≡ P.events port.old ++ since (P.events port.old) (P.events port.new) }
+
+    // The replies are those of the lines in their order, each accepted record on the disk first.
+    ensures served { OnOk result ((bytes : List ℕ) × IsServed airport bytes End (since (P.events port.old) (P.events port.new))) }
+
+    // Where it stopped, it had done the first part of that.
+    ensures stopped { IsStopped airport (since (P.events port.old) (P.events port.new)) }
+
+    // At each moment the journal has the accepted records, and on the disk all those whose reply was begun.
+    ensures kept { AtEachMoment (since (P.events port.old) (P.events port.new)) (IsKept airport) }
+    ensures written { AtEachMoment (since (P.events port.old) (P.events port.new)) (IsWritten airport) }
+
+    // From what a stop at that moment leaves, a start goes on with all of them, and at most one more.
+    ensures recovered { AtEachMoment (since (P.events port.old) (P.events port.new)) (IsRecovered airport) }
+    ensures fault { IfErr result (IsDayFault airport (since (P.events port.old) (P.events port.new))) }
+{
+    let state = start(rt, alloc, airport, port)?;
+    serve_lines(alloc, port, ServedDay { state, number: 0 })
+}
+
+// The bytes of the airport file.
+fn airport_file<A: Read>(alloc: Global, airport: &mut Device<A>) -> Result<Vec<u8>, CommonFault>
+    requires { airport.old.failed ≡ false }
+    ensures whole { IfOk result (λ bytes. IfSome (A.remaining airport.old.inner) (λ all. bytes.items ≡ all)) }
+    ensures read { OnOk result (IsRead (reading Input.Airport A.remaining airport.old airport.new)) }
+    ensures fault { IfErr result (IsInputFault (reading Input.Airport A.remaining airport.old airport.new)) }
+{
+    match read_input(alloc, airport) {
+        Ok(bytes) => Ok(bytes),
+        Err(InputFault::Failed) => Err(CommonFault::Read(Input::Airport)),
+        Err(InputFault::TooLong) => Err(CommonFault::TooLong(Input::Airport)),
+        Err(InputFault::Memory) => Err(CommonFault::Memory),
+    }
+}
+
+/// Serves a day over a port: reads the airport file, and serves the day of its airport to the end of the input, as
+/// [`serve_day`] does.
+///
+/// Faults in their order: `Common` with `Read`, `TooLong` or `Airport` of the airport file, and till then nothing of the
+/// port is asked; then those of [`serve_day`].
+pub fn serve<R: Threads + Sync, A: Read, P: Port>(
+    rt: &R,
+    alloc: Global,
+    airport: &mut Device<A>,
+    port: &mut P,
+) -> Result<(), ServeError>
+    requires { airport.old.failed ≡ false }
+    ensures log { P.events port.new ≡ P.events port.old ++ since (P.events port.old) (P.events port.new) }
+    ensures served { OnOk result (IfSome (A.remaining airport.old.inner) (λ file. IsOkAnd (airport_in file) (λ g.
+        (bytes : List ℕ) × IsServed g bytes End (since (P.events port.old) (P.events port.new))))) }
+    ensures stopped { IfAirport (A.remaining airport.old.inner) (λ g. IsStopped g (since (P.events port.old) (P.events port.new))) }
+    ensures kept { IfAirport (A.remaining airport.old.inner) (λ g. AtEachMoment (since (P.events port.old) (P.events port.new)) (IsKept g)) }
+    ensures written { IfAirport (A.remaining airport.old.inner) (λ g. AtEachMoment (since (P.events port.old) (P.events port.new)) (IsWritten g)) }
+    ensures recovered { IfAirport (A.remaining airport.old.inner) (λ g. AtEachMoment (since (P.events port.old) (P.events port.new)) (IsRecovered g)) }
+    ensures read { OnOk result (IsRead (reading Input.Airport A.remaining airport.old airport.new)) }
+    ensures fault { IfErr result (IsServeFault (reading Input.Airport A.remaining airport.old airport.new) (since (P.events port.old) (P.events port.new))) }
+{
+    let file = airport_file(alloc, airport)?;
+    let airport = airport_of(alloc, &file)?;
+    serve_day(rt, alloc, airport, port)
+}
