@@ -39,17 +39,14 @@ pub(crate) fn next_line<R: BufRead>(alloc: Global, input: &mut R) -> Result<Hear
     if let Err(error) = most.read_until(b'\n', &mut line) {
         return Err(memory_or(&error, PortFault::CannotReadInput));
     }
-    if line.is_empty() {
-        return Ok(Heard::End);
+    match line.pop() {
+        None => Ok(Heard::End),
+        Some(b'\n') if line.len() <= LINE_LIMIT => Ok(Heard::Line(line)),
+        Some(_) if line.len() >= LINE_LIMIT && input.skip_until(b'\n').is_err() => {
+            Err(PortFault::CannotReadInput)
+        }
+        Some(_) => Ok(Heard::Broken),
     }
-    if line.last() == Some(&b'\n') {
-        line.pop();
-        return Ok(Heard::Line(line));
-    }
-    if line.len() > LINE_LIMIT && input.skip_until(b'\n').is_err() {
-        return Err(PortFault::CannotReadInput);
-    }
-    Ok(Heard::Broken)
 }
 
 /// Writes bytes, and answers how many of them were written before a write failed.

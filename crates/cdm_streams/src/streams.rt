@@ -12,13 +12,21 @@ use std::io::{BufRead, Read, Write};
 
 // What a note says, as the first of its numbers.
 const READ: u64 = 0;
+
 const CUT: u64 = 1;
+
 const LINE: u64 = 2;
+
 const BROKEN: u64 = 3;
+
 const END: u64 = 4;
+
 const APPENDED: u64 = 5;
+
 const SYNCED: u64 = 6;
+
 const REPLIED: u64 = 7;
+
 const FLUSHED: u64 = 8;
 
 /// The input and the output of a served day, and the file of its journal, whose writes go to its end. That each method

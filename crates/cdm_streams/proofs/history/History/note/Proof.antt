@@ -31,14 +31,14 @@ use denote.Triple.Walked.{says, Stays, stay_ref, stay_none_slice, walk_of, AllGo
 use Rattle.cdm_streams.specs.declared.history.History.{History}
 use Rattle.cdm_streams.specs.contracts.history.History as histories
 use Rattle.cdm_streams.specs.contracts.history.History.note.Key.{name as #note}
-use Rattle.cdm_streams.specs.contracts.history.History.note as contract
+use Rattle.cdm_streams.specs.contracts.history.History.note as clause
 use Rattle.cdm_streams.proofs.history.History.note.Statement as stated
 use Rattle.cdm_streams.proofs.history.History.note.Code as code
 
 abbrev Arguments : Type 0
 Arguments = MutBor History × (Bor (List ℕ) × (Bor (List ℕ) × Unit {0}))
 
-abbrev stayed : Stays (contract.ended).signature.params (contract.ended).kept
+abbrev stayed : Stays (clause.ended).signature.params (clause.ended).kept
 stayed = (stay_ref (0 ∷ []) tt (plain (λ _. histories.the_row)), (stay_none_slice (1 ∷ []) tt (plain (λ _. u64)) yes, (stay_none_slice (2 ∷ []) tt (plain (λ _. u8)) yes, tt)))
 
 -- lives and shares of the three borrows, where the history lies, what it was, the numbers and the bytes
@@ -58,17 +58,17 @@ module _ {M : Type 1} {𝓤 : Ura M} (𝓛 : Logic 𝓤) (at_mem : Memory → SP
   slices = owns (ShrSlice (named 1) κ' u64 ∷ ShrSlice (named 2) κ'' u8 ∷ []) arguments.1 values.1
 
   abbrev Post : Val → SProp 𝓤
-  Post = (walk_of 𝓛 contract.ended stayed (contract.clauses 𝓛 at_mem run)).post (((κ, (κ', (κ'', tt))), (q, (q', (q'', tt))), tt, arguments, values), tt)
+  Post = (walk_of 𝓛 clause.ended stayed (clause.clauses 𝓛 at_mem run)).post (((κ, (κ', (κ'', tt))), (q, (q', (q'', tt))), tt, arguments, values), tt)
 
   exits : ent 𝓤 (sep 𝓤 (A.obs γ ((histories.the_row).coded.code after)) (sep 𝓤 (A.bor κ (Body (mem histories.the_row) block offset γ)) (sep 𝓤 (A.lft κ q) (sep 𝓤 (types.Logic.sem 𝓛 slices) (sep 𝓤 (A.lft κ' q') (sep 𝓤 (A.lft κ'' q'') (emp 𝓤))))))) (Post vunit)
   exits =
       qed 𝓛 (‵ (fobs γ ((histories.the_row).coded.code after)) ∷ ‵ (fbor κ (Body (mem histories.the_row) block offset γ)) ∷ ‵ (flft κ q) ∷ ‵ slices ∷ (‵ (flft κ' q') ⊛ (‵ (flft κ'' q'') ⊛ ‵ ftrue)) ∷ []) ∵
-      suffices ! _ (ends_at 𝓛 contract.ended stayed (contract.clauses 𝓛 at_mem run) (((κ, (κ', (κ'', tt))), (q, (q', (q'', tt))), tt, arguments, values), tt) vunit tt (after, (tt, (tt, tt))) (tt, (tt, (tt, tt)))) $ says ! refl $ move ! (2 ∷ 4 ∷ []) $ join ! $
+      suffices ! _ (ends_at 𝓛 clause.ended stayed (clause.clauses 𝓛 at_mem run) (((κ, (κ', (κ'', tt))), (q, (q', (q'', tt))), tt, arguments, values), tt) vunit tt (after, (tt, (tt, tt))) (tt, (tt, (tt, tt)))) $ says ! refl $ move ! (2 ∷ 4 ∷ []) $ join ! $
       frame ! $ feq_i ! (List Val) (vptr block offset ∷ []) (vptr block offset ∷ []) refl $ fjoin3 ! $ fjoin ! $
       feq_i ! (List Val) (vunit ∷ []) (vunit ∷ []) refl $ move ! (1 ∷ 0 ∷ []) $ done !
 
   module _ (C : Calls 𝓤 H) (Λ : Loops 𝓤 H) where
-    walk : length numbers.now < 2 ^ 64 → length bytes.now < 2 ^ 64 → ent 𝓤 (on_entry 𝓛 contract.signature (κ, (κ', (κ'', tt))) (q, (q', (q'', tt))) arguments values) (WpFn 𝓤 H C Λ code.function (vptr block offset ∷ slice_val numbers.ref_ptr (length numbers.now) ∷ slice_val bytes.ref_ptr (length bytes.now) ∷ []) Post)
+    walk : length numbers.now < 2 ^ 64 → length bytes.now < 2 ^ 64 → ent 𝓤 (on_entry 𝓛 clause.signature (κ, (κ', (κ'', tt))) (q, (q', (q'', tt))) arguments values) (WpFn 𝓤 H C Λ code.function (vptr block offset ∷ slice_val numbers.ref_ptr (length numbers.now) ∷ slice_val bytes.ref_ptr (length bytes.now) ∷ []) Post)
     walk numbers_fit bytes_fit =
         qed 𝓛 ((‵ (flft κ q) ⊛ (‵ (flft κ' q') ⊛ (‵ (flft κ'' q'') ⊛ ‵ ftrue))) ∷ ‵ (owns (MutRef (named 0) κ histories.the_row ∷ ShrSlice (named 1) κ' u64 ∷ ShrSlice (named 2) κ'' u8 ∷ []) arguments values) ∷ []) ∵ split ! $ move ! (2 ∷ []) $ fsplit ! $ fsplit3 ! $ drop ! $ move ! (0 ∷ 1 ∷ 3 ∷ []) $
         enter ! C Λ code.function (vptr block offset ∷ slice_val numbers.ref_ptr (length numbers.now) ∷ slice_val bytes.ref_ptr (length bytes.now) ∷ []) _ $
@@ -82,22 +82,22 @@ module _ {M : Type 1} {𝓤 : Ura M} (𝓛 : Logic 𝓤) (at_mem : Memory → SP
 module _ {M : Type 1} {𝓤 : Ura M} (𝓛 : Logic 𝓤) (at_mem : Memory → SProp 𝓤) (run : Routine → Fun 𝓤) where
   open 𝓛 use {H}
 
-  walks : (C : Calls 𝓤 H) (Λ : Loops 𝓤 H) → Walks 𝓛 contract.ended stayed (WpFn 𝓤 H C Λ code.function) (contract.clauses 𝓛 at_mem run)
-  walks C Λ = walked 𝓛 contract.ended stayed (contract.clauses 𝓛 at_mem run) (WpFn 𝓤 H C Λ code.function) (λ κs. (mut_vals, (shr_slice_vals, (shr_slice_vals, tt)))) (λ κs. (mut_Tells (named 0) κs.0 histories.the_row, (shr_slice_Tells (named 1) κs.1.0 u64, (shr_slice_Tells (named 2) κs.1.1.0 u8, tt))))
+  walks : (C : Calls 𝓤 H) (Λ : Loops 𝓤 H) → Walks 𝓛 clause.ended stayed (WpFn 𝓤 H C Λ code.function) (clause.clauses 𝓛 at_mem run)
+  walks C Λ = walked 𝓛 clause.ended stayed (clause.clauses 𝓛 at_mem run) (WpFn 𝓤 H C Λ code.function) (λ κs. (mut_vals, (shr_slice_vals, (shr_slice_vals, tt)))) (λ κs. (mut_Tells (named 0) κs.0 histories.the_row, (shr_slice_Tells (named 1) κs.1.0 u64, (shr_slice_Tells (named 2) κs.1.1.0 u8, tt))))
       (λ κs qs bounds a _ are. via 𝓤 _ (fst∗ 𝓤 _ (emp 𝓤)) (walk 𝓛 at_mem run κs.0 κs.1.0 κs.1.1.0 qs.0 qs.1.0 qs.1.1.0 a.0.ref_ptr.0 a.0.ref_ptr.1 a.0.ghost_name a.0.now a.1.0 a.1.1.0 C Λ are.1.0.0.1.0 are.1.1.0.0.1.0))
 
-  goes : AllGo 𝓛 3 (contract.signature).params (contract.ended).kept stayed
+  goes : AllGo 𝓛 3 (clause.signature).params (clause.ended).kept stayed
   goes = (Goes-ref 𝓛 3 0 tt (plain (λ _. histories.the_row)), (Goes-none_slice 𝓛 3 (1 ∷ []) tt (plain (λ _. u64)) yes, (Goes-none_slice 𝓛 3 (2 ∷ []) tt (plain (λ _. u8)) yes, tt)))
 
 meets : {M : Type 1} {𝓤 : Ura M} (𝓛 : Logic 𝓤) → (at_mem : Memory → SProp 𝓤) (run : Routine → Fun 𝓤) (𝓣 : Tables 𝓤 𝓛.H)
-    → Meets 𝓛 contract.signature (WpFn 𝓤 𝓛.H 𝓣.C 𝓣.Λ code.function) (contract.spec 𝓛 at_mem run)
+    → Meets 𝓛 clause.signature (WpFn 𝓤 𝓛.H 𝓣.C 𝓣.Λ code.function) (clause.spec 𝓛 at_mem run)
 meets {𝓤 = 𝓤} 𝓛 at_mem run 𝓣 =
-    walk_Meets 𝓛 contract.ended stayed (goes 𝓛 at_mem run) (contract.clauses 𝓛 at_mem run) (WpFn 𝓤 𝓛.H 𝓣.C 𝓣.Λ code.function) (WpFn-mono 𝓤 𝓛.H 𝓛.laws 𝓣 code.function) (walks 𝓛 at_mem run 𝓣.C 𝓣.Λ)
+    walk_Meets 𝓛 clause.ended stayed (goes 𝓛 at_mem run) (clause.clauses 𝓛 at_mem run) (WpFn 𝓤 𝓛.H 𝓣.C 𝓣.Λ code.function) (WpFn-mono 𝓤 𝓛.H 𝓛.laws 𝓣 code.function) (walks 𝓛 at_mem run 𝓣.C 𝓣.Λ)
 
 pub note_spec : {M : Type 1} → stated.statement M
 unfolding tables_of
 note_spec 𝓤 𝓛 𝓜 𝓡 wired =
     let all = tables 𝓤 𝓛.H 𝓜 𝓡 𝓡.env in
-    entered 𝓤 𝓛.H (triple_of 𝓛 contract.signature (contract.spec 𝓛 𝓜.mem 𝓡.returns))
+    entered 𝓤 𝓛.H (triple_of 𝓛 clause.signature (clause.spec 𝓛 𝓜.mem 𝓡.returns))
     (all).C (all).Λ #note code.function (code.unfolded 𝓤 𝓛.H 𝓜 𝓡 wired)
     (meets 𝓛 𝓜.mem 𝓡.returns (tables_of 𝓤 𝓛.H 𝓜 all))
