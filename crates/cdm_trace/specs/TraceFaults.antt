@@ -1,0 +1,34 @@
+-- Why a run that traces a feed ends without its whole text.
+use Rattle.std.specs.Prelude.{◌≡◌, ℕ, Bool, true, false, List, Option, None, Some, Result, Ok, Err}
+use Rattle.std.specs.Result.{IsOkAnd}
+use Rattle.cdm_flight.specs.Journal.{flight_of}
+use Rattle.cdm_feed.specs.AirportFile.{airport_in}
+use Rattle.cdm_feed.specs.CommonFaults.{IsAirportFault, IsFirstCommonFault}
+use Rattle.cdm_feed.specs.Output.{day_in}
+use Rattle.cdm_feed.specs.Readings.{AreRead, Reading, no_input}
+use Rattle.cdm_feed.specs.Views.{OfBoth}
+use Rattle.cdm_feed.specs.declared.common_fault.CommonFault.TheVariants as common
+use Rattle.cdm_trace.specs.Traces.{IsTrace}
+use Rattle.cdm_trace.specs.declared.trace_error.TraceError.{TraceError}
+use Rattle.cdm_trace.specs.declared.trace_error.TraceError.TheVariants as error
+
+-- the airport file is accepted, the flight of this name is asked for, and the day that the file makes with the feed doesn't know it
+abbrev pub IsUnknown : Option (List ℕ) → List ℕ → List ℕ → List ℕ → Type 0
+IsUnknown asked name airport feed = (asked ≡ Some name) × IsOkAnd (airport_in airport) (λ g. flight_of g (day_in g feed).journal name ≡ None)
+
+-- why whole inputs have no trace
+abbrev pub IsUntraced : Option (List ℕ) → List ℕ → List ℕ → TraceError → Type 0
+IsUntraced asked airport feed (error.Common cause) = IsAirportFault airport cause
+IsUntraced asked airport feed (error.NoFlight name) = IsUnknown asked name airport feed
+
+-- the first fault of a run that traces a feed: after the records of the airport file those of the feed are posted, the flight is looked
+-- for, and then the text is written
+abbrev pub IsFirstTraceFault : Option (List ℕ) → Reading → Reading → TraceError → Type 0
+IsFirstTraceFault asked a f (error.Common cause) =
+    IsFirstCommonFault a f no_input (OfBoth a f (λ airport feed. (text : List ℕ) × IsTrace asked airport feed text)) cause
+IsFirstTraceFault asked a f (error.NoFlight name) = AreRead a f no_input × OfBoth a f (IsUnknown asked name)
+
+-- the writer failed
+abbrev pub is_trace_write_fault : {T : Type 0} → Result T TraceError → Bool
+is_trace_write_fault (Err (error.Common common.Write)) = true
+is_trace_write_fault r = false
