@@ -463,12 +463,16 @@ unfolding field_at
 others-unmarked [] n same are = refl
 others-unmarked (a ∷ []) n same are = add-field a [] (are.first (omega (arith, same))) refl
 others-unmarked (a ∷ b ∷ []) n same are =
-    add-field a _ (are.first (omega (arith, same))) (add-field b [] (are.second (omega (arith, same))) refl)
+    add-field a (b ∷ []) (are.first (omega (arith, same))) (add-field b [] (are.second (omega (arith, same))) refl)
 others-unmarked (a ∷ b ∷ c ∷ []) n same are =
-    add-field a _ (are.first (omega (arith, same))) (add-field b _ (are.second (omega (arith, same))) (add-field c [] (are.third_field (omega (arith, same))) refl))
+    add-field a (b ∷ c ∷ []) (are.first (omega (arith, same)))
+    (add-field b (c ∷ []) (are.second (omega (arith, same)))
+    (add-field c [] (are.third_field (omega (arith, same))) refl))
 others-unmarked (a ∷ b ∷ c ∷ d ∷ []) n same are =
-    add-field a _ (are.first (omega (arith, same))) (add-field b _ (are.second (omega (arith, same)))
-    (add-field c _ (are.third_field (omega (arith, same))) (add-field d [] (are.fourth (omega (arith, same))) refl)))
+    add-field a (b ∷ c ∷ d ∷ []) (are.first (omega (arith, same)))
+    (add-field b (c ∷ d ∷ []) (are.second (omega (arith, same)))
+    (add-field c (d ∷ []) (are.third_field (omega (arith, same)))
+    (add-field d [] (are.fourth (omega (arith, same))) refl)))
 others-unmarked (a ∷ b ∷ c ∷ d ∷ e ∷ fields) n same are = let few = are.few in absurd (omega (arith, same, few))
 
 pub spelled : (day : CalendarDate) (fields : List (List ℕ)) → IsOk (parse_of day fields) → SpelledRecord fields

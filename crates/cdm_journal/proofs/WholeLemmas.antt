@@ -25,7 +25,7 @@ unfolding whole_lines
 kept-first b bs some = rw some refl
 
 -- a whole text has a line feed, and is whole behind its first byte
-record WholeText (b : ℕ) (bs : List ℕ) : Type 0 where
+pub record WholeText (b : ℕ) (bs : List ℕ) : Type 0 where
   pub some : has_line_feed (b ∷ bs) ≡ true
   pub rest : IsWhole bs
 
@@ -59,7 +59,7 @@ ended [] = refl
 ended (b ∷ bs) = or_right (b == 10) (has_line_feed (bs ++ 10 ∷ [])) (ended bs)
 
 pub line-whole : (line : List ℕ) → IsWhole (line ++ 10 ∷ [])
-line-whole [] = kept-first 10 [] refl
+line-whole [] = kept-first 10 [] refl ∙ ap (λ (l : List ℕ). 10 ∷ l) whole-nil
 line-whole (b ∷ bs) = kept-first b (bs ++ 10 ∷ []) (ended (b ∷ bs)) ∙ ap (λ (l : List ℕ). b ∷ l) (line-whole bs)
 
 pub keeps-whole : (text : List ℕ) (fields : List (List ℕ)) → IsWhole text → IsWhole (text ++ journal_line fields)
