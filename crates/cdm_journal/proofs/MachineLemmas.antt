@@ -1,5 +1,5 @@
 -- What a line more does to the records of a text of whole lines.
-use Rattle.std.proofs.Common.{◌≡◌, ◌<◌, ◌≤◌, ◌+◌, ◌∙◌, ◌==◌, ◌||◌, ◌&&◌, ◌⊎◌, ℕ, zero, suc, Bool, true, false, not, List, [], ◌∷◌, ◌++◌, length, IsTrue, Option, Some, None, inl, inr, refl, sym, ap, arith, subst, if◌then◌else◌}
+use Rattle.std.proofs.Common.{◌≡◌, ◌<◌, ◌+◌, ◌∙◌, ◌==◌, ◌||◌, ◌&&◌, ◌⊎◌, ℕ, zero, suc, Bool, true, false, not, List, [], ◌∷◌, ◌++◌, length, Option, Some, None, inl, inr, refl, sym, ap, arith, subst, if◌then◌else◌}
 use Rattle.std.specs.List.{All, join_with_byte, list_all, list_any}
 use Rattle.std.proofs.lemmas.Bool.{and_parts, cases_Bool, eqb-true, not-true, or_right}
 use Rattle.std.proofs.lemmas.List.{append-nil, length-append}
@@ -7,7 +7,7 @@ use Rattle.std.proofs.lemmas.List.Elements.{All-head, All-tail}
 use Rattle.std.proofs.lemmas.List.Folds.{list_all-append, list_any-append}
 use Rattle.csv.specs.Machine.{Read, after_end, ends_at_end, field_after, fields_after, in_field, is_end, next_record, start_field, start_record, step}
 use Rattle.csv.specs.Reading.{default_config, is_bom, records_from, strip_bom}
-use Rattle.csv.specs.Writing.{default_writer, field_text, fields_text, is_blank, needs_byte, row_body, row_text}
+use Rattle.csv.specs.Writing.{default_writer, field_text, fields_text, is_blank, row_body, row_text}
 use Rattle.csv.specs.declared.parser.Action.{Action}
 use Rattle.csv.specs.declared.parser.Action.TheVariants as act
 use Rattle.csv.specs.declared.parser.State.{State}
@@ -161,7 +161,7 @@ whole-read (x ∷ xs) s fields field tail c h whole =
         shorter = omega arith;
       }))
       | inr is ↦ earlier s fields field (x ∷ xs) tail c is
-      (whole-read xs (step default_config s c).0 _ _ tail x (step-holds fields field c s h is) rest)
+          (whole-read xs (step default_config s c).0 _ _ tail x (step-holds fields field c s h is) rest)
     ]
 
 -- Records.
@@ -183,6 +183,7 @@ step-same c = by (c == 13) (c == 10) (start_field default_config c)
   where
     skip : State × Action
     skip = (st.StartRecord, act.Skip)
+
     by : (r n : Bool) (more : State × Action) → (if n then skip else if r || n then skip else more) ≡ (if r || n then skip else more)
     by true true more = refl
     by false true more = refl

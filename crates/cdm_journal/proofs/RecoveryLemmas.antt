@@ -1,8 +1,8 @@
 -- A journal is recovered.
-use Rattle.std.proofs.Common.{◌≡◌, ◌+◌, ◌∙◌, ℕ, Bool, true, false, List, [], ◌∷◌, ◌++◌, length, map, Option, Some, None, Result, Ok, Err, refl, sym, ap, subst, arith, if◌then◌else◌, ◌==◌, ◌&&◌}
+use Rattle.std.proofs.Common.{◌≡◌, ◌+◌, ◌∙◌, ℕ, false, List, [], ◌∷◌, ◌++◌, length, map, Option, Some, None, Ok, Err, refl, sym, ap, subst, ◌==◌}
 use Rattle.std.specs.Prelude.{IsOk, is_ok}
 use Rattle.std.specs.List.{All, join_with_byte}
-use Rattle.std.proofs.lemmas.List.{append-nil, map-append}
+use Rattle.std.proofs.lemmas.List.{map-append}
 use Rattle.std.proofs.lemmas.List.Elements.{All-cons, All-head, All-nil, All-tail}
 use Rattle.csv.specs.Reading.{strip_bom}
 use Rattle.cdm_time.specs.declared.calendar.CalendarDate.{CalendarDate}
@@ -19,7 +19,7 @@ use Rattle.cdm_feed.proofs.StretchLemmas.{accepted-both, refused-both}
 use Rattle.cdm_journal.specs.Journal.{IsWhole, journal_line, record_text}
 use Rattle.cdm_journal.specs.Laws.{TakesUpdate}
 use Rattle.cdm_journal.proofs.MachineLemmas.{AllUnmarked, text-goes-on}
-use Rattle.cdm_journal.proofs.PlainLemmas.{RoleWord, SpelledRecord, spelled}
+use Rattle.cdm_journal.proofs.PlainLemmas.{RoleWord, spelled}
 use Rattle.cdm_journal.proofs.WholeLemmas.{AreUnmarked}
 
 -- Records that spell updates.

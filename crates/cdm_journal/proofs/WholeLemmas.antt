@@ -1,10 +1,10 @@
 -- What a start keeps of a journal.
-use Rattle.std.proofs.Common.{◌≡◌, ◌≢◌, ◌<◌, ◌≤◌, ◌+◌, ◌∙◌, ◌==◌, ◌||◌, ◌&&◌, ℕ, zero, suc, Bool, true, false, not, List, [], ◌∷◌, ◌++◌, length, take, slice_index, IsTrue, Option, Some, None, refl, sym, ap, arith, append_assoc, add-one, inl, inr, if◌then◌else◌}
+use Rattle.std.proofs.Common.{◌≡◌, ◌≢◌, ◌<◌, ◌≤◌, ◌+◌, ◌∙◌, ◌==◌, ◌||◌, ℕ, zero, suc, Bool, true, false, not, List, [], ◌∷◌, ◌++◌, length, take, slice_index, IsTrue, Option, Some, None, refl, sym, ap, arith, add-one, inl, inr}
 use Rattle.std.specs.List.{join_with_byte, list_all, list_any}
 use Rattle.std.proofs.lemmas.List.{append-nil, length-take-le}
 use Rattle.std.proofs.lemmas.Bool.{and_parts, cases_Bool, false_from_ne_true, not-true, or_cases, or_left, or_parts, or_right}
 use Rattle.std.proofs.lemmas.List.Folds.{list_any-append}
-use Rattle.memchr.specs.Find.{IsLastByte, Nowhere, Passes, is_byte}
+use Rattle.memchr.specs.Find.{IsLastByte, is_byte}
 use Rattle.cdm_feed.specs.Written.{is_mark}
 use Rattle.cdm_journal.specs.Journal.{IsWhole, has_line_feed, is_lone_empty, is_plain, journal_line, record_text, whole_lines}
 
