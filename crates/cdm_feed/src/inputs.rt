@@ -32,7 +32,7 @@ fn read_whole<R: Read>(
 
 /// Reads the airport file and one more input of this name, in this order, up to the first fault, which
 /// is `Read`, `TooLong` or `Memory`.
-pub(crate) fn read_two<A: Read, S: Read>(
+pub fn read_two<A: Read, S: Read>(
     alloc: Global,
     name: Input,
     airport: &mut Device<A>,

@@ -36,7 +36,7 @@ pub use feed_record::parse_record;
 pub use field::{ctot_field, number_field, place_field};
 pub use file_fault::FileFault;
 pub use input::{INPUT_LIMIT, InputFault, read_input};
-pub use inputs::{Inputs, read_inputs};
+pub use inputs::{Inputs, read_inputs, read_two};
 pub use judging::{Judged, judge};
 pub use laws::{one_text, records_are_read_back};
 pub use output::{WriteFault, write_text};

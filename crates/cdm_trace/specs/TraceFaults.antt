@@ -1,7 +1,8 @@
 -- Why a run that traces a feed ends without its whole text.
-use Rattle.std.specs.Prelude.{◌≡◌, ℕ, Bool, true, false, List, Option, None, Some, Result, Ok, Err}
+use Rattle.std.specs.Prelude.{◌≡◌, ⊤, ℕ, Bool, true, false, List, Option, None, Some, Result, Ok, Err}
 use Rattle.std.specs.Result.{IsOkAnd}
 use Rattle.cdm_flight.specs.Journal.{flight_of}
+use Rattle.cdm_plan.specs.Day.{DayRecord}
 use Rattle.cdm_feed.specs.AirportFile.{airport_in}
 use Rattle.cdm_feed.specs.CommonFaults.{IsAirportFault, IsFirstCommonFault}
 use Rattle.cdm_feed.specs.Output.{day_in}
@@ -12,9 +13,15 @@ use Rattle.cdm_trace.specs.Traces.{IsTrace}
 use Rattle.cdm_trace.specs.declared.trace_error.TraceError.{TraceError}
 use Rattle.cdm_trace.specs.declared.trace_error.TraceError.TheVariants as error
 
--- the airport file is accepted, the flight of this name is asked for, and the day that the file makes with the feed doesn't know it
+-- why a day has no trace: it doesn't know the flight that is asked for, or there is no memory
+abbrev pub IsUntold : Option (List ℕ) → DayRecord → TraceError → Type 0
+IsUntold asked d (error.Common common.Memory) = ⊤
+IsUntold asked d (error.Common cause) = ⊥
+IsUntold asked d (error.NoFlight name) = (asked ≡ Some name) × (flight_of d.airport d.journal name ≡ None)
+
+-- the airport file is accepted, and the day that it makes with the feed doesn't know the flight of this name, which is asked for
 abbrev pub IsUnknown : Option (List ℕ) → List ℕ → List ℕ → List ℕ → Type 0
-IsUnknown asked name airport feed = (asked ≡ Some name) × IsOkAnd (airport_in airport) (λ g. flight_of g (day_in g feed).journal name ≡ None)
+IsUnknown asked name airport feed = IsOkAnd (airport_in airport) (λ g. IsUntold asked (day_in g feed) (error.NoFlight name))
 
 -- why whole inputs have no trace
 abbrev pub IsUntraced : Option (List ℕ) → List ℕ → List ℕ → TraceError → Type 0

@@ -7,10 +7,9 @@ ghost use Rattle.cdm_trace.specs.Traces.{HaveOneTrace, IsTrace};
 ghost use Rattle.cdm_trace.specs.TraceFaults.{IsFirstTraceFault, IsUntraced, is_trace_write_fault};
 
 use crate::trace_error::TraceError;
-use crate::tracing::{Traced, trace_of};
+use crate::tracing::trace_of;
 use cdm_feed::{CommonFault, Device, Input, airport_of, read_two, write_text};
 use cdm_flight::FlightName;
-use cdm_plan::Records;
 use std::alloc::Global;
 use std::io::{Read, Write};
 
@@ -26,11 +25,8 @@ fn trace_of_inputs(
     ensures fault { IfErr result (IsUntraced asked airport.now feed.now) }
 {
     let airport = airport_of(alloc, airport)?;
-    let Traced { state, text } = trace_of(alloc, airport, feed, asked)?;
-    match asked {
-        Some(name) if state.flight(name).is_none() => Err(TraceError::NoFlight(name)),
-        _ => Ok(text),
-    }
+    let text = trace_of(alloc, airport, feed, asked)?;
+    Ok(text)
 }
 
 /// Traces a feed: reads the airport file and the feed, posts the feed's records one after the other to the day of the

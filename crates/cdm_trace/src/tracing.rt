@@ -1,24 +1,20 @@
 //! The records of a feed, one after the other.
-ghost use Rattle.std.specs.Prelude.{◌≡◌, ◌≤◌, [], length, IfOk};
+ghost use Rattle.std.specs.Prelude.{◌≡◌, ◌≤◌, [], length, IfErr, IfOk, OnOk};
 ghost use Rattle.cdm_feed.specs.Input.{input_limit};
-ghost use Rattle.cdm_feed.specs.Output.{accepted_in};
+ghost use Rattle.cdm_feed.specs.Output.{day_in};
 ghost use Rattle.cdm_feed.specs.Records.{records_of};
-ghost use Rattle.cdm_trace.specs.Traces.{IsTold};
+ghost use Rattle.cdm_trace.specs.TraceFaults.{IsUntold};
+ghost use Rattle.cdm_trace.specs.Traces.{IsKnown, IsTold};
 
 use crate::told::push_told;
+use crate::trace_error::TraceError;
 use cdm_day::{Airport, DayState};
 use cdm_desk::post;
 use cdm_feed::{RecordReader, parse_record};
 use cdm_flight::FlightName;
+use cdm_plan::Records;
 use csv::ByteRecord;
 use std::alloc::{AllocError, Global};
-
-/// The day after a feed, and what is told of its records.
-#[derive(Drop)]
-pub(crate) struct Traced {
-    pub(crate) state: DayState,
-    pub(crate) text: Vec<u8>,
-}
 
 // The day of an airport before its first update.
 fn day_of(alloc: Global, airport: Airport) -> Result<DayState, AllocError>
@@ -30,16 +26,33 @@ fn day_of(alloc: Global, airport: Airport) -> Result<DayState, AllocError>
     }
 }
 
+// Whether the day knows the flight that is asked for, if one is.
+fn check_known(state: &DayState, asked: Option<FlightName>) -> Result<(), TraceError>
+    ensures known { OnOk result (IsKnown asked state.now) }
+    ensures fault { IfErr result (IsUntold asked state.now) }
+{
+    match asked {
+        None => Ok(()),
+        Some(name) => match state.flight(name) {
+            Some(_) => Ok(()),
+            None => Err(TraceError::NoFlight(name)),
+        },
+    }
+}
+
 /// Posts the records of a feed to the day of an airport, and tells of each what it changed.
+///
+/// `NoFlight` where the day doesn't know in the end the flight that is asked for, and `Memory`.
 pub(crate) fn trace_of(
     alloc: Global,
     airport: Airport,
     feed: &[u8],
     asked: Option<FlightName>,
-) -> Result<Traced, AllocError>
+) -> Result<Vec<u8>, TraceError>
     requires { length feed.now ≤ input_limit }
-    ensures state { IfOk result (λ traced. traced.state ≡ record { airport = airport; journal = accepted_in airport feed.now }) }
-    ensures told { IfOk result (λ traced. IsTold asked (record { airport = airport; journal = [] }) 1 (records_of feed.now) traced.text.items) }
+    ensures told { IfOk result (λ text. IsTold asked (record { airport = airport; journal = [] }) 1 (records_of feed.now) text.items) }
+    ensures known { OnOk result (IsKnown asked (day_in airport feed.now)) }
+    ensures fault { IfErr result (IsUntold asked (day_in airport feed.now)) }
 {
     let day = *airport.day();
     let mut reader = RecordReader::new(alloc, feed);
@@ -49,7 +62,8 @@ pub(crate) fn trace_of(
     let mut number = 0;
     'records: loop {
         if !reader.read(&mut row)? {
-            return Ok(Traced { state, text });
+            check_known(&state, asked)?;
+            return Ok(text);
         }
         number += 1;
         let reply = post(alloc, &mut state, &parse_record(day, &row))?;

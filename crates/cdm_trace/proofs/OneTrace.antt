@@ -1,0 +1,92 @@
+-- A feed has one trace.
+use Rattle.std.proofs.Common.{◌≡◌, ◌∙◌, ◌+◌, ℕ, List, [], ◌∷◌, ◌++◌, Option, None, Some, Result, Ok, Err, refl, sym, ap, subst, not}
+use Rattle.std.specs.List.{IsDistinct}
+use Rattle.cdm_flight.specs.Accepted.{accepted, after_one, refusal}
+use Rattle.cdm_flight.specs.Journal.{AirportRows}
+use Rattle.cdm_flight.specs.Names.{same_name}
+use Rattle.cdm_flight.specs.declared.role.Role.{Role}
+use Rattle.cdm_flight.specs.declared.update.Update.{Update}
+use Rattle.cdm_flight.specs.declared.word.RefusalWord.{RefusalWord}
+use Rattle.cdm_sequence.specs.Slots.{PlanRecord}
+use Rattle.cdm_plan.specs.Airport.{IsAirport, runway_names}
+use Rattle.cdm_plan.specs.Day.{DayRecord, flights_in}
+use Rattle.cdm_plan.specs.DayPlan.{IsDayPlan}
+use Rattle.cdm_plan.proofs.JournalFacts.{names_after}
+use Rattle.cdm_plan.proofs.OnePlanLemmas.{one_day_plan}
+use Rattle.cdm_day.proofs.BatchLemmas.{accepted-keeps}
+use Rattle.cdm_view.specs.Standings.{AreChanges, changes, flight_name, is_told, standings_of}
+use Rattle.cdm_view.specs.declared.standing.Standing.{Standing}
+use Rattle.cdm_view.proofs.StandingLemmas.{standings_apart}
+use Rattle.cdm_plan.proofs.ListWords.{distinct_filter}
+use Rattle.cdm_plan.proofs.NameLemmas.{by_name}
+use Rattle.cdm_desk.specs.Replies.{IsChangedTo, IsReply, IsReplyBy, day_after}
+use Rattle.cdm_desk.specs.declared.reply.DeskReply.{DeskReply}
+use Rattle.cdm_desk.specs.declared.reply.DeskReply.TheVariants.{Accepted, Refused}
+use Rattle.cdm_feed.specs.AirportFile.{airport_in}
+use Rattle.cdm_feed.specs.Parsing.{parse_of}
+use Rattle.cdm_feed.specs.Records.{records_of}
+use Rattle.cdm_feed.specs.Refused.{Spelled}
+use Rattle.cdm_feed.proofs.OutputLemmas.{own_airport, same-ok}
+use Rattle.cdm_trace.specs.Traces.{HaveOneTrace, IsTold, told}
+use Rattle.cdm_trace.proofs.TraceLemmas.{first_day}
+
+-- the day's runways have names of their own, and so have its flights
+abbrev Own : DayRecord → Type 0
+Own d = IsDistinct same_name (runway_names d.airport) × IsDistinct same_name (flights_in d.journal)
+
+own_after : (d : DayRecord) (u : Role × Update) → IsDistinct same_name (flights_in d.journal) → IsDistinct same_name (flights_in (after_one d.airport d.journal u))
+unfolding accepted
+own_after d u own = accepted-keeps (λ a. IsDistinct same_name (flights_in a)) d.airport (names_after d.airport) d.journal (u ∷ []) own
+
+own_next : (d : DayRecord) (spelled : Spelled) → Own d → Own (day_after d spelled)
+own_next d (Ok u) own = (own.0, own_after d u own.1)
+own_next d (Err word) own = own
+
+-- the changes between two days with their plans
+one_changes : (d : DayRecord) (plan : PlanRecord) (next : DayRecord) (next_plan : PlanRecord) → Own next → IsDayPlan next next_plan
+    → (x y : List Standing) → AreChanges d plan next next_plan x → AreChanges d plan next next_plan y → x ≡ y
+one_changes d plan next next_plan own is x y a b =
+    let before = standings_of d plan in
+    let after = standings_of next next_plan in
+    by_name flight_name (changes d.airport.day before after) x y
+    (distinct_filter same_name flight_name (λ (s : Standing). not (is_told d.airport.day before s)) after (standings_apart next next_plan own.0 own.1 is))
+    a.all b.all a.by_name b.by_name
+
+one_changed : (d next : DayRecord) → Own d → Own next → (x y : List Standing) → IsChangedTo d next x → IsChangedTo d next y → x ≡ y
+one_changed d next own after x y a b =
+    let plans : b.plan ≡ a.plan = one_day_plan d b.plan a.plan own.0 own.1 b.of_day a.of_day in
+    let next_plans : b.next_plan ≡ a.next_plan = one_day_plan next b.next_plan a.next_plan after.0 after.1 b.of_next a.of_next in
+    let changed : AreChanges d a.plan next a.next_plan y =
+    subst (λ (p : PlanRecord). AreChanges d p next a.next_plan y) plans (subst (λ (p : PlanRecord). AreChanges d b.plan next p y) next_plans b.changes) in
+    one_changes d a.plan next a.next_plan after a.of_next x y a.changes changed
+
+-- the reply where this word refuses a record, or none does
+one_reply_by : (o : Option RefusalWord) (d next : DayRecord) → Own d → Own next → (x y : DeskReply) → IsReplyBy o d next x → IsReplyBy o d next y → x ≡ y
+one_reply_by (Some word) d next own after x y a b = a ∙ sym b
+one_reply_by None d next own after (Accepted x) (Accepted y) a b = ap Accepted (one_changed d next own after x y a b)
+one_reply_by None d next own after (Accepted x) (Refused word) a b = absurd b
+one_reply_by None d next own after (Refused word) y a b = absurd a
+
+one_reply : (d : DayRecord) (spelled : Spelled) → Own d → (x y : DeskReply) → IsReply d spelled x → IsReply d spelled y → x ≡ y
+one_reply d (Ok u) own x y a b = one_reply_by (refusal d.airport d.journal u.0 u.1) d (day_after d (Ok u)) own (own_next d (Ok u) own) x y a b
+one_reply d (Err word) own x y a b = a ∙ sym b
+
+-- what is told of records
+one_told : (asked : Option (List ℕ)) (d : DayRecord) (number : ℕ) (records : List (List (List ℕ))) → Own d
+    → (x y : List ℕ) → IsTold asked d number records x → IsTold asked d number records y → x ≡ y
+one_told asked d number [] own x y a b = a ∙ sym b
+one_told asked d number (fields ∷ records) own x y a b =
+    let spelled = parse_of d.airport.day fields in
+    let reply : a.0 ≡ b.0 = one_reply d spelled own a.0 b.0 a.2 b.2 in
+    let later : a.1 ≡ b.1 = one_told asked (day_after d spelled) (number + 1) records (own_next d spelled own) a.1 b.1 a.3 b.3 in
+    a.4 ∙ ((λ i. told asked d.airport.day number fields (reply i) ++ later i) ∙ sym b.4)
+
+own_first : (g : AirportRows) → IsAirport g → Own (first_day g)
+unfolding IsDistinct
+own_first g is = (is.names, tt)
+
+pub one : (asked : Option (List ℕ)) (airport feed : List ℕ) → HaveOneTrace asked airport feed
+one asked airport feed x y a b =
+    let same : b.rows ≡ a.rows = same-ok (airport_in airport) b.rows a.rows b.airport_file a.airport_file in
+    let told : IsTold asked (first_day a.rows) 1 (records_of feed) y = subst (λ (g : AirportRows). IsTold asked (first_day g) 1 (records_of feed) y) same b.told in
+    one_told asked (first_day a.rows) 1 (records_of feed) (own_first a.rows (own_airport airport a.rows a.airport_file)) x y a.told told
