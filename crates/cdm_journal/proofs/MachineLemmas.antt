@@ -1,5 +1,5 @@
 -- What a line more does to the records of a text of whole lines.
-use Rattle.std.proofs.Common.{◌≡◌, ◌<◌, ◌≤◌, ◌+◌, ◌∙◌, ◌==◌, ◌||◌, ◌&&◌, ◌⊎◌, ℕ, zero, suc, Bool, true, false, not, List, [], ◌∷◌, ◌++◌, length, IsTrue, Option, Some, None, inl, inr, refl, sym, ap, arith, subst, if◌then◌else◌}
+use Rattle.std.proofs.Common.{◌≡◌, ◌<◌, ◌+◌, ◌∙◌, ◌==◌, ◌||◌, ◌&&◌, ◌⊎◌, ℕ, zero, suc, Bool, true, false, not, List, [], ◌∷◌, ◌++◌, length, Option, Some, None, inl, inr, refl, sym, ap, arith, subst, if◌then◌else◌}
 use Rattle.std.specs.List.{All, join_with_byte, list_all, list_any}
 use Rattle.std.proofs.lemmas.Bool.{and_parts, cases_Bool, eqb-true, not-true, or_right}
 use Rattle.std.proofs.lemmas.List.{append-nil, length-append}
@@ -7,7 +7,7 @@ use Rattle.std.proofs.lemmas.List.Elements.{All-head, All-tail}
 use Rattle.std.proofs.lemmas.List.Folds.{list_all-append, list_any-append}
 use Rattle.csv.specs.Machine.{Read, after_end, ends_at_end, field_after, fields_after, in_field, is_end, next_record, start_field, start_record, step}
 use Rattle.csv.specs.Reading.{default_config, is_bom, records_from, strip_bom}
-use Rattle.csv.specs.Writing.{default_writer, field_text, fields_text, is_blank, needs_byte, row_body, row_text}
+use Rattle.csv.specs.Writing.{default_writer, field_text, fields_text, is_blank, row_body, row_text}
 use Rattle.csv.specs.declared.parser.Action.{Action}
 use Rattle.csv.specs.declared.parser.Action.TheVariants as act
 use Rattle.csv.specs.declared.parser.State.{State}
@@ -161,7 +161,7 @@ whole-read (x ∷ xs) s fields field tail c h whole =
         shorter = omega arith;
       }))
       | inr is ↦ earlier s fields field (x ∷ xs) tail c is
-      (whole-read xs (step default_config s c).0 _ _ tail x (step-holds fields field c s h is) rest)
+          (whole-read xs (step default_config s c).0 _ _ tail x (step-holds fields field c s h is) rest)
     ]
 
 -- Records.
@@ -179,11 +179,15 @@ none-held st.InComment between = cc
 
 -- after a carriage return a record starts as at a line's start
 step-same : (c : ℕ) → step default_config st.AfterCr c ≡ step default_config st.StartRecord c
-step-same c = by (c == 10) (c == 13) refl
+step-same c = by (c == 13) (c == 10) (start_field default_config c)
   where
-    by : (n r : Bool) → (c == 10) ≡ n → step default_config st.AfterCr c ≡ step default_config st.StartRecord c
-    by true r is = let either : ((c == 13) || (c == 10)) ≡ true = or_right (c == 13) (c == 10) is in rw (is, either) refl
-    by false r is = rw is refl
+    skip : State × Action
+    skip = (st.StartRecord, act.Skip)
+
+    by : (r n : Bool) (more : State × Action) → (if n then skip else if r || n then skip else more) ≡ (if r || n then skip else more)
+    by true true more = refl
+    by false true more = refl
+    by r false more = refl
 
 starts-same : (s : State) (tail : List ℕ) → ends_at_end s ≡ false → next s [] [] tail ≡ next st.StartRecord [] [] tail
 unfolding next_record
@@ -206,9 +210,11 @@ no-records (suc n) s between = rw between refl
 -- a record whose last field has a line feed can't stand as it is
 open-marked : (before : List (List ℕ)) (last : List ℕ) → AreUnmarked (before ++ (last ++ 10 ∷ []) ∷ []) → ⊥
 open-marked before last are =
-    let parts = and_parts _ _ (sym (list_all-append (λ field. not (list_any is_mark field)) before ((last ++ 10 ∷ []) ∷ [])) ∙ are) in
+    let clean = λ (field : List ℕ). not (list_any is_mark field) in
+    let parts = and_parts (list_all clean before) (list_all clean ((last ++ 10 ∷ []) ∷ []))
+    (sym (list_all-append clean before ((last ++ 10 ∷ []) ∷ [])) ∙ are) in
     let marked : list_any is_mark (last ++ 10 ∷ []) ≡ true = list_any-append is_mark last (10 ∷ []) ∙ or_right (list_any is_mark last) true refl in
-    let wrong = rw marked at parts.1 in
+    let wrong : (not true && true) ≡ true = ap (λ (t : Bool). not t && true) (sym marked) ∙ parts.1 in
     cc wrong
 
 abbrev pub AllUnmarked : List (List (List ℕ)) → Type 0
@@ -223,6 +229,7 @@ module _ (fields : List (List ℕ)) (line : List ℕ) (is : next st.StartRecord 
 
   goes-on : (n m : ℕ) (s : State) (xs : List ℕ) → ends_at_end s ≡ false → IsWhole xs → length xs < n → length xs < m
       → AllUnmarked (records_from default_config n s xs) → records_from default_config m s (xs ++ line) ≡ records_from default_config n s xs ++ fields ∷ []
+  unfolding records_from
   goes-on zero m s xs between whole few more are = absurd (omega (arith, few))
   goes-on (suc n) zero s xs between whole few more are = absurd (omega (arith, more))
   goes-on (suc n) (suc m) s [] between whole few more are =
@@ -233,7 +240,6 @@ module _ (fields : List (List ℕ)) (line : List ℕ) (is : next st.StartRecord 
           → ((s2 : State) (ys : List ℕ) → ends_at_end s2 ≡ false → IsWhole ys → length ys < n → length ys < m
           → AllUnmarked (records_from default_config n s2 ys) → records_from default_config m s2 (ys ++ line) ≡ records_from default_config n s2 ys ++ fields ∷ [])
           → records_from default_config (suc m) s ((c ∷ xs) ++ line) ≡ records_from default_config (suc n) s (c ∷ xs) ++ fields ∷ []
-      unfolding records_from
       by (inl e) are later =
           rw (e.goes ∙ is, e.none) (ap (λ (rs : List (List (List ℕ))). fields ∷ rs) (no-records m st.StartRecord refl))
       by (inr (inl e)) are later =

@@ -1,10 +1,9 @@
 -- Records that spell updates can stand as they are.
-use Rattle.std.proofs.Common.{◌≡◌, ◌<◌, ◌≤◌, ◌+◌, ◌-◌, ◌∙◌, ◌==◌, ◌||◌, ◌&&◌, ◌⊎◌, ℕ, zero, suc, Bool, true, false, not, List, [], ◌∷◌, ◌++◌, length, drop, take, slice_index, slice_range, IsTrue, Option, Some, None, Result, Ok, Err, inl, inr, refl, sym, ap, arith, subst, if◌then◌else◌}
-use Rattle.std.specs.Prelude.{IsOk, bytes_eq, codes, is_ok, is_some, nat_le, nat_lt}
+use Rattle.std.proofs.Common.{◌≡◌, ◌<◌, ◌≤◌, ◌-◌, ◌∙◌, ◌==◌, ◌&&◌, ℕ, zero, suc, Bool, true, false, not, List, [], ◌∷◌, length, drop, slice_index, slice_range, IsTrue, Option, Some, None, Result, Ok, Err, refl, sym, ap, arith, if◌then◌else◌}
+use Rattle.std.specs.Prelude.{IsOk, bytes_eq, codes, is_some, nat_le, nat_lt}
 use Rattle.std.specs.Char.{is_ascii_digit}
 use Rattle.std.specs.List.{list_all, list_any}
 use Rattle.std.specs.Option.{ok_or}
-use Rattle.std.specs.Result.{result_map_both}
 use Rattle.std.proofs.lemmas.Bool.{and_from, and_parts, eqb-true, ltb-true, not_from_false, or_from}
 use Rattle.std.proofs.lemmas.Bool.Decides.{nat_tests}
 use Rattle.std.proofs.lemmas.List.{drop_all, drop-drop, take-append-drop}
@@ -16,10 +15,8 @@ use Rattle.cdm_time.specs.Digits.{are_digits, number_in}
 use Rattle.cdm_time.specs.Times.{has_time_form, hour_in, is_time_text, minute_in, minute_up_to, minutes_between, up_to}
 use Rattle.cdm_time.specs.Windows.{Margins}
 use Rattle.cdm_time.specs.declared.calendar.CalendarDate.{CalendarDate}
-use Rattle.cdm_time.specs.declared.day.TimeFault.{TimeFault}
 use Rattle.cdm_time.specs.declared.day.TimeFault.TheVariants as fault
 use Rattle.cdm_flight.specs.Names.{is_letter_or_digit, is_name}
-use Rattle.cdm_flight.specs.Spacing.{group_of}
 use Rattle.cdm_flight.specs.declared.group.Group.TheVariants.{Light, Medium, Heavy}
 use Rattle.cdm_flight.specs.declared.ice.Ice.{Ice}
 use Rattle.cdm_flight.specs.declared.ice.Ice.TheVariants.{NoIce, AtStand, Remote}
@@ -31,7 +28,7 @@ use Rattle.cdm_flight.specs.declared.update.Update.{Update}
 use Rattle.cdm_flight.specs.declared.update.Update.TheVariants as update
 use Rattle.cdm_flight.specs.declared.word.RefusalWord.{RefusalWord}
 use Rattle.cdm_flight.specs.declared.word.RefusalWord.TheVariants as word
-use Rattle.cdm_feed.specs.Fields.{all_four, all_three, bound_field, both, counted, ctot_field, field, flight_field, from_to, group_field, ice_field, name_field, number_field, of_one, place_field, refused_by_word, runway_field, time_field, tolerance_fields, word_of}
+use Rattle.cdm_feed.specs.Fields.{all_four, all_three, bound_field, both, counted, ctot_field, field, flight_field, from_to, group_field, ice_field, name_field, number_field, of_one, place_field, refused_by_word, runway_field, time_field, tolerance_fields}
 use Rattle.cdm_feed.specs.Kinds.{update_of}
 use Rattle.cdm_feed.specs.Parsing.{parse_of, with_role}
 use Rattle.cdm_feed.specs.Roles.{role_of}
@@ -463,12 +460,16 @@ unfolding field_at
 others-unmarked [] n same are = refl
 others-unmarked (a ∷ []) n same are = add-field a [] (are.first (omega (arith, same))) refl
 others-unmarked (a ∷ b ∷ []) n same are =
-    add-field a _ (are.first (omega (arith, same))) (add-field b [] (are.second (omega (arith, same))) refl)
+    add-field a (b ∷ []) (are.first (omega (arith, same))) (add-field b [] (are.second (omega (arith, same))) refl)
 others-unmarked (a ∷ b ∷ c ∷ []) n same are =
-    add-field a _ (are.first (omega (arith, same))) (add-field b _ (are.second (omega (arith, same))) (add-field c [] (are.third_field (omega (arith, same))) refl))
+    add-field a (b ∷ c ∷ []) (are.first (omega (arith, same)))
+    (add-field b (c ∷ []) (are.second (omega (arith, same)))
+    (add-field c [] (are.third_field (omega (arith, same))) refl))
 others-unmarked (a ∷ b ∷ c ∷ d ∷ []) n same are =
-    add-field a _ (are.first (omega (arith, same))) (add-field b _ (are.second (omega (arith, same)))
-    (add-field c _ (are.third_field (omega (arith, same))) (add-field d [] (are.fourth (omega (arith, same))) refl)))
+    add-field a (b ∷ c ∷ d ∷ []) (are.first (omega (arith, same)))
+    (add-field b (c ∷ d ∷ []) (are.second (omega (arith, same)))
+    (add-field c (d ∷ []) (are.third_field (omega (arith, same)))
+    (add-field d [] (are.fourth (omega (arith, same))) refl)))
 others-unmarked (a ∷ b ∷ c ∷ d ∷ e ∷ fields) n same are = let few = are.few in absurd (omega (arith, same, few))
 
 pub spelled : (day : CalendarDate) (fields : List (List ℕ)) → IsOk (parse_of day fields) → SpelledRecord fields
@@ -479,6 +480,7 @@ spelled day (x ∷ y ∷ fields) is = by (nat_lt (length (x ∷ y ∷ fields)) 2
   where
     n : ℕ
     n = length (x ∷ y ∷ fields) - 2
+
     by : (t : Bool) → nat_lt (length (x ∷ y ∷ fields)) 2 ≡ t
         → IsOk (if t then Err word.Fields else with_role (role_of x) (update_of day y n (field fields 0) (field fields 1) (field fields 2) (field fields 3)))
         → SpelledRecord (x ∷ y ∷ fields)

@@ -1,8 +1,8 @@
 -- A journal is recovered.
-use Rattle.std.proofs.Common.{◌≡◌, ◌+◌, ◌∙◌, ℕ, Bool, true, false, List, [], ◌∷◌, ◌++◌, length, map, Option, Some, None, Result, Ok, Err, refl, sym, ap, subst, arith, if◌then◌else◌, ◌==◌, ◌&&◌}
+use Rattle.std.proofs.Common.{◌≡◌, ◌+◌, ◌∙◌, ℕ, false, List, [], ◌∷◌, ◌++◌, length, map, Option, Some, None, Ok, Err, refl, sym, ap, subst, ◌==◌}
 use Rattle.std.specs.Prelude.{IsOk, is_ok}
 use Rattle.std.specs.List.{All, join_with_byte}
-use Rattle.std.proofs.lemmas.List.{append-nil, map-append}
+use Rattle.std.proofs.lemmas.List.{map-append}
 use Rattle.std.proofs.lemmas.List.Elements.{All-cons, All-head, All-nil, All-tail}
 use Rattle.csv.specs.Reading.{strip_bom}
 use Rattle.cdm_time.specs.declared.calendar.CalendarDate.{CalendarDate}
@@ -19,16 +19,16 @@ use Rattle.cdm_feed.proofs.StretchLemmas.{accepted-both, refused-both}
 use Rattle.cdm_journal.specs.Journal.{IsWhole, journal_line, record_text}
 use Rattle.cdm_journal.specs.Laws.{TakesUpdate}
 use Rattle.cdm_journal.proofs.MachineLemmas.{AllUnmarked, text-goes-on}
-use Rattle.cdm_journal.proofs.PlainLemmas.{RoleWord, SpelledRecord, spelled}
+use Rattle.cdm_journal.proofs.PlainLemmas.{RoleWord, spelled}
 use Rattle.cdm_journal.proofs.WholeLemmas.{AreUnmarked}
 
 -- Records that spell updates.
 
-all-unmarked : (day : CalendarDate) (records : List (List (List ℕ))) → All (λ record. IsOk (parse_of day record)) records → AllUnmarked records
+all-unmarked : (day : CalendarDate) (records : List (List (List ℕ))) → All (λ row. IsOk (parse_of day row)) records → AllUnmarked records
 all-unmarked day [] are = All-nil AreUnmarked
 all-unmarked day (x ∷ records) are =
-    All-cons AreUnmarked x records (spelled day x (All-head (λ record. IsOk (parse_of day record)) x records are)).unmarked
-    (all-unmarked day records (All-tail (λ record. IsOk (parse_of day record)) x records are))
+    All-cons AreUnmarked x records (spelled day x (All-head (λ row. IsOk (parse_of day row)) x records are)).unmarked
+    (all-unmarked day records (All-tail (λ row. IsOk (parse_of day row)) x records are))
 
 unmarked-begin : (b : ℕ) (bytes : List ℕ) → (b == 0xEF) ≡ false → strip_bom (b ∷ bytes) ≡ b ∷ bytes
 unfolding strip_bom
@@ -44,7 +44,7 @@ role-begins x y others role =
     subst P (sym role.bytes) (unmarked-begin role.first _ role.no_mark)
 
 pub journal-goes-on : (day : CalendarDate) (text : List ℕ) (fields : List (List ℕ)) → IsWhole text
-    → All (λ record. IsOk (parse_of day record)) (records_of text) → IsOk (parse_of day fields)
+    → All (λ row. IsOk (parse_of day row)) (records_of text) → IsOk (parse_of day fields)
     → records_of (text ++ journal_line fields) ≡ records_of text ++ fields ∷ []
 journal-goes-on day text fields whole are is =
     let s = spelled day fields is in
@@ -61,17 +61,18 @@ none-first number (Some word) later none = cc
 
 -- where none is refused, each record spells an update
 all-spelled : (g : AirportRows) (a : List Update) (number : ℕ) (day : CalendarDate) (records : List (List (List ℕ)))
-    → refused_in g a number (map (parse_of day) records) ≡ [] → All (λ record. IsOk (parse_of day record)) records
+    → refused_in g a number (map (parse_of day) records) ≡ [] → All (λ row. IsOk (parse_of day row)) records
 unfolding refused_in
-all-spelled g a number day [] none = All-nil (λ record. IsOk (parse_of day record))
-all-spelled g a number day (x ∷ records) none = by (parse_of day x) refl none
+all-spelled g a number day [] none = All-nil (λ row. IsOk (parse_of day row))
+all-spelled g a number day (x ∷ records) none =
+    by (parse_of day x) refl (λ p rest. all-spelled g (after_one g a p) (number + 1) day records rest) none
   where
-    by : (r : Spelled) → parse_of day x ≡ r → refused_in g a number (r ∷ map (parse_of day) records) ≡ [] → All (λ record. IsOk (parse_of day record)) (x ∷ records)
-    unfolding refused_in
-    by (Err word) is none = cc
-    by (Ok p) is none =
-        All-cons (λ record. IsOk (parse_of day record)) x records (ap is_ok is)
-        (all-spelled g (after_one g a p) (number + 1) day records (none-first number (refusal g a p.0 p.1) _ none))
+    by : (r : Spelled) → parse_of day x ≡ r
+        → ((p : Role × Update) → refused_in g (after_one g a p) (number + 1) (map (parse_of day) records) ≡ [] → All (λ row. IsOk (parse_of day row)) records)
+        → refused_in g a number (r ∷ map (parse_of day) records) ≡ [] → All (λ row. IsOk (parse_of day row)) (x ∷ records)
+    by (Err word) is later none = cc
+    by (Ok p) is later none =
+        All-cons (λ row. IsOk (parse_of day row)) x records (ap is_ok is) (later p (none-first number (refusal g a p.0 p.1) _ none))
 
 spelled-on : (g : AirportRows) (text : List ℕ) (fields : List (List ℕ)) (update : Role × Update) → TakesUpdate g text fields update
     → spelled_in g (text ++ journal_line fields) ≡ spelled_in g text ++ Ok update ∷ []

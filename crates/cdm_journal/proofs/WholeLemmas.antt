@@ -1,10 +1,10 @@
 -- What a start keeps of a journal.
-use Rattle.std.proofs.Common.{◌≡◌, ◌≢◌, ◌<◌, ◌≤◌, ◌+◌, ◌∙◌, ◌==◌, ◌||◌, ◌&&◌, ℕ, zero, suc, Bool, true, false, not, List, [], ◌∷◌, ◌++◌, length, take, slice_index, IsTrue, Option, Some, None, refl, sym, ap, arith, append_assoc, add-one, inl, inr, if◌then◌else◌}
+use Rattle.std.proofs.Common.{◌≡◌, ◌≢◌, ◌<◌, ◌≤◌, ◌+◌, ◌∙◌, ◌==◌, ◌||◌, ℕ, zero, suc, Bool, true, false, not, List, [], ◌∷◌, ◌++◌, length, take, slice_index, IsTrue, Option, Some, None, refl, sym, ap, arith, add-one, inl, inr}
 use Rattle.std.specs.List.{join_with_byte, list_all, list_any}
 use Rattle.std.proofs.lemmas.List.{append-nil, length-take-le}
 use Rattle.std.proofs.lemmas.Bool.{and_parts, cases_Bool, false_from_ne_true, not-true, or_cases, or_left, or_parts, or_right}
 use Rattle.std.proofs.lemmas.List.Folds.{list_any-append}
-use Rattle.memchr.specs.Find.{IsLastByte, Nowhere, Passes, is_byte}
+use Rattle.memchr.specs.Find.{IsLastByte, is_byte}
 use Rattle.cdm_feed.specs.Written.{is_mark}
 use Rattle.cdm_journal.specs.Journal.{IsWhole, has_line_feed, is_lone_empty, is_plain, journal_line, record_text, whole_lines}
 
@@ -25,7 +25,7 @@ unfolding whole_lines
 kept-first b bs some = rw some refl
 
 -- a whole text has a line feed, and is whole behind its first byte
-record WholeText (b : ℕ) (bs : List ℕ) : Type 0 where
+pub record WholeText (b : ℕ) (bs : List ℕ) : Type 0 where
   pub some : has_line_feed (b ∷ bs) ≡ true
   pub rest : IsWhole bs
 
@@ -59,7 +59,7 @@ ended [] = refl
 ended (b ∷ bs) = or_right (b == 10) (has_line_feed (bs ++ 10 ∷ [])) (ended bs)
 
 pub line-whole : (line : List ℕ) → IsWhole (line ++ 10 ∷ [])
-line-whole [] = kept-first 10 [] refl
+line-whole [] = kept-first 10 [] refl ∙ ap (λ (l : List ℕ). 10 ∷ l) whole-nil
 line-whole (b ∷ bs) = kept-first b (bs ++ 10 ∷ []) (ended (b ∷ bs)) ∙ ap (λ (l : List ℕ). b ∷ l) (line-whole bs)
 
 pub keeps-whole : (text : List ℕ) (fields : List (List ℕ)) → IsWhole text → IsWhole (text ++ journal_line fields)

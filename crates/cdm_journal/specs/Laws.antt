@@ -18,7 +18,7 @@ ArePlain = (day : CalendarDate) (fields : List (List ℕ)) → IsOk (parse_of da
 -- a line more is a record more, behind any whole text whose records all spell updates
 abbrev pub GoesOn : Type 0
 GoesOn = (day : CalendarDate) (text : List ℕ) (fields : List (List ℕ)) → IsWhole text
-    → All (λ record. IsOk (parse_of day record)) (records_of text) → IsOk (parse_of day fields)
+    → All (λ row. IsOk (parse_of day row)) (records_of text) → IsOk (parse_of day fields)
     → records_of (text ++ journal_line fields) ≡ records_of text ++ fields ∷ []
 
 -- what a start keeps is whole
