@@ -4,3 +4,4 @@ pub mod Begun
 pub mod Recovered
 pub mod AnswerLemmas
 pub mod Runs
+pub mod StartLemmas

@@ -11,7 +11,7 @@ pub returns-in_ok-sync-in-Record-clause-err : goal.returns-in_ok-sync-in-Record-
 returns-in_ok-sync-in-Record-clause-err g c =
     let old : List Event = g.P.Port.events c.args.port.now in
     let line : List ℕ = c.in-Record.line.items in
-    let text : List ℕ = c.in-Record.text.items in
+    let text : List ℕ = c.deref-in-Record-2.result.now in
     let whole : events_of c.args.answer.now ≡ Appended line ∷ Synced ∷ Replied text ∷ Flushed ∷ [] = search rules in
     let written : g.P.Port.events c.append.new.self ≡ old ++ Appended line ∷ [] = search rules in
     let synced : g.P.Port.events c.sync.new.self ≡ g.P.Port.events c.append.new.self ++ Synced ∷ [] = search rules in

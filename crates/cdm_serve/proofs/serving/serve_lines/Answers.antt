@@ -27,7 +27,7 @@ returns-in_err-read-clause-fault g c =
 pub returns-in_err-answer-clause-err : goal.returns-in_err-answer-clause-err
 returns-in_err-answer-clause-err g c =
     let hears : HearsLine (g.P.Port.events c.lines.port) (g.P.Port.events c.hear.new.port) (read_as c.in-Some.read) = search rules in
-    on_err c.from_residual.result (behind _ _ _ _ _ _ _ c.lines.invariant _ _ hears)
+    on_err c.from_residual-in_err-answer.result (behind _ _ _ _ _ _ _ c.lines.invariant _ _ hears)
 
 pub returns-in_err-answer-clause-fault : goal.returns-in_err-answer-clause-fault
 returns-in_err-answer-clause-fault g c =
@@ -41,11 +41,10 @@ returns-in_err-answer-clause-fault g c =
 
 pub returns-in_err-perform-clause-err : goal.returns-in_err-perform-clause-err
 returns-in_err-perform-clause-err g c =
-    let line = read_as c.in-Some.read in
     let hears : HearsLine (g.P.Port.events c.lines.port) (g.P.Port.events c.hear.new.port) (read_as c.in-Some.read) = search rules in
     let reply : IsReplyTo c.lines.day.state (numbered c.lines.day.number (read_as c.in-Some.read)) (request_of c.lines.day.state.airport.day (read_as c.in-Some.read)) (text_of c.in_ok-answer.answer) = search rules in
     let stop : Stops (g.P.Port.events c.hear.new.port) (answered c.lines.day.state (read_as c.in-Some.read) (text_of c.in_ok-answer.answer)) (g.P.Port.events c.perform.new.port) = search rules in
-    on_err c.from_residual.result (midst _ _ _ _ _ _ _ c.lines.invariant _ _ _ hears reply _ stop)
+    on_err c.from_residual-in_err-perform.result (midst _ _ _ _ _ _ _ c.lines.invariant _ _ _ hears reply _ stop)
 
 pub lines-preserved : goal.lines-preserved
 lines-preserved g c =

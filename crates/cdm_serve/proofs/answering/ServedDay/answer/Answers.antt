@@ -1,4 +1,4 @@
-use Rattle.std.proofs.Common.{◌≡◌, sym, ap, rules}
+use Rattle.std.proofs.Common.{◌≡◌, [], sym, ap, rules}
 use Rattle.cdm_journal.specs.Lines.{LineRecord, read_as}
 use Rattle.cdm_journal.specs.Lines.LineRecord.{Blank}
 use Rattle.cdm_serve.specs.Requests.{request_of}
@@ -11,7 +11,7 @@ pub returns-in-Nothing-clause-events : goal.returns-in-Nothing-clause-events
 returns-in-Nothing-clause-events c =
     let nothing : request_of c.args.self.now.state.airport.day (read_as c.args.read.now) ≡ Nothing = search rules in
     let blank : read_as c.args.read.now ≡ Blank = blank_line _ _ nothing in
-    sym (ap (λ (l : LineRecord). answered c.args.self.now.state l _) blank)
+    sym (ap (λ (l : LineRecord). answered c.args.self.now.state l []) blank)
 
 pub returns-in-Nothing-clause-number : goal.returns-in-Nothing-clause-number
 returns-in-Nothing-clause-number c =
