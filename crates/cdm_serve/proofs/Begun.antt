@@ -49,17 +49,17 @@ no_rest front (byte ∷ rest) not_less =
     absurd (cc (lt-ltb (length front) (length (front ++ byte ∷ rest)) less, not_less))
 
 module _ (bytes : List ℕ) where
-  abbrev whole : List ℕ
-  whole = whole_lines bytes
+  abbrev front_lines : List ℕ
+  front_lines = whole_lines bytes
 
-  kept_of_cut : take (length whole) bytes ≡ whole
-  kept_of_cut = let front : IsPrefix whole bytes = whole_lines-front bytes in ap (take (length whole)) front.1 ∙ take_at whole front.0 (length whole) refl
+  kept_of_cut : take (length front_lines) bytes ≡ front_lines
+  kept_of_cut = let front : IsPrefix front_lines bytes = whole_lines-front bytes in ap (take (length front_lines)) front.1 ∙ take_at front_lines front.0 (length front_lines) refl
 
-  uncut_is_whole : nat_lt (length whole) (length bytes) ≡ false → bytes ≡ whole
+  uncut_is_whole : nat_lt (length front_lines) (length bytes) ≡ false → bytes ≡ front_lines
   uncut_is_whole not_less =
-      let front : IsPrefix whole bytes = whole_lines-front bytes in
-      let none : front.0 ≡ [] = no_rest whole front.0 (subst (λ (b : List ℕ). nat_lt (length whole) (length b) ≡ false) front.1 not_less) in
-      front.1 ∙ ap (λ (l : List ℕ). whole ++ l) none ∙ append-nil whole
+      let front : IsPrefix front_lines bytes = whole_lines-front bytes in
+      let none : front.0 ≡ [] = no_rest front_lines front.0 (subst (λ (b : List ℕ). nat_lt (length front_lines) (length b) ≡ false) front.1 not_less) in
+      front.1 ∙ ap (λ (l : List ℕ). front_lines ++ l) none ∙ append-nil front_lines
 
 -- Early, before the first sync, nothing was told or written, and the disk has the whole lines that it had.
 abbrev pub IsEarly : List ℕ → List TakenRecord → Option TakenRecord → Disk → List ℕ → Type 0

@@ -122,97 +122,97 @@ untouched whole last = ([], [], sym (append-nil whole), refl, sym (append-nil wh
 pub nothing_yet : (d : DayRecord) (whole : List ℕ) → Keeps d whole [] None (settled whole) []
 nothing_yet d whole = (untouched whole None, tt)
 
+abbrev pub KeptAt : DayRecord → List ℕ → List Event → Type 0
+KeptAt d whole m = Keeps d whole (told d None m) (untold d None m) (disk_after (settled whole) m) (appended m)
+
 module _ (d : DayRecord) (one : TakenRecord) (is : IsTakenBy d.airport d.journal one) (reply : List ℕ) (rest : List Event)
     (later : AlwaysKeeps (day_with d (Some one)) rest) (whole : List ℕ) where
   abbrev next : DayRecord
   next = day_with d (Some one)
 
-  abbrev bytes : List ℕ
-  bytes = journal_line one.fields
+  abbrev row : List ℕ
+  row = journal_line one.fields
 
-  told_now : Keeps d whole (one ∷ []) None (settled (whole ++ bytes)) (bytes ++ [])
+  told_now : Keeps d whole (one ∷ []) None (settled (whole ++ row)) (row ++ [])
   told_now = (
     (
       [],
       [],
-      ap (λ (l : List ℕ). whole ++ l) (sym (append-nil bytes) ∙ sym (append-nil (bytes ++ []))),
+      ap (λ (l : List ℕ). whole ++ l) (sym (append-nil row) ∙ sym (append-nil (row ++ []))),
       refl,
-      sym (append-nil (whole ++ bytes)),
-      sym (append-nil (bytes ++ [])),
+      sym (append-nil (whole ++ row)),
+      sym (append-nil (row ++ [])),
       ([], refl),
     ),
     (is, tt),
   )
 
-  told_then : (records : List TakenRecord) (last : Option TakenRecord) (disk : Disk) (more : List ℕ) → Keeps next (whole ++ bytes) records last disk more
-      → Keeps d whole (one ∷ records) last disk (bytes ++ more)
+  told_then : (records : List TakenRecord) (last : Option TakenRecord) (disk : Disk) (more : List ℕ) → Keeps next (whole ++ row) records last disk more
+      → Keeps d whole (one ∷ records) last disk (row ++ more)
   told_then records last disk more (holds, are) = (
     (
       holds.0,
       holds.1,
-      holds.2 ∙ append_assoc whole bytes (lines_of records ++ holds.0) ∙ ap (λ (l : List ℕ). whole ++ l) (sym (append_assoc bytes (lines_of records) holds.0)),
+      holds.2 ∙ append_assoc whole row (lines_of records ++ holds.0) ∙ ap (λ (l : List ℕ). whole ++ l) (sym (append_assoc row (lines_of records) holds.0)),
       holds.3,
       holds.4,
-      ap (λ (l : List ℕ). bytes ++ l) holds.5 ∙ sym (append_assoc bytes (lines_of records) (holds.0 ++ holds.1)),
+      ap (λ (l : List ℕ). row ++ l) holds.5 ∙ sym (append_assoc row (lines_of records) (holds.0 ++ holds.1)),
       holds.6,
     ),
     (is, are),
   )
 
   flushed : (moment : List Event) → IsStopOf moment (Flushed ∷ rest)
-      → Keeps d whole (one ∷ told next None moment) (untold next None moment) (disk_after (settled (whole ++ bytes)) moment) (bytes ++ appended moment)
+      → Keeps d whole (one ∷ told next None moment) (untold next None moment) (disk_after (settled (whole ++ row)) moment) (row ++ appended moment)
   flushed moment (inl none) =
-      subst (λ (m : List Event). Keeps d whole (one ∷ told next None m) (untold next None m) (disk_after (settled (whole ++ bytes)) m) (bytes ++ appended m)) (sym none) told_now
+      subst (λ (m : List Event). Keeps d whole (one ∷ told next None m) (untold next None m) (disk_after (settled (whole ++ row)) m) (row ++ appended m)) (sym none) told_now
   flushed moment (inr (inl torn)) = absurd torn
   flushed moment (inr (inr (m, same, stop))) =
-      subst (λ (m : List Event). Keeps d whole (one ∷ told next None m) (untold next None m) (disk_after (settled (whole ++ bytes)) m) (bytes ++ appended m)) (sym same)
-      (told_then (told next None m) (untold next None m) (disk_after (settled (whole ++ bytes)) m) (appended m) (later (whole ++ bytes) m stop))
+      subst (λ (m : List Event). Keeps d whole (one ∷ told next None m) (untold next None m) (disk_after (settled (whole ++ row)) m) (row ++ appended m)) (sym same)
+      (told_then (told next None m) (untold next None m) (disk_after (settled (whole ++ row)) m) (appended m) (later (whole ++ row) m stop))
 
   -- from here on the line is the one that isn't told yet
   abbrev After : Disk → List ℕ → List Event → Type 0
   After disk before m = Keeps d whole (told next (Some one) m) (untold next (Some one) m) (disk_after disk m) (before ++ appended m)
 
-  untold_now : Keeps d whole [] (Some one) (settled (whole ++ bytes)) (bytes ++ [])
+  untold_now : Keeps d whole [] (Some one) (settled (whole ++ row)) (row ++ [])
   untold_now = (
-    (bytes, [], refl, refl, sym (append-nil (whole ++ bytes)), refl, ([], sym (append-nil bytes) ∙ sym (append-nil (bytes ++ [])))),
+    (row, [], refl, refl, sym (append-nil (whole ++ row)), refl, ([], sym (append-nil row) ∙ sym (append-nil (row ++ [])))),
     (is, tt),
   )
 
-  replied : (moment : List Event) → IsStopOf moment (Replied reply ∷ Flushed ∷ rest) → After (settled (whole ++ bytes)) bytes moment
-  replied moment (inl none) = subst (After (settled (whole ++ bytes)) bytes) (sym none) untold_now
-  replied moment (inr (inl torn)) = subst (After (settled (whole ++ bytes)) bytes) (sym torn.2) told_now
-  replied moment (inr (inr (m, same, stop))) = subst (After (settled (whole ++ bytes)) bytes) (sym same) (flushed m stop)
+  replied : (moment : List Event) → IsStopOf moment (Replied reply ∷ Flushed ∷ rest) → After (settled (whole ++ row)) row moment
+  replied moment (inl none) = subst (After (settled (whole ++ row)) row) (sym none) untold_now
+  replied moment (inr (inl torn)) = subst (After (settled (whole ++ row)) row) (sym torn.2) told_now
+  replied moment (inr (inr (m, same, stop))) = subst (After (settled (whole ++ row)) row) (sym same) (flushed m stop)
 
   abbrev unsynced : List ℕ → Disk
   unsynced part = record { synced = whole; uncut = whole; written = whole ++ part }
 
-  part_only : (part : List ℕ) → IsPrefix part bytes → Keeps d whole [] (Some one) (unsynced part) (part ++ [])
+  part_only : (part : List ℕ) → IsPrefix part row → Keeps d whole [] (Some one) (unsynced part) (part ++ [])
   part_only part front = (([], part, sym (append-nil whole), refl, refl, append-nil part, front), (is, tt))
 
-  synced_then : (moment : List Event) → IsStopOf moment (Synced ∷ Replied reply ∷ Flushed ∷ rest) → After (unsynced bytes) bytes moment
-  synced_then moment (inl none) = subst (After (unsynced bytes) bytes) (sym none) (part_only bytes ([], sym (append-nil bytes)))
+  synced_then : (moment : List Event) → IsStopOf moment (Synced ∷ Replied reply ∷ Flushed ∷ rest) → After (unsynced row) row moment
+  synced_then moment (inl none) = subst (After (unsynced row) row) (sym none) (part_only row ([], sym (append-nil row)))
   synced_then moment (inr (inl torn)) = absurd torn
-  synced_then moment (inr (inr (m, same, stop))) = subst (After (unsynced bytes) bytes) (sym same) (replied m stop)
+  synced_then moment (inr (inr (m, same, stop))) = subst (After (unsynced row) row) (sym same) (replied m stop)
 
-  pub on_taken : (moment : List Event) → IsStopOf moment (Appended bytes ∷ Synced ∷ Replied reply ∷ Flushed ∷ rest) → After (settled whole) [] moment
+  pub on_taken : (moment : List Event) → IsStopOf moment (Appended row ∷ Synced ∷ Replied reply ∷ Flushed ∷ rest) → After (settled whole) [] moment
   on_taken moment (inl none) = subst (After (settled whole) []) (sym none) (untouched whole (Some one), (is, tt))
   on_taken moment (inr (inl torn)) = subst (After (settled whole) []) (sym torn.2) (part_only torn.0 torn.1)
   on_taken moment (inr (inr (m, same, stop))) = subst (After (settled whole) []) (sym same) (synced_then m stop)
 
 -- a reply that leaves the journal alone
 module _ (d : DayRecord) (reply : List ℕ) (rest : List Event) (later : AlwaysKeeps d rest) (whole : List ℕ) where
-  abbrev Untouched : List Event → Type 0
-  Untouched m = Keeps d whole (told d None m) (untold d None m) (disk_after (settled whole) m) (appended m)
-
-  flushed_only : (moment : List Event) → IsStopOf moment (Flushed ∷ rest) → Untouched moment
-  flushed_only moment (inl none) = subst Untouched (sym none) (nothing_yet d whole)
+  flushed_only : (moment : List Event) → IsStopOf moment (Flushed ∷ rest) → KeptAt d whole moment
+  flushed_only moment (inl none) = subst (KeptAt d whole) (sym none) (nothing_yet d whole)
   flushed_only moment (inr (inl torn)) = absurd torn
-  flushed_only moment (inr (inr (m, same, stop))) = subst Untouched (sym same) (later whole m stop)
+  flushed_only moment (inr (inr (m, same, stop))) = subst (KeptAt d whole) (sym same) (later whole m stop)
 
-  pub on_other : (moment : List Event) → IsStopOf moment (Replied reply ∷ Flushed ∷ rest) → Untouched moment
-  on_other moment (inl none) = subst Untouched (sym none) (nothing_yet d whole)
-  on_other moment (inr (inl torn)) = subst Untouched (sym torn.2) (nothing_yet d whole)
-  on_other moment (inr (inr (m, same, stop))) = subst Untouched (sym same) (flushed_only m stop)
+  pub on_other : (moment : List Event) → IsStopOf moment (Replied reply ∷ Flushed ∷ rest) → KeptAt d whole moment
+  on_other moment (inl none) = subst (KeptAt d whole) (sym none) (nothing_yet d whole)
+  on_other moment (inr (inl torn)) = subst (KeptAt d whole) (sym torn.2) (nothing_yet d whole)
+  on_other moment (inr (inr (m, same, stop))) = subst (KeptAt d whole) (sym same) (flushed_only m stop)
 
 -- One line, and then the rest.
 
@@ -232,27 +232,29 @@ on_answered d Several reply rest later whole moment stop = on_other d reply rest
 on_answered d (One fields) reply rest later whole moment stop = on_told d (taken d (One fields)) reply rest (taken_is d (One fields)) later whole moment stop
 
 on_line : (d : DayRecord) (heard : Option (List ℕ)) (run : List Event) → Answers d (after d (record_heard heard)) (taken d (record_heard heard)) run → AlwaysKeeps d (said heard ∷ run)
-on_line d heard run answers whole moment (inl none) = subst (Untouched d whole) (sym none) (nothing_yet d whole)
+on_line d heard run answers whole moment (inl none) = subst (KeptAt d whole) (sym none) (nothing_yet d whole)
 on_line d None run answers whole moment (inr (inl torn)) = absurd torn
 on_line d (Some line) run answers whole moment (inr (inl torn)) = absurd torn
-on_line d None run answers whole moment (inr (inr (m, same, stop))) = subst (Untouched d whole) (sym same) (answers whole m stop)
-on_line d (Some line) run answers whole moment (inr (inr (m, same, stop))) = subst (Untouched d whole) (sym same) (answers whole m stop)
+on_line d None run answers whole moment (inr (inr (m, same, stop))) = subst (KeptAt d whole) (sym same) (answers whole m stop)
+on_line d (Some line) run answers whole moment (inr (inr (m, same, stop))) = subst (KeptAt d whole) (sym same) (answers whole m stop)
 
 heard_last : (d : DayRecord) (next : Event) → IsHeard next → AlwaysKeeps d (next ∷ [])
-heard_last d End is whole moment (inl none) = subst (Untouched d whole) (sym none) (nothing_yet d whole)
+heard_last d End is whole moment (inl none) = subst (KeptAt d whole) (sym none) (nothing_yet d whole)
 heard_last d End is whole moment (inr (inl torn)) = absurd torn
-heard_last d End is whole moment (inr (inr (m, same, stop))) = subst (Untouched d whole) (sym (same ∙ ap (λ (l : List Event). End ∷ l) stop)) (nothing_yet d whole)
-heard_last d Broken is = on_line d None [] (λ whole moment stop. subst (λ (m : List Event). Keeps d whole (told d None m) (untold d None m) (disk_after (settled whole) m) (appended m)) (sym stop) (nothing_yet d whole))
-heard_last d (Line line) is = on_line d (Some line) [] (λ whole moment stop.
-    let last : Option TakenRecord = taken d (record_heard (Some line)) in
-    subst (λ (m : List Event). Keeps d whole (told (after d (record_heard (Some line))) last m) (untold (after d (record_heard (Some line))) last m) (disk_after (settled whole) m) (appended m)) (sym stop)
-    (untouched whole last, one_taken d last (taken_is d (record_heard (Some line)))))
-heard_last d (Read bytes) is = absurd is
-heard_last d (Cut kept) is = absurd is
-heard_last d (Appended bytes) is = absurd is
-heard_last d Synced is = absurd is
-heard_last d (Replied text) is = absurd is
-heard_last d Flushed is = absurd is
+heard_last d End is whole moment (inr (inr (m, same, stop))) = subst (KeptAt d whole) (sym (same ∙ ap (λ (l : List Event). End ∷ l) stop)) (nothing_yet d whole)
+heard_last d Broken is whole moment stop = on_line d None [] (λ whole moment stop. subst (KeptAt d whole) (sym stop) (nothing_yet d whole)) whole moment stop
+heard_last d (Line line) is whole moment stop = on_line d (Some line) [] (not_yet d (record_heard (Some line))) whole moment stop
+  where
+    not_yet : (d : DayRecord) (line : LineRecord) → Answers d (after d line) (taken d line) []
+    not_yet d line whole moment stop =
+        subst (λ (m : List Event). Keeps d whole (told (after d line) (taken d line) m) (untold (after d line) (taken d line) m) (disk_after (settled whole) m) (appended m)) (sym stop)
+        (untouched whole (taken d line), one_taken d (taken d line) (taken_is d line))
+heard_last d (Read content) is whole moment stop = absurd is
+heard_last d (Cut kept) is whole moment stop = absurd is
+heard_last d (Appended content) is whole moment stop = absurd is
+heard_last d Synced is whole moment stop = absurd is
+heard_last d (Replied text) is whole moment stop = absurd is
+heard_last d Flushed is whole moment stop = absurd is
 
 pub always_keeps : (d : DayRecord) (xs : List Exchange) (next : Event) → IsHeard next → AlwaysKeeps d (served d xs ++ next ∷ [])
 always_keeps d [] next is = heard_last d next is

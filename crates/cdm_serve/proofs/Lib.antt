@@ -2,5 +2,6 @@ pub mod Ran
 pub mod Kept
 pub mod Begun
 pub mod Recovered
-pub mod Runs
 pub mod AnswerLemmas
+pub mod Runs
+pub mod StartLemmas

@@ -1,19 +1,22 @@
 -- A day that is served, line by line and to the end of the input.
-use Rattle.std.proofs.Common.{◌≡◌, ◌⊎◌, inl, inr, ℕ, ◌+◌, ◌≤◌, ◌^◌, Option, None, Some, cond, count_by, length, arith, List, [], ◌∷◌, ◌++◌, refl, sym, ◌∙◌, ap, subst, append_assoc}
+use Rattle.std.proofs.Common.{◌≡◌, ◌⊎◌, inl, inr, ℕ, ◌+◌, ◌≤◌, ◌^◌, Option, None, Some, cond, count_by, length, length-append, arith, Result, Ok, Err, OnErr, List, [], ◌∷◌, ◌++◌, refl, sym, ◌∙◌, ap, subst, append_assoc}
 use Rattle.std.proofs.lemmas.List.{append-nil}
 use Rattle.std.proofs.lemmas.List.Sums.{sum_by-append}
 use Rattle.cdm_journal.specs.Lines.{LineRecord}
 use Rattle.cdm_journal.specs.Lines.LineRecord.{Blank, One, Several}
 use Rattle.cdm_plan.specs.Day.{DayRecord}
 use Rattle.cdm_port.specs.Event.{Event}
-use Rattle.cdm_port.specs.Event.Event.{End}
+use Rattle.cdm_port.specs.Event.Event.{Broken, End, Line}
 use Rattle.cdm_port.specs.Stop.{IsStopOf, Stops}
 use Rattle.cdm_port.proofs.Stops.{front, longer, past}
 use Rattle.cdm_serve.specs.Faults.{is_line}
 use Rattle.cdm_serve.specs.Requests.{request_of}
 use Rattle.cdm_serve.specs.Served.{AreReplies, Exchange, IsHeard, IsReplyTo, answered, line_of, numbered, said, served, told_of}
 use Rattle.cdm_serve.specs.Taken.{TakenRecord, after, record_heard, taken}
-use Rattle.cdm_serve.specs.inner.Steps.{HearsInVain, HearsLine, ServeStops, Serves}
+use Rattle.cdm_serve.specs.inner.Steps.{HearsInVain, HearsLine, IsAnswerFault, IsLinesFault, IsPortFault, ServeStops, Serves}
+use Rattle.cdm_feed.specs.declared.common_fault.CommonFault.TheVariants as common
+use Rattle.cdm_serve.specs.declared.fault.ServeError.{ServeError}
+use Rattle.cdm_serve.specs.declared.fault.ServeError.TheVariants as error
 
 -- the day after these lines
 abbrev pub after_all : DayRecord → List Exchange → DayRecord
@@ -26,15 +29,16 @@ number_after number [] = number
 number_after number (x ∷ xs) = number_after (numbered number (line_of x)) xs
 
 -- some lines were served
-pub record Ran (d : DayRecord) (number : ℕ) (today : DayRecord) (count : ℕ) (old new : List Event) : Type 0 where
+pub record Ran (d : DayRecord) (number : ℕ) (today : DayRecord) (count turns : ℕ) (old new : List Event) : Type 0 where
   pub lines : List Exchange
+  pub turned : length lines ≡ turns
   pub replies : AreReplies d number lines
   pub events : new ≡ old ++ served d lines
   pub day : today ≡ after_all d lines
   pub counted : count ≡ number_after number lines
 
-pub none : (d : DayRecord) (number : ℕ) (old : List Event) → Ran d number d number old old
-none d number old = record { lines = []; replies = tt; events = sym (append-nil old); day = refl; counted = refl }
+pub none : (d : DayRecord) (number : ℕ) (old : List Event) → Ran d number d number 0 old old
+none d number old = record { lines = []; turned = refl; replies = tt; events = sym (append-nil old); day = refl; counted = refl }
 
 abbrev IsNext : DayRecord → ℕ → Exchange → Type 0
 IsNext d number x = IsReplyTo d (numbered number (line_of x)) (request_of d.airport.day (line_of x)) x.reply
@@ -60,27 +64,27 @@ number_more : (number : ℕ) (xs : List Exchange) (x : Exchange) → number_afte
 number_more number [] x = refl
 number_more number (first ∷ xs) x = number_more (numbered number (line_of first)) xs x
 
-module _ (d : DayRecord) (number : ℕ) (today : DayRecord) (count : ℕ) (old so_far : List Event) (ran : Ran d number today count old so_far) where
+module _ (d : DayRecord) (number : ℕ) (today : DayRecord) (count turns : ℕ) (old so_far : List Event) (ran : Ran d number today count turns old so_far) where
   -- one line more, and its answer in full or in part
   module _ (read : List Event) (line : LineRecord) (text : List ℕ) (hears : HearsLine so_far read line)
       (is : IsReplyTo today (numbered count line) (request_of today.airport.day line) text) where
-    abbrev one : Exchange
-    one = record { heard = hears.0; reply = text }
+    abbrev exchange : Exchange
+    exchange = record { heard = hears.0; reply = text }
 
-    same_line : line ≡ line_of one
+    same_line : line ≡ line_of exchange
     same_line = hears.1
 
-    is_next : IsNext (after_all d ran.lines) (number_after number ran.lines) one
+    is_next : IsNext (after_all d ran.lines) (number_after number ran.lines) exchange
     is_next =
-        subst (λ (d : DayRecord). IsNext d (number_after number ran.lines) one) ran.day
-        (subst (λ (n : ℕ). IsNext today n one) ran.counted
+        subst (λ (d : DayRecord). IsNext d (number_after number ran.lines) exchange) ran.day
+        (subst (λ (n : ℕ). IsNext today n exchange) ran.counted
         (subst (λ (l : LineRecord). IsReplyTo today (numbered count l) (request_of today.airport.day l) text) same_line is))
 
-    replies : AreReplies d number (ran.lines ++ one ∷ [])
-    replies = replies_more d number ran.lines one ran.replies is_next
+    replies : AreReplies d number (ran.lines ++ exchange ∷ [])
+    replies = replies_more d number ran.lines exchange ran.replies is_next
 
-    same_answer : answered today line text ≡ answered (after_all d ran.lines) (line_of one) text
-    same_answer = ap (λ (l : LineRecord). answered today l text) same_line ∙ ap (λ (d : DayRecord). answered d (line_of one) text) ran.day
+    same_answer : answered today line text ≡ answered (after_all d ran.lines) (line_of exchange) text
+    same_answer = ap (λ (l : LineRecord). answered today l text) same_line ∙ ap (λ (d : DayRecord). answered d (line_of exchange) text) ran.day
 
     heard_then : (new done : List Event) → new ≡ read ++ done → new ≡ old ++ (served d ran.lines ++ said hears.0 ∷ done)
     heard_then new done was =
@@ -90,34 +94,35 @@ module _ (d : DayRecord) (number : ℕ) (today : DayRecord) (count : ℕ) (old s
         ∙ ap (λ (l : List Event). old ++ l) (append_assoc (served d ran.lines) (said hears.0 ∷ []) done)
 
     pub goes_on : (next : DayRecord) (more : ℕ) (new : List Event) → new ≡ read ++ answered today line text → next ≡ after today line → more ≡ numbered count line
-        → Ran d number next more old new
+        → Ran d number next more (turns + 1) old new
     goes_on next more new was next_day next_number = record {
-      lines = ran.lines ++ one ∷ [];
+      lines = ran.lines ++ exchange ∷ [];
+      turned = let same : length ran.lines ≡ turns = ran.turned in simp length-append (omega (arith, same));
       replies = replies;
       events =
           heard_then new (answered today line text) was
           ∙ ap (λ (l : List Event). old ++ (served d ran.lines ++ said hears.0 ∷ l)) same_answer
-          ∙ ap (λ (l : List Event). old ++ l) (sym (served_more d ran.lines one));
-      day = next_day ∙ ap (after today) same_line ∙ ap (λ (d : DayRecord). after d (line_of one)) ran.day ∙ sym (day_more d ran.lines one);
-      counted = next_number ∙ ap (numbered count) same_line ∙ ap (λ (n : ℕ). numbered n (line_of one)) ran.counted ∙ sym (number_more number ran.lines one);
+          ∙ ap (λ (l : List Event). old ++ l) (sym (served_more d ran.lines exchange));
+      day = next_day ∙ ap (after today) same_line ∙ ap (λ (d : DayRecord). after d (line_of exchange)) ran.day ∙ sym (day_more d ran.lines exchange);
+      counted = next_number ∙ ap (numbered count) same_line ∙ ap (λ (n : ℕ). numbered n (line_of exchange)) ran.counted ∙ sym (number_more number ran.lines exchange);
     }
 
     -- it stopped in the midst of an answer
     pub midst : (new : List Event) → Stops read (answered today line text) new → ServeStops d number old new
     midst new stop =
-        let in_answer : IsStopOf stop.0 (answered (after_all d ran.lines) (line_of one) text) = subst (λ (l : List Event). IsStopOf stop.0 l) same_answer stop.1 in
-        let at : IsStopOf (served d ran.lines ++ said hears.0 ∷ stop.0) (served d (ran.lines ++ one ∷ [])) =
-        subst (λ (l : List Event). IsStopOf (served d ran.lines ++ said hears.0 ∷ stop.0) l) (sym (served_more d ran.lines one))
-        (past (served d ran.lines) (said hears.0 ∷ stop.0) (said hears.0 ∷ answered (after_all d ran.lines) (line_of one) text)
-        (past (said hears.0 ∷ []) stop.0 (answered (after_all d ran.lines) (line_of one) text) in_answer)) in
+        let in_answer : IsStopOf stop.0 (answered (after_all d ran.lines) (line_of exchange) text) = subst (λ (l : List Event). IsStopOf stop.0 l) same_answer stop.1 in
+        let at : IsStopOf (served d ran.lines ++ said hears.0 ∷ stop.0) (served d (ran.lines ++ exchange ∷ [])) =
+        subst (λ (l : List Event). IsStopOf (served d ran.lines ++ said hears.0 ∷ stop.0) l) (sym (served_more d ran.lines exchange))
+        (past (served d ran.lines) (said hears.0 ∷ stop.0) (said hears.0 ∷ answered (after_all d ran.lines) (line_of exchange) text)
+        (past (said hears.0 ∷ []) stop.0 (answered (after_all d ran.lines) (line_of exchange) text) in_answer)) in
         (
-          ran.lines ++ one ∷ [],
+          ran.lines ++ exchange ∷ [],
           End,
           replies,
           tt,
           (
             served d ran.lines ++ said hears.0 ∷ stop.0,
-            longer (served d ran.lines ++ said hears.0 ∷ stop.0) (served d (ran.lines ++ one ∷ [])) (End ∷ []) at,
+            longer (served d ran.lines ++ said hears.0 ∷ stop.0) (served d (ran.lines ++ exchange ∷ [])) (End ∷ []) at,
             heard_then new stop.0 stop.2,
           ),
         )
@@ -158,8 +163,8 @@ answered_none d (One fields) reply = told_none (taken d (One fields)) reply
 answered_none d Several reply = refl
 
 said_one : (heard : Option (List ℕ)) (events : List Event) → count_by is_line (said heard ∷ events) ≡ 1 + count_by is_line events
-said_one None events = refl
-said_one (Some line) events = refl
+said_one None events = sum_by-append (λ e. cond (is_line e) 1 0) (Broken ∷ []) events
+said_one (Some line) events = sum_by-append (λ e. cond (is_line e) 1 0) (Line line ∷ []) events
 
 lines_heard : (d : DayRecord) (xs : List Exchange) → count_by is_line (served d xs) ≡ length xs
 lines_heard d [] = refl
@@ -181,9 +186,9 @@ number_few number [] = omega arith
 number_few number (x ∷ xs) = omega (arith, number_few (numbered number (line_of x)) xs, numbered_few number (line_of x))
 
 -- there are as many lines as numbers
-pub too_many : (d : DayRecord) (number : ℕ) (today : DayRecord) (count : ℕ) (old so_far new : List Event) (line : LineRecord) → Ran d number today count old so_far
+pub too_many : (d : DayRecord) (number : ℕ) (today : DayRecord) (count turns : ℕ) (old so_far new : List Event) (line : LineRecord) → Ran d number today count turns old so_far
     → HearsLine so_far new line → count + 1 ≡ 2 ^ 32 → (done : List Event) × (new ≡ old ++ done) × (2 ^ 32 ≤ number + count_by is_line done)
-too_many d number today count old so_far new line ran hears most =
+too_many d number today count turns old so_far new line ran hears most =
     let one : List Event = said hears.0 ∷ [] in
     let all : count_by is_line (served d ran.lines ++ said hears.0 ∷ []) ≡ count_by is_line (served d ran.lines) + count_by is_line (said hears.0 ∷ []) =
     sum_by-append (λ e. cond (is_line e) 1 0) (served d ran.lines) one in
@@ -196,3 +201,38 @@ too_many d number today count old so_far new line ran hears most =
       hears.2 ∙ ap (λ (l : List Event). l ++ said hears.0 ∷ []) ran.events ∙ append_assoc old (served d ran.lines) (said hears.0 ∷ []),
       omega (arith, all, this, before, few, same, most),
     )
+
+-- all turns were taken
+pub no_turn_left : (d : DayRecord) (number : ℕ) (today : DayRecord) (count turns : ℕ) (old so_far : List Event) → Ran d number today count turns old so_far → 2 ^ 32 ≤ turns
+    → (done : List Event) × (so_far ≡ old ++ done) × (2 ^ 32 ≤ number + count_by is_line done)
+no_turn_left d number today count turns old so_far ran most =
+    let before : count_by is_line (served d ran.lines) ≡ length ran.lines = lines_heard d ran.lines in
+    let same : length ran.lines ≡ turns = ran.turned in
+    (served d ran.lines, ran.events, omega (arith, before, same, most))
+
+-- Faults.
+
+pub on_err : {T E P : Type 0} (r : Result T E) → P → OnErr r P
+on_err (Ok x) p = tt
+on_err (Err y) p = p
+
+pub port_fault : (number : ℕ) (old new : List Event) (e : ServeError) → IsPortFault e → IsLinesFault number old new e
+port_fault number old new (error.Common (common.Read input)) is = is
+port_fault number old new (error.Common (common.TooLong input)) is = is
+port_fault number old new (error.Common (common.Airport place word)) is = is
+port_fault number old new (error.Common common.Memory) is = tt
+port_fault number old new (error.Common common.Write) is = is
+port_fault number old new (error.Journal place word) is = is
+port_fault number old new (error.Port fault) is = tt
+port_fault number old new error.TooMany is = absurd is
+
+pub answer_fault : (count number : ℕ) (old new : List Event) (e : ServeError) → IsAnswerFault count e
+    → (count + 1 ≡ 2 ^ 32 → (done : List Event) × (new ≡ old ++ done) × (2 ^ 32 ≤ number + count_by is_line done)) → IsLinesFault number old new e
+answer_fault count number old new (error.Common (common.Read input)) is most = is
+answer_fault count number old new (error.Common (common.TooLong input)) is most = is
+answer_fault count number old new (error.Common (common.Airport place word)) is most = is
+answer_fault count number old new (error.Common common.Memory) is most = tt
+answer_fault count number old new (error.Common common.Write) is most = is
+answer_fault count number old new (error.Journal place word) is most = is
+answer_fault count number old new (error.Port fault) is most = absurd is
+answer_fault count number old new error.TooMany is most = most is

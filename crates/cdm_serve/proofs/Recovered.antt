@@ -1,5 +1,5 @@
 -- What a served day promises, at each moment.
-use Rattle.std.proofs.Common.{◌≡◌, IsOk, ◌⊎◌, inl, inr, ℕ, Option, None, Some, List, [], ◌∷◌, ◌++◌, map, refl, sym, ◌∙◌, ap, subst, append_assoc}
+use Rattle.std.proofs.Common.{◌≡◌, IsOk, Ok, ◌⊎◌, inl, inr, ℕ, Option, None, Some, List, [], ◌∷◌, ◌++◌, map, refl, sym, ◌∙◌, ap, subst, append_assoc}
 use Rattle.std.specs.Option.{option_to_list}
 use Rattle.std.proofs.lemmas.List.{append-nil, append_cancel_left}
 use Rattle.std.proofs.lemmas.List.Concat.{flat_map-append}
@@ -117,7 +117,7 @@ module _ (plain : ArePlain) (cuts : CutsTorn) (keeps : KeepsWhole) (gives : Give
       ap (λ (p : List ℕ). whole_lines (text ++ p)) (sym (same ∙ append-nil part)) ∙ more.0 in
       (ap (refusals_in g) whole ∙ more.1, inr (ap (accepted_in g) whole ∙ more.2))
   part_read text part (byte ∷ rest) updates (Some one) makes are same =
-      let spells : IsOk (parse_of g.day one.fields) = subst IsOk (sym are.0.1) tt in
+      let spells : IsOk (parse_of g.day one.fields) = subst IsOk (sym are.0.1) refl in
       as_it_is text (text ++ part) updates (Some one) makes (cuts text part (byte ∷ rest) one.fields makes.0 (plain g.day one.fields spells) (sym same) (λ none. cc none))
 
   -- what a stop may leave ends with a first part of the line that isn't told yet

@@ -1,8 +1,14 @@
 -- A run of a served day, from its start to its end.
-use Rattle.std.proofs.Common.{◌≡◌, ◌⊎◌, inl, inr, ℕ, List, [], ◌∷◌, ◌++◌, length, refl, sym, ◌∙◌, ap, subst, append_assoc}
+use Rattle.std.proofs.Common.{◌≡◌, ◌⊎◌, ◌+◌, ◌≤◌, ◌^◌, inl, inr, ℕ, Option, None, Some, IfSome, Result, Ok, Err, IfErr, OnErr, OnOk, arith, cond, count_by, List, [], ◌∷◌, ◌++◌, length, refl, sym, ◌∙◌, ap, subst, append_assoc}
+use Rattle.std.specs.Result.{IsOkAnd}
 use Rattle.std.proofs.lemmas.List.{append-nil}
+use Rattle.std.proofs.lemmas.List.Sums.{sum_by-append}
+use Rattle.cdm_feed.specs.AirportFile.{airport_in}
+use Rattle.cdm_feed.specs.Readings.{IsRead, Reading}
+use Rattle.cdm_feed.specs.declared.common_fault.CommonFault.TheVariants as common
 use Rattle.cdm_feed.specs.Output.{refusals_in}
 use Rattle.cdm_flight.specs.Journal.{AirportRows}
+use Rattle.cdm_flight.specs.declared.word.RefusalWord.{RefusalWord}
 use Rattle.cdm_journal.specs.Journal.{whole_lines}
 use Rattle.cdm_journal.proofs.PlainLemmas.{plain}
 use Rattle.cdm_journal.proofs.RecoveryLemmas.{gives-update, refuses-none}
@@ -14,7 +20,10 @@ use Rattle.cdm_port.specs.Stop.{IsStopOf, Stops, since}
 use Rattle.cdm_port.proofs.Stops.{front, longer, past, since_is}
 use Rattle.cdm_serve.specs.Promises.{AtEachMoment, IsKept, IsRecovered, IsWritten}
 use Rattle.cdm_serve.specs.Served.{AreReplies, Exchange, IsHeard, IsServed, IsStopped, day_of, served, started}
-use Rattle.cdm_serve.specs.inner.Steps.{ServeStops, Serves, StartStops, Starts}
+use Rattle.cdm_serve.specs.Faults.{IsDayFault, IsServeFault, is_line}
+use Rattle.cdm_serve.specs.inner.Steps.{IsLinesFault, IsStartFault, ServeStops, Serves, StartStops, Starts}
+use Rattle.cdm_serve.specs.declared.fault.ServeError.{ServeError}
+use Rattle.cdm_serve.specs.declared.fault.ServeError.TheVariants as error
 use Rattle.cdm_serve.proofs.Begun.{always_begins}
 use Rattle.cdm_serve.proofs.Recovered.{kept, recovered, written}
 
@@ -83,3 +92,72 @@ to_the_end g d old mid new start serves =
           outcome g old new done whole (inr (start.bytes, End, done, tt, all, subst (λ (l : List Event). IsStopOf done l) (append-nil done) (front done []))),
           (start.bytes, subst (IsServed g start.bytes End) (sym (since_is old new done whole)) all),
         )
+
+-- Where serve ends.
+
+pub finished : {E : Type 0} (g : AirportRows) (d : DayRecord) (old mid new : List Event) (r : Result (Unit {0}) E) → Starts g old mid d
+    → OnOk r (Serves d 0 mid new) → OnErr r (ServeStops d 0 mid new) → Outcome g old new
+finished g d old mid new (Ok x) start serves stops = (to_the_end g d old mid new start serves).0
+finished g d old mid new (Err e) start serves stops = unserved g d old mid new start stops
+
+pub finished_served : {E : Type 0} (g : AirportRows) (d : DayRecord) (old mid new : List Event) (r : Result (Unit {0}) E) → Starts g old mid d
+    → OnOk r (Serves d 0 mid new) → OnOk r ((bytes : List ℕ) × IsServed g bytes End (since old new))
+finished_served g d old mid new (Ok x) start serves = (to_the_end g d old mid new start serves).1
+finished_served g d old mid new (Err e) start serves = tt
+
+-- Faults.
+
+pub start_fault : (g : AirportRows) (old new : List Event) (e : ServeError) → IsStartFault g old new e → IsDayFault g (since old new) e
+start_fault g old new (error.Common (common.Read input)) is = is
+start_fault g old new (error.Common (common.TooLong input)) is = is
+start_fault g old new (error.Common (common.Airport place word)) is = is
+start_fault g old new (error.Common common.Memory) is = tt
+start_fault g old new (error.Common common.Write) is = is
+start_fault g old new (error.Journal place word) (bytes, others, was, refused) = (bytes, others, since_is old new (Read bytes ∷ []) was, refused)
+start_fault g old new (error.Port fault) is = tt
+start_fault g old new error.TooMany is = absurd is
+
+lines_fault : (g : AirportRows) (d : DayRecord) (old mid new : List Event) (e : ServeError) → Starts g old mid d → IsLinesFault 0 mid new e → IsDayFault g (since old new) e
+lines_fault g d old mid new (error.Common (common.Read input)) start is = is
+lines_fault g d old mid new (error.Common (common.TooLong input)) start is = is
+lines_fault g d old mid new (error.Common (common.Airport place word)) start is = is
+lines_fault g d old mid new (error.Common common.Memory) start is = tt
+lines_fault g d old mid new (error.Common common.Write) start is = is
+lines_fault g d old mid new (error.Journal place word) start is = absurd is
+lines_fault g d old mid new (error.Port fault) start is = tt
+lines_fault g d old mid new error.TooMany start (done, was, most) =
+    let before : List Event = started start.bytes (length (day_of g start.bytes).journal) in
+    let all : new ≡ old ++ (before ++ done) = was ∙ ap (λ (l : List Event). l ++ done) start.events ∙ append_assoc old before done in
+    let sums : count_by is_line (before ++ done) ≡ count_by is_line before + count_by is_line done = sum_by-append (λ e. cond (is_line e) 1 0) before done in
+    let enough : 2 ^ 32 ≤ count_by is_line (before ++ done) = omega (arith, sums, most) in
+    subst (λ (l : List Event). 2 ^ 32 ≤ count_by is_line l) (sym (since_is old new (before ++ done) all)) enough
+
+pub finished_fault : (g : AirportRows) (d : DayRecord) (old mid new : List Event) (r : Result (Unit {0}) ServeError) → Starts g old mid d
+    → IfErr r (IsLinesFault 0 mid new) → IfErr r (IsDayFault g (since old new))
+finished_fault g d old mid new (Ok x) start is = tt
+finished_fault g d old mid new (Err e) start is = lines_fault g d old mid new e start is
+
+-- of the airport that a file says
+file_fault : (a : Reading) (g : AirportRows) (done : List Event) (e : ServeError) → IsRead a → IfSome a.before (λ file. airport_in file ≡ Ok g) → IsDayFault g done e
+    → IfSome a.before (λ file. IsOkAnd (airport_in file) (λ g. IsDayFault g done e))
+file_fault a g done e read says is = by a.before says
+  where
+    by : (file : Option (List ℕ)) → IfSome file (λ file. airport_in file ≡ Ok g) → IfSome file (λ file. IsOkAnd (airport_in file) (λ g. IsDayFault g done e))
+    by None says = tt
+    by (Some file) says = subst (λ (r : Result AirportRows (ℕ × RefusalWord)). IsOkAnd r (λ g. IsDayFault g done e)) (sym says) is
+
+serve_fault : (a : Reading) (g : AirportRows) (done : List Event) (e : ServeError) → IsRead a → IfSome a.before (λ file. airport_in file ≡ Ok g) → IsDayFault g done e
+    → IsServeFault a done e
+serve_fault a g done (error.Common (common.Read input)) read says is = absurd is
+serve_fault a g done (error.Common (common.TooLong input)) read says is = absurd is
+serve_fault a g done (error.Common (common.Airport place word)) read says is = absurd is
+serve_fault a g done (error.Common common.Memory) read says is = read.unfailed
+serve_fault a g done (error.Common common.Write) read says is = absurd is
+serve_fault a g done (error.Journal place word) read says is = (read, file_fault a g done (error.Journal place word) read says is)
+serve_fault a g done (error.Port fault) read says is = (read, file_fault a g done (error.Port fault) read says is)
+serve_fault a g done error.TooMany read says is = (read, file_fault a g done error.TooMany read says is)
+
+pub served_fault : (a : Reading) (g : AirportRows) (done : List Event) (r : Result (Unit {0}) ServeError) → IsRead a → IfSome a.before (λ file. airport_in file ≡ Ok g)
+    → IfErr r (IsDayFault g done) → IfErr r (IsServeFault a done)
+served_fault a g done (Ok x) read says is = tt
+served_fault a g done (Err e) read says is = serve_fault a g done e read says is

@@ -4,7 +4,7 @@ use Rattle.std.specs.Result.{IsOkAnd}
 use Rattle.cdm_feed.specs.AirportFile.{airport_in}
 use Rattle.cdm_feed.specs.CommonFaults.{IsFirstCommonFault}
 use Rattle.cdm_feed.specs.Output.{refusals_in}
-use Rattle.cdm_feed.specs.Readings.{IsRead, Reading, no_input}
+use Rattle.cdm_feed.specs.Readings.{IsRead, IsUnfailed, Reading, no_input}
 use Rattle.cdm_feed.specs.declared.common_fault.CommonFault.TheVariants as common
 use Rattle.cdm_flight.specs.Journal.{AirportRows}
 use Rattle.cdm_flight.specs.declared.word.RefusalWord.{RefusalWord}
@@ -42,6 +42,6 @@ IsDayFault g done error.TooMany = 2 ^ 32 ≤ count_by is_line done
 -- why serving a day ends: first the airport file is read, then its records are asked, and nothing of the port has happened till
 -- then; then the day is served
 abbrev pub IsServeFault : Reading → List Event → ServeError → Type 0
-IsServeFault a done (error.Common common.Memory) = IsFirstCommonFault a no_input no_input ⊥ common.Memory
+IsServeFault a done (error.Common common.Memory) = IsUnfailed a
 IsServeFault a done (error.Common other) = IsFirstCommonFault a no_input no_input ⊥ other × (done ≡ [])
 IsServeFault a done fault = IsRead a × IfSome a.before (λ file. IsOkAnd (airport_in file) (λ g. IsDayFault g done fault))

@@ -74,9 +74,13 @@ served d (x ∷ later) = said x.heard ∷ (answered d (line_of x) x.reply ++ ser
 
 -- The start.
 
+-- of so many bytes these are kept
+abbrev pub cut_to : ℕ → ℕ → List Event
+cut_to kept count = if nat_lt kept count then Cut kept ∷ [] else []
+
 -- a last line that a stop has torn is cut off
 abbrev pub cut_of : List ℕ → List Event
-cut_of bytes = if nat_lt (length (whole_lines bytes)) (length bytes) then Cut (length (whole_lines bytes)) ∷ [] else []
+cut_of bytes = cut_to (length (whole_lines bytes)) (length bytes)
 
 -- how many updates the day has at the start
 abbrev pub ready_text : ℕ → List ℕ

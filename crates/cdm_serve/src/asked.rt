@@ -24,8 +24,8 @@ pub enum Asked {
 }
 
 // The word of a question.
-fn word_of(question: Question) -> &'static str
-    ensures { result.now ≡ word_of question }
+fn word_of(question: &Question) -> &'static str
+    ensures { result.now ≡ word_of question.now }
 {
     match question {
         Question::Why(_) => "WHY",
@@ -72,12 +72,13 @@ fn view_text(
     alloc: Global,
     state: &DayState,
     number: u32,
-    question: Question,
+    question: &Question,
 ) -> Result<Vec<u8>, AllocError>
-    ensures { IfOk result (λ text. IsAnswerText state.now number (Asked.View question) text.items) }
+    ensures { IfOk result (λ text. IsAnswerText state.now number (Asked.View question.now) text.items) }
 {
-    match answer(alloc, state.airport(), state, state.plan(), question) {
-        Ok(body) => told_text(alloc, number, word_of(question), &body),
+    let word = word_of(question);
+    match answer(alloc, state.airport(), state, state.plan(), *question) {
+        Ok(body) => told_text(alloc, number, word, &body),
         Err(ViewFault::Memory) => Err(AllocError),
         Err(ViewFault::NoFlight(_) | ViewFault::NoRunway(_)) => reply_text(
             alloc,
@@ -103,6 +104,6 @@ pub(crate) fn asked_text(
             let body = report_text(alloc, state.day(), state.plan(), &[])?;
             told_text(alloc, number, "PLAN", &body)
         }
-        Asked::View(question) => view_text(alloc, state, number, question),
+        Asked::View(question) => view_text(alloc, state, number, &question),
     }
 }

@@ -9,7 +9,7 @@ ghost use Rattle.cdm_port.specs.Stop.{since};
 ghost use Rattle.cdm_serve.specs.Faults.{IsDayFault, IsServeFault};
 ghost use Rattle.cdm_serve.specs.Promises.{AtEachMoment, IfAirport, IsKept, IsRecovered, IsWritten};
 ghost use Rattle.cdm_serve.specs.Served.{IsServed, IsStopped};
-ghost use Rattle.cdm_serve.specs.inner.Steps.{Hears, HearsInVain, IsLinesFault, Serves, ServeStops};
+ghost use Rattle.cdm_serve.specs.inner.Steps.{Hears, HearsInVain, IsLinesFault, IsPortFault, Serves, ServeStops};
 
 use crate::answering::ServedDay;
 use crate::fault::ServeError;
@@ -27,6 +27,7 @@ use std::thread::Threads;
 fn hear<P: Port>(alloc: Global, port: &mut P) -> Result<Option<LineRead>, ServeError>
     ensures ok { IfOk result (Hears (P.events port.old) (P.events port.new)) }
     ensures err { OnErr result (HearsInVain (P.events port.old) (P.events port.new)) }
+    ensures fault { IfErr result IsPortFault }
 {
     match port.line(alloc)? {
         Heard::Line(bytes) => {

@@ -1,7 +1,8 @@
 //! The start of a served day.
-ghost use Rattle.std.specs.Prelude.{◌≡◌, [], ◌++◌, IfErr, IfOk, OnErr, OnOk};
-ghost use Rattle.std.specs.List.{length};
-ghost use Rattle.cdm_serve.specs.Served.{ready_text};
+ghost use Rattle.std.specs.Prelude.{◌≡◌, ◌∷◌, ◌++◌, [], IfErr, IfOk, OnErr, OnOk};
+ghost use Rattle.cdm_port.specs.Event.Event.{Flushed, Replied, Synced};
+ghost use Rattle.cdm_port.specs.Stop.{Stops};
+ghost use Rattle.cdm_serve.specs.Served.{cut_to, ready_text};
 ghost use Rattle.cdm_serve.specs.inner.Steps.{IsStartFault, Starts, StartStops};
 
 use crate::fault::ServeError;
@@ -9,7 +10,7 @@ use crate::performing::tell;
 use cdm_day::{Airport, DayState};
 use cdm_journal::{kept_length, read_journal};
 use cdm_phase::{OpenGate, Workers};
-use cdm_port::Port;
+use cdm_port::{Port, PortFault};
 use std::alloc::{AllocError, Global};
 use std::fmt::Write;
 use std::thread::Threads;
@@ -21,6 +22,33 @@ fn ready_text(alloc: Global, count: usize) -> Result<Vec<u8>, AllocError>
     let mut text = String::new(alloc);
     writeln!(text, "READY {count}")?;
     Ok(text.into_bytes())
+}
+
+// Cuts the journal of so many bytes to these, unless they are all.
+fn cut_torn<P: Port>(port: &mut P, kept: usize, count: usize) -> Result<(), PortFault>
+    ensures ok { OnOk result (P.events port.new ≡ P.events port.old ++ cut_to kept count) }
+    ensures err { OnErr result (Stops (P.events port.old) (cut_to kept count) (P.events port.new)) }
+{
+    if kept < count {
+        port.cut(kept)
+    } else {
+        Ok(())
+    }
+}
+
+// Puts the whole lines of a journal of so many bytes on the disk, and tells that the day is ready.
+fn begin<P: Port>(
+    port: &mut P,
+    kept: usize,
+    count: usize,
+    ready: &[u8],
+) -> Result<(), PortFault>
+    ensures ok { OnOk result (P.events port.new ≡ P.events port.old ++ (cut_to kept count ++ Synced ∷ Replied ready.now ∷ Flushed ∷ [])) }
+    ensures err { OnErr result (Stops (P.events port.old) (cut_to kept count ++ Synced ∷ Replied ready.now ∷ Flushed ∷ []) (P.events port.new)) }
+{
+    cut_torn(port, kept, count)?;
+    port.sync()?;
+    tell(port, ready)
 }
 
 /// Reads the journal and judges its whole lines; then cuts off a last line that a stop has torn, and tells that the
@@ -38,14 +66,10 @@ pub(crate) fn start<R: Threads + Sync, P: Port>(
     ensures fault { IfErr result (IsStartFault airport (P.events port.old) (P.events port.new)) }
 {
     let bytes = port.journal(alloc)?;
-    let length = kept_length(&bytes);
+    let kept = kept_length(&bytes);
     let one = Workers::new(1).unwrap();
-    let state = read_journal(rt, alloc, airport, &bytes[..length], one, &OpenGate)?;
+    let state = read_journal(rt, alloc, airport, &bytes[..kept], one, &OpenGate)?;
     let ready = ready_text(alloc, state.journal().len())?;
-    if length < bytes.len() {
-        port.cut(length)?;
-    }
-    port.sync()?;
-    tell(port, &ready)?;
+    begin(port, kept, bytes.len(), &ready)?;
     Ok(state)
 }

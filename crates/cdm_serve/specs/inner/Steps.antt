@@ -51,6 +51,14 @@ Hears old new (Some read) = HearsLine old new (read_as read)
 abbrev pub HearsInVain : List Event → List Event → Type 0
 HearsInVain old new = (new ≡ old) ⊎ ((line : LineRecord) × HearsLine old new line)
 
+-- a fault of the port, or want of memory
+abbrev pub IsPortFault : ServeError → Type 0
+IsPortFault (error.Common common.Memory) = ⊤
+IsPortFault (error.Common fault) = ⊥
+IsPortFault (error.Journal place word) = ⊥
+IsPortFault (error.Port fault) = ⊤
+IsPortFault error.TooMany = ⊥
+
 -- why a line has no answer, where so many records and questions were numbered before
 abbrev pub IsAnswerFault : ℕ → ServeError → Type 0
 IsAnswerFault number (error.Common common.Memory) = ⊤

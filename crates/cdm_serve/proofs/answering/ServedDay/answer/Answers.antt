@@ -1,0 +1,20 @@
+use Rattle.std.proofs.Common.{◌≡◌, [], sym, ap, rules}
+use Rattle.cdm_journal.specs.Lines.{LineRecord, read_as}
+use Rattle.cdm_journal.specs.Lines.LineRecord.{Blank}
+use Rattle.cdm_serve.specs.Requests.{request_of}
+use Rattle.cdm_serve.specs.Served.{answered, numbered}
+use Rattle.cdm_serve.specs.declared.request.Request.TheVariants.{Nothing}
+use Rattle.cdm_serve.proofs.AnswerLemmas.{blank_line}
+use Rattle.cdm_serve.proofs.answering.ServedDay.answer.Goals as goal
+
+pub returns-in-Nothing-clause-events : goal.returns-in-Nothing-clause-events
+returns-in-Nothing-clause-events c =
+    let nothing : request_of c.args.self.now.state.airport.day (read_as c.args.read.now) ≡ Nothing = search rules in
+    let blank : read_as c.args.read.now ≡ Blank = blank_line _ _ nothing in
+    sym (ap (λ (l : LineRecord). answered c.args.self.now.state l []) blank)
+
+pub returns-in-Nothing-clause-number : goal.returns-in-Nothing-clause-number
+returns-in-Nothing-clause-number c =
+    let nothing : request_of c.args.self.now.state.airport.day (read_as c.args.read.now) ≡ Nothing = search rules in
+    let blank : read_as c.args.read.now ≡ Blank = blank_line _ _ nothing in
+    sym (ap (λ (l : LineRecord). numbered c.args.self.now.number l) blank)
