@@ -5,8 +5,7 @@ pub const VERSION: &str = "0.1.0";
 
 /// What the program is.
 pub const ABOUT: &str = "\
-The pre-departure sequencer of Airport Collaborative Decision Making: it gives
-each departure of an airport the time at which its start-up can be approved.";
+The pre-departure sequencer of Airport CDM: a start-up time for each departure.";
 
 /// What `plan` does.
 pub const PLAN_ABOUT: &str = "Plan a feed of updates, and print the sequence of each runway";
@@ -42,7 +41,6 @@ pub const HELP_ABOUT: &str = "Print the manual, or the help of one command";
 pub const EXAMPLES: &str = "\
 For example:
   cdmseq plan airport.csv feed.csv
-  cdmseq why airport.csv feed.csv AB1
 The options of one command: cdmseq help plan
 The whole manual: cdmseq help | less";
 

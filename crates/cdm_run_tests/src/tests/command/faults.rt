@@ -4,6 +4,8 @@ use cdm_command::{Fault, UnopenedFile, report_fault};
 use cdm_feed::{CommonFault, Device, RunError, TableError, ViewError};
 use cdm_flight::RefusalWord;
 use cdm_live::LiveError;
+use cdm_port::PortFault;
+use cdm_serve::ServeError;
 use std::io::ErrorKind;
 use std::process::Abort;
 
@@ -55,9 +57,24 @@ fn faults_have_lines(rt: HostRuntime) {
             "board is full after 4096 calls",
         ),
         (Live(LiveError::Mismatch), "board and desk differ"),
+        (Fault::JournalInUse, "JOURNAL is in use"),
     ];
     for (fault, line) in cases {
         check_line(&rt, fault, line);
+    }
+    let ports = [
+        (PortFault::CannotReadJournal, "cannot read JOURNAL"),
+        (
+            PortFault::JournalTooLong,
+            "JOURNAL is longer than 8388608 bytes",
+        ),
+        (PortFault::CannotReadInput, "cannot read standard input"),
+        (PortFault::CannotWriteJournal, "cannot write JOURNAL"),
+        (PortFault::CannotWrite, "cannot write"),
+        (PortFault::Memory, "out of memory"),
+    ];
+    for (fault, line) in ports {
+        check_line(&rt, Fault::Serve(ServeError::Port(fault)), line);
     }
 }
 

@@ -11,9 +11,11 @@ fn text_in<'a>(answer: &'a Result<Command<'_>, CommandFault>) -> &'a str {
             | Command::Tabulate { feed, .. }
             | Command::Draw { feed, .. }
             | Command::Check { feed, .. }
+            | Command::Trace { feed, .. }
             | Command::Ask { feed, .. },
         ) => feed,
         Ok(Command::Live { feed2, .. }) => feed2,
+        Ok(Command::Serve { journal, .. }) => journal,
         Ok(Command::Print(text)) | Err(CommandFault::Usage(text)) => text.as_str(),
         Err(CommandFault::Memory) => "",
     }
