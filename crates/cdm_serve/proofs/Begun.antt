@@ -1,20 +1,18 @@
 -- The journal from the start of a served day on.
-use Rattle.std.proofs.Common.{◌≡◌, ◌⊎◌, inl, inr, ℕ, ◌<◌, Bool, true, false, nat_lt, Option, None, Some, List, [], ◌∷◌, ◌++◌, length, take, drop, refl, sym, ◌∙◌, ap, subst, append_assoc, arith, length-append, lt-ltb, take_at}
-use Rattle.std.specs.Prelude.{⊤, if◌then◌else◌}
-use Rattle.std.specs.Option.{option_to_list}
+use Rattle.std.proofs.Common.{◌≡◌, ◌⊎◌, inl, inr, ℕ, ◌<◌, Bool, true, false, nat_lt, Option, None, List, [], ◌∷◌, ◌++◌, length, take, drop, refl, sym, ◌∙◌, ap, subst, append_assoc, arith, length-append, lt-ltb, take_at}
+use Rattle.std.specs.Prelude.{if◌then◌else◌}
 use Rattle.std.proofs.lemmas.List.{append-nil, append_cancel_left}
-use Rattle.cdm_feed.specs.Output.{refusals_in}
 use Rattle.cdm_flight.specs.Journal.{AirportRows}
 use Rattle.cdm_journal.specs.Journal.{has_line_feed, whole_lines}
 use Rattle.cdm_journal.proofs.WholeLemmas.{kept-whole}
 use Rattle.cdm_plan.specs.Day.{DayRecord}
 use Rattle.cdm_port.specs.Event.{Event}
-use Rattle.cdm_port.specs.Event.Event.{Appended, Broken, Cut, End, Flushed, Line, Read, Replied, Synced}
-use Rattle.cdm_port.specs.Stop.{IsPrefix, IsStopOf, Stops}
+use Rattle.cdm_port.specs.Event.Event.{Cut, Flushed, Read, Replied, Synced}
+use Rattle.cdm_port.specs.Stop.{IsPrefix, IsStopOf}
 use Rattle.cdm_port.proofs.Stops.{earlier}
 use Rattle.cdm_serve.specs.Disk.{Disk, MayBeLeft, disk_after, settled}
-use Rattle.cdm_serve.specs.Promises.{appended, lines_of, told, untold}
-use Rattle.cdm_serve.specs.Served.{AreReplies, Exchange, IsHeard, IsServed, IsStopped, cut_of, day_of, ready_text, served, started}
+use Rattle.cdm_serve.specs.Promises.{appended, told, untold}
+use Rattle.cdm_serve.specs.Served.{IsStopped, cut_of, day_of, ready_text, served, started}
 use Rattle.cdm_serve.specs.Taken.{TakenRecord}
 use Rattle.cdm_serve.proofs.Kept.{AlwaysKeeps, Keeps, always_keeps, on_other}
 
@@ -72,10 +70,16 @@ Begins d bytes moment = IsEarly bytes (told d None moment) (untold d None moment
     ⊎ Keeps d (whole_lines bytes) (told d None moment) (untold d None moment) (disk_after (settled bytes) moment) (appended moment)
 
 pub early : (d : DayRecord) (bytes : List ℕ) → IsEarly bytes [] None (settled bytes) []
-early d bytes = (refl, refl, refl, refl, λ left may. elim may [
-  | inl same ↦ ap whole_lines same
-  | inr between ↦ ap whole_lines (sym (same_text bytes left between.0 between.1))
-])
+early d bytes = (
+  refl,
+  refl,
+  refl,
+  refl,
+  λ left may. elim may [
+    | inl same ↦ ap whole_lines same
+    | inr between ↦ ap whole_lines (sym (same_text bytes left between.0 between.1))
+  ],
+)
 
 module _ (d : DayRecord) (bytes : List ℕ) (ready : List ℕ) (rest : List Event) (later : AlwaysKeeps d rest) where
   abbrev Late : Disk → List Event → Type 0
@@ -96,10 +100,16 @@ module _ (d : DayRecord) (bytes : List ℕ) (ready : List ℕ) (rest : List Even
   cut = record { synced = bytes; uncut = take (length (whole_lines bytes)) bytes; written = take (length (whole_lines bytes)) bytes }
 
   cut_is_early : IsEarly bytes [] None cut []
-  cut_is_early = (refl, refl, refl, refl, λ left may. elim may [
-    | inl same ↦ ap whole_lines same
-    | inr between ↦ ap whole_lines (sym (same_text _ left between.0 between.1) ∙ kept_of_cut bytes) ∙ kept-whole bytes
-  ])
+  cut_is_early = (
+    refl,
+    refl,
+    refl,
+    refl,
+    λ left may. elim may [
+      | inl same ↦ ap whole_lines same
+      | inr between ↦ ap whole_lines (sym (same_text _ left between.0 between.1) ∙ kept_of_cut bytes) ∙ kept-whole bytes
+    ],
+  )
 
   cut_first : (moment : List Event) → IsStopOf moment (Cut (length (whole_lines bytes)) ∷ Synced ∷ Replied ready ∷ Flushed ∷ rest) → Late (settled bytes) moment
   cut_first moment (inl none) = subst (Late (settled bytes)) (sym none) (inl (early d bytes))

@@ -1,5 +1,5 @@
 -- A day that is served, line by line and to the end of the input.
-use Rattle.std.proofs.Common.{◌≡◌, ◌⊎◌, inl, inr, ℕ, ◌+◌, ◌≤◌, ◌^◌, Option, None, Some, cond, count_by, length, length-append, arith, Result, Ok, Err, OnErr, List, [], ◌∷◌, ◌++◌, refl, sym, ◌∙◌, ap, subst, append_assoc}
+use Rattle.std.proofs.Common.{◌≡◌, inl, inr, ℕ, ◌+◌, ◌≤◌, ◌^◌, Option, None, Some, cond, count_by, length, length-append, arith, Result, Ok, Err, OnErr, List, [], ◌∷◌, ◌++◌, refl, sym, ◌∙◌, ap, subst, append_assoc}
 use Rattle.std.proofs.lemmas.List.{append-nil}
 use Rattle.std.proofs.lemmas.List.Sums.{sum_by-append}
 use Rattle.cdm_journal.specs.Lines.{LineRecord}
@@ -12,7 +12,7 @@ use Rattle.cdm_port.proofs.Stops.{front, longer, past}
 use Rattle.cdm_serve.specs.Faults.{is_line}
 use Rattle.cdm_serve.specs.Requests.{request_of}
 use Rattle.cdm_serve.specs.Served.{AreReplies, Exchange, IsHeard, IsReplyTo, answered, line_of, numbered, said, served, told_of}
-use Rattle.cdm_serve.specs.Taken.{TakenRecord, after, record_heard, taken}
+use Rattle.cdm_serve.specs.Taken.{TakenRecord, after, taken}
 use Rattle.cdm_serve.specs.inner.Steps.{HearsInVain, HearsLine, IsAnswerFault, IsLinesFault, IsPortFault, ServeStops, Serves}
 use Rattle.cdm_feed.specs.declared.common_fault.CommonFault.TheVariants as common
 use Rattle.cdm_serve.specs.declared.fault.ServeError.{ServeError}
@@ -36,9 +36,6 @@ pub record Ran (d : DayRecord) (number : ℕ) (today : DayRecord) (count turns :
   pub events : new ≡ old ++ served d lines
   pub day : today ≡ after_all d lines
   pub counted : count ≡ number_after number lines
-
-pub none : (d : DayRecord) (number : ℕ) (old : List Event) → Ran d number d number 0 old old
-none d number old = record { lines = []; turned = refl; replies = tt; events = sym (append-nil old); day = refl; counted = refl }
 
 abbrev IsNext : DayRecord → ℕ → Exchange → Type 0
 IsNext d number x = IsReplyTo d (numbered number (line_of x)) (request_of d.airport.day (line_of x)) x.reply
@@ -114,8 +111,7 @@ module _ (d : DayRecord) (number : ℕ) (today : DayRecord) (count turns : ℕ) 
         let at : IsStopOf (served d ran.lines ++ said hears.0 ∷ stop.0) (served d (ran.lines ++ exchange ∷ [])) =
         subst (λ (l : List Event). IsStopOf (served d ran.lines ++ said hears.0 ∷ stop.0) l) (sym (served_more d ran.lines exchange))
         (past (served d ran.lines) (said hears.0 ∷ stop.0) (said hears.0 ∷ answered (after_all d ran.lines) (line_of exchange) text)
-        (past (said hears.0 ∷ []) stop.0 (answered (after_all d ran.lines) (line_of exchange) text) in_answer)) in
-        (
+        (past (said hears.0 ∷ []) stop.0 (answered (after_all d ran.lines) (line_of exchange) text) in_answer)) in (
           ran.lines ++ exchange ∷ [],
           End,
           replies,
@@ -195,8 +191,7 @@ too_many d number today count turns old so_far new line ran hears most =
     let this : count_by is_line (said hears.0 ∷ []) ≡ 1 = said_one hears.0 [] in
     let before : count_by is_line (served d ran.lines) ≡ length ran.lines = lines_heard d ran.lines in
     let few : number_after number ran.lines ≤ number + length ran.lines = number_few number ran.lines in
-    let same : count ≡ number_after number ran.lines = ran.counted in
-    (
+    let same : count ≡ number_after number ran.lines = ran.counted in (
       served d ran.lines ++ said hears.0 ∷ [],
       hears.2 ∙ ap (λ (l : List Event). l ++ said hears.0 ∷ []) ran.events ∙ append_assoc old (served d ran.lines) (said hears.0 ∷ []),
       omega (arith, all, this, before, few, same, most),

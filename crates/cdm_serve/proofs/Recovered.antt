@@ -1,5 +1,5 @@
 -- What a served day promises, at each moment.
-use Rattle.std.proofs.Common.{◌≡◌, IsOk, Ok, ◌⊎◌, inl, inr, ℕ, Option, None, Some, List, [], ◌∷◌, ◌++◌, map, refl, sym, ◌∙◌, ap, subst, append_assoc}
+use Rattle.std.proofs.Common.{◌≡◌, IsOk, Ok, inl, inr, ℕ, Option, None, Some, List, [], ◌∷◌, ◌++◌, refl, sym, ◌∙◌, ap, subst, append_assoc}
 use Rattle.std.specs.Option.{option_to_list}
 use Rattle.std.proofs.lemmas.List.{append-nil, append_cancel_left}
 use Rattle.std.proofs.lemmas.List.Concat.{flat_map-append}
@@ -8,7 +8,7 @@ use Rattle.cdm_feed.specs.Parsing.{parse_of}
 use Rattle.cdm_flight.specs.Accepted.{refusal}
 use Rattle.cdm_flight.specs.Journal.{AirportRows}
 use Rattle.cdm_flight.specs.declared.update.Update.{Update}
-use Rattle.cdm_journal.specs.Journal.{IsWhole, is_plain, journal_line, whole_lines}
+use Rattle.cdm_journal.specs.Journal.{IsWhole, journal_line, whole_lines}
 use Rattle.cdm_journal.specs.Laws.{ArePlain, CutsTorn, GivesUpdate, KeepsWhole, RefusesNone}
 use Rattle.cdm_journal.proofs.WholeLemmas.{kept-whole}
 use Rattle.cdm_port.specs.Event.{Event}
@@ -19,7 +19,7 @@ use Rattle.cdm_serve.specs.Promises.{IsAllOrOneMore, IsKept, IsRecovered, IsWrit
 use Rattle.cdm_serve.specs.Served.{day_of}
 use Rattle.cdm_serve.specs.Taken.{TakenRecord}
 use Rattle.cdm_serve.proofs.Begun.{Begins, whole_lines-front}
-use Rattle.cdm_serve.proofs.Kept.{AreTaken, Holds, IsTakenBy, Keeps, line_in}
+use Rattle.cdm_serve.proofs.Kept.{AreTaken, Holds, IsTakenBy, line_in}
 
 lines_of-append : (a b : List TakenRecord) → lines_of (a ++ b) ≡ lines_of a ++ lines_of b
 lines_of-append a b = flat_map-append (λ one. journal_line one.fields) a b
@@ -48,7 +48,7 @@ all_lines records last more begun is front = (
   (
     front.0,
     lines_of-append records (option_to_list last) ∙ ap (λ (l : List ℕ). lines_of records ++ l) (lines_of_last last ∙ front.1)
-    ∙ sym (append_assoc (lines_of records) begun front.0) ∙ ap (λ (l : List ℕ). l ++ front.0) (sym is),
+        ∙ sym (append_assoc (lines_of records) begun front.0) ∙ ap (λ (l : List ℕ). l ++ front.0) (sym is),
   ),
 )
 
@@ -70,8 +70,7 @@ module _ (plain : ArePlain) (cuts : CutsTorn) (keeps : KeepsWhole) (gives : Give
       → Makes (text ++ journal_line one.fields) (updates ++ one.update ∷ [])
   makes_more text updates one (whole, none, are) (role, spells, free) =
       let takes : IsWhole text × (refusals_in g text ≡ []) × (parse_of g.day one.fields ≡ Ok (role, one.update)) × (refusal g (accepted_in g text) role one.update ≡ None) =
-      (whole, none, spells, subst (λ (a : List Update). refusal g a role one.update ≡ None) (sym are) free) in
-      (
+      (whole, none, spells, subst (λ (a : List Update). refusal g a role one.update ≡ None) (sym are) free) in (
         keeps text one.fields whole,
         refuses g text one.fields (role, one.update) takes,
         gives g text one.fields (role, one.update) takes ∙ ap (λ (a : List Update). a ++ one.update ∷ []) are,
@@ -90,13 +89,12 @@ module _ (plain : ArePlain) (cuts : CutsTorn) (keeps : KeepsWhole) (gives : Give
   )
   makes_all text updates (one ∷ records) last makes are =
       let rest : Makes ((text ++ journal_line one.fields) ++ lines_of records) ((updates ++ one.update ∷ []) ++ updates_of records)
-          × AreTaken g ((updates ++ one.update ∷ []) ++ updates_of records) last =
+      × AreTaken g ((updates ++ one.update ∷ []) ++ updates_of records) last =
       makes_all (text ++ journal_line one.fields) (updates ++ one.update ∷ []) records last (makes_more text updates one makes are.0) are.1 in
       let same_text : (text ++ journal_line one.fields) ++ lines_of records ≡ text ++ (journal_line one.fields ++ lines_of records) = append_assoc text (journal_line one.fields) (lines_of records) in
-      let same : (updates ++ one.update ∷ []) ++ updates_of records ≡ updates ++ (one.update ∷ updates_of records) = append_assoc updates (one.update ∷ []) (updates_of records) in
-      (
+      let same : (updates ++ one.update ∷ []) ++ updates_of records ≡ updates ++ (one.update ∷ updates_of records) = append_assoc updates (one.update ∷ []) (updates_of records) in (
         subst (λ (t : List ℕ). Makes t (updates ++ (one.update ∷ updates_of records))) same_text
-        (subst (λ (a : List Update). Makes ((text ++ journal_line one.fields) ++ lines_of records) a) same rest.0),
+            (subst (λ (a : List Update). Makes ((text ++ journal_line one.fields) ++ lines_of records) a) same rest.0),
         subst (λ (a : List Update). AreTaken g a last) same rest.1,
       )
 
@@ -132,19 +130,17 @@ module _ (plain : ArePlain) (cuts : CutsTorn) (keeps : KeepsWhole) (gives : Give
       let begins : left ≡ (whole ++ (lines_of records ++ tail)) ++ x = behind ∙ ap (λ (l : List ℕ). l ++ x) (uncut ∙ synced) in
       let both : disk.synced ++ rest ≡ disk.synced ++ (x ++ y) =
       sym written ∙ before ∙ ap (λ (l : List ℕ). l ++ y) (behind ∙ ap (λ (l : List ℕ). l ++ x) uncut) ∙ append_assoc disk.synced x y in
-      let parts : rest ≡ x ++ y = append_cancel_left disk.synced rest (x ++ y) both in
-      (
+      let parts : rest ≡ x ++ y = append_cancel_left disk.synced rest (x ++ y) both in (
         tail ++ x,
         begins
-        ∙ ap (λ (l : List ℕ). l ++ x) (sym (append_assoc whole (lines_of records) tail))
-        ∙ append_assoc (whole ++ lines_of records) tail x,
+            ∙ ap (λ (l : List ℕ). l ++ x) (sym (append_assoc whole (lines_of records) tail))
+            ∙ append_assoc (whole ++ lines_of records) tail x,
         prefix_of (tail ++ x) (tail ++ rest) (line_in last) (y, ap (λ (l : List ℕ). tail ++ l) parts ∙ sym (append_assoc tail x y)) front,
       )
 
   pub recovered : (bytes : List ℕ) (moment : List Event) → Begins (day_of g bytes) bytes moment → IsRecovered g bytes moment
   recovered bytes moment (inl is) accepted left may =
-      let same : whole_lines left ≡ whole_lines bytes = is.4 left may in
-      (
+      let same : whole_lines left ≡ whole_lines bytes = is.4 left may in (
         ap (refusals_in g) same ∙ accepted,
         inl (ap (accepted_in g) same ∙ sym (ap (λ (r : List TakenRecord). accepted_in g (whole_lines bytes) ++ updates_of r) is.0 ∙ append-nil (accepted_in g (whole_lines bytes)))),
       )
@@ -155,7 +151,7 @@ module _ (plain : ArePlain) (cuts : CutsTorn) (keeps : KeepsWhole) (gives : Give
       let ends : (part : List ℕ) × (left ≡ (whole_lines bytes ++ lines_of (told (day_of g bytes) None moment)) ++ part) × IsPrefix part (line_in (untold (day_of g bytes) None moment)) =
       left_ends (whole_lines bytes) records last disk (appended moment) left holds may in
       let makes : Makes (whole_lines bytes ++ lines_of (told (day_of g bytes) None moment)) (accepted_in g (whole_lines bytes) ++ updates_of (told (day_of g bytes) None moment))
-          × AreTaken g (accepted_in g (whole_lines bytes) ++ updates_of (told (day_of g bytes) None moment)) (option_to_list (untold (day_of g bytes) None moment)) =
+      × AreTaken g (accepted_in g (whole_lines bytes) ++ updates_of (told (day_of g bytes) None moment)) (option_to_list (untold (day_of g bytes) None moment)) =
       makes_all (whole_lines bytes) (accepted_in g (whole_lines bytes)) records (option_to_list last) (kept-whole bytes, accepted, refl) are in
       subst (λ (l : List ℕ). Gives l (accepted_in g (whole_lines bytes) ++ updates_of (told (day_of g bytes) None moment)) (untold (day_of g bytes) None moment)) (sym ends.1)
       (part_read (whole_lines bytes ++ lines_of (told (day_of g bytes) None moment)) ends.0 ends.2.0 _ (untold (day_of g bytes) None moment) makes.0 makes.1 ends.2.1)

@@ -1,25 +1,23 @@
 -- A run of a served day, from its start to its end.
-use Rattle.std.proofs.Common.{◌≡◌, ◌⊎◌, ◌+◌, ◌≤◌, ◌^◌, inl, inr, ℕ, Option, None, Some, IfSome, Result, Ok, Err, IfErr, OnErr, OnOk, arith, cond, count_by, List, [], ◌∷◌, ◌++◌, length, refl, sym, ◌∙◌, ap, subst, append_assoc}
+use Rattle.std.proofs.Common.{◌≡◌, ◌+◌, ◌≤◌, ◌^◌, inl, inr, ℕ, Option, None, Some, IfSome, Result, Ok, Err, IfErr, OnErr, OnOk, arith, cond, count_by, List, [], ◌∷◌, ◌++◌, length, refl, sym, ◌∙◌, ap, subst, append_assoc}
 use Rattle.std.specs.Result.{IsOkAnd}
 use Rattle.std.proofs.lemmas.List.{append-nil}
 use Rattle.std.proofs.lemmas.List.Sums.{sum_by-append}
 use Rattle.cdm_feed.specs.AirportFile.{airport_in}
 use Rattle.cdm_feed.specs.Readings.{IsRead, Reading}
 use Rattle.cdm_feed.specs.declared.common_fault.CommonFault.TheVariants as common
-use Rattle.cdm_feed.specs.Output.{refusals_in}
 use Rattle.cdm_flight.specs.Journal.{AirportRows}
 use Rattle.cdm_flight.specs.declared.word.RefusalWord.{RefusalWord}
-use Rattle.cdm_journal.specs.Journal.{whole_lines}
 use Rattle.cdm_journal.proofs.PlainLemmas.{plain}
 use Rattle.cdm_journal.proofs.RecoveryLemmas.{gives-update, refuses-none}
 use Rattle.cdm_journal.proofs.WholeLemmas.{cuts-torn, keeps-whole}
 use Rattle.cdm_plan.specs.Day.{DayRecord}
 use Rattle.cdm_port.specs.Event.{Event}
 use Rattle.cdm_port.specs.Event.Event.{End, Read}
-use Rattle.cdm_port.specs.Stop.{IsStopOf, Stops, since}
+use Rattle.cdm_port.specs.Stop.{IsStopOf, since}
 use Rattle.cdm_port.proofs.Stops.{front, longer, past, since_is}
 use Rattle.cdm_serve.specs.Promises.{AtEachMoment, IsKept, IsRecovered, IsWritten}
-use Rattle.cdm_serve.specs.Served.{AreReplies, Exchange, IsHeard, IsServed, IsStopped, day_of, served, started}
+use Rattle.cdm_serve.specs.Served.{IsServed, IsStopped, day_of, served, started}
 use Rattle.cdm_serve.specs.Faults.{IsDayFault, IsServeFault, is_line}
 use Rattle.cdm_serve.specs.inner.Steps.{IsLinesFault, IsStartFault, ServeStops, Serves, StartStops, Starts}
 use Rattle.cdm_serve.specs.declared.fault.ServeError.{ServeError}
@@ -48,18 +46,20 @@ outcome g old new done is stop =
           recovered plain cuts-torn keeps-whole gives-update refuses-none g bytes moment (always_begins g (since old new) stopped bytes moment now);
     }
 
--- nothing has happened
-pub nothing : (g : AirportRows) (old : List Event) → Outcome g old old
-nothing g old = outcome g old old [] (sym (append-nil old)) (inl ([], inl refl))
-
 -- it stopped while it was being started
 pub unstarted : (g : AirportRows) (old new : List Event) → StartStops g old new → Outcome g old new
 unstarted g old new (bytes, inl (done, stop, is)) = outcome g old new done is (inl (bytes, stop))
 unstarted g old new (bytes, inr (accepted, (done, stop, is))) =
     let d : DayRecord = day_of g bytes in
     let all : IsServed g bytes End (started bytes (length d.journal) ++ (served d [] ++ End ∷ [])) = record { accepted = accepted; exchanges = []; replies = tt; events = refl } in
-    outcome g old new done is (inr (bytes, End, started bytes (length d.journal) ++ (served d [] ++ End ∷ []), tt, all,
-    longer done (started bytes (length d.journal)) (served d [] ++ End ∷ []) stop))
+    outcome g old new done is (inr (
+      bytes,
+      End,
+      started bytes (length d.journal) ++ (served d [] ++ End ∷ []),
+      tt,
+      all,
+      longer done (started bytes (length d.journal)) (served d [] ++ End ∷ []) stop,
+    ))
 
 -- it stopped while lines were served
 pub unserved : (g : AirportRows) (d : DayRecord) (old mid new : List Event) → Starts g old mid d → ServeStops d 0 mid new → Outcome g old new
@@ -87,8 +87,7 @@ to_the_end g d old mid new start serves =
         let before : List Event = started start.bytes (length d.journal) in
         let done : List Event = before ++ (served d xs ++ End ∷ []) in
         let all : IsServed g start.bytes End done = record { accepted = start.accepted; exchanges = xs; replies = replies; events = refl } in
-        let whole : new ≡ old ++ done = is ∙ ap (λ (l : List Event). l ++ (served d xs ++ End ∷ [])) start.events ∙ append_assoc old before (served d xs ++ End ∷ []) in
-        (
+        let whole : new ≡ old ++ done = is ∙ ap (λ (l : List Event). l ++ (served d xs ++ End ∷ [])) start.events ∙ append_assoc old before (served d xs ++ End ∷ []) in (
           outcome g old new done whole (inr (start.bytes, End, done, tt, all, subst (λ (l : List Event). IsStopOf done l) (append-nil done) (front done []))),
           (start.bytes, subst (IsServed g start.bytes End) (sym (since_is old new done whole)) all),
         )
@@ -99,11 +98,6 @@ pub finished : {E : Type 0} (g : AirportRows) (d : DayRecord) (old mid new : Lis
     → OnOk r (Serves d 0 mid new) → OnErr r (ServeStops d 0 mid new) → Outcome g old new
 finished g d old mid new (Ok x) start serves stops = (to_the_end g d old mid new start serves).0
 finished g d old mid new (Err e) start serves stops = unserved g d old mid new start stops
-
-pub finished_served : {E : Type 0} (g : AirportRows) (d : DayRecord) (old mid new : List Event) (r : Result (Unit {0}) E) → Starts g old mid d
-    → OnOk r (Serves d 0 mid new) → OnOk r ((bytes : List ℕ) × IsServed g bytes End (since old new))
-finished_served g d old mid new (Ok x) start serves = (to_the_end g d old mid new start serves).1
-finished_served g d old mid new (Err e) start serves = tt
 
 -- Faults.
 

@@ -1,5 +1,5 @@
 -- The start of a served day, step by step.
-use Rattle.std.proofs.Common.{◌≡◌, inl, inr, ℕ, List, [], ◌∷◌, ◌++◌, length, refl, sym, ◌∙◌, ap, subst, append_assoc}
+use Rattle.std.proofs.Common.{◌≡◌, inl, inr, ℕ, List, [], ◌∷◌, ◌++◌, length, refl, sym, ◌∙◌, ap, append_assoc}
 use Rattle.std.proofs.lemmas.List.{append-nil}
 use Rattle.cdm_feed.specs.Output.{refusals_in}
 use Rattle.cdm_flight.specs.Journal.{AirportRows}
@@ -9,7 +9,7 @@ use Rattle.cdm_port.specs.Event.{Event}
 use Rattle.cdm_port.specs.Event.Event.{Flushed, Read, Replied, Synced}
 use Rattle.cdm_port.specs.Stop.{Stops}
 use Rattle.cdm_port.proofs.Stops.{goes_on, longer, stops_behind}
-use Rattle.cdm_serve.specs.Served.{cut_of, cut_to, day_of, ready_text, started}
+use Rattle.cdm_serve.specs.Served.{cut_to, day_of, ready_text, started}
 use Rattle.cdm_serve.specs.inner.Steps.{StartStops, Starts}
 
 -- a stop of the first part is one of all
@@ -19,10 +19,6 @@ stops_longer old part rest new stop = (stop.0, longer stop.0 part rest stop.1, s
 -- only the journal was read
 pub read_only : (g : AirportRows) (old new : List Event) (bytes : List ℕ) → new ≡ old ++ Read bytes ∷ [] → StartStops g old new
 read_only g old new bytes was = (bytes, inl (stops_behind old new (Read bytes ∷ []) [] (Read bytes ∷ []) refl was))
-
--- the journal couldn't be read
-pub unread : (g : AirportRows) (old new : List Event) → new ≡ old → StartStops g old new
-unread g old new same = ([], inl (stops_behind old new [] (Read [] ∷ []) (Read [] ∷ []) refl (same ∙ sym (append-nil old))))
 
 module _ (g : AirportRows) (old read : List Event) (bytes : List ℕ) (d : DayRecord) (kept count : ℕ) (ready : List ℕ)
     (was : read ≡ old ++ Read bytes ∷ []) (accepted : refusals_in g (whole_lines bytes) ≡ []) (day : d ≡ day_of g bytes)
@@ -34,9 +30,14 @@ module _ (g : AirportRows) (old read : List Event) (bytes : List ℕ) (d : DayRe
   same = λ i. Read bytes ∷ (cut_to (kept_is i) (count_is i) ++ Synced ∷ Replied ((ready_is ∙ ap (λ (d : DayRecord). ready_text (length d.journal)) day) i) ∷ Flushed ∷ [])
 
   pub begun_stops : (new : List Event) → Stops read begun new → StartStops g old new
-  begun_stops new stop =
-      (bytes, inr (accepted, goes_on old read new (Read bytes ∷ []) begun [] (started bytes (length (day_of g bytes).journal))
-      (sym same ∙ ap (λ (l : List Event). Read bytes ∷ l) (sym (append-nil begun))) was stop))
+  begun_stops new stop = (
+    bytes,
+    inr (
+      accepted,
+      goes_on old read new (Read bytes ∷ []) begun [] (started bytes (length (day_of g bytes).journal))
+          (sym same ∙ ap (λ (l : List Event). Read bytes ∷ l) (sym (append-nil begun))) was stop,
+    ),
+  )
 
   pub begun_all : (new : List Event) → new ≡ read ++ begun → Starts g old new d
   begun_all new is = record {

@@ -1,5 +1,5 @@
 -- What a served day promises at each moment.
-use Rattle.std.specs.Prelude.{◌≡◌, ◌⊎◌, ⊤, ℕ, List, [], ◌∷◌, ◌++◌, map, flat_map, Option, None, Some, IfOk, IfSome}
+use Rattle.std.specs.Prelude.{◌≡◌, ◌⊎◌, ℕ, List, [], ◌∷◌, ◌++◌, map, flat_map, Option, None, Some, IfOk, IfSome}
 use Rattle.std.specs.Option.{option_to_list}
 use Rattle.cdm_feed.specs.AirportFile.{airport_in}
 use Rattle.cdm_feed.specs.Output.{accepted_in, refusals_in}

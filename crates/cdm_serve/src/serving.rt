@@ -40,11 +40,7 @@ fn hear<P: Port>(alloc: Global, port: &mut P) -> Result<Option<LineRead>, ServeE
 }
 
 // Serves the lines to the input's end.
-fn serve_lines<P: Port>(
-    alloc: Global,
-    port: &mut P,
-    mut day: ServedDay,
-) -> Result<(), ServeError>
+fn serve_lines<P: Port>(alloc: Global, port: &mut P, mut day: ServedDay) -> Result<(), ServeError>
     ensures ok { OnOk result (Serves day.state day.number (P.events port.old) (P.events port.new)) }
     ensures err { OnErr result (ServeStops day.state day.number (P.events port.old) (P.events port.new)) }
     ensures fault { IfErr result (IsLinesFault day.number (P.events port.old) (P.events port.new)) }

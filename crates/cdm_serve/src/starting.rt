@@ -29,20 +29,11 @@ fn cut_torn<P: Port>(port: &mut P, kept: usize, count: usize) -> Result<(), Port
     ensures ok { OnOk result (P.events port.new ≡ P.events port.old ++ cut_to kept count) }
     ensures err { OnErr result (Stops (P.events port.old) (cut_to kept count) (P.events port.new)) }
 {
-    if kept < count {
-        port.cut(kept)
-    } else {
-        Ok(())
-    }
+    if kept < count { port.cut(kept) } else { Ok(()) }
 }
 
 // Puts the whole lines of a journal of so many bytes on the disk, and tells that the day is ready.
-fn begin<P: Port>(
-    port: &mut P,
-    kept: usize,
-    count: usize,
-    ready: &[u8],
-) -> Result<(), PortFault>
+fn begin<P: Port>(port: &mut P, kept: usize, count: usize, ready: &[u8]) -> Result<(), PortFault>
     ensures ok { OnOk result (P.events port.new ≡ P.events port.old ++ (cut_to kept count ++ Synced ∷ Replied ready.now ∷ Flushed ∷ [])) }
     ensures err { OnErr result (Stops (P.events port.old) (cut_to kept count ++ Synced ∷ Replied ready.now ∷ Flushed ∷ []) (P.events port.new)) }
 {

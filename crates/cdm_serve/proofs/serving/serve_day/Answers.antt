@@ -1,8 +1,8 @@
 -- A day that isn't started, or is served to its end or to some moment.
-use Rattle.std.proofs.Common.{OnErr, OnOk, rules}
+use Rattle.std.proofs.Common.{rules}
 use Rattle.cdm_port.specs.Stop.{since}
 use Rattle.cdm_serve.specs.Faults.{IsDayFault}
-use Rattle.cdm_serve.specs.inner.Steps.{IsStartFault, ServeStops, Serves, StartStops, Starts}
+use Rattle.cdm_serve.specs.inner.Steps.{IsStartFault, StartStops, Starts}
 use Rattle.cdm_serve.proofs.Runs.{finished, finished_fault, start_fault, unstarted}
 use Rattle.cdm_serve.proofs.serving.serve_day.Goals as goal
 
