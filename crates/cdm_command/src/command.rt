@@ -62,7 +62,10 @@ pub enum Command<'a> {
         flight: Option<FlightName>,
     },
     /// Serve the day of an airport as it happens, with a journal. Standard input has the records.
-    Serve { airport: &'a str, journal: &'a str },
+    Serve {
+        airport: &'a str,
+        journal: &'a str,
+    },
     /// Check the files of a day at an airport, and of its scenarios.
     Check {
         airport: &'a str,
@@ -335,12 +338,7 @@ fn trace_of<'a>(
 fn flight_in(alloc: Global, word: &str, argument: &str) -> Result<FlightName, CommandFault> {
     match FlightName::new(word.as_bytes()) {
         Some(flight) => Ok(flight),
-        None => Err(wrong_value(
-            alloc,
-            word,
-            argument,
-            "a flight has 1 to 7 of A-Z and 0-9",
-        )?),
+        None => Err(wrong_value(alloc, word, argument, "a flight has 1 to 7 of A-Z and 0-9")?),
     }
 }
 
@@ -349,8 +347,7 @@ fn serve_of<'a>(
     alloc: Global,
     serve: &ArgMatches<'a>,
 ) -> Result<Option<Command<'a>>, CommandFault> {
-    let (Some(airport), Some(journal)) = (serve.get_str("AIRPORT"), serve.get_str("JOURNAL"))
-    else {
+    let (Some(airport), Some(journal)) = (serve.get_str("AIRPORT"), serve.get_str("JOURNAL")) else {
         return Ok(None);
     };
     if airport == STANDARD_INPUT || journal == STANDARD_INPUT {

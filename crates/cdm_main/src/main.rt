@@ -9,8 +9,8 @@ pub use cdm_command::{
     report_command_fault, report_fault,
 };
 use cdm_feed::{Device, Input, WriteFault, run, run_table, run_view, write_text};
-pub use cdm_live::{LiveCounts, LiveError, run_live};
 use cdm_flight::FlightName;
+pub use cdm_live::{LiveCounts, LiveError, run_live};
 use cdm_phase::{OpenGate, Workers};
 use cdm_picture::run_picture;
 use cdm_serve::serve;
@@ -40,11 +40,7 @@ fn main(rt: HostRuntime) -> ExitCode {
 
 // Runs the command that the program's words name, and answers the exit status. Texts go to `out`,
 // and what stops the program is told on `errors`.
-fn status_of<R, O: Write, E: Write>(
-    rt: &R,
-    out: &mut Device<O>,
-    errors: &mut Device<E>,
-) -> u8
+fn status_of<R, O: Write, E: Write>(rt: &R, out: &mut Device<O>, errors: &mut Device<E>) -> u8
 where
     R: AllocGlobal + Env + Files<File = File> + io::Input + Threads + Wait + Sync,
     requires { out.old.failed ≡ false }
@@ -93,11 +89,7 @@ fn place_not_utf8<R: AllocGlobal + Env>(rt: &R) -> Result<usize, AllocError> {
 }
 
 // Runs the command, whose text goes to `out`, and answers the exit status.
-fn run_command<R, W: Write>(
-    rt: &R,
-    command: &Command<'_>,
-    out: &mut Device<W>,
-) -> Result<u8, Fault>
+fn run_command<R, W: Write>(rt: &R, command: &Command<'_>, out: &mut Device<W>) -> Result<u8, Fault>
 where
     R: AllocGlobal + Files<File = File> + io::Input + Threads + Wait + Sync,
     requires { out.old.failed ≡ false }
