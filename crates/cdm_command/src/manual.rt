@@ -388,8 +388,8 @@ THE OUTPUT
            many flights of how many it has, how many of its minutes are closed,
            and its flights by TTOT and name
 
-  trace tells which record moved whose start-up. Of the example files AIRPORT and
-  FEED cdmseq trace airport.csv feed.csv prints
+  trace tells which record moved whose start-up. Of the example files AIRPORT
+  and FEED cdmseq trace airport.csv feed.csv prints
 
     1 ACCEPTED 1
     BLOCKED AB1     TOBT
@@ -430,8 +430,8 @@ THE OUTPUT
   There is room for 4096 calls, which are the batches and the two looks.
 
   serve takes records of FEED as they come, one a line of standard input, and
-  replies to each before it reads the next. JOURNAL has the accepted ones, each on
-  the disk before its reply, so plan AIRPORT JOURNAL prints the day at any time.
+  replies to each before it reads the next. JOURNAL has the accepted ones, each
+  on the disk before its reply, so plan AIRPORT JOURNAL prints the day any time.
   With an empty JOURNAL cdmseq serve airport.csv journal.csv < feed.csv prints
 
     READY 0
@@ -464,12 +464,12 @@ THE OUTPUT
 
 STATUS
   0  done: standard output has the whole text, also where records were refused
-  1  a file can't be read or written, the text can't be written, memory is short,
-     JOURNAL is in use, or the board gave a wrong answer
+  1  a file can't be read or written, the text can't be written, memory is
+     short, JOURNAL is in use, or the board gave a wrong answer
   2  the words are wrong
-  3  a file has more than 8388608 bytes, AIRPORT, SCENARIOS or a record of JOURNAL
-     is refused, FEED1 and FEED2 need more than 4096 calls, or the flight, runway
-     or scenario that is asked for isn't known
+  3  a file has more than 8388608 bytes, AIRPORT, SCENARIOS or a record of
+     JOURNAL is refused, FEED1 and FEED2 need more than 4096 calls, or the
+     flight, runway or scenario that is asked for isn't known
   4  check has found a refused record
   For 1 and 3 one line on standard error names the cause, as
   cdmseq: cannot read FEED (feed.csv: no such file). A text there says what is
