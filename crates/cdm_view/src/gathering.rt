@@ -28,6 +28,13 @@ pub(crate) fn push_slots(
     Ok(())
 }
 
+// All slots of a runway behind the others.
+fn push_plan(standings: &mut Vec<Standing>, plan: &RunwayPlan) -> Result<(), AllocError>
+    ensures { OnOk result (standings.new.items ≡ standings.old.items ++ on_runway plan.now) }
+{
+    push_slots(standings, plan.runway, plan.slots.as_slice())
+}
+
 /// The slots of all runways behind the others.
 pub(crate) fn push_runways(
     standings: &mut Vec<Standing>,
@@ -36,7 +43,7 @@ pub(crate) fn push_runways(
     ensures { OnOk result (standings.new.items ≡ standings.old.items ++ flat_map on_runway plans.now) }
 {
     for plan in plans {
-        push_slots(standings, plan.runway, plan.slots.as_slice())?;
+        push_plan(standings, plan)?;
     }
     Ok(())
 }

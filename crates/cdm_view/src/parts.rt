@@ -34,10 +34,7 @@ fn equal_last<T: PartialEq>(one: &[T], other: &[T]) -> usize
 }
 
 /// The two lists without a first part and a last part that are equal in both.
-pub(crate) fn differing_parts<'a, T: PartialEq>(
-    one: &'a [T],
-    other: &'a [T],
-) -> (&'a [T], &'a [T])
+pub(crate) fn differing_parts<'a, T: PartialEq>(one: &'a [T], other: &'a [T]) -> (&'a [T], &'a [T])
     ensures { ((x y : T) → T.eq x y ≡ true → x ≡ y) → AreParts one.now other.now result.0.now result.1.now }
 {
     let first = equal_first(one, other);
