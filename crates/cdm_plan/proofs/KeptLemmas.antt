@@ -1,53 +1,35 @@
--- A runway that updates do not touch keeps its plan.
-use Rattle.std.proofs.Common.{◌≡◌, ℕ, Bool, true, false, List, [], ◌∷◌, ◌++◌, Option, None, Some, refl, sym, ◌∙◌, ap, subst}
-use Rattle.cdm_plan.proofs.ListWords.{option_and_then, option_map_or, if◌then◌else◌, Contains, cons_option, filter_map, find, append-nil}
-use Rattle.cdm_plan.proofs.ListWords.{filter_map-append, Contains-permutation, IsPermutation-sym, contains_from_map, contains_map, if_so, one_of_key}
+-- What updates do not touch stands.
+use Rattle.std.proofs.Common.{◌≡◌, ℕ, Bool, true, false, ◌&&◌, not, cond, filter, List, [], ◌∷◌, ◌++◌, Option, None, Some, IfSome, refl, sym, ◌∙◌, ap, subst}
+use Rattle.std.proofs.lemmas.Bool.{and_parts, and_left, and_right, true≢false}
+use Rattle.cdm_plan.proofs.ListWords.{is_some, option_map_or, if◌then◌else◌, All, Contains, cons_option, filter_map, find, flat_map, append-nil}
+use Rattle.cdm_plan.proofs.ListWords.{filter-append, filter_map-append, filter_map-filter, filter_map_same, Contains-permutation, IsPermutation, IsPermutation-filter}
+use Rattle.cdm_plan.proofs.ListWords.{IsPermutation-refl, IsPermutation-sym, All-head, All-tail, All-weaker, All-permutation, false≢true}
+use Rattle.cdm_plan.proofs.ListWords.{contains_from_given, contains_from_map, contains_map, if_so, one_of_key}
 use Rattle.cdm_plan.proofs.PlanWords.{DayValues, RunwayRow, Place, Update, reach_of, same_name, same_reach, Record, is_planned, taxi_out, flight_of}
 use Rattle.cdm_plan.proofs.PlanWords.{values_of, values_of-untouched, taxi_of, taxi_of-untouched, flight_of-untouched}
-use Rattle.cdm_plan.proofs.PlanWords.{RunwayRules, TaxiTimes, SlotRecord, fixed_slot, IsSequence, IsSequenceBy}
-use Rattle.cdm_plan.proofs.PlanWords.{PlanRecord, RunwayPlanRecord, TargetRecord, aim_of, aim_with, aim_with_exot, is_same, same_flips, same_is}
-use Rattle.cdm_plan.proofs.PlanWords.{if_on, DayRecord, flights_in, new_flight, rules_of, with_update, IsDayPlan, day_rules, records_in}
-use Rattle.cdm_plan.proofs.PlanWords.{is_on, target_in, targets_in, targets_on, Adds, AreKept, IsMade}
-use Rattle.cdm_plan.proofs.PlanWords.{IsPlanOn, IsSince, fixed_in, is_noted, is_touched, Flt}
+use Rattle.cdm_plan.proofs.PlanWords.{RunwayRules, TaxiTimes, SlotRecord, fixed_slot, takeoffs, IsAim, IsSequence, IsSequenceBy}
+use Rattle.cdm_plan.proofs.PlanWords.{PlanRecord, RunwayPlanRecord, TargetRecord, AimResult, BlockedFlight, aim_means, aim_of, aim_with, aim_with_exot}
+use Rattle.cdm_plan.proofs.PlanWords.{is_same, same_flips, same_is, if_on, if_passes, DayRecord, flights_in, new_flight, rules_of, with_update, IsDayPlan}
+use Rattle.cdm_plan.proofs.PlanWords.{day_rules, records_in, is_on, blocked_in, early_in, planned_of, target_in, targets_in, targets_on, fixed_on, Adds, AreAims}
+use Rattle.cdm_plan.proofs.PlanWords.{AreKept, IsMade, IsPlanOn, IsSince, fixed_in, is_early, is_kept, is_kept_blocked, is_noted, is_touched, is_untouched}
+use Rattle.cdm_plan.proofs.PlanWords.{kept_blocked, kept_of, kept_plan, Flt, Early, Ready}
 use Rattle.cdm_flight.specs.declared.reach.Reach.{Reach}
 use Rattle.cdm_flight.specs.declared.reach.Reach.TheVariants as reach
+use Rattle.cdm_sequence.specs.Plan.{Placing, taken_before}
+use Rattle.cdm_sequence.specs.Sequence.{Blocks, IsRightlyBlocked}
+use Rattle.cdm_runway.specs.declared.load.Taken.{Taken}
+use Rattle.cdm_sequence.specs.declared.rule.Rule.{Rule}
+use Rattle.cdm_sequence.specs.declared.rule.Rule.TheVariants.{Tobt, Runway, Exot, Horizon, Ctot}
 use Rattle.cdm_plan.specs.declared.touched.Touched.{Touched}
+use Rattle.cdm_plan.specs.declared.touched.Touched.TheVariants as touched
+use Rattle.cdm_plan.proofs.AskedLemmas.{kept_untouched, untouched_on, untouched_runway}
 use Rattle.cdm_plan.proofs.JournalFacts.{flight_named, flights_in-push, some_named}
-use Rattle.cdm_plan.proofs.DayPlanLemmas.{has_sequence, is_plan_on, targets_at}
-use Rattle.cdm_plan.proofs.NameLemmas.{day_rules_differ, find_some}
+use Rattle.cdm_plan.proofs.DayPlanLemmas.{has_sequence, is_plan_on, record_name, targets_at}
+use Rattle.cdm_plan.proofs.NameLemmas.{day_rules_differ, find_none, find_some}
 use Rattle.cdm_plan.proofs.OnePlanLemmas.{partner}
-use Rattle.cdm_plan.proofs.PlanningLemmas.{fixed_at, fixed_on-given, no_target_at, target_at, targets_on-given}
+use Rattle.cdm_plan.proofs.PlanningLemmas.{AllZip-weaker, aims_are, all_zipped, blocked_early, early-aims, early-given, early_at, filter-filter_map}
+use Rattle.cdm_plan.proofs.PlanningLemmas.{if_so-keeps, made_named, no_target_at, target_at, targets_of, targets_on-given}
 use Rattle.cdm_plan.proofs.RunwayLemmas.{rules-same}
-
--- What a flight gives to a runway.
-
--- what is read of given values
-given_twice : {K R Y : Type 0} (q : R → Option Y) (h : K → Option R) (ks : List K)
-    → filter_map q (filter_map h ks) ≡ filter_map (λ k. option_and_then q (h k)) ks
-given_twice q h [] = refl
-given_twice {K} {R} {Y} q h (k ∷ ks) = by (h k) (given_twice q h ks)
-  where
-    by : (o : Option R) → filter_map q (filter_map h ks) ≡ filter_map (λ k. option_and_then q (h k)) ks
-        → filter_map q (cons_option o (filter_map h ks)) ≡ cons_option (option_and_then q o) (filter_map (λ k. option_and_then q (h k)) ks)
-    by None e = e
-    by (Some r) e = ap (λ (ys : List Y). cons_option (q r) ys) e
-
--- a flight's target depends on the taxi times to its own runway alone
-same_target_at : (r : List ℕ) (s t : TaxiTimes) (values : DayValues) → ((place : Place) → s place r ≡ t place r) → (f : Record)
-    → target_at r s values f ≡ target_at r t values f
-unfolding aim_of
-same_target_at r s t values same f = by (is_on r f) refl
-  where
-    aim_same : f.runway ≡ Some r → aim_of f s values ≡ aim_of f t values
-    aim_same e = ap (aim_with f s values f.tobt) e ∙ (go f.tobt ∙ sym (ap (aim_with f t values f.tobt) e))
-      where
-        go : (o : Option ℕ) → aim_with f s values o (Some r) ≡ aim_with f t values o (Some r)
-        go None = refl
-        go (Some tobt) = λ i. aim_with_exot f values tobt r (taxi_out (λ place. same place i) f.stand f.ice)
-
-    by : (b : Bool) → is_on r f ≡ b → target_at r s values f ≡ target_at r t values f
-    by false h = no_target_at r s values f h ∙ sym (no_target_at r t values f h)
-    by true h = ap (λ a. if_so (is_planned f.status) (if_on r (target_in a))) (aim_same (some_named f.runway r h))
 
 -- What an update that is not of a runway leaves there.
 
@@ -64,123 +46,365 @@ module _ (d : DayRecord) (r : List ℕ) where
   no_rule (reach.Runway s) h = h
   no_rule _ h = refl
 
-  elsewhere : (what : Reach) (f : List ℕ) → what ≡ reach.Flight f → is_noted d what r ≡ false
-      → option_map_or (is_on r) (flight_of d.airport d.journal f) false ≡ false
-  elsewhere what f e h = sym (ap (λ w. is_noted d w r) e) ∙ h
-
 fresh_is : (u : Update) (f : List ℕ) → new_flight u ≡ Some f → reach_of u ≡ reach.Flight f
 fresh_is (Flt g p) f e = let same : g ≡ f = cc in ap reach.Flight same
 fresh_is _ f e = cc
 
-module _ (d : DayRecord) (u : Update) (row : RunwayRow) (before : is_noted d (reach_of u) row.name ≡ false)
-    (after : is_noted (with_update d u) (reach_of u) row.name ≡ false) where
-  -- what flights give to the runway
-  module _ {Y : Type 0} (q p : Record → Option Y) (same : (f : Record) → q f ≡ p f) (off : (f : Record) → is_on row.name f ≡ false → q f ≡ None) where
-    nothing : (o : Option Record) → option_map_or (is_on row.name) o false ≡ false → (option_and_then q o ≡ None) × (option_and_then p o ≡ None)
-    nothing None h = (refl, refl)
-    nothing (Some f) h = (off f h, sym (same f) ∙ off f h)
+-- the flights that pass have runways that are not of what is touched
+abbrev IsOff : DayRecord → Reach → (Record → Bool) → Type 0
+IsOff d what test = (f : Record) → test f ≡ true → (r : List ℕ) × (f.runway ≡ Some r) × (is_noted d what r ≡ false)
 
-    each : (k : List ℕ) → option_and_then q (flight_of d.airport d.journal k) ≡ option_and_then p (flight_of d.airport (d.journal ++ u ∷ []) k)
-    each k = by (same_reach (reach_of u) (reach.Flight k)) refl
-      where
-        agree : (o : Option Record) → option_and_then q o ≡ option_and_then p o
-        agree None = refl
-        agree (Some f) = same f
+-- so the flight that is touched does not pass
+none_passes : (d : DayRecord) (what : Reach) (k : List ℕ) (test : Record → Bool) → IsOff d what test → what ≡ reach.Flight k
+    → if_passes test (flight_of d.airport d.journal k) ≡ None
+none_passes d what k test off e = by (flight_of d.airport d.journal k) refl
+  where
+    passes : (f : Record) → flight_of d.airport d.journal k ≡ Some f → (b : Bool) → test f ≡ b → (if b then Some f else None) ≡ None
+    passes f h false p = refl
+    passes f h true p =
+        let at = off f p in
+        let noted : is_noted d what at.0 ≡ true =
+        ap (λ w. is_noted d w at.0) e ∙ (ap (λ o. option_map_or (is_on at.0) o false) h
+        ∙ (ap (λ o. option_map_or (λ s. same_name s at.0) o false) at.1 ∙ is_same at.0 at.0 refl)) in
+        absurd (true≢false (sym noted ∙ at.2))
 
-        by : (b : Bool) → same_reach (reach_of u) (reach.Flight k) ≡ b
-            → option_and_then q (flight_of d.airport d.journal k) ≡ option_and_then p (flight_of d.airport (d.journal ++ u ∷ []) k)
-        by false h = agree (flight_of d.airport d.journal k) ∙ ap (option_and_then p) (sym (flight_of-untouched k d.airport d.journal u h))
-        by true h =
-            let of_it = flight_named (reach_of u) k h in
-            (nothing _ (elsewhere d row.name (reach_of u) k of_it before)).0
-            ∙ sym (nothing _ (elsewhere (with_update d u) row.name (reach_of u) k of_it after)).1
+    by : (o : Option Record) → flight_of d.airport d.journal k ≡ o → if_passes test o ≡ None
+    by None h = refl
+    by (Some f) h = passes f h (test f) refl
 
-    given_same : filter_map q (records_in d.airport d.journal) ≡ filter_map p (records_in d.airport (d.journal ++ u ∷ []))
-    given_same =
-        let later : List ℕ → Option Y = λ k. option_and_then p (flight_of d.airport (d.journal ++ u ∷ []) k) in
-        let old = flights_in d.journal in
-        given_twice q (flight_of d.airport d.journal) old
-        ∙ ((λ i. filter_map (λ k. each k i) old)
-        ∙ (sym (ap (filter_map later) (flights_in-push d.journal u)
-        ∙ (filter_map-append later old (cons_option (new_flight u) [])
-        ∙ (ap (λ l. filter_map later old ++ l) (new (new_flight u) refl) ∙ append-nil (filter_map later old))))
-        ∙ sym (given_twice p (flight_of d.airport (d.journal ++ u ∷ [])) (flights_in (d.journal ++ u ∷ [])))))
-      where
-        new : (o : Option (List ℕ)) → new_flight u ≡ o
-            → filter_map (λ k. option_and_then p (flight_of d.airport (d.journal ++ u ∷ []) k)) (cons_option o []) ≡ []
-        new None e = refl
-        new (Some f) e = ap (λ (x : Option Y). cons_option x []) (nothing _ (elsewhere (with_update d u) row.name (reach_of u) f (fresh_is u f e) after)).1
+module _ (d : DayRecord) (u : Update) (test : Record → Bool) (before : IsOff d (reach_of u) test) (after : IsOff (with_update d u) (reach_of u) test) where
+  -- the flights that pass are the same after the update
+  flight_same : (k : List ℕ) → if_passes test (flight_of d.airport d.journal k) ≡ if_passes test (flight_of d.airport (d.journal ++ u ∷ []) k)
+  flight_same k = by (same_reach (reach_of u) (reach.Flight k)) refl
+    where
+      by : (b : Bool) → same_reach (reach_of u) (reach.Flight k) ≡ b
+          → if_passes test (flight_of d.airport d.journal k) ≡ if_passes test (flight_of d.airport (d.journal ++ u ∷ []) k)
+      by false h = ap (if_passes test) (sym (flight_of-untouched k d.airport d.journal u h))
+      by true h =
+          let of_it = flight_named (reach_of u) k h in
+          none_passes d (reach_of u) k test before of_it ∙ sym (none_passes (with_update d u) (reach_of u) k test after of_it)
 
-  -- the runway keeps its sequence
-  still_planned : (p : RunwayPlanRecord) → IsPlanOn d (rules_of d.airport d.journal row) p
-      → IsPlanOn (with_update d u) (rules_of d.airport (d.journal ++ u ∷ []) row) p
-  unfolding rules_of
-  still_planned p old =
-      let g = d.airport in
-      let a = d.journal in
-      let b = d.journal ++ u ∷ [] in
-      let r = row.name in
-      let next = with_update d u in
-      let taxi : (place : Place) → taxi_of g a place r ≡ taxi_of g b place r =
-      λ place. sym (taxi_of-untouched g a u place r (no_taxi d r (reach_of u) before)) in
-      let values : values_of a ≡ values_of b = sym (values_of-untouched a u (no_value d r (reach_of u) before)) in
-      let rules : rules_of g a row ≡ rules_of g b row = rules-same g a row u (no_rule d r (reach_of u) before) in
-      let fixed : fixed_in d r ≡ fixed_in next r =
-      fixed_on-given r (records_in g a)
-      ∙ (given_same (fixed_at r) (fixed_at r) (λ f. refl) (λ f h. ap (λ b. if_so b (fixed_slot f)) h) ∙ sym (fixed_on-given r (records_in g b))) in
-      let target_same : (f : Record) → target_at r (taxi_of g a) (values_of a) f ≡ target_at r (taxi_of g b) (values_of b) f = λ f.
-      same_target_at r (taxi_of g a) (taxi_of g b) (values_of a) taxi f ∙ ap (λ n. target_at r (taxi_of g b) n f) values in
-      let targets : targets_at d r ≡ targets_at next r =
-      targets_on-given r (taxi_of g a) (values_of a) (records_in g a)
-      ∙ (given_same (target_at r (taxi_of g a) (values_of a)) (target_at r (taxi_of g b) (values_of b)) target_same (no_target_at r (taxi_of g a) (values_of a))
-      ∙ sym (targets_on-given r (taxi_of g b) (values_of b) (records_in g b))) in
-      let x = rules_of g a row in
-      let old_targets = subst (λ (xs : List SlotRecord). IsSequence x xs (targets_at d r) p) fixed (has_sequence d x p old) in
-      let there = subst (λ (ts : List TargetRecord). IsSequence x (fixed_in next r) ts p) targets old_targets in
-      subst (λ (y : RunwayRules). IsPlanOn next y p) rules (is_plan_on next x p there)
+  flights_same : filter test (records_in d.airport d.journal) ≡ filter test (records_in d.airport (d.journal ++ u ∷ []))
+  flights_same =
+      let later : List ℕ → Option Record = λ k. if_passes test (flight_of d.airport (d.journal ++ u ∷ []) k) in
+      let old = flights_in d.journal in
+      filter-filter_map test (flight_of d.airport d.journal) old
+      ∙ ((λ i. filter_map (λ k. flight_same k i) old)
+      ∙ (sym (ap (filter_map later) (flights_in-push d.journal u)
+      ∙ (filter_map-append later old (cons_option (new_flight u) [])
+      ∙ (ap (λ l. filter_map later old ++ l) (new (new_flight u) refl) ∙ append-nil (filter_map later old))))
+      ∙ sym (filter-filter_map test (flight_of d.airport (d.journal ++ u ∷ [])) (flights_in (d.journal ++ u ∷ [])))))
+    where
+      new : (o : Option (List ℕ)) → new_flight u ≡ o → filter_map (λ k. if_passes test (flight_of d.airport (d.journal ++ u ∷ []) k)) (cons_option o []) ≡ []
+      new None e = refl
+      new (Some f) e = ap (λ (x : Option Record). cons_option x []) (none_passes (with_update d u) (reach_of u) f test after (fresh_is u f e))
 
 -- since the first day, after one more update
 pub since_taken : (first d next : DayRecord) (s m t : Touched) (u : Update) → next ≡ with_update d u → Adds s (is_noted d (reach_of u)) m
     → Adds m (is_noted next (reach_of u)) t → IsSince first s d → IsSince first t next
 since_taken first d next s m t u is more later since =
-    let further : Adds m (is_noted (with_update d u) (reach_of u)) t = subst (λ (x : DayRecord). Adds m (is_noted x (reach_of u)) t) is later in
+    let what = reach_of u in
+    let further : Adds m (is_noted (with_update d u) what) t = subst (λ (x : DayRecord). Adds m (is_noted x what) t) is later in
+    let earlier : (r : List ℕ) → is_touched t r ≡ false → (is_touched s r ≡ false) × (is_noted d what r ≡ false) = λ r h. more r (further r h).0 in
+    let standing : (f : Record) → is_untouched t f ≡ true → is_untouched s f ≡ true = λ f h.
+    let at = untouched_runway t f h in untouched_on s f at.0 at.1 (earlier at.0 at.2).0 in
+    let off : (f : Record) → is_untouched t f ≡ true → (r : List ℕ) × (f.runway ≡ Some r) × (is_noted d what r ≡ false) = λ f h.
+    let at = untouched_runway t f h in (at.0, at.1, (earlier at.0 at.2).1) in
+    let still_off : (f : Record) → is_untouched t f ≡ true → (r : List ℕ) × (f.runway ≡ Some r) × (is_noted (with_update d u) what r ≡ false) = λ f h.
+    let at = untouched_runway t f h in (at.0, at.1, (further at.0 at.2).1) in
     subst (IsSince first t) (sym is) (record {
       airport = since.airport;
-      keeps = λ row p h old.
-          let after = further row.name h in
-          let before = more row.name after.0 in
-          still_planned d u row before.1 after.1 p (since.keeps row p before.0 old);
+      flight = λ test among k.
+          since.flight test (λ f h. standing f (among f h)) k ∙ flight_same d u test (λ f h. off f (among f h)) (λ f h. still_off f (among f h)) k;
+      flights = λ test among.
+          since.flights test (λ f h. standing f (among f h)) ∙ flights_same d u test (λ f h. off f (among f h)) (λ f h. still_off f (among f h));
+      rules = λ row h.
+          since.rules row (earlier row.name h).0 ∙ rules-same d.airport d.journal row u (no_rule d row.name what (earlier row.name h).1);
+      taxi = λ r h place.
+          since.taxi r (earlier r h).0 place ∙ sym (taxi_of-untouched d.airport d.journal u place r (no_taxi d r what (earlier r h).1));
+      values = λ r h. since.values r (earlier r h).0 ∙ sym (values_of-untouched d.journal u (no_value d r what (earlier r h).1));
     })
 
 -- at first nothing changed
 pub since_itself : (d : DayRecord) (t : Touched) → IsSince d t d
-since_itself d t = record { airport = refl; keeps = λ row p h old. old }
+since_itself d t = record {
+  airport = refl;
+  flight = λ test among k. refl;
+  flights = λ test among. refl;
+  rules = λ row h. refl;
+  taxi = λ r h place. refl;
+  values = λ r h. refl;
+}
 
--- the plans of the runways that were not touched stand
-pub kept_since : (first d : DayRecord) (t : Touched) (plan : PlanRecord) → IsMade first plan → IsSince first t d → AreKept d t plan.runways
-unfolding IsDayPlan rules_of
-kept_since first d t plan made since r p i e = by (is_touched t r.name) refl e
+-- What stands of the first day's plan.
+
+-- a flight's aim depends on the taxi times to its own runway alone
+same_aim : (f : Record) (r : List ℕ) → f.runway ≡ Some r → (s t : TaxiTimes) (values : DayValues) → ((place : Place) → s place r ≡ t place r)
+    → aim_of f s values ≡ aim_of f t values
+unfolding aim_of
+same_aim f r e s t values same = ap (aim_with f s values f.tobt) e ∙ (go f.tobt ∙ sym (ap (aim_with f t values f.tobt) e))
   where
-    by : (b : Bool) → is_touched t r.name ≡ b → (if b then None else find (λ p. same_name p.runway r.name) plan.runways) ≡ Some p → IsPlanOn d r p
-    by true h k = cc
-    by false h k =
-        let placing = made.of_day.0 in
-        let aims = made.of_day.1 in
+    go : (o : Option ℕ) → aim_with f s values o (Some r) ≡ aim_with f t values o (Some r)
+    go None = refl
+    go (Some tobt) = λ i. aim_with_exot f values tobt r (taxi_out (λ place. same place i) f.stand f.ice)
+
+-- the targets of a runway are those of its own flights
+targets_on-own : (r : List ℕ) (times : TaxiTimes) (values : DayValues) (fs : List Record)
+    → targets_on r (targets_of fs times values) ≡ filter_map (target_at r times values) (filter (is_on r) fs)
+targets_on-own r times values fs =
+    targets_on-given r times values fs
+    ∙ ((λ i. filter_map (λ f. own f (is_on r f) refl i) fs) ∙ sym (filter_map-filter (target_at r times values) (is_on r) fs))
+  where
+    own : (f : Record) (b : Bool) → is_on r f ≡ b → target_at r times values f ≡ if_so b (target_at r times values f)
+    own f true e = refl
+    own f false e = no_target_at r times values f e
+
+-- what is blocked early has its flight's name, and an early rule if the flight has a TOBT and a runway
+abbrev IsEarlyOf : Record → BlockedFlight → Type 0
+IsEarlyOf f b = (b.name ≡ f.name) × (is_some f.tobt ≡ true → is_some f.runway ≡ true → is_early b.rule ≡ true)
+
+early_of : (times : TaxiTimes) (values : DayValues) (f : Record) → IfSome (early_at times values f) (IsEarlyOf f)
+early_of times values f = if_so-keeps (IsEarlyOf f) (is_planned f.status) (blocked_in f.name (aim_of f times values)) (by (aim_of f times values) (aim_means f times values))
+  where
+    by : (a : AimResult) → IsAim f times values a → IfSome (blocked_in f.name a) (IsEarlyOf f)
+    by (Ready t) is = tt
+    by (Early Tobt) is = (refl, λ h k. absurd (false≢true (sym (ap is_some is) ∙ h)))
+    by (Early Runway) is = (refl, λ h k. absurd (false≢true (sym (ap is_some is.1) ∙ k)))
+    by (Early Exot) is = (refl, λ h k. refl)
+    by (Early Horizon) is = (refl, λ h k. refl)
+    by (Early Ctot) is = (refl, λ h k. refl)
+    by (Early _) is = absurd is
+
+-- the runway's traffic blocks by other rules
+late_rule : (r : RunwayRules) (taken : List Taken) (f : TargetRecord) (rule : Rule) → Blocks r taken f rule → is_early rule ≡ false
+late_rule r taken f Exot h = absurd h
+late_rule r taken f Horizon h = absurd h
+late_rule r taken f Ctot h = absurd h
+late_rule r taken f _ h = refl
+
+abbrev IsLate : BlockedFlight → Type 0
+IsLate b = is_early b.rule ≡ false
+
+abbrev AreLate : RunwayPlanRecord → Type 0
+AreLate p = All IsLate p.blocked
+
+late_plan : (placing : Placing) (r : RunwayRules) (fixed : List SlotRecord) (targets : List TargetRecord) (p : RunwayPlanRecord)
+    → IsSequenceBy placing r fixed targets p → AreLate p
+late_plan placing r fixed targets p h = All-weaker (IsRightlyBlocked r (takeoffs r fixed) targets placing) IsLate
+    (λ b w. late_rule r (taken_before r (takeoffs r fixed) targets placing w.0) w.0 b.rule w.3) p.blocked h.rules
+
+module _ (first d : DayRecord) (t : Touched) (since : IsSince first t d) where
+  abbrev flights_first : List Record
+  flights_first = records_in first.airport first.journal
+
+  abbrev flights_now : List Record
+  flights_now = records_in d.airport d.journal
+
+  abbrev times_first : TaxiTimes
+  times_first = taxi_of first.airport first.journal
+
+  abbrev times_now : TaxiTimes
+  times_now = taxi_of d.airport d.journal
+
+  abbrev values_first : DayValues
+  values_first = values_of first.journal
+
+  abbrev values_now : DayValues
+  values_now = values_of d.journal
+
+  aim_stands : (f : Record) (r : List ℕ) → f.runway ≡ Some r → is_touched t r ≡ false → aim_of f times_first values_first ≡ aim_of f times_now values_now
+  aim_stands f r e h = same_aim f r e times_first times_now values_first (since.taxi r h) ∙ ap (aim_of f times_now) (since.values r h)
+
+  -- a runway that was not touched keeps its sequence
+  still_planned : (row : RunwayRow) (p : RunwayPlanRecord) → is_touched t row.name ≡ false → IsPlanOn first (rules_of first.airport first.journal row) p
+      → IsPlanOn d (rules_of d.airport d.journal row) p
+  unfolding rules_of fixed_on
+  still_planned row p h old =
+      let r = row.name in
+      let x = rules_of first.airport first.journal row in
+      let its : filter (is_on r) flights_first ≡ filter (is_on r) flights_now = since.flights (is_on r) (λ f on. untouched_on t f r (some_named f.runway r on) h) in
+      let fixed : fixed_in first r ≡ fixed_in d r = ap (filter_map fixed_slot) its in
+      let targets : targets_at first r ≡ targets_at d r =
+      targets_on-own r times_first values_first flights_first
+      ∙ ((λ i. filter_map (λ f. target_same r h f i) (its i)) ∙ sym (targets_on-own r times_now values_now flights_now)) in
+      let old_targets = subst (λ (xs : List SlotRecord). IsSequence x xs (targets_at first r) p) fixed (has_sequence first x p old) in
+      let there = subst (λ (ts : List TargetRecord). IsSequence x (fixed_in d r) ts p) targets old_targets in
+      subst (λ (y : RunwayRules). IsPlanOn d y p) (since.rules row h) (is_plan_on d x p there)
+    where
+      target_same : (r : List ℕ) → is_touched t r ≡ false → (f : Record) → target_at r times_first values_first f ≡ target_at r times_now values_now f
+      target_same r h f = by (is_on r f) refl
+        where
+          by : (b : Bool) → is_on r f ≡ b → target_at r times_first values_first f ≡ target_at r times_now values_now f
+          by false off = no_target_at r times_first values_first f off ∙ sym (no_target_at r times_now values_now f off)
+          by true on = ap (λ a. if_so (is_planned f.status) (if_on r (target_in a))) (aim_stands f r (some_named f.runway r on) h)
+
+  -- a flight that need not be asked is blocked early where it was
+  still_early : filter (is_kept_blocked d t) (blocked_early flights_first times_first values_first) ≡ blocked_early (kept_of t flights_now) times_now values_now
+  still_early =
+      let test = is_kept_blocked d t in
+      ap (filter test) (early-given times_first values_first flights_first)
+      ∙ (filter-filter_map test (early_at times_first values_first) flights_first
+      ∙ (filter_map_same (λ f. if_passes test (early_at times_first values_first f)) (λ f. if_so (is_kept t f) (early_at times_now values_now f)) flights_first
+      (λ f i. each f (found f i) (is_kept t f) refl)
+      ∙ (sym (filter_map-filter (early_at times_now values_now) (is_kept t) flights_first)
+      ∙ (ap (filter_map (early_at times_now values_now)) (since.flights (is_kept t) (kept_untouched t)) ∙ sym (early-given times_now values_now (kept_of t flights_now))))))
+    where
+      passes : (o : Option Record) → option_map_or (is_kept t) o false ≡ is_some (if_passes (is_kept t) o)
+      passes None = refl
+      passes (Some f) = by (is_kept t f)
+        where
+          by : (b : Bool) → b ≡ is_some (if b then Some f else None)
+          by true = refl
+          by false = refl
+
+      -- it is kept now as it was
+      found : (f : Record) → Contains flights_first f → option_map_or (is_kept t) (flight_of d.airport d.journal f.name) false ≡ is_kept t f
+      found f i =
+          let from = contains_from_given (flight_of first.airport first.journal) (flights_in first.journal) f i in
+          let k = from.0 in
+          ap (λ n. option_map_or (is_kept t) (flight_of d.airport d.journal n) false) (record_name first.airport first.journal k f from.2)
+          ∙ (passes (flight_of d.airport d.journal k) ∙ (ap is_some (sym (since.flight (is_kept t) (kept_untouched t) k))
+          ∙ (ap (λ o. is_some (if_passes (is_kept t) o)) from.2 ∙ sym (passes (Some f)))))
+
+      out : (f : Record) → option_map_or (is_kept t) (flight_of d.airport d.journal f.name) false ≡ false → (o : Option BlockedFlight)
+          → IfSome o (IsEarlyOf f) → if_passes (is_kept_blocked d t) o ≡ None
+      out f now None h = refl
+      out f now (Some b) h =
+          let there = ap (λ n. option_map_or (is_kept t) (flight_of d.airport d.journal n) false) h.0 ∙ now in
+          ap (λ x. if x then Some b else None) (and_right (is_early b.rule) _ there)
+
+      stay : (f : Record) → is_some f.tobt ≡ true → is_some f.runway ≡ true
+          → option_map_or (is_kept t) (flight_of d.airport d.journal f.name) false ≡ true → (o : Option BlockedFlight) → IfSome o (IsEarlyOf f)
+          → if_passes (is_kept_blocked d t) o ≡ o
+      stay f tobt runway now None h = refl
+      stay f tobt runway now (Some b) h =
+          let there = ap (λ n. option_map_or (is_kept t) (flight_of d.airport d.journal n) false) h.0 ∙ now in
+          ap (λ x. if x then Some b else None) (λ i. h.1 tobt runway i && there i)
+
+      each : (f : Record) → option_map_or (is_kept t) (flight_of d.airport d.journal f.name) false ≡ is_kept t f → (b : Bool) → is_kept t f ≡ b
+          → if_passes (is_kept_blocked d t) (early_at times_first values_first f) ≡ if_so b (early_at times_now values_now f)
+      each f now false e = out f (now ∙ e) (early_at times_first values_first f) (early_of times_first values_first f)
+      each f now true e =
+          let parts = and_parts (is_some f.tobt) (is_untouched t f) e in
+          let at = untouched_runway t f parts.1 in
+          stay f parts.0 (ap is_some at.1) (now ∙ e) (early_at times_first values_first f) (early_of times_first values_first f)
+          ∙ ap (λ a. if_so (is_planned f.status) (blocked_in f.name a)) (aim_stands f at.0 at.1 at.2)
+
+  -- nor are others kept
+  none_late : (ps : List RunwayPlanRecord) → All AreLate ps → filter (is_kept_blocked d t) (flat_map (λ p. p.blocked) ps) ≡ []
+  none_late [] all = refl
+  none_late (p ∷ ps) all =
+      filter-append (is_kept_blocked d t) p.blocked (flat_map (λ p. p.blocked) ps)
+      ∙ (λ i. none p.blocked (All-head AreLate p ps all) i ++ none_late ps (All-tail AreLate p ps all) i)
+    where
+      none : (bs : List BlockedFlight) → All IsLate bs → filter (is_kept_blocked d t) bs ≡ []
+      none [] late = refl
+      none (b ∷ bs) late =
+          let here = and_left (is_early b.rule) (option_map_or (is_kept t) (flight_of d.airport d.journal b.name) false) (All-head IsLate b bs late) in
+          ap (λ x. cond x (b ∷ filter (is_kept_blocked d t) bs) (filter (is_kept_blocked d t) bs)) here
+          ∙ none bs (All-tail IsLate b bs late)
+
+  -- a runway of the day is one of the first day's rows
+  its_row : (r : RunwayRules) → Contains (day_rules d) r
+      → (row : RunwayRow) × (row.name ≡ r.name) × Contains (day_rules first) (rules_of first.airport first.journal row)
+      × (rules_of d.airport d.journal row ≡ r)
+  unfolding rules_of
+  its_row r i =
+      let at = contains_from_map (rules_of d.airport d.journal) d.airport.runways r i in
+      let row = at.0 in
+      let among : Contains first.airport.runways row = subst (λ g. Contains g.runways row) since.airport at.1 in
+      (row, ap (λ (x : RunwayRules). x.name) at.2, contains_map (rules_of first.airport first.journal) first.airport.runways row among, at.2)
+
+  module _ (plan : PlanRecord) (made : IsMade first plan) where
+    runway_stands : (r : RunwayRules) → Contains (day_rules d) r → kept_plan t plan.runways r.name ≡ None → is_touched t r.name ≡ true
+    unfolding IsDayPlan rules_of
+    runway_stands r i e = by (is_touched t r.name) e
+      where
+        by : (b : Bool) → (if b then None else find (λ p. same_name p.runway r.name) plan.runways) ≡ None → b ≡ true
+        by true k = refl
+        by false k =
+            let placing = made.of_day.0 in
+            let aims = made.of_day.1 in
+            let day = made.of_day.2 in
+            let row = its_row r i in
+            let R : RunwayRules → RunwayPlanRecord → Type 0 = λ x p. IsSequenceBy placing x (fixed_in first x.name) (targets_on x.name (targets_in aims)) p in
+            let named = made_named (fixed_in first) (λ n. targets_on n (targets_in aims)) (day_rules first) day.made
+            (AllZip-weaker R (λ x p. IsSequence x (fixed_in first x.name) (targets_on x.name (targets_in aims)) p) (λ x p h. (placing, h)) (day_rules first) day.made day.sequences) in
+            let name = contains_map (λ (x : RunwayRules). x.name) (day_rules first) (rules_of first.airport first.journal row.0) row.2 in
+            let at = contains_from_map (λ (p : RunwayPlanRecord). p.runway) day.made row.0.name
+            (subst (λ (ns : List (List ℕ)). Contains ns row.0.name) (sym named) name) in
+            let there = Contains-permutation day.made plan.runways at.0 day.parts.runways at.1 in
+            absurd (true≢false (sym (is_same at.0.runway r.name (at.2 ∙ row.1))
+            ∙ find_none (λ (p : RunwayPlanRecord). same_name p.runway r.name) plan.runways k at.0 there))
+
+    plan_stands : (r : RunwayRules) (p : RunwayPlanRecord) → Contains (day_rules d) r → kept_plan t plan.runways r.name ≡ Some p → IsPlanOn d r p
+    unfolding IsDayPlan rules_of
+    plan_stands r p i e = by (is_touched t r.name) refl e
+      where
+        by : (b : Bool) → is_touched t r.name ≡ b → (if b then None else find (λ p. same_name p.runway r.name) plan.runways) ≡ Some p → IsPlanOn d r p
+        by true h k = cc
+        by false h k =
+            let placing = made.of_day.0 in
+            let aims = made.of_day.1 in
+            let day = made.of_day.2 in
+            let rules : RunwayRow → RunwayRules = rules_of first.airport first.journal in
+            let R : RunwayRules → RunwayPlanRecord → Type 0 = λ x p. IsSequenceBy placing x (fixed_in first x.name) (targets_on x.name (targets_in aims)) p in
+            let found = find_some (λ (p : RunwayPlanRecord). same_name p.runway r.name) plan.runways p k in
+            let old = partner R (day_rules first) day.made p day.sequences
+            (Contains-permutation plan.runways day.made p (IsPermutation-sym day.made plan.runways day.parts.runways) found.0) in
+            let row = its_row r i in
+            let name : old.0.name ≡ row.0.name = sym old.1.runway ∙ (same_is p.runway r.name found.1 ∙ sym row.1) in
+            let one : old.0 ≡ rules row.0 = one_of_key same_name same_flips (λ (x : RunwayRules). x.name) (day_rules first) old.0 (rules row.0)
+            (day_rules_differ first made.sound.airport.names) old.2 row.2 (is_same old.0.name (rules row.0).name name) in
+            let here : IsPlanOn first (rules row.0) p = subst (λ (x : RunwayRules). IsPlanOn first x p) one
+            (record { aims = aims; aimed = day.aimed; sequence = (placing, old.1) }) in
+            subst (λ (x : RunwayRules). IsPlanOn d x p) row.3 (still_planned row.0 p (ap (is_touched t) row.1 ∙ h) here)
+
+    early_stands : (aims : List AimResult) → AreAims (kept_of t flights_now) times_now values_now aims
+        → IsPermutation (early_in (kept_of t flights_now) aims) (kept_blocked d t plan.blocked)
+    unfolding IsDayPlan
+    early_stands aims are =
         let day = made.of_day.2 in
-        let rules : RunwayRow → RunwayRules = rules_of first.airport first.journal in
-        let R : RunwayRules → RunwayPlanRecord → Type 0 = λ x p. IsSequenceBy placing x (fixed_in first x.name) (targets_on x.name (targets_in aims)) p in
-        let found = find_some (λ (p : RunwayPlanRecord). same_name p.runway r.name) plan.runways p k in
-        let old = partner R (day_rules first) day.made p day.sequences
-        (Contains-permutation plan.runways day.made p (IsPermutation-sym day.made plan.runways day.parts.runways) found.0) in
-        let at = contains_from_map (rules_of d.airport d.journal) d.airport.runways r i in
-        let row = at.0 in
-        let named : row.name ≡ r.name = ap (λ (x : RunwayRules). x.name) at.2 in
-        let among : Contains first.airport.runways row = subst (λ g. Contains g.runways row) since.airport at.1 in
-        let there =
-        contains_map rules first.airport.runways row among in
-        let name : old.0.name ≡ row.name = sym old.1.runway ∙ (same_is p.runway r.name found.1 ∙ sym named) in
-        let one : old.0 ≡ rules row = one_of_key same_name same_flips (λ (x : RunwayRules). x.name) (day_rules first) old.0 (rules row)
-        (day_rules_differ first made.sound.airport.names) old.2 there (is_same old.0.name (rules row).name name) in
-        let here : IsPlanOn first (rules row) p = subst (λ (x : RunwayRules). IsPlanOn first x p) one
-        (record { aims = aims; aimed = day.aimed; sequence = (placing, old.1) }) in
-        subst (λ (x : RunwayRules). IsPlanOn d x p) at.2 (since.keeps row p (ap (is_touched t) named ∙ h) here)
+        let kept = kept_of t flights_now in
+        let R : RunwayRules → RunwayPlanRecord → Type 0 =
+        λ x p. IsSequenceBy made.of_day.0 x (fixed_in first x.name) (targets_on x.name (targets_in made.of_day.1)) p in
+        let late = All-permutation AreLate day.made plan.runways day.parts.runways
+        (all_zipped R AreLate (λ x p h. late_plan made.of_day.0 x (fixed_in first x.name) (targets_on x.name (targets_in made.of_day.1)) p h)
+        (day_rules first) day.made day.sequences) in
+        let at_first : early_in flights_first made.of_day.1 ≡ blocked_early flights_first times_first values_first =
+        ap (early_in flights_first) (sym (aims_are times_first values_first (planned_of flights_first) made.of_day.1 day.aimed))
+        ∙ early-aims times_first values_first flights_first in
+        let at_last : early_in kept aims ≡ blocked_early kept times_now values_now =
+        ap (early_in kept) (sym (aims_are times_now values_now (planned_of kept) aims are)) ∙ early-aims times_now values_now kept in
+        let stands : filter (is_kept_blocked d t) (early_in flights_first made.of_day.1) ≡ early_in kept aims =
+        ap (filter (is_kept_blocked d t)) at_first ∙ (still_early ∙ sym at_last) in
+        let late_ones = flat_map (λ (p : RunwayPlanRecord). p.blocked) plan.runways in
+        let whole = IsPermutation-filter (is_kept_blocked d t) (early_in flights_first made.of_day.1 ++ late_ones) plan.blocked day.parts.blocked in
+        let left : filter (is_kept_blocked d t) (early_in flights_first made.of_day.1 ++ late_ones) ≡ early_in kept aims =
+        filter-append (is_kept_blocked d t) (early_in flights_first made.of_day.1) late_ones
+        ∙ ((λ i. stands i ++ none_late plan.runways late i) ∙ append-nil (early_in kept aims)) in
+        subst (λ (bs : List BlockedFlight). IsPermutation bs (kept_blocked d t plan.blocked)) left whole
+
+-- what was not touched of the first day's plan stands
+pub kept_since : (first d : DayRecord) (t : Touched) (plan : PlanRecord) → IsMade first plan → IsSince first t d → AreKept d t plan.runways plan.blocked
+kept_since first d t plan made since = record {
+  all = runway_stands first d t since plan made;
+  right = plan_stands first d t since plan made;
+  early = early_stands first d t since plan made;
+}
+
+-- where all was touched, nothing stands
+pub none_kept : (d : DayRecord) → AreKept d touched.All [] []
+none_kept d = record {
+  all = λ r i e. refl;
+  right = λ r p i e. cc;
+  early = λ aims are. subst (λ (fs : List Record). IsPermutation (early_in fs aims) []) (sym (none (records_in d.airport d.journal))) (IsPermutation-refl []);
+} where
+  off : (o : Option ℕ) (r : Option (List ℕ)) → (is_some o && option_map_or (λ s. not (is_touched touched.All s)) r false) ≡ false
+  off None r = refl
+  off (Some n) None = refl
+  off (Some n) (Some s) = refl
+
+  none : (fs : List Record) → kept_of touched.All fs ≡ []
+  none [] = refl
+  none (f ∷ fs) = ap (λ b. cond b (f ∷ kept_of touched.All fs) (kept_of touched.All fs)) (off f.tobt f.runway) ∙ none fs

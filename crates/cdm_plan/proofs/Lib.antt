@@ -7,6 +7,7 @@ pub mod PlanningLemmas
 pub mod PlacingLemmas
 pub mod PartLemmas
 pub mod DayPlanLemmas
+pub mod AskedLemmas
 pub mod MadeLemmas
 pub mod OnePlanLemmas
 pub mod FirstLemmas

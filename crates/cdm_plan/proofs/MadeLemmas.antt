@@ -1,21 +1,25 @@
 -- The steps to a plan: what planned flights could have, the plans of runways that stand, and the others.
-use Rattle.std.proofs.Common.{Bor, ◌≡◌, ℕ, true, cond, List, [], ◌∷◌, ◌++◌, Option, None, Some, refl, ◌∙◌, ap, subst, arith, map, filter, length}
-use Rattle.cdm_plan.proofs.ListWords.{is_none, All, AllZip, Contains, cons_option, filter_map, IsPermutation, IsPermutation-append_right}
+use Rattle.std.proofs.Common.{Bor, ◌≡◌, ℕ, Bool, true, false, cond, List, [], ◌∷◌, ◌++◌, Option, None, Some, refl, ◌∙◌, ap, subst, arith, map, filter, length}
+use Rattle.cdm_plan.proofs.ListWords.{is_none, All, AllZip, Contains, cons_option, filter_map, flat_map, find, if◌then◌else◌, IsPermutation}
+use Rattle.cdm_plan.proofs.ListWords.{IsPermutation-append_comm, IsPermutation-append_left, IsPermutation-append_right, All-contains, All-weaker}
 use Rattle.cdm_plan.proofs.ListWords.{IsPermutation-middle, IsPermutation-refl, IsPermutation-sym, IsPermutation-trans, contains_head, contains_map}
-use Rattle.cdm_plan.proofs.ListWords.{Contains-permutation, contains_tail}
+use Rattle.cdm_plan.proofs.ListWords.{Contains-permutation, contains_tail, filter_passes, filter_same, length_permutation}
 use Rattle.cdm_plan.proofs.PlanWords.{DayValues, Record, is_planned, TaxiRows, values_of, taxi_of, RunwayRules, TaxiTimes, IsSequence}
-use Rattle.cdm_plan.proofs.PlanWords.{RunwayPlanRecord, BlockedFlight, CanSequence, IsAimed, early_among, target_for, DayRecord}
+use Rattle.cdm_plan.proofs.PlanWords.{PlanRecord, RunwayPlanRecord, BlockedFlight, CanSequence, IsAimed, early_among, target_for, DayRecord, same_name}
 use Rattle.cdm_plan.proofs.PlanWords.{day_rules, records_in, HasParts, fixed_on, planned_of, TellTaxi, AreKept, Together, kept_plan}
+use Rattle.cdm_plan.proofs.PlanWords.{asked_of, is_touched, kept_blocked, kept_of}
 use Rattle.std.specs.FinMap as finite
 use Rattle.cdm_plan.specs.declared.aimed.Aimed.{Aimed}
 use Rattle.cdm_plan.specs.declared.touched.Touched.{Touched}
 use Rattle.cdm_plan.specs.declared.work.Work.{Work}
 use Rattle.cdm_plan.specs.inner.Work.{IsWork}
+use Rattle.cdm_plan.proofs.AskedLemmas.{early-parted, targets-asked}
 use Rattle.cdm_plan.proofs.DayPlanLemmas.{HasSequence, day_plan, few_records, has_sequence, record_names_differ, targets_at}
 use Rattle.cdm_plan.proofs.NameLemmas.{by_name_differ}
 use Rattle.cdm_plan.proofs.OnePlanLemmas.{one_day_plan}
 use Rattle.cdm_plan.proofs.PartLemmas.{All-lent, AllZip-lent, few_parts}
-use Rattle.cdm_plan.proofs.PlanningLemmas.{AllZip-weaker, aimed, aimed_are, blocked-among, blocked_early, can_sequence, planned_are, targets-among}
+use Rattle.cdm_plan.proofs.PlanningLemmas.{aim_list, aimed, aimed_are, aims_mean, blocked-among, blocked_early, can_sequence, early-aims}
+use Rattle.cdm_plan.proofs.PlanningLemmas.{planned_are, targets-among}
 
 abbrev now : Bor Record → Record
 now f = f.now
@@ -26,9 +30,22 @@ times_of d = taxi_of d.airport d.journal
 abbrev flights_of : DayRecord → List Record
 flights_of d = records_in d.airport d.journal
 
--- what the planned flights of the day could have
-abbrev aims_of : DayRecord → List Aimed
-aims_of d = map (aimed (times_of d) (values_of d.journal)) (planned_of (flights_of d))
+-- what the asked flights of the day could have
+abbrev aims_of : DayRecord → Touched → List Aimed
+aims_of d t = map (aimed (times_of d) (values_of d.journal)) (planned_of (asked_of t (flights_of d)))
+
+-- a runway has no plan that stands where it was touched, if each that was not touched has one
+none_stands : (t : Touched) (old : List RunwayPlanRecord) (r : List ℕ) → (kept_plan t old r ≡ None → is_touched t r ≡ true)
+    → is_touched t r ≡ is_none (kept_plan t old r)
+none_stands t old r h = by (kept_plan t old r) refl
+  where
+    not_touched : (b : Bool) (o : Option RunwayPlanRecord) (p : RunwayPlanRecord) → (if b then None else o) ≡ Some p → b ≡ false
+    not_touched true o p e = cc
+    not_touched false o p e = refl
+
+    by : (o : Option RunwayPlanRecord) → kept_plan t old r ≡ o → is_touched t r ≡ is_none o
+    by None e = h e
+    by (Some p) e = not_touched (is_touched t r) (find (λ p. same_name p.runway r) old) p e
 
 module _ {X Y : Type 0} (R : X → Y → Type 0) (stands : X → Option Y) where
   -- what stands, and what was made where nothing does, goes with all
@@ -56,58 +73,106 @@ module _ {X Y : Type 0} (R : X → Y → Type 0) (stands : X → Option Y) where
                 (IsPermutation-sym (kept ++ y ∷ made) (y ∷ (kept ++ made)) (IsPermutation-middle kept y made)),
           )
 
-module _ {d : DayRecord} {t : Touched} {old : List RunwayPlanRecord} {w : Work} (is : IsWork d t old w) where
-  -- all the planned flights are planned
-  pub work_planned : All (λ f. is_planned f.now.status ≡ true) w.planned.items
-  work_planned = All-lent (λ (f : Record). is_planned f.status ≡ true) w.planned.items (rw is.planned (planned_are (flights_of d)))
+-- what goes together goes together in a way that is weaker at these elements
+AllZip-weaker_at : {X Y : Type 0} (R S : X → Y → Type 0) (xs : List X) (ys : List Y) → ((x : X) (y : Y) → Contains xs x → R x y → S x y) → AllZip R xs ys
+    → AllZip S xs ys
+AllZip-weaker_at R S [] [] h all = tt
+AllZip-weaker_at R S (x ∷ xs) (y ∷ ys) h all = (
+  h x y (contains_head x xs) all.0,
+  AllZip-weaker_at R S xs ys (λ u v i. h u v (contains_tail x xs u i)) all.1,
+)
+AllZip-weaker_at R S _ _ h all = absurd all
+
+-- parts of a plan with the early blocked flights in another order
+HasParts-reordered : (early others : List BlockedFlight) (plans : List RunwayPlanRecord) (plan : PlanRecord) → IsPermutation others early
+    → HasParts early plans plan → HasParts others plans plan
+HasParts-reordered early others plans plan same parts = record {
+  runways = parts.runways;
+  runway_order = parts.runway_order;
+  blocked = IsPermutation-trans _ _ _ (IsPermutation-append_left (flat_map (λ p. p.blocked) plan.runways) others early same) parts.blocked;
+  blocked_order = parts.blocked_order;
+}
+
+module _ {d : DayRecord} {t : Touched} {w : Work} (is : IsWork d t w) where
+  -- all the asked flights are planned
+  pub work_planned : All (λ f. is_planned f.now.status ≡ true) w.asked.items
+  work_planned = All-lent (λ (f : Record). is_planned f.status ≡ true) w.asked.items (rw is.asked (planned_are (asked_of t (flights_of d))))
+
+  -- the runways that are left were touched
+  left_touched : All (λ r. is_touched t r.now.name ≡ true) w.left.items
+  left_touched = rw is.left (filter_passes (λ (r : Bor RunwayRules). is_touched t r.now.name) w.runways.items)
 
   module _ {rows : TaxiRows} (told : TellTaxi d.airport d.journal rows) {values : DayValues} (values_is : values ≡ values_of d.journal) (aims : List Aimed)
-      (zipped : AllZip (λ f out. IsAimed (λ place r. finite.get rows (place, r)) values f.now out) w.planned.items aims) where
+      (zipped : AllZip (λ f out. IsAimed (λ place r. finite.get rows (place, r)) values f.now out) w.asked.items aims) where
     -- what they could have is what the journal says of it
-    aims_are : aims ≡ aims_of d
+    aims_are : aims ≡ aims_of d t
     aims_are =
         let read : TaxiTimes = λ place r. finite.get rows (place, r) in
         let times : ◌≡◌ {A = TaxiTimes} read (times_of d) = λ i place r. told.minutes place r i in
-        aimed_are read values (map now w.planned.items) aims (AllZip-lent (IsAimed read values) w.planned.items aims zipped)
-        ∙ (λ i. map (aimed (times i) (values_is i)) (is.planned i))
+        aimed_are read values (map now w.asked.items) aims (AllZip-lent (IsAimed read values) w.asked.items aims zipped)
+        ∙ (λ i. map (aimed (times i) (values_is i)) (is.asked i))
 
-    targets_are : (r : List ℕ) → filter_map (target_for r) aims ≡ targets_at d r
-    targets_are r = ap (filter_map (target_for r)) aims_are ∙ targets-among r (times_of d) (values_of d.journal) (flights_of d)
+    targets_are : (r : List ℕ) → is_touched t r ≡ true → filter_map (target_for r) aims ≡ targets_at d r
+    targets_are r h =
+        ap (filter_map (target_for r)) aims_are
+        ∙ (targets-among r (times_of d) (values_of d.journal) (asked_of t (flights_of d))
+        ∙ targets-asked t r h (times_of d) (values_of d.journal) (flights_of d))
 
-    -- each runway can be sequenced
-    pub work_can : (r : List ℕ) → CanSequence (fixed_on r (map now w.flights.items)) (filter_map (target_for r) aims)
-    work_can r =
-        rw (targets_are r, is.flights)
-        (can_sequence (times_of d) (values_of d.journal) (flights_of d) (record_names_differ d is.sound.names) (few_records d is.sound) r)
+    -- each runway that is left can be sequenced
+    pub work_can : All (λ r. CanSequence (fixed_on r.now.name (map now w.flights.items)) (filter_map (target_for r.now.name) aims)) w.left.items
+    work_can = All-weaker (λ (r : Bor RunwayRules). is_touched t r.now.name ≡ true)
+        (λ r. CanSequence (fixed_on r.now.name (map now w.flights.items)) (filter_map (target_for r.now.name) aims)) (λ r h.
+        rw (targets_are r.now.name h, is.flights)
+        (can_sequence (times_of d) (values_of d.journal) (flights_of d) (record_names_differ d is.sound.names) (few_records d is.sound) r.now.name))
+        w.left.items left_touched
 
-    -- the plans that stand and the others make the day's
-    pub work_done : (made : List RunwayPlanRecord) → AreKept d t old
+    -- the flights that are blocked early are among the asked ones, or were so before
+    work_early : {old : List RunwayPlanRecord} {blocked : List BlockedFlight} → AreKept d t old blocked
+        → IsPermutation (blocked_early (flights_of d) (times_of d) (values_of d.journal)) (early_among aims ++ kept_blocked d t blocked)
+    work_early {blocked = blocked} kept =
+        let fs = flights_of d in
+        let times = times_of d in
+        let values = values_of d.journal in
+        let asked = blocked_early (asked_of t fs) times values in
+        let same : early_among aims ≡ asked = ap early_among aims_are ∙ blocked-among times values (asked_of t fs) in
+        let stands : IsPermutation (blocked_early (kept_of t fs) times values) (kept_blocked d t blocked) =
+        subst (λ (bs : List BlockedFlight). IsPermutation bs (kept_blocked d t blocked)) (early-aims times values (kept_of t fs))
+        (kept.early (aim_list (kept_of t fs) times values) (aims_mean times values (planned_of (kept_of t fs)))) in
+        rw same (IsPermutation-trans _ _ _ (early-parted t times values fs)
+        (IsPermutation-trans _ _ _ (IsPermutation-append_comm (blocked_early (kept_of t fs) times values) asked) (IsPermutation-append_right asked _ _ stands)))
+
+    -- what stands of a former plan, and the plans that were made, make the day's
+    pub work_done : {old : List RunwayPlanRecord} {blocked : List BlockedFlight} (made : List RunwayPlanRecord) → AreKept d t old blocked
         → AllZip (λ r p. IsSequence r.now (fixed_on r.now.name (map now w.flights.items)) (filter_map (target_for r.now.name) aims) p) w.left.items made
-        → Together d aims (filter_map (λ r. kept_plan t old r.now.name) w.runways.items ++ made)
-    work_done made kept each =
+        → Together d (early_among aims ++ kept_blocked d t blocked) (filter_map (λ r. kept_plan t old r.now.name) w.runways.items ++ made)
+    work_done {old} {blocked} made kept each =
         let R : Bor RunwayRules → RunwayPlanRecord → Type 0 = λ r p. HasSequence d r.now p in
         let stands : Bor RunwayRules → Option RunwayPlanRecord = λ r. kept_plan t old r.now.name in
         let runways = w.runways.items in
         let rule : Bor RunwayRules → RunwayRules = λ r. r.now in
         let rules = map rule runways in
-        let right : (r : Bor RunwayRules) (p : RunwayPlanRecord) → IsSequence r.now (fixed_on r.now.name (map now w.flights.items))
-        (filter_map (target_for r.now.name) aims) p → R r p = λ r p h.
-        rw (targets_are r.now.name, is.flights) at h in
-        let new = rw is.left at (AllZip-weaker _ R right w.left.items made each) in
-        let zip = merged R stands runways made
-        (λ r p i e. has_sequence d r.now p (kept r.now p (Contains-permutation rules (day_rules d) r.now (IsPermutation-sym (day_rules d) rules is.runways.all) (contains_map rule runways r i)) e)) new in
+        let of_day : (r : Bor RunwayRules) → Contains runways r → Contains (day_rules d) r.now = λ r i.
+        Contains-permutation rules (day_rules d) r.now (IsPermutation-sym (day_rules d) rules is.runways.all) (contains_map rule runways r i) in
+        let left : w.left.items ≡ filter (λ r. is_none (stands r)) runways =
+        is.left ∙ filter_same (λ r. is_touched t r.now.name) (λ r. is_none (stands r)) runways (λ r i. none_stands t old r.now.name (kept.all r.now (of_day r i))) in
+        let right : (r : Bor RunwayRules) (p : RunwayPlanRecord) → Contains w.left.items r → IsSequence r.now (fixed_on r.now.name (map now w.flights.items))
+        (filter_map (target_for r.now.name) aims) p → R r p = λ r p i h.
+        rw (targets_are r.now.name (All-contains (λ (r : Bor RunwayRules). is_touched t r.now.name ≡ true) w.left.items r left_touched i), is.flights) at h in
+        let new = rw left at (AllZip-weaker_at _ R w.left.items made right each) in
+        let zip = merged R stands runways made (λ r p i e. has_sequence d r.now p (kept.right r.now p (of_day r i) e)) new in
         let whole : AllZip (HasSequence d) rules zip.0 = AllZip-lent (HasSequence d) runways zip.0 zip.1 in
-        let early : early_among aims ≡ blocked_early (flights_of d) (times_of d) (values_of d.journal) =
-        ap early_among aims_are ∙ blocked-among (times_of d) (values_of d.journal) (flights_of d) in
+        let early = work_early kept in
+        let long : length (early_among aims ++ kept_blocked d t blocked) ≡ length (blocked_early (flights_of d) (times_of d) (values_of d.journal)) =
+        length_permutation _ _ early in
         let names = by_name_differ d rules is.sound.airport is.runways in
         let few = few_parts (times_of d) (values_of d.journal) (flights_of d) rules zip.0
         (filter_map stands runways ++ made) whole zip.2 names in
         record {
-          few = omega (arith, few, few_records d is.sound, ap length early);
+          few = omega (arith, few, few_records d is.sound, long);
           made = λ plan clock parts.
               let plan_is =
               day_plan d rules zip.0 (filter_map stands runways ++ made) plan is.sound.airport is.runways.all whole zip.2 clock
-              (subst (λ (bs : List BlockedFlight). HasParts bs (filter_map stands runways ++ made) plan) early parts) in
+              (HasParts-reordered _ _ (filter_map stands runways ++ made) plan early parts) in
               record {
                 sound = is.sound;
                 of_day = plan_is;

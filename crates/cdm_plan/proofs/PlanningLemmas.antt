@@ -82,7 +82,7 @@ early-aims times values fs =
     ap (filter_map blocked) (zip-map (λ f. aim_of f times values) (planned_of fs)) ∙ filter_map-map blocked (λ f. (f, aim_of f times values)) (planned_of fs)
 
 -- what passes a test of what flights give
-filter-filter_map : {X Y : Type 0} (q : Y → Bool) (h : X → Option Y) (fs : List X) → filter q (filter_map h fs) ≡ filter_map (λ f. if_passes q (h f)) fs
+pub filter-filter_map : {X Y : Type 0} (q : Y → Bool) (h : X → Option Y) (fs : List X) → filter q (filter_map h fs) ≡ filter_map (λ f. if_passes q (h f)) fs
 filter-filter_map q h [] = refl
 filter-filter_map {X} {Y} q h (f ∷ fs) = go (h f) (filter-filter_map q h fs) where
   by : (b : Bool) (y : Y) (us vs : List Y) → us ≡ vs → cond b (y ∷ us) us ≡ cons_option (cond b (Some y) None) vs
@@ -112,7 +112,7 @@ parted {X} a b apart (x ∷ xs) = go (a x) (b x) refl refl (parted a b apart xs)
 -- Flights.
 
 -- what holds of what a flight gives holds where a test leaves it
-if_so-keeps : {Y : Type 0} (P : Y → Type 0) (b : Bool) (o : Option Y) → IfSome o P → IfSome (if_so b o) P
+pub if_so-keeps : {Y : Type 0} (P : Y → Type 0) (b : Bool) (o : Option Y) → IfSome o P → IfSome (if_so b o) P
 if_so-keeps P true o h = h
 if_so-keeps P false o h = tt
 
@@ -173,7 +173,7 @@ targets_on-given r times values fs =
     filter-filter_map (λ (t : TargetRecord). same_name t.runway r) (λ f. target_in (aim_of f times values)) (planned_of fs)
     ∙ filter_map-filter (λ f. if_on r (target_in (aim_of f times values))) (λ f. is_planned f.status) fs
 
-early-given : (times : TaxiTimes) (values : DayValues) (fs : List Record) → blocked_early fs times values ≡ filter_map (early_at times values) fs
+pub early-given : (times : TaxiTimes) (values : DayValues) (fs : List Record) → blocked_early fs times values ≡ filter_map (early_at times values) fs
 unfolding blocked_early
 early-given times values fs = filter_map-filter (λ f. blocked_in f.name (aim_of f times values)) (λ f. is_planned f.status) fs
 

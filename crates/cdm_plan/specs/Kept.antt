@@ -1,5 +1,5 @@
 -- Which runways updates touch, and the plans of the others, which stand.
-use Rattle.std.specs.Prelude.{◌≡◌, ℕ, Bool, true, false, List, Contains, Option, None, Some, if◌then◌else◌}
+use Rattle.std.specs.Prelude.{◌≡◌, ℕ, Bool, true, false, ◌&&◌, not, List, Contains, IsPermutation, Option, None, Some, filter, is_some, if◌then◌else◌}
 use Rattle.std.specs.List.{find, list_any}
 use Rattle.std.specs.Option.{option_map_or}
 use Rattle.cdm_flight.specs.declared.airport.RunwayRow.{RunwayRow}
@@ -7,16 +7,21 @@ use Rattle.cdm_flight.specs.declared.reach.Reach.{Reach}
 use Rattle.cdm_flight.specs.declared.reach.Reach.TheVariants.{Flight, Runway, Taxi, Day}
 use Rattle.cdm_flight.specs.Names.{same_name}
 use Rattle.cdm_flight.specs.Journal.{flight_of, taxi_of, values_of}
+use Rattle.cdm_flight.specs.Record.{Record}
+use Rattle.cdm_flight.specs.declared.place.Place.{Place}
 use Rattle.cdm_runway.specs.Rules.{RunwayRules}
 use Rattle.cdm_sequence.specs.Sequence.{IsSequence}
 use Rattle.cdm_sequence.specs.Slots.{PlanRecord, RunwayPlanRecord, SlotRecord}
 use Rattle.cdm_sequence.specs.declared.aims.AimResult.{AimResult}
+use Rattle.cdm_sequence.specs.declared.rule.Rule.{Rule}
+use Rattle.cdm_sequence.specs.declared.rule.Rule.TheVariants.{Exot, Horizon, Ctot}
+use Rattle.cdm_sequence.specs.declared.slot.BlockedFlight.{BlockedFlight}
 use Rattle.cdm_plan.specs.declared.touched.Touched.{Touched}
 use Rattle.cdm_plan.specs.declared.touched.Touched.TheVariants.{All, Named}
-use Rattle.cdm_plan.specs.inner.Aimed.{is_on}
+use Rattle.cdm_plan.specs.inner.Aimed.{if_passes, is_on}
 use Rattle.cdm_plan.specs.Day.{DayRecord, rules_of}
 use Rattle.cdm_plan.specs.DayPlan.{IsDayPlan, day_rules, records_in}
-use Rattle.cdm_plan.specs.Planning.{AreAims, fixed_on, targets_in, targets_on}
+use Rattle.cdm_plan.specs.Planning.{AreAims, early_in, fixed_on, targets_in, targets_on}
 use Rattle.cdm_plan.specs.Sound.{IsSound}
 
 -- the runway is one of those that were touched
@@ -45,19 +50,62 @@ pub record IsPlanOn (d : DayRecord) (r : RunwayRules) (p : RunwayPlanRecord) : T
   pub aimed : AreAims (records_in d.airport d.journal) (taxi_of d.airport d.journal) (values_of d.journal) aims
   pub sequence : IsSequence r (fixed_in d r.name) (targets_on r.name (targets_in aims)) p
 
--- a runway that was not touched since the first day keeps its sequence
+-- the flight has a runway that was not touched
+abbrev pub is_untouched : Touched → Record → Bool
+is_untouched t f = option_map_or (λ r. not (is_touched t r)) f.runway false
+
+-- what was not touched since the first day is as it was then
 pub record IsSince (first : DayRecord) (t : Touched) (d : DayRecord) : Type 0 where
   pub airport : d.airport ≡ first.airport
-  pub keeps : (row : RunwayRow) (p : RunwayPlanRecord) → is_touched t row.name ≡ false
-      → IsPlanOn first (rules_of first.airport first.journal row) p → IsPlanOn d (rules_of d.airport d.journal row) p
+  -- the flights of such runways, and among them those that pass a test
+  pub flight : (test : Record → Bool) → ((f : Record) → test f ≡ true → is_untouched t f ≡ true) → (k : List ℕ)
+      → if_passes test (flight_of first.airport first.journal k) ≡ if_passes test (flight_of d.airport d.journal k)
+  pub flights : (test : Record → Bool) → ((f : Record) → test f ≡ true → is_untouched t f ≡ true)
+      → filter test (records_in first.airport first.journal) ≡ filter test (records_in d.airport d.journal)
+  -- what the runways allow, the taxi times to them, and the values of the day
+  pub rules : (row : RunwayRow) → is_touched t row.name ≡ false → rules_of first.airport first.journal row ≡ rules_of d.airport d.journal row
+  pub taxi : (r : List ℕ) → is_touched t r ≡ false → (place : Place) → taxi_of first.airport first.journal place r ≡ taxi_of d.airport d.journal place r
+  pub values : (r : List ℕ) → is_touched t r ≡ false → values_of first.journal ≡ values_of d.journal
 
 -- the plan that stands on a runway, if one does
 abbrev pub kept_plan : Touched → List RunwayPlanRecord → List ℕ → Option RunwayPlanRecord
 kept_plan t plans r = if is_touched t r then None else find (λ p. same_name p.runway r) plans
 
--- the plans that stand are those of the day
-abbrev pub AreKept : DayRecord → Touched → List RunwayPlanRecord → Type 0
-AreKept d t plans = (r : RunwayRules) (p : RunwayPlanRecord) → Contains (day_rules d) r → kept_plan t plans r.name ≡ Some p → IsPlanOn d r p
+-- a flight that need not be asked anew: it has a TOBT, and a runway that was not touched
+abbrev pub is_kept : Touched → Record → Bool
+is_kept t f = is_some f.tobt && is_untouched t f
+
+-- the flights that need not be asked anew, and the others
+abbrev pub kept_of : Touched → List Record → List Record
+kept_of t flights = filter (λ f. is_kept t f) flights
+
+abbrev pub asked_of : Touched → List Record → List Record
+asked_of t flights = filter (λ f. not (is_kept t f)) flights
+
+-- a rule that blocks a flight with a TOBT and a runway before the traffic there is asked
+abbrev pub is_early : Rule → Bool
+is_early Exot = true
+is_early Horizon = true
+is_early Ctot = true
+is_early rule = false
+
+-- a blocked flight that stands so still
+abbrev pub is_kept_blocked : DayRecord → Touched → BlockedFlight → Bool
+is_kept_blocked d t b = is_early b.rule && option_map_or (λ f. is_kept t f) (flight_of d.airport d.journal b.name) false
+
+-- those among blocked flights
+abbrev pub kept_blocked : DayRecord → Touched → List BlockedFlight → List BlockedFlight
+kept_blocked d t blocked = filter (is_kept_blocked d t) blocked
+
+-- what stands of a plan is right on the day
+pub record AreKept (d : DayRecord) (t : Touched) (plans : List RunwayPlanRecord) (blocked : List BlockedFlight) : Type 0 where
+  -- each runway that was not touched has its plan
+  pub all : (r : RunwayRules) → Contains (day_rules d) r → kept_plan t plans r.name ≡ None → is_touched t r.name ≡ true
+  pub right : (r : RunwayRules) (p : RunwayPlanRecord) → Contains (day_rules d) r → kept_plan t plans r.name ≡ Some p → IsPlanOn d r p
+  -- and the flights that are not asked anew are blocked early where they were
+  pub early : (aims : List AimResult)
+      → AreAims (kept_of t (records_in d.airport d.journal)) (taxi_of d.airport d.journal) (values_of d.journal) aims
+      → IsPermutation (early_in (kept_of t (records_in d.airport d.journal)) aims) (kept_blocked d t blocked)
 
 -- the day is sound, the plan is its plan, and no other is
 pub record IsMade (d : DayRecord) (plan : PlanRecord) : Type 0 where

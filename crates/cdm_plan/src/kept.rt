@@ -1,20 +1,23 @@
-//! Plans of runways that stand.
-ghost use Rattle.std.specs.Prelude.{◌≡◌, ◌++◌, [], IfOk, OnOk, filter, is_none, List, ℕ};
+//! What stands of a former plan.
+ghost use Rattle.std.specs.Prelude.{◌≡◌, ◌++◌, [], IfOk, OnOk};
 ghost use Rattle.std.specs.List.{cons_option, filter_map, find};
 ghost use Rattle.std.specs.Option.{option_copied};
 ghost use Rattle.cdm_flight.specs.Names.{same_name};
-ghost use Rattle.cdm_plan.specs.Kept.{kept_plan};
+ghost use Rattle.cdm_plan.specs.Kept.{is_early, is_kept_blocked, kept_blocked, kept_plan};
 
+use crate::records::Records;
 use crate::touched::Touched;
-use cdm_flight::{RunwayName, push_last};
+use cdm_flight::RunwayName;
 use cdm_runway::Runway;
-use cdm_sequence::RunwayPlan;
+use cdm_sequence::{BlockedFlight, Rule, RunwayPlan};
 use std::alloc::{AllocError, Global};
 
-/// The plans of runways, of which those stand whose runway was not touched since.
+/// The plans of runways and the blocked flights of a former plan, of which those stand whose runway was not
+/// touched since.
 #[derive(Clone, Copy)]
 pub struct Kept<'a> {
     pub plans: &'a [RunwayPlan],
+    pub blocked: &'a [BlockedFlight],
     pub touched: &'a Touched,
 }
 
@@ -40,6 +43,13 @@ fn push_copy(
     Ok(())
 }
 
+// Whether the rule blocks a flight with a TOBT and a runway before the traffic there is asked.
+fn is_early(rule: Rule) -> bool
+    ensures { result ≡ is_early rule }
+{
+    matches!(rule, Rule::Exot | Rule::Horizon | Rule::Ctot)
+}
+
 impl Kept<'_> {
     // The plan of the runway, if it stands.
     fn plan_on(&self, runway: RunwayName) -> Option<&RunwayPlan>
@@ -49,24 +59,6 @@ impl Kept<'_> {
             return None;
         }
         plan_named(self.plans, runway)
-    }
-
-    /// The runways without a plan that stands, in order.
-    pub(crate) fn runways_left<'b>(
-        &self,
-        alloc: Global,
-        runways: &[&'b Runway],
-    ) -> Result<Vec<&'b Runway>, AllocError>
-        ensures { IfOk result (λ v. v.items ≡ filter (λ r. is_none (kept_plan self.now.touched.now self.now.plans.now r.now.name)) runways.now) }
-    {
-        let mut left = Vec::new(alloc);
-        for runway in runways {
-            let runway: &'b Runway = runway;
-            if self.plan_on(runway.name()).is_none() {
-                push_last(&mut left, runway)?;
-            }
-        }
-        Ok(left)
     }
 
     /// The plans that stand, in the order of the runways.
@@ -82,5 +74,35 @@ impl Kept<'_> {
             push_copy(alloc, &mut copies, self.plan_on(runway.name()))?;
         }
         Ok(copies)
+    }
+
+    // Whether the blocked flight stands so still.
+    fn has_blocked<D: Records>(&self, records: &D, flight: &BlockedFlight) -> bool
+        ensures { result ≡ is_kept_blocked (D.day records.now) self.now.touched.now flight.now }
+    {
+        if !is_early(flight.rule) {
+            return false;
+        }
+        match records.flight(flight.name) {
+            Some(record) => self.touched.keeps(record),
+            None => false,
+        }
+    }
+
+    /// Puts the blocked flights that stand behind others.
+    pub(crate) fn push_blocked<D: Records>(
+        &self,
+        records: &D,
+        others: &mut Vec<BlockedFlight>,
+    ) -> Result<(), AllocError>
+        ensures { OnOk result (others.new.items ≡ others.old.items ++ kept_blocked (D.day records.now) self.now.touched.now self.now.blocked.now) }
+    {
+        let blocked = self.blocked;
+        for flight in blocked {
+            if self.has_blocked(records, flight) {
+                others.push(*flight)?;
+            }
+        }
+        Ok(())
     }
 }

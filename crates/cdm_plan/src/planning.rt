@@ -6,7 +6,7 @@ ghost use Rattle.cdm_sequence.specs.Slots.{PlanRecord};
 ghost use Rattle.cdm_plan.specs.Planning.{HasParts};
 ghost use Rattle.cdm_plan.specs.DayPlan.{IsDayPlan};
 ghost use Rattle.cdm_plan.specs.inner.Aimed.{early_among};
-ghost use Rattle.cdm_plan.specs.Kept.{AreKept, IsMade, kept_plan};
+ghost use Rattle.cdm_plan.specs.Kept.{AreKept, IsMade, kept_blocked, kept_plan};
 ghost use Rattle.cdm_plan.specs.inner.Together.{Together};
 
 use crate::aimed::{Aimed, blocked};
@@ -47,20 +47,18 @@ fn by_name(plans: Vec<RunwayPlan>) -> Vec<RunwayPlan>
     ordered
 }
 
-// The plan of a day, from what its planned flights could have, and from plans of runways that stand
-// and others that were made.
+// The plan of a day, from the flights that are blocked early, and from plans of runways that stand and
+// others that were made.
 fn joined(
-    alloc: Global,
-    aims: &[Aimed],
+    early: Vec<BlockedFlight>,
     kept: Vec<RunwayPlan>,
     made: Vec<RunwayPlan>,
     values: DayValues,
 ) -> Result<Plan, AllocError>
-    requires { sum_by (λ p. length p.slots + length p.blocked) (kept.items ++ made.items) + length (early_among aims.now) ≤ 2000 }
+    requires { sum_by (λ p. length p.slots + length p.blocked) (kept.items ++ made.items) + length early.items ≤ 2000 }
     ensures clock { IfOk result (λ plan. plan.clock ≡ values.clock) }
-    ensures parts { IfOk result (λ plan. HasParts (early_among aims.now) (kept.items ++ made.items) plan) }
+    ensures parts { IfOk result (λ plan. HasParts early.items (kept.items ++ made.items) plan) }
 {
-    let early = blocked(alloc, aims)?;
     let (mut plans, mut others) = (kept, made);
     plans.append(&mut others)?;
     let plans = by_name(plans);
@@ -72,8 +70,8 @@ fn joined(
     })
 }
 
-/// The plan of the day, from what its planned flights could have, from the plans of runways that stand
-/// and from those that were made.
+/// The plan of the day, from what the asked flights could have, from what stands of a former plan, and from
+/// the plans that were made.
 pub(crate) fn plan_together<D: Records>(
     alloc: Global,
     records: &D,
@@ -82,12 +80,14 @@ pub(crate) fn plan_together<D: Records>(
     aims: &[Aimed],
     made: Vec<RunwayPlan>,
 ) -> Result<Plan, AllocError>
-    requires { Together (D.day records.now) aims.now
+    requires { Together (D.day records.now) (early_among aims.now ++ kept_blocked (D.day records.now) kept.now.touched.now kept.now.blocked.now)
         (filter_map (λ r. kept_plan kept.now.touched.now kept.now.plans.now r.now.name) runways.now ++ made.items) }
     ensures { IfOk result (λ plan. IsMade (D.day records.now) plan) }
 {
     let copies = kept.copied_plans(alloc, runways)?;
-    let plan = joined(alloc, aims, copies, made, records.values())?;
+    let mut early = blocked(alloc, aims)?;
+    kept.push_blocked(records, &mut early)?;
+    let plan = joined(early, copies, made, records.values())?;
     Ok(plan)
 }
 
@@ -96,26 +96,27 @@ pub fn plan_of<D: Records>(alloc: Global, records: &D) -> Result<Plan, AllocErro
     ensures of_day { IfOk result (λ plan. IsDayPlan (D.day records.now) plan) }
     ensures only { IfOk result (λ plan. (other : PlanRecord) → IsDayPlan (D.day records.now) other → other ≡ plan) }
 {
-    let touched = Touched::none(alloc);
+    let touched = Touched::All;
     let kept = Kept {
         plans: &[],
+        blocked: &[],
         touched: &touched,
     };
     let plan = plan_keeping(alloc, records, &kept)?;
     Ok(plan)
 }
 
-/// The plan of the day that the records tell, in which some plans of runways stand.
+/// The plan of the day that the records tell, in which some of a former plan stands.
 pub fn plan_keeping<D: Records>(alloc: Global, records: &D, kept: &Kept) -> Result<Plan, AllocError>
-    requires { AreKept (D.day records.now) kept.now.touched.now kept.now.plans.now }
+    requires { AreKept (D.day records.now) kept.now.touched.now kept.now.plans.now kept.now.blocked.now }
     ensures { IfOk result (λ plan. IsMade (D.day records.now) plan) }
 {
-    let work = work_of(alloc, records, kept)?;
+    let work = work_of(alloc, records, kept.touched)?;
     let job = TargetJob {
         taxi: records.taxi(),
         values: records.values(),
     };
-    let aims = run_here(alloc, &job, &work.planned)?;
+    let aims = run_here(alloc, &job, &work.asked)?;
     let job = RunwayJob {
         flights: &work.flights,
         aims: &aims,

@@ -24,19 +24,19 @@ pub struct Runner<'a, R: Threads + Sync, G: Gate> {
 }
 
 impl<R: Threads + Sync, G: Gate> Runner<'_, R, G> {
-    /// As one thread makes it: first the workers find what each planned flight could have, and then
-    /// they make the plan of each runway. A worker has all flights of a runway.
+    /// As one thread makes it: first the workers find what each asked flight could have, and then
+    /// they make the plan of each touched runway. A worker has all flights of a runway.
     pub fn plan_keeping<D: Records>(
         &self,
         alloc: Global,
         records: &D,
         kept: &Kept,
     ) -> Result<Plan, AllocError>
-        requires { AreKept (D.day records.now) kept.now.touched.now kept.now.plans.now }
+        requires { AreKept (D.day records.now) kept.now.touched.now kept.now.plans.now kept.now.blocked.now }
         ensures { IfOk result (λ plan. IsMade (D.day records.now) plan) }
     {
         let (rt, workers, gate) = (self.rt, self.workers, self.gate);
-        let work = work_of(alloc, records, kept)?;
+        let work = work_of(alloc, records, kept.touched)?;
         let job = TargetJob {
             taxi: records.taxi(),
             values: records.values(),
@@ -47,7 +47,7 @@ impl<R: Threads + Sync, G: Gate> Runner<'_, R, G> {
             workers,
             FLIGHTS_AT_A_TIME,
             &job,
-            &work.planned,
+            &work.asked,
             gate,
         )?;
         let job = RunwayJob {

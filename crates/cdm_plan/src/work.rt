@@ -1,24 +1,25 @@
 //! What there is to do for the plan of a day.
-ghost use Rattle.std.specs.Prelude.{◌≡◌, ◌++◌, [], map, IfOk, OnOk};
+ghost use Rattle.std.specs.Prelude.{◌≡◌, ◌++◌, [], filter, map, IfOk, OnOk};
 ghost use Rattle.std.specs.List.{cons_option};
 ghost use Rattle.std.specs.Option.{option_copied};
 ghost use Rattle.cdm_plan.specs.DayPlan.{AreByName, records_in};
+ghost use Rattle.cdm_plan.specs.Kept.{asked_of, is_touched};
 ghost use Rattle.cdm_plan.specs.Planning.{planned_of};
 ghost use Rattle.cdm_plan.specs.Sound.{IsSound};
 ghost use Rattle.cdm_plan.specs.inner.Work.{IsWork};
 
-use crate::kept::Kept;
 use crate::records::Records;
+use crate::touched::Touched;
 use cdm_flight::{Flight, Status, push_last};
 use cdm_runway::Runway;
 use std::alloc::{AllocError, Global};
 
-/// The flights and the runways of a day, the planned ones among the flights, and the runways without a
-/// plan that stands.
+/// The flights and the runways of a day, the planned flights that are asked when they could take off, and
+/// the runways that were touched.
 #[derive(Drop)]
 pub(crate) struct Work<'a> {
     pub(crate) flights: Vec<&'a Flight>,
-    pub(crate) planned: Vec<&'a Flight>,
+    pub(crate) asked: Vec<&'a Flight>,
     pub(crate) runways: Vec<&'a Runway>,
     pub(crate) left: Vec<&'a Runway>,
 }
@@ -45,18 +46,23 @@ fn all_flights<R: Records>(alloc: Global, records: &R) -> Result<Vec<&Flight>, A
     Ok(flights)
 }
 
-// The flights on their stands, in order.
-fn planned_flights<'a>(alloc: Global, flights: &[&'a Flight]) -> Result<Vec<&'a Flight>, AllocError>
-    ensures { IfOk result (λ v. map (λ f. f.now) v.items ≡ planned_of (map (λ f. f.now) flights.now)) }
+// The flights on their stands that are asked, in order: those without a TOBT or a runway, and those of the
+// touched runways.
+fn asked_flights<'a>(
+    alloc: Global,
+    flights: &[&'a Flight],
+    touched: &Touched,
+) -> Result<Vec<&'a Flight>, AllocError>
+    ensures { IfOk result (λ v. map (λ f. f.now) v.items ≡ planned_of (asked_of touched.now (map (λ f. f.now) flights.now))) }
 {
-    let mut planned = Vec::new(alloc);
+    let mut asked = Vec::new(alloc);
     for flight in flights {
         let flight: &'a Flight = flight;
-        if flight.status == Status::Planned {
-            push_last(&mut planned, flight)?;
+        if flight.status == Status::Planned && !touched.keeps(flight) {
+            push_last(&mut asked, flight)?;
         }
     }
-    Ok(planned)
+    Ok(asked)
 }
 
 // All runways by name.
@@ -70,21 +76,39 @@ fn all_runways<R: Records>(alloc: Global, records: &R) -> Result<Vec<&Runway>, A
     Ok(runways)
 }
 
+// The runways that were touched, in order.
+fn touched_runways<'a>(
+    alloc: Global,
+    runways: &[&'a Runway],
+    touched: &Touched,
+) -> Result<Vec<&'a Runway>, AllocError>
+    ensures { IfOk result (λ v. v.items ≡ filter (λ r. is_touched touched.now r.now.name) runways.now) }
+{
+    let mut left = Vec::new(alloc);
+    for runway in runways {
+        let runway: &'a Runway = runway;
+        if touched.has(runway.name()) {
+            push_last(&mut left, runway)?;
+        }
+    }
+    Ok(left)
+}
+
 /// What there is to do for the plan of the day that the records tell.
 pub(crate) fn work_of<'a, R: Records>(
     alloc: Global,
     records: &'a R,
-    kept: &Kept,
+    touched: &Touched,
 ) -> Result<Work<'a>, AllocError>
-    ensures { IfOk result (λ work. IsWork (R.day records.now) kept.now.touched.now kept.now.plans.now work) }
+    ensures { IfOk result (λ work. IsWork (R.day records.now) touched.now work) }
 {
     let flights = all_flights(alloc, records)?;
-    let planned = planned_flights(alloc, &flights)?;
+    let asked = asked_flights(alloc, &flights, touched)?;
     let runways = all_runways(alloc, records)?;
-    let left = kept.runways_left(alloc, &runways)?;
+    let left = touched_runways(alloc, &runways, touched)?;
     Ok(Work {
         flights,
-        planned,
+        asked,
         runways,
         left,
     })

@@ -1,10 +1,12 @@
 -- Standings that `==` finds equal are equal.
-use Rattle.std.proofs.Common.{◌≡◌, ℕ, Bool, true, List, [], ◌∷◌, Option, None, Some, refl, ap, rules}
+use Rattle.std.proofs.Common.{◌≡◌, ℕ, zero, suc, ◌-◌, ◌<◌, ◌≤◌, Bool, true, List, [], ◌∷◌, ◌++◌, Option, None, Some, refl, sym, ◌∙◌, ap, rules, arith}
+use Rattle.std.proofs.Common.{length, get_or, take, drop, length-drop}
 use Rattle.std.specs.Cmp.Lexicographic.{pointwise}
 use Rattle.std.specs.Bool.{Decides}
 use Rattle.std.specs.Option.{option_eq}
 use Rattle.std.specs.Prelude.{nat_eq}
-use Rattle.std.proofs.lemmas.Bool.{and_parts, false≢true}
+use Rattle.std.proofs.lemmas.Bool.{and_from, and_parts, false≢true}
+use Rattle.std.proofs.lemmas.List.{take-append-drop, take_all}
 use Rattle.std.proofs.lemmas.Bool.Decides.{Decides-eqb}
 use Rattle.cdm_time.specs.contracts.minute.MinutePartialEq.TheImpl as minute_eq
 use Rattle.cdm_flight.specs.contracts.group.GroupPartialEq.TheImpl as group_eq
@@ -17,6 +19,7 @@ use Rattle.cdm_sequence.specs.contracts.slot.SlotPartialEq.TheImpl as slot_eq
 use Rattle.cdm_sequence.specs.declared.slot.BlockedFlight.{BlockedFlight}
 use Rattle.cdm_sequence.specs.declared.slot.Mark.{Mark}
 use Rattle.cdm_view.specs.contracts.standing.StandingPartialEq.TheImpl as standing_eq
+use Rattle.cdm_view.specs.inner.Parts.{AreParts}
 use Rattle.cdm_view.specs.declared.standing.Standing.{Standing}
 use Rattle.cdm_view.specs.declared.standing.Standing.TheVariants.{OnRunway, Blocked, Cancelled}
 
@@ -74,3 +77,41 @@ equal_lists {X} e is (x ∷ xs) (y ∷ ys) h =
     let parts = and_parts (e x y) (pointwise e xs ys) h in
     λ i. is x y parts.0 i ∷ equal_lists e is xs ys parts.1 i
 equal_lists e is _ _ h = absurd (false≢true h)
+
+-- one more that is equal
+pub pointwise_next : {X : Type 0} (e : X → X → Bool) (xs ys : List X) (n : ℕ) (x y : X) → n < length xs → n < length ys
+    → e (get_or xs n x) (get_or ys n y) ≡ true → pointwise e (take n xs) (take n ys) ≡ true → pointwise e (take (suc n) xs) (take (suc n) ys) ≡ true
+pointwise_next e [] ys n x y l m h all = absurd (omega arith)
+pointwise_next e (a ∷ xs) [] n x y l m h all = absurd (omega arith)
+pointwise_next e (a ∷ xs) (b ∷ ys) zero x y l m h all = and_from (e a b) true h refl
+pointwise_next e (a ∷ xs) (b ∷ ys) (suc n) x y l m h all =
+    let parts = and_parts (e a b) (pointwise e (take n xs) (take n ys)) all in
+    and_from (e a b) (pointwise e (take (suc n) xs) (take (suc n) ys)) parts.0 (pointwise_next e xs ys n x y (omega arith) (omega arith) h parts.1)
+
+-- the rest of a list
+abbrev rest_of : {X : Type 0} → ℕ → List X → List X
+rest_of k xs = take (length xs - k) (drop k xs)
+
+whole : {X : Type 0} (k : ℕ) (xs : List X) → xs ≡ take k xs ++ rest_of k xs
+whole k xs =
+    let enough : length (drop k xs) ≤ length xs - k = omega (arith, length-drop k xs) in
+    sym (ap (λ l. take k xs ++ l) (take_all (length xs - k) (drop k xs) enough) ∙ take-append-drop k xs)
+
+-- two lists without what is equal at their ends
+pub parts_from : {X : Type 0} (e : X → X → Bool) → ((x y : X) → e x y ≡ true → x ≡ y) → (xs ys : List X) (k n : ℕ)
+    → pointwise e (take k xs) (take k ys) ≡ true
+    → pointwise e (drop (length (rest_of k xs) - n) (rest_of k xs)) (drop (length (rest_of k ys) - n) (rest_of k ys)) ≡ true
+    → AreParts xs ys (take (length (rest_of k xs) - n) (rest_of k xs)) (take (length (rest_of k ys) - n) (rest_of k ys))
+parts_from {X} e is xs ys k n front back =
+    let us = rest_of k xs in
+    let vs = rest_of k ys in
+    let first : take k xs ≡ take k ys = equal_lists e is (take k xs) (take k ys) front in
+    let last : drop (length us - n) us ≡ drop (length vs - n) vs = equal_lists e is (drop (length us - n) us) (drop (length vs - n) vs) back in
+    let ends : vs ≡ take (length vs - n) vs ++ drop (length us - n) us =
+    sym (take-append-drop (length vs - n) vs) ∙ ap (λ l. take (length vs - n) vs ++ l) (sym last) in
+    record {
+      start = take k xs;
+      rest = drop (length us - n) us;
+      of_one = whole k xs ∙ ap (λ l. take k xs ++ l) (sym (take-append-drop (length us - n) us));
+      of_other = whole k ys ∙ (λ i. sym first i ++ ends i);
+    }

@@ -9,7 +9,7 @@ use Rattle.std.proofs.lemmas.List.Sorted.{list_any-IsPermutation}
 use Rattle.std.specs.List.Sorted.{IsSortedByKey}
 use Rattle.cdm_flight.proofs.Lists.{IsPermutation-filter, apart_from_head, filter_same}
 use Rattle.cdm_plan.proofs.ListWords.{Contains, IsDistinct, IsDistinct-IsPermutation, IsPermutation, append_assoc, contains_cases, contains_map, contains_tail}
-use Rattle.cdm_plan.proofs.ListWords.{distinct_right, list_any-append, map-append, or_right}
+use Rattle.cdm_plan.proofs.ListWords.{append-nil, distinct_right, list_any-append, map-append, or_right}
 use Rattle.cdm_plan.proofs.ListWords.{IsPermutation-append_comm, IsPermutation-append_left, IsPermutation-append_right, IsPermutation-map, IsPermutation-sym, IsPermutation-trans}
 use Rattle.cdm_plan.proofs.PlanWords.{is_same, name_cmp, same_flips, same_name}
 use Rattle.cdm_time.specs.declared.calendar.CalendarDate.{CalendarDate}
@@ -18,6 +18,7 @@ use Rattle.cdm_view.specs.Standings.{changes, flight_name, is_same_told, is_told
 use Rattle.cdm_view.specs.declared.differing.Differing.{Differing}
 use Rattle.cdm_view.specs.declared.standing.Standing.{Standing}
 use Rattle.cdm_view.specs.inner.Left.{AreLeft}
+use Rattle.cdm_view.specs.inner.Parts.{AreParts}
 
 -- What is left, list by list.
 
@@ -48,6 +49,34 @@ left_more first second p q left next e h are = record {
   of_first = more are.same left.before.items next.before.items first p e are.of_first;
   of_second = more are.same left.after.items next.after.items second q h are.of_second;
 }
+
+-- what they have more, of which a first part and a last part are the same
+pub left_parts : (first second one other p q : List Standing) (left next : Differing) → AreParts one other p q → next.before.items ≡ left.before.items ++ p
+    → next.after.items ≡ left.after.items ++ q → AreLeft first second left → AreLeft (first ++ one) (second ++ other) next
+left_parts first second one other p q left next parts e h are =
+    let start = parts.start in
+    let rest = parts.rest in
+    let split : (xs us vs : List Standing) → vs ≡ start ++ (us ++ rest) → xs ++ vs ≡ ((xs ++ start) ++ us) ++ rest = λ xs us vs is.
+    ap (λ l. xs ++ l) is ∙ (sym (append_assoc xs start (us ++ rest)) ∙ sym (append_assoc (xs ++ start) us rest)) in
+    rw (split first p one parts.of_one, split second q other parts.of_other)
+    (left_same ((first ++ start) ++ p) ((second ++ start) ++ q) rest rest next refl
+    (left_more (first ++ start) (second ++ start) p q left next e h (left_same first second start start left refl are)))
+
+-- Parts.
+
+pub AreParts-map : {X Y : Type 0} (f : X → Y) (one other p q : List X) → AreParts one other p q → AreParts (map f one) (map f other) (map f p) (map f q)
+AreParts-map {X} f one other p q parts = record {
+  start = map f parts.start;
+  rest = map f parts.rest;
+  of_one = mapped one p parts.of_one;
+  of_other = mapped other q parts.of_other;
+} where
+  mapped : (xs us : List X) → xs ≡ parts.start ++ (us ++ parts.rest) → map f xs ≡ map f parts.start ++ (map f us ++ map f parts.rest)
+  mapped xs us is =
+      ap (map f) is ∙ (map-append f parts.start (us ++ parts.rest) ∙ ap (λ l. map f parts.start ++ l) (map-append f us parts.rest))
+
+pub AreParts-all : {X : Type 0} (one other : List X) → AreParts one other one other
+AreParts-all one other = record { start = []; rest = []; of_one = sym (append-nil one); of_other = sym (append-nil other) }
 
 -- Names.
 

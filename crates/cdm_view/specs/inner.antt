@@ -1,4 +1,5 @@
 pub mod Ends
 pub mod Known
+pub mod Parts
 pub mod Passed
 pub mod Left

@@ -3,12 +3,14 @@ ghost use Rattle.std.specs.Prelude.{◌≡◌, ◌++◌, List, true, map, IfOk, 
 ghost use Rattle.std.specs.List.{filter_map, flat_map};
 ghost use Rattle.cdm_plan.specs.DayPlan.{IsDayPlan, records_in};
 ghost use Rattle.cdm_view.specs.declared.standing.Standing.{Standing as Stood};
-ghost use Rattle.cdm_view.specs.declared.standing.Standing.TheVariants.{Blocked};
+ghost use Rattle.cdm_view.specs.declared.standing.Standing.TheVariants.{Blocked, OnRunway};
 ghost use Rattle.cdm_view.specs.Standings.{AreChanges, cancelled, on_runway, standings_of};
 ghost use Rattle.cdm_view.specs.inner.Known.{AllSound};
 ghost use Rattle.cdm_view.specs.inner.Left.{AreLeft};
+ghost use Rattle.cdm_view.specs.inner.Parts.{AreParts};
 
 use crate::gathering::{push_blocked, push_cancelled, push_runways, push_slots};
+use crate::parts::differing_parts;
 use crate::standing::Standing;
 use crate::standings::Standings;
 use cdm_plan::Records;
@@ -23,30 +25,6 @@ pub(crate) struct Differing {
     after: Vec<Standing>,
 }
 
-// Whether the slots are the same.
-fn are_same_slots(slots: &[Slot], others: &[Slot]) -> bool
-    ensures { result ≡ true → slots.now ≡ others.now }
-{
-    slots == others
-}
-
-// Whether the slots of two plans are the same, on the same runway.
-fn are_same_runways(before: &RunwayPlan, after: &RunwayPlan) -> bool
-    ensures { result ≡ true → on_runway before.now ≡ on_runway after.now }
-{
-    if before.runway != after.runway {
-        return false;
-    }
-    are_same_slots(before.slots.as_slice(), after.slots.as_slice())
-}
-
-// Whether the blocked flights are the same.
-fn are_same_blocked(flights: &[BlockedFlight], others: &[BlockedFlight]) -> bool
-    ensures { result ≡ true → flights.now ≡ others.now }
-{
-    flights == others
-}
-
 // Whether the standings are the same.
 fn are_same(standings: &[Standing], others: &[Standing]) -> bool
     ensures { result ≡ true → standings.now ≡ others.now }
@@ -54,7 +32,18 @@ fn are_same(standings: &[Standing], others: &[Standing]) -> bool
     standings == others
 }
 
-// The slots of a runway behind the others, unless they are the same on both days.
+// The slots of a runway on two days, without those at both ends that it has on both.
+fn slots_between<'a>(before: &'a RunwayPlan, after: &'a RunwayPlan) -> (&'a [Slot], &'a [Slot])
+    ensures { AreParts (on_runway before.now) (on_runway after.now) (map (OnRunway before.now.runway) result.0.now) (map (OnRunway after.now.runway) result.1.now) }
+{
+    let (slots, others) = (before.slots.as_slice(), after.slots.as_slice());
+    if before.runway != after.runway {
+        return (slots, others);
+    }
+    differing_parts(slots, others)
+}
+
+// The slots of a runway behind the others, without those at both ends that it has on both days.
 fn push_runway(
     differing: &mut Differing,
     before: &RunwayPlan,
@@ -63,11 +52,9 @@ fn push_runway(
     ensures { OnOk result ((first second : List Stood) → AreLeft first second differing.old
         → AreLeft (first ++ on_runway before.now) (second ++ on_runway after.now) differing.new) }
 {
-    if are_same_runways(before, after) {
-        return Ok(());
-    }
-    push_slots(&mut differing.before, before)?;
-    push_slots(&mut differing.after, after)?;
+    let (slots, others) = slots_between(before, after);
+    push_slots(&mut differing.before, before.runway, slots)?;
+    push_slots(&mut differing.after, after.runway, others)?;
     Ok(())
 }
 
@@ -94,7 +81,7 @@ fn differing_slots(
     Ok(differing)
 }
 
-// The blocked flights behind the others, unless they are the same on both days.
+// The blocked flights behind the others, without those at both ends that both days have.
 fn push_blocked_of(
     differing: &mut Differing,
     before: &[BlockedFlight],
@@ -103,11 +90,9 @@ fn push_blocked_of(
     ensures { OnOk result ((first second : List Stood) → AreLeft first second differing.old
         → AreLeft (first ++ map Blocked before.now) (second ++ map Blocked after.now) differing.new) }
 {
-    if are_same_blocked(before, after) {
-        return Ok(());
-    }
-    push_blocked(&mut differing.before, before)?;
-    push_blocked(&mut differing.after, after)?;
+    let (flights, others) = differing_parts(before, after);
+    push_blocked(&mut differing.before, flights)?;
+    push_blocked(&mut differing.after, others)?;
     Ok(())
 }
 

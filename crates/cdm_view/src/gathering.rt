@@ -4,24 +4,35 @@ ghost use Rattle.std.specs.List.{cons_option, filter_map};
 ghost use Rattle.std.specs.Option.{ForSome, option_copied};
 ghost use Rattle.cdm_flight.specs.Record.{is_sound};
 ghost use Rattle.cdm_plan.specs.DayPlan.{records_in};
-ghost use Rattle.cdm_view.specs.declared.standing.Standing.TheVariants.{Blocked};
+ghost use Rattle.cdm_view.specs.declared.standing.Standing.TheVariants.{Blocked, OnRunway};
 ghost use Rattle.cdm_view.specs.Standings.{cancelled, on_runway, standings_of};
 ghost use Rattle.cdm_view.specs.inner.Known.{AllSound};
 
 use crate::standing::Standing;
-use cdm_flight::{Flight, Status, push_last};
+use cdm_flight::{Flight, RunwayName, Status, push_last};
 use cdm_plan::Records;
-use cdm_sequence::{BlockedFlight, Plan, RunwayPlan};
+use cdm_sequence::{BlockedFlight, Plan, RunwayPlan, Slot};
 use std::alloc::{AllocError, Global};
 
-/// The slots of a runway behind the others.
-pub(crate) fn push_slots(standings: &mut Vec<Standing>, plan: &RunwayPlan) -> Result<(), AllocError>
-    ensures { OnOk result (standings.new.items ≡ standings.old.items ++ on_runway plan.now) }
+/// Slots of a runway behind the others.
+pub(crate) fn push_slots(
+    standings: &mut Vec<Standing>,
+    runway: RunwayName,
+    slots: &[Slot],
+) -> Result<(), AllocError>
+    ensures { OnOk result (standings.new.items ≡ standings.old.items ++ map (OnRunway runway) slots.now) }
 {
-    for slot in plan.slots.as_slice() {
-        push_last(standings, Standing::OnRunway(plan.runway, *slot))?;
+    for slot in slots {
+        push_last(standings, Standing::OnRunway(runway, *slot))?;
     }
     Ok(())
+}
+
+// All slots of a runway behind the others.
+fn push_plan(standings: &mut Vec<Standing>, plan: &RunwayPlan) -> Result<(), AllocError>
+    ensures { OnOk result (standings.new.items ≡ standings.old.items ++ on_runway plan.now) }
+{
+    push_slots(standings, plan.runway, plan.slots.as_slice())
 }
 
 /// The slots of all runways behind the others.
@@ -32,7 +43,7 @@ pub(crate) fn push_runways(
     ensures { OnOk result (standings.new.items ≡ standings.old.items ++ flat_map on_runway plans.now) }
 {
     for plan in plans {
-        push_slots(standings, plan)?;
+        push_plan(standings, plan)?;
     }
     Ok(())
 }

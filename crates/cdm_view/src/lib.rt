@@ -10,6 +10,7 @@ mod gathering;
 mod laws;
 mod lines;
 mod loading;
+mod parts;
 mod question;
 mod reason;
 mod runs;

@@ -8,5 +8,5 @@ invariant_of-result c =
     rw (c.new.ensures, c.new-2.ensures) (record {
       runway_order = c.by_name-plans.ensures.sorted;
       blocked_order = c.in_ok-blocked.ensures.sorted;
-      few = few_joined _ _ _ _ 2000 same others (rw (← c.in_ok-early.ensures) at c.requires);
+      few = few_joined _ _ _ _ 2000 same others c.requires;
     })
