@@ -10,5 +10,5 @@ returns-in_err-note-clause-err c =
 
 pub returns-else-count-bytes-clause-err : goal.returns-else-count-bytes-clause-err
 returns-else-count-bytes-clause-err c =
-    let was : c.note.new.self.notes.items ≡ c.args.self.now.notes.items ++ Appended (take c.written.result c.args.bytes.now) ∷ [] = search rules in
-    append_torn c.written.result c.args.bytes.now _ _ was
+    let was : c.note.new.self.notes.items ≡ c.args.self.now.notes.items ++ Appended (take c.written-count.result c.args.bytes.now) ∷ [] = search rules in
+    append_torn c.written-count.result c.args.bytes.now _ _ was

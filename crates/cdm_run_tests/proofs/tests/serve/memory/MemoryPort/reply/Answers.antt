@@ -4,7 +4,7 @@ use Rattle.cdm_run_tests.proofs.PortLemmas.{reply_torn, not_done, on_err}
 use Rattle.cdm_run_tests.proofs.tests.serve.memory.MemoryPort.reply.Goals as goal
 
 pub returns-in_err-extend_from_slice-clause-err : goal.returns-in_err-extend_from_slice-clause-err
-returns-in_err-extend_from_slice-clause-err c = on_err c.from_residual.result (not_done (Replied c.args.bytes.now) _ _ c.written.ensures.same)
+returns-in_err-extend_from_slice-clause-err c = on_err c.from_residual.result (not_done (Replied c.args.bytes.now) _ _ c.written-count.ensures.same)
 
 pub returns-in_err-note-clause-err : goal.returns-in_err-note-clause-err
 returns-in_err-note-clause-err c =
@@ -13,5 +13,5 @@ returns-in_err-note-clause-err c =
 
 pub returns-else-count-bytes-clause-err : goal.returns-else-count-bytes-clause-err
 returns-else-count-bytes-clause-err c =
-    let was : c.note.new.self.notes.items ≡ c.args.self.now.notes.items ++ Replied (take c.written.result c.args.bytes.now) ∷ [] = search rules in
-    reply_torn c.written.result c.args.bytes.now _ _ was
+    let was : c.note.new.self.notes.items ≡ c.args.self.now.notes.items ++ Replied (take c.written-count.result c.args.bytes.now) ∷ [] = search rules in
+    reply_torn c.written-count.result c.args.bytes.now _ _ was
