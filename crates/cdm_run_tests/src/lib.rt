@@ -1,5 +1,5 @@
 //! Tests of what no clause and no file can say of runs and of the command line: workers and desks that meet, devices
-//! that fail, what words ask for, the help and the lines of faults.
+//! that fail, served days that stop, what words ask for, the help and the lines of faults.
 #![tactic(auto)]
 
 #[cfg(test)]

@@ -4,3 +4,4 @@ mod command;
 mod devices;
 mod feed;
 mod live;
+mod serve;
