@@ -1,9 +1,10 @@
 -- What a start keeps of a journal.
-use Rattle.std.proofs.Common.{◌≡◌, ◌≢◌, ◌<◌, ◌≤◌, ◌+◌, ◌∙◌, ◌==◌, ◌||◌, ℕ, zero, suc, Bool, true, false, not, List, [], ◌∷◌, ◌++◌, length, take, slice_index, IsTrue, Option, Some, None, refl, sym, ap, arith, add-one, inl, inr}
+use Rattle.std.proofs.Common.{◌≡◌, ◌≢◌, ◌<◌, ◌≤◌, ◌+◌, ◌∙◌, ◌==◌, ℕ, zero, suc, true, false, not, List, [], ◌∷◌, ◌++◌, length, take, slice_index, IsTrue, Option, Some, None, refl, sym, ap, arith, add-one, inl, inr}
 use Rattle.std.specs.List.{join_with_byte, list_all, list_any}
 use Rattle.std.proofs.lemmas.List.{append-nil, length-take-le}
-use Rattle.std.proofs.lemmas.Bool.{and_parts, cases_Bool, false_from_ne_true, not-true, or_cases, or_left, or_parts, or_right}
-use Rattle.std.proofs.lemmas.List.Folds.{list_any-append}
+use Rattle.std.proofs.lemmas.Bool.{and_parts, cases_Bool, false_from_ne_true, not-true, or_from, or_left, or_parts, or_right}
+use Rattle.std.proofs.lemmas.List.Elements.{All-from_get_or}
+use Rattle.std.proofs.lemmas.List.Folds.{list_any-append, list_any_at, list_any_none}
 use Rattle.memchr.specs.Find.{IsLastByte, is_byte}
 use Rattle.cdm_feed.specs.Written.{is_mark}
 use Rattle.cdm_journal.specs.Journal.{IsWhole, has_line_feed, is_lone_empty, is_plain, journal_line, record_text, whole_lines}
@@ -39,11 +40,7 @@ whole-text b bs whole = elim (cases_Bool (has_line_feed (b ∷ bs))) [
 ]
 
 pub whole-one : (b : ℕ) → IsWhole (b ∷ []) → (b == 10) ≡ true
-whole-one b whole = by (b == 10) (whole-text b [] whole).some
-  where
-    by : (t : Bool) → (t || false) ≡ true → t ≡ true
-    by true is = refl
-    by false is = cc
+whole-one b whole = let some = (whole-text b [] whole).some in grind (arith, some)
 
 -- what is kept behind a whole text
 pub whole-append : (text part : List ℕ) → IsWhole text → whole_lines (text ++ part) ≡ text ++ whole_lines part
@@ -67,44 +64,23 @@ unfolding journal_line
 keeps-whole text fields whole =
     whole-append text (record_text fields ++ 10 ∷ []) whole ∙ ap (λ (l : List ℕ). text ++ l) (line-whole (record_text fields))
 
--- what is kept has the line feeds of all
-kept-feeds : (bytes : List ℕ) → has_line_feed bytes ≡ true → has_line_feed (whole_lines bytes) ≡ true
-kept-feeds [] some = cc
-kept-feeds (b ∷ bs) some =
-    ap has_line_feed (kept-first b bs some) ∙ elim (or_cases (b == 10) (has_line_feed bs) some) [
-      | inl is ↦ or_left (b == 10) (has_line_feed (whole_lines bs)) is
-      | inr more ↦ or_right (b == 10) (has_line_feed (whole_lines bs)) (kept-feeds bs more)
-    ]
+-- what is kept has a line feed where there is one
+kept-feeds : (bytes : List ℕ) → has_line_feed (whole_lines bytes) ≡ has_line_feed bytes
+unfolding whole_lines
+kept-feeds [] = refl
+kept-feeds (b ∷ bs) = grind (arith, kept-feeds bs)
 
 -- what is kept is whole
 pub kept-whole : (bytes : List ℕ) → IsWhole (whole_lines bytes)
-kept-whole [] = ap whole_lines whole-nil
-kept-whole (b ∷ bs) = elim (cases_Bool (has_line_feed (b ∷ bs))) [
-  | inl some ↦
-      let first = kept-first b bs some in
-      let feeds : has_line_feed (b ∷ whole_lines bs) ≡ true = ap has_line_feed (sym first) ∙ kept-feeds (b ∷ bs) some in
-      ap whole_lines first ∙ kept-first b (whole_lines bs) feeds ∙ ap (λ (l : List ℕ). b ∷ l) (kept-whole bs) ∙ sym first
-  | inr none ↦ let empty = none-whole (b ∷ bs) none in ap whole_lines empty ∙ whole-nil ∙ sym empty
-]
+unfolding whole_lines
+kept-whole [] = refl
+kept-whole (b ∷ bs) = grind (arith, kept-feeds bs, kept-whole bs)
 
 -- Torn lines.
 
 no-feed : (x : List ℕ) → list_any is_mark x ≡ false → has_line_feed x ≡ false
 no-feed [] none = refl
-no-feed (b ∷ bs) none =
-    let parts = or_parts (is_mark b) (list_any is_mark bs) none in
-    let rest = no-feed bs parts.1 in
-    let first = feed b parts.0 in
-    rw (first, rest) refl
-  where
-    feed : (b : ℕ) → is_mark b ≡ false → (b == 10) ≡ false
-    feed b none = by (b == 44) (b == 34) (b == 13) (b == 10) none
-      where
-        by : (c q r n : Bool) → (c || q || r || n) ≡ false → n ≡ false
-        by true q r n is = cc
-        by false true r n is = cc
-        by false false true n is = cc
-        by false false false n is = is
+no-feed (b ∷ bs) none = grind (arith, no-feed bs)
 
 abbrev pub AreUnmarked : List (List ℕ) → Type 0
 AreUnmarked fields = list_all (λ field. not (list_any is_mark field)) fields ≡ true
@@ -130,17 +106,12 @@ nothing-left (b ∷ part) rest is = cc
 -- a first part of a line, short of its line feed
 short-part : (line part rest : List ℕ) → has_line_feed line ≡ false → part ++ rest ≡ line ++ 10 ∷ [] → rest ≢ [] → has_line_feed part ≡ false
 short-part line [] rest none is some = refl
-short-part [] (b ∷ part) rest none is some = absurd (some (nothing-left part rest (tail-of-two b 10 (part ++ rest) [] is)))
-  where
-    tail-of-two : (a b : ℕ) (xs ys : List ℕ) → a ∷ xs ≡ b ∷ ys → xs ≡ ys
-    tail-of-two a b xs ys is = cc
+short-part [] (b ∷ part) rest none is some = let nothing : part ++ rest ≡ [] = cc is in absurd (some (nothing-left part rest nothing))
 short-part (l ∷ line) (b ∷ part) rest none is some =
     let parts = or_parts (l == 10) (has_line_feed line) none in
     let same : b ≡ l = cc is in
     let later : part ++ rest ≡ line ++ 10 ∷ [] = cc is in
-    let first : (b == 10) ≡ false = rw same parts.0 in
-    let others = short-part line part rest parts.1 later some in
-    rw (first, others) refl
+    or_from _ _ (rw same parts.0) (short-part line part rest parts.1 later some)
 
 pub cuts-torn : (text part rest : List ℕ) (fields : List (List ℕ)) → IsWhole text → IsTrue (is_plain fields)
     → part ++ rest ≡ journal_line fields → rest ≢ [] → whole_lines (text ++ part) ≡ text
@@ -152,16 +123,9 @@ cuts-torn text part rest fields whole plain is some =
 -- How much is kept.
 
 nowhere-feed : (bytes : List ℕ) → ((k : ℕ) → k < length bytes → (slice_index bytes k == 10) ≡ true → ⊥) → has_line_feed bytes ≡ false
-nowhere-feed [] none = refl
-nowhere-feed (b ∷ bs) none =
-    let first : (b == 10) ≡ false = false_from_ne_true (b == 10) (none 0 (omega arith)) in
-    let later = nowhere-feed bs (λ k short. none (suc k) (omega (arith, short))) in
-    rw (first, later) refl
-
-feed-at : (bytes : List ℕ) (k : ℕ) → k < length bytes → (slice_index bytes k == 10) ≡ true → has_line_feed bytes ≡ true
-feed-at [] k short is = absurd (omega (arith, short))
-feed-at (b ∷ bs) zero short is = or_left (b == 10) (has_line_feed bs) is
-feed-at (b ∷ bs) (suc k) short is = or_right (b == 10) (has_line_feed bs) (feed-at bs k (omega (arith, short)) is)
+nowhere-feed bytes none =
+    list_any_none (λ byte. byte == 10) bytes
+    (All-from_get_or (λ byte. (byte == 10) ≡ false) bytes 0 (λ k short. false_from_ne_true (slice_index bytes k == 10) (none k short)))
 
 kept-up-to : (bytes : List ℕ) (k : ℕ) → k < length bytes → (slice_index bytes k == 10) ≡ true
     → ((j : ℕ) → k < j → j < length bytes → (slice_index bytes j == 10) ≡ true → ⊥) → whole_lines bytes ≡ take (suc k) bytes
@@ -170,9 +134,8 @@ kept-up-to (b ∷ bs) zero short is last =
     let none = nowhere-feed bs (λ j low. last (suc j) (omega arith) (omega (arith, low))) in
     kept-first b bs (or_left (b == 10) (has_line_feed bs) is) ∙ ap (λ (l : List ℕ). b ∷ l) (none-whole bs none)
 kept-up-to (b ∷ bs) (suc k) short is last =
-    let low : k < length bs = omega (arith, short) in
-    let later = kept-up-to bs k low is (λ j after below. last (suc j) (omega (arith, after)) (omega (arith, below))) in
-    kept-first b bs (or_right (b == 10) (has_line_feed bs) (feed-at bs k low is)) ∙ ap (λ (l : List ℕ). b ∷ l) later
+    let later = kept-up-to bs k (omega (arith, short)) is (λ j after below. last (suc j) (omega (arith, after)) (omega (arith, below))) in
+    kept-first b bs (list_any_at (λ byte. byte == 10) (b ∷ bs) (suc k) 0 short is) ∙ ap (λ (l : List ℕ). b ∷ l) later
 
 -- what the search for the last line feed tells
 abbrev pub end_of : Option ℕ → ℕ

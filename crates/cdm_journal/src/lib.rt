@@ -13,5 +13,5 @@ pub use laws::{
 };
 pub use lines::{LineRead, read_line};
 pub use reading::read_journal;
-pub use record_text::{push_journal_line, push_record_text};
+pub use record_text::{field, push_journal_line, push_record_text};
 pub use whole::kept_length;

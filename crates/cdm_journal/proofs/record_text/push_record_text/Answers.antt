@@ -1,42 +1,18 @@
-use Rattle.std.proofs.Common.{◌≡◌, ◌+◌, ◌++◌, ◌∙◌, ℕ, List, Bor, ap, drop, sym}
-use Rattle.std.specs.List.{flat_map}
-use Rattle.csv.specs.Records.{Row, fields_of}
-use Rattle.csv.specs.declared.record.ByteRecordIter.{ByteRecordIter}
-use Rattle.cdm_journal.proofs.TextLemmas.{all-written, behind, first-written, next-written, nothing-written}
+use Rattle.std.proofs.Common.{arith}
+use Rattle.std.proofs.lemmas.List.{take_all}
+use Rattle.csv.specs.Records.{fields_of}
+use Rattle.cdm_journal.proofs.TextLemmas.{first-text, next-text}
 use Rattle.cdm_journal.proofs.record_text.push_record_text.Goals as goal
 
-pub returns-in_default : goal.returns-in_default
-returns-in_default c =
-    let read = rw (c.in_default.is, c.iter-fields.ensures.row, c.iter-fields.ensures.at) at c.next.ensures.steps.1 in
-    nothing-written (fields_of c.args.row.now) c.args.text.now.items (sym read)
+pub loop-place-init : goal.loop-place-init
+loop-place-init c = cc (c.in_ok-extend_from_slice.ensures.items, c.field.ensures, first-text (fields_of c.args.row.now))
 
-pub loop-field-init : goal.loop-field-init
-loop-field-init c =
-    let read = rw (c.in-Some.is, c.iter-fields.ensures.row, c.iter-fields.ensures.at) at c.next.ensures.steps.1 in
-    let moved = rw c.in-Some.is at c.next.ensures.steps.2 in
-    let same = c.into_iter-field-iterator.ensures.into_iter_gives in
-    let fields = fields_of c.args.row.now in
-    let place : c.into_iter-field-iterator.result.at ≡ 1 = ap (λ (it : ByteRecordIter). it.at) same ∙ moved ∙ ap (λ n. n + 1) c.iter-fields.ensures.at in
-    let written = first-written fields _ _ _ c.in_ok-extend_from_slice.ensures.items (sym read) in
-    record {
-      row = ap (λ (it : ByteRecordIter). fields_of it.row.now) same ∙ ap (λ (r : Bor Row). fields_of r.now) c.next.ensures.steps.0 ∙ ap fields_of c.iter-fields.ensures.row;
-      written = ap (λ n. c.extend_from_slice.new.self.items ++ flat_map behind (drop n fields)) place ∙ written;
-    }
-
-pub loop-field-preserved : goal.loop-field-preserved
-loop-field-preserved c =
-    let before = c.loop-field.invariant in
-    let read = rw (c.in-Some-field.is, before.row) at c.next-in-loop-field.ensures.steps.1 in
-    let moved = rw c.in-Some-field.is at c.next-in-loop-field.ensures.steps.2 in
-    let fields = fields_of c.args.row.now in
-    let made = c.in_ok-extend_from_slice-2.ensures.items ∙ ap (λ (l : List ℕ). l ++ c.in-Some-field.field.now) c.in_ok-push.ensures.items in
-    let written = next-written fields c.loop-field.field-iterator.at _ _ _ _ before.written made (sym read) in
-    record {
-      row = ap (λ (r : Bor Row). fields_of r.now) c.next-in-loop-field.ensures.steps.0 ∙ before.row;
-      written = ap (λ n. c.extend_from_slice-in-loop-field.new.self.items ++ flat_map behind (drop n fields)) moved ∙ written;
-    }
+pub loop-place-preserved : goal.loop-place-preserved
+loop-place-preserved c =
+    let made = rw c.field-in-loop-place.ensures at c.in_ok-extend_from_slice-2.ensures.items in
+    next-text (fields_of c.args.row.now) c.loop-place.place _ _ _ _ (omega arith) (omega arith) c.loop-place.invariant c.in_ok-push.ensures.items made
 
 pub returns : goal.returns
 returns c =
-    let read = rw (c.in-None.is, c.loop-field.invariant.row) at c.next-in-loop-field.ensures.steps.1 in
-    all-written (fields_of c.args.row.now) c.loop-field.field-iterator.at c.loop-field.text.items _ c.loop-field.invariant.written (sym read)
+    let all = take_all c.loop-place.place (fields_of c.args.row.now) (omega arith) in
+    rw all at c.loop-place.invariant
