@@ -1,12 +1,10 @@
 -- At each moment of a served day the journal has what was told.
-use Rattle.std.proofs.Common.{◌≡◌, inl, inr, ℕ, Bool, true, false, Option, None, Some, Result, Ok, Err, List, [], ◌∷◌, ◌++◌, refl, sym, ◌∙◌, ap, subst, append_assoc}
-use Rattle.std.specs.Prelude.{⊤, if◌then◌else◌, bytes_eq, codes, length}
+use Rattle.std.proofs.Common.{◌≡◌, inl, inr, ℕ, Option, None, Some, Ok, Err, List, [], ◌∷◌, ◌++◌, refl, sym, ◌∙◌, subst, append_assoc}
+use Rattle.std.specs.Prelude.{⊤}
 use Rattle.std.specs.Option.{option_to_list}
 use Rattle.std.proofs.lemmas.List.{append-nil}
 use Rattle.cdm_time.specs.declared.calendar.CalendarDate.{CalendarDate}
-use Rattle.cdm_feed.specs.Fields.{counted, field}
 use Rattle.cdm_feed.specs.Parsing.{parse_of}
-use Rattle.cdm_feed.specs.Refused.{Spelled}
 use Rattle.cdm_flight.specs.Accepted.{refusal}
 use Rattle.cdm_flight.specs.Journal.{AirportRows}
 use Rattle.cdm_flight.specs.declared.role.Role.{Role}
@@ -17,17 +15,16 @@ use Rattle.cdm_journal.specs.Lines.{LineRecord}
 use Rattle.cdm_journal.specs.Lines.LineRecord.{Blank, One, Several}
 use Rattle.cdm_plan.specs.Day.{DayRecord}
 use Rattle.cdm_port.specs.Event.{Event}
-use Rattle.cdm_port.specs.Event.Event.{Appended, Broken, Cut, End, Flushed, Line, Read, Replied, Synced}
-use Rattle.cdm_port.specs.Stop.{IsPrefix, IsStopOf}
+use Rattle.cdm_port.specs.Event.Event.{Appended, Broken, End, Flushed, Line, Replied, Synced}
+use Rattle.cdm_port.specs.Stop.{IsPrefix, IsStopOf, IsTorn}
 use Rattle.cdm_serve.specs.Disk.{Disk, disk_after, settled}
 use Rattle.cdm_serve.specs.Promises.{appended, lines_of, told, untold}
-use Rattle.cdm_serve.specs.Requests.{asked_by, flight_asked, request_in, runway_asked}
+use Rattle.cdm_serve.specs.Requests.{request_in}
 use Rattle.cdm_serve.specs.Served.{Exchange, IsHeard, answered, line_of, said, served, told_of}
 use Rattle.cdm_serve.specs.Taken.{TakenRecord, after, day_with, record_heard, taken, taken_of, unless_refused}
-use Rattle.cdm_serve.specs.declared.asked.Asked.{Asked}
-use Rattle.cdm_serve.specs.declared.asked.Asked.TheVariants.{Plan}
 use Rattle.cdm_serve.specs.declared.request.Request.{Request}
 use Rattle.cdm_serve.specs.declared.request.Request.TheVariants.{Ask, Nothing, Post}
+use Rattle.cdm_serve.proofs.AnswerLemmas.{asks}
 
 -- Taken records.
 
@@ -44,33 +41,9 @@ abbrev pub IfTaken : DayRecord → Option TakenRecord → Type 0
 IfTaken d None = ⊤
 IfTaken d (Some one) = IsTakenBy d.airport d.journal one
 
-module _ (day : CalendarDate) (fields : List (List ℕ)) where
-  -- a request that posts an update has it of the fields
-  abbrev Spells : Request → Type 0
-  Spells Nothing = ⊤
-  Spells (Ask asked) = ⊤
-  Spells (Post (Err word)) = ⊤
-  Spells (Post (Ok update)) = parse_of day fields ≡ Ok update
-
-  asked_spells : (asked : Result Asked RefusalWord) → Spells (asked_by asked)
-  asked_spells (Ok asked) = tt
-  asked_spells (Err word) = tt
-
-  post_spells : (spelled : Spelled) → parse_of day fields ≡ spelled → Spells (Post spelled)
-  post_spells (Ok update) is = is
-  post_spells (Err word) is = tt
-
-  either_spells : (b : Bool) (one other : Request) → Spells one → Spells other → Spells (if b then one else other)
-  either_spells true one other is also = is
-  either_spells false one other is also = also
-
-  spells : Spells (request_in day fields)
-  unfolding request_in
-  spells =
-      either_spells (bytes_eq (field fields 0) (codes "PLAN")) _ _ (asked_spells (counted 1 (length fields) (Ok Plan)))
-      (either_spells (bytes_eq (field fields 0) (codes "WHY")) _ _ (asked_spells (counted 2 (length fields) (flight_asked (field fields 1))))
-      (either_spells (bytes_eq (field fields 0) (codes "LOAD")) _ _ (asked_spells (counted 2 (length fields) (runway_asked (field fields 1))))
-      (post_spells (parse_of day fields) refl)))
+-- a request that posts an update has it of the fields
+abbrev Spells : CalendarDate → List (List ℕ) → Request → Type 0
+Spells day fields request = (update : Role × Update) → request ≡ Post (Ok update) → parse_of day fields ≡ Ok update
 
 module _ (d : DayRecord) (fields : List (List ℕ)) where
   unless_is : (word : Option RefusalWord) (update : Role × Update) → refusal d.airport d.journal update.0 update.1 ≡ word → parse_of d.airport.day fields ≡ Ok update
@@ -82,16 +55,25 @@ module _ (d : DayRecord) (fields : List (List ℕ)) where
   taken_of_is Nothing is = tt
   taken_of_is (Ask asked) is = tt
   taken_of_is (Post (Err word)) is = tt
-  taken_of_is (Post (Ok update)) is = unless_is (refusal d.airport d.journal update.0 update.1) update refl is
+  taken_of_is (Post (Ok update)) is = unless_is (refusal d.airport d.journal update.0 update.1) update refl (is update refl)
 
 pub taken_is : (d : DayRecord) (line : LineRecord) → IfTaken d (taken d line)
 taken_is d Blank = tt
 taken_is d Several = tt
-taken_is d (One fields) = taken_of_is d fields (request_in d.airport.day fields) (spells d.airport.day fields)
+taken_is d (One fields) =
+    let day = d.airport.day in
+    taken_of_is d fields (request_in day fields) (asks (Spells day fields) day fields (λ asked update is. cc) (λ word update is. cc) (λ update is. cc))
 
 one_taken : (d : DayRecord) (last : Option TakenRecord) → IfTaken d last → AreTaken d.airport d.journal (option_to_list last)
 one_taken d None is = tt
 one_taken d (Some one) is = (is, tt)
+
+-- what holds at the start of a run, in a torn write, and at each moment later, holds at each moment
+pub by_moments : (P : List Event → Type 0) (event : Event) (rest : List Event) → P [] → ((moment : List Event) → IsTorn event moment → P moment)
+    → ((moment : List Event) → IsStopOf moment rest → P (event ∷ moment)) → (moment : List Event) → IsStopOf moment (event ∷ rest) → P moment
+by_moments P event rest none torn later moment (inl is) = subst P (sym is) none
+by_moments P event rest none torn later moment (inr (inl is)) = torn moment is
+by_moments P event rest none torn later moment (inr (inr (m, is, stop))) = subst P (sym is) (later m stop)
 
 -- What the journal holds.
 
@@ -134,57 +116,30 @@ module _ (d : DayRecord) (one : TakenRecord) (is : IsTakenBy d.airport d.journal
   row = journal_line one.fields
 
   told_now : Keeps d whole (one ∷ []) None (settled (whole ++ row)) (row ++ [])
-  told_now = (
-    (
-      [],
-      [],
-      ap (λ (l : List ℕ). whole ++ l) (sym (append-nil row) ∙ sym (append-nil (row ++ []))),
-      refl,
-      sym (append-nil (whole ++ row)),
-      sym (append-nil (row ++ [])),
-      ([], refl),
-    ),
-    (is, tt),
-  )
+  told_now = (([], [], simp append-nil, refl, simp append-nil, simp append-nil, ([], refl)), (is, tt))
 
   told_then : (records : List TakenRecord) (last : Option TakenRecord) (disk : Disk) (more : List ℕ) → Keeps next (whole ++ row) records last disk more
       → Keeps d whole (one ∷ records) last disk (row ++ more)
-  told_then records last disk more (holds, are) = (
-    (
-      holds.0,
-      holds.1,
-      holds.2 ∙ append_assoc whole row (lines_of records ++ holds.0) ∙ ap (λ (l : List ℕ). whole ++ l) (sym (append_assoc row (lines_of records) holds.0)),
-      holds.3,
-      holds.4,
-      ap (λ (l : List ℕ). row ++ l) holds.5 ∙ sym (append_assoc row (lines_of records) (holds.0 ++ holds.1)),
-      holds.6,
-    ),
-    (is, are),
-  )
+  told_then records last disk more (holds, are) =
+      ((holds.0, holds.1, holds.2 ∙ simp append_assoc, holds.3, holds.4, rw holds.5 (simp append_assoc), holds.6), (is, are))
 
   flushed : (moment : List Event) → IsStopOf moment (Flushed ∷ rest)
       → Keeps d whole (one ∷ told next None moment) (untold next None moment) (disk_after (settled (whole ++ row)) moment) (row ++ appended moment)
-  flushed moment (inl none) =
-      subst (λ (m : List Event). Keeps d whole (one ∷ told next None m) (untold next None m) (disk_after (settled (whole ++ row)) m) (row ++ appended m)) (sym none) told_now
-  flushed moment (inr (inl torn)) = absurd torn
-  flushed moment (inr (inr (m, same, stop))) =
-      subst (λ (m : List Event). Keeps d whole (one ∷ told next None m) (untold next None m) (disk_after (settled (whole ++ row)) m) (row ++ appended m)) (sym same)
-      (told_then (told next None m) (untold next None m) (disk_after (settled (whole ++ row)) m) (appended m) (later (whole ++ row) m stop))
+  flushed =
+      by_moments (λ m. Keeps d whole (one ∷ told next None m) (untold next None m) (disk_after (settled (whole ++ row)) m) (row ++ appended m)) Flushed rest
+      told_now (λ m torn. absurd torn) (λ m stop. told_then _ _ _ _ (later (whole ++ row) m stop))
 
   -- from here on the line is the one that isn't told yet
   abbrev After : Disk → List ℕ → List Event → Type 0
   After disk before m = Keeps d whole (told next (Some one) m) (untold next (Some one) m) (disk_after disk m) (before ++ appended m)
 
   untold_now : Keeps d whole [] (Some one) (settled (whole ++ row)) (row ++ [])
-  untold_now = (
-    (row, [], refl, refl, sym (append-nil (whole ++ row)), refl, ([], sym (append-nil row) ∙ sym (append-nil (row ++ [])))),
-    (is, tt),
-  )
+  untold_now = ((row, [], refl, refl, simp append-nil, refl, ([], simp append-nil)), (is, tt))
 
   replied : (moment : List Event) → IsStopOf moment (Replied reply ∷ Flushed ∷ rest) → After (settled (whole ++ row)) row moment
-  replied moment (inl none) = subst (After (settled (whole ++ row)) row) (sym none) untold_now
-  replied moment (inr (inl torn)) = subst (After (settled (whole ++ row)) row) (sym torn.2) told_now
-  replied moment (inr (inr (m, same, stop))) = subst (After (settled (whole ++ row)) row) (sym same) (flushed m stop)
+  replied =
+      by_moments (After (settled (whole ++ row)) row) (Replied reply) (Flushed ∷ rest)
+      untold_now (λ m torn. rw torn.2 told_now) flushed
 
   abbrev unsynced : List ℕ → Disk
   unsynced part = record { synced = whole; uncut = whole; written = whole ++ part }
@@ -193,26 +148,22 @@ module _ (d : DayRecord) (one : TakenRecord) (is : IsTakenBy d.airport d.journal
   part_only part front = (([], part, sym (append-nil whole), refl, refl, append-nil part, front), (is, tt))
 
   synced_then : (moment : List Event) → IsStopOf moment (Synced ∷ Replied reply ∷ Flushed ∷ rest) → After (unsynced row) row moment
-  synced_then moment (inl none) = subst (After (unsynced row) row) (sym none) (part_only row ([], sym (append-nil row)))
-  synced_then moment (inr (inl torn)) = absurd torn
-  synced_then moment (inr (inr (m, same, stop))) = subst (After (unsynced row) row) (sym same) (replied m stop)
+  synced_then =
+      by_moments (After (unsynced row) row) Synced (Replied reply ∷ Flushed ∷ rest)
+      (part_only row ([], sym (append-nil row))) (λ m torn. absurd torn) replied
 
   pub on_taken : (moment : List Event) → IsStopOf moment (Appended row ∷ Synced ∷ Replied reply ∷ Flushed ∷ rest) → After (settled whole) [] moment
-  on_taken moment (inl none) = subst (After (settled whole) []) (sym none) (untouched whole (Some one), (is, tt))
-  on_taken moment (inr (inl torn)) = subst (After (settled whole) []) (sym torn.2) (part_only torn.0 torn.1)
-  on_taken moment (inr (inr (m, same, stop))) = subst (After (settled whole) []) (sym same) (synced_then m stop)
+  on_taken =
+      by_moments (After (settled whole) []) (Appended row) (Synced ∷ Replied reply ∷ Flushed ∷ rest)
+      (untouched whole (Some one), (is, tt)) (λ m torn. rw torn.2 (part_only torn.0 torn.1)) synced_then
 
 -- a reply that leaves the journal alone
 module _ (d : DayRecord) (reply : List ℕ) (rest : List Event) (later : AlwaysKeeps d rest) (whole : List ℕ) where
   flushed_only : (moment : List Event) → IsStopOf moment (Flushed ∷ rest) → KeptAt d whole moment
-  flushed_only moment (inl none) = subst (KeptAt d whole) (sym none) (nothing_yet d whole)
-  flushed_only moment (inr (inl torn)) = absurd torn
-  flushed_only moment (inr (inr (m, same, stop))) = subst (KeptAt d whole) (sym same) (later whole m stop)
+  flushed_only = by_moments (KeptAt d whole) Flushed rest (nothing_yet d whole) (λ m torn. absurd torn) (later whole)
 
   pub on_other : (moment : List Event) → IsStopOf moment (Replied reply ∷ Flushed ∷ rest) → KeptAt d whole moment
-  on_other moment (inl none) = subst (KeptAt d whole) (sym none) (nothing_yet d whole)
-  on_other moment (inr (inl torn)) = subst (KeptAt d whole) (sym torn.2) (nothing_yet d whole)
-  on_other moment (inr (inr (m, same, stop))) = subst (KeptAt d whole) (sym same) (flushed_only m stop)
+  on_other = by_moments (KeptAt d whole) (Replied reply) (Flushed ∷ rest) (nothing_yet d whole) (λ m torn. rw torn.2 (nothing_yet d whole)) flushed_only
 
 -- One line, and then the rest.
 
@@ -222,39 +173,27 @@ Answers d next last run = (whole : List ℕ) (moment : List Event) → IsStopOf 
 
 on_told : (d : DayRecord) (last : Option TakenRecord) (reply : List ℕ) (rest : List Event) → IfTaken d last → AlwaysKeeps (day_with d last) rest
     → Answers d (day_with d last) last (told_of last reply ++ rest)
-on_told d None reply rest is later whole moment stop = on_other d reply rest later whole moment stop
-on_told d (Some one) reply rest is later whole moment stop = on_taken d one is reply rest later whole moment stop
+on_told d None reply rest is later = on_other d reply rest later
+on_told d (Some one) reply rest is later = on_taken d one is reply rest later
 
 on_answered : (d : DayRecord) (line : LineRecord) (reply : List ℕ) (rest : List Event) → AlwaysKeeps (after d line) rest
     → Answers d (after d line) (taken d line) (answered d line reply ++ rest)
-on_answered d Blank reply rest later whole moment stop = later whole moment stop
-on_answered d Several reply rest later whole moment stop = on_other d reply rest later whole moment stop
-on_answered d (One fields) reply rest later whole moment stop = on_told d (taken d (One fields)) reply rest (taken_is d (One fields)) later whole moment stop
+on_answered d Blank reply rest later = later
+on_answered d Several reply rest later = on_other d reply rest later
+on_answered d (One fields) reply rest later = on_told d (taken d (One fields)) reply rest (taken_is d (One fields)) later
 
 on_line : (d : DayRecord) (heard : Option (List ℕ)) (run : List Event) → Answers d (after d (record_heard heard)) (taken d (record_heard heard)) run → AlwaysKeeps d (said heard ∷ run)
-on_line d heard run answers whole moment (inl none) = subst (KeptAt d whole) (sym none) (nothing_yet d whole)
-on_line d None run answers whole moment (inr (inl torn)) = absurd torn
-on_line d (Some line) run answers whole moment (inr (inl torn)) = absurd torn
-on_line d None run answers whole moment (inr (inr (m, same, stop))) = subst (KeptAt d whole) (sym same) (answers whole m stop)
-on_line d (Some line) run answers whole moment (inr (inr (m, same, stop))) = subst (KeptAt d whole) (sym same) (answers whole m stop)
+on_line d None run answers whole = by_moments (KeptAt d whole) Broken run (nothing_yet d whole) (λ m torn. absurd torn) (answers whole)
+on_line d (Some line) run answers whole = by_moments (KeptAt d whole) (Line line) run (nothing_yet d whole) (λ m torn. absurd torn) (answers whole)
 
 heard_last : (d : DayRecord) (next : Event) → IsHeard next → AlwaysKeeps d (next ∷ [])
-heard_last d End is whole moment (inl none) = subst (KeptAt d whole) (sym none) (nothing_yet d whole)
-heard_last d End is whole moment (inr (inl torn)) = absurd torn
-heard_last d End is whole moment (inr (inr (m, same, stop))) = subst (KeptAt d whole) (sym (same ∙ ap (λ (l : List Event). End ∷ l) stop)) (nothing_yet d whole)
-heard_last d Broken is whole moment stop = on_line d None [] (λ whole moment stop. subst (KeptAt d whole) (sym stop) (nothing_yet d whole)) whole moment stop
-heard_last d (Line line) is whole moment stop = on_line d (Some line) [] (not_yet d (record_heard (Some line))) whole moment stop
-  where
-    not_yet : (d : DayRecord) (line : LineRecord) → Answers d (after d line) (taken d line) []
-    not_yet d line whole moment stop =
-        subst (λ (m : List Event). Keeps d whole (told (after d line) (taken d line) m) (untold (after d line) (taken d line) m) (disk_after (settled whole) m) (appended m)) (sym stop)
-        (untouched whole (taken d line), one_taken d (taken d line) (taken_is d line))
-heard_last d (Read content) is whole moment stop = absurd is
-heard_last d (Cut kept) is whole moment stop = absurd is
-heard_last d (Appended content) is whole moment stop = absurd is
-heard_last d Synced is whole moment stop = absurd is
-heard_last d (Replied text) is whole moment stop = absurd is
-heard_last d Flushed is whole moment stop = absurd is
+heard_last d End is =
+    λ whole. by_moments (KeptAt d whole) End [] (nothing_yet d whole) (λ m torn. absurd torn) (λ m stop. rw stop (nothing_yet d whole))
+heard_last d Broken is = on_line d None [] (λ whole moment stop. rw stop (nothing_yet d whole))
+heard_last d (Line line) is =
+    let last = taken d (record_heard (Some line)) in
+    on_line d (Some line) [] (λ whole moment stop. rw stop (untouched whole last, one_taken d last (taken_is d (record_heard (Some line)))))
+heard_last d event is = absurd is
 
 pub always_keeps : (d : DayRecord) (xs : List Exchange) (next : Event) → IsHeard next → AlwaysKeeps d (served d xs ++ next ∷ [])
 always_keeps d [] next is = heard_last d next is

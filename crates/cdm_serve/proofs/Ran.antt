@@ -1,5 +1,5 @@
 -- A day that is served, line by line and to the end of the input.
-use Rattle.std.proofs.Common.{◌≡◌, inl, inr, ℕ, ◌+◌, ◌≤◌, ◌^◌, Option, None, Some, cond, count_by, length, length-append, arith, Result, Ok, Err, OnErr, List, [], ◌∷◌, ◌++◌, refl, sym, ◌∙◌, ap, subst, append_assoc}
+use Rattle.std.proofs.Common.{◌≡◌, inl, inr, ℕ, ◌+◌, ◌≤◌, ◌^◌, Option, None, Some, cond, count_by, length, length-append, arith, Result, Ok, Err, OnErr, List, [], ◌∷◌, ◌++◌, refl, sym, ◌∙◌, ap, append_assoc}
 use Rattle.std.proofs.lemmas.List.{append-nil}
 use Rattle.std.proofs.lemmas.List.Sums.{sum_by-append}
 use Rattle.cdm_journal.specs.Lines.{LineRecord}
@@ -68,27 +68,17 @@ module _ (d : DayRecord) (number : ℕ) (today : DayRecord) (count turns : ℕ) 
     abbrev exchange : Exchange
     exchange = record { heard = hears.0; reply = text }
 
-    same_line : line ≡ line_of exchange
-    same_line = hears.1
-
     is_next : IsNext (after_all d ran.lines) (number_after number ran.lines) exchange
-    is_next =
-        subst (λ (d : DayRecord). IsNext d (number_after number ran.lines) exchange) ran.day
-        (subst (λ (n : ℕ). IsNext today n exchange) ran.counted
-        (subst (λ (l : LineRecord). IsReplyTo today (numbered count l) (request_of today.airport.day l) text) same_line is))
+    is_next = rw (hears.1, ran.day, ran.counted) at is
 
     replies : AreReplies d number (ran.lines ++ exchange ∷ [])
     replies = replies_more d number ran.lines exchange ran.replies is_next
 
     same_answer : answered today line text ≡ answered (after_all d ran.lines) (line_of exchange) text
-    same_answer = ap (λ (l : LineRecord). answered today l text) same_line ∙ ap (λ (d : DayRecord). answered d (line_of exchange) text) ran.day
+    same_answer = rw (hears.1, ran.day) refl
 
     heard_then : (new done : List Event) → new ≡ read ++ done → new ≡ old ++ (served d ran.lines ++ said hears.0 ∷ done)
-    heard_then new done was =
-        was
-        ∙ ap (λ (l : List Event). l ++ done) (hears.2 ∙ ap (λ (l : List Event). l ++ said hears.0 ∷ []) ran.events ∙ append_assoc old (served d ran.lines) (said hears.0 ∷ []))
-        ∙ append_assoc old (served d ran.lines ++ said hears.0 ∷ []) done
-        ∙ ap (λ (l : List Event). old ++ l) (append_assoc (served d ran.lines) (said hears.0 ∷ []) done)
+    heard_then new done was = was ∙ rw (hears.2, ran.events) (simp append_assoc)
 
     pub goes_on : (next : DayRecord) (more : ℕ) (new : List Event) → new ≡ read ++ answered today line text → next ≡ after today line → more ≡ numbered count line
         → Ran d number next more (turns + 1) old new
@@ -96,32 +86,19 @@ module _ (d : DayRecord) (number : ℕ) (today : DayRecord) (count turns : ℕ) 
       lines = ran.lines ++ exchange ∷ [];
       turned = let same : length ran.lines ≡ turns = ran.turned in simp length-append (omega (arith, same));
       replies = replies;
-      events =
-          heard_then new (answered today line text) was
-          ∙ ap (λ (l : List Event). old ++ (served d ran.lines ++ said hears.0 ∷ l)) same_answer
-          ∙ ap (λ (l : List Event). old ++ l) (sym (served_more d ran.lines exchange));
-      day = next_day ∙ ap (after today) same_line ∙ ap (λ (d : DayRecord). after d (line_of exchange)) ran.day ∙ sym (day_more d ran.lines exchange);
-      counted = next_number ∙ ap (numbered count) same_line ∙ ap (λ (n : ℕ). numbered n (line_of exchange)) ran.counted ∙ sym (number_more number ran.lines exchange);
+      events = heard_then new (answered today line text) was ∙ rw (same_answer, served_more d ran.lines exchange) refl;
+      day = rw (next_day, hears.1, ran.day, day_more d ran.lines exchange) refl;
+      counted = rw (next_number, hears.1, ran.counted, number_more number ran.lines exchange) refl;
     }
 
     -- it stopped in the midst of an answer
     pub midst : (new : List Event) → Stops read (answered today line text) new → ServeStops d number old new
     midst new stop =
-        let in_answer : IsStopOf stop.0 (answered (after_all d ran.lines) (line_of exchange) text) = subst (λ (l : List Event). IsStopOf stop.0 l) same_answer stop.1 in
-        let at : IsStopOf (served d ran.lines ++ said hears.0 ∷ stop.0) (served d (ran.lines ++ exchange ∷ [])) =
-        subst (λ (l : List Event). IsStopOf (served d ran.lines ++ said hears.0 ∷ stop.0) l) (sym (served_more d ran.lines exchange))
-        (past (served d ran.lines) (said hears.0 ∷ stop.0) (said hears.0 ∷ answered (after_all d ran.lines) (line_of exchange) text)
-        (past (said hears.0 ∷ []) stop.0 (answered (after_all d ran.lines) (line_of exchange) text) in_answer)) in (
-          ran.lines ++ exchange ∷ [],
-          End,
-          replies,
-          tt,
-          (
-            served d ran.lines ++ said hears.0 ∷ stop.0,
-            longer (served d ran.lines ++ said hears.0 ∷ stop.0) (served d (ran.lines ++ exchange ∷ [])) (End ∷ []) at,
-            heard_then new stop.0 stop.2,
-          ),
-        )
+        let so_far : List Event = served d ran.lines in
+        let one : List Event = said hears.0 ∷ answered (after_all d ran.lines) (line_of exchange) text in
+        let at : IsStopOf (said hears.0 ∷ stop.0) one = past (said hears.0 ∷ []) stop.0 _ (rw same_answer at stop.1) in
+        let all : IsStopOf (so_far ++ said hears.0 ∷ stop.0) (served d (ran.lines ++ exchange ∷ [])) = rw (served_more d ran.lines exchange) (past so_far _ one at) in
+        (ran.lines ++ exchange ∷ [], End, replies, tt, (so_far ++ said hears.0 ∷ stop.0, longer _ _ (End ∷ []) all, heard_then new stop.0 stop.2))
 
   -- it stopped before the next line
   pub between : ServeStops d number old so_far
@@ -131,21 +108,22 @@ module _ (d : DayRecord) (number : ℕ) (today : DayRecord) (count turns : ℕ) 
   is_heard None = tt
   is_heard (Some line) = tt
 
+  after_line : (new : List Event) (line : LineRecord) (hears : HearsLine so_far new line) → new ≡ old ++ (served d ran.lines ++ said hears.0 ∷ [])
+  after_line new line hears = rw (hears.2, ran.events) (append_assoc old (served d ran.lines) (said hears.0 ∷ []))
+
   -- it stopped behind a line, before its answer
   pub behind : (new : List Event) (line : LineRecord) → HearsLine so_far new line → ServeStops d number old new
   behind new line hears =
       let whole : List Event = served d ran.lines ++ said hears.0 ∷ [] in
-      let all : new ≡ old ++ (served d ran.lines ++ said hears.0 ∷ []) =
-      hears.2 ∙ ap (λ (l : List Event). l ++ said hears.0 ∷ []) ran.events ∙ append_assoc old (served d ran.lines) (said hears.0 ∷ []) in
-      (ran.lines, said hears.0, ran.replies, is_heard hears.0, (whole, subst (λ (l : List Event). IsStopOf whole l) (append-nil whole) (front whole []), all))
+      (ran.lines, said hears.0, ran.replies, is_heard hears.0, (whole, rw append-nil at (front whole []), after_line new line hears))
 
   pub in_vain : (new : List Event) → HearsInVain so_far new → ServeStops d number old new
-  in_vain new (inl same) = subst (λ (l : List Event). ServeStops d number old l) (sym same) between
+  in_vain new (inl same) = rw same between
   in_vain new (inr (line, hears)) = behind new line hears
 
   -- it came to the end
   pub ended : (new : List Event) → new ≡ so_far ++ End ∷ [] → Serves d number old new
-  ended new is = (ran.lines, ran.replies, is ∙ ap (λ (l : List Event). l ++ End ∷ []) ran.events ∙ append_assoc old (served d ran.lines) (End ∷ []))
+  ended new is = (ran.lines, ran.replies, rw (is, ran.events) (append_assoc old (served d ran.lines) (End ∷ [])))
 
 -- How many lines were heard.
 
@@ -165,17 +143,12 @@ said_one (Some line) events = sum_by-append (λ e. cond (is_line e) 1 0) (Line l
 lines_heard : (d : DayRecord) (xs : List Exchange) → count_by is_line (served d xs) ≡ length xs
 lines_heard d [] = refl
 lines_heard d (x ∷ xs) =
-    let rest : List Event = served (after d (line_of x)) xs in
-    let more : count_by is_line (answered d (line_of x) x.reply ++ rest) ≡ count_by is_line (answered d (line_of x) x.reply) + count_by is_line rest =
-    sum_by-append (λ e. cond (is_line e) 1 0) (answered d (line_of x) x.reply) rest in
-    let none : count_by is_line (answered d (line_of x) x.reply) ≡ 0 = answered_none d (line_of x) x.reply in
-    let again : count_by is_line rest ≡ length xs = lines_heard (after d (line_of x)) xs in
-    said_one x.heard (answered d (line_of x) x.reply ++ rest) ∙ omega (arith, more, none, again)
+    rw (said_one x.heard _, sum_by-append (λ e. cond (is_line e) 1 0) (answered d (line_of x) x.reply) _, answered_none d (line_of x) x.reply)
+    (omega (arith, lines_heard (after d (line_of x)) xs))
 
 numbered_few : (number : ℕ) (line : LineRecord) → numbered number line ≤ number + 1
 numbered_few number Blank = omega arith
-numbered_few number (One fields) = omega arith
-numbered_few number Several = omega arith
+numbered_few number line = omega arith
 
 number_few : (number : ℕ) (xs : List Exchange) → number_after number xs ≤ number + length xs
 number_few number [] = omega arith
@@ -185,25 +158,19 @@ number_few number (x ∷ xs) = omega (arith, number_few (numbered number (line_o
 pub too_many : (d : DayRecord) (number : ℕ) (today : DayRecord) (count turns : ℕ) (old so_far new : List Event) (line : LineRecord) → Ran d number today count turns old so_far
     → HearsLine so_far new line → count + 1 ≡ 2 ^ 32 → (done : List Event) × (new ≡ old ++ done) × (2 ^ 32 ≤ number + count_by is_line done)
 too_many d number today count turns old so_far new line ran hears most =
-    let one : List Event = said hears.0 ∷ [] in
-    let all : count_by is_line (served d ran.lines ++ said hears.0 ∷ []) ≡ count_by is_line (served d ran.lines) + count_by is_line (said hears.0 ∷ []) =
-    sum_by-append (λ e. cond (is_line e) 1 0) (served d ran.lines) one in
-    let this : count_by is_line (said hears.0 ∷ []) ≡ 1 = said_one hears.0 [] in
-    let before : count_by is_line (served d ran.lines) ≡ length ran.lines = lines_heard d ran.lines in
-    let few : number_after number ran.lines ≤ number + length ran.lines = number_few number ran.lines in
-    let same : count ≡ number_after number ran.lines = ran.counted in (
+    let same = ran.counted in
+    let heard = sum_by-append (λ e. cond (is_line e) 1 0) (served d ran.lines) (said hears.0 ∷ []) in (
       served d ran.lines ++ said hears.0 ∷ [],
-      hears.2 ∙ ap (λ (l : List Event). l ++ said hears.0 ∷ []) ran.events ∙ append_assoc old (served d ran.lines) (said hears.0 ∷ []),
-      omega (arith, all, this, before, few, same, most),
+      after_line d number today count turns old so_far ran new line hears,
+      omega (arith, heard, said_one hears.0 [], lines_heard d ran.lines, number_few number ran.lines),
     )
 
 -- all turns were taken
 pub no_turn_left : (d : DayRecord) (number : ℕ) (today : DayRecord) (count turns : ℕ) (old so_far : List Event) → Ran d number today count turns old so_far → 2 ^ 32 ≤ turns
     → (done : List Event) × (so_far ≡ old ++ done) × (2 ^ 32 ≤ number + count_by is_line done)
 no_turn_left d number today count turns old so_far ran most =
-    let before : count_by is_line (served d ran.lines) ≡ length ran.lines = lines_heard d ran.lines in
-    let same : length ran.lines ≡ turns = ran.turned in
-    (served d ran.lines, ran.events, omega (arith, before, same, most))
+    let same = ran.turned in
+    (served d ran.lines, ran.events, omega (arith, lines_heard d ran.lines))
 
 -- Faults.
 
@@ -212,22 +179,13 @@ on_err (Ok x) p = tt
 on_err (Err y) p = p
 
 pub port_fault : (number : ℕ) (old new : List Event) (e : ServeError) → IsPortFault e → IsLinesFault number old new e
-port_fault number old new (error.Common (common.Read input)) is = is
-port_fault number old new (error.Common (common.TooLong input)) is = is
-port_fault number old new (error.Common (common.Airport place word)) is = is
 port_fault number old new (error.Common common.Memory) is = tt
-port_fault number old new (error.Common common.Write) is = is
-port_fault number old new (error.Journal place word) is = is
-port_fault number old new (error.Port fault) is = tt
 port_fault number old new error.TooMany is = absurd is
+port_fault number old new e is = is
 
 pub answer_fault : (count number : ℕ) (old new : List Event) (e : ServeError) → IsAnswerFault count e
     → (count + 1 ≡ 2 ^ 32 → (done : List Event) × (new ≡ old ++ done) × (2 ^ 32 ≤ number + count_by is_line done)) → IsLinesFault number old new e
-answer_fault count number old new (error.Common (common.Read input)) is most = is
-answer_fault count number old new (error.Common (common.TooLong input)) is most = is
-answer_fault count number old new (error.Common (common.Airport place word)) is most = is
 answer_fault count number old new (error.Common common.Memory) is most = tt
-answer_fault count number old new (error.Common common.Write) is most = is
-answer_fault count number old new (error.Journal place word) is most = is
-answer_fault count number old new (error.Port fault) is most = absurd is
+answer_fault count number old new (error.Port fault) is most = tt
 answer_fault count number old new error.TooMany is most = most is
+answer_fault count number old new e is most = is

@@ -9,12 +9,13 @@ use Rattle.cdm_flight.specs.Accepted.{refusal}
 use Rattle.cdm_flight.specs.Journal.{AirportRows}
 use Rattle.cdm_flight.specs.declared.update.Update.{Update}
 use Rattle.cdm_journal.specs.Journal.{IsWhole, journal_line, whole_lines}
-use Rattle.cdm_journal.specs.Laws.{ArePlain, CutsTorn, GivesUpdate, KeepsWhole, RefusesNone}
-use Rattle.cdm_journal.proofs.WholeLemmas.{kept-whole}
+use Rattle.cdm_journal.proofs.PlainLemmas.{plain}
+use Rattle.cdm_journal.proofs.RecoveryLemmas.{gives-update, refuses-none}
+use Rattle.cdm_journal.proofs.WholeLemmas.{cuts-torn, keeps-whole, kept-whole}
 use Rattle.cdm_port.specs.Event.{Event}
 use Rattle.cdm_port.specs.Stop.{IsPrefix}
 use Rattle.cdm_port.proofs.Stops.{prefix_of}
-use Rattle.cdm_serve.specs.Disk.{Disk, MayBeLeft, disk_after, settled}
+use Rattle.cdm_serve.specs.Disk.{Disk, MayBeLeft}
 use Rattle.cdm_serve.specs.Promises.{IsAllOrOneMore, IsKept, IsRecovered, IsWritten, appended, lines_of, told, untold, updates_of}
 use Rattle.cdm_serve.specs.Served.{day_of}
 use Rattle.cdm_serve.specs.Taken.{TakenRecord}
@@ -61,7 +62,7 @@ written g bytes moment (inr (holds, are)) =
 
 -- Recovered.
 
-module _ (plain : ArePlain) (cuts : CutsTorn) (keeps : KeepsWhole) (gives : GivesUpdate) (refuses : RefusesNone) (g : AirportRows) where
+module _ (g : AirportRows) where
   -- a journal of whole lines, none of which is refused, has these updates
   abbrev Makes : List ℕ → List Update → Type 0
   Makes text updates = IsWhole text × (refusals_in g text ≡ []) × (accepted_in g text ≡ updates)
@@ -71,32 +72,17 @@ module _ (plain : ArePlain) (cuts : CutsTorn) (keeps : KeepsWhole) (gives : Give
   makes_more text updates one (whole, none, are) (role, spells, free) =
       let takes : IsWhole text × (refusals_in g text ≡ []) × (parse_of g.day one.fields ≡ Ok (role, one.update)) × (refusal g (accepted_in g text) role one.update ≡ None) =
       (whole, none, spells, subst (λ (a : List Update). refusal g a role one.update ≡ None) (sym are) free) in (
-        keeps text one.fields whole,
-        refuses g text one.fields (role, one.update) takes,
-        gives g text one.fields (role, one.update) takes ∙ ap (λ (a : List Update). a ++ one.update ∷ []) are,
+        keeps-whole text one.fields whole,
+        refuses-none g text one.fields (role, one.update) takes,
+        gives-update g text one.fields (role, one.update) takes ∙ ap (λ (a : List Update). a ++ one.update ∷ []) are,
       )
 
   -- and with the lines of records behind it that are taken one after another, theirs too
   makes_all : (text : List ℕ) (updates : List Update) (records last : List TakenRecord) → Makes text updates → AreTaken g updates (records ++ last)
       → Makes (text ++ lines_of records) (updates ++ updates_of records) × AreTaken g (updates ++ updates_of records) last
-  makes_all text updates [] last makes are = (
-    (
-      subst IsWhole (sym (append-nil text)) makes.0,
-      subst (λ (t : List ℕ). refusals_in g t ≡ []) (sym (append-nil text)) makes.1,
-      ap (accepted_in g) (append-nil text) ∙ makes.2 ∙ sym (append-nil updates),
-    ),
-    subst (λ (a : List Update). AreTaken g a last) (sym (append-nil updates)) are,
-  )
+  makes_all text updates [] last makes are = simp append-nil (makes, are)
   makes_all text updates (one ∷ records) last makes are =
-      let rest : Makes ((text ++ journal_line one.fields) ++ lines_of records) ((updates ++ one.update ∷ []) ++ updates_of records)
-      × AreTaken g ((updates ++ one.update ∷ []) ++ updates_of records) last =
-      makes_all (text ++ journal_line one.fields) (updates ++ one.update ∷ []) records last (makes_more text updates one makes are.0) are.1 in
-      let same_text : (text ++ journal_line one.fields) ++ lines_of records ≡ text ++ (journal_line one.fields ++ lines_of records) = append_assoc text (journal_line one.fields) (lines_of records) in
-      let same : (updates ++ one.update ∷ []) ++ updates_of records ≡ updates ++ (one.update ∷ updates_of records) = append_assoc updates (one.update ∷ []) (updates_of records) in (
-        subst (λ (t : List ℕ). Makes t (updates ++ (one.update ∷ updates_of records))) same_text
-            (subst (λ (a : List Update). Makes ((text ++ journal_line one.fields) ++ lines_of records) a) same rest.0),
-        subst (λ (a : List Update). AreTaken g a last) same rest.1,
-      )
+      simp append_assoc at (makes_all (text ++ journal_line one.fields) (updates ++ one.update ∷ []) records last (makes_more text updates one makes are.0) are.1)
 
   -- and with a first part of one more line that record's too, or not
   abbrev Gives : List ℕ → List Update → Option TakenRecord → Type 0
@@ -116,42 +102,31 @@ module _ (plain : ArePlain) (cuts : CutsTorn) (keeps : KeepsWhole) (gives : Give
       (ap (refusals_in g) whole ∙ more.1, inr (ap (accepted_in g) whole ∙ more.2))
   part_read text part (byte ∷ rest) updates (Some one) makes are same =
       let spells : IsOk (parse_of g.day one.fields) = subst IsOk (sym are.0.1) refl in
-      as_it_is text (text ++ part) updates (Some one) makes (cuts text part (byte ∷ rest) one.fields makes.0 (plain g.day one.fields spells) (sym same) (λ none. cc none))
+      as_it_is text (text ++ part) updates (Some one) makes (cuts-torn text part (byte ∷ rest) one.fields makes.0 (plain g.day one.fields spells) (sym same) (λ none. cc none))
 
   -- what a stop may leave ends with a first part of the line that isn't told yet
   left_ends : (whole : List ℕ) (records : List TakenRecord) (last : Option TakenRecord) (disk : Disk) (more left : List ℕ) → Holds whole records last disk more → MayBeLeft disk left
       → (part : List ℕ) × (left ≡ (whole ++ lines_of records) ++ part) × IsPrefix part (line_in last)
-  left_ends whole records last disk more left (tail, rest, synced, uncut, written, is, front) (inl same) = (
-    tail,
-    same ∙ synced ∙ sym (append_assoc whole (lines_of records) tail),
-    prefix_of tail (tail ++ rest) (line_in last) (rest, refl) front,
-  )
+  left_ends whole records last disk more left (tail, rest, synced, uncut, written, is, front) (inl same) =
+      (tail, same ∙ synced ∙ sym (append_assoc whole (lines_of records) tail), prefix_of tail (tail ++ rest) (line_in last) (rest, refl) front)
   left_ends whole records last disk more left (tail, rest, synced, uncut, written, is, front) (inr ((x, behind), (y, before))) =
-      let begins : left ≡ (whole ++ (lines_of records ++ tail)) ++ x = behind ∙ ap (λ (l : List ℕ). l ++ x) (uncut ∙ synced) in
-      let both : disk.synced ++ rest ≡ disk.synced ++ (x ++ y) =
-      sym written ∙ before ∙ ap (λ (l : List ℕ). l ++ y) (behind ∙ ap (λ (l : List ℕ). l ++ x) uncut) ∙ append_assoc disk.synced x y in
+      let both : disk.synced ++ rest ≡ disk.synced ++ (x ++ y) = sym written ∙ before ∙ (rw (behind, uncut) (append_assoc disk.synced x y)) in
       let parts : rest ≡ x ++ y = append_cancel_left disk.synced rest (x ++ y) both in (
         tail ++ x,
-        begins
-            ∙ ap (λ (l : List ℕ). l ++ x) (sym (append_assoc whole (lines_of records) tail))
-            ∙ append_assoc (whole ++ lines_of records) tail x,
-        prefix_of (tail ++ x) (tail ++ rest) (line_in last) (y, ap (λ (l : List ℕ). tail ++ l) parts ∙ sym (append_assoc tail x y)) front,
+        rw (behind, uncut, synced) (simp append_assoc),
+        prefix_of (tail ++ x) (tail ++ rest) (line_in last) (y, rw parts (simp append_assoc)) front,
       )
+
+  gives_at : (whole : List ℕ) (records : List TakenRecord) (last : Option TakenRecord) (disk : Disk) (more left : List ℕ) (updates : List Update)
+      → Makes whole updates → AreTaken g updates (records ++ option_to_list last) → Holds whole records last disk more → MayBeLeft disk left
+      → Gives left (updates ++ updates_of records) last
+  gives_at whole records last disk more left updates makes are holds may =
+      let ends = left_ends whole records last disk more left holds may in
+      let all = makes_all whole updates records (option_to_list last) makes are in
+      rw ends.1 (part_read (whole ++ lines_of records) ends.0 ends.2.0 _ last all.0 all.1 ends.2.1)
 
   pub recovered : (bytes : List ℕ) (moment : List Event) → Begins (day_of g bytes) bytes moment → IsRecovered g bytes moment
   recovered bytes moment (inl is) accepted left may =
-      let same : whole_lines left ≡ whole_lines bytes = is.4 left may in (
-        ap (refusals_in g) same ∙ accepted,
-        inl (ap (accepted_in g) same ∙ sym (ap (λ (r : List TakenRecord). accepted_in g (whole_lines bytes) ++ updates_of r) is.0 ∙ append-nil (accepted_in g (whole_lines bytes)))),
-      )
+      rw (is.0, append-nil) (as_it_is (whole_lines bytes) left (accepted_in g (whole_lines bytes)) _ (kept-whole bytes, accepted, refl) (is.4 left may))
   recovered bytes moment (inr (holds, are)) accepted left may =
-      let records : List TakenRecord = told (day_of g bytes) None moment in
-      let last : Option TakenRecord = untold (day_of g bytes) None moment in
-      let disk : Disk = disk_after (settled bytes) moment in
-      let ends : (part : List ℕ) × (left ≡ (whole_lines bytes ++ lines_of (told (day_of g bytes) None moment)) ++ part) × IsPrefix part (line_in (untold (day_of g bytes) None moment)) =
-      left_ends (whole_lines bytes) records last disk (appended moment) left holds may in
-      let makes : Makes (whole_lines bytes ++ lines_of (told (day_of g bytes) None moment)) (accepted_in g (whole_lines bytes) ++ updates_of (told (day_of g bytes) None moment))
-      × AreTaken g (accepted_in g (whole_lines bytes) ++ updates_of (told (day_of g bytes) None moment)) (option_to_list (untold (day_of g bytes) None moment)) =
-      makes_all (whole_lines bytes) (accepted_in g (whole_lines bytes)) records (option_to_list last) (kept-whole bytes, accepted, refl) are in
-      subst (λ (l : List ℕ). Gives l (accepted_in g (whole_lines bytes) ++ updates_of (told (day_of g bytes) None moment)) (untold (day_of g bytes) None moment)) (sym ends.1)
-      (part_read (whole_lines bytes ++ lines_of (told (day_of g bytes) None moment)) ends.0 ends.2.0 _ (untold (day_of g bytes) None moment) makes.0 makes.1 ends.2.1)
+      gives_at (whole_lines bytes) _ _ _ (appended moment) left (accepted_in g (whole_lines bytes)) (kept-whole bytes, accepted, refl) are holds may

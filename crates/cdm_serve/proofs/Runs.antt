@@ -8,9 +8,6 @@ use Rattle.cdm_feed.specs.Readings.{IsRead, Reading}
 use Rattle.cdm_feed.specs.declared.common_fault.CommonFault.TheVariants as common
 use Rattle.cdm_flight.specs.Journal.{AirportRows}
 use Rattle.cdm_flight.specs.declared.word.RefusalWord.{RefusalWord}
-use Rattle.cdm_journal.proofs.PlainLemmas.{plain}
-use Rattle.cdm_journal.proofs.RecoveryLemmas.{gives-update, refuses-none}
-use Rattle.cdm_journal.proofs.WholeLemmas.{cuts-torn, keeps-whole}
 use Rattle.cdm_plan.specs.Day.{DayRecord}
 use Rattle.cdm_port.specs.Event.{Event}
 use Rattle.cdm_port.specs.Event.Event.{End, Read}
@@ -35,15 +32,14 @@ pub record Outcome (g : AirportRows) (old new : List Event) : Type 0 where
 
 outcome : (g : AirportRows) (old new done : List Event) → new ≡ old ++ done → IsStopped g done → Outcome g old new
 outcome g old new done is stop =
-    let same : since old new ≡ done = since_is old new done is in
-    let stopped : IsStopped g (since old new) = subst (IsStopped g) (sym same) stop in
+    let stopped : IsStopped g (since old new) = rw (since_is old new done is) stop in
+    let begins = always_begins g (since old new) stopped in
     record {
-      log = is ∙ ap (λ (l : List Event). old ++ l) (sym same);
+      log = is ∙ ap (λ (l : List Event). old ++ l) (sym (since_is old new done is));
       stopped = stopped;
-      all_kept = λ bytes moment now. kept g bytes moment (always_begins g (since old new) stopped bytes moment now);
-      all_written = λ bytes moment now. written g bytes moment (always_begins g (since old new) stopped bytes moment now);
-      all_recovered = λ bytes moment now.
-          recovered plain cuts-torn keeps-whole gives-update refuses-none g bytes moment (always_begins g (since old new) stopped bytes moment now);
+      all_kept = λ bytes moment now. kept g bytes moment (begins bytes moment now);
+      all_written = λ bytes moment now. written g bytes moment (begins bytes moment now);
+      all_recovered = λ bytes moment now. recovered g bytes moment (begins bytes moment now);
     }
 
 -- it stopped while it was being started
@@ -51,46 +47,40 @@ pub unstarted : (g : AirportRows) (old new : List Event) → StartStops g old ne
 unstarted g old new (bytes, inl (done, stop, is)) = outcome g old new done is (inl (bytes, stop))
 unstarted g old new (bytes, inr (accepted, (done, stop, is))) =
     let d : DayRecord = day_of g bytes in
-    let all : IsServed g bytes End (started bytes (length d.journal) ++ (served d [] ++ End ∷ [])) = record { accepted = accepted; exchanges = []; replies = tt; events = refl } in
-    outcome g old new done is (inr (
-      bytes,
-      End,
-      started bytes (length d.journal) ++ (served d [] ++ End ∷ []),
-      tt,
-      all,
-      longer done (started bytes (length d.journal)) (served d [] ++ End ∷ []) stop,
-    ))
+    let before : List Event = started bytes (length d.journal) in
+    let lines : List Event = served d [] ++ End ∷ [] in
+    let all : IsServed g bytes End (before ++ lines) = record { accepted = accepted; exchanges = []; replies = tt; events = refl } in
+    outcome g old new done is (inr (bytes, End, before ++ lines, tt, all, longer done before lines stop))
 
 -- it stopped while lines were served
 pub unserved : (g : AirportRows) (d : DayRecord) (old mid new : List Event) → Starts g old mid d → ServeStops d 0 mid new → Outcome g old new
 unserved g d old mid new start stops =
-    by (subst (λ (d : DayRecord). ServeStops d 0 mid new) start.day stops)
-  where
-    by : ServeStops (day_of g start.bytes) 0 mid new → Outcome g old new
-    by (xs, next, replies, heard, (done, stop, is)) =
-        let d : DayRecord = day_of g start.bytes in
-        let before : List Event = started start.bytes (length d.journal) in
-        let all : IsServed g start.bytes next (before ++ (served d xs ++ next ∷ [])) = record { accepted = start.accepted; exchanges = xs; replies = replies; events = refl } in
-        outcome g old new (before ++ done)
-        (is ∙ ap (λ (l : List Event). l ++ done) start.events ∙ append_assoc old before done)
-        (inr (start.bytes, next, before ++ (served d xs ++ next ∷ []), heard, all, past before done (served d xs ++ next ∷ []) stop))
+    let at : ServeStops (day_of g start.bytes) 0 mid new = rw start.day at stops in
+    let before : List Event = started start.bytes (length (day_of g start.bytes).journal) in
+    let lines : List Event = served (day_of g start.bytes) at.0 ++ at.1 ∷ [] in
+    outcome g old new (before ++ at.4.0) (at.4.2 ∙ ap (λ (l : List Event). l ++ at.4.0) start.events ∙ append_assoc old before at.4.0)
+    (inr (
+      start.bytes,
+      at.1,
+      before ++ lines,
+      at.3,
+      record { accepted = start.accepted; exchanges = at.0; replies = at.2; events = refl },
+      past before at.4.0 lines at.4.1,
+    ))
 
 -- it came to the end of the input
 pub to_the_end : (g : AirportRows) (d : DayRecord) (old mid new : List Event) → Starts g old mid d → Serves d 0 mid new
     → Outcome g old new × ((bytes : List ℕ) × IsServed g bytes End (since old new))
 to_the_end g d old mid new start serves =
-    by (subst (λ (d : DayRecord). Serves d 0 mid new) start.day serves)
-  where
-    by : Serves (day_of g start.bytes) 0 mid new → Outcome g old new × ((bytes : List ℕ) × IsServed g bytes End (since old new))
-    by (xs, replies, is) =
-        let d : DayRecord = day_of g start.bytes in
-        let before : List Event = started start.bytes (length d.journal) in
-        let done : List Event = before ++ (served d xs ++ End ∷ []) in
-        let all : IsServed g start.bytes End done = record { accepted = start.accepted; exchanges = xs; replies = replies; events = refl } in
-        let whole : new ≡ old ++ done = is ∙ ap (λ (l : List Event). l ++ (served d xs ++ End ∷ [])) start.events ∙ append_assoc old before (served d xs ++ End ∷ []) in (
-          outcome g old new done whole (inr (start.bytes, End, done, tt, all, subst (λ (l : List Event). IsStopOf done l) (append-nil done) (front done []))),
-          (start.bytes, subst (IsServed g start.bytes End) (sym (since_is old new done whole)) all),
-        )
+    let at : Serves (day_of g start.bytes) 0 mid new = rw start.day at serves in
+    let before : List Event = started start.bytes (length (day_of g start.bytes).journal) in
+    let lines : List Event = served (day_of g start.bytes) at.0 ++ End ∷ [] in
+    let all : IsServed g start.bytes End (before ++ lines) = record { accepted = start.accepted; exchanges = at.0; replies = at.1; events = refl } in
+    let stop = subst (IsStopOf (before ++ lines)) (append-nil (before ++ lines)) (front (before ++ lines) []) in
+    let whole : new ≡ old ++ (before ++ lines) = at.2 ∙ ap (λ (l : List Event). l ++ lines) start.events ∙ append_assoc old before lines in (
+      outcome g old new (before ++ lines) whole (inr (start.bytes, End, before ++ lines, tt, all, stop)),
+      (start.bytes, subst (IsServed g start.bytes End) (sym (since_is old new (before ++ lines) whole)) all),
+    )
 
 -- Where serve ends.
 
@@ -99,32 +89,29 @@ pub finished : {E : Type 0} (g : AirportRows) (d : DayRecord) (old mid new : Lis
 finished g d old mid new (Ok x) start serves stops = (to_the_end g d old mid new start serves).0
 finished g d old mid new (Err e) start serves stops = unserved g d old mid new start stops
 
+pub finished_served : {E : Type 0} (g : AirportRows) (d : DayRecord) (old mid new : List Event) (r : Result (Unit {0}) E) → Starts g old mid d
+    → OnOk r (Serves d 0 mid new) → OnOk r ((bytes : List ℕ) × IsServed g bytes End (since old new))
+finished_served g d old mid new (Ok x) start serves = (to_the_end g d old mid new start serves).1
+finished_served g d old mid new (Err e) start serves = tt
+
 -- Faults.
 
 pub start_fault : (g : AirportRows) (old new : List Event) (e : ServeError) → IsStartFault g old new e → IsDayFault g (since old new) e
-start_fault g old new (error.Common (common.Read input)) is = is
-start_fault g old new (error.Common (common.TooLong input)) is = is
-start_fault g old new (error.Common (common.Airport place word)) is = is
 start_fault g old new (error.Common common.Memory) is = tt
-start_fault g old new (error.Common common.Write) is = is
 start_fault g old new (error.Journal place word) (bytes, others, was, refused) = (bytes, others, since_is old new (Read bytes ∷ []) was, refused)
-start_fault g old new (error.Port fault) is = tt
 start_fault g old new error.TooMany is = absurd is
+start_fault g old new e is = is
 
 lines_fault : (g : AirportRows) (d : DayRecord) (old mid new : List Event) (e : ServeError) → Starts g old mid d → IsLinesFault 0 mid new e → IsDayFault g (since old new) e
-lines_fault g d old mid new (error.Common (common.Read input)) start is = is
-lines_fault g d old mid new (error.Common (common.TooLong input)) start is = is
-lines_fault g d old mid new (error.Common (common.Airport place word)) start is = is
 lines_fault g d old mid new (error.Common common.Memory) start is = tt
-lines_fault g d old mid new (error.Common common.Write) start is = is
 lines_fault g d old mid new (error.Journal place word) start is = absurd is
-lines_fault g d old mid new (error.Port fault) start is = tt
 lines_fault g d old mid new error.TooMany start (done, was, most) =
     let before : List Event = started start.bytes (length (day_of g start.bytes).journal) in
     let all : new ≡ old ++ (before ++ done) = was ∙ ap (λ (l : List Event). l ++ done) start.events ∙ append_assoc old before done in
     let sums : count_by is_line (before ++ done) ≡ count_by is_line before + count_by is_line done = sum_by-append (λ e. cond (is_line e) 1 0) before done in
     let enough : 2 ^ 32 ≤ count_by is_line (before ++ done) = omega (arith, sums, most) in
     subst (λ (l : List Event). 2 ^ 32 ≤ count_by is_line l) (sym (since_is old new (before ++ done) all)) enough
+lines_fault g d old mid new e start is = is
 
 pub finished_fault : (g : AirportRows) (d : DayRecord) (old mid new : List Event) (r : Result (Unit {0}) ServeError) → Starts g old mid d
     → IfErr r (IsLinesFault 0 mid new) → IfErr r (IsDayFault g (since old new))
@@ -142,14 +129,9 @@ file_fault a g done e read says is = by a.before says
 
 serve_fault : (a : Reading) (g : AirportRows) (done : List Event) (e : ServeError) → IsRead a → IfSome a.before (λ file. airport_in file ≡ Ok g) → IsDayFault g done e
     → IsServeFault a done e
-serve_fault a g done (error.Common (common.Read input)) read says is = absurd is
-serve_fault a g done (error.Common (common.TooLong input)) read says is = absurd is
-serve_fault a g done (error.Common (common.Airport place word)) read says is = absurd is
 serve_fault a g done (error.Common common.Memory) read says is = read.unfailed
-serve_fault a g done (error.Common common.Write) read says is = absurd is
-serve_fault a g done (error.Journal place word) read says is = (read, file_fault a g done (error.Journal place word) read says is)
-serve_fault a g done (error.Port fault) read says is = (read, file_fault a g done (error.Port fault) read says is)
-serve_fault a g done error.TooMany read says is = (read, file_fault a g done error.TooMany read says is)
+serve_fault a g done (error.Common fault) read says is = absurd is
+serve_fault a g done e read says is = (read, file_fault a g done e read says is)
 
 pub served_fault : (a : Reading) (g : AirportRows) (done : List Event) (r : Result (Unit {0}) ServeError) → IsRead a → IfSome a.before (λ file. airport_in file ≡ Ok g)
     → IfErr r (IsDayFault g done) → IfErr r (IsServeFault a done)

@@ -1,14 +1,14 @@
 //! What a line of the input asks for.
 ghost use Rattle.std.specs.Prelude.{◌≡◌};
 ghost use Rattle.csv.specs.Records.{fields_of};
-ghost use Rattle.cdm_feed.specs.Fields.{counted, field};
+ghost use Rattle.cdm_feed.specs.Fields.{counted};
 ghost use Rattle.cdm_journal.specs.Lines.{read_as};
 ghost use Rattle.cdm_serve.specs.Requests.{asked_by, flight_asked, request_in, request_of, runway_asked};
 
 use crate::asked::Asked;
 use cdm_feed::parse_record;
 use cdm_flight::{FlightName, RefusalWord, Role, RunwayName, Update};
-use cdm_journal::LineRead;
+use cdm_journal::{LineRead, field};
 use cdm_time::Day;
 use cdm_view::Question;
 use csv::ByteRecord;
@@ -22,13 +22,6 @@ pub enum Request {
     Post(Result<(Role, Update), RefusalWord>),
     /// A question is asked.
     Ask(Asked),
-}
-
-// The field at a place, counted from 0. A field that the record hasn't is empty.
-fn field(row: &ByteRecord, place: usize) -> &[u8]
-    ensures { result.now ≡ field (fields_of row.now) place }
-{
-    row.get(place).unwrap_or(b"")
 }
 
 // The question what holds a flight.
