@@ -1,5 +1,6 @@
 pub mod Lists
 pub mod NameLemmas
+pub mod NumberLemmas
 pub mod JournalLemmas
 pub mod RefusalLemmas
 mod WorkedRows

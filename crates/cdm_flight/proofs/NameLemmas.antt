@@ -8,7 +8,7 @@ use Rattle.cdm_flight.specs.Names.{is_letter_or_digit, is_name}
 below_128 : (b : ℕ) → is_letter_or_digit b ≡ true → b < 128
 below_128 b h = grind (arith, nat_tests)
 
-both : (a b : Bool) → IsTrue (a && b) → (a ≡ true) × IsTrue b
+pub both : (a b : Bool) → IsTrue (a && b) → (a ≡ true) × IsTrue b
 both true b h = (refl, h)
 both false b h = cc
 

@@ -8,17 +8,20 @@ ghost use Rattle.std.specs.Hash as fed;
 ghost use Rattle.std.proofs.Common.{rules};
 ghost use Rattle.std.specs.List.{list_all};
 ghost use Rattle.cdm_flight.specs.Names.{is_name, is_letter_or_digit, name_cmp, same_name};
-ghost use Rattle.cdm_flight.specs.inner.Padded.{padded};
+ghost use Rattle.cdm_flight.specs.inner.Padded.{digits, padded};
 
 use std::cmp::Ordering;
 use std::hash::{Hash, Hasher};
 use std::marker::Model;
 use std::str;
 
-/// A name of 1 to `MOST` bytes of `A-Z0-9`, where `MOST` is 255 at most.
+/// The bytes that a name takes, so that they can be read as one number.
+const ROOM: usize = 8;
+
+/// A name of 1 to `MOST` bytes of `A-Z0-9`, where `MOST` is 8 at most.
 #[derive(Clone, Copy, Debug)]
 pub struct Name<const MOST: usize> {
-    text: [u8; MOST],
+    text: [u8; ROOM],
     len: u8,
 }
 
@@ -31,13 +34,13 @@ impl<const MOST: usize> Model for Name<MOST> {
 
     ghost view = { λ n. take n.len n.text };
 
-    ghost invariant = { λ n. (n.len ≤ MOST) × (length n.text ≡ MOST) × (n.text ≡ padded MOST (take n.len n.text)) × IsName MOST (take n.len n.text) };
+    ghost invariant = { λ n. (n.len ≤ MOST) × (MOST ≤ 8) × (length n.text ≡ 8) × (n.text ≡ padded (take n.len n.text)) × IsName MOST (take n.len n.text) };
 
-    ghost inverse = { λ xs. record { text = padded MOST xs; len = length xs } };
+    ghost inverse = { λ xs. record { text = padded xs; len = length xs } };
 
     ghost inverse_ok = { λ n h i. record {
-      text = sym h.2 i;
-      len = length-take-le n.len n.text (omega (arith, h.0, h.1)) i;
+      text = sym h.3 i;
+      len = length-take-le n.len n.text (omega (arith, h.0, h.1, h.2)) i;
     } };
 }
 
@@ -53,11 +56,11 @@ fn all_letters_or_digits(text: &[u8]) -> bool
     text.iter().all(|byte| letter_or_digit(*byte))
 }
 
-fn pad<const MOST: usize>(text: &[u8]) -> [u8; MOST]
-    requires { length text.now ≤ MOST }
-    ensures { result ≡ padded MOST text.now }
+fn pad(text: &[u8]) -> [u8; ROOM]
+    requires { length text.now ≤ 8 }
+    ensures { result ≡ padded text.now }
 {
-    let mut row = [0; MOST];
+    let mut row = [0; ROOM];
     row[..text.len()].copy_from_slice(text);
     row
 }
@@ -65,7 +68,7 @@ fn pad<const MOST: usize>(text: &[u8]) -> [u8; MOST]
 impl<const MOST: usize> Name<MOST> {
     /// The name that the bytes spell, or None where they are no name.
     pub fn new(text: &[u8]) -> Option<Self>
-        requires { MOST ≤ 255 }
+        requires { MOST ≤ 8 }
         ensures { result ≡ (if is_name MOST text.now then Some text.now else None) }
     {
         if text.is_empty() || text.len() > MOST || !all_letters_or_digits(text) {
@@ -85,6 +88,15 @@ impl<const MOST: usize> Name<MOST> {
         &self.text[..usize::from(self.len)]
     }
 
+    // The bytes with zeros behind them, read as one number.
+    fn number(&self) -> u64
+        ensures value { result ≡ digits 8 self.now }
+        ensures letters { IsTrue (list_all is_letter_or_digit self.now) }
+        ensures short { length self.now ≤ 8 }
+    {
+        u64::from_be_bytes(self.text)
+    }
+
     /// The name as text.
     pub fn text(&self) -> &str
         ensures value { result.now ≡ self.now }
@@ -100,8 +112,9 @@ impl<const MOST: usize> PartialEq for Name<MOST> {
 
     ghost laws = { partial_equiv_from_equiv nat_list_eq_equiv };
 
+    #[tactic(auto, using(crate::proofs::NumberLemmas::number_eq))]
     fn eq(&self, other: &Self) -> bool {
-        self.bytes() == other.bytes()
+        self.number() == other.number()
     }
 }
 
@@ -128,8 +141,9 @@ impl<const MOST: usize> Ord for Name<MOST> {
 
     ghost matches_eq = { λ s t. texts_ties s t };
 
+    #[tactic(auto, using(crate::proofs::NumberLemmas::number_cmp))]
     fn cmp(&self, other: &Self) -> Ordering {
-        self.bytes().cmp(other.bytes())
+        self.number().cmp(&other.number())
     }
 }
 
