@@ -1,10 +1,10 @@
 -- What flights give that are asked, and those that need not be.
 use Rattle.std.proofs.Common.{◌≡◌, ℕ, Bool, true, false, not, List, ◌++◌, Option, None, Some, refl, sym, ◌∙◌, ap}
-use Rattle.std.proofs.lemmas.Bool.{and_parts, not-true}
-use Rattle.cdm_plan.proofs.ListWords.{is_some, option_map_or, filter_map, filter_map-append, filter_map-filter, if_so}
+use Rattle.std.proofs.lemmas.Bool.{not-true}
+use Rattle.cdm_plan.proofs.ListWords.{option_map_or, filter_map, filter_map-append, filter_map-filter, if_so}
 use Rattle.cdm_plan.proofs.ListWords.{IsPermutation, IsPermutation-filter_both, IsPermutation-filter_map, false_from_ne_true, false≢true}
 use Rattle.cdm_plan.proofs.PlanWords.{DayValues, Record, TaxiTimes}
-use Rattle.cdm_plan.proofs.PlanWords.{asked_of, is_kept, is_on, is_touched, is_untouched, kept_of, targets_on}
+use Rattle.cdm_plan.proofs.PlanWords.{asked_of, is_on, is_touched, is_untouched, kept_of, targets_on}
 use Rattle.cdm_plan.specs.declared.touched.Touched.{Touched}
 use Rattle.cdm_plan.proofs.JournalFacts.{some_named}
 use Rattle.cdm_plan.proofs.PlanningLemmas.{blocked_early, early-given, early_at, no_target_at, target_at, targets_of, targets_on-given}
@@ -21,31 +21,28 @@ untouched_runway t f h = by f.runway h
 pub untouched_on : (t : Touched) (f : Record) (r : List ℕ) → f.runway ≡ Some r → is_touched t r ≡ false → is_untouched t f ≡ true
 untouched_on t f r e h = ap (λ o. option_map_or (λ s. not (is_touched t s)) o false) e ∙ ap not h
 
-pub kept_untouched : (t : Touched) (f : Record) → is_kept t f ≡ true → is_untouched t f ≡ true
-kept_untouched t f h = (and_parts (is_some f.tobt) (is_untouched t f) h).1
-
 -- the targets of a touched runway are those of the flights that are asked
 pub targets-asked : (t : Touched) (r : List ℕ) → is_touched t r ≡ true → (times : TaxiTimes) (values : DayValues) (fs : List Record)
     → targets_on r (targets_of (asked_of t fs) times values) ≡ targets_on r (targets_of fs times values)
 targets-asked t r h times values fs =
     targets_on-given r times values (asked_of t fs)
-    ∙ (filter_map-filter (target_at r times values) (λ f. not (is_kept t f)) fs
+    ∙ (filter_map-filter (target_at r times values) (λ f. not (is_untouched t f)) fs
     ∙ ((λ i. filter_map (λ f. all f i) fs) ∙ sym (targets_on-given r times values fs)))
   where
-    off : (f : Record) → is_kept t f ≡ true → is_on r f ≡ false
+    off : (f : Record) → is_untouched t f ≡ true → is_on r f ≡ false
     off f k =
-        let at = untouched_runway t f (kept_untouched t f k) in
+        let at = untouched_runway t f k in
         false_from_ne_true (is_on r f) (λ on.
         let own = some_named f.runway r on in
         let same : at.0 ≡ r = cc (at.1, own) in
         false≢true (sym at.2 ∙ (ap (is_touched t) same ∙ h)))
 
-    by : (f : Record) (b : Bool) → is_kept t f ≡ b → if_so (not b) (target_at r times values f) ≡ target_at r times values f
+    by : (f : Record) (b : Bool) → is_untouched t f ≡ b → if_so (not b) (target_at r times values f) ≡ target_at r times values f
     by f false k = refl
     by f true k = sym (no_target_at r times values f (off f k))
 
-    all : (f : Record) → if_so (not (is_kept t f)) (target_at r times values f) ≡ target_at r times values f
-    all f = by f (is_kept t f) refl
+    all : (f : Record) → if_so (not (is_untouched t f)) (target_at r times values f) ≡ target_at r times values f
+    all f = by f (is_untouched t f) refl
 
 -- the flights that are blocked early are those that need not be asked, and others that are asked
 pub early-parted : (t : Touched) (times : TaxiTimes) (values : DayValues) (fs : List Record)
@@ -53,4 +50,4 @@ pub early-parted : (t : Touched) (times : TaxiTimes) (values : DayValues) (fs : 
 early-parted t times values fs =
     let h = early_at times values in
     rw (early-given times values fs, early-given times values (kept_of t fs), early-given times values (asked_of t fs), ← filter_map-append h (kept_of t fs) (asked_of t fs))
-    (IsPermutation-filter_map h fs (kept_of t fs ++ asked_of t fs) (IsPermutation-filter_both (is_kept t) (λ f. not (is_kept t f)) (λ f. refl) fs))
+    (IsPermutation-filter_map h fs (kept_of t fs ++ asked_of t fs) (IsPermutation-filter_both (is_untouched t) (λ f. not (is_untouched t f)) (λ f. refl) fs))

@@ -1,9 +1,9 @@
 -- What updates do not touch stands.
 use Rattle.std.proofs.Common.{◌≡◌, ℕ, Bool, true, false, ◌&&◌, not, cond, filter, List, [], ◌∷◌, ◌++◌, Option, None, Some, IfSome, refl, sym, ◌∙◌, ap, subst}
-use Rattle.std.proofs.lemmas.Bool.{and_parts, and_left, and_right, true≢false}
+use Rattle.std.proofs.lemmas.Bool.{and_left, and_right, true≢false}
 use Rattle.cdm_plan.proofs.ListWords.{is_some, option_map_or, if◌then◌else◌, All, Contains, cons_option, filter_map, find, flat_map, append-nil}
 use Rattle.cdm_plan.proofs.ListWords.{filter-append, filter_map-append, filter_map-filter, filter_map_same, Contains-permutation, IsPermutation, IsPermutation-filter}
-use Rattle.cdm_plan.proofs.ListWords.{IsPermutation-refl, IsPermutation-sym, All-head, All-tail, All-weaker, All-permutation, false≢true}
+use Rattle.cdm_plan.proofs.ListWords.{IsPermutation-refl, IsPermutation-sym, All-head, All-tail, All-weaker, All-permutation}
 use Rattle.cdm_plan.proofs.ListWords.{contains_from_given, contains_from_map, contains_map, if_so, one_of_key}
 use Rattle.cdm_plan.proofs.PlanWords.{DayValues, RunwayRow, Place, Update, reach_of, same_name, same_reach, Record, is_planned, taxi_out, flight_of}
 use Rattle.cdm_plan.proofs.PlanWords.{values_of, values_of-untouched, taxi_of, taxi_of-untouched, flight_of-untouched}
@@ -11,7 +11,7 @@ use Rattle.cdm_plan.proofs.PlanWords.{RunwayRules, TaxiTimes, SlotRecord, fixed_
 use Rattle.cdm_plan.proofs.PlanWords.{PlanRecord, RunwayPlanRecord, TargetRecord, AimResult, BlockedFlight, aim_means, aim_of, aim_with, aim_with_exot}
 use Rattle.cdm_plan.proofs.PlanWords.{is_same, same_flips, same_is, if_on, if_passes, DayRecord, flights_in, new_flight, rules_of, with_update, IsDayPlan}
 use Rattle.cdm_plan.proofs.PlanWords.{day_rules, records_in, is_on, blocked_in, early_in, planned_of, target_in, targets_in, targets_on, fixed_on, Adds, AreAims}
-use Rattle.cdm_plan.proofs.PlanWords.{AreKept, IsMade, IsPlanOn, IsSince, fixed_in, is_early, is_kept, is_kept_blocked, is_noted, is_touched, is_untouched}
+use Rattle.cdm_plan.proofs.PlanWords.{AreKept, IsMade, IsPlanOn, IsSince, fixed_in, is_early, is_kept_blocked, is_noted, is_touched, is_untouched}
 use Rattle.cdm_plan.proofs.PlanWords.{kept_blocked, kept_of, kept_plan, Flt, Early, Ready}
 use Rattle.cdm_flight.specs.declared.reach.Reach.{Reach}
 use Rattle.cdm_flight.specs.declared.reach.Reach.TheVariants as reach
@@ -19,10 +19,10 @@ use Rattle.cdm_sequence.specs.Plan.{Placing, taken_before}
 use Rattle.cdm_sequence.specs.Sequence.{Blocks, IsRightlyBlocked}
 use Rattle.cdm_runway.specs.declared.load.Taken.{Taken}
 use Rattle.cdm_sequence.specs.declared.rule.Rule.{Rule}
-use Rattle.cdm_sequence.specs.declared.rule.Rule.TheVariants.{Tobt, Runway, Exot, Horizon, Ctot}
+use Rattle.cdm_sequence.specs.declared.rule.Rule.TheVariants.{Tobt, Runway, Exot, Horizon, Ctot, Closure, Spacing, Rate}
 use Rattle.cdm_plan.specs.declared.touched.Touched.{Touched}
 use Rattle.cdm_plan.specs.declared.touched.Touched.TheVariants as touched
-use Rattle.cdm_plan.proofs.AskedLemmas.{kept_untouched, untouched_on, untouched_runway}
+use Rattle.cdm_plan.proofs.AskedLemmas.{untouched_on, untouched_runway}
 use Rattle.cdm_plan.proofs.JournalFacts.{flight_named, flights_in-push, some_named}
 use Rattle.cdm_plan.proofs.DayPlanLemmas.{has_sequence, is_plan_on, record_name, targets_at}
 use Rattle.cdm_plan.proofs.NameLemmas.{day_rules_differ, find_none, find_some}
@@ -159,28 +159,28 @@ targets_on-own r times values fs =
     own f true e = refl
     own f false e = no_target_at r times values f e
 
--- what is blocked early has its flight's name, and an early rule if the flight has a TOBT and a runway
+-- what is blocked early has its flight's name, and an early rule
 abbrev IsEarlyOf : Record → BlockedFlight → Type 0
-IsEarlyOf f b = (b.name ≡ f.name) × (is_some f.tobt ≡ true → is_some f.runway ≡ true → is_early b.rule ≡ true)
+IsEarlyOf f b = (b.name ≡ f.name) × (is_early b.rule ≡ true)
 
 early_of : (times : TaxiTimes) (values : DayValues) (f : Record) → IfSome (early_at times values f) (IsEarlyOf f)
 early_of times values f = if_so-keeps (IsEarlyOf f) (is_planned f.status) (blocked_in f.name (aim_of f times values)) (by (aim_of f times values) (aim_means f times values))
   where
     by : (a : AimResult) → IsAim f times values a → IfSome (blocked_in f.name a) (IsEarlyOf f)
     by (Ready t) is = tt
-    by (Early Tobt) is = (refl, λ h k. absurd (false≢true (sym (ap is_some is) ∙ h)))
-    by (Early Runway) is = (refl, λ h k. absurd (false≢true (sym (ap is_some is.1) ∙ k)))
-    by (Early Exot) is = (refl, λ h k. refl)
-    by (Early Horizon) is = (refl, λ h k. refl)
-    by (Early Ctot) is = (refl, λ h k. refl)
+    by (Early Tobt) is = (refl, refl)
+    by (Early Runway) is = (refl, refl)
+    by (Early Exot) is = (refl, refl)
+    by (Early Horizon) is = (refl, refl)
+    by (Early Ctot) is = (refl, refl)
     by (Early _) is = absurd is
 
 -- the runway's traffic blocks by other rules
 late_rule : (r : RunwayRules) (taken : List Taken) (f : TargetRecord) (rule : Rule) → Blocks r taken f rule → is_early rule ≡ false
-late_rule r taken f Exot h = absurd h
-late_rule r taken f Horizon h = absurd h
-late_rule r taken f Ctot h = absurd h
-late_rule r taken f _ h = refl
+late_rule r taken f Closure h = refl
+late_rule r taken f Spacing h = refl
+late_rule r taken f Rate h = refl
+late_rule r taken f _ h = absurd h
 
 abbrev IsLate : BlockedFlight → Type 0
 IsLate b = is_early b.rule ≡ false
@@ -244,50 +244,48 @@ module _ (first d : DayRecord) (t : Touched) (since : IsSince first t d) where
       let test = is_kept_blocked d t in
       ap (filter test) (early-given times_first values_first flights_first)
       ∙ (filter-filter_map test (early_at times_first values_first) flights_first
-      ∙ (filter_map_same (λ f. if_passes test (early_at times_first values_first f)) (λ f. if_so (is_kept t f) (early_at times_now values_now f)) flights_first
-      (λ f i. each f (found f i) (is_kept t f) refl)
-      ∙ (sym (filter_map-filter (early_at times_now values_now) (is_kept t) flights_first)
-      ∙ (ap (filter_map (early_at times_now values_now)) (since.flights (is_kept t) (kept_untouched t)) ∙ sym (early-given times_now values_now (kept_of t flights_now))))))
+      ∙ (filter_map_same (λ f. if_passes test (early_at times_first values_first f)) (λ f. if_so (is_untouched t f) (early_at times_now values_now f)) flights_first
+      (λ f i. each f (found f i) (is_untouched t f) refl)
+      ∙ (sym (filter_map-filter (early_at times_now values_now) (is_untouched t) flights_first)
+      ∙ (ap (filter_map (early_at times_now values_now)) (since.flights (is_untouched t) (λ f h. h)) ∙ sym (early-given times_now values_now (kept_of t flights_now))))))
     where
-      passes : (o : Option Record) → option_map_or (is_kept t) o false ≡ is_some (if_passes (is_kept t) o)
+      passes : (o : Option Record) → option_map_or (is_untouched t) o false ≡ is_some (if_passes (is_untouched t) o)
       passes None = refl
-      passes (Some f) = by (is_kept t f)
+      passes (Some f) = by (is_untouched t f)
         where
           by : (b : Bool) → b ≡ is_some (if b then Some f else None)
           by true = refl
           by false = refl
 
       -- it is kept now as it was
-      found : (f : Record) → Contains flights_first f → option_map_or (is_kept t) (flight_of d.airport d.journal f.name) false ≡ is_kept t f
+      found : (f : Record) → Contains flights_first f → option_map_or (is_untouched t) (flight_of d.airport d.journal f.name) false ≡ is_untouched t f
       found f i =
           let from = contains_from_given (flight_of first.airport first.journal) (flights_in first.journal) f i in
           let k = from.0 in
-          ap (λ n. option_map_or (is_kept t) (flight_of d.airport d.journal n) false) (record_name first.airport first.journal k f from.2)
-          ∙ (passes (flight_of d.airport d.journal k) ∙ (ap is_some (sym (since.flight (is_kept t) (kept_untouched t) k))
-          ∙ (ap (λ o. is_some (if_passes (is_kept t) o)) from.2 ∙ sym (passes (Some f)))))
+          ap (λ n. option_map_or (is_untouched t) (flight_of d.airport d.journal n) false) (record_name first.airport first.journal k f from.2)
+          ∙ (passes (flight_of d.airport d.journal k) ∙ (ap is_some (sym (since.flight (is_untouched t) (λ f h. h) k))
+          ∙ (ap (λ o. is_some (if_passes (is_untouched t) o)) from.2 ∙ sym (passes (Some f)))))
 
-      out : (f : Record) → option_map_or (is_kept t) (flight_of d.airport d.journal f.name) false ≡ false → (o : Option BlockedFlight)
+      out : (f : Record) → option_map_or (is_untouched t) (flight_of d.airport d.journal f.name) false ≡ false → (o : Option BlockedFlight)
           → IfSome o (IsEarlyOf f) → if_passes (is_kept_blocked d t) o ≡ None
       out f now None h = refl
       out f now (Some b) h =
-          let there = ap (λ n. option_map_or (is_kept t) (flight_of d.airport d.journal n) false) h.0 ∙ now in
+          let there = ap (λ n. option_map_or (is_untouched t) (flight_of d.airport d.journal n) false) h.0 ∙ now in
           ap (λ x. if x then Some b else None) (and_right (is_early b.rule) _ there)
 
-      stay : (f : Record) → is_some f.tobt ≡ true → is_some f.runway ≡ true
-          → option_map_or (is_kept t) (flight_of d.airport d.journal f.name) false ≡ true → (o : Option BlockedFlight) → IfSome o (IsEarlyOf f)
-          → if_passes (is_kept_blocked d t) o ≡ o
-      stay f tobt runway now None h = refl
-      stay f tobt runway now (Some b) h =
-          let there = ap (λ n. option_map_or (is_kept t) (flight_of d.airport d.journal n) false) h.0 ∙ now in
-          ap (λ x. if x then Some b else None) (λ i. h.1 tobt runway i && there i)
+      stay : (f : Record) → option_map_or (is_untouched t) (flight_of d.airport d.journal f.name) false ≡ true → (o : Option BlockedFlight)
+          → IfSome o (IsEarlyOf f) → if_passes (is_kept_blocked d t) o ≡ o
+      stay f now None h = refl
+      stay f now (Some b) h =
+          let there = ap (λ n. option_map_or (is_untouched t) (flight_of d.airport d.journal n) false) h.0 ∙ now in
+          ap (λ x. if x then Some b else None) (λ i. h.1 i && there i)
 
-      each : (f : Record) → option_map_or (is_kept t) (flight_of d.airport d.journal f.name) false ≡ is_kept t f → (b : Bool) → is_kept t f ≡ b
+      each : (f : Record) → option_map_or (is_untouched t) (flight_of d.airport d.journal f.name) false ≡ is_untouched t f → (b : Bool) → is_untouched t f ≡ b
           → if_passes (is_kept_blocked d t) (early_at times_first values_first f) ≡ if_so b (early_at times_now values_now f)
       each f now false e = out f (now ∙ e) (early_at times_first values_first f) (early_of times_first values_first f)
       each f now true e =
-          let parts = and_parts (is_some f.tobt) (is_untouched t f) e in
-          let at = untouched_runway t f parts.1 in
-          stay f parts.0 (ap is_some at.1) (now ∙ e) (early_at times_first values_first f) (early_of times_first values_first f)
+          let at = untouched_runway t f e in
+          stay f (now ∙ e) (early_at times_first values_first f) (early_of times_first values_first f)
           ∙ ap (λ a. if_so (is_planned f.status) (blocked_in f.name a)) (aim_stands f at.0 at.1 at.2)
 
   -- nor are others kept
@@ -300,7 +298,7 @@ module _ (first d : DayRecord) (t : Touched) (since : IsSince first t d) where
       none : (bs : List BlockedFlight) → All IsLate bs → filter (is_kept_blocked d t) bs ≡ []
       none [] late = refl
       none (b ∷ bs) late =
-          let here = and_left (is_early b.rule) (option_map_or (is_kept t) (flight_of d.airport d.journal b.name) false) (All-head IsLate b bs late) in
+          let here = and_left (is_early b.rule) (option_map_or (is_untouched t) (flight_of d.airport d.journal b.name) false) (All-head IsLate b bs late) in
           ap (λ x. cond x (b ∷ filter (is_kept_blocked d t) bs) (filter (is_kept_blocked d t) bs)) here
           ∙ none bs (All-tail IsLate b bs late)
 
@@ -400,11 +398,10 @@ none_kept d = record {
   right = λ r p i e. cc;
   early = λ aims are. subst (λ (fs : List Record). IsPermutation (early_in fs aims) []) (sym (none (records_in d.airport d.journal))) (IsPermutation-refl []);
 } where
-  off : (o : Option ℕ) (r : Option (List ℕ)) → (is_some o && option_map_or (λ s. not (is_touched touched.All s)) r false) ≡ false
-  off None r = refl
-  off (Some n) None = refl
-  off (Some n) (Some s) = refl
+  off : (r : Option (List ℕ)) → option_map_or (λ s. not (is_touched touched.All s)) r false ≡ false
+  off None = refl
+  off (Some s) = refl
 
   none : (fs : List Record) → kept_of touched.All fs ≡ []
   none [] = refl
-  none (f ∷ fs) = ap (λ b. cond b (f ∷ kept_of touched.All fs) (kept_of touched.All fs)) (off f.tobt f.runway) ∙ none fs
+  none (f ∷ fs) = ap (λ b. cond b (f ∷ kept_of touched.All fs) (kept_of touched.All fs)) (off f.runway) ∙ none fs

@@ -1,5 +1,5 @@
 -- Which runways updates touch, and the plans of the others, which stand.
-use Rattle.std.specs.Prelude.{◌≡◌, ℕ, Bool, true, false, ◌&&◌, not, List, Contains, IsPermutation, Option, None, Some, filter, is_some, if◌then◌else◌}
+use Rattle.std.specs.Prelude.{◌≡◌, ℕ, Bool, true, false, ◌&&◌, not, List, Contains, IsPermutation, Option, None, Some, filter, if◌then◌else◌}
 use Rattle.std.specs.List.{find, list_any}
 use Rattle.std.specs.Option.{option_map_or}
 use Rattle.cdm_flight.specs.declared.airport.RunwayRow.{RunwayRow}
@@ -14,7 +14,7 @@ use Rattle.cdm_sequence.specs.Sequence.{IsSequence}
 use Rattle.cdm_sequence.specs.Slots.{PlanRecord, RunwayPlanRecord, SlotRecord}
 use Rattle.cdm_sequence.specs.declared.aims.AimResult.{AimResult}
 use Rattle.cdm_sequence.specs.declared.rule.Rule.{Rule}
-use Rattle.cdm_sequence.specs.declared.rule.Rule.TheVariants.{Exot, Horizon, Ctot}
+use Rattle.cdm_sequence.specs.declared.rule.Rule.TheVariants.{Closure, Spacing, Rate}
 use Rattle.cdm_sequence.specs.declared.slot.BlockedFlight.{BlockedFlight}
 use Rattle.cdm_plan.specs.declared.touched.Touched.{Touched}
 use Rattle.cdm_plan.specs.declared.touched.Touched.TheVariants.{All, Named}
@@ -50,7 +50,7 @@ pub record IsPlanOn (d : DayRecord) (r : RunwayRules) (p : RunwayPlanRecord) : T
   pub aimed : AreAims (records_in d.airport d.journal) (taxi_of d.airport d.journal) (values_of d.journal) aims
   pub sequence : IsSequence r (fixed_in d r.name) (targets_on r.name (targets_in aims)) p
 
--- the flight has a runway that was not touched
+-- the flight has a runway that was not touched, so that it need not be asked anew
 abbrev pub is_untouched : Touched → Record → Bool
 is_untouched t f = option_map_or (λ r. not (is_touched t r)) f.runway false
 
@@ -71,27 +71,23 @@ pub record IsSince (first : DayRecord) (t : Touched) (d : DayRecord) : Type 0 wh
 abbrev pub kept_plan : Touched → List RunwayPlanRecord → List ℕ → Option RunwayPlanRecord
 kept_plan t plans r = if is_touched t r then None else find (λ p. same_name p.runway r) plans
 
--- a flight that need not be asked anew: it has a TOBT, and a runway that was not touched
-abbrev pub is_kept : Touched → Record → Bool
-is_kept t f = is_some f.tobt && is_untouched t f
-
 -- the flights that need not be asked anew, and the others
 abbrev pub kept_of : Touched → List Record → List Record
-kept_of t flights = filter (λ f. is_kept t f) flights
+kept_of t flights = filter (λ f. is_untouched t f) flights
 
 abbrev pub asked_of : Touched → List Record → List Record
-asked_of t flights = filter (λ f. not (is_kept t f)) flights
+asked_of t flights = filter (λ f. not (is_untouched t f)) flights
 
--- a rule that blocks a flight with a TOBT and a runway before the traffic there is asked
+-- a rule that blocks a flight before the traffic of its runway is asked
 abbrev pub is_early : Rule → Bool
-is_early Exot = true
-is_early Horizon = true
-is_early Ctot = true
-is_early rule = false
+is_early Closure = false
+is_early Spacing = false
+is_early Rate = false
+is_early rule = true
 
 -- a blocked flight that stands so still
 abbrev pub is_kept_blocked : DayRecord → Touched → BlockedFlight → Bool
-is_kept_blocked d t b = is_early b.rule && option_map_or (λ f. is_kept t f) (flight_of d.airport d.journal b.name) false
+is_kept_blocked d t b = is_early b.rule && option_map_or (λ f. is_untouched t f) (flight_of d.airport d.journal b.name) false
 
 -- those among blocked flights
 abbrev pub kept_blocked : DayRecord → Touched → List BlockedFlight → List BlockedFlight

@@ -43,11 +43,11 @@ fn push_copy(
     Ok(())
 }
 
-// Whether the rule blocks a flight with a TOBT and a runway before the traffic there is asked.
+// Whether the rule blocks a flight before the traffic of its runway is asked.
 fn is_early(rule: Rule) -> bool
     ensures { result ≡ is_early rule }
 {
-    matches!(rule, Rule::Exot | Rule::Horizon | Rule::Ctot)
+    !matches!(rule, Rule::Closure | Rule::Spacing | Rule::Rate)
 }
 
 impl Kept<'_> {

@@ -3,7 +3,7 @@ ghost use Rattle.std.specs.Prelude.{◌≡◌, ℕ, List, false, OnOk};
 ghost use Rattle.std.specs.List.{list_any};
 ghost use Rattle.cdm_flight.specs.Names.{same_name};
 ghost use Rattle.cdm_flight.specs.Reach.{reach_of};
-ghost use Rattle.cdm_plan.specs.Kept.{Adds, is_kept, is_noted, is_touched};
+ghost use Rattle.cdm_plan.specs.Kept.{Adds, is_noted, is_touched, is_untouched};
 
 use crate::records::Records;
 use cdm_flight::{Flight, Reach, RunwayName, Update};
@@ -54,12 +54,12 @@ impl Touched {
         }
     }
 
-    /// Whether the flight need not be asked anew: it has a TOBT, and its runway is none of them.
+    /// Whether the flight need not be asked anew: it has a runway, which is none of them.
     pub(crate) fn keeps(&self, flight: &Flight) -> bool
-        ensures { result ≡ is_kept self.now flight.now }
+        ensures { result ≡ is_untouched self.now flight.now }
     {
         match flight.runway {
-            Some(runway) => flight.tobt.is_some() && !self.has(runway),
+            Some(runway) => !self.has(runway),
             None => false,
         }
     }

@@ -46,8 +46,7 @@ fn all_flights<R: Records>(alloc: Global, records: &R) -> Result<Vec<&Flight>, A
     Ok(flights)
 }
 
-// The flights on their stands that are asked, in order: those without a TOBT or a runway, and those of the
-// touched runways.
+// The flights on their stands that are asked, in order: those without a runway, and those of the touched runways.
 fn asked_flights<'a>(
     alloc: Global,
     flights: &[&'a Flight],
