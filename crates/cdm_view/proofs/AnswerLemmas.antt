@@ -1,6 +1,7 @@
 -- A question has one answer.
-use Rattle.std.proofs.Common.{◌≡◌, ◌∙◌, ℕ, List, Option, None, Some, ap, sym}
-use Rattle.std.specs.Option.{IsSomeAnd}
+use Rattle.std.proofs.Common.{◌≡◌, ◌∙◌, ℕ, ◌+◌, List, [], MatchOption, Option, None, Some, ap, sym}
+use Rattle.std.specs.Option.{IsSomeAnd, option_map_or}
+use Rattle.cdm_time.specs.Windows.{horizon}
 use Rattle.cdm_flight.specs.Journal.{flight_of}
 use Rattle.cdm_flight.specs.Record.{Record}
 use Rattle.cdm_sequence.specs.Slots.{PlanRecord}
@@ -11,18 +12,30 @@ use Rattle.cdm_view.specs.declared.question.Question.{Question}
 use Rattle.cdm_view.specs.declared.question.Question.TheVariants.{Why, Load}
 use Rattle.cdm_view.specs.Load.{IsLoad, load_text}
 use Rattle.cdm_view.specs.Questions.{IsAnswer}
-use Rattle.cdm_view.specs.Why.{IsWhy}
-use Rattle.cdm_view.proofs.WhyLemmas.{why_one}
+use Rattle.cdm_view.specs.Reasons.{Waiting, reason_at}
+use Rattle.cdm_view.specs.Runs.{AreRuns}
+use Rattle.cdm_view.specs.Why.{IsWhy, own_slot, waits_for, why_bytes}
+use Rattle.cdm_view.specs.declared.runs.Run.{Run}
+use Rattle.cdm_view.proofs.RunLemmas.{runs_one}
 
 load_same : (d : DayRecord) (plan : PlanRecord) (asked : Option (List ℕ)) (x y : List ℕ) → IsAirport d.airport
     → IsLoad d plan asked x → IsLoad d plan asked y → x ≡ y
 load_same d plan asked x y airport (xs, these, is) (ys, those, also) =
     is ∙ ap (load_text d.airport plan asked) (in_order d xs airport these ∙ sym (in_order d ys airport those)) ∙ sym also
 
+-- the runs of what may be waited for are one list
+waits_one : (w : Option Waiting) (to : ℕ) (xs ys : List Run) → MatchOption w (xs ≡ []) (λ w. AreRuns (reason_at w) (w.tobt + w.exot) to xs)
+    → MatchOption w (ys ≡ []) (λ w. AreRuns (reason_at w) (w.tobt + w.exot) to ys) → xs ≡ ys
+waits_one None to xs ys a b = a ∙ sym b
+waits_one (Some w) to xs ys a b = runs_one (reason_at w) (w.tobt + w.exot) to xs ys a b
+
 why_same : (known : Option Record) (d : DayRecord) (plan : PlanRecord) (x y : List ℕ)
     → IsSomeAnd known (λ f. IsWhy d plan f x) → IsSomeAnd known (λ f. IsWhy d plan f y) → x ≡ y
 why_same None d plan x y a b = absurd a
-why_same (Some f) d plan x y a b = why_one d plan f x y a b
+why_same (Some f) d plan x y a b =
+    let to = option_map_or (λ s. s.ttot) (own_slot plan f) horizon in
+    let runs : a.runs ≡ b.runs = waits_one (waits_for d plan f) to a.runs b.runs a.waits b.waits in
+    a.bytes ∙ ap (why_bytes d plan f) runs ∙ sym b.bytes
 
 pub answer_one : (question : Question) (d : DayRecord) (plan : PlanRecord) (x y : List ℕ) → IsAirport d.airport
     → IsAnswer question d plan x → IsAnswer question d plan y → x ≡ y

@@ -1,11 +1,12 @@
 -- Standings that `==` finds equal are equal.
-use Rattle.std.proofs.Common.{◌≡◌, ℕ, zero, suc, ◌-◌, ◌<◌, ◌≤◌, Bool, true, List, [], ◌∷◌, ◌++◌, Option, None, Some, refl, sym, ◌∙◌, ap, rules, arith}
-use Rattle.std.proofs.Common.{length, get_or, take, drop, length-drop}
+use Rattle.std.proofs.Common.{◌≡◌, ℕ, zero, suc, ◌-◌, ◌<◌, ◌≤◌, Bool, true, List, [], ◌∷◌, ◌++◌, Option, refl, sym, ◌∙◌}
+use Rattle.std.proofs.Common.{ap, rules, arith, false, length, get_or, take, drop, length-drop, not, subst, add-one}
+use Rattle.std.proofs.Common.{◌+◌}
 use Rattle.std.specs.Cmp.Lexicographic.{pointwise}
 use Rattle.std.specs.Bool.{Decides}
 use Rattle.std.specs.Option.{option_eq}
 use Rattle.std.specs.Prelude.{nat_eq}
-use Rattle.std.proofs.lemmas.Bool.{and_from, and_parts, false≢true}
+use Rattle.std.proofs.lemmas.Bool.{and_from, and_parts, false≢true, not-false}
 use Rattle.std.proofs.lemmas.List.{take-append-drop, take_all}
 use Rattle.std.proofs.lemmas.Bool.Decides.{Decides-eqb}
 use Rattle.cdm_time.specs.contracts.minute.MinutePartialEq.TheImpl as minute_eq
@@ -26,10 +27,8 @@ use Rattle.cdm_view.specs.declared.standing.Standing.TheVariants.{OnRunway, Bloc
 same_number : (a b : ℕ) → nat_eq a b ≡ true → a ≡ b
 same_number a b h = (Decides-eqb a b).0 h
 
-same_time : (a b : Option ℕ) → option_eq (minute_eq.ghosts).eq a b ≡ true → a ≡ b
-same_time None None h = refl
-same_time (Some a) (Some b) h = ap Some (same_number a b h)
-same_time _ _ h = absurd (false≢true h)
+times_decide : (a b : Option ℕ) → Decides (option_eq (minute_eq.ghosts).eq a b) (a ≡ b)
+times_decide a b = search rules
 
 groups_decide : (a b : Group) → Decides ((group_eq.ghosts).eq a b) (a ≡ b)
 groups_decide a b = search rules
@@ -52,14 +51,14 @@ equal_slots s t h =
     let mark = and_parts ((mark_eq.ghosts).eq s.mark t.mark) _ ttot.1 in
     λ i. record {
       name = same_is s.name t.name name.0 i;
-      tobt = same_time s.tobt t.tobt tobt.0 i;
+      tobt = (times_decide s.tobt t.tobt).0 tobt.0 i;
       exot = same_number s.exot t.exot exot.0 i;
-      ctot = same_time s.ctot t.ctot ctot.0 i;
+      ctot = (times_decide s.ctot t.ctot).0 ctot.0 i;
       group = (groups_decide s.group t.group).0 group.0 i;
       tsat = same_number s.tsat t.tsat tsat.0 i;
       ttot = same_number s.ttot t.ttot ttot.0 i;
       mark = (marks_decide s.mark t.mark).0 mark.0 i;
-      delay = same_time s.delay t.delay mark.1 i;
+      delay = (times_decide s.delay t.delay).0 mark.1 i;
     }
 
 pub equal_standings : (s t : Standing) → (standing_eq.ghosts).eq s t ≡ true → s ≡ t
@@ -79,7 +78,7 @@ equal_lists {X} e is (x ∷ xs) (y ∷ ys) h =
 equal_lists e is _ _ h = absurd (false≢true h)
 
 -- one more that is equal
-pub pointwise_next : {X : Type 0} (e : X → X → Bool) (xs ys : List X) (n : ℕ) (x y : X) → n < length xs → n < length ys
+pointwise_next : {X : Type 0} (e : X → X → Bool) (xs ys : List X) (n : ℕ) (x y : X) → n < length xs → n < length ys
     → e (get_or xs n x) (get_or ys n y) ≡ true → pointwise e (take n xs) (take n ys) ≡ true → pointwise e (take (suc n) xs) (take (suc n) ys) ≡ true
 pointwise_next e [] ys n x y l m h all = absurd (omega arith)
 pointwise_next e (a ∷ xs) [] n x y l m h all = absurd (omega arith)
@@ -88,14 +87,24 @@ pointwise_next e (a ∷ xs) (b ∷ ys) (suc n) x y l m h all =
     let parts = and_parts (e a b) (pointwise e (take n xs) (take n ys)) all in
     and_from (e a b) (pointwise e (take (suc n) xs) (take (suc n) ys)) parts.0 (pointwise_next e xs ys n x y (omega arith) (omega arith) h parts.1)
 
+pub pointwise_more : {X : Type 0} (e : X → X → Bool) (xs ys : List X) (n : ℕ) (x y : X) → x ≡ get_or xs n x
+    → y ≡ get_or ys n y → n < length xs → n < length ys → not (e x y) ≡ false
+    → pointwise e (take n xs) (take n ys) ≡ true → pointwise e (take (n + 1) xs) (take (n + 1) ys) ≡ true
+pointwise_more e xs ys n x y p q l m h all =
+    let here = sym (λ i. e (p i) (q i)) ∙ not-false (e x y) h in
+    subst (λ (k : ℕ). pointwise e (take k xs) (take k ys) ≡ true) (sym (add-one n))
+    (pointwise_next e xs ys n x y l m here all)
+
 -- the rest of a list
 abbrev rest_of : {X : Type 0} → ℕ → List X → List X
 rest_of k xs = take (length xs - k) (drop k xs)
 
-whole : {X : Type 0} (k : ℕ) (xs : List X) → xs ≡ take k xs ++ rest_of k xs
-whole k xs =
+whole : {X : Type 0} (k n : ℕ) (xs : List X) → xs ≡ take k xs
+    ++ (take (length (rest_of k xs) - n) (rest_of k xs) ++ drop (length (rest_of k xs) - n) (rest_of k xs))
+whole k n xs =
     let enough : length (drop k xs) ≤ length xs - k = omega (arith, length-drop k xs) in
-    sym (ap (λ l. take k xs ++ l) (take_all (length xs - k) (drop k xs) enough) ∙ take-append-drop k xs)
+    rw (take-append-drop (length (rest_of k xs) - n) (rest_of k xs), take_all (length xs - k) (drop k xs) enough)
+    (sym (take-append-drop k xs))
 
 -- two lists without what is equal at their ends
 pub parts_from : {X : Type 0} (e : X → X → Bool) → ((x y : X) → e x y ≡ true → x ≡ y) → (xs ys : List X) (k n : ℕ)
@@ -103,15 +112,11 @@ pub parts_from : {X : Type 0} (e : X → X → Bool) → ((x y : X) → e x y �
     → pointwise e (drop (length (rest_of k xs) - n) (rest_of k xs)) (drop (length (rest_of k ys) - n) (rest_of k ys)) ≡ true
     → AreParts xs ys (take (length (rest_of k xs) - n) (rest_of k xs)) (take (length (rest_of k ys) - n) (rest_of k ys))
 parts_from {X} e is xs ys k n front back =
-    let us = rest_of k xs in
-    let vs = rest_of k ys in
-    let first : take k xs ≡ take k ys = equal_lists e is (take k xs) (take k ys) front in
-    let last : drop (length us - n) us ≡ drop (length vs - n) vs = equal_lists e is (drop (length us - n) us) (drop (length vs - n) vs) back in
-    let ends : vs ≡ take (length vs - n) vs ++ drop (length us - n) us =
-    sym (take-append-drop (length vs - n) vs) ∙ ap (λ l. take (length vs - n) vs ++ l) (sym last) in
+    let first = equal_lists e is (take k xs) (take k ys) front in
+    let last = equal_lists e is _ _ back in
     record {
       start = take k xs;
-      rest = drop (length us - n) us;
-      of_one = whole k xs ∙ ap (λ l. take k xs ++ l) (sym (take-append-drop (length us - n) us));
-      of_other = whole k ys ∙ (λ i. sym first i ++ ends i);
+      rest = drop (length (rest_of k xs) - n) (rest_of k xs);
+      of_one = whole k n xs;
+      of_other = rw (first, last) (whole k n ys);
     }

@@ -1,39 +1,32 @@
 -- Each known flight has a standing.
-use Rattle.std.proofs.Common.{◌≡◌, ℕ, Bool, true, false, cond, ◌||◌, List, [], ◌∷◌, ◌++◌, Option, None, Some, IfSome, IsTrue, refl, sym, ◌∙◌, ap, subst, inl, inr}
-use Rattle.std.proofs.Common.{arith, map, filter, take, ◌+◌}
+use Rattle.std.proofs.Common.{◌≡◌, ℕ, Bool, true, false, ◌||◌, List, [], ◌∷◌, ◌++◌, Option, None, Some, IfSome, IsTrue}
+use Rattle.std.proofs.Common.{refl, sym, ◌∙◌, ap, subst, inl, inr, arith, map, take, ◌+◌}
 use Rattle.std.specs.Option.{ForSome}
 use Rattle.std.proofs.lemmas.List.Elements.{All-append, All-contains}
-use Rattle.std.proofs.lemmas.Bool.{and_parts}
-use Rattle.cdm_flight.proofs.Lists.{contains_from_given}
-use Rattle.cdm_flight.proofs.JournalLemmas.{aobt_of, atot_of, is_cancelled as has_cancel, same_name-refl}
-use Rattle.cdm_flight.specs.Journal.{exot_of, runway_of, status_from, record_with}
+use Rattle.cdm_flight.proofs.JournalLemmas.{same_name-refl}
 use Rattle.cdm_flight.specs.Record.{is_sound}
 use Rattle.cdm_flight.specs.declared.flight.Status.{Status}
 use Rattle.cdm_flight.specs.declared.flight.Status.TheVariants as status
-use Rattle.cdm_plan.proofs.ListWords.{All, All-cons, All-nil, append_assoc, cons_option, filter_map, filter_map-append, option_and_then, slice_get}
+use Rattle.cdm_plan.proofs.ListWords.{All, All-cons, All-nil, append_assoc, cons_option, filter_map, filter_map-append}
+use Rattle.cdm_plan.proofs.ListWords.{option_and_then, slice_get, Contains, Contains-permutation, IsPermutation}
+use Rattle.cdm_plan.proofs.ListWords.{contains_cases, false≢true, if_so, is_some, map_fixed, option_map_or}
+use Rattle.cdm_plan.proofs.ListWords.{or_right, list_any-find, list_any-map, list_any-same}
 use Rattle.cdm_plan.proofs.DayPlanLemmas.{record_name, records-next}
 use Rattle.cdm_plan.proofs.JournalFacts.{known-among}
-use Rattle.cdm_plan.proofs.ListWords.{Contains, Contains-permutation, IsPermutation, contains_cases, contains_head}
-use Rattle.cdm_plan.proofs.ListWords.{contains_map, contains_tail, false≢true, if_so, is_some, list_any_at, map_fixed, option_map}
-use Rattle.cdm_plan.proofs.ListWords.{option_map_or, or_right, if◌then◌else◌}
-use Rattle.cdm_plan.proofs.NameLemmas.{find_some}
-use Rattle.cdm_plan.proofs.PlanWords.{AimResult, DayRecord, DayValues, IsAim, IsDayPlan, IsSound, PlanRecord, Record, RunwayPlanRecord, RunwayRow}
-use Rattle.cdm_plan.proofs.PlanWords.{Early, Ready, TaxiTimes, aim_means, aim_of, blocked_in, fixed_slot, flight_of, flights_in}
-use Rattle.cdm_plan.proofs.PlanWords.{if_on, is_known, is_on, is_planned, of_flight, records_in, runway_row, same_is, same_name, slot_by, status_of-record}
-use Rattle.cdm_plan.proofs.PlanWords.{target_in, taxi_of, values_of}
+use Rattle.std.proofs.lemmas.Map.Views.{Contains-from_any}
+use Rattle.cdm_plan.proofs.PlanWords.{same_flips, AimResult, DayRecord, DayValues, IsAim, IsDayPlan, IsSound}
+use Rattle.cdm_plan.proofs.PlanWords.{PlanRecord, Record, RunwayPlanRecord, RunwayRow, Early, Ready, TaxiTimes}
+use Rattle.cdm_plan.proofs.PlanWords.{aim_means, aim_of, blocked_in, fixed_slot, flight_of, flights_in, is_known}
+use Rattle.cdm_plan.proofs.PlanWords.{is_on, is_planned, records_in, same_is, same_name, slot_by}
+use Rattle.cdm_plan.proofs.PlanWords.{status_of-record, taxi_of, values_of}
 use Rattle.cdm_plan.proofs.PlanningLemmas.{early_at, fixed_at, stands, stands_in, target_at}
 use Rattle.cdm_sequence.proofs.NameLemmas.{names_given}
 use Rattle.cdm_view.specs.declared.standing.Standing.{Standing}
+use Rattle.cdm_view.proofs.ListLemmas.{any_with, filter_all}
 use Rattle.cdm_view.proofs.StandingLemmas as standing
+use Rattle.cdm_view.proofs.WaitingLemmas.{told}
 use Rattle.cdm_view.specs.Standings.{cancelled, flight_name, standings_of}
 use Rattle.cdm_view.specs.inner.Known.{AllSound}
-
--- what all pass a test of is left as it is
-filter_all : {X : Type 0} (p : X → Bool) (xs : List X) → ((x : X) → Contains xs x → p x ≡ true) → filter p xs ≡ xs
-filter_all p [] passes = refl
-filter_all {X} p (x ∷ xs) passes =
-    (λ i. cond (passes x (contains_head x xs) i) (x ∷ filter p xs) (filter p xs))
-    ∙ ap (λ (ys : List X). x ∷ ys) (filter_all p xs (λ y i. passes y (contains_tail x xs y i)))
 
 -- Flights one after another.
 
@@ -55,8 +48,7 @@ module _ (h : List ℕ → Option Record) (names : List (List ℕ)) (place : ℕ
   all_next P so_far here = rw flights_next (All-append P (filter_map h (take place names)) (cons_option o []) so_far (one o here))
     where
       one : (q : Option Record) → ForSome q P → All P (cons_option q [])
-      one None k = All-nil P
-      one (Some f) k = All-cons P f [] (k f refl) (All-nil P)
+      one q k = grind (arith, k, All-nil P, All-cons P)
 
 -- A flight that a plan shows.
 
@@ -83,14 +75,12 @@ module _ (times : TaxiTimes) (values : DayValues) (fs : List Record) (f : Record
     planned_stands : f.status ≡ status.Planned → stands_in times values fs ps f ≡ true
     planned_stands e = by (aim_of f times values) refl (aim_means f times values)
       where
-        by : (a : AimResult) → aim_of f times values ≡ a → IsAim f times values (aim_of f times values) → stands_in times values fs ps f ≡ true
+        by : (a : AimResult) → aim_of f times values ≡ a → IsAim f times values a
+            → stands_in times values fs ps f ≡ true
         by (Early rule) same aim = stands_early ps (λ i. is_some (if_so (is_planned (e i)) (blocked_in f.name (same i))))
         by (Ready t) same aim =
-            let runway = (subst (IsAim f times values) same aim).runway in
-            let target : is_some (target_at t.runway times values f) ≡ true =
-            (λ i. is_some (if_so (is_planned (e i)) (if_on t.runway (target_in (same i)))))
-            ∙ ap (λ b. is_some (if b then Some t else None)) (same_name-refl t.runway) in
-            stands_there ps t.runway (planned t.runway runway) (or_right (is_some (fixed_at t.runway f)) (is_some (target_at t.runway times values f)) target)
+            let target : is_some (target_at t.runway times values f) ≡ true = simp (e, same, same_name-refl t.runway) in
+            stands_there ps t.runway (planned t.runway aim.runway) (or_right (is_some (fixed_at t.runway f)) _ target)
 
     -- off-block and airborne it has a runway
     left_stands : (s : Status) → f.status ≡ s → is_some (slot_by f s) ≡ true → is_some f.runway ≡ true → stands_in times values fs ps f ≡ true
@@ -108,12 +98,7 @@ module _ (times : TaxiTimes) (values : DayValues) (fs : List Record) (f : Record
     sound_stands sound = by f.status refl sound
       where
         by : (s : Status) → f.status ≡ s → is_sound f.runway s ≡ true → (stands_in times values fs ps f || is_some (cancelled f)) ≡ true
-        by status.Planned e h = ap (λ b. b || is_some (cancelled f)) (planned_stands e)
-        by (status.OffBlock aobt exot) e h = ap (λ b. b || is_some (cancelled f)) (left_stands (status.OffBlock aobt exot) e refl (and_parts _ _ h).0)
-        by (status.Airborne aobt atot) e h = ap (λ b. b || is_some (cancelled f)) (left_stands (status.Airborne aobt atot) e refl (and_parts _ _ h).0)
-        by status.Cancelled e h =
-            let gone : is_some (cancelled f) ≡ true = ap (λ s. is_some (cancelled (record f { status = s }))) e in
-            or_right (stands_in times values fs ps f) (is_some (cancelled f)) gone
+        by s e h = grind (arith, planned_stands, left_stands s e)
 
 -- The flights of a day.
 
@@ -124,18 +109,11 @@ module _ (d : DayRecord) where
   -- the journal says something of each flight that it makes known
   pub each_recorded : (f : List ℕ) → Contains (flights_in d.journal) f → is_some (flight_of d.airport d.journal f) ≡ true
   unfolding flight_of
-  each_recorded f (k, l, e) =
+  each_recorded f i =
       let a = d.journal in
-      let known : is_known a f ≡ true = known-among a f ∙ list_any_at (same_name f) (flights_in a) k f l (ap (same_name f) e ∙ same_name-refl f) in
-      by (has_cancel a f) (atot_of a f) (aobt_of a f) (exot_of d.airport a f) (is_known a f) known
-    where
-      by : (c : Bool) (t b e : Option ℕ) (k : Bool) → k ≡ true
-          → is_some (option_map (record_with f (of_flight f d.journal)) (status_from c t b e k)) ≡ true
-      by true t b e k h = refl
-      by false (Some t) b e k h = refl
-      by false None (Some b) e k h = refl
-      by false None None e true h = refl
-      by false None None e false h = absurd (false≢true h)
+      let among = any_with (same_name f) (flights_in a) f i (same_name-refl f) in
+      let known : is_known a f ≡ true = known-among a f ∙ among in
+      grind arith
 
   -- so the known flights are those that it says something of
   known_named : map (λ (f : Record). f.name) flights ≡ flights_in d.journal
@@ -145,23 +123,19 @@ module _ (d : DayRecord) where
       ∙ map_fixed (λ (n : List ℕ). n) (flights_in d.journal) (λ k n l. refl))
     where
       named : (n : List ℕ) (o : Option Record) → flight_of d.airport d.journal n ≡ o → IfSome o (λ f. f.name ≡ n)
-      named n None e = tt
-      named n (Some f) e = record_name d.airport d.journal n f e
+      named n o e = grind (arith, record_name d.airport d.journal n)
 
   -- the runway of a flight is one of the airport's
   own_runway : IsSound d → (f : Record) → Contains (flights) f → (r : List ℕ) → f.runway ≡ Some r → Contains (map (λ row. row.name) d.airport.runways) r
   own_runway sound f i r e =
-      let from = contains_from_given (flight_of d.airport d.journal) (flights_in d.journal) f i in
-      let says = status_of-record from.0 d.airport d.journal f from.2 in
-      let runway : runway_of d.journal from.0 ≡ Some r = ap (λ (x : Record). x.runway) says.1 ∙ e in
-      by (runway_row d.airport r) refl (sound.runways from.0 r runway)
-    where
-      by : (o : Option RunwayRow) → runway_row d.airport r ≡ o → is_some (runway_row d.airport r) ≡ true → Contains (map (λ row. row.name) d.airport.runways) r
-      by None same h = absurd (false≢true (sym (ap is_some same) ∙ h))
-      by (Some row) same h =
-          let there = find_some (λ (row : RunwayRow). same_name row.name r) d.airport.runways row same in
-          subst (Contains (map (λ (row : RunwayRow). row.name) d.airport.runways)) (same_is row.name r there.1)
-          (contains_map (λ (row : RunwayRow). row.name) d.airport.runways row there.0)
+      let says = status_of-record f.name d.airport d.journal f (told d f i) in
+      let has = sound.runways f.name r (ap (λ (x : Record). x.runway) says.1 ∙ e) in
+      let rows = d.airport.runways in
+      let name : RunwayRow → List ℕ = λ row. row.name in
+      let test : RunwayRow → Bool = λ row. same_name row.name r in
+      let flips = list_any-same (λ row. same_name r (name row)) test (λ row. same_flips r (name row)) rows in
+      let found = list_any-map (same_name r) name rows ∙ (flips ∙ (list_any-find test rows ∙ has)) in
+      Contains-from_any same_is r (map name rows) found
 
   -- each known flight has one standing, and no other has one
   pub each_stands : (plan : PlanRecord) → AllSound d → IsDayPlan d plan

@@ -1,7 +1,9 @@
--- Cells of a runway, and the columns of their lines.
-use Rattle.std.proofs.Common.{ℕ, ◌≡◌, ◌+◌, ◌-◌, ◌*◌, ◌/◌, ◌^◌, ◌<◌, ◌≤◌, Bool, true, IsTrue, List, [], ◌++◌, length, take, refl, sym, ap, ◌∙◌, arith, append_assoc, eq-eqb, eqb-true}
+-- Cells of a runway, the columns of their lines, and their counts.
+use Rattle.std.proofs.Common.{ℕ, ◌≡◌, ◌+◌, ◌-◌, ◌*◌, ◌/◌, ◌^◌, ◌<◌, ◌≤◌, Bool, true, IsTrue, List, [], ◌++◌, length}
+use Rattle.std.proofs.Common.{take, refl, sym, ◌∙◌, arith, append_assoc, eq-eqb, eqb-true, suc, zero, false, cond}
+use Rattle.std.proofs.Common.{◌∷◌, subst, add-one, zero-add}
 use Rattle.std.specs.Prelude.{◌==◌, nat_lt, filter, Option, slice_get}
-use Rattle.std.specs.List.{Contains, cons_option, flat_map}
+use Rattle.std.specs.List.{Contains, cons_option, flat_map, All, count_by, range_with_len, sum_by}
 use Rattle.std.specs.Fmt.{format_spec, decimal, styled_decimal, char_count, padded_integral}
 use Rattle.std.proofs.Padding.{char_count-nil, styled_decimal_is, repeat_ascii}
 use Rattle.std.proofs.Math.Nat.{mul-le-mul_right}
@@ -9,7 +11,7 @@ use Rattle.std.proofs.lemmas.List.Concat.{flat_map-append}
 use Rattle.std.proofs.lemmas.List.Elements.{All-contains, filter-append, filter_passes}
 use Rattle.std.proofs.lemmas.Bool.Decides.{nat_tests}
 use Rattle.cdm_flight.specs.Cells.{is_cell_length}
-use Rattle.cdm_flight.proofs.Lists.{contains_kept}
+use Rattle.cdm_flight.proofs.Lists.{contains_kept, contains_head, contains_tail, sum_by-add, sum_by-zero}
 use Rattle.cdm_runway.specs.Rules.{RunwayRules}
 use Rattle.cdm_runway.proofs.CellLemmas.{cell_below, cells-fill}
 use Rattle.cdm_sequence.specs.Slots.{PlanRecord, SlotRecord}
@@ -20,8 +22,11 @@ use Rattle.cdm_flight.specs.Journal.{AirportRows}
 use Rattle.cdm_plan.specs.Day.{DayRecord}
 use Rattle.cdm_plan.specs.DayPlan.{AreByName}
 use Rattle.cdm_plan.proofs.NameLemmas.{rules_by_name, rules_in, take-next}
-use Rattle.cdm_view.specs.Load.{IsInOneLine, IsLoad, cells_of, flights_in_cell, is_asked, is_between, load_text, runway_load, tells, told_cells}
-use Rattle.cdm_view.proofs.RangeLemmas.{between_itself, range-contains}
+use Rattle.cdm_view.specs.Load.{IsInOneLine, IsLoad, cells_of, flights_in_cell, is_asked, is_between, load_text}
+use Rattle.cdm_view.specs.Load.{runway_load, tells, told_cells}
+use Rattle.cdm_view.proofs.RangeLemmas.{between_itself, range-contains, count_more, range-bounds}
+use Rattle.std.proofs.lemmas.Bool.{both_ways, cond-false, cond-true, le-ltb, lt-ltb}
+use Rattle.std.proofs.lemmas.List.Sums.{sum_by-cons}
 
 -- each cell is whole within the horizon
 pub cell_whole : (c k : ℕ) → IsTrue (is_cell_length c) → k < 2880 / c → k * c + c ≤ 2880
@@ -42,11 +47,10 @@ pub runways_more : (told : RunwayRules → List ℕ) (asked : RunwayRules → Bo
 runways_more told asked start before after runways place next at so_far more =
     let these = filter asked (take place runways) in
     let those = filter asked (cons_option next []) in
-    let all : filter asked (take (place + 1) runways) ≡ these ++ those =
-    ap (filter asked) (take-next runways place ∙ ap (λ o. take place runways ++ cons_option o []) (sym at))
-    ∙ filter-append asked (take place runways) (cons_option next []) in
-    more ∙ ap (λ l. l ++ flat_map told those) so_far ∙ append_assoc start (flat_map told these) (flat_map told those)
-    ∙ ap (λ l. start ++ l) (sym (flat_map-append told these those)) ∙ ap (λ rs. start ++ flat_map told rs) (sym all)
+    let one_more = take-next runways place in
+    let all = filter-append asked (take place runways) (cons_option next []) in
+    let texts = flat_map-append told these those in
+    cc (append_assoc start (flat_map told these) (flat_map told those))
 
 -- a text that begins with the line of the day, and tells of the runways whichever they are by name, is the one text
 -- that tells how full they are
@@ -55,11 +59,7 @@ module _ (d : DayRecord) (h : AirportRows) (plan : PlanRecord) (asked : Option (
     (rest : (runways : List RunwayRules) → AreByName d runways → text ≡ begun ++ flat_map (runway_load h plan) (filter (is_asked asked) runways)) where
   load_is : (runways : List RunwayRules) → AreByName d runways → text ≡ load_text d.airport plan asked runways
   unfolding load_text
-  load_is runways by_name =
-      let line : begun ≡ day_line day clock = first ∙ ap (λ l. l ++ day_line day clock) empty in
-      let those = flat_map (runway_load h plan) (filter (is_asked asked) runways) in
-      rest runways by_name ∙ ap (λ l. l ++ those) (line ∙ ap (λ m. day_line day m) now ∙ ap (λ z. day_line z plan.clock) of_day)
-      ∙ ap (λ (g : AirportRows). day_line g.day plan.clock ++ flat_map (runway_load g plan) (filter (is_asked asked) runways)) same
+  load_is runways by_name = let told = rest runways by_name in cc
 
   pub load_told : IsLoad d plan asked text
   load_told = (rules_in d.airport d.journal, rules_by_name d, load_is (rules_in d.airport d.journal) (rules_by_name d))
@@ -67,26 +67,86 @@ module _ (d : DayRecord) (h : AirportRows) (plan : PlanRecord) (asked : Option (
   pub load_one : (other : List ℕ) → IsLoad d plan asked other → other ≡ text
   load_one other (runways, by_name, is) = is ∙ sym (load_is runways by_name)
 
-some_in : {X : Type 0} (xs : List X) (x : X) → Contains xs x → 0 < length xs
-some_in xs x i = omega (arith, i.1)
+-- a cell with a flight is told
+pub told_with_flight : (rules : RunwayRules) (usual : ℕ) (slots : List SlotRecord) (k : ℕ) → k < 2880 / rules.cell
+    → 0 < length (flights_in_cell rules slots k) → is_between (tells rules usual slots) (cells_of rules) k ≡ true
+unfolding tells
+told_with_flight rules usual slots k below more =
+    let some : nat_lt 0 (length (flights_in_cell rules slots k)) ≡ true = grind (arith, nat_tests) in
+    let telling : tells rules usual slots k ≡ true = rw some refl in
+    between_itself (tells rules usual slots) (2880 / rules.cell) k below telling
 
 -- a flight is told in one line, that of the cell of its take-off
 pub in_one_line : (rules : RunwayRules) (usual : ℕ) (slots : List SlotRecord) (flight : SlotRecord)
     → IsTrue (is_cell_length rules.cell) → Contains slots flight → flight.ttot < 2880 → IsInOneLine rules usual slots flight
-unfolding tells told_cells
+unfolding told_cells
 in_one_line rules usual slots flight length_ok among early =
     let k = flight.ttot / rules.cell in
     let n = 2880 / rules.cell in
     let below : k < n = cell_below rules.cell flight.ttot length_ok early in
     let here : Contains (flights_in_cell rules slots k) flight =
     contains_kept (λ s. s.ttot / rules.cell == k) slots flight among (eq-eqb k k refl) in
-    let some : nat_lt 0 (length (flights_in_cell rules slots k)) ≡ true = let more = some_in (flights_in_cell rules slots k) flight here in grind (arith, nat_tests) in
-    let telling : tells rules usual slots k ≡ true = rw some refl in
     record {
       told = contains_kept (is_between (tells rules usual slots) (cells_of rules)) (cells_of rules) k (range-contains n k below)
-          (between_itself (tells rules usual slots) n k below telling);
+          (told_with_flight rules usual slots k below (omega (arith, here.1)));
       counted = here;
       once = λ j there.
           sym (eqb-true k j (All-contains (λ s. (s.ttot / rules.cell == j) ≡ true) (flights_in_cell rules slots j) flight
           (filter_passes (λ s. s.ttot / rules.cell == j) slots) there));
     }
+
+abbrev is_number : ℕ → ℕ → ℕ
+is_number t k = cond (t == k) 1 0
+
+-- a number is once among those that it is below
+once_more : (t n c : ℕ) → c ≡ cond (nat_lt t n) 1 0 → c + cond (t == n) 1 0 ≡ cond (nat_lt t (n + 1)) 1 0
+once_more t n c e = grind (arith, nat_tests)
+
+there_once : (t n : ℕ) → count_by (λ k. t == k) (range_with_len 0 n) ≡ cond (nat_lt t n) 1 0
+there_once t zero = sym (cond-false {A = ℕ} (nat_lt t 0) 1 0 (le-ltb t 0 (omega arith)))
+there_once t (suc n) =
+    let test : ℕ → Bool = λ k. t == k in
+    let next = count_more test 0 n n (sym (zero-add n)) in
+    subst (λ (k : ℕ). count_by test (range_with_len 0 k) ≡ cond (nat_lt t k) 1 0) (add-one n)
+    (next ∙ once_more t n (count_by test (range_with_len 0 n)) (there_once t n))
+
+-- what is left out counts nothing
+sum_kept : (f : ℕ → ℕ) (test : ℕ → Bool) (xs : List ℕ) → ((k : ℕ) → Contains xs k → test k ≡ false → f k ≡ 0) → sum_by f (filter test xs) ≡ sum_by f xs
+sum_kept f test [] none = refl
+sum_kept f test (x ∷ xs) none =
+    let rest = sum_kept f test xs (λ k i. none k (contains_tail x xs k i)) in
+    let here = none x (contains_head x xs) in
+    grind (arith, sum_by-cons f x xs, sum_by-cons f x (filter test xs))
+
+-- each slot is in one of the cells
+module _ (c n : ℕ) where
+  abbrev count_at : List SlotRecord → ℕ → ℕ
+  count_at slots k = length (filter (λ s. s.ttot / c == k) slots)
+
+  one_more : (s : SlotRecord) (slots : List SlotRecord) (k : ℕ) → count_at (s ∷ slots) k ≡ is_number (s.ttot / c) k + count_at slots k
+  one_more s slots k = grind arith
+
+  all_counted : (slots : List SlotRecord) → ((s : SlotRecord) → Contains slots s → s.ttot / c < n) → sum_by (count_at slots) (range_with_len 0 n) ≡ length slots
+  all_counted [] each = sum_by-zero (range_with_len 0 n)
+  all_counted (s ∷ slots) each =
+      let rest = all_counted slots (λ t i. each t (contains_tail s slots t i)) in
+      let here = each s (contains_head s slots) in
+      let once : sum_by (is_number (s.ttot / c)) (range_with_len 0 n) ≡ 1 =
+      there_once (s.ttot / c) n ∙ cond-true {A = ℕ} (nat_lt (s.ttot / c) n) 1 0 (lt-ltb (s.ttot / c) n here) in
+      let parts : sum_by (count_at (s ∷ slots)) (range_with_len 0 n) ≡ sum_by (is_number (s.ttot / c)) (range_with_len 0 n) + sum_by (count_at slots) (range_with_len 0 n) =
+      (λ i. sum_by (λ k. one_more s slots k i) (range_with_len 0 n)) ∙ sum_by-add (is_number (s.ttot / c)) (count_at slots) (range_with_len 0 n) in
+      omega arith
+
+-- the counts of the lines that are told add up to the slots
+pub counts_add : (rules : RunwayRules) (usual : ℕ) (slots : List SlotRecord) → IsTrue (is_cell_length rules.cell) → All (λ s. s.ttot < 2880) slots
+    → sum_by (λ k. length (flights_in_cell rules slots k)) (told_cells rules usual slots) ≡ length slots
+unfolding told_cells
+counts_add rules usual slots length_ok early =
+    let n = 2880 / rules.cell in
+    let told = is_between (tells rules usual slots) (cells_of rules) in
+    sum_kept (count_at rules.cell n slots) told (cells_of rules) (λ k i untold.
+    let bounds = range-bounds 0 n k i in
+    let none : 0 < count_at rules.cell n slots k → ⊥ =
+    λ more. both_ways (told k) untold (told_with_flight rules usual slots k (omega arith) more) in
+    omega (arith, none))
+    ∙ all_counted rules.cell n slots (λ s i. cell_below rules.cell s.ttot length_ok (All-contains (λ (t : SlotRecord). t.ttot < 2880) slots s early i))

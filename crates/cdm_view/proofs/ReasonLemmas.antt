@@ -1,38 +1,47 @@
--- At which minutes a flight has a reason to wait.
-use Rattle.std.proofs.Common.{◌≡◌, ℕ, ◌+◌, ◌<◌, ◌≤◌, ◌/◌, ◌==◌, Bool, true, false, not, cond, ◌&&◌, List, [], ◌∷◌, length, filter, map}
-use Rattle.std.proofs.Common.{get_or, Option, Some, None, refl, sym, ◌∙◌, ap, subst, arith}
-use Rattle.std.specs.Option.{IsSome}
-use Rattle.std.proofs.lemmas.Bool.{and_from, and_parts, cond-false, eq-eqb, eqb-true, le-leb, le-ltb, leb-false, leb-true, lt-leb, lt-ltb, ltb-false}
-use Rattle.std.proofs.lemmas.Bool.{ltb-true, not-false}
-use Rattle.std.proofs.lemmas.List.Elements.{Contains-get_or}
+-- What a reason to wait at a minute says of it, and which rule blocks a flight, by its reasons.
+use Rattle.std.proofs.Common.{◌≡◌, ℕ, suc, ◌+◌, ◌<◌, ◌≤◌, ◌/◌, ◌==◌, Bool, true, false, not, cond, ◌&&◌, List}
+use Rattle.std.proofs.Common.{length, filter, map, Option, Some, None, refl, sym, ◌∙◌, subst, inl, inr, arith}
+use Rattle.std.specs.Bool.{Decides}
+use Rattle.std.specs.Option.{IsSome, IfSome, IsSomeAnd}
+use Rattle.std.proofs.lemmas.Bool.{and_from, and_parts, both_ways, cases_lt, cond_both, le-leb, leb-false, leb-true}
+use Rattle.std.proofs.lemmas.Bool.{lt-ltb, ltb-false, ltb-true, not-false, not-true, not_from_false}
+use Rattle.std.proofs.lemmas.Bool.Decides.{Decides-by_and, nat_tests}
 use Rattle.std.proofs.lemmas.List.Sums.{length-filter}
 use Rattle.cdm_flight.proofs.Lists.{sum_map}
-use Rattle.cdm_plan.proofs.ListWords.{All-contains, Contains, contains_from_map, contains_head, contains_kept, contains_map, contains_tail}
-use Rattle.cdm_plan.proofs.ListWords.{false_from_ne_true}
-use Rattle.cdm_plan.proofs.ListWords.{nat_le, nat_lt, option_map_or}
+use Rattle.cdm_plan.proofs.ListWords.{All, count_by, nat_le, nat_lt, option_map_or}
 use Rattle.cdm_plan.proofs.PlanWords.{RunwayRules, SlotRecord}
-use Rattle.cdm_plan.proofs.JournalFacts.{not_first}
 use Rattle.cdm_time.specs.Windows.{is_in_tolerance}
-use Rattle.cdm_runway.specs.Room.{cap_at, held_in_cell, is_closed, meets, taken_by, IsFree, IsSpaced}
+use Rattle.cdm_runway.specs.Room.{cap_at, held_in_cell, is_closed, meets, taken_by, HasRoom, IsOpen, IsSpaced}
 use Rattle.cdm_runway.specs.declared.load.Taken.{Taken}
 use Rattle.cdm_sequence.specs.Aims.{is_candidate, ready_at, stand_minutes}
-use Rattle.cdm_view.specs.Reasons.{reason_at}
-use Rattle.cdm_view.specs.Reasons.{Waiting, held_at, met_at, names_of}
+use Rattle.cdm_sequence.specs.declared.rule.Rule.{Rule}
+use Rattle.cdm_sequence.specs.declared.rule.Rule.TheVariants as rule
+use Rattle.cdm_view.specs.Reasons.{reason_at, Waiting, held_at, met_at}
+use Rattle.cdm_view.specs.Waits.{place_of, rule_of}
 use Rattle.cdm_view.specs.declared.reason.Reason.{Reason}
-use Rattle.cdm_view.specs.declared.reason.Reason.TheVariants.{Ice, Now, Ctot, Closure, Spacing, Rate}
 
 -- Lists.
 
--- where a filter keeps nothing, no element passes
-none_passes : {X : Type 0} (q : X → Bool) (xs : List X) → length (filter q xs) ≡ 0 → (x : X) → Contains xs x → q x ≡ false
-none_passes q xs h x i = false_from_ne_true (q x) (λ e. let k = (contains_kept q xs x i e).1 in omega arith)
+-- a filter keeps nothing exactly where no element passes
+none_decides : {X : Type 0} (q : X → Bool) (xs : List X)
+    → Decides (length (filter q xs) == 0) (All (λ x. q x ≡ false) xs)
+none_decides {X} q =
+    Decides-by_and (λ (x : X). not (q x)) (λ (x : X). q x ≡ false) (λ (xs : List X). length (filter q xs) == 0)
+    (λ x. (not-true (q x), not_from_false (q x))) refl (λ x xs. grind (arith, nat_tests))
 
-nothing_kept : {X : Type 0} (q : X → Bool) (xs : List X) → ((x : X) → Contains xs x → q x ≡ false) → length (filter q xs) ≡ 0
-nothing_kept q [] none = refl
-nothing_kept {X} q (x ∷ xs) none =
-    ap (λ b. length (cond b (x ∷ filter q xs) (filter q xs))) (none x (contains_head x xs)) ∙ nothing_kept q xs (λ y i. none y (contains_tail x xs y i))
+-- how many it keeps by what the elements give
+kept-map : {X Y : Type 0} (q : Y → Bool) (f : X → Y) (xs : List X)
+    → length (filter (λ x. q (f x)) xs) ≡ count_by q (map f xs)
+kept-map q f xs = length-filter (λ x. q (f x)) xs ∙ sym (sum_map (λ y. cond (q y) 1 0) f xs)
 
--- What is taken.
+-- Rules.
+
+-- rules of one place are one
+pub one_place : (q r : Rule) → place_of q ≡ place_of r → q ≡ r
+one_place q r e = grind arith
+
+pub place_below : (r : Rule) → place_of r < 8
+place_below r = grind arith
 
 -- what a slot takes of a runway
 abbrev pub taken_as : RunwayRules → SlotRecord → Taken
@@ -42,128 +51,139 @@ taken_as r s = taken_by r s.group s.ttot
 abbrev pub taken_for : Waiting → List Taken
 taken_for w = map (taken_as w.rules) w.earlier
 
-module _ (w : Waiting) (m : ℕ) where
-  abbrev pub own : Taken
-  own = taken_by w.rules w.flight.group m
-
-  -- the flight meets none where there is none that it would meet
-  pub spaced_from : length (met_at w m) ≡ 0 → IsSpaced w.rules (taken_for w) w.flight.group m
-  spaced_from h = λ k d l.
-      let i = contains_from_map (taken_as w.rules) w.earlier (get_or (taken_for w) k d) (Contains-get_or (taken_for w) k d l) in
-      subst (λ (t : Taken). meets own t ≡ false) i.2 (none_passes (λ s. meets own (taken_as w.rules s)) w.earlier h i.0 i.1)
-
-  pub met_from : IsSpaced w.rules (taken_for w) w.flight.group m → length (met_at w m) ≡ 0
-  met_from spaced = nothing_kept (λ s. meets own (taken_as w.rules s)) w.earlier (λ s i.
-      All-contains (λ t. meets own t ≡ false) (taken_for w) (taken_as w.rules s) spaced (contains_map (taken_as w.rules) w.earlier s i))
-
-  pub held_is : length (held_at w m) ≡ held_in_cell w.rules.cell (taken_for w) m
-  held_is =
-      length-filter (λ (s : SlotRecord). s.ttot / w.rules.cell == m / w.rules.cell) w.earlier
-      ∙ sym (sum_map (λ (t : Taken). cond (t.minute / w.rules.cell == m / w.rules.cell) 1 0) (taken_as w.rules) w.earlier)
-
--- Reasons.
-
--- the flight waits no longer for what is asked
-pub record HasNone (w : Waiting) (m : ℕ) : Type 0 where
-  pub iced : nat_lt m (w.tobt + stand_minutes w.flight.ice + w.exot) ≡ false
-  pub left : nat_lt m (w.values.clock + w.exot) ≡ false
-  pub in_slot : option_map_or (λ c. is_in_tolerance w.values.tolerance c m) w.flight.ctot true ≡ true
-  pub is_open : is_closed w.rules m ≡ false
-  pub spaced : length (met_at w m) ≡ 0
-  pub room : length (held_at w m) < cap_at w.rules m
-
-pub has_none : (w : Waiting) (m : ℕ) → reason_at w m ≡ None → HasNone w m
-unfolding reason_at
-has_none w m h =
-    let slot = option_map_or (λ c. is_in_tolerance w.values.tolerance c m) w.flight.ctot true in
-    let iced = not_first (nat_lt m (w.tobt + stand_minutes w.flight.ice + w.exot)) Ice _ h in
-    let left = not_first (nat_lt m (w.values.clock + w.exot)) Now _ iced.1 in
-    let in_slot = not_first (not slot) Ctot _ left.1 in
-    let is_open = not_first (is_closed w.rules m) Closure _ in_slot.1 in
-    let spaced = not_first (not (length (met_at w m) == 0)) (Spacing (names_of (met_at w m))) _ is_open.1 in
-    let room = not_first (nat_le (cap_at w.rules m) (length (held_at w m))) (Rate (cap_at w.rules m) (names_of (held_at w m))) _ spaced.1 in
-    record {
-      iced = iced.0;
-      left = left.0;
-      in_slot = not-false slot in_slot.0;
-      is_open = is_open.0;
-      spaced = eqb-true (length (met_at w m)) 0 (not-false (length (met_at w m) == 0) spaced.0);
-      room = leb-false (cap_at w.rules m) (length (held_at w m)) room.0;
-    }
-
--- where nothing is left to ask there is none
-pub none_from : (w : Waiting) (m : ℕ) → HasNone w m → reason_at w m ≡ None
-unfolding reason_at
-none_from w m h =
-    let slot = option_map_or (λ c. is_in_tolerance w.values.tolerance c m) w.flight.ctot true in
-    let in_slot : not slot ≡ false = ap not h.in_slot in
-    let spaced : not (length (met_at w m) == 0) ≡ false = ap not (eq-eqb (length (met_at w m)) 0 h.spaced) in
-    let room : nat_le (cap_at w.rules m) (length (held_at w m)) ≡ false = lt-leb (cap_at w.rules m) (length (held_at w m)) h.room in
-    cond-false (nat_lt m (w.tobt + stand_minutes w.flight.ice + w.exot)) (Some Ice) _ h.iced
-    ∙ cond-false (nat_lt m (w.values.clock + w.exot)) (Some Now) _ h.left
-    ∙ cond-false (not slot) (Some Ctot) _ in_slot
-    ∙ cond-false (is_closed w.rules m) (Some Closure) _ h.is_open
-    ∙ cond-false (not (length (met_at w m) == 0)) (Some (Spacing (names_of (met_at w m)))) _ spaced
-    ∙ cond-false (nat_le (cap_at w.rules m) (length (held_at w m))) (Some (Rate (cap_at w.rules m) (names_of (held_at w m)))) None room
-
--- the minute is one at which the flight could take off, which it can from this one on
-abbrev pub is_candidate_for : Waiting → ℕ → Bool
-is_candidate_for w m = is_candidate w.values.tolerance (ready_at w.flight w.tobt w.values + w.exot) w.flight.ctot m
-
+-- the first minute at which the flight could take off, and whether it could at a minute
 abbrev pub earliest_for : Waiting → ℕ
 earliest_for w = ready_at w.flight w.tobt w.values + w.exot
 
--- a candidate is in reach
-pub candidate_within : (w : Waiting) (m : ℕ) → is_candidate_for w m ≡ true → (earliest_for w ≤ m) × (m < 2880)
-candidate_within w m h =
-    let earliest = earliest_for w in
-    let parts = and_parts (nat_le earliest m) (nat_lt m 2880) (and_parts (nat_le earliest m && nat_lt m 2880) _ h).0 in
-    (leb-true earliest m parts.0, ltb-true m 2880 parts.1)
+abbrev pub is_candidate_for : Waiting → ℕ → Bool
+is_candidate_for w m = is_candidate w.values.tolerance (earliest_for w) w.flight.ctot m
 
--- neither de-icing nor now holds the flight at a minute in reach
-pub in_reach : (w : Waiting) (m : ℕ) → nat_lt m (w.tobt + stand_minutes w.flight.ice + w.exot) ≡ false → nat_lt m (w.values.clock + w.exot) ≡ false
-    → earliest_for w ≤ m
-in_reach w m iced left =
-    let ice = w.tobt + stand_minutes w.flight.ice in
-    let a = ltb-false m (ice + w.exot) iced in
-    let b = ltb-false m (w.values.clock + w.exot) left in
-    omega arith
+-- the flight meets none at the minute
+abbrev pub IsSpacedFor : Waiting → ℕ → Type 0
+IsSpacedFor w m = IsSpaced w.rules (taken_for w) w.flight.group m
 
-pub candidate_from : (w : Waiting) (m : ℕ) → m < 2880 → earliest_for w ≤ m
-    → option_map_or (λ c. is_in_tolerance w.values.tolerance c m) w.flight.ctot true ≡ true → is_candidate_for w m ≡ true
-candidate_from w m below after in_slot =
-    let earliest = earliest_for w in
-    and_from (nat_le earliest m && nat_lt m 2880) _ (and_from (nat_le earliest m) (nat_lt m 2880) (le-leb earliest m after) (lt-ltb m 2880 below)) in_slot
+-- the minute keeps a rule
+abbrev pub Keeps : Waiting → ℕ → Rule → Type 0
+Keeps w m rule.Horizon = earliest_for w ≤ m
+Keeps w m rule.Ctot = is_candidate_for w m ≡ true
+Keeps w m rule.Closure = IsOpen w.rules m
+Keeps w m rule.Spacing = IsSpacedFor w m
+Keeps w m rule.Rate = HasRoom w.rules (taken_for w) m
+Keeps w m _ = Unit {0}
 
-free_from : (w : Waiting) (m : ℕ) → HasNone w m → IsFree w.rules (taken_for w) w.flight.group m
-free_from w m none = record {
-  is_open = none.is_open;
-  is_spaced = spaced_from w m none.spaced;
-  has_room = let held = held_is w m in let room = none.room in omega arith;
-}
+-- and all that are tested before a place
+abbrev pub KeepsBefore : Waiting → ℕ → ℕ → Type 0
+KeepsBefore w m place = (r : Rule) → place_of r < place → Keeps w m r
 
--- a free minute at which it could take off has none
-pub none_when : (w : Waiting) (m : ℕ) → is_candidate_for w m ≡ true → IsFree w.rules (taken_for w) w.flight.group m → reason_at w m ≡ None
-none_when w m h free =
-    let ice = w.tobt + stand_minutes w.flight.ice in
-    let parts = and_parts (nat_le (earliest_for w) m && nat_lt m 2880) _ h in
-    let after = (candidate_within w m h).0 in
-    let held = held_is w m in
-    let room = free.has_room in
-    none_from w m record {
-      iced = le-ltb m (ice + w.exot) (omega arith);
-      left = le-ltb m (w.values.clock + w.exot) (omega arith);
-      in_slot = parts.1;
-      is_open = free.is_open;
-      spaced = met_from w m free.is_spaced;
-      room = omega arith;
-    }
+module _ (w : Waiting) (m : ℕ) where
+  -- a candidate is in reach
+  pub candidate_within : is_candidate_for w m ≡ true → (earliest_for w ≤ m) × (m < 2880)
+  candidate_within h = grind (arith, nat_tests)
 
--- and each other minute has one
-pub some_unless : (w : Waiting) (m : ℕ) → m < 2880 → (is_candidate_for w m ≡ true → IsFree w.rules (taken_for w) w.flight.group m → ⊥)
-    → IsSome (reason_at w m)
-some_unless w m below not_free = by (reason_at w m) refl
-  where
-    by : (o : Option Reason) → reason_at w m ≡ o → IsSome o
-    by (Some reason) e = refl
-    by None e = let none = has_none w m e in absurd (not_free (candidate_from w m below (in_reach w m none.iced none.left) none.in_slot) (free_from w m none))
+  spaced_decides : Decides (length (met_at w m) == 0) (IsSpacedFor w m)
+  spaced_decides =
+      let own = meets (taken_by w.rules w.flight.group m) in
+      let same : length (met_at w m) ≡ length (filter own (taken_for w)) =
+      kept-map own (taken_as w.rules) w.earlier ∙ sym (length-filter own (taken_for w)) in
+      subst (λ (n : ℕ). Decides (n == 0) (IsSpacedFor w m)) (sym same) (none_decides own (taken_for w))
+
+  held_is : length (held_at w m) ≡ held_in_cell w.rules.cell (taken_for w) m
+  held_is = kept-map (λ (t : Taken). t.minute / w.rules.cell == m / w.rules.cell) (taken_as w.rules) w.earlier
+
+  -- one rule more
+  pub and_next : (q : Rule) → KeepsBefore w m (place_of q) → Keeps w m q → KeepsBefore w m (suc (place_of q))
+  and_next q before here r below = elim (cases_lt (place_of r) (place_of q)) [
+    | inl less ↦ before r less
+    | inr other ↦ subst (Keeps w m) (one_place q r (omega arith)) here
+  ]
+
+  pub none_before : KeepsBefore w m 3
+  none_before r below = grind arith
+
+  pub candidate_keeps : is_candidate_for w m ≡ true → KeepsBefore w m 5
+  candidate_keeps h = and_next rule.Ctot (and_next rule.Horizon none_before (candidate_within h).0) h
+
+  pub free_keeps : is_candidate_for w m ≡ true → IsOpen w.rules m → IsSpacedFor w m → HasRoom w.rules (taken_for w) m
+      → (r : Rule) → Keeps w m r
+  free_keeps h is_open spaced room r =
+      let before = and_next rule.Spacing (and_next rule.Closure (candidate_keeps h) is_open) spaced in
+      and_next rule.Rate before room r (place_below r)
+
+  -- a reason says that the minute keeps the rules that are tested before, and not its own, and none that it keeps all
+  abbrev pub Says : Option Reason → Type 0
+  Says None = (r : Rule) → Keeps w m r
+  Says (Some reason) = KeepsBefore w m (place_of (rule_of reason)) × (Keeps w m (rule_of reason) → ⊥)
+
+  pub said : m < 2880 → Says (reason_at w m)
+  unfolding reason_at
+  said below =
+      let iced = w.tobt + stand_minutes w.flight.ice + w.exot in
+      let now = w.values.clock + w.exot in
+      let slot = option_map_or (λ c. is_in_tolerance w.values.tolerance c m) w.flight.ctot true in
+      let within = nat_le (earliest_for w) m && nat_lt m 2880 in
+      let closed = is_closed w.rules m in
+      let none = length (met_at w m) == 0 in
+      let full = nat_le (cap_at w.rules m) (length (held_at w m)) in
+      cond_both (nat_lt m iced) _ _ Says
+      (λ here. let early = ltb-true m iced here in (none_before, λ keeps. omega arith)) (λ out.
+      cond_both (nat_lt m now) _ _ Says
+      (λ here. let early = ltb-true m now here in (none_before, λ keeps. omega arith)) (λ left.
+      let after : earliest_for w ≤ m = let a = ltb-false m iced out in let b = ltb-false m now left in omega arith in
+      let reached = and_next rule.Horizon none_before after in
+      cond_both (not slot) _ _ Says
+      (λ here. (reached, λ keeps. both_ways slot (not-true slot here) (and_parts within slot keeps).1)) (λ in_slot.
+      let in_reach = and_from _ _ (le-leb (earliest_for w) m after) (lt-ltb m 2880 below) in
+      let candidates = candidate_keeps (and_from within slot in_reach (not-false slot in_slot)) in
+      cond_both closed _ _ Says (λ here. (candidates, λ keeps. both_ways closed keeps here)) (λ is_open.
+      let opened = and_next rule.Closure candidates is_open in
+      cond_both (not none) _ _ Says
+      (λ here. (opened, λ keeps. both_ways none (not-true none here) (spaced_decides.1 keeps))) (λ alone.
+      let spaced = and_next rule.Spacing opened (spaced_decides.0 (not-false none alone)) in
+      let held = held_is in
+      cond_both full _ _ Says
+      (λ here. let most = leb-true (cap_at w.rules m) _ here in (spaced, λ keeps. omega arith)) (λ room r.
+      let fewer = leb-false (cap_at w.rules m) _ room in
+      and_next rule.Rate spaced (omega arith) r (place_below r)))))))
+
+  -- where the minute keeps all rules there is none
+  pub none_when : m < 2880 → ((r : Rule) → Keeps w m r) → reason_at w m ≡ None
+  none_when below keeps = let says = said below in grind (arith, keeps)
+
+  -- and elsewhere there is one
+  pub some_unless : m < 2880 → (((r : Rule) → Keeps w m r) → ⊥) → IsSome (reason_at w m)
+  some_unless below not_all = let says = said below in grind (arith, not_all)
+
+-- the rule blocks the flight as it waits: some minute keeps all rules that are tested before, and none keeps this one too
+pub record Blocked (w : Waiting) (why : Rule) : Type 0 where
+  pub minute : ℕ
+  pub within : minute < 2880
+  pub before : KeepsBefore w minute (place_of why)
+  pub never : (m : ℕ) → m < 2880 → KeepsBefore w m (suc (place_of why)) → ⊥
+
+module _ (w : Waiting) (why : Rule) (is : Blocked w why) where
+  -- so each minute has a reason
+  pub always : (m : ℕ) → m < 2880 → IsSome (reason_at w m)
+  always m below = some_unless w m below (λ keeps. is.never m below (λ r l. keeps r))
+
+  -- none of a rule that is tested later
+  no_later : (m : ℕ) → m < 2880 → (reason : Reason) → Says w m (Some reason) → place_of (rule_of reason) ≤ place_of why
+  no_later m below reason says = elim (cases_lt (place_of why) (place_of (rule_of reason))) [
+    | inl later ↦ absurd (is.never m below (λ r l. says.0 r (omega arith)))
+    | inr other ↦ other
+  ]
+
+  -- the rule is the last of those of the reasons
+  pub last : (m : ℕ) → m < 2880 → IfSome (reason_at w m) (λ reason. place_of (rule_of reason) ≤ place_of why)
+  last m below = let says = said w m below in grind (arith, no_later m below)
+
+  pub among : (m : ℕ) × (m < 2880) × IsSomeAnd (reason_at w m) (λ reason. rule_of reason ≡ why)
+  among = (is.minute, is.within, by (reason_at w is.minute) (said w is.minute is.within))
+    where
+      by : (o : Option Reason) → Says w is.minute o → IsSomeAnd o (λ reason. rule_of reason ≡ why)
+      by None says = absurd (is.never is.minute is.within (λ r l. says r))
+      by (Some reason) says = elim (cases_lt (place_of (rule_of reason)) (place_of why)) [
+        | inl earlier ↦ absurd (says.1 (is.before (rule_of reason) earlier))
+        | inr other ↦
+            let least = no_later is.minute is.within reason says in
+            one_place (rule_of reason) why (omega arith)
+      ]

@@ -1,18 +1,17 @@
 -- Runs of minutes, and how one more minute changes them.
-use Rattle.std.proofs.Common.{◌≡◌, ℕ, ◌+◌, ◌<◌, ◌≤◌, List, [], ◌∷◌, ◌++◌, Option, Some, None, ◌⊎◌, inl, inr, ap, sym, ◌∙◌, refl, subst, arith}
+use Rattle.std.proofs.Common.{◌≡◌, ℕ, ◌+◌, ◌<◌, ◌≤◌, List, [], ◌∷◌, ◌++◌, Option, Some, None, ◌⊎◌, inl, inr, ap, sym}
+use Rattle.std.proofs.Common.{◌∙◌, refl, subst, append_assoc, arith}
 use Rattle.cdm_view.specs.declared.reason.Reason.{Reason}
 use Rattle.cdm_view.specs.declared.runs.Run.{Run}
 use Rattle.cdm_view.specs.Runs.{AreRuns, IsNextRun}
 
 -- There is one list of runs.
 
--- no other first run begins later, or ends later
-none_later : (told : ℕ → Option Reason) (from to : ℕ) (r s : Run) → IsNextRun told from to r → IsNextRun told from to s → r.first < s.first → ⊥
-none_later told from to r s a b h =
-    let none : told r.first ≡ None = b.none_before r.first a.after h in
-    let here : told r.first ≡ Some r.reason = a.held r.first (omega arith) a.order in
-    cc
+-- where a run begins, there is a reason
+begins : (told : ℕ → Option Reason) (from to : ℕ) (r : Run) → IsNextRun told from to r → told r.first ≡ None → ⊥
+begins told from to r a none = let here : told r.first ≡ Some r.reason = a.held r.first (omega arith) a.order in cc
 
+-- no other first run ends later
 none_longer : (told : ℕ → Option Reason) (from to : ℕ) (r s : Run) → IsNextRun told from to r → IsNextRun told from to s → r.first ≡ s.first → r.reason ≡ s.reason
     → r.last < s.last → ⊥
 none_longer told from to r s a b first reason h =
@@ -21,30 +20,24 @@ none_longer told from to r s a b first reason h =
 -- two first runs are one
 next_one : (told : ℕ → Option Reason) (from to : ℕ) (r s : Run) → IsNextRun told from to r → IsNextRun told from to s → r ≡ s
 next_one told from to r s a b =
-    let one_first : r.first < s.first → ⊥ = none_later told from to r s a b in
-    let other_first : s.first < r.first → ⊥ = none_later told from to s r b a in
+    let one_first : r.first < s.first → ⊥ = λ h. begins told from to r a (b.none_before r.first a.after h) in
+    let other_first : s.first < r.first → ⊥ = λ h. begins told from to s b (a.none_before s.first b.after h) in
     let first : r.first ≡ s.first = omega (arith, one_first, other_first) in
     let here : told r.first ≡ Some r.reason = a.held r.first (omega arith) a.order in
     let there : told s.first ≡ Some s.reason = b.held s.first (omega arith) b.order in
-    let same : Some r.reason ≡ Some s.reason = sym here ∙ ap told first ∙ there in
     let reason : r.reason ≡ s.reason = cc in
     let one_last : r.last < s.last → ⊥ = none_longer told from to r s a b first reason in
     let other_last : s.last < r.last → ⊥ = none_longer told from to s r b a (sym first) (sym reason) in
     let last : r.last ≡ s.last = omega (arith, one_last, other_last) in
     λ i. record { first = first i; last = last i; reason = reason i }
 
--- where a run begins, there is a reason
-no_run : (told : ℕ → Option Reason) (from to : ℕ) (r : Run) → IsNextRun told from to r → ((m : ℕ) → from ≤ m → m < to → told m ≡ None) → ⊥
-no_run told from to r a none =
-    let here : told r.first ≡ Some r.reason = a.held r.first (omega arith) a.order in
-    let nothing : told r.first ≡ None = none r.first a.after (omega (arith, a.order, a.within)) in
-    cc
-
 pub runs_one : (told : ℕ → Option Reason) (from to : ℕ) (xs ys : List Run) → AreRuns told from to xs → AreRuns told from to ys → xs ≡ ys
 unfolding AreRuns
 runs_one told from to [] [] a b = refl
-runs_one told from to [] (s ∷ ys) a b = absurd (no_run told from to s b.0 a)
-runs_one told from to (r ∷ xs) [] a b = absurd (no_run told from to r a.0 b)
+runs_one told from to [] (s ∷ ys) a b =
+    absurd (begins told from to s b.0 (a s.first b.0.after (omega (arith, b.0.order, b.0.within))))
+runs_one told from to (r ∷ xs) [] a b =
+    absurd (begins told from to r a.0 (b r.first a.0.after (omega (arith, a.0.order, a.0.within))))
 runs_one told from to (r ∷ xs) (s ∷ ys) a b =
     let same : r ≡ s = next_one told from to r s a.0 b.0 in
     let rest : AreRuns told (r.last + 1) to ys = subst (λ (x : Run). AreRuns told (x.last + 1) to ys) (sym same) b.1 in
@@ -62,17 +55,13 @@ next_grows told from m r a other = record {
   within = omega (arith, a.within);
   none_before = a.none_before;
   held = a.held;
-  longest = λ h e.
-      let side : (r.last + 1 < m) ⊎ (r.last + 1 ≡ m) = grind arith in
-      elim side [ inl below ↦ a.longest below e | inr end ↦ other end (sym (ap told end) ∙ e) ];
+  longest = λ h e. grind (arith, a.longest, other);
 }
 
 -- a minute without a reason changes no run
 pub runs_none : (told : ℕ → Option Reason) (from m : ℕ) (runs : List Run) → AreRuns told from m runs → told m ≡ None → AreRuns told from (m + 1) runs
 unfolding AreRuns
-runs_none told from m [] a none = λ k after before.
-    let side : (k < m) ⊎ (k ≡ m) = grind arith in
-    elim side [ inl below ↦ a k after below | inr end ↦ ap told end ∙ none ]
+runs_none told from m [] a none = λ k after before. grind (arith, a k)
 runs_none told from m (r ∷ later) a none = (next_grows told from m r a.0 (λ end e. cc), runs_none told (r.last + 1) m later a.1 none)
 
 -- the run of one minute
@@ -87,9 +76,7 @@ run_of_one told from m reason none after here = record {
   order = omega arith;
   within = omega arith;
   none_before = none;
-  held = λ k low high.
-      let same : k ≡ m = omega arith in
-      ap told same ∙ here;
+  held = λ k low high. grind arith;
   longest = λ h e. absurd (omega (arith, h));
 }
 
@@ -108,43 +95,46 @@ unfolding AreRuns
 some_minute told from to [] r a = omega (arith, a.0.after, a.0.order, a.0.within)
 some_minute told from to (p ∷ before) r a = omega (arith, a.0.after, a.0.order, a.0.within)
 
+-- the last run changes with the minute as it does alone
+runs_behind : (told : ℕ → Option Reason) (m : ℕ) (r : Run) (next : List Run)
+    → ((k : ℕ) → AreRuns told k m (r ∷ []) → AreRuns told k (m + 1) next)
+    → (from : ℕ) (before : List Run) → AreRuns told from m (before ++ r ∷ [])
+    → AreRuns told from (m + 1) (before ++ next)
+unfolding AreRuns
+runs_behind told m r next step from [] a = step from a
+runs_behind told m r next step from (p ∷ before) a =
+    let more : p.last + 1 < m = some_minute told (p.last + 1) m before r a.1 in (
+      next_grows told from m p a.0 (λ end e. absurd (omega (arith, more, end))),
+      runs_behind told m r next step (p.last + 1) before a.1,
+    )
+
 -- a new run behind the others
 pub runs_other : (told : ℕ → Option Reason) (from m : ℕ) (reason : Reason) (before : List Run) (r : Run) → AreRuns told from m (before ++ r ∷ []) → told m ≡ Some reason
     → (r.last + 1 ≡ m → r.reason ≡ reason → ⊥) → AreRuns told from (m + 1) ((before ++ r ∷ []) ++ run_at m reason ∷ [])
 unfolding AreRuns
-runs_other told from m reason [] r a here other =
-    (next_grows told from m r a.0 (λ end e. other end (cc)), (run_of_one told (r.last + 1) m reason a.1 (omega (arith, a.0.within)) here, no_minute told m))
-runs_other told from m reason (p ∷ before) r a here other =
-    let more : p.last + 1 < m = some_minute told (p.last + 1) m before r a.1 in
-    (next_grows told from m p a.0 (λ end e. absurd (omega (arith, more, end))), runs_other told (p.last + 1) m reason before r a.1 here other)
+runs_other told from m reason before r a here other =
+    subst (AreRuns told from (m + 1)) (sym (append_assoc before (r ∷ []) (run_at m reason ∷ [])))
+    (runs_behind told m r (r ∷ run_at m reason ∷ []) (λ k b. (
+      next_grows told k m r b.0 (λ end e. other end (cc)),
+      (run_of_one told (r.last + 1) m reason b.1 (omega (arith, b.0.within)) here, no_minute told m),
+    )) from before a)
 
 -- the last run longer by the minute
-runs_longer : (told : ℕ → Option Reason) (from m : ℕ) (before : List Run) (r : Run) → AreRuns told from m (before ++ r ∷ []) → told m ≡ Some r.reason → r.last + 1 ≡ m
-    → AreRuns told from (m + 1) (before ++ record r { last = m } ∷ [])
+pub runs_same : (told : ℕ → Option Reason) (from m : ℕ) (reason : Reason) (before : List Run) (r : Run) → AreRuns told from m (before ++ r ∷ [])
+    → told m ≡ Some reason → r.reason ≡ reason → r.last + 1 ≡ m → AreRuns told from (m + 1) (before ++ record { first = r.first; last = m; reason = reason } ∷ [])
 unfolding AreRuns
-runs_longer told from m [] r a here end =
-    let n = a.0 in (
+runs_same told from m reason before r a here same end =
+    runs_behind told m r (record { first = r.first; last = m; reason = reason } ∷ []) (λ k b. (
       record {
-        after = n.after;
-        order = omega (arith, n.order, end);
+        after = b.0.after;
+        order = omega (arith, b.0.order, end);
         within = omega arith;
-        none_before = n.none_before;
-        held = λ k low high.
-            let side : (k ≤ r.last) ⊎ (k ≡ m) = grind arith in
-            elim side [ inl below ↦ n.held k low below | inr same ↦ ap told same ∙ here ];
+        none_before = b.0.none_before;
+        held = λ j low high. grind (arith, b.0.held j);
         longest = λ h e. absurd (omega (arith, h));
       },
       no_minute told m,
-    )
-runs_longer told from m (p ∷ before) r a here end =
-    let more : p.last + 1 < m = some_minute told (p.last + 1) m before r a.1 in
-    (next_grows told from m p a.0 (λ same e. absurd (omega (arith, more, same))), runs_longer told (p.last + 1) m before r a.1 here end)
-
-pub runs_same : (told : ℕ → Option Reason) (from m : ℕ) (reason : Reason) (before : List Run) (r : Run) → AreRuns told from m (before ++ r ∷ [])
-    → told m ≡ Some reason → r.reason ≡ reason → r.last + 1 ≡ m → AreRuns told from (m + 1) (before ++ record { first = r.first; last = m; reason = reason } ∷ [])
-runs_same told from m reason before r a here same end =
-    subst (λ (x : Reason). AreRuns told from (m + 1) (before ++ record { first = r.first; last = m; reason = x } ∷ [])) same
-    (runs_longer told from m before r a (here ∙ ap Some (sym same)) end)
+    )) from before a
 
 -- no minute, and no run
 pub runs_start : (told : ℕ → Option Reason) (from m : ℕ) (runs : List Run) → runs ≡ [] → m ≡ from → AreRuns told from m runs

@@ -1,35 +1,83 @@
--- A flight's turn: its earliest minute is the first without a reason, and what blocks its target blocks it.
-use Rattle.std.proofs.Common.{◌≡◌, ℕ, ◌+◌, ◌-◌, ◌<◌, ◌≤◌, ◌/◌, ◌==◌, true, false, cond, List, None, sym, ◌∙◌, subst, arith}
-use Rattle.std.specs.Option.{IsSome}
-use Rattle.std.proofs.lemmas.Bool.{and_from, and_parts, leb-true, le-leb, lt-ltb, ltb-true}
-use Rattle.cdm_plan.proofs.ListWords.{All-permutation, IsPermutation, IsPermutation-sym, nat_le, nat_lt, sum_by-IsPermutation}
-use Rattle.cdm_plan.proofs.PlanWords.{RunwayRules, TargetRecord}
+-- A flight's turn: what the slots before it take, its earliest minute, and what blocks its target.
+use Rattle.std.proofs.Common.{◌≡◌, ℕ, Bool, true, false, List, [], ◌∷◌, ◌++◌, filter, map, Option, Some, None, refl}
+use Rattle.std.proofs.Common.{sym, ◌∙◌, ap, subst, suc, ◌+◌, ◌<◌, ◌≤◌, ◌/◌, ◌==◌, cond, arith}
+use Rattle.std.proofs.lemmas.List.Elements.{filter-append}
+use Rattle.cdm_plan.proofs.ListWords.{Contains, IsPermutation, IsPermutation-map, filter_map, map-append}
+use Rattle.cdm_plan.proofs.ListWords.{filter_map-filter, filter_map_same, if_so, option_map}
+use Rattle.cdm_plan.proofs.ListWords.{All-permutation, IsPermutation-sym, sum_by-IsPermutation}
+use Rattle.cdm_plan.proofs.PlanningLemmas.{filter-filter_map}
+use Rattle.cdm_plan.proofs.PlanWords.{if_passes, Placing, RunwayRules, SlotRecord, TargetRecord, takeoffs}
+use Rattle.cdm_flight.proofs.Lists.{IsPermutation-filter}
+use Rattle.cdm_flight.specs.Order.{is_before}
+use Rattle.cdm_runway.specs.declared.load.Taken.{Taken}
+use Rattle.cdm_sequence.specs.Plan.{taken_before, taken_of}
+use Rattle.cdm_sequence.specs.Sequence.{planned_slot, Blocks}
+use Rattle.cdm_view.proofs.ListLemmas.{filter_all, option_map_some}
+use Rattle.cdm_view.proofs.ReasonLemmas.{taken_as, IsSpacedFor, KeepsBefore, and_next, candidate_keeps}
+use Rattle.cdm_view.proofs.ReasonLemmas.{candidate_within, free_keeps, is_candidate_for, none_when, some_unless}
+use Rattle.cdm_view.proofs.ReasonLemmas.{taken_for, Blocked}
+use Rattle.std.specs.Option.{IsSome, IsSomeAnd}
+use Rattle.std.proofs.lemmas.Bool.Decides.{nat_tests}
+use Rattle.std.proofs.lemmas.Bool.{both_ways}
 use Rattle.cdm_flight.specs.declared.group.Group.{Group}
 use Rattle.cdm_time.specs.Windows.{has_minute}
-use Rattle.cdm_runway.specs.Room.{held_in_cell, meets, taken_by, IsEarliest, IsFree, IsSpaced}
-use Rattle.cdm_runway.specs.declared.load.Taken.{Taken}
-use Rattle.cdm_sequence.specs.Sequence.{Blocks}
+use Rattle.cdm_runway.specs.Room.{held_in_cell, is_closed, meets, taken_by, IsEarliest, IsFree, IsSpaced}
 use Rattle.cdm_sequence.specs.declared.rule.Rule.{Rule}
 use Rattle.cdm_sequence.specs.declared.rule.Rule.TheVariants as rule
 use Rattle.cdm_view.specs.Reasons.{Waiting, reason_at}
-use Rattle.cdm_view.proofs.RuleLemmas.{Blocked, IsSpacedFor}
-use Rattle.cdm_view.proofs.ReasonLemmas.{candidate_within, is_candidate_for, none_when, some_unless, taken_for}
+use Rattle.cdm_view.specs.Waits.{place_of}
 
--- How full a cell is, whom a flight meets and which minute is free don't depend on the order of what is taken.
+-- what passes a test of what elements give is given by those that pass another
+filter_given : {X Y : Type 0} (q : Y → Bool) (p : X → Bool) (h : X → Option Y) (xs : List X)
+    → ((x : X) (y : Y) → Contains xs x → h x ≡ Some y → q y ≡ p x) → filter q (filter_map h xs) ≡ filter_map h (filter p xs)
+filter_given {X} {Y} q p h xs same =
+    filter-filter_map q h xs
+    ∙ (filter_map_same (λ x. if_passes q (h x)) (λ x. if_so (p x) (h x)) xs (λ x i. by x i (h x) refl (p x) refl)
+    ∙ sym (filter_map-filter h p xs))
+  where
+    by : (x : X) → Contains xs x → (o : Option Y) → h x ≡ o → (b : Bool) → p x ≡ b → if_passes q o ≡ if_so b o
+    by x i o e b k = grind (arith, same x)
 
-held_same : (r : RunwayRules) (xs ys : List Taken) (m : ℕ) → IsPermutation xs ys → held_in_cell r.cell ys m ≡ held_in_cell r.cell xs m
-held_same r xs ys m same = sum_by-IsPermutation (λ (t : Taken). cond (t.minute / r.cell == m / r.cell) 1 0) xs ys same
+module _ (r : RunwayRules) (p : Placing) where
+  -- the slot of a flight at its minute
+  abbrev pub slot_for : TargetRecord → Option SlotRecord
+  slot_for f = option_map (planned_slot f) (p f)
 
-spaced_same : (r : RunwayRules) (xs ys : List Taken) (g h : Group) (m : ℕ) → IsPermutation xs ys → g ≡ h → IsSpaced r xs g m → IsSpaced r ys h m
-spaced_same r xs ys g h m same e spaced =
-    subst (λ (k : Group). IsSpaced r ys k m) e (All-permutation (λ t. meets (taken_by r g m) t ≡ false) xs ys same spaced)
+  -- slots take what their flights take
+  slots_take : (fs : List TargetRecord) → map (taken_as r) (filter_map slot_for fs) ≡ filter_map (taken_of r p) fs
+  slots_take [] = refl
+  slots_take (f ∷ fs) = let rest = slots_take fs in grind arith
 
-free_same : (r : RunwayRules) (xs ys : List Taken) (g h : Group) (m : ℕ) → IsPermutation xs ys → g ≡ h → IsFree r xs g m → IsFree r ys h m
-free_same r xs ys g h m same e free = record {
-  is_open = free.is_open;
-  is_spaced = spaced_same r xs ys g h m same e free.is_spaced;
-  has_room = let held = held_same r xs ys m same in let room = free.has_room in omega arith;
-}
+  module _ (fixed : List SlotRecord) (targets : List TargetRecord) (t : TargetRecord) (earlier : SlotRecord → Bool)
+      (all_fixed : (s : SlotRecord) → Contains fixed s → earlier s ≡ true)
+      (in_order : (f : TargetRecord) (m : ℕ) → Contains targets f → earlier (planned_slot f m) ≡ is_before f.key t.key) where
+    same_order : (f : TargetRecord) (s : SlotRecord) → Contains targets f → slot_for f ≡ Some s
+        → earlier s ≡ is_before f.key t.key
+    same_order f s i e =
+        let (m, minute, same) = option_map_some (planned_slot f) (p f) s e in
+        ap earlier (sym same) ∙ in_order f m i
+
+    earlier_take : map (taken_as r) (filter earlier (fixed ++ filter_map slot_for targets)) ≡ taken_before r (takeoffs r fixed) targets p t
+    earlier_take =
+        let before : TargetRecord → Bool = λ f. is_before f.key t.key in
+        rw (filter-append earlier fixed (filter_map slot_for targets), filter_all earlier fixed all_fixed)
+        (rw (filter_given earlier before slot_for targets same_order, map-append (taken_as r) fixed _)
+        (ap (λ ts. takeoffs r fixed ++ ts) (slots_take (filter before targets))))
+
+    -- in whatever order the slots stand
+    pub earlier_taken : (slots : List SlotRecord) → IsPermutation (fixed ++ filter_map slot_for targets) slots
+        → IsPermutation (taken_before r (takeoffs r fixed) targets p t) (map (taken_as r) (filter earlier slots))
+    earlier_taken slots same =
+        let all = fixed ++ filter_map slot_for targets in
+        subst (λ (ts : List Taken). IsPermutation ts (map (taken_as r) (filter earlier slots))) earlier_take
+        (IsPermutation-map (taken_as r) (filter earlier all) (filter earlier slots) (IsPermutation-filter earlier all slots same))
+
+-- what is known of a flight's slot
+pub record IsPlaced (w : Waiting) (s : SlotRecord) : Type 0 where
+  pub within : s.ttot < 2880
+  pub delayed : IsSomeAnd s.delay (λ delay. s.ttot ≡ w.tobt + w.exot + delay)
+  pub held : (m : ℕ) → m < s.ttot → IsSome (reason_at w m)
+  pub free : reason_at w s.ttot ≡ None
 
 -- the target is that of the flight that waits, and this is taken when its turn comes
 pub record IsTurn (w : Waiting) (t : TargetRecord) (taken : List Taken) : Type 0 where
@@ -42,61 +90,84 @@ pub record IsTurn (w : Waiting) (t : TargetRecord) (taken : List Taken) : Type 0
 
 module _ (w : Waiting) (t : TargetRecord) (taken : List Taken) (turn : IsTurn w t taken) where
   within : (k : ℕ) → is_candidate_for w k ≡ true → (t.window.from ≤ k) × (k < t.window.to)
-  within k h =
-      let parts = and_parts (nat_le t.window.from k) (nat_lt k t.window.to) (turn.minutes k ∙ h) in
-      (leb-true t.window.from k parts.0, ltb-true k t.window.to parts.1)
-
-  free_back : (k : ℕ) → IsFree w.rules (taken_for w) w.flight.group k → IsFree w.rules taken t.group k
-  free_back k = free_same w.rules (taken_for w) taken w.flight.group t.group k (IsPermutation-sym taken (taken_for w) turn.same) (sym turn.group)
+  within k h = grind (arith, nat_tests, turn.minutes k)
 
   candidate : (k : ℕ) → t.window.from ≤ k → k < t.window.to → is_candidate_for w k ≡ true
-  candidate k after before =
-      sym (turn.minutes k) ∙ and_from (nat_le t.window.from k) (nat_lt k t.window.to) (le-leb t.window.from k after) (lt-ltb k t.window.to before)
+  candidate k after before = grind (arith, nat_tests, turn.minutes k)
+
+  -- how full a cell is and whom the flight meets doesn't depend on the order of what is taken
+  held_is : (k : ℕ) → held_in_cell w.rules.cell (taken_for w) k ≡ held_in_cell w.rules.cell taken k
+  held_is k =
+      sum_by-IsPermutation (λ (t : Taken). cond (t.minute / w.rules.cell == k / w.rules.cell) 1 0) taken (taken_for w)
+      turn.same
 
   spaced_for : (k : ℕ) → IsSpaced w.rules taken t.group k → IsSpacedFor w k
-  spaced_for k = spaced_same w.rules taken (taken_for w) t.group w.flight.group k turn.same turn.group
+  spaced_for k spaced =
+      subst (λ (g : Group). IsSpaced w.rules (taken_for w) g k) turn.group
+      (All-permutation (λ u. meets (taken_by w.rules t.group k) u ≡ false) taken (taken_for w) turn.same spaced)
 
   spaced_back : (k : ℕ) → IsSpacedFor w k → IsSpaced w.rules taken t.group k
-  spaced_back k = spaced_same w.rules (taken_for w) taken w.flight.group t.group k (IsPermutation-sym taken (taken_for w) turn.same) (sym turn.group)
+  spaced_back k spaced =
+      subst (λ (g : Group). IsSpaced w.rules taken g k) (sym turn.group)
+      (All-permutation (λ u. meets (taken_by w.rules w.flight.group k) u ≡ false) (taken_for w) taken
+      (IsPermutation-sym taken (taken_for w) turn.same) spaced)
 
   -- the rule that blocks the target blocks the flight that waits
+  blocked_at : (why : Rule) → 4 < place_of why → (k : ℕ) → is_candidate_for w k ≡ true → KeepsBefore w k (place_of why)
+      → ((m : ℕ) → t.window.from ≤ m → m < t.window.to → KeepsBefore w m (suc (place_of why)) → ⊥) → Blocked w why
+  blocked_at why late k h before never = record {
+    minute = k;
+    within = (candidate_within w k h).1;
+    before = before;
+    never = λ m below keeps. let on = within m (keeps rule.Ctot (omega arith)) in never m on.0 on.1 keeps;
+  }
+
   pub blocked_for : (why : Rule) → Blocks w.rules taken t why → Blocked w why
   blocked_for rule.Closure h =
       let some = turn.some_minute in
-      ((t.window.from, candidate t.window.from (omega arith) some), λ k c. h k (within k c).0 (within k c).1)
+      let first = candidate t.window.from (omega arith) some in
+      blocked_at rule.Closure (omega arith) t.window.from first (candidate_keeps w t.window.from first)
+      (λ m after before keeps. both_ways (is_closed w.rules m) (keeps rule.Closure (omega arith)) (h m after before))
   blocked_for rule.Spacing h =
       let (k, after, before, is_open) = h.some_open in
-      ((k, candidate k after before, is_open), λ k c is_open spaced. h.met k (within k c).0 (within k c).1 is_open (spaced_back k spaced))
+      let first = candidate k after before in
+      blocked_at rule.Spacing (omega arith) k first (and_next w k rule.Closure (candidate_keeps w k first) is_open)
+      (λ m after before keeps.
+      h.met m after before (keeps rule.Closure (omega arith)) (spaced_back m (keeps rule.Spacing (omega arith))))
   blocked_for rule.Rate h =
-      let (k, after, before, is_open, spaced) = h.some_spaced in (
-        (k, candidate k after before, is_open, spaced_for k spaced),
-        λ k c is_open spaced.
-            let full = h.full k (within k c).0 (within k c).1 is_open (spaced_back k spaced) in
-            let held = held_same w.rules taken (taken_for w) k turn.same in
-            omega arith,
-      )
+      let (k, after, before, is_open, spaced) = h.some_spaced in
+      let first = candidate k after before in
+      blocked_at rule.Rate (omega arith) k first
+      (and_next w k rule.Spacing (and_next w k rule.Closure (candidate_keeps w k first) is_open) (spaced_for k spaced))
+      (λ m after before keeps.
+      let apart = spaced_back m (keeps rule.Spacing (omega arith)) in
+      let full = h.full m after before (keeps rule.Closure (omega arith)) apart in
+      let held = held_is m in
+      let room = keeps rule.Rate (omega arith) in
+      omega arith)
   blocked_for _ h = absurd h
 
-  module _ (m : ℕ) (first : IsEarliest w.rules taken t.group t.window.from t.window.to m) where
-    at_first : is_candidate_for w m ≡ true
-    at_first = candidate m first.after first.before
-
-    pub placed_within : m < 2880
-    placed_within = (candidate_within w m at_first).1
-
-    -- the earliest free minute has none
-    pub placed_free : reason_at w m ≡ None
-    placed_free = none_when w m at_first (free_same w.rules taken (taken_for w) t.group w.flight.group m turn.same turn.group first.free)
-
-    -- and each before it has one
-    pub placed_waits : (k : ℕ) → k < m → IsSome (reason_at w k)
-    placed_waits k before =
-        let whole = candidate_within w m at_first in
-        some_unless w k (omega arith) (λ h free. let least = first.least k (within k h).0 (within k h).1 (free_back k free) in omega arith)
-
-    pub placed_delay : m ≡ w.tobt + w.exot + (m - t.exot - t.key.tobt)
-    placed_delay =
-        let whole = candidate_within w m at_first in
-        let tobt = turn.tobt in
-        let exot = turn.exot in
-        omega arith
+  -- the target's slot is at the first minute without a reason
+  pub placed_at : (m : ℕ) → IsEarliest w.rules taken t.group t.window.from t.window.to m → IsPlaced w (planned_slot t m)
+  placed_at m first =
+      let at_first = candidate m first.after first.before in
+      let reach = candidate_within w m at_first in
+      let tobt = turn.tobt in
+      let exot = turn.exot in
+      let held = held_is m in
+      let room = first.free.has_room in
+      record {
+        within = reach.1;
+        delayed = omega arith;
+        held = λ k before. some_unless w k (omega arith) (λ keeps.
+            let on = within k (keeps rule.Ctot) in
+            let free : IsFree w.rules taken t.group k = record {
+              is_open = keeps rule.Closure;
+              is_spaced = spaced_back k (keeps rule.Spacing);
+              has_room = let held = held_is k in let room = keeps rule.Rate in omega arith;
+            } in
+            let least = first.least k on.0 on.1 free in
+            omega arith);
+        free = none_when w m reach.1
+            (free_keeps w m at_first first.free.is_open (spaced_for m first.free.is_spaced) (omega arith));
+      }

@@ -18,6 +18,7 @@ pub fn each_flight_in_one_line()
 
 /// The counts of the lines of a runway's load add up to its slots: no flight is left out, and none is counted
 /// twice.
+#[tactic(auto, using(crate::proofs::LoadLemmas::counts_add))]
 pub fn counts_add_up()
     ensures { (rules : RunwayRules) (usual : ℕ) (slots : List SlotRecord) →
         IsTrue (is_cell_length rules.cell) → All (λ s. s.ttot < 2880) slots →
@@ -25,6 +26,7 @@ pub fn counts_add_up()
 {}
 
 /// A question of a day and its plan has one answer at most.
+#[tactic(auto, using(crate::proofs::AnswerLemmas::answer_one))]
 pub fn one_answer()
     ensures { (question : Asked) (d : DayRecord) (plan : PlanRecord) (x y : List ℕ) → IsAirport d.airport →
         IsAnswer question d plan x → IsAnswer question d plan y → x ≡ y }

@@ -1,27 +1,21 @@
 use Rattle.std.proofs.Common.{◌≡◌, ◌∙◌, ap, sym, subst}
 use Rattle.cdm_plan.proofs.ListWords.{IsPermutation, IsPermutation-trans}
 use Rattle.cdm_view.specs.Standings.{changes, standings_of}
-use Rattle.cdm_view.proofs.LeftLemmas.{changes_by_name, changes_left, changes_permuted, left_apart}
+use Rattle.cdm_view.proofs.ChangeLemmas.{changes_by_name, changes_left, changes_permuted, left_apart}
 use Rattle.cdm_view.proofs.StandingLemmas.{standings_apart}
 use Rattle.cdm_view.proofs.differing.changes_between.Goals as goal
 
 pub by_name-told-requires : goal.by_name-told-requires
 by_name-told-requires g c =
-    let d = g.B.Records.day c.args.before.now in
-    let plan = c.args.plan.now in
-    let sound = c.in_ok-differing.ensures.before.day in
-    let left = c.in_ok-differing.ensures.left in
-    left_apart left.same c.in_ok-differing.differing.before.items (standings_of d plan) left.of_first
-    (standings_apart d plan sound.airport.names sound.names c.requires.before)
+    let kept = c.in_ok-differing.ensures in
+    left_apart (g.B.Records.day c.args.before.now) c.args.plan.now kept.left.same
+    c.in_ok-differing.differing.before.items kept.before c.requires.before kept.left.of_first
 
 pub by_name-standings-requires : goal.by_name-standings-requires
 by_name-standings-requires g c =
-    let d = g.A.Records.day c.args.after.now in
-    let plan = c.args.next.now in
-    let sound = c.in_ok-differing.ensures.after.day in
-    let left = c.in_ok-differing.ensures.left in
-    left_apart left.same c.in_ok-differing.differing.after.items (standings_of d plan) left.of_second
-    (standings_apart d plan sound.airport.names sound.names c.requires.after)
+    let kept = c.in_ok-differing.ensures in
+    left_apart (g.A.Records.day c.args.after.now) c.args.next.now kept.left.same
+    c.in_ok-differing.differing.after.items kept.after c.requires.after kept.left.of_second
 
 pub returns : goal.returns
 returns g c =

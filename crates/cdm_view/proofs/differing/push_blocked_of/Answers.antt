@@ -1,7 +1,7 @@
 use Rattle.std.proofs.Common.{map}
 use Rattle.cdm_view.specs.declared.standing.Standing.TheVariants.{Blocked}
 use Rattle.cdm_view.proofs.EqualLemmas.{blocked_decide}
-use Rattle.cdm_view.proofs.LeftLemmas.{AreParts-map, left_parts}
+use Rattle.cdm_view.proofs.ChangeLemmas.{AreParts-map, left_parts}
 use Rattle.cdm_view.proofs.differing.push_blocked_of.Goals as goal
 
 pub returns : goal.returns

@@ -1,4 +1,4 @@
-use Rattle.cdm_view.proofs.LeftLemmas.{left_more, left_same}
+use Rattle.cdm_view.proofs.ChangeLemmas.{left_more, left_same}
 use Rattle.cdm_view.proofs.differing.push_cancelled_of.Goals as goal
 
 pub returns-then-are_same : goal.returns-then-are_same

@@ -2,7 +2,7 @@ use Rattle.std.proofs.Common.{◌∙◌, ◌++◌, List, ℕ, ap, map}
 use Rattle.cdm_plan.proofs.PlanWords.{RunwayPlanRecord}
 use Rattle.cdm_view.specs.Standings.{on_runway}
 use Rattle.cdm_view.specs.declared.standing.Standing.TheVariants.{OnRunway}
-use Rattle.cdm_view.proofs.LeftLemmas.{left_parts}
+use Rattle.cdm_view.proofs.ChangeLemmas.{left_parts}
 use Rattle.cdm_view.proofs.differing.push_runway.Goals as goal
 
 pub returns : goal.returns

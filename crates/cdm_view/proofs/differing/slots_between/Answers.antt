@@ -5,7 +5,7 @@ use Rattle.cdm_view.specs.Standings.{on_runway}
 use Rattle.cdm_view.specs.declared.standing.Standing.TheVariants.{OnRunway}
 use Rattle.cdm_view.specs.inner.Parts.{AreParts}
 use Rattle.cdm_view.proofs.EqualLemmas.{equal_slots}
-use Rattle.cdm_view.proofs.LeftLemmas.{AreParts-all, AreParts-map}
+use Rattle.cdm_view.proofs.ChangeLemmas.{AreParts-all, AreParts-map}
 use Rattle.cdm_view.proofs.differing.slots_between.Goals as goal
 
 pub returns-then-ne : goal.returns-then-ne

@@ -1,5 +1,5 @@
-use Rattle.cdm_view.proofs.BlockedLemmas.{blocked}
-use Rattle.cdm_view.proofs.RuleLemmas.{always, among, last}
+use Rattle.cdm_view.proofs.OutcomeLemmas.{blocked}
+use Rattle.cdm_view.proofs.ReasonLemmas.{always, among, last}
 use Rattle.cdm_view.proofs.waiting_laws.a_blocked_flight_waits_always.Goals as goal
 
 pub returns : goal.returns

@@ -1,4 +1,4 @@
-use Rattle.cdm_view.proofs.PlacedLemmas.{placed}
+use Rattle.cdm_view.proofs.OutcomeLemmas.{placed}
 use Rattle.cdm_view.proofs.waiting_laws.a_placed_flight_waits_its_delay.Goals as goal
 
 pub returns : goal.returns

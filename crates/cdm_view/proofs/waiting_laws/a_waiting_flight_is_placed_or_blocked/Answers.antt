@@ -1,4 +1,4 @@
-use Rattle.cdm_view.proofs.EitherLemmas.{either, not_both, on_runway}
+use Rattle.cdm_view.proofs.OutcomeLemmas.{either, not_both, on_runway}
 use Rattle.cdm_view.proofs.waiting_laws.a_waiting_flight_is_placed_or_blocked.Goals as goal
 
 pub returns : goal.returns

@@ -1,4 +1,4 @@
-use Rattle.std.proofs.Common.{◌≡◌, ◌+◌, ◌∙◌, sym, ap, subst, cond, [], ◌∷◌, ◌++◌, take}
+use Rattle.std.proofs.Common.{◌≡◌, ◌+◌, ◌∙◌, sym, ap, subst, cond, not, [], ◌∷◌, ◌++◌, take}
 use Rattle.cdm_plan.proofs.ListWords.{append-nil}
 use Rattle.cdm_view.specs.Standings.{changes, flight_name, is_told}
 use Rattle.cdm_view.specs.inner.Passed.{from_name, is_first_told}
@@ -28,9 +28,9 @@ loop-standing-preserved c =
     let earlier = changes day before (take place items) in (
       elim c.if-not-branch.branch [
         | then-not-branch+in_ok-push_last w ↦ (λ i. (w.changed-is i).items) ∙ w.in_ok-push_last.ensures ∙ (λ i. so_far i ++ s ∷ [])
-            ∙ sym (next ∙ λ i. earlier ++ cond (w.if-not-branch.true i) [] (s ∷ []))
+            ∙ sym (next ∙ λ i. earlier ++ cond (not (w.if-not-branch.true i)) (s ∷ []) [])
         | else-not-branch w ↦ (λ i. (w.changed-is i).items) ∙ so_far
-            ∙ sym (next ∙ (λ i. earlier ++ cond (w.if-not-branch.false i) [] (s ∷ [])) ∙ append-nil earlier)
+            ∙ sym (next ∙ (λ i. earlier ++ cond (not (w.if-not-branch.false i)) (s ∷ []) []) ∙ append-nil earlier)
       ],
       subst (λ l. StillTells day before l items (place + 1)) (sym left)
           (still_tells day before told items keeps place s c.loop-standing-test.true at still),
