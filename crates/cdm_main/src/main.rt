@@ -4,9 +4,9 @@
 ghost use Rattle.std.specs.Prelude.{◌≡◌, false};
 
 use cdm_check::{FilePaths, run_check};
-pub use cdm_command::{
-    Command, CommandFault, Fault, PathText, STANDARD_INPUT, UnopenedFile, check_status, command_of,
-    report_command_fault, report_fault,
+pub use cdm_command::{Command, CommandFault, STANDARD_INPUT, command_of};
+pub use cdm_fault::{
+    Fault, PathText, UnopenedFile, check_status, report_command_fault, report_fault,
 };
 use cdm_feed::{Device, Input, WriteFault, run, run_table, run_view, write_text};
 use cdm_flight::FlightName;

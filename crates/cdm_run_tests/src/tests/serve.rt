@@ -1,4 +1,4 @@
-//! Served days over a port that stops at each of its calls, or at each of one kind, with each journal that such a stop
+//! Served days over a port that stops at each of its calls, or at the last of each kind, with each journal that such a stop
 //! may leave; and starts on a journal that is torn at each of its bytes.
 mod memory;
 mod script;

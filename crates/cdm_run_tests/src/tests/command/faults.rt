@@ -1,6 +1,6 @@
 //! The lines of faults. Their statuses are told by clauses.
 use crate::tests::devices::Page;
-use cdm_command::{Fault, UnopenedFile, report_fault};
+use cdm_fault::{Fault, UnopenedFile, report_fault};
 use cdm_feed::{CommonFault, Device, RunError, TableError, ViewError};
 use cdm_flight::RefusalWord;
 use cdm_live::LiveError;

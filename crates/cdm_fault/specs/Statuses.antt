@@ -14,8 +14,8 @@ use Rattle.cdm_serve.specs.declared.fault.ServeError.TheVariants as serve
 use Rattle.cdm_trace.specs.declared.trace_error.TraceError.TheVariants as trace
 use Rattle.cdm_command.specs.declared.command.CommandFault.{CommandFault}
 use Rattle.cdm_command.specs.declared.command.CommandFault.TheVariants as command
-use Rattle.cdm_command.specs.declared.fault.Fault.{Fault}
-use Rattle.cdm_command.specs.declared.fault.Fault.TheVariants as fault
+use Rattle.cdm_fault.specs.declared.fault.Fault.{Fault}
+use Rattle.cdm_fault.specs.declared.fault.Fault.TheVariants as fault
 
 abbrev pub status_of_common : CommonFault → ℕ
 status_of_common (common.Read input) = 1

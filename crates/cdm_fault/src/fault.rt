@@ -1,11 +1,11 @@
 //! What stops the program, and how it is told.
 ghost use Rattle.std.specs.Prelude.{◌≡◌};
-ghost use Rattle.cdm_command.specs.Statuses.{status_of_check, status_of_command_fault, status_of_common, status_of_fault};
-ghost use Rattle.cdm_command.specs.declared.fault.Fault.TheVariants as fault;
+ghost use Rattle.cdm_fault.specs.Statuses.{status_of_check, status_of_command_fault, status_of_common, status_of_fault};
+ghost use Rattle.cdm_fault.specs.declared.fault.Fault.TheVariants as fault;
 
-use crate::command::CommandFault;
 use crate::unopened::UnopenedFile;
 use cdm_check::CheckCounts;
+use cdm_command::CommandFault;
 use cdm_feed::{CommonFault, Device, Input, RunError, TableError, ViewError};
 use cdm_live::LiveError;
 use cdm_port::PortFault;
