@@ -1,8 +1,9 @@
 //! One desk: a day that takes records one at a time, and replies to each what it changed.
 #![tactic(auto)]
 
+mod desk_day;
 mod posting;
 mod reply;
 
-pub use posting::post;
+pub use desk_day::DeskDay;
 pub use reply::{DeskReply, push_reply};

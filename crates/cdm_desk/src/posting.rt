@@ -1,15 +1,17 @@
 //! Records that are posted to a day.
 ghost use Rattle.std.specs.Prelude.{◌≡◌, ◌∷◌, [], Option, IfOk, OnErr, OnOk};
 ghost use Rattle.cdm_day.specs.Replies.{reply_of};
-ghost use Rattle.cdm_flight.specs.Accepted.{after_one, refusal};
+ghost use Rattle.cdm_flight.specs.Accepted.{accepted, after_one, refusal};
 ghost use Rattle.cdm_desk.specs.Replies.{IsChangedTo, IsReply, IsReplyBy, day_after};
 ghost use Rattle.cdm_flight.specs.declared.word.RefusalWord.{RefusalWord as AWord};
 
+use crate::desk_day::DeskDay;
 use crate::reply::DeskReply;
 use cdm_day::{DayState, Reply};
 use cdm_flight::{Listed, RefusalWord, Role, Update};
 use cdm_view::{Standing, changes_between};
 use std::alloc::{AllocError, Global};
+use std::mem;
 
 // The changes from a day to another one of its airport.
 fn changes_of(
@@ -40,43 +42,69 @@ fn word_in(replies: &[Reply]) -> Option<RefusalWord>
     }
 }
 
-// Judges an update and takes it, unless a word refuses it.
-fn post_update(
-    alloc: Global,
-    state: &mut DayState,
-    update: (Role, Update),
-) -> Result<DeskReply, AllocError>
-    ensures reply { let d = state.old in IfOk result (IsReplyBy (refusal d.airport d.journal update.0 update.1) d
-        (record d { journal = after_one d.airport d.journal update })) }
-    ensures ok { let d = state.old in OnOk result (state.new ≡ record d { journal = after_one d.airport d.journal update }) }
-    ensures err { OnErr result (state.new ≡ state.old) }
-{
-    let mut next = state.copy(alloc)?;
-    let replies = next.apply(alloc, &[update])?;
-    match word_in(&replies) {
-        Some(word) => Ok(DeskReply::Refused(word)),
-        None => {
-            let changed = changes_of(alloc, state, &next)?;
-            *state = next;
-            Ok(DeskReply::Accepted(Listed::new(changed)))
+impl DeskDay {
+    // The day once more, for an update to change it.
+    fn once_more(&mut self, alloc: Global) -> Result<DayState, AllocError>
+        ensures same { self.new ≡ self.old }
+        ensures day { IfOk result (λ s. s ≡ self.old) }
+    {
+        match self.spare.take() {
+            Some(state) => Ok(state),
+            None => self.state.copy(alloc),
         }
     }
-}
 
-/// Posts a record to a day, as its fields spell it: the update is judged, and taken into the journal unless a word
-/// refuses it. The reply is that word, or the flights that stand otherwise since, of which only those are looked for
-/// whose runways have other slots than before. Where there is no memory nothing changes.
-pub fn post(
-    alloc: Global,
-    state: &mut DayState,
-    spelled: &Result<(Role, Update), RefusalWord>,
-) -> Result<DeskReply, AllocError>
-    ensures reply { IfOk result (IsReply state.old spelled.now) }
-    ensures ok { OnOk result (state.new ≡ day_after state.old spelled.now) }
-    ensures err { OnErr result (state.new ≡ state.old) }
-{
-    match spelled {
-        Ok(update) => post_update(alloc, state, *update),
-        Err(word) => Ok(DeskReply::Refused(*word)),
+    // Takes the day after a batch, which the day till now follows.
+    fn take(&mut self, alloc: Global, batch: &[(Role, Update)], next: DayState)
+        requires { next ≡ record self.old { journal = accepted self.old.airport self.old.journal batch.now } }
+        ensures { self.new ≡ next }
+    {
+        let former = mem::replace(&mut self.state, next);
+        self.spare = former.following(alloc, batch, &self.state).ok();
+    }
+
+    // Judges an update and takes it, unless a word refuses it.
+    fn post_update(
+        &mut self,
+        alloc: Global,
+        update: (Role, Update),
+    ) -> Result<DeskReply, AllocError>
+        ensures reply { let d = self.old in IfOk result (IsReplyBy (refusal d.airport d.journal update.0 update.1) d
+            (record d { journal = after_one d.airport d.journal update })) }
+        ensures ok { let d = self.old in OnOk result (self.new ≡ record d { journal = after_one d.airport d.journal update }) }
+        ensures err { OnErr result (self.new ≡ self.old) }
+    {
+        let own = self.once_more(alloc)?;
+        let batch = [update];
+        let (next, replies) = own.after(alloc, &batch)?;
+        match word_in(&replies) {
+            Some(word) => {
+                self.spare = Some(next);
+                Ok(DeskReply::Refused(word))
+            }
+            None => {
+                let changed = changes_of(alloc, &self.state, &next)?;
+                self.take(alloc, &batch, next);
+                Ok(DeskReply::Accepted(Listed::new(changed)))
+            }
+        }
+    }
+
+    /// Posts a record, as its fields spell it: the update is judged, and taken into the journal unless a word refuses
+    /// it. The reply is that word, or the flights that stand otherwise since, of which only those are looked for whose
+    /// runways have other slots than before. Where there is no memory nothing changes.
+    pub fn post(
+        &mut self,
+        alloc: Global,
+        spelled: &Result<(Role, Update), RefusalWord>,
+    ) -> Result<DeskReply, AllocError>
+        ensures reply { IfOk result (IsReply self.old spelled.now) }
+        ensures ok { OnOk result (self.new ≡ day_after self.old spelled.now) }
+        ensures err { OnErr result (self.new ≡ self.old) }
+    {
+        match spelled {
+            Ok(update) => self.post_update(alloc, *update),
+            Err(word) => Ok(DeskReply::Refused(*word)),
+        }
     }
 }

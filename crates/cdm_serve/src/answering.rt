@@ -10,8 +10,7 @@ ghost use Rattle.cdm_serve.specs.inner.Steps.{IsAnswerFault, events_of, text_of}
 use crate::asked::{asked_text, reply_text};
 use crate::fault::ServeError;
 use crate::request::{Request, request_of};
-use cdm_day::DayState;
-use cdm_desk::{DeskReply, post};
+use cdm_desk::{DeskDay, DeskReply};
 use cdm_flight::{RefusalWord, Role, Update};
 use cdm_journal::{LineRead, push_journal_line};
 use std::alloc::{AllocError, Global};
@@ -30,7 +29,7 @@ pub(crate) enum Answer {
 /// A day that is served, and how many records and questions were numbered.
 #[derive(Drop)]
 pub(crate) struct ServedDay {
-    pub state: DayState,
+    pub desk: DeskDay,
     pub number: u32,
 }
 
@@ -50,19 +49,19 @@ fn line_of(alloc: Global, read: &LineRead) -> Result<Vec<u8>, AllocError>
 // Posts what a line spells, and says what is to be done then.
 fn post_line(
     alloc: Global,
-    state: &mut DayState,
+    desk: &mut DeskDay,
     number: u32,
     read: &LineRead,
     spelled: &Result<(Role, Update), RefusalWord>,
 ) -> Result<Answer, AllocError>
-    ensures reply { IfOk result (λ answer. IsReplyTo state.old number (Request.Post spelled.now) (text_of answer)) }
+    ensures reply { IfOk result (λ answer. IsReplyTo desk.old number (Request.Post spelled.now) (text_of answer)) }
     ensures events { IfOk result (λ answer. events_of answer ≡
-        told_of (taken_of state.old (fields_in (read_as read.now)) (Request.Post spelled.now)) (text_of answer)) }
-    ensures state { OnOk result (state.new ≡
-        day_with state.old (taken_of state.old (fields_in (read_as read.now)) (Request.Post spelled.now))) }
+        told_of (taken_of desk.old (fields_in (read_as read.now)) (Request.Post spelled.now)) (text_of answer)) }
+    ensures day { OnOk result (desk.new ≡
+        day_with desk.old (taken_of desk.old (fields_in (read_as read.now)) (Request.Post spelled.now))) }
 {
-    let day = *state.day();
-    let reply = post(alloc, state, spelled)?;
+    let day = *desk.state().day();
+    let reply = desk.post(alloc, spelled)?;
     let text = reply_text(alloc, day, number, &reply)?;
     match reply {
         DeskReply::Refused(_) => Ok(Answer::Reply(text)),
@@ -78,7 +77,7 @@ impl ServedDay {
     fn count(&mut self) -> Result<u32, ServeError>
         ensures count { IfOk result (λ number. number ≡ self.old.number + 1) }
         ensures counted { OnOk result (self.new.number ≡ self.old.number + 1) }
-        ensures same { self.new.state ≡ self.old.state }
+        ensures same { self.new.desk ≡ self.old.desk }
         ensures fault { IfErr result (IsAnswerFault self.old.number) }
     {
         self.number = self.number.checked_add(1).ok_or(ServeError::TooMany)?;
@@ -90,23 +89,23 @@ impl ServedDay {
     ///
     /// `TooMany` where the line's number would be greater than a `u32`, and else only `Memory`.
     pub(crate) fn answer(&mut self, alloc: Global, read: &LineRead) -> Result<Answer, ServeError>
-        ensures reply { IfOk result (λ answer. IsReplyTo self.old.state (numbered self.old.number (read_as read.now))
-            (request_of self.old.state.airport.day (read_as read.now)) (text_of answer)) }
-        ensures events { IfOk result (λ answer. events_of answer ≡ answered self.old.state (read_as read.now) (text_of answer)) }
-        ensures state { OnOk result (self.new.state ≡ after self.old.state (read_as read.now)) }
+        ensures reply { IfOk result (λ answer. IsReplyTo self.old.desk (numbered self.old.number (read_as read.now))
+            (request_of self.old.desk.airport.day (read_as read.now)) (text_of answer)) }
+        ensures events { IfOk result (λ answer. events_of answer ≡ answered self.old.desk (read_as read.now) (text_of answer)) }
+        ensures day { OnOk result (self.new.desk ≡ after self.old.desk (read_as read.now)) }
         ensures number { OnOk result (self.new.number ≡ numbered self.old.number (read_as read.now)) }
         ensures fault { IfErr result (IsAnswerFault self.old.number) }
     {
-        match request_of(*self.state.day(), read) {
+        match request_of(*self.desk.state().day(), read) {
             Request::Nothing => Ok(Answer::Nothing),
             Request::Post(spelled) => {
                 let number = self.count()?;
-                let answer = post_line(alloc, &mut self.state, number, read, &spelled)?;
+                let answer = post_line(alloc, &mut self.desk, number, read, &spelled)?;
                 Ok(answer)
             }
             Request::Ask(asked) => {
                 let number = self.count()?;
-                let text = asked_text(alloc, &self.state, number, asked)?;
+                let text = asked_text(alloc, self.desk.state(), number, asked)?;
                 Ok(Answer::Reply(text))
             }
         }

@@ -16,6 +16,7 @@ use crate::fault::ServeError;
 use crate::performing::perform;
 use crate::starting::start;
 use cdm_day::Airport;
+use cdm_desk::DeskDay;
 use cdm_feed::{CommonFault, Device, Input, InputFault, airport_of, read_input};
 use cdm_journal::{LineRead, read_line};
 use cdm_port::{Heard, Port};
@@ -41,8 +42,8 @@ fn hear<P: Port>(alloc: Global, port: &mut P) -> Result<Option<LineRead>, ServeE
 
 // Serves the lines to the input's end.
 fn serve_lines<P: Port>(alloc: Global, port: &mut P, mut day: ServedDay) -> Result<(), ServeError>
-    ensures ok { OnOk result (Serves day.state day.number (P.events port.old) (P.events port.new)) }
-    ensures err { OnErr result (ServeStops day.state day.number (P.events port.old) (P.events port.new)) }
+    ensures ok { OnOk result (Serves day.desk day.number (P.events port.old) (P.events port.new)) }
+    ensures err { OnErr result (ServeStops day.desk day.number (P.events port.old) (P.events port.new)) }
     ensures fault { IfErr result (IsLinesFault day.number (P.events port.old) (P.events port.new)) }
 {
     'lines: for _ in 0..u64::MAX {
@@ -86,7 +87,8 @@ pub fn serve_day<R: Threads + Sync, P: Port>(
     ensures fault { IfErr result (IsDayFault airport (since (P.events port.old) (P.events port.new))) }
 {
     let state = start(rt, alloc, airport, port)?;
-    serve_lines(alloc, port, ServedDay { state, number: 0 })
+    let desk = DeskDay::new(state);
+    serve_lines(alloc, port, ServedDay { desk, number: 0 })
 }
 
 // The bytes of the airport file.

@@ -9,7 +9,7 @@ ghost use Rattle.cdm_trace.specs.Traces.{IsKnown, IsTold};
 use crate::told::push_told;
 use crate::trace_error::TraceError;
 use cdm_day::{Airport, DayState};
-use cdm_desk::post;
+use cdm_desk::DeskDay;
 use cdm_feed::{RecordReader, parse_record};
 use cdm_flight::FlightName;
 use cdm_plan::Records;
@@ -57,16 +57,17 @@ pub(crate) fn trace_of(
     let day = *airport.day();
     let mut reader = RecordReader::new(alloc, feed);
     let mut row = ByteRecord::new(alloc);
-    let mut state = day_of(alloc, airport)?;
+    let state = day_of(alloc, airport)?;
+    let mut desk = DeskDay::new(state);
     let mut text = Vec::new(alloc);
     let mut number = 0;
     'records: loop {
         if !reader.read(&mut row)? {
-            check_known(&state, asked)?;
+            check_known(desk.state(), asked)?;
             return Ok(text);
         }
         number += 1;
-        let reply = post(alloc, &mut state, &parse_record(day, &row))?;
+        let reply = desk.post(alloc, &parse_record(day, &row))?;
         push_told(alloc, &mut text, asked, day, number, &row, &reply)?;
     }
 }

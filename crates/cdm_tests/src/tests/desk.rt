@@ -1,13 +1,13 @@
 //! Records that are posted to a day, one at a time.
 use crate::tests::days::{day_with, planned};
-use cdm_desk::{post, push_reply};
+use cdm_desk::{DeskDay, push_reply};
 use cdm_flight::RefusalWord;
 use std::alloc::Global;
 
 // The replies to the updates that plan a flight for 06:00, and to a record that spells none.
 fn replies(alloc: Global) -> Option<String> {
-    let mut state = day_with(alloc, &["27L"])?;
-    let day = *state.day();
+    let mut desk = DeskDay::new(day_with(alloc, &["27L"])?);
+    let day = *desk.state().day();
     let mut text = String::new(alloc);
     let [known, assigned, ready] = planned("AB1")?;
     let records = [
@@ -17,7 +17,7 @@ fn replies(alloc: Global) -> Option<String> {
         (4, Err(RefusalWord::Text)),
     ];
     for (number, record) in &records {
-        let reply = post(alloc, &mut state, record).ok()?;
+        let reply = desk.post(alloc, record).ok()?;
         push_reply(&mut text, day, *number, &reply).ok()?;
     }
     Some(text)

@@ -26,14 +26,15 @@ returns-in_err-state g c =
 -- lines are served
 pub returns : goal.returns
 returns g c =
-    let start : Starts c.args.airport (g.P.Port.events c.args.port.now) (g.P.Port.events c.start.new.port) c.in_ok-state.state = search rules in
-    let over = finished c.args.airport c.in_ok-state.state _ _ _ c.serve_lines.result start c.serve_lines.ensures.ok c.serve_lines.ensures.err in
+    let begun : Starts c.args.airport (g.P.Port.events c.args.port.now) (g.P.Port.events c.start.new.port) c.in_ok-state.state = search rules in
+    let start : Starts c.args.airport (g.P.Port.events c.args.port.now) (g.P.Port.events c.start.new.port) c.new-desk.result = rw c.new-desk.ensures begun in
+    let over = finished c.args.airport c.new-desk.result _ _ _ c.serve_lines.result start c.serve_lines.ensures.ok c.serve_lines.ensures.err in
     record {
       log = over.log;
-      served = finished_served c.args.airport c.in_ok-state.state _ _ _ c.serve_lines.result start c.serve_lines.ensures.ok;
+      served = finished_served c.args.airport c.new-desk.result _ _ _ c.serve_lines.result start c.serve_lines.ensures.ok;
       stopped = over.stopped;
       kept = over.all_kept;
       written = over.all_written;
       recovered = over.all_recovered;
-      fault = finished_fault c.args.airport c.in_ok-state.state _ _ _ c.serve_lines.result start c.serve_lines.ensures.fault;
+      fault = finished_fault c.args.airport c.new-desk.result _ _ _ c.serve_lines.result start c.serve_lines.ensures.fault;
     }

@@ -3,4 +3,4 @@ use Rattle.cdm_serve.proofs.serving.serve_lines.Given as goal
 
 -- some lines have been served
 abbrev pub invariant-lines : goal.invariant-lines
-invariant-lines g l = Ran l.fn.day.state l.fn.day.number l.day.state l.day.number l.counter (g.P.Port.events l.fn.port) (g.P.Port.events l.port)
+invariant-lines g l = Ran l.fn.day.desk l.fn.day.number l.day.desk l.day.number l.counter (g.P.Port.events l.fn.port) (g.P.Port.events l.port)

@@ -19,8 +19,8 @@ one-read false old new row h left = cc h
 
 pub records-init : goal.records-init
 records-init c =
-    tells_first c.args.asked c.args.airport c.args.feed.now c.day-day.result.now _ _ _ c.day-day.ensures c.in_ok-state.ensures c.new-reader.ensures.left
-    c.new-reader.ensures.count c.new-text.ensures.items
+    tells_first c.args.asked c.args.airport c.args.feed.now c.day-day.result.now _ _ _ c.day-day.ensures (c.new-desk.ensures ∙ c.in_ok-state.ensures)
+    c.new-reader.ensures.left c.new-reader.ensures.count c.new-text.ensures.items
 
 pub returns-then-not-branch-clause-told : goal.returns-then-not-branch-clause-told
 returns-then-not-branch-clause-told c =
@@ -29,8 +29,9 @@ returns-then-not-branch-clause-told c =
 
 pub returns-then-not-branch-clause-known : goal.returns-then-not-branch-clause-known
 returns-then-not-branch-clause-known c =
-    subst (IsKnown c.args.asked) (all_told c.args.asked c.args.airport c.args.feed.now c.day-day.result.now _ _ _ _ c.records.invariant
-    (none-read _ _ _ _ c.if-not-branch.true c.in_ok-read.ensures.left)).0 c.in_ok-check_known.ensures.known
+    let day = (all_told c.args.asked c.args.airport c.args.feed.now c.day-day.result.now _ _ _ _ c.records.invariant
+    (none-read _ _ _ _ c.if-not-branch.true c.in_ok-read.ensures.left)).0 in
+    subst (IsKnown c.args.asked) (c.state.ensures ∙ day) c.in_ok-check_known.ensures.known
 
 pub returns-in_err-check_known-clause-fault : goal.returns-in_err-check_known-clause-fault
 returns-in_err-check_known-clause-fault c =
@@ -38,7 +39,7 @@ returns-in_err-check_known-clause-fault c =
     (none-read _ _ _ _ c.if-not-branch.true c.in_ok-read.ensures.left)).0 in
     let e = c.in_err-check_known.field-0.0 in
     let fault : IsUntold c.args.asked (day_in c.args.airport c.args.feed.now) e =
-    subst (λ (d : DayRecord). IsUntold c.args.asked d e) day c.in_err-check_known.ensures.fault in
+    subst (λ (d : DayRecord). IsUntold c.args.asked d e) (c.state.ensures ∙ day) c.in_err-check_known.ensures.fault in
     let p = err_from_is_err_and c.from_residual-in_err-check_known.result c.from_residual-in_err-check_known.ensures.1 in
     rw (p.1, p.2) fault
 

@@ -9,12 +9,12 @@ use Rattle.cdm_serve.proofs.answering.ServedDay.answer.Goals as goal
 
 pub returns-in-Nothing-clause-events : goal.returns-in-Nothing-clause-events
 returns-in-Nothing-clause-events c =
-    let nothing : request_of c.args.self.now.state.airport.day (read_as c.args.read.now) ≡ Nothing = search rules in
+    let nothing : request_of c.args.self.now.desk.airport.day (read_as c.args.read.now) ≡ Nothing = search rules in
     let blank : read_as c.args.read.now ≡ Blank = blank_line _ _ nothing in
-    sym (ap (λ (l : LineRecord). answered c.args.self.now.state l []) blank)
+    sym (ap (λ (l : LineRecord). answered c.args.self.now.desk l []) blank)
 
 pub returns-in-Nothing-clause-number : goal.returns-in-Nothing-clause-number
 returns-in-Nothing-clause-number c =
-    let nothing : request_of c.args.self.now.state.airport.day (read_as c.args.read.now) ≡ Nothing = search rules in
+    let nothing : request_of c.args.self.now.desk.airport.day (read_as c.args.read.now) ≡ Nothing = search rules in
     let blank : read_as c.args.read.now ≡ Blank = blank_line _ _ nothing in
     sym (ap (λ (l : LineRecord). numbered c.args.self.now.number l) blank)
