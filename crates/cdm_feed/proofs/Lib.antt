@@ -4,7 +4,6 @@ pub mod WrittenLemmas
 mod WorkedRecords
 pub mod RunLemmas
 pub mod ViewLemmas
-pub mod TableRunLemmas
 pub mod OutputLemmas
 pub mod ScenarioLemmas
 pub mod StretchLemmas

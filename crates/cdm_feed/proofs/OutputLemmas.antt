@@ -1,18 +1,16 @@
 -- A run has one text.
-use Rattle.std.proofs.Common.{◌≡◌, ◌++◌, ◌∙◌, ℕ, ◌+◌, Bool, true, false, not, List, [], ◌∷◌, Option, None, Some, Result, Ok, Err, IfOk, refl, sym, subst}
+use Rattle.std.proofs.Common.{◌≡◌, ◌++◌, ◌∙◌, ℕ, ◌+◌, Bool, true, false, not, List, [], ◌∷◌, Option, None, Some, Result, Ok, Err, IfOk, refl, sym, subst, subst₂}
 use Rattle.std.specs.Prelude.{⊤, if◌then◌else◌}
 use Rattle.std.specs.Result.{result_map_both}
 use Rattle.std.specs.List.{AllZip, concat, IsDistinct}
 use Rattle.std.specs.Option.{ok_or}
-use Rattle.cdm_flight.specs.Accepted.{accepted, has_runway}
+use Rattle.cdm_flight.specs.Accepted.{has_runway}
 use Rattle.cdm_flight.specs.Journal.{AirportRows}
 use Rattle.cdm_flight.specs.Names.{same_name}
-use Rattle.cdm_flight.specs.declared.role.Role.{Role}
-use Rattle.cdm_flight.specs.declared.update.Update.{Update}
 use Rattle.cdm_flight.specs.declared.word.RefusalWord.{RefusalWord}
 use Rattle.cdm_flight.specs.declared.word.RefusalWord.TheVariants.{Order, Unknown}
 use Rattle.cdm_day.specs.Airport.{with_runway, with_space, with_taxi}
-use Rattle.cdm_plan.specs.Airport.{IsAirport, runway_names}
+use Rattle.cdm_plan.specs.Airport.{IsAirport}
 use Rattle.cdm_plan.specs.Day.{DayRecord, flights_in}
 use Rattle.cdm_plan.proofs.OnePlanLemmas.{one_day_plan}
 use Rattle.cdm_day.proofs.BatchLemmas.{accepted-keeps}
@@ -25,7 +23,6 @@ use Rattle.cdm_feed.specs.Fields.{and_then, of_one}
 use Rattle.cdm_feed.specs.Files.{after_records}
 use Rattle.cdm_feed.specs.Answers.{IsAnswer}
 use Rattle.cdm_feed.specs.Output.{IsOutput, IsReport, accepted_in, day_in, refusals_in, spelled_in}
-use Rattle.cdm_feed.specs.ScenarioFile.{scenarios_in}
 use Rattle.cdm_feed.specs.inner.OneAnswer.{one_answer}
 use Rattle.cdm_scenario.specs.Scenarios.{ScenarioRecord}
 use Rattle.cdm_report.specs.Counts.{counts_of}
@@ -39,9 +36,10 @@ use Rattle.cdm_feed.specs.declared.airport_record.AirportRecord.TheVariants.{Day
 
 -- Each flight becomes known once.
 
-pub own_flights : (g : AirportRows) (batch : List (Role × Update)) → IsDistinct same_name (flights_in (accepted g [] batch))
-unfolding IsDistinct
-own_flights g batch = accepted-keeps (λ a. IsDistinct same_name (flights_in a)) g (names_after g) [] batch tt
+pub own_journal : (g : AirportRows) (feed : List ℕ) → IsDistinct same_name (flights_in (accepted_in g feed))
+unfolding accepted_in IsDistinct
+own_journal g feed =
+    accepted-keeps (λ a. IsDistinct same_name (flights_in a)) g (names_after g) [] (updates_in (spelled_in g feed)) tt
 
 -- An airport file gives its runways names of their own.
 
@@ -49,17 +47,13 @@ abbrev pub Keeps : Option AirportRows → Type 0
 Keeps None = ⊤
 Keeps (Some g) = IsAirport g
 
-row-kept : (r : Result AirportRows RefusalWord) → IfOk r IsAirport → IfOk (of_one Some r) Keeps
-row-kept (Ok g) k = k
+row-kept : (r : Result AirportRows RefusalWord) → ((h : AirportRows) → r ≡ Ok h → IsAirport h) → IfOk (of_one Some r) Keeps
+row-kept (Ok h) k = k h refl
 row-kept (Err word) k = tt
 
-if_made : (r : Result AirportRows RefusalWord) → ((h : AirportRows) → r ≡ Ok h → IsAirport h) → IfOk r IsAirport
-if_made (Ok h) k = k h refl
-if_made (Err word) k = tt
-
-unless-refused : (b : Bool) (word : RefusalWord) (h : AirportRows) → IsAirport h → IfOk (if b then Err word else Ok h) IsAirport
-unless-refused true word h k = tt
-unless-refused false word h k = k
+unless-refused : (b : Bool) (word : RefusalWord) (g h : AirportRows) → IsAirport g → (if b then Err word else Ok g) ≡ Ok h → IsAirport h
+unless-refused true word g h k e = cc
+unless-refused false word g h k e = let same : g ≡ h = cc in subst IsAirport same k
 
 record-kept : (s : Option AirportRows) (said : AirportRecord) → Keeps s → IfOk (with_record s said) Keeps
 unfolding with_record
@@ -68,10 +62,10 @@ record-kept None (Runway r cell cap) k = tt
 record-kept None (Taxi place r minutes) k = tt
 record-kept None (Space r group minutes) k = tt
 record-kept (Some g) (Day day) k = tt
-record-kept (Some g) (Runway r cell cap) k = row-kept (with_runway g r cell cap) (if_made (with_runway g r cell cap) (λ h. airport_after_runway g h r cell cap k))
-record-kept (Some g) (Taxi place r minutes) k = row-kept (with_taxi g place r minutes) (if_made (with_taxi g place r minutes) (λ h. airport_after_taxi g h place r minutes k))
+record-kept (Some g) (Runway r cell cap) k = row-kept (with_runway g r cell cap) (λ h. airport_after_runway g h r cell cap k)
+record-kept (Some g) (Taxi place r minutes) k = row-kept (with_taxi g place r minutes) (λ h. airport_after_taxi g h place r minutes k)
 record-kept (Some g) (Space r group minutes) k =
-    row-kept (with_space g r group minutes) (unless-refused (not (has_runway g r)) Unknown _ (airport_with_space r group minutes g k))
+    row-kept (with_space g r group minutes) (λ h. unless-refused (not (has_runway g r)) Unknown _ h (airport_with_space r group minutes g k))
 
 fields-kept : (s : Option AirportRows) (fields : List (List ℕ)) → Keeps s → IfOk (and_then (airport_record_of fields) (with_record s)) Keeps
 fields-kept s fields k = by (airport_record_of fields)
@@ -104,36 +98,26 @@ own_airport text g h =
     let kept = began-kept (after_records airport_record_of with_record None 1 (records_of text)) (1, Order) (records-kept None 1 (records_of text) tt) in
     subst (λ (r : Result AirportRows (ℕ × RefusalWord)). IfOk r IsAirport) h kept
 
-pub own_runways : (text : List ℕ) (g : AirportRows) → airport_in text ≡ Ok g → IsDistinct same_name (runway_names g)
-own_runways text g h = (own_airport text g h).names
-
 -- One text.
 
 pub same-ok : {T E : Type 0} (r : Result T E) (x y : T) → r ≡ Ok x → r ≡ Ok y → x ≡ y
 same-ok r x y a b = cc
 
-pub own_journal : (g : AirportRows) (feed : List ℕ) → IsDistinct same_name (flights_in (accepted_in g feed))
-unfolding accepted_in
-own_journal g feed = own_flights g (updates_in (spelled_in g feed))
-
 one-report : (airport : List ℕ) (g : AirportRows) (feed : List ℕ) (questions : List ScenarioRecord) (x y : List ℕ) → airport_in airport ≡ Ok g
     → IsReport g feed questions x → IsReport g feed questions y → x ≡ y
 one-report airport g feed questions x y is a b =
     let day : DayRecord = day_in g feed in
-    let runways = own_runways airport g is in
+    let runways = (own_airport airport g is).names in
     let flights = own_journal g feed in
-    let plans : a.plan ≡ b.plan = one_day_plan day a.plan b.plan runways flights a.of_day b.of_day in
-    let also : AllZip (IsAnswer day (counts_of a.plan)) questions b.answers =
-    subst (λ (p : PlanRecord). AllZip (IsAnswer day (counts_of p)) questions b.answers) (sym plans) b.of_scenarios in
+    let plans : b.plan ≡ a.plan = one_day_plan day b.plan a.plan runways flights b.of_day a.of_day in
     let answers : a.answers ≡ b.answers =
-    one_each (IsAnswer day (counts_of a.plan)) (λ s. one_answer day (counts_of a.plan) s runways flights) questions a.answers b.answers a.of_scenarios also in
-    a.bytes ∙ (λ i. report_bytes g.day (plans i) (refusals_in g feed) ++ concat (answers i)) ∙ sym b.bytes
+    one_each (IsAnswer day (counts_of a.plan)) (λ s. one_answer day (counts_of a.plan) s runways flights) questions a.answers b.answers a.of_scenarios
+    (subst (λ (p : PlanRecord). AllZip (IsAnswer day (counts_of p)) questions b.answers) plans b.of_scenarios) in
+    a.bytes ∙ (λ i. report_bytes g.day (sym plans i) (refusals_in g feed) ++ concat (answers i)) ∙ sym b.bytes
 
 pub one-output : (airport feed scenarios x y : List ℕ) (c d : RunCounts) → IsOutput airport feed scenarios x c → IsOutput airport feed scenarios y d → x ≡ y
 one-output airport feed scenarios x y c d a b =
-    let same : b.rows ≡ a.rows = same-ok (airport_in airport) b.rows a.rows b.airport_file a.airport_file in
-    let file : scenarios_in a.rows.day scenarios ≡ Ok b.questions =
-    subst (λ (g : AirportRows). scenarios_in g.day scenarios ≡ Ok b.questions) same b.scenario_file in
-    let asked : b.questions ≡ a.questions = same-ok (scenarios_in a.rows.day scenarios) b.questions a.questions file a.scenario_file in
-    let report : IsReport a.rows feed b.questions y = subst (λ (g : AirportRows). IsReport g feed b.questions y) same b.report in
-    one-report airport a.rows feed a.questions x y a.airport_file a.report (subst (λ (q : List ScenarioRecord). IsReport a.rows feed q y) asked report)
+    let rows : b.rows ≡ a.rows = cc in
+    let asked : b.questions ≡ a.questions = cc in
+    one-report airport a.rows feed a.questions x y a.airport_file a.report
+    (subst₂ (λ (g : AirportRows) (q : List ScenarioRecord). IsReport g feed q y) rows asked b.report)

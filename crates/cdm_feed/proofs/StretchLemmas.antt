@@ -1,7 +1,7 @@
 -- A feed is judged stretch by stretch.
 use Rattle.std.proofs.Common.{◌≡◌, ◌<◌, ◌+◌, ◌∙◌, ℕ, zero, suc, List, [], ◌∷◌, ◌++◌, Ok, Err, refl, sym, ap, length, map, arith, append_assoc, append-nil, length-append, ◌≤◌}
 use Rattle.std.specs.Option.{option_map, option_to_list}
-use Rattle.std.proofs.lemmas.List.{length-map}
+use Rattle.std.proofs.lemmas.List.{length-map, nil_from_length}
 use Rattle.cdm_flight.specs.Accepted.{accepted, after_one, refusal}
 use Rattle.cdm_flight.specs.Journal.{AirportRows}
 use Rattle.cdm_flight.specs.declared.update.Update.{Update}
@@ -43,17 +43,13 @@ pub fewer-left : {X Y : Type 0} (f : X → Y) (old new : List X) (parsed : List 
 fewer-left f old new parsed is =
     sym (length-map old f) ∙ ap length is ∙ length-append parsed (map f new) ∙ ap (λ (k : ℕ). length parsed + k) (length-map new f)
 
-empty-of : {X : Type 0} (xs : List X) → length xs ≡ 0 → xs ≡ []
-empty-of [] none = refl
-empty-of (x ∷ xs) none = absurd (omega (arith, none))
-
 -- a stretch that may hold all records leaves none
 pub none-after : {X Y : Type 0} (f : X → Y) (old new : List X) (parsed : List Y) (most : ℕ) → length old ≤ most
     → map f old ≡ parsed ++ map f new → (length parsed < most → new ≡ []) → new ≡ []
 none-after f old new parsed most few split all = by (length new) refl
   where
     by : (k : ℕ) → length new ≡ k → new ≡ []
-    by zero none = empty-of new none
+    by zero none = nil_from_length new none
     by (suc k) some = let fewer = fewer-left f old new parsed split in all (omega (arith, few, fewer, some))
 
 -- the records that are left of a feed tell, after those that were judged, what the whole feed tells
@@ -114,7 +110,7 @@ pub none-left : (g : AirportRows) (day : CalendarDate) (feed : List ℕ) (s : Da
     → (s ≡ record { airport = g; journal = accepted_in g feed }) × (refused ≡ refusals_in g feed)
 unfolding accepted updates_in refused_in
 none-left g day feed s refused n old new parsed left split none last =
-    let empty = empty-of parsed none in
+    let empty = nil_from_length parsed none in
     let ended : map (parse_of day) old ≡ [] = split ∙ (λ i. empty i ++ map (parse_of day) (last i)) in
     let journal : accepted_in g feed ≡ s.journal = left.journal ∙ ap (λ (xs : List Spelled). accepted g s.journal (updates_in xs)) ended in
     let all : refusals_in g feed ≡ refused ++ [] = left.all ∙ ap (λ (xs : List Spelled). refused ++ refused_in g s.journal (n + 1) xs) ended in

@@ -1,5 +1,6 @@
 -- Written records are read back.
-use Rattle.std.proofs.Common.{◌≡◌, ◌<◌, ◌≤◌, ◌+◌, ◌∷◌, ◌++◌, ◌∙◌, ◌==◌, ◌||◌, ◌&&◌, ℕ, zero, suc, Bool, true, false, not, List, [], length, map, Option, Some, IsTrue, refl, sym, ap, arith, append_assoc}
+use Rattle.std.proofs.Common.{◌≡◌, ◌<◌, ◌≤◌, ◌+◌, ◌∷◌, ◌++◌, ◌∙◌, ◌==◌, ◌||◌, ℕ, zero, suc, false, List, [], length, map, Option, Some, IsTrue, refl, sym, ap, arith, append_assoc}
+use Rattle.std.proofs.lemmas.Bool.{and_parts, not-true, or_parts}
 use Rattle.std.proofs.lemmas.List.{length-append, append-nil}
 use Rattle.std.proofs.lemmas.List.Elements.{All-head, All-tail}
 use Rattle.std.specs.List.{All, filter_map, flat_map, list_any, list_all, cons_option}
@@ -30,28 +31,17 @@ bytes_after CrLf tail = 10 ∷ tail
 -- Fields.
 
 unmarked_byte : (b : ℕ) → is_mark b ≡ false → ((b == 34) ≡ false) × ((b == 13) ≡ false) × ((b == 10) ≡ false) × (needs_byte default_writer b ≡ false)
-unmarked_byte b e = by (b == 44) (b == 34) (b == 13) (b == 10) e
-  where
-    by : (c q r n : Bool) → (c || q || r || n) ≡ false → (q ≡ false) × (r ≡ false) × (n ≡ false) × ((c || q || (r || n) || false || false) ≡ false)
-    by true q r n h = cc
-    by false true r n h = cc
-    by false false true n h = cc
-    by false false false true h = cc
-    by false false false false h = (refl, refl, refl, refl)
-
-both_false : (a b : Bool) → (a || b) ≡ false → (a ≡ false) × (b ≡ false)
-both_false true b e = cc
-both_false false b e = (refl, e)
+unmarked_byte b e =
+    let n = or_parts ((b == 44) || (b == 34) || (b == 13)) (b == 10) e in
+    let r = or_parts ((b == 44) || (b == 34)) (b == 13) n.0 in
+    let q = or_parts (b == 44) (b == 34) r.0 in
+    (q.1, r.1, n.1, rw (q.0, q.1, r.1, n.1))
 
 pub unmarked : (x : List ℕ) → list_any is_mark x ≡ false → list_any (needs_byte default_writer) x ≡ false
 unmarked [] e = refl
 unmarked (b ∷ bs) e =
-    let q = both_false (is_mark b) (list_any is_mark bs) e in
+    let q = or_parts (is_mark b) (list_any is_mark bs) e in
     rw ((unmarked_byte b q.0).3, unmarked bs q.1) refl
-
-was_false : (a : Bool) → IsTrue (not a) → a ≡ false
-was_false true h = cc
-was_false false h = refl
 
 -- a field, from where one may start
 one-field : (fields : List (List ℕ)) (f : Field) (tail : List ℕ) → IsTrue (is_field f)
@@ -59,8 +49,8 @@ one-field : (fields : List (List ℕ)) (f : Field) (tail : List ℕ) → IsTrue 
 unfolding next_record
 one-field fields (Plain []) tail h = refl
 one-field fields (Plain (b ∷ bs)) tail h =
-    let e = was_false (list_any is_mark (b ∷ bs)) h in
-    let q = unmarked_byte b (both_false (is_mark b) (list_any is_mark bs) e).0 in
+    let e = not-true (list_any is_mark (b ∷ bs)) h in
+    let q = unmarked_byte b (or_parts (is_mark b) (list_any is_mark bs) e).0 in
     start-same fields [] b (bs ++ tail) q.0 ∙ plain-run fields [] (b ∷ bs) tail (unmarked (b ∷ bs) e)
 one-field fields (InQuotes x) tail h =
     ap (next_record default_config st.InQuoted fields []) (append_assoc (escaped default_writer x) (34 ∷ []) tail) ∙ quoted-run fields [] x tail
@@ -93,10 +83,6 @@ text_end fields (InQuotes x) = refl
 
 -- Records.
 
-both_true : (a b : Bool) → IsTrue (a && b) → IsTrue a × IsTrue b
-both_true true b h = (refl, h)
-both_true false b h = cc
-
 -- what the reader gives where these bytes end a field and its record
 abbrev Ends : (List (List ℕ) → Option Read) → List ℕ → Type 0
 Ends ended tail = (fields : List (List ℕ)) (f : Field) → next_record default_config (state_in f) fields (field_bytes f) tail ≡ ended (fields ++ field_bytes f ∷ [])
@@ -108,7 +94,7 @@ module _ (ended : List (List ℕ) → Option Read) (tail : List ℕ) (ends : End
   unfolding after_commas
   further fields f [] h = ends fields f
   further fields f (g ∷ gs) h =
-      let each = both_true (is_field g) (list_all is_field gs) h in
+      let each = and_parts (is_field g) (list_all is_field gs) h in
       let before = fields ++ field_bytes f ∷ [] in
       comma fields f ((field_text g ++ after_commas gs) ++ tail)
       ∙ (ap (next_record default_config st.StartField before []) (append_assoc (field_text g) (after_commas gs) tail)
@@ -122,14 +108,14 @@ module _ (ended : List (List ℕ) → Option Read) (tail : List ℕ) (ends : End
   starts (Plain []) [] h = cc
   starts (Plain []) (g ∷ gs) h = refl
   starts (Plain (b ∷ bs)) fs h =
-      let first = both_true _ _ (both_true _ _ h).0 in
-      let q = unmarked_byte b (both_false (is_mark b) (list_any is_mark bs) (was_false (list_any is_mark (b ∷ bs)) first.0)).0 in
+      let first = and_parts _ _ (and_parts _ _ h).0 in
+      let q = unmarked_byte b (or_parts (is_mark b) (list_any is_mark bs) (not-true (list_any is_mark (b ∷ bs)) first.0)).0 in
       record-same [] [] b (bs ++ (after_commas fs ++ tail)) q.1 q.2
   starts (InQuotes x) fs h = refl
 
   whole : (f : Field) (fs : List Field) → IsTrue (is_written (f ∷ fs)) → next_record default_config st.StartRecord [] [] (joined (f ∷ fs) ++ tail) ≡ ended (map field_bytes (f ∷ fs))
   whole f fs h =
-      let each = both_true (is_field f) (list_all is_field fs) (both_true _ _ h).0 in
+      let each = and_parts (is_field f) (list_all is_field fs) (and_parts _ _ h).0 in
       ap (next_record default_config st.StartRecord [] []) (append_assoc (field_text f) (after_commas fs) tail)
       ∙ (starts f fs h ∙ (one-field [] f (after_commas fs ++ tail) each.0 ∙ further [] f fs each.1))
 

@@ -4,7 +4,7 @@ use Rattle.std.specs.Result.{IsOkAnd}
 use Rattle.cdm_flight.specs.declared.word.RefusalWord.{RefusalWord}
 use Rattle.cdm_scenario.specs.Scenarios.{ScenarioRecord}
 use Rattle.cdm_feed.specs.AirportFile.{airport_in}
-use Rattle.cdm_feed.specs.CommonFaults.{IsFirstCommonFault}
+use Rattle.cdm_feed.specs.CommonFaults.{IsAirportFault, IsFirstCommonFault}
 use Rattle.cdm_feed.specs.Readings.{AreRead, Reading}
 use Rattle.cdm_feed.specs.ScenarioFile.{scenarios_in}
 use Rattle.cdm_feed.specs.declared.common_fault.CommonFault.TheVariants as common
@@ -14,6 +14,12 @@ use Rattle.cdm_feed.specs.declared.run_error.RunError.TheVariants as error
 -- the airport file is accepted, and what the scenario file says for its day is so
 abbrev pub Asks : (Result (List ScenarioRecord) (ℕ × RefusalWord) → Type 0) → List ℕ → List ℕ → Type 0
 Asks Said airport scenarios = IsOkAnd (airport_in airport) (λ g. Said (scenarios_in g.day scenarios))
+
+-- why whole inputs make no day with scenarios: their first faulty record, of the airport file or else of the scenario
+-- file, or want of memory
+abbrev pub IsRecordFault : List ℕ → List ℕ → RunError → Type 0
+IsRecordFault airport scenarios (error.Common fault) = IsAirportFault airport fault
+IsRecordFault airport scenarios (error.Scenario number word) = Asks (λ said. said ≡ Err (number, word)) airport scenarios
 
 -- the first fault of a run: after the records of the airport file those of the scenario file are asked, and then the
 -- text is made

@@ -26,7 +26,7 @@ pub(crate) fn field(row: &ByteRecord, place: usize) -> &[u8]
 /// The name of a flight, a runway or a stand: 1 to `MOST` bytes of `A-Z0-9`.
 #[tactic(auto, unfolding(crate::specs::Fields::name_field))]
 pub(crate) fn name_field<const MOST: usize>(text: &[u8]) -> Result<Name<MOST>, RefusalWord>
-    requires { MOST ≤ 255 }
+    requires { MOST ≤ 8 }
     ensures { result ≡ name_field (is_name MOST) text.now }
 {
     Name::new(text).ok_or(RefusalWord::Text)

@@ -10,8 +10,9 @@ use crate::input::{InputFault, read_input};
 use std::alloc::Global;
 use std::io::Read;
 
-// One input, whole.
-fn read_whole<R: Read>(
+/// Reads one input of a run, by its name, to its end, or answers its fault, which is `Read`, `TooLong` or
+/// `Memory`.
+pub fn read_whole<R: Read>(
     alloc: Global,
     input: Input,
     device: &mut Device<R>,

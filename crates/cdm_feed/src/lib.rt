@@ -5,6 +5,7 @@
 mod airport_file;
 mod airport_record;
 mod answers;
+mod asking;
 mod common_fault;
 mod device;
 mod feed;
@@ -29,6 +30,7 @@ mod view_error;
 mod view_run;
 
 pub use airport_file::{airport_of, read_airport};
+pub use asking::{AskedDay, asked_day};
 pub use common_fault::{CommonFault, Input};
 pub use device::Device;
 pub use feed::read_feed;
@@ -36,7 +38,7 @@ pub use feed_record::parse_record;
 pub use field::{ctot_field, number_field, place_field};
 pub use file_fault::FileFault;
 pub use input::{INPUT_LIMIT, InputFault, read_input};
-pub use inputs::{Inputs, read_inputs, read_two};
+pub use inputs::{Inputs, read_inputs, read_two, read_whole};
 pub use judging::{Judged, judge};
 pub use laws::{one_text, records_are_read_back};
 pub use output::{WriteFault, write_text};

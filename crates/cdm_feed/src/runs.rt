@@ -1,30 +1,22 @@
 //! A whole run, from the bytes of its inputs to the bytes of its text.
-ghost use Rattle.std.specs.Prelude.{◌≡◌, ◌≤◌, ℕ, List, Ok, length, take, false, IfOk, IfErr, OnOk, OnErr, IsErrOf};
+ghost use Rattle.std.specs.Prelude.{◌≡◌, ◌≤◌, ℕ, List, length, take, false, IfOk, IfErr, OnOk, OnErr, IsErrOf};
 ghost use Rattle.std.specs.Io.KnownBytes.{Appends};
 ghost use Rattle.cdm_feed.specs.Input.{input_limit};
-ghost use Rattle.cdm_feed.specs.Output.{HaveOneText, IsOutput, IsReport, accepted_in, refusals_in};
-ghost use Rattle.cdm_feed.specs.ScenarioFile.{scenarios_in};
+ghost use Rattle.cdm_feed.specs.Output.{HaveOneText, IsOutput};
 ghost use Rattle.cdm_feed.specs.Readings.{AreRead, IfTold, reading};
-ghost use Rattle.cdm_feed.specs.RunFaults.{IsFirstFault, is_write_fault};
-ghost use Rattle.cdm_feed.specs.inner.Faults.{IsRecordFault, IsScenarioFault};
+ghost use Rattle.cdm_feed.specs.RunFaults.{IsFirstFault, IsRecordFault, is_write_fault};
 ghost use Rattle.cdm_feed.specs.declared.runs.RunCounts.{RunCounts};
 
-use crate::airport_file::airport_of;
 use crate::answers::push_answers;
+use crate::asking::{AskedDay, asked_day};
 use crate::common_fault::{CommonFault, Input};
 use crate::device::Device;
-use crate::file_fault::FileFault;
 use crate::inputs::{Inputs, read_inputs};
-use crate::judging::{Judged, judge};
 use crate::output::write_text;
 use crate::run_error::RunError;
-use crate::scenario_file::read_scenarios;
-use cdm_day::Airport;
 use cdm_phase::{Gate, Workers};
 use cdm_report::{indicators, report_text};
-use cdm_scenario::Scenario;
-use cdm_time::Day;
-use std::alloc::{AllocError, Global};
+use std::alloc::Global;
 use std::io::{Read, Write};
 use std::thread::Threads;
 
@@ -46,48 +38,6 @@ struct Report {
     counts: RunCounts,
 }
 
-// The report of a feed at an airport, and the answers to scenarios.
-fn report_of<R: Threads + Sync, G: Gate>(
-    rt: &R,
-    alloc: Global,
-    airport: Airport,
-    feed: &[u8],
-    scenarios: &[Scenario],
-    workers: Workers,
-    gate: &G,
-) -> Result<Report, AllocError>
-    requires { length feed.now ≤ input_limit }
-    ensures text { IfOk result (λ report. IsReport airport feed.now scenarios.now report.text.items) }
-    ensures counts { IfOk result (λ report. report.counts ≡ record {
-      accepted = length (accepted_in airport feed.now);
-      refused = length (refusals_in airport feed.now);
-      scenarios = length scenarios.now;
-    }) }
-{
-    let Judged { state, refused, .. } = judge(rt, alloc, airport, feed, workers, gate)?;
-    let mut text = report_text(alloc, state.day(), state.plan(), &refused)?;
-    let base = indicators(state.plan());
-    push_answers(rt, alloc, &state, base, scenarios, workers, gate, &mut text)?;
-    let counts = RunCounts {
-        accepted: state.journal().len(),
-        refused: refused.len(),
-        scenarios: scenarios.len(),
-    };
-    Ok(Report { text, counts })
-}
-
-/// The scenarios of a scenario file.
-pub(crate) fn scenarios_of(alloc: Global, day: &Day, text: &[u8]) -> Result<Vec<Scenario>, RunError>
-    ensures said { IfOk result (λ scenarios. scenarios_in day.now text.now ≡ Ok scenarios.items) }
-    ensures fault { IfErr result (IsScenarioFault day.now text.now) }
-{
-    match read_scenarios(alloc, day, text) {
-        Ok(scenarios) => Ok(scenarios),
-        Err(FileFault::Refused(number, word)) => Err(RunError::Scenario(number, word)),
-        Err(FileFault::Memory) => Err(RunError::Common(CommonFault::Memory)),
-    }
-}
-
 // The text that the inputs make, and its counts.
 fn report_of_inputs<R: Threads + Sync, G: Gate>(
     rt: &R,
@@ -101,18 +51,23 @@ fn report_of_inputs<R: Threads + Sync, G: Gate>(
         IsOutput inputs.now.airport.items inputs.now.second.items inputs.now.third.items report.text.items report.counts) }
     ensures fault { IfErr result (IsRecordFault inputs.now.airport.items inputs.now.third.items) }
 {
-    let airport = airport_of(alloc, &inputs.airport)?;
-    let scenarios = scenarios_of(alloc, airport.day(), &inputs.third)?;
-    let report = report_of(
-        rt,
-        alloc,
-        airport,
-        &inputs.second,
-        &scenarios,
-        workers,
-        gate,
+    let AskedDay {
+        state,
+        refused,
+        scenarios,
+    } = asked_day(rt, alloc, inputs, workers, gate)?;
+    let plan = state.plan();
+    let mut text = report_text(alloc, state.day(), plan, &refused)?;
+    let base = indicators(plan);
+    push_answers(
+        rt, alloc, &state, base, &scenarios, workers, gate, &mut text,
     )?;
-    Ok(report)
+    let counts = RunCounts {
+        accepted: state.journal().len(),
+        refused: refused.len(),
+        scenarios: scenarios.len(),
+    };
+    Ok(Report { text, counts })
 }
 
 /// Runs a day: reads the airport file, the feed and the scenario file, judges the feed's updates in

@@ -6,13 +6,11 @@ ghost use Rattle.cdm_feed.specs.Readings.{AreRead, IfTold, reading};
 ghost use Rattle.cdm_feed.specs.Tables.{HaveOneTable, IsFirstTableFault, IsTabled, is_table_write_fault};
 ghost use Rattle.cdm_feed.specs.inner.Faults.{IsUntabled};
 
-use crate::airport_file::airport_of;
+use crate::asking::{AskedDay, asked_day};
 use crate::common_fault::{CommonFault, Input};
 use crate::device::Device;
 use crate::inputs::{Inputs, read_inputs};
-use crate::judging::{Judged, judge};
 use crate::output::write_text;
-use crate::runs::scenarios_of;
 use crate::table_error::TableError;
 use cdm_phase::{Gate, Workers};
 use cdm_table::{Table, tabulate};
@@ -33,9 +31,11 @@ fn table_of_inputs<R: Threads + Sync, G: Gate>(
     ensures made { IfOk result (λ text. IsTabled asked inputs.now.airport.items inputs.now.second.items inputs.now.third.items text.items) }
     ensures fault { IfErr result (IsUntabled asked inputs.now.airport.items inputs.now.third.items) }
 {
-    let airport = airport_of(alloc, &inputs.airport)?;
-    let scenarios = scenarios_of(alloc, airport.day(), &inputs.third)?;
-    let Judged { state, .. } = judge(rt, alloc, airport, &inputs.second, workers, gate)?;
+    let AskedDay {
+        state,
+        scenarios,
+        ..
+    } = asked_day(rt, alloc, inputs, workers, gate)?;
     let text = tabulate(rt, alloc, &state, &scenarios, asked, workers, gate)?;
     Ok(text)
 }

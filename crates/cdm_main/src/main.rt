@@ -100,14 +100,22 @@ where
             feed,
             scenarios,
             workers,
-        } => plan(rt, airport, feed, *scenarios, *workers, out)?,
+        } => make(rt, airport, feed, *scenarios, Made::Plan, *workers, out)?,
         Command::Tabulate {
             airport,
             feed,
             scenarios,
             table,
             workers,
-        } => tabulate(rt, airport, feed, *scenarios, *table, *workers, out)?,
+        } => make(
+            rt,
+            airport,
+            feed,
+            *scenarios,
+            Made::Table(*table),
+            *workers,
+            out,
+        )?,
         Command::Live {
             airport,
             feed1,
@@ -118,7 +126,7 @@ where
             feed,
             scenarios,
             workers,
-        } => draw(rt, airport, feed, *scenarios, *workers, out)?,
+        } => make(rt, airport, feed, *scenarios, Made::Picture, *workers, out)?,
         Command::Ask {
             airport,
             feed,
@@ -177,86 +185,44 @@ fn open_scenarios<R: AllocGlobal + Files + io::Input>(
     }
 }
 
-// Writes the plan of the day, and the answers to its scenarios.
-fn plan<R: AllocGlobal + Files + io::Input + Threads + Sync, W: Write>(
-    rt: &R,
-    airport: &str,
-    feed: &str,
-    scenarios: Option<&str>,
-    workers: Workers,
-    out: &mut Device<W>,
-) -> Result<(), Fault>
-    requires { out.old.failed ≡ false }
-{
-    let airport = open(rt, airport, Input::Airport)?;
-    let feed = open(rt, feed, Input::Feed)?;
-    let scenarios = open_scenarios(rt, scenarios)?;
-    run(
-        rt,
-        rt.alloc(),
-        &mut Device::new(airport),
-        &mut Device::new(feed),
-        &mut Device::new(scenarios),
-        workers,
-        &OpenGate,
-        out,
-    )?;
-    Ok(())
+// What is made of a day and its scenarios.
+#[derive(Clone, Copy)]
+enum Made {
+    Plan,
+    Table(Table),
+    Picture,
 }
 
-// Writes a table of the day and its scenarios.
-fn tabulate<R: AllocGlobal + Files + io::Input + Threads + Sync, W: Write>(
+// Writes what is made of the day and its scenarios.
+fn make<R: AllocGlobal + Files + io::Input + Threads + Sync, W: Write>(
     rt: &R,
     airport: &str,
     feed: &str,
     scenarios: Option<&str>,
-    table: Table,
+    made: Made,
     workers: Workers,
     out: &mut Device<W>,
 ) -> Result<(), Fault>
     requires { out.old.failed ≡ false }
 {
-    let airport = open(rt, airport, Input::Airport)?;
-    let feed = open(rt, feed, Input::Feed)?;
-    let scenarios = open_scenarios(rt, scenarios)?;
-    run_table(
-        rt,
-        rt.alloc(),
-        &mut Device::new(airport),
-        &mut Device::new(feed),
-        &mut Device::new(scenarios),
-        table,
-        workers,
-        &OpenGate,
-        out,
-    )?;
-    Ok(())
-}
-
-// Draws the day and its scenarios.
-fn draw<R: AllocGlobal + Files + io::Input + Threads + Sync, W: Write>(
-    rt: &R,
-    airport: &str,
-    feed: &str,
-    scenarios: Option<&str>,
-    workers: Workers,
-    out: &mut Device<W>,
-) -> Result<(), Fault>
-    requires { out.old.failed ≡ false }
-{
-    let airport = open(rt, airport, Input::Airport)?;
-    let feed = open(rt, feed, Input::Feed)?;
-    let scenarios = open_scenarios(rt, scenarios)?;
-    run_picture(
-        rt,
-        rt.alloc(),
-        &mut Device::new(airport),
-        &mut Device::new(feed),
-        &mut Device::new(scenarios),
-        workers,
-        &OpenGate,
-        out,
-    )?;
+    let alloc = rt.alloc();
+    let airport = &mut Device::new(open(rt, airport, Input::Airport)?);
+    let feed = &mut Device::new(open(rt, feed, Input::Feed)?);
+    let scenarios = &mut Device::new(open_scenarios(rt, scenarios)?);
+    let gate = &OpenGate;
+    match made {
+        Made::Plan => {
+            run(rt, alloc, airport, feed, scenarios, workers, gate, out)?;
+        }
+        Made::Table(table) => {
+            run_table(
+                rt, alloc, airport, feed, scenarios, table, workers, gate, out,
+            )?;
+        }
+        Made::Picture => {
+            run_picture(rt, alloc, airport, feed, scenarios, workers, gate, out)?;
+        }
+    }
     Ok(())
 }
 

@@ -1,36 +1,19 @@
 //! A whole run that draws a picture, from the bytes of its inputs to the bytes of its text.
-ghost use Rattle.std.specs.Prelude.{◌≡◌, ◌≤◌, ℕ, List, Ok, length, take, false, IfOk, IfErr, OnOk, OnErr, IsErrOf};
+ghost use Rattle.std.specs.Prelude.{◌≡◌, ◌≤◌, ℕ, List, length, take, false, IfOk, IfErr, OnOk, OnErr, IsErrOf};
 ghost use Rattle.std.specs.Io.KnownBytes.{Appends};
 ghost use Rattle.cdm_feed.specs.Input.{input_limit};
 ghost use Rattle.cdm_feed.specs.Readings.{AreRead, IfTold, reading};
-ghost use Rattle.cdm_feed.specs.RunFaults.{IsFirstFault, is_write_fault};
-ghost use Rattle.cdm_feed.specs.ScenarioFile.{scenarios_in};
-ghost use Rattle.cdm_feed.specs.inner.Faults.{IsRecordFault, IsScenarioFault};
+ghost use Rattle.cdm_feed.specs.RunFaults.{IsFirstFault, IsRecordFault, is_write_fault};
 ghost use Rattle.cdm_picture.specs.Pictures.{IsDrawn};
 
 use crate::scenes::picture;
 use cdm_feed::{
-    CommonFault, Device, FileFault, Input, Inputs, Judged, RunError, airport_of, judge,
-    read_inputs, read_scenarios, write_text,
+    AskedDay, CommonFault, Device, Input, Inputs, RunError, asked_day, read_inputs, write_text,
 };
 use cdm_phase::{Gate, Workers};
-use cdm_scenario::Scenario;
-use cdm_time::Day;
 use std::alloc::Global;
 use std::io::{Read, Write};
 use std::thread::Threads;
-
-// The scenarios of a scenario file.
-fn scenarios_of(alloc: Global, day: &Day, text: &[u8]) -> Result<Vec<Scenario>, RunError>
-    ensures said { IfOk result (λ scenarios. scenarios_in day.now text.now ≡ Ok scenarios.items) }
-    ensures fault { IfErr result (IsScenarioFault day.now text.now) }
-{
-    match read_scenarios(alloc, day, text) {
-        Ok(scenarios) => Ok(scenarios),
-        Err(FileFault::Refused(number, word)) => Err(RunError::Scenario(number, word)),
-        Err(FileFault::Memory) => Err(RunError::Common(CommonFault::Memory)),
-    }
-}
 
 // The picture of the day and the scenarios that the inputs make.
 fn picture_of_inputs<R: Threads + Sync, G: Gate>(
@@ -44,9 +27,11 @@ fn picture_of_inputs<R: Threads + Sync, G: Gate>(
     ensures made { IfOk result (λ text. IsDrawn inputs.now.airport.items inputs.now.second.items inputs.now.third.items text.items) }
     ensures fault { IfErr result (IsRecordFault inputs.now.airport.items inputs.now.third.items) }
 {
-    let airport = airport_of(alloc, &inputs.airport)?;
-    let scenarios = scenarios_of(alloc, airport.day(), &inputs.third)?;
-    let Judged { state, .. } = judge(rt, alloc, airport, &inputs.second, workers, gate)?;
+    let AskedDay {
+        state,
+        scenarios,
+        ..
+    } = asked_day(rt, alloc, inputs, workers, gate)?;
     let text = picture(rt, alloc, &state, &scenarios, workers, gate)?;
     Ok(text)
 }

@@ -2,7 +2,6 @@
 ghost use Rattle.std.specs.Prelude.{◌≡◌, ◌++◌, ℕ, List, false, IfErr, IfOk, IfSome, OnErr, OnOk};
 ghost use Rattle.std.specs.Result.{IsOkAnd};
 ghost use Rattle.cdm_feed.specs.AirportFile.{airport_in};
-ghost use Rattle.cdm_feed.specs.CommonFaults.{IsInputFault};
 ghost use Rattle.cdm_feed.specs.Readings.{IsRead, reading};
 ghost use Rattle.cdm_port.specs.Event.Event.{End};
 ghost use Rattle.cdm_port.specs.Stop.{since};
@@ -17,7 +16,7 @@ use crate::performing::perform;
 use crate::starting::start;
 use cdm_day::Airport;
 use cdm_desk::DeskDay;
-use cdm_feed::{CommonFault, Device, Input, InputFault, airport_of, read_input};
+use cdm_feed::{Device, Input, airport_of, read_whole};
 use cdm_journal::{LineRead, read_line};
 use cdm_port::{Heard, Port};
 use std::alloc::Global;
@@ -91,21 +90,6 @@ pub fn serve_day<R: Threads + Sync, P: Port>(
     serve_lines(alloc, port, ServedDay { desk, number: 0 })
 }
 
-// The bytes of the airport file.
-fn airport_file<A: Read>(alloc: Global, airport: &mut Device<A>) -> Result<Vec<u8>, CommonFault>
-    requires { airport.old.failed ≡ false }
-    ensures whole { IfOk result (λ bytes. IfSome (A.remaining airport.old.inner) (λ all. bytes.items ≡ all)) }
-    ensures read { OnOk result (IsRead (reading Input.Airport A.remaining airport.old airport.new)) }
-    ensures fault { IfErr result (IsInputFault (reading Input.Airport A.remaining airport.old airport.new)) }
-{
-    match read_input(alloc, airport) {
-        Ok(bytes) => Ok(bytes),
-        Err(InputFault::Failed) => Err(CommonFault::Read(Input::Airport)),
-        Err(InputFault::TooLong) => Err(CommonFault::TooLong(Input::Airport)),
-        Err(InputFault::Memory) => Err(CommonFault::Memory),
-    }
-}
-
 /// Serves a day over a port: reads the airport file, and serves the day of its airport to the end of the input, as
 /// [`serve_day`] does.
 ///
@@ -128,7 +112,7 @@ pub fn serve<R: Threads + Sync, A: Read, P: Port>(
     ensures read { OnOk result (IsRead (reading Input.Airport A.remaining airport.old airport.new)) }
     ensures fault { IfErr result (IsServeFault (reading Input.Airport A.remaining airport.old airport.new) (since (P.events port.old) (P.events port.new))) }
 {
-    let file = airport_file(alloc, airport)?;
+    let file = read_whole(alloc, Input::Airport, airport)?;
     let airport = airport_of(alloc, &file)?;
     serve_day(rt, alloc, airport, port)
 }

@@ -1,11 +1,9 @@
 -- The faults of a run's parts.
-use Rattle.std.specs.Prelude.{◌≡◌, ⊤, ℕ, List, Err}
-use Rattle.cdm_time.specs.declared.calendar.CalendarDate.{CalendarDate}
+use Rattle.std.specs.Prelude.{◌≡◌, ℕ, List, Err}
 use Rattle.cdm_view.specs.declared.fault.ViewFault.TheVariants as fault
 use Rattle.cdm_view.specs.declared.question.Question.{Question}
 use Rattle.cdm_feed.specs.CommonFaults.{IsAirportFault}
 use Rattle.cdm_feed.specs.RunFaults.{Asks}
-use Rattle.cdm_feed.specs.ScenarioFile.{scenarios_in}
 use Rattle.cdm_feed.specs.Views.{IsUnknown}
 use Rattle.cdm_table.specs.declared.table.Table.{Table}
 use Rattle.cdm_feed.specs.Tables.{IsUnknownIn}
@@ -13,20 +11,6 @@ use Rattle.cdm_feed.specs.declared.table_error.TableError.{TableError}
 use Rattle.cdm_feed.specs.declared.table_error.TableError.TheVariants as table
 use Rattle.cdm_feed.specs.declared.view_error.ViewError.{ViewError}
 use Rattle.cdm_feed.specs.declared.view_error.ViewError.TheVariants as view
-use Rattle.cdm_feed.specs.declared.common_fault.CommonFault.TheVariants as common
-use Rattle.cdm_feed.specs.declared.run_error.RunError.{RunError}
-use Rattle.cdm_feed.specs.declared.run_error.RunError.TheVariants as error
-
--- why a scenario file makes no scenarios
-abbrev pub IsScenarioFault : CalendarDate → List ℕ → RunError → Type 0
-IsScenarioFault day scenarios (error.Scenario number refusal) = scenarios_in day scenarios ≡ Err (number, refusal)
-IsScenarioFault day scenarios (error.Common common.Memory) = ⊤
-IsScenarioFault day scenarios fault = ⊥
-
--- why the records of whole inputs make no text
-abbrev pub IsRecordFault : List ℕ → List ℕ → RunError → Type 0
-IsRecordFault airport scenarios (error.Common fault) = IsAirportFault airport fault
-IsRecordFault airport scenarios (error.Scenario number refusal) = Asks (λ said. said ≡ Err (number, refusal)) airport scenarios
 
 -- why whole inputs give a question no answer
 abbrev pub IsUnmade : Question → List ℕ → List ℕ → ViewError → Type 0

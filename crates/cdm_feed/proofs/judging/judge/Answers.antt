@@ -14,17 +14,12 @@ pub stretches-init : goal.stretches-init
 stretches-init g c =
     all-left _ _ _ _ _ _ c.day-day.ensures c.in_ok-state.ensures c.new.ensures.items c.new-reader.ensures.left c.new-reader.ensures.count
 
-pub returns-then-is_empty-clause-state : goal.returns-then-is_empty-clause-state
-returns-then-is_empty-clause-state g c =
+pub returns-then-is_empty : goal.returns-then-is_empty
+returns-then-is_empty g c =
     let none = no-length _ _ c.in_ok-parsed.parsed.ok.0 c.if-is_empty.ensures in
     let read = c.in_ok-parsed.ensures in
-    (none-left _ _ _ _ _ _ _ _ _ c.stretches.invariant read.spelled none (read.all (omega (arith, none)))).0
-
-pub returns-then-is_empty-clause-refused : goal.returns-then-is_empty-clause-refused
-returns-then-is_empty-clause-refused g c =
-    let none = no-length _ _ c.in_ok-parsed.parsed.ok.0 c.if-is_empty.ensures in
-    let read = c.in_ok-parsed.ensures in
-    (none-left _ _ _ _ _ _ _ _ _ c.stretches.invariant read.spelled none (read.all (omega (arith, none)))).1
+    let judged = none-left _ _ _ _ _ _ _ _ _ c.stretches.invariant read.spelled none (read.all (omega (arith, none))) in
+    record { state = judged.0; refused = judged.1 }
 
 pub stretches-smaller : goal.stretches-smaller
 stretches-smaller g c =

@@ -1,42 +1,40 @@
-use Rattle.std.proofs.Common.{◌≡◌, ◌∙◌, List, length, ℕ, Ok, ap, sym, subst}
-use Rattle.std.proofs.lemmas.Result.{err_from_is_err_and}
-use Rattle.cdm_time.specs.declared.calendar.CalendarDate.{CalendarDate}
+use Rattle.std.proofs.Common.{◌++◌, ◌∙◌, List, ℕ, ap, length, subst, subst₂, sym}
+use Rattle.std.specs.List.{AllZip, concat}
+use Rattle.cdm_plan.specs.Day.{DayRecord}
+use Rattle.cdm_plan.specs.DayPlan.{IsDayPlan}
+use Rattle.cdm_report.specs.Counts.{counts_of}
+use Rattle.cdm_report.specs.Report.{report_bytes}
+use Rattle.cdm_report.specs.declared.counts.Counts.{Counts}
 use Rattle.cdm_scenario.specs.Scenarios.{ScenarioRecord}
-use Rattle.cdm_feed.specs.AirportFile.{airport_in}
-use Rattle.cdm_feed.specs.Output.{IsReport, accepted_in, refusals_in}
-use Rattle.cdm_feed.specs.inner.Faults.{IsScenarioFault}
-use Rattle.cdm_feed.specs.ScenarioFile.{scenarios_in}
-use Rattle.cdm_feed.specs.declared.runs.RunCounts.{RunCounts}
-use Rattle.cdm_feed.proofs.RunLemmas.{scenario_fault-record}
+use Rattle.cdm_feed.specs.Answers.{IsAnswer}
+use Rattle.cdm_feed.specs.Output.{day_in}
 use Rattle.cdm_feed.proofs.runs.report_of_inputs.Goals as goal
-
-pub returns-in_err-scenarios-clause-fault : goal.returns-in_err-scenarios-clause-fault
-returns-in_err-scenarios-clause-fault over c =
-    let g = c.in_ok-airport.airport in
-    let file : airport_in c.args.inputs.now.airport.items ≡ Ok g = sym (ap airport_in c.deref.ensures.value) ∙ c.in_ok-airport.ensures.said in
-    let e = c.in_err-scenarios.field-0.0 in
-    let asked : IsScenarioFault g.day c.deref-2.result.now e =
-    subst (λ (day : CalendarDate). IsScenarioFault day c.deref-2.result.now e) c.day.ensures c.in_err-scenarios.ensures.fault in
-    let fault : IsScenarioFault g.day c.args.inputs.now.third.items e =
-    subst (λ (text : List ℕ). IsScenarioFault g.day text e) c.deref-2.ensures.value asked in
-    let p = err_from_is_err_and c.from_residual-in_err-scenarios.result c.from_residual-in_err-scenarios.ensures.1 in
-    rw (p.1, p.2) (scenario_fault-record _ _ g e file fault)
 
 pub returns-clause-made : goal.returns-clause-made
 returns-clause-made over c =
-    let g = c.in_ok-airport.airport in
-    let text = c.in_ok-report.report.text.items in
-    let report : IsReport g c.args.inputs.now.second.items c.deref-4.result.now text =
-    subst (λ (feed : List ℕ). IsReport g feed c.deref-4.result.now text) c.deref-3.ensures.value c.in_ok-report.ensures.text in
-    let counts = c.in_ok-report.ensures.counts
-    ∙ (λ i. record { accepted = length (accepted_in g (c.deref-3.ensures.value i)); refused = length (refusals_in g (c.deref-3.ensures.value i)); scenarios = length (c.deref-4.ensures.value i) }) in
+    let made = c.in_ok-state.field-0 in
+    let is = c.in_ok-state.ensures in
+    let day : DayRecord = day_in made.state.airport c.args.inputs.now.second.items in
+    let plan = c.plan-plan.result.now in
+    let answers = c.in_ok-push_answers.ensures in
+    let asked = c.deref-2.ensures.value in
+    let refused = c.deref.ensures.value ∙ is.refused in
+    let report = c.in_ok-text.ensures ∙ (λ i. report_bytes (c.day.ensures i) plan (refused i)) in
+    let answered : AllZip (IsAnswer day (counts_of plan)) c.deref-2.result.now answers.0 =
+    subst₂ (λ (d : DayRecord) (k : Counts). AllZip (IsAnswer d k) c.deref-2.result.now answers.0) is.state c.indicators-base.ensures answers.1 in
     record {
-      rows = g;
-      airport_file = sym (ap airport_in c.deref.ensures.value) ∙ c.in_ok-airport.ensures.said;
-      questions = c.in_ok-scenarios.scenarios.items;
-      scenario_file = sym (λ i. scenarios_in (c.day.ensures i) (c.deref-2.ensures.value i)) ∙ c.in_ok-scenarios.ensures.said;
-      report = subst (λ (questions : List ScenarioRecord). IsReport g c.args.inputs.now.second.items questions text) c.deref-4.ensures.value report;
-      accepted = ap (λ (k : RunCounts). k.accepted) counts;
-      refused = ap (λ (k : RunCounts). k.refused) counts;
-      asked = ap (λ (k : RunCounts). k.scenarios) counts;
+      rows = made.state.airport;
+      airport_file = is.airport;
+      questions = made.scenarios.items;
+      scenario_file = is.scenarios;
+      report = record {
+        plan = plan;
+        of_day = subst (λ (d : DayRecord). IsDayPlan d plan) is.state c.plan-plan.ensures.of_day;
+        answers = answers.0;
+        of_scenarios = subst (λ (q : List ScenarioRecord). AllZip (IsAnswer day (counts_of plan)) q answers.0) asked answered;
+        bytes = answers.2 ∙ ap (λ (text : List ℕ). text ++ concat answers.0) report;
+      };
+      accepted = ap length (c.journal.ensures ∙ ap (λ (d : DayRecord). d.journal) is.state);
+      refused = c.len.ensures ∙ sym c.deref.ensures.len ∙ ap length refused;
+      asked = c.len-2.ensures ∙ sym c.deref-2.ensures.len ∙ ap length asked;
     }
