@@ -29,7 +29,7 @@ pub(crate) fn kind_of(file: FileKind, row: &ByteRecord) -> Option<Kind> {
 
 // What the field behind this one should hold, where a kind asks for this form. NONE has no minutes.
 fn form_behind(form: Form, before: &[u8]) -> Form {
-    if form == Form::IceMinutes && before == b"NONE".as_slice() {
+    if matches!(form, Form::IceMinutes) && before == b"NONE".as_slice() {
         Form::NoMinutes
     } else {
         form

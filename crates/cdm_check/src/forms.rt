@@ -9,7 +9,7 @@ use cdm_time::{Day, TimeFault};
 use std::alloc::{AllocError, Global};
 
 /// What a field holds.
-#[derive(Clone, Copy, PartialEq, Eq, Debug)]
+#[derive(Clone, Copy, Debug)]
 pub(crate) enum Form {
     /// The role of a feed's record.
     Role,
@@ -25,23 +25,26 @@ pub(crate) enum Form {
     Bound,
     /// A time, or `-` for none.
     Ctot,
-    Priority,
-    Cap,
+    /// A number that has a range.
+    Number(Range),
     Cell,
-    TaxiMinutes,
     IceKind,
     /// The minutes of a de-icing.
     IceMinutes,
     /// The minutes of no de-icing.
     NoMinutes,
     Group,
-    Occupancy,
-    /// The minutes of a tolerance before a CTOT.
-    Before,
-    /// The minutes of a tolerance after it.
-    After,
     Day,
     ScenarioName,
+}
+
+/// The range of a number.
+#[derive(Clone, Copy, Debug)]
+pub(crate) struct Range {
+    pub least: u16,
+    pub most: u16,
+    /// The sentence that tells it.
+    pub told: &'static str,
 }
 
 // The fault of a field that has a form and no range.
@@ -97,14 +100,9 @@ impl Form {
             Form::Day => Day::of_text(text).err().map(word_of),
             Form::ScenarioName => unless_text(ScenarioName::new(text).is_some()),
             Form::Cell => cell_fault(text),
-            Form::Priority => number_fault(text, 0, 9),
-            Form::Cap => number_fault(text, 0, 60),
-            Form::TaxiMinutes => number_fault(text, 1, 120),
+            Form::Number(range) => number_fault(text, range.least, range.most),
             Form::IceMinutes => number_fault(text, 1, 60),
             Form::NoMinutes => number_fault(text, 0, 0),
-            Form::Occupancy => number_fault(text, 0, 5),
-            Form::Before => number_fault(text, 0, 15),
-            Form::After => number_fault(text, 0, 30),
         }
     }
 
@@ -128,23 +126,17 @@ impl Form {
     fn words(self) -> &'static str {
         match self {
             Form::Role => "a record begins with its role: AO, GH, AP, ATC or NM",
-            Form::Kind(FileKind::Airport) => "a record begins with DAY, RUNWAY, TAXI or SPACE",
-            Form::Kind(_) => "there is no such kind",
+            Form::Kind(file) => file.beginning(),
             Form::Flight => "a flight has 1 to 7 of A-Z and 0-9",
             Form::Runway => "a runway has 1 to 3 of A-Z and 0-9",
             Form::Stand => "a stand has 1 to 5 of A-Z and 0-9",
             Form::Place => "a stand has 1 to 5 of A-Z and 0-9, or is * for all others",
-            Form::Priority => "a priority is a number from 0 to 9",
-            Form::Cap => "a cap is a number from 0 to 60",
+            Form::Number(range) => range.told,
             Form::Cell => "a cell has 1, 2, 3, 4, 5, 6, 10, 12, 15, 20, 30 or 60 minutes",
-            Form::TaxiMinutes => "taxi minutes are a number from 1 to 120",
             Form::IceKind => "a de-icing is NONE, STAND or REMOTE",
             Form::IceMinutes => "minutes of de-icing are a number from 1 to 60",
             Form::NoMinutes => "NONE has 0 minutes",
             Form::Group => "a group is L, M or H",
-            Form::Occupancy => "a flight occupies a runway for 0 to 5 minutes",
-            Form::Before => "a tolerance has 0 to 15 minutes before a CTOT",
-            Form::After => "a tolerance has 0 to 30 minutes after a CTOT",
             Form::ScenarioName => "a scenario has 1 to 16 of A-Z, 0-9 and -",
             Form::Day | Form::Time | Form::Bound | Form::Ctot => "there is no such time",
         }
@@ -169,7 +161,7 @@ impl Form {
 
     /// Whether a field looks like a day or a time of this form, and there is none: each digit has its place.
     pub fn is_no_date(self, text: &[u8]) -> bool {
-        let pattern: &[u8] = if self == Form::Day {
+        let pattern: &[u8] = if matches!(self, Form::Day) {
             b"0000-00-00"
         } else {
             b"0000-00-00T00:00Z"

@@ -1,7 +1,7 @@
 //! The kinds of records of each file.
 ghost use Rattle.std.specs.Prelude.{◌≤◌};
 
-use crate::forms::Form;
+use crate::forms::{Form, Range};
 
 /// The files of a check.
 #[derive(Clone, Copy, PartialEq, Eq, Debug)]
@@ -27,6 +27,43 @@ pub(crate) struct Kind {
     pub roles: &'static [&'static str],
 }
 
+// Numbers that records hold.
+const PRIORITY: Form = Form::Number(Range {
+    least: 0,
+    most: 9,
+    told: "a priority is a number from 0 to 9",
+});
+
+const CAP: Form = Form::Number(Range {
+    least: 0,
+    most: 60,
+    told: "a cap is a number from 0 to 60",
+});
+
+const TAXI_MINUTES: Form = Form::Number(Range {
+    least: 1,
+    most: 120,
+    told: "taxi minutes are a number from 1 to 120",
+});
+
+const OCCUPANCY: Form = Form::Number(Range {
+    least: 0,
+    most: 5,
+    told: "a flight occupies a runway for 0 to 5 minutes",
+});
+
+const MINUTES_BEFORE: Form = Form::Number(Range {
+    least: 0,
+    most: 15,
+    told: "a tolerance has 0 to 15 minutes before a CTOT",
+});
+
+const MINUTES_AFTER: Form = Form::Number(Range {
+    least: 0,
+    most: 30,
+    told: "a tolerance has 0 to 30 minutes after a CTOT",
+});
+
 /// The kinds of an airport file.
 const AIRPORT_KINDS: &[Kind] = &[
     Kind {
@@ -38,19 +75,19 @@ const AIRPORT_KINDS: &[Kind] = &[
     Kind {
         word: "RUNWAY",
         names: "runway, cell, cap",
-        forms: &[Form::Runway, Form::Cell, Form::Cap],
+        forms: &[Form::Runway, Form::Cell, CAP],
         roles: &[],
     },
     Kind {
         word: "SPACE",
         names: "runway, group, minutes",
-        forms: &[Form::Runway, Form::Group, Form::Occupancy],
+        forms: &[Form::Runway, Form::Group, OCCUPANCY],
         roles: &[],
     },
     Kind {
         word: "TAXI",
         names: "stand, runway, minutes",
-        forms: &[Form::Place, Form::Runway, Form::TaxiMinutes],
+        forms: &[Form::Place, Form::Runway, TAXI_MINUTES],
         roles: &[],
     },
 ];
@@ -98,7 +135,7 @@ pub(crate) const UPDATE_KINDS: &[Kind] = &[
     Kind {
         word: "FLT",
         names: "flight, priority",
-        forms: &[Form::Flight, Form::Priority],
+        forms: &[Form::Flight, PRIORITY],
         roles: &["AP"],
     },
     Kind {
@@ -128,13 +165,13 @@ pub(crate) const UPDATE_KINDS: &[Kind] = &[
     Kind {
         word: "PRIO",
         names: "flight, priority",
-        forms: &[Form::Flight, Form::Priority],
+        forms: &[Form::Flight, PRIORITY],
         roles: &["ATC"],
     },
     Kind {
         word: "RATE",
         names: "runway, from, to, cap",
-        forms: &[Form::Runway, Form::Time, Form::Bound, Form::Cap],
+        forms: &[Form::Runway, Form::Time, Form::Bound, CAP],
         roles: &["ATC"],
     },
     Kind {
@@ -152,7 +189,7 @@ pub(crate) const UPDATE_KINDS: &[Kind] = &[
     Kind {
         word: "TAXI",
         names: "stand, runway, minutes",
-        forms: &[Form::Place, Form::Runway, Form::TaxiMinutes],
+        forms: &[Form::Place, Form::Runway, TAXI_MINUTES],
         roles: &["ATC"],
     },
     Kind {
@@ -164,7 +201,7 @@ pub(crate) const UPDATE_KINDS: &[Kind] = &[
     Kind {
         word: "TOL",
         names: "before, after",
-        forms: &[Form::Before, Form::After],
+        forms: &[MINUTES_BEFORE, MINUTES_AFTER],
         roles: &["NM"],
     },
 ];
@@ -177,6 +214,14 @@ impl FileKind {
         match self {
             FileKind::Feed => 1,
             FileKind::Airport | FileKind::Scenarios => 0,
+        }
+    }
+
+    /// How a record of the file begins.
+    pub fn beginning(self) -> &'static str {
+        match self {
+            FileKind::Airport => "a record begins with DAY, RUNWAY, TAXI or SPACE",
+            FileKind::Feed | FileKind::Scenarios => "there is no such kind",
         }
     }
 

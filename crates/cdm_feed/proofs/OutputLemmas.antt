@@ -17,8 +17,7 @@ use Rattle.cdm_day.proofs.BatchLemmas.{accepted-keeps}
 use Rattle.cdm_scenario.specs.inner.OneOutcome.{one_each}
 use Rattle.cdm_day.proofs.AirportLemmas.{airport_after_runway, airport_after_taxi, airport_with_space, airport_without_rows}
 use Rattle.cdm_plan.proofs.JournalFacts.{names_after}
-use Rattle.cdm_feed.specs.AirportFile.{airport_in, with_record}
-use Rattle.cdm_feed.specs.AirportRecords.{airport_record_of}
+use Rattle.cdm_feed.specs.AirportFile.{airport_in, airport_record_of, with_record}
 use Rattle.cdm_feed.specs.Fields.{and_then, of_one}
 use Rattle.cdm_feed.specs.Files.{after_records}
 use Rattle.cdm_feed.specs.Answers.{IsAnswer}
@@ -31,8 +30,8 @@ use Rattle.cdm_feed.specs.Refused.{updates_in}
 use Rattle.cdm_report.specs.Report.{report_bytes}
 use Rattle.cdm_sequence.specs.Slots.{PlanRecord}
 use Rattle.cdm_feed.specs.declared.runs.RunCounts.{RunCounts}
-use Rattle.cdm_feed.specs.declared.airport_record.AirportRecord.{AirportRecord}
-use Rattle.cdm_feed.specs.declared.airport_record.AirportRecord.TheVariants.{Day, Runway, Space, Taxi}
+use Rattle.cdm_feed.specs.declared.airport_file.AirportRecord.{AirportRecord}
+use Rattle.cdm_feed.specs.declared.airport_file.AirportRecord.TheVariants.{Day, Runway, Space, Taxi}
 
 -- Each flight becomes known once.
 

@@ -6,7 +6,6 @@ pub mod Roles
 pub mod Fields
 pub mod Kinds
 pub mod Parsing
-pub mod AirportRecords
 pub mod Files
 pub mod AirportFile
 pub mod Refused

@@ -1,21 +1,122 @@
-//! Airport files.
+//! Airport files: what their records spell, and the airport that they say.
 ghost use Rattle.std.specs.Prelude.{◌≡◌, Ok, Some, IfOk, IfErr};
 ghost use Rattle.csv.specs.Records.{fields_of};
-ghost use Rattle.cdm_feed.specs.AirportFile.{airport_in, with_record};
-ghost use Rattle.cdm_feed.specs.AirportRecords.{airport_record_of};
+ghost use Rattle.cdm_flight.specs.Cells.{is_cell_length};
+ghost use Rattle.cdm_feed.specs.AirportFile.{airport_in, airport_record_of, with_record};
 ghost use Rattle.cdm_feed.specs.CommonFaults.{IsAirportFault};
-ghost use Rattle.cdm_feed.specs.Fields.{and_then};
+ghost use Rattle.cdm_feed.specs.Fields.{and_then, from_to, number_field};
 ghost use Rattle.cdm_feed.specs.Files.{IsFaultOf};
 ghost use Rattle.cdm_feed.specs.inner.RecordFaults.{IsRecordFaultOf, row_fault};
 
-use crate::airport_record::{AirportRecord, airport_record};
 use crate::common_fault::CommonFault;
+use crate::field::{
+    all_three, cap_field, day_field, field, group_field, name_field, number_field, place_field,
+    taxi_field,
+};
 use crate::file_fault::{FileFault, RecordFault};
 use crate::record_reader::RecordReader;
 use cdm_day::{Airport, AirportFault};
-use cdm_flight::RefusalWord;
+use cdm_flight::{Cap, CellLength, Group, Occupancy, Place, RefusalWord, RunwayName, TaxiMinutes};
+use cdm_time::Day;
 use csv::ByteRecord;
 use std::alloc::Global;
+
+/// What a record of the airport file says (local profile).
+#[derive(Clone, Copy, PartialEq, Eq, Debug)]
+pub(crate) enum AirportRecord {
+    /// DAY: the horizon's first day.
+    Day(Day),
+    /// RUNWAY: a runway, the length of its cells and the capacity of each.
+    Runway {
+        runway: RunwayName,
+        cell: CellLength,
+        cap: Cap,
+    },
+    /// TAXI: the taxi time from a place to a runway.
+    Taxi {
+        place: Place,
+        runway: RunwayName,
+        minutes: TaxiMinutes,
+    },
+    /// SPACE: for how long a departure of a group occupies a runway.
+    Space {
+        runway: RunwayName,
+        group: Group,
+        occupancy: Occupancy,
+    },
+}
+
+// The length of a runway's cells, a divisor of the hour.
+#[tactic(auto, unfolding(crate::specs::Fields::number_field))]
+fn cell_field(text: &[u8]) -> Result<CellLength, RefusalWord>
+    ensures { result ≡ number_field is_cell_length text.now }
+{
+    CellLength::new(number_field(text)?).ok_or(RefusalWord::Range)
+}
+
+// For how long a departure occupies a runway, 0 to 5 minutes.
+#[tactic(auto, unfolding(crate::specs::Fields::number_field))]
+fn occupancy_field(text: &[u8]) -> Result<Occupancy, RefusalWord>
+    ensures { result ≡ number_field (from_to 0 5) text.now }
+{
+    Occupancy::new(number_field(text)?).ok_or(RefusalWord::Range)
+}
+
+// What a record of the airport file spells, or the first word that refuses it: Fields where a
+// known kind has another number of fields, Kind, Text or Range.
+#[tactic(auto, unfolding(crate::specs::AirportFile::airport_record_of))]
+fn airport_record(row: &ByteRecord) -> Result<AirportRecord, RefusalWord>
+    ensures { result ≡ airport_record_of (fields_of row.now) }
+{
+    let kind = field(row, 0);
+    let (first, second, third) = (field(row, 1), field(row, 2), field(row, 3));
+    if kind == b"DAY".as_slice() {
+        if row.len() != 2 {
+            return Err(RefusalWord::Fields);
+        }
+        Ok(AirportRecord::Day(day_field(first)?))
+    } else if kind == b"RUNWAY".as_slice() {
+        if row.len() != 4 {
+            return Err(RefusalWord::Fields);
+        }
+        let (runway, cell, cap) = all_three(
+            name_field(first),
+            cell_field(second),
+            cap_field(third),
+        )?;
+        Ok(AirportRecord::Runway { runway, cell, cap })
+    } else if kind == b"TAXI".as_slice() {
+        if row.len() != 4 {
+            return Err(RefusalWord::Fields);
+        }
+        let (place, runway, minutes) = all_three(
+            place_field(first),
+            name_field(second),
+            taxi_field(third),
+        )?;
+        Ok(AirportRecord::Taxi {
+            place,
+            runway,
+            minutes,
+        })
+    } else if kind == b"SPACE".as_slice() {
+        if row.len() != 4 {
+            return Err(RefusalWord::Fields);
+        }
+        let (runway, group, occupancy) = all_three(
+            name_field(first),
+            group_field(second),
+            occupancy_field(third),
+        )?;
+        Ok(AirportRecord::Space {
+            runway,
+            group,
+            occupancy,
+        })
+    } else {
+        Err(RefusalWord::Kind)
+    }
+}
 
 // Why a row can't be added to an airport.
 fn row_fault(fault: AirportFault) -> RecordFault

@@ -1,17 +1,66 @@
 //! Records of the feed.
 ghost use Rattle.std.specs.Prelude.{◌≡◌};
 ghost use Rattle.csv.specs.Records.{fields_of};
+ghost use Rattle.cdm_feed.specs.Fields.{both, ctot_field, from_to, ice_field, number_field, tolerance_fields};
 ghost use Rattle.cdm_feed.specs.Kinds.{update_of};
 ghost use Rattle.cdm_feed.specs.Parsing.{parse_of};
 
 use crate::field::{
-    all_four, all_three, both, bound_field, cap_field, counted, ctot_field, field, group_field,
-    ice_field, name_field, place_field, priority_field, taxi_field, time_field, tolerance_fields,
+    all_four, all_three, both, bound_field, cap_field, counted, field, group_field, name_field,
+    number_field, place_field, priority_field, taxi_field, time_field,
 };
 use crate::role::role_of;
-use cdm_flight::{RefusalWord, Role, Update};
-use cdm_time::Day;
+use cdm_flight::{Ice, IceMinutes, RefusalWord, Role, Update};
+use cdm_time::{Day, Minute, Tolerance};
 use csv::ByteRecord;
+
+/// A CTOT: a time, or `-` for none any more.
+#[tactic(auto, unfolding(crate::specs::Fields::ctot_field))]
+pub fn ctot_field(day: Day, text: &[u8]) -> Result<Option<Minute>, RefusalWord>
+    ensures { result ≡ ctot_field day text.now }
+{
+    if text == b"-".as_slice() {
+        return Ok(None);
+    }
+    Ok(Some(time_field(day, text)?))
+}
+
+// How long de-icing takes, 1 to 60 minutes.
+#[tactic(auto, unfolding(crate::specs::Fields::number_field))]
+fn ice_minutes(text: &[u8]) -> Result<IceMinutes, RefusalWord>
+    ensures { result ≡ number_field (from_to 1 60) text.now }
+{
+    IceMinutes::new(number_field(text)?).ok_or(RefusalWord::Range)
+}
+
+// A de-icing: NONE with 0 minutes, STAND or REMOTE with 1 to 60.
+#[tactic(auto, unfolding(crate::specs::Fields::number_field, crate::specs::Fields::ice_field))]
+fn ice_field(kind: &[u8], minutes: &[u8]) -> Result<Ice, RefusalWord>
+    ensures { result ≡ ice_field kind.now minutes.now }
+{
+    if kind == b"NONE".as_slice() {
+        if number_field(minutes)? == 0 {
+            Ok(Ice::NoIce)
+        } else {
+            Err(RefusalWord::Range)
+        }
+    } else if kind == b"STAND".as_slice() {
+        Ok(Ice::AtStand(ice_minutes(minutes)?))
+    } else if kind == b"REMOTE".as_slice() {
+        Ok(Ice::Remote(ice_minutes(minutes)?))
+    } else {
+        Err(RefusalWord::Text)
+    }
+}
+
+// A tolerance: 0 to 15 minutes before a CTOT, and 0 to 30 after it.
+#[tactic(auto, unfolding(crate::specs::Fields::both, crate::specs::Fields::number_field, crate::specs::Fields::tolerance_fields))]
+fn tolerance_fields(before: &[u8], after: &[u8]) -> Result<Tolerance, RefusalWord>
+    ensures { result ≡ tolerance_fields before.now after.now }
+{
+    let (before, after) = both(number_field(before), number_field(after))?;
+    Tolerance::new(before, after).ok_or(RefusalWord::Range)
+}
 
 // The update that so many fields make, or the first word that refuses one of them.
 macro_rules! update {

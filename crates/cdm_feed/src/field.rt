@@ -1,19 +1,15 @@
 //! The fields of a record. Each has a form, else it is refused by Text, and may have a range, else it
-//! is refused by Range.
+//! is refused by Range. One that a single kind of records has is read where that kind is.
 ghost use Rattle.std.specs.Prelude.{◌≤◌, ◌≡◌, ◌&&◌, not, length, Ok, Err, if◌then◌else◌};
 ghost use Rattle.csv.specs.Records.{fields_of};
 ghost use Rattle.cdm_time.specs.Digits.{are_digits, number_in};
 ghost use Rattle.cdm_time.specs.Times.{day_of};
-ghost use Rattle.cdm_flight.specs.Cells.{is_cell_length};
 ghost use Rattle.cdm_flight.specs.Names.{is_name};
 ghost use Rattle.cdm_flight.specs.declared.word.RefusalWord.TheVariants as word;
-ghost use Rattle.cdm_feed.specs.Fields.{all_four, all_three, both, bound_field, counted, ctot_field, field, from_to, group_field, ice_field, name_field, number_field, place_field, refused_by_word, time_field, tolerance_fields, word_of};
+ghost use Rattle.cdm_feed.specs.Fields.{all_four, all_three, both, bound_field, counted, field, from_to, group_field, name_field, number_field, place_field, refused_by_word, time_field, word_of};
 
-use cdm_flight::{
-    Cap, CellLength, Group, Ice, IceMinutes, Name, Occupancy, Place, Priority, RefusalWord,
-    TaxiMinutes,
-};
-use cdm_time::{Bound, Day, Minute, TimeFault, Tolerance, number_of};
+use cdm_flight::{Cap, Group, Name, Place, Priority, RefusalWord, TaxiMinutes};
+use cdm_time::{Bound, Day, Minute, TimeFault, number_of};
 use csv::ByteRecord;
 
 /// The field at a place, counted from 0. A field that the record hasn't is empty.
@@ -76,56 +72,12 @@ pub(crate) fn cap_field(text: &[u8]) -> Result<Cap, RefusalWord>
     Cap::new(number_field(text)?).ok_or(RefusalWord::Range)
 }
 
-/// For how long a departure occupies a runway, 0 to 5 minutes.
-#[tactic(auto, unfolding(crate::specs::Fields::number_field))]
-pub(crate) fn occupancy_field(text: &[u8]) -> Result<Occupancy, RefusalWord>
-    ensures { result ≡ number_field (from_to 0 5) text.now }
-{
-    Occupancy::new(number_field(text)?).ok_or(RefusalWord::Range)
-}
-
-/// The length of a runway's cells, a divisor of the hour.
-#[tactic(auto, unfolding(crate::specs::Fields::number_field))]
-pub(crate) fn cell_field(text: &[u8]) -> Result<CellLength, RefusalWord>
-    ensures { result ≡ number_field is_cell_length text.now }
-{
-    CellLength::new(number_field(text)?).ok_or(RefusalWord::Range)
-}
-
 /// A taxi time, 1 to 120 minutes.
 #[tactic(auto, unfolding(crate::specs::Fields::number_field))]
 pub(crate) fn taxi_field(text: &[u8]) -> Result<TaxiMinutes, RefusalWord>
     ensures { result ≡ number_field (from_to 1 120) text.now }
 {
     TaxiMinutes::new(number_field(text)?).ok_or(RefusalWord::Range)
-}
-
-// How long de-icing takes, 1 to 60 minutes.
-#[tactic(auto, unfolding(crate::specs::Fields::number_field))]
-fn ice_minutes(text: &[u8]) -> Result<IceMinutes, RefusalWord>
-    ensures { result ≡ number_field (from_to 1 60) text.now }
-{
-    IceMinutes::new(number_field(text)?).ok_or(RefusalWord::Range)
-}
-
-/// A de-icing: NONE with 0 minutes, STAND or REMOTE with 1 to 60.
-#[tactic(auto, unfolding(crate::specs::Fields::number_field, crate::specs::Fields::ice_field))]
-pub(crate) fn ice_field(kind: &[u8], minutes: &[u8]) -> Result<Ice, RefusalWord>
-    ensures { result ≡ ice_field kind.now minutes.now }
-{
-    if kind == b"NONE".as_slice() {
-        if number_field(minutes)? == 0 {
-            Ok(Ice::NoIce)
-        } else {
-            Err(RefusalWord::Range)
-        }
-    } else if kind == b"STAND".as_slice() {
-        Ok(Ice::AtStand(ice_minutes(minutes)?))
-    } else if kind == b"REMOTE".as_slice() {
-        Ok(Ice::Remote(ice_minutes(minutes)?))
-    } else {
-        Err(RefusalWord::Text)
-    }
 }
 
 // The word that refuses a field whose time or date has this fault.
@@ -157,17 +109,6 @@ pub(crate) fn bound_field(day: Day, text: &[u8]) -> Result<Bound, RefusalWord>
     ensures { result ≡ bound_field day text.now }
 {
     day.bound_of(text).map_err(word_of)
-}
-
-/// A CTOT: a time, or `-` for none any more.
-#[tactic(auto, unfolding(crate::specs::Fields::ctot_field))]
-pub fn ctot_field(day: Day, text: &[u8]) -> Result<Option<Minute>, RefusalWord>
-    ensures { result ≡ ctot_field day text.now }
-{
-    if text == b"-".as_slice() {
-        return Ok(None);
-    }
-    Ok(Some(time_field(day, text)?))
 }
 
 /// Two values, or the word that refuses them: Text where one hasn't its form, else the word of the first
@@ -211,15 +152,6 @@ pub(crate) fn all_four<A: Drop, B: Drop, C: Drop, D: Drop>(
 {
     let (one, (two, three, four)) = both(one, all_three(two, three, four))?;
     Ok((one, two, three, four))
-}
-
-/// A tolerance: 0 to 15 minutes before a CTOT, and 0 to 30 after it.
-#[tactic(auto, unfolding(crate::specs::Fields::both, crate::specs::Fields::number_field, crate::specs::Fields::tolerance_fields))]
-pub(crate) fn tolerance_fields(before: &[u8], after: &[u8]) -> Result<Tolerance, RefusalWord>
-    ensures { result ≡ tolerance_fields before.now after.now }
-{
-    let (before, after) = both(number_field(before), number_field(after))?;
-    Tolerance::new(before, after).ok_or(RefusalWord::Range)
 }
 
 /// What so many fields spell; another number of them is refused by Fields.

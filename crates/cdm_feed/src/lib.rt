@@ -3,7 +3,6 @@
 #![tactic(auto)]
 
 mod airport_file;
-mod airport_record;
 mod answers;
 mod asking;
 mod common_fault;
@@ -34,8 +33,8 @@ pub use asking::{AskedDay, asked_day};
 pub use common_fault::{CommonFault, Input};
 pub use device::Device;
 pub use feed::read_feed;
-pub use feed_record::parse_record;
-pub use field::{ctot_field, number_field, place_field};
+pub use feed_record::{ctot_field, parse_record};
+pub use field::{number_field, place_field};
 pub use file_fault::FileFault;
 pub use input::{INPUT_LIMIT, InputFault, read_input};
 pub use inputs::{Inputs, read_inputs, read_two, read_whole};

@@ -1,8 +1,7 @@
 use Rattle.std.proofs.Common.{◌≡◌, ◌+◌, ◌≤◌, length}
 use Rattle.std.specs.Option.{ok_or}
 use Rattle.cdm_flight.specs.declared.word.RefusalWord.TheVariants.{Order}
-use Rattle.cdm_feed.specs.AirportFile.{airport_in, with_record}
-use Rattle.cdm_feed.specs.AirportRecords.{airport_record_of}
+use Rattle.cdm_feed.specs.AirportFile.{airport_in, airport_record_of, with_record}
 use Rattle.cdm_feed.specs.Fields.{and_then}
 use Rattle.cdm_feed.specs.Files.{after_records}
 use Rattle.cdm_feed.proofs.airport_file.read_airport.Given as goal

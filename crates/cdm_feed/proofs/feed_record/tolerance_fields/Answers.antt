@@ -4,7 +4,7 @@ use Rattle.std.proofs.lemmas.Result.{err_from_is_err_and}
 use Rattle.cdm_flight.specs.declared.word.RefusalWord.{RefusalWord}
 use Rattle.cdm_flight.specs.declared.word.RefusalWord.TheVariants.{Text, Range}
 use Rattle.cdm_feed.specs.Fields.{both, number_field, tolerance_fields}
-use Rattle.cdm_feed.proofs.field.tolerance_fields.Goals as goal
+use Rattle.cdm_feed.proofs.feed_record.tolerance_fields.Goals as goal
 
 -- the form of each of two numbers is asked before the range of either
 form_first : (x y : Result ℕ RefusalWord) (u v i j : Bool) (m n : ℕ) (word : RefusalWord)
