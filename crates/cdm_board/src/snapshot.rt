@@ -1,5 +1,5 @@
 //! What a look answers.
-ghost use Rattle.std.specs.Prelude.{◌≡◌, ◌≤◌, List, IfOk, length};
+ghost use Rattle.std.specs.Prelude.{◌≡◌, List, IfOk};
 ghost use Rattle.std.specs.List.{AllZip};
 ghost use Rattle.cdm_scenario.specs.declared.outcome.Outcome.{Outcome as AnOutcome};
 ghost use Rattle.cdm_scenario.specs.Outcome.{IsOutcome};
@@ -48,7 +48,6 @@ pub fn what_if<R: Threads + Sync, G: Gate>(
     workers: Workers,
     gate: &G,
 ) -> Result<Vec<Outcome>, AllocError>
-    requires { length scenarios.now ≤ 64 }
     ensures of_day { IfOk result (λ outcomes.
         AllZip (λ scenario outcome. IsOutcome snapshot.now scenario.updates outcome) scenarios.now outcomes.items) }
     ensures only { IfOk result (λ outcomes. (others : List AnOutcome) →

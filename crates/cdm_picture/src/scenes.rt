@@ -1,10 +1,7 @@
 //! The picture of a day and of scenarios over it.
 ghost use Rattle.std.specs.Prelude.{◌≡◌, ◌++◌, ◌∷◌, [], All, IfOk, OnOk, length};
 ghost use Rattle.std.specs.List.{AllZip};
-ghost use Rattle.cdm_phase.specs.declared.job.PhaseName.TheVariants.{Scenarios};
-ghost use Rattle.cdm_plan.specs.Sound.{IsSound};
 ghost use Rattle.cdm_scenario.specs.Outcome.{IsOutcome};
-ghost use Rattle.cdm_scenario.specs.inner.OneOutcome.{one_outcome};
 ghost use Rattle.cdm_picture.specs.Sections.{IsEmpty, refused_heading};
 ghost use Rattle.cdm_picture.specs.Pictures.{IsPicture, IsScenarioDrawn};
 ghost use Rattle.cdm_picture.specs.inner.Spans.{HaveOutcome};
@@ -17,42 +14,14 @@ use crate::svg::picture_text;
 use crate::words::Words;
 use cdm_day::{DayState, Records};
 use cdm_flight::RefusalWord;
-use cdm_phase::{Gate, Job, PhaseName, Workers, run_phase};
-use cdm_scenario::{Outcome, Overlay, Scenario, ScenarioName, answer};
+use cdm_phase::{Gate, Workers};
+use cdm_scenario::{Outcome, Overlay, Scenario, ScenarioName, answer_all};
 use cdm_view::Standings;
 use std::alloc::{AllocError, Global};
 use std::thread::Threads;
 
 /// The height of the section of a scenario that is refused.
 const REFUSED: u32 = 40;
-
-// What becomes of the base that the scenarios share by each of them.
-#[derive(Clone, Copy)]
-struct OutcomeJob<'a> {
-    base: &'a DayState,
-}
-
-impl Job for OutcomeJob<'_> {
-    type Item = Scenario;
-
-    type Out = Outcome;
-
-    ghost can_run = { λ job _. IsSound job.base.now };
-
-    ghost gives = { λ job scenario outcome. IsOutcome job.base.now scenario.updates outcome };
-
-    ghost phase_name = { Scenarios };
-
-    fn run(&self, alloc: Global, scenario: &Scenario) -> Result<Outcome, AllocError> {
-        answer(alloc, self.base, scenario)
-    }
-
-    fn phase(&self) -> PhaseName {
-        PhaseName::Scenarios
-    }
-
-    ghost one_value = { λ job scenario x y sound a b. one_outcome job.base.now scenario.updates sound.airport.names sound.names x y a b };
-}
 
 // The section of a scenario that is refused, from `y` down.
 fn refused_section(
@@ -169,9 +138,7 @@ pub(crate) fn picture<R: Threads + Sync, G: Gate>(
 ) -> Result<Vec<u8>, AllocError>
     ensures { IfOk result (λ text. IsPicture base.now scenarios.now text.items) }
 {
-    // What the base's records tell is sound, which makes each answer the only one.
-    let _values = base.values();
-    let outcomes = run_phase(rt, alloc, workers, 1, &OutcomeJob { base }, scenarios, gate)?;
+    let outcomes = answer_all(rt, alloc, base, scenarios, workers, gate)?;
     let plan = base.plan();
     let span = Span::NONE.with_plan(plan).with_closures(base);
     let hours = span.with_outcomes(&outcomes).hours();

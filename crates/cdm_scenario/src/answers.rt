@@ -1,5 +1,5 @@
 //! The answers to scenarios.
-ghost use Rattle.std.specs.Prelude.{◌≡◌, ◌≤◌, List, IfOk, length};
+ghost use Rattle.std.specs.Prelude.{◌≡◌, List, IfOk};
 ghost use Rattle.std.specs.List.{AllZip};
 ghost use Rattle.cdm_phase.specs.declared.job.PhaseName.TheVariants.{Scenarios};
 ghost use Rattle.cdm_plan.specs.Sound.{IsSound};
@@ -71,7 +71,6 @@ pub fn answer_all<R: Threads + Sync, G: Gate>(
     workers: Workers,
     gate: &G,
 ) -> Result<Vec<Outcome>, AllocError>
-    requires { length scenarios.now ≤ 64 }
     ensures of_day { IfOk result (λ outcomes.
         AllZip (λ scenario outcome. IsOutcome base.now scenario.updates outcome) scenarios.now outcomes.items) }
     ensures only { IfOk result (λ outcomes. (others : List AnOutcome) →

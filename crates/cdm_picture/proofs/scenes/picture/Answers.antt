@@ -16,7 +16,7 @@ pub scenario_sections-requires-clause-long : goal.scenario_sections-requires-cla
 scenario_sections-requires-clause-long g c =
     ap length c.deref-2.ensures.value
     ∙ AllZip-long (λ (s : ScenarioRecord) (o : Outcome). IsOutcome c.args.base.now s.updates o) c.args.scenarios.now c.in_ok-outcomes.outcomes.items
-    c.in_ok-outcomes.ensures
+    c.in_ok-outcomes.ensures.of_day
 
 pub plan_section-requires : goal.plan_section-requires
 plan_section-requires g c =
