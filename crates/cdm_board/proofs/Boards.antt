@@ -24,7 +24,8 @@ All-one : (d : ℕ) (c : Call) → IsDesk d → All (λ (e : ℕ × Call). IsDes
 All-one d c desk zero x below = desk
 All-one d c desk (suc k) x below = absurd (omega arith)
 
-pub IsBoard-snoc : (g : AirportRows) (opening : List Update) (h : List (ℕ × Call)) (journal : List Update) (d : ℕ) (c : Call) → IsDesk d → length h < 4096 → IsAnswered g journal c → IsBoard g opening h journal → IsBoard g opening (h ++ (d, c) ∷ []) (journal_by g journal c)
+pub IsBoard-snoc : (g : AirportRows) (opening : List Update) (h : List (ℕ × Call)) (journal : List Update) (d : ℕ) (c : Call) → IsDesk d
+    → length h < 4096 → IsAnswered g journal c → IsBoard g opening h journal → IsBoard g opening (h ++ (d, c) ∷ []) (journal_by g journal c)
 IsBoard-snoc g opening h journal d c desk room answered board = record {
   legal = IsLegal-snoc g opening h d c board.legal (subst (λ j. IsAnswered g j c) board.journal_is answered);
   journal_is = ap (λ j. journal_by g j c) board.journal_is ∙ sym (journal_of-snoc g opening h d c);
@@ -53,7 +54,8 @@ grows s t n b es fs e desk call le board view next answered longer same more is 
     let few : length h < 4096 = omega (arith, ap (λ (x : BoardRecord). length x.history) view) in
     let after : DayRecord = day_of s.airport (journal_by s.airport s.journal call) in
     let P : DayRecord → Type 0 = λ d. Grows s d n b es fs desk call in
-    let kept : IsBoard s.airport (take n s.journal) (h ++ (desk, call) ∷ []) (journal_by s.airport s.journal call) = IsBoard-snoc s.airport (take n s.journal) h s.journal desk call number few answered board in
+    let kept : IsBoard s.airport (take n s.journal) (h ++ (desk, call) ∷ []) (journal_by s.airport s.journal call) =
+    IsBoard-snoc s.airport (take n s.journal) h s.journal desk call number few answered board in
     let grown : P after = (
       (longer, rw (entries, same) kept),
       rw (entries, same) (ap (λ (x : BoardRecord). with_call x desk call) view),

@@ -24,7 +24,8 @@ receipts-none d n (k ∷ ks) all far =
     rw b (receipts-none d n ks (All-tail (λ (x : DeskRecord). (1 ≤ x.number) × (x.number ≤ n)) k ks all) far)
 
 -- where the numbers up to 16 agree, all do
-pub merge-all : (n : ℕ) (h : List (ℕ × Call)) (ks : List DeskRecord) → n ≤ 16 → All (λ (e : ℕ × Call). IsDesk e.0) h → All (λ (k : DeskRecord). (1 ≤ k.number) × (k.number ≤ n)) ks → ((e : ℕ) → e < 17 → calls_of e h ≡ receipts_of e ks) → IsMerge h ks
+pub merge-all : (n : ℕ) (h : List (ℕ × Call)) (ks : List DeskRecord) → n ≤ 16 → All (λ (e : ℕ × Call). IsDesk e.0) h
+    → All (λ (k : DeskRecord). (1 ≤ k.number) × (k.number ≤ n)) ks → ((e : ℕ) → e < 17 → calls_of e h ≡ receipts_of e ks) → IsMerge h ks
 merge-all n h ks le entries desks below d =
     elim (leb_tells 17 d) [
       | inl far ↦ (let lt : 16 < d = omega (arith, far.1) in calls-none d h entries lt ∙ sym (receipts-none d n ks desks (omega arith)))
@@ -34,7 +35,9 @@ merge-all n h ks le entries desks below d =
 pub not_so : {P : Type 0} → (r : Bool) → r ≡ false → (P → IsTrue r) → P → ⊥
 not_so r never so p = (let yes : r ≡ true = so p in cc)
 
-pub once-more : (n : ℕ) (ks : List DeskRecord) (c : ℕ) → c ≡ count_by (λ k. k.number == (n + 1)) ks → c ≡ 1 → ((d : ℕ) → 1 ≤ d → d ≤ n → count_by (λ (k : DeskRecord). k.number == d) ks ≡ 1) → (d : ℕ) → 1 ≤ d → d ≤ n + 1 → count_by (λ (k : DeskRecord). k.number == d) ks ≡ 1
+pub once-more : (n : ℕ) (ks : List DeskRecord) (c : ℕ) → c ≡ count_by (λ k. k.number == (n + 1)) ks → c ≡ 1
+    → ((d : ℕ) → 1 ≤ d → d ≤ n → count_by (λ (k : DeskRecord). k.number == d) ks ≡ 1) → (d : ℕ) → 1 ≤ d → d ≤ n + 1
+    → count_by (λ (k : DeskRecord). k.number == d) ks ≡ 1
 once-more n ks c is one below d low high =
     elim (leb_tells d n) [
       | inl before ↦ below d low before.1

@@ -51,7 +51,8 @@ pub place-none : (xs ys : List Call) (n : ℕ) → length ys ≤ n → xs ≡ ta
 place-none xs ys n le e = e ∙ (append-nil (take n ys) ∙ take_all n ys le)
 
 -- the calls of a desk, one entry on
-pub calls-here : (d : ℕ) (es : List Entry) (i : ℕ) (e : Entry) → i < length es → e ≡ get_or es i e → e.desk ≡ d → calls_of d (map entry_of (drop i es)) ≡ call_of e.receipt ∷ calls_of d (map entry_of (drop (i + 1) es))
+pub calls-here : (d : ℕ) (es : List Entry) (i : ℕ) (e : Entry) → i < length es → e ≡ get_or es i e → e.desk ≡ d
+    → calls_of d (map entry_of (drop i es)) ≡ call_of e.receipt ∷ calls_of d (map entry_of (drop (i + 1) es))
 calls-here d es i e lt item here =
     let F : List Entry → List Call = λ l. calls_of d (map entry_of l) in
     let b : (e.desk == d) ≡ true = eq-eqb e.desk d here in

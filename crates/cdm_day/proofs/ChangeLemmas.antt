@@ -136,7 +136,9 @@ closure_changes d row r known from to within closed h = by closed
       row = row;
       known = known;
       window = h;
-      allows = rules-closed d.airport d.journal row u (ap (λ what. same_reach what (reach.Runway row.name)) of_it ∙ own_name d.airport row r known) from to closed (in_order from to h) within caps given;
+      allows = rules-closed d.airport d.journal row u
+          (ap (λ what. same_reach what (reach.Runway row.name)) of_it ∙ own_name d.airport row r known) from to closed
+          (in_order from to h) within caps given;
     }
 
     by : (closed : Bool) → ChangesRunway d (if closed then Close r from to else Reopen r from to) r (change.Closure from to closed)

@@ -21,8 +21,8 @@ pub(crate) struct Draft {
 }
 
 impl Draft {
-    // Takes the update, unless a word refuses it.
-    fn answer(&mut self, alloc: Global, role: Role, update: &Update) -> Result<Reply, AllocError>
+    // Takes the update, unless a word refuses it, and tells which of the two was done.
+    fn reply_to(&mut self, alloc: Global, role: Role, update: &Update) -> Result<Reply, AllocError>
         ensures day { OnOk result (self.new.tables ≡ record self.old.tables { journal = after_one self.old.tables.airport self.old.tables.journal (role, update.now) }) }
         ensures reply { IfOk result (λ reply. reply ≡ reply_of (refusal self.old.tables.airport self.old.tables.journal role update.now)) }
         ensures since { OnOk result ((first : DayRecord) → IsSince first self.old.touched self.old.tables → IsSince first self.new.touched self.new.tables) }
@@ -50,7 +50,7 @@ impl Draft {
     {
         let mut replies = Vec::new(alloc);
         for (role, update) in batch {
-            let reply = self.answer(alloc, *role, update)?;
+            let reply = self.reply_to(alloc, *role, update)?;
             replies.push(reply)?;
         }
         Ok(replies)

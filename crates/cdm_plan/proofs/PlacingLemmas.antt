@@ -48,7 +48,8 @@ module _ (fixed : List ℕ → List SlotRecord) (targets : List TargetRecord) wh
       let whole : Placing = λ f. cond (same_name f.runway r.name) (here f) (rest f) in
       let names = map (λ (r : RunwayRules). r.name) rs in (
         sequence_agree here whole r (fixed r.name) (on r.name) x (λ f i. sym (ap (λ (b : Bool). cond b (here f) (rest f)) (is_same f.runway r.name (on_it r.name f i)))) all.0.1,
-        others_keep rest whole r.name rs ps (IsDistinct-head same_name r.name names own) (λ f e. sym (ap (λ (b : Bool). cond b (here f) (rest f)) e)) (placed rs ps (IsDistinct-tail same_name r.name names own) all.1),
+        others_keep rest whole r.name rs ps (IsDistinct-head same_name r.name names own) (λ f e. sym (ap (λ (b : Bool). cond b (here f) (rest f)) e))
+            (placed rs ps (IsDistinct-tail same_name r.name names own) all.1),
       )
   placed _ _ own all = absurd all
 

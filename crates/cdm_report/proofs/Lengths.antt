@@ -40,10 +40,20 @@ unfolding delay_column
 length-delay_column None small = refl
 length-delay_column (Some delay) small = length-number delay (small delay refl)
 
-length-eight : (a b c d e f g h : List ℕ) → length (join_with_byte 32 (a ∷ b ∷ c ∷ d ∷ e ∷ f ∷ g ∷ h ∷ [])) ≡ length a + (1 + (length b + (1 + (length c + (1 + (length d + (1 + (length e + (1 + (length f + (1 + (length g + (1 + length h)))))))))))))
+length-eight : (a b c d e f g h : List ℕ) → length (join_with_byte 32 (a ∷ b ∷ c ∷ d ∷ e ∷ f ∷ g ∷ h ∷ []))
+    ≡ length a + (1 + (length b + (1 + (length c + (1 + (length d + (1 + (length e + (1 + (length f + (1 + (length g + (1 + length h)))))))))))))
 length-eight a b c d e f g h = simp length-append (omega arith)
 
 pub length-flight_line : (day : CalendarDate) (slot : SlotRecord) → length slot.name ≤ 7 → slot.exot < 2880 → ForSome slot.delay (λ d. d < 2880) → length (flight_line day slot) ≡ 47
 unfolding flight_line
 length-flight_line day slot name exot delay =
-    rw length-eight (rw (length-left_in 7 slot.name name, length-time_column day slot.tobt, length-number slot.exot exot, length-time_column day slot.ctot, length-time_column day (Some slot.tsat), length-time_column day (Some slot.ttot), length-mark_letter slot.mark, length-delay_column slot.delay delay) refl)
+    rw length-eight (rw (
+      length-left_in 7 slot.name name,
+      length-time_column day slot.tobt,
+      length-number slot.exot exot,
+      length-time_column day slot.ctot,
+      length-time_column day (Some slot.tsat),
+      length-time_column day (Some slot.ttot),
+      length-mark_letter slot.mark,
+      length-delay_column slot.delay delay,
+    ) refl)

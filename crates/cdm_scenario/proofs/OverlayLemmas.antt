@@ -177,7 +177,8 @@ module _ {g : AirportRows} {a e : List Update} {m : Flights} {new : List (List �
         let says = says change what in
         record {
           sound = says.sound;
-          flights = λ f. says.flights f ∙ (ap (flight_with change f) (told.flights f) ∙ (with_or change f (get same_name m f) (flight_of g a f) ∙ ap (λ o. option_or o (flight_of g a f)) (sym (flights f))));
+          flights = λ f. says.flights f ∙ (ap (flight_with change f) (told.flights f)
+              ∙ (with_or change f (get same_name m f) (flight_of g a f) ∙ ap (λ o. option_or o (flight_of g a f)) (sym (flights f))));
           order = says.order ∙ (ap (λ l. l ++ made_known change) told.order ∙ (append_assoc (flights_in a) new (made_known change) ∙ ap (λ l. flights_in a ++ l) (sym order)));
           runways = runways;
           taxi = taxi;

@@ -15,7 +15,8 @@ pub returns-then-is_some : goal.returns-then-is_some
 unfolding refusal_of
 returns-then-is_some g c =
     let d = g.R.Records.day c.args.records.now in
-    refused (rw (known_is d c.flight.ensures.sound c.args.flight ∙ (ap is_some (sym c.flight.ensures.value) ∙ (is_some-map (λ x. x.now) c.flight.result ∙ (sym c.is_some.ensures ∙ c.if-is_some.true)))) refl)
+    refused (rw (known_is d c.flight.ensures.sound c.args.flight
+    ∙ (ap is_some (sym c.flight.ensures.value) ∙ (is_some-map (λ x. x.now) c.flight.result ∙ (sym c.is_some.ensures ∙ c.if-is_some.true)))) refl)
 
 pub returns-then-flights-ge-MOST_FLIGHTS : goal.returns-then-flights-ge-MOST_FLIGHTS
 returns-then-flights-ge-MOST_FLIGHTS g c =

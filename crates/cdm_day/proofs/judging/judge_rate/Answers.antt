@@ -14,7 +14,11 @@ returns-in_default g c =
 pub returns-then-not-ordered_rate : goal.returns-then-not-ordered_rate
 returns-then-not-ordered_rate g c =
     let d = g.R.Records.day c.args.records.now in
-    refused (rw (rate-word d.airport d.journal c.args.runway c.args.from c.args.to c.args.cap, sym c.runway_named.ensures.value ∙ ap option_copied c.in-Some.is, sym c.ordered_rate.ensures ∙ c.if-not-ordered_rate.true) refl)
+    refused (rw (
+      rate-word d.airport d.journal c.args.runway c.args.from c.args.to c.args.cap,
+      sym c.runway_named.ensures.value ∙ ap option_copied c.in-Some.is,
+      sym c.ordered_rate.ensures ∙ c.if-not-ordered_rate.true,
+    ) refl)
 
 pub returns : goal.returns
 returns g c =

@@ -8,7 +8,9 @@ pub loop-place-preserved : goal.loop-place-preserved
 loop-place-preserved g c =
     let d = g.R.Records.day c.args.records.now in
     c.in_ok-push_known.ensures
-    ∙ ((λ i. c.loop-place.invariant i ++ cons_option (runway_is d c.loop-place.place _ c.runway_at.ensures.sound.airport c.runway_at.ensures.value i) []) ∙ sym (take-next (rules_in d.airport d.journal) c.loop-place.place))
+    ∙ ((λ i. c.loop-place.invariant i ++ cons_option
+    (runway_is d c.loop-place.place _ c.runway_at.ensures.sound.airport c.runway_at.ensures.value i) [])
+    ∙ sym (take-next (rules_in d.airport d.journal) c.loop-place.place))
 
 pub returns : goal.returns
 returns g c =

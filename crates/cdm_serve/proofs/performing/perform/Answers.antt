@@ -15,6 +15,7 @@ returns-in_ok-sync-in-Record-clause-err g c =
     let whole : events_of c.args.answer.now ≡ Appended line ∷ Synced ∷ Replied text ∷ Flushed ∷ [] = search rules in
     let written : g.P.Port.events c.append.new.self ≡ old ++ Appended line ∷ [] = search rules in
     let synced : g.P.Port.events c.sync.new.self ≡ g.P.Port.events c.append.new.self ++ Synced ∷ [] = search rules in
-    let so_far : g.P.Port.events c.sync.new.self ≡ old ++ Appended line ∷ Synced ∷ [] = synced ∙ ap (λ (l : List Event). l ++ Synced ∷ []) written ∙ append_assoc old (Appended line ∷ []) (Synced ∷ []) in
+    let so_far : g.P.Port.events c.sync.new.self ≡ old ++ Appended line ∷ Synced ∷ [] = synced ∙ ap (λ (l : List Event). l ++ Synced ∷ []) written
+    ∙ append_assoc old (Appended line ∷ []) (Synced ∷ []) in
     on_err_weaker c.tell-in-Record.result
     (λ stop. goes_on old _ _ (Appended line ∷ Synced ∷ []) (Replied text ∷ Flushed ∷ []) [] _ whole so_far stop) c.tell-in-Record.ensures.err

@@ -27,4 +27,5 @@ returns-clause-err g c =
     let synced : g.P.Port.events c.sync.new.self ≡ g.P.Port.events c.cut_torn.new.port ++ Synced ∷ [] = search rules in
     let so_far : g.P.Port.events c.sync.new.self ≡ old ++ (cut ++ Synced ∷ []) = synced ∙ ap (λ (l : List Event). l ++ Synced ∷ []) before ∙ append_assoc old cut (Synced ∷ []) in
     on_err_weaker c.tell.result
-    (λ stop. goes_on old _ _ (cut ++ Synced ∷ []) (Replied c.args.ready.now ∷ Flushed ∷ []) [] _ (sym (append_assoc cut (Synced ∷ []) (Replied c.args.ready.now ∷ Flushed ∷ []))) so_far stop) c.tell.ensures.err
+    (λ stop. goes_on old _ _ (cut ++ Synced ∷ []) (Replied c.args.ready.now ∷ Flushed ∷ []) [] _
+    (sym (append_assoc cut (Synced ∷ []) (Replied c.args.ready.now ∷ Flushed ∷ []))) so_far stop) c.tell.ensures.err

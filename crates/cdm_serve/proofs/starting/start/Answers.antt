@@ -27,7 +27,9 @@ returns-in_err-begin-clause-err g c =
     let kept : c.kept_length-kept.result ≡ length (whole_lines c.in_ok-bytes.bytes.items) = search rules in
     let count : c.len.result ≡ length c.in_ok-bytes.bytes.items = search rules in
     let ready : c.in_ok-ready.ready.items ≡ ready_text (length c.in_ok-state.state.journal) = search rules in
-    let stop : Stops (g.P.Port.events c.journal.new.self) (cut_to c.kept_length-kept.result c.len.result ++ Synced ∷ Replied c.in_ok-ready.ready.items ∷ Flushed ∷ []) (g.P.Port.events c.begin.new.port) = search rules in
+    let stop : Stops (g.P.Port.events c.journal.new.self)
+    (cut_to c.kept_length-kept.result c.len.result ++ Synced ∷ Replied c.in_ok-ready.ready.items ∷ Flushed ∷ [])
+    (g.P.Port.events c.begin.new.port) = search rules in
     on_err c.from_residual-in_err-begin.result (begun_stops c.args.airport _ _ _ _ _ _ _ was accepted day kept count ready _ stop)
 
 pub returns-clause-ok : goal.returns-clause-ok
@@ -38,5 +40,6 @@ returns-clause-ok g c =
     let kept : c.kept_length-kept.result ≡ length (whole_lines c.in_ok-bytes.bytes.items) = search rules in
     let count : c.len.result ≡ length c.in_ok-bytes.bytes.items = search rules in
     let ready : c.in_ok-ready.ready.items ≡ ready_text (length c.in_ok-state.state.journal) = search rules in
-    let is : g.P.Port.events c.begin.new.port ≡ g.P.Port.events c.journal.new.self ++ (cut_to c.kept_length-kept.result c.len.result ++ Synced ∷ Replied c.in_ok-ready.ready.items ∷ Flushed ∷ []) = search rules in
+    let is : g.P.Port.events c.begin.new.port
+    ≡ g.P.Port.events c.journal.new.self ++ (cut_to c.kept_length-kept.result c.len.result ++ Synced ∷ Replied c.in_ok-ready.ready.items ∷ Flushed ∷ []) = search rules in
     begun_all c.args.airport _ _ _ _ _ _ _ was accepted day kept count ready _ is

@@ -13,4 +13,15 @@ returns c =
     let cap = left_number 2 c.cap_of_cell-cap.result in
     let closed = right_number 2 c.closed_in_cell-closed.result in
     let last = append-nil (right_in 2 (decimal (closed_in_cell c.args.runway.now c.args.cell))) in
-    rw last (rw (c.laid_out.ensures, c.laid_out-2.ensures, c.laid_out-3.ensures, count, cap, closed, c.flights_in_cell-count.ensures, c.cap_of_cell-cap.ensures, c.closed_in_cell-closed.ensures, c.first_minute.ensures.value) at c.write.ensures.bytes)
+    rw last (rw (
+      c.laid_out.ensures,
+      c.laid_out-2.ensures,
+      c.laid_out-3.ensures,
+      count,
+      cap,
+      closed,
+      c.flights_in_cell-count.ensures,
+      c.cap_of_cell-cap.ensures,
+      c.closed_in_cell-closed.ensures,
+      c.first_minute.ensures.value,
+    ) at c.write.ensures.bytes)

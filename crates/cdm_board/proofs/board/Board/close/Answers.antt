@@ -18,14 +18,17 @@ same_desks n m ks js e f h =
 found : (o : Option (ℕ × ℕ)) (p : ℕ × ℕ) (P : Type 0) (Q : ℕ × ℕ → Type 0) → MatchOption o P Q → o ≡ Some p → Q p
 found o p P Q h e = let F : Option (ℕ × ℕ) → Type 0 = λ x. MatchOption x P Q in subst F e h
 
-closed : (b : Opened) (ks : List DeskRecord) (s : BoardRecord) (h : List (ℕ × Call)) (d : DayRecord) → AreNumbered b.desks ks → s.airport ≡ b.airport → s.opening ≡ b.opening → h ≡ s.history → d ≡ day_now s → IsLegal s.airport s.opening s.history → IsMerge s.history ks → IsClosed b ks h d
+closed : (b : Opened) (ks : List DeskRecord) (s : BoardRecord) (h : List (ℕ × Call)) (d : DayRecord) → AreNumbered b.desks ks → s.airport ≡ b.airport
+    → s.opening ≡ b.opening → h ≡ s.history → d ≡ day_now s → IsLegal s.airport s.opening s.history → IsMerge s.history ks → IsClosed b ks h d
 closed b ks s h d numbered e f g k legal merge =
     let L : AirportRows → Type 0 = λ x. IsLegal x s.opening s.history in
     let M : List Update → Type 0 = λ x. IsLegal b.airport x s.history in
     let N : List (ℕ × Call) → Type 0 = λ x. IsLegal b.airport b.opening x in (
       subst N (sym g) (subst M f (subst L e legal)),
       λ n. rw g (merge n),
-      k ∙ (ap (λ x. day_of x (journal_of x s.opening s.history)) e ∙ (ap (λ x. day_of b.airport (journal_of b.airport x s.history)) f ∙ ap (λ x. day_of b.airport (journal_of b.airport b.opening x)) (sym g))),
+      k ∙ (ap (λ x. day_of x (journal_of x s.opening s.history)) e
+          ∙ (ap (λ x. day_of b.airport (journal_of b.airport x s.history)) f
+          ∙ ap (λ x. day_of b.airport (journal_of b.airport b.opening x)) (sym g))),
       numbered,
     )
 
@@ -56,7 +59,8 @@ returns-in-Some c =
       c.calls-calls.ensures.legal,
       began.0 ∙ g,
       began.1 ∙ a,
-      rw (← c.as_slice-3.ensures.value) (found c.mismatch.result (c.in-Some.desk, c.in-Some.receipt) _ (λ p. IsMismatch c.into_inner-state.result.history c.as_slice-3.result.now p.0 p.1) c.mismatch.ensures c.in-Some.is),
+      rw (← c.as_slice-3.ensures.value) (found c.mismatch.result (c.in-Some.desk, c.in-Some.receipt) _
+          (λ p. IsMismatch c.into_inner-state.result.history c.as_slice-3.result.now p.0 p.1) c.mismatch.ensures c.in-Some.is),
     )
 
 pub returns : goal.returns

@@ -15,7 +15,8 @@ invariant_of-self-2 c =
     let vs = c.args.batch.now in
     let rs = c.in_ok-replies.replies.items in
     let e : call_of c.in_ok-kept.kept ≡ Posts vs rs = c.in_ok-kept.ensures ∙ ap (λ (x : List Reply). Posts vs x) c.as_slice.ensures.value in
-    let next : c.apply.new.self ≡ day_of s.airport (accepted s.airport s.journal vs) = c.in_ok-replies.ensures.ok ∙ ap (λ (d : DayRecord). day_of d.airport (accepted d.airport d.journal vs)) c.in_ok-day.ensures in
+    let next : c.apply.new.self ≡ day_of s.airport (accepted s.airport s.journal vs) = c.in_ok-replies.ensures.ok
+    ∙ ap (λ (d : DayRecord). day_of d.airport (accepted d.airport d.journal vs)) c.in_ok-day.ensures in
     let answered : rs ≡ answers_to s.airport s.journal vs = c.in_ok-replies.ensures.replies ∙ ap (λ (d : DayRecord). answers_to d.airport d.journal vs) c.in_ok-day.ensures in
     let l = length-accepted s.airport s.journal vs in
     (grows s c.apply.new.self c.self.inside.opened c.args.self.now c.self.inside.entries.items c.push.new.self.items _ c.args.desk (Posts vs rs)
@@ -28,7 +29,8 @@ returns-clause-state c =
     let vs = c.args.batch.now in
     let rs = c.in_ok-replies.replies.items in
     let e : call_of c.in_ok-kept.kept ≡ Posts vs rs = c.in_ok-kept.ensures ∙ ap (λ (x : List Reply). Posts vs x) c.as_slice.ensures.value in
-    let next : c.apply.new.self ≡ day_of s.airport (accepted s.airport s.journal vs) = c.in_ok-replies.ensures.ok ∙ ap (λ (d : DayRecord). day_of d.airport (accepted d.airport d.journal vs)) c.in_ok-day.ensures in
+    let next : c.apply.new.self ≡ day_of s.airport (accepted s.airport s.journal vs) = c.in_ok-replies.ensures.ok
+    ∙ ap (λ (d : DayRecord). day_of d.airport (accepted d.airport d.journal vs)) c.in_ok-day.ensures in
     let answered : rs ≡ answers_to s.airport s.journal vs = c.in_ok-replies.ensures.replies ∙ ap (λ (d : DayRecord). answers_to d.airport d.journal vs) c.in_ok-day.ensures in
     let l = length-accepted s.airport s.journal vs in
     (grows s c.apply.new.self c.self.inside.opened c.args.self.now c.self.inside.entries.items c.push.new.self.items _ c.args.desk (Posts vs rs)

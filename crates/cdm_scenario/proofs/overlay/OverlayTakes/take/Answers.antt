@@ -22,7 +22,8 @@ unreachable-requires c =
 pub change_over-requires : goal.change_over-requires
 change_over-requires c =
     let r = c.in-Runway in
-    window_over c.self.invariant c.self.view_is c.args.update c.requires.accepted r.name r.change (rw r.is at c.requires.change) c.in-Some.base.now (sym c.runway_named.ensures.value ∙ ap option_copied c.in-Some.is)
+    window_over c.self.invariant c.self.view_is c.args.update c.requires.accepted r.name r.change (rw r.is at c.requires.change) c.in-Some.base.now
+    (sym c.runway_named.ensures.value ∙ ap option_copied c.in-Some.is)
 
 pub invariant_of-self-2 : goal.invariant_of-self-2
 invariant_of-self-2 c =

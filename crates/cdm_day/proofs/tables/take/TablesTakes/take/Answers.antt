@@ -17,4 +17,5 @@ invariant_of-self-in-Some c =
 pub invariant_of-self-2 : goal.invariant_of-self-2
 invariant_of-self-2 c =
     rw (c.in_ok-longer.ensures, c.deref-2.ensures.value, c.deref.ensures)
-    (told_after _ c.args.update c.self.inside.parts c.self.invariant (rw (← c.self.view_is) at c.requires.accepted) c.args.change _ (rw (← c.self.view_is) at c.requires.change) c.in_ok-put-2.ensures.ok)
+    (told_after _ c.args.update c.self.inside.parts c.self.invariant (rw (← c.self.view_is) at c.requires.accepted) c.args.change _
+    (rw (← c.self.view_is) at c.requires.change) c.in_ok-put-2.ensures.ok)

@@ -8,7 +8,8 @@ use Rattle.cdm_scenario.proofs.overlay.records.OverlayRecords.runway_at.Goals as
 
 pub returns-in-Some-clause-value : goal.returns-in-Some-clause-value
 returns-in-Some-clause-value c =
-    over_runway c.self.invariant c.self.view_is c.args.place c.in_ok-runway.runway.now (Some c.in-Some.changed.now) (subst (IsRunwayAt _ c.args.place) (ap option_copied c.in_ok-runway.was) c.runway_at.ensures.value)
+    over_runway c.self.invariant c.self.view_is c.args.place c.in_ok-runway.runway.now (Some c.in-Some.changed.now)
+    (subst (IsRunwayAt _ c.args.place) (ap option_copied c.in_ok-runway.was) c.runway_at.ensures.value)
     (sym (ap option_copied c.in-Some.is) ∙ (c.get.ensures.value ∙ ap (get same_name c.self.inside.runways) c.name.ensures))
 
 pub returns-in-None-clause-value : goal.returns-in-None-clause-value
