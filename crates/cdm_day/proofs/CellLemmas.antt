@@ -11,7 +11,7 @@ use Rattle.cdm_plan.proofs.PlanWords.{same_is}
 use Rattle.cdm_runway.proofs.CellLemmas.{cell_from, cell_to}
 use Rattle.cdm_day.proofs.BatchLemmas.{accepted-keeps}
 use Rattle.cdm_day.proofs.DayWords.{AirportRows, Rate, RunwayRow, Update, accepted, cap_given, cap_of, last_value, last_value-push, reach_of}
-use Rattle.cdm_day.proofs.DayWords.{refusal_of, runway_row, same_reach, touching, touching-push, untouched, window_has, only_if}
+use Rattle.cdm_day.proofs.DayWords.{refusal_of, runway_row, same_reach, touching, touching-push, untouched, window_has, then_some}
 
 module _ (g : AirportRows) (row : RunwayRow) (there : runway_row g row.name ≡ Some row) (positive : 0 < row.cell) where
   -- the first minute of a minute's cell
@@ -32,7 +32,7 @@ module _ (g : AirportRows) (row : RunwayRow) (there : runway_row g row.name ≡ 
   given a (Rate r from to most) m good of_it =
       let own : runway_row g r ≡ Some row = ap (runway_row g) (same_is r row.name of_it) ∙ there in
       let grid = on_grid from to (rw own at (accepted_is g a (Rate r from to most) good).ordered) in
-      ap (λ b. only_if b most) (window_first from to m grid.0 grid.1)
+      ap (λ b. then_some b most) (window_first from to m grid.0 grid.1)
   given a u m good of_it = refl
 
   -- the last RATE says one capacity of a cell

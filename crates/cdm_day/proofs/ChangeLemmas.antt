@@ -3,7 +3,7 @@ use Rattle.std.proofs.Common.{◌≡◌, ℕ, ◌≤◌, Bool, true, false, List
 use Rattle.cdm_plan.proofs.ListWords.{if◌then◌else◌, nat_lt, Contains, cons_option, nat_list_eq_equiv, option_map, nat_tests, same_text}
 use Rattle.cdm_day.proofs.DayWords.{RunwayRow, Update, flight_in, reach_of, same_name, same_name-refl, same_reach, Record, is_fresh, TaxiRows, AirportRows, runway_row, flight_of, values_of}
 use Rattle.cdm_day.proofs.DayWords.{flight_of-untouched, values_of-untouched, refusal_of, RunwayRules, is_rate_window, IsAirport, DayRecord, flights_in, rules_of, with_update}
-use Rattle.cdm_day.proofs.DayWords.{IsSound, TellTaxi, ChangesRunway, IsChange, has_window, with_change, cap_given, closed_given, only_if, window_has, Flt, Rate, Close, Reopen}
+use Rattle.cdm_day.proofs.DayWords.{IsSound, TellTaxi, ChangesRunway, IsChange, has_window, with_change, cap_given, closed_given, then_some, window_has, Flt, Rate, Close, Reopen}
 use Rattle.cdm_flight.specs.declared.reach.Reach.{Reach}
 use Rattle.cdm_flight.specs.declared.reach.Reach.TheVariants as reach
 use Rattle.cdm_plan.proofs.DayPlanLemmas.{record_name}
@@ -129,7 +129,7 @@ pub closure_changes : (d : DayRecord) (row : RunwayRow) (r : List ℕ) → runwa
     → ChangesRunway d (if closed then Close r from to else Reopen r from to) r (change.Closure from to closed)
 closure_changes d row r known from to within closed h = by closed
   where
-    closes : (u : Update) (closed : Bool) → reach_of u ≡ reach.Runway r → ((m : ℕ) → cap_given m u ≡ None) → ((m : ℕ) → closed_given m u ≡ only_if (window_has from to m) closed)
+    closes : (u : Update) (closed : Bool) → reach_of u ≡ reach.Runway r → ((m : ℕ) → cap_given m u ≡ None) → ((m : ℕ) → closed_given m u ≡ then_some (window_has from to m) closed)
         → ChangesRunway d u r (change.Closure from to closed)
     closes u closed of_it caps given = record {
       of_it = of_it;

@@ -1,4 +1,6 @@
 -- Words of flights, runways, and days that the proofs share.
+pub use Rattle.std.specs.Bool.{then_some}
+pub use Rattle.cdm_time.specs.Windows.{window_has}
 pub use Rattle.cdm_day.specs.Airport.{with_runway, with_taxi}
 pub use Rattle.cdm_plan.specs.Airport.{IsAirport, runway_names}
 pub use Rattle.cdm_plan.specs.Day.{DayRecord, flights_in, with_update}
@@ -14,8 +16,8 @@ pub use Rattle.cdm_flight.proofs.JournalLemmas.{values_of-untouched}
 pub use Rattle.cdm_flight.specs.Accepted.{after_one, has_runway, is_full, is_unknown, stand_with_taxi, stands_with_rows}
 unfoldable pub use Rattle.cdm_flight.specs.Accepted.{accepted, refusal, refusal_of, replies_to}
 pub use Rattle.cdm_flight.specs.Journal.{AirportRows, cap_given, cap_of, closed_given, closed_of, exot_now, is_known}
-pub use Rattle.cdm_flight.specs.Journal.{last_value, of_flight, only_if, record_with, runway_given, runway_of, runway_row, same_place, status_from}
-pub use Rattle.cdm_flight.specs.Journal.{status_of, taxi_given, taxi_of, window_has}
+pub use Rattle.cdm_flight.specs.Journal.{last_value, of_flight, record_with, runway_given, runway_of, runway_row, same_place, status_from}
+pub use Rattle.cdm_flight.specs.Journal.{status_of, taxi_given, taxi_of}
 unfoldable pub use Rattle.cdm_flight.specs.Journal.{exot_of, flight_of, values_of}
 pub use Rattle.cdm_flight.specs.Names.{same_name}
 pub use Rattle.cdm_flight.specs.Record.{Record}

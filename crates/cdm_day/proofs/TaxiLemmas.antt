@@ -2,7 +2,7 @@
 use Rattle.std.proofs.Common.{◌≡◌, ℕ, Bool, true, false, ◌&&◌, ◌||◌, List, [], ◌∷◌, ◌++◌, Option, None, Some, refl, sym, ap, ◌∙◌, true≢false}
 use Rattle.cdm_plan.proofs.ListWords.{if◌then◌else◌, option_or, filter_map, cons_option, append_assoc, append-nil, list_any-append, or_comm, filter_map-append}
 use Rattle.cdm_day.proofs.DayWords.{Place, Update, reach_of, same_name, same_name-refl, same_reach, touching, touching-push, TaxiRows, stand_of_place, stands_in}
-use Rattle.cdm_day.proofs.DayWords.{AirportRows, last_value, last_value-push, only_if, same_place, taxi_given, taxi_of, taxi_of-untouched}
+use Rattle.cdm_day.proofs.DayWords.{AirportRows, last_value, last_value-push, then_some, same_place, taxi_given, taxi_of, taxi_of-untouched}
 use Rattle.cdm_day.proofs.DayWords.{stand_with_taxi, stands_with_rows, TellTaxi, is_stand_of, has_row-insert, Taxi}
 use Rattle.std.specs.Set.{is_member}
 use Rattle.std.specs.FinMap as map_of
@@ -42,7 +42,7 @@ taxi_after_taxi g a p s t rows told = record {
   stands = λ q. has_row-insert rows p s t q ∙ (ap (λ b. is_stand_of q p || b) (told.stands q) ∙ sym (more q));
 }
   where
-    by : (b : Bool) (x o d : Option ℕ) → x ≡ option_or o d → (if b then Some t else x) ≡ option_or (option_or (only_if b t) o) d
+    by : (b : Bool) (x o d : Option ℕ) → x ≡ option_or o d → (if b then Some t else x) ≡ option_or (option_or (then_some b t) o) d
     by true x o d h = refl
     by false x o d h = h
 

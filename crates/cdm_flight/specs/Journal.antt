@@ -1,9 +1,10 @@
 -- What a journal says: a list of accepted updates, oldest first, over the rows of an airport.
-use Rattle.std.specs.Prelude.{ℕ, Bool, true, false, not, ◌&&◌, if◌then◌else◌, List, [], ◌∷◌, Option, None, Some, is_some, unwrap_or}
+use Rattle.std.specs.Prelude.{ℕ, Bool, true, false, not, ◌&&◌, List, [], ◌∷◌, Option, None, Some, is_some, unwrap_or}
+use Rattle.std.specs.Bool.{then_some}
 use Rattle.std.specs.Option.{option_and_then, option_eq, option_map, option_map_or, option_or}
 use Rattle.std.specs.List.{find, list_any, take_while}
 use Rattle.std.specs.FinMap as map
-use Rattle.cdm_time.specs.Windows.{Margins, has_minute, usual_tolerance}
+use Rattle.cdm_time.specs.Windows.{Margins, usual_tolerance, window_has}
 use Rattle.cdm_time.specs.declared.calendar.CalendarDate.{CalendarDate}
 use Rattle.cdm_flight.specs.declared.airport.RunwayRow.{RunwayRow}
 use Rattle.cdm_flight.specs.declared.group.Group.{Group}
@@ -38,9 +39,6 @@ runway_row g r = find (λ row. same_name row.name r) g.runways
 abbrev pub last_value : {U X : Type 0} → (U → Option X) → List U → Option X
 last_value given [] = None
 last_value given (u ∷ later) = option_or (last_value given later) (given u)
-
-abbrev pub only_if : {X : Type 0} → Bool → X → Option X
-only_if b x = if b then Some x else None
 
 -- What an update gives to what it touches.
 
@@ -87,17 +85,13 @@ abbrev pub is_cancel : Update → Bool
 is_cancel (Cnl f) = true
 is_cancel _ = false
 
--- the minute is in the window, whose end is not
-abbrev pub window_has : ℕ → ℕ → ℕ → Bool
-window_has from to m = has_minute (record { from = from; to = to }) m
-
 abbrev pub cap_given : ℕ → Update → Option ℕ
-cap_given m (Rate r from to cap) = only_if (window_has from to m) cap
+cap_given m (Rate r from to cap) = then_some (window_has from to m) cap
 cap_given m _ = None
 
 abbrev pub closed_given : ℕ → Update → Option Bool
-closed_given m (Close r from to) = only_if (window_has from to m) true
-closed_given m (Reopen r from to) = only_if (window_has from to m) false
+closed_given m (Close r from to) = then_some (window_has from to m) true
+closed_given m (Reopen r from to) = then_some (window_has from to m) false
 closed_given m _ = None
 
 -- the same stand, or the default both
@@ -105,7 +99,7 @@ abbrev pub same_place : Place → Place → Bool
 same_place p q = option_eq same_name (stand_of_place p) (stand_of_place q)
 
 abbrev pub taxi_given : Place → Update → Option ℕ
-taxi_given place (Taxi p r minutes) = only_if (same_place p place) minutes
+taxi_given place (Taxi p r minutes) = then_some (same_place p place) minutes
 taxi_given place _ = None
 
 abbrev pub clock_given : Update → Option ℕ

@@ -5,7 +5,7 @@ use Rattle.std.specs.Prelude.{if◌then◌else◌}
 use Rattle.std.proofs.lemmas.Bool.Decides.{nat_tests}
 use Rattle.std.proofs.lemmas.List.{take_more, same_lists, get_or-replicate, length-replicate, get_or_past}
 use Rattle.std.proofs.lemmas.List.FromFn.{get_or-map-range_with_len, length-map-range_with_len}
-use Rattle.cdm_flight.specs.Journal.{window_has}
+use Rattle.cdm_time.specs.Windows.{window_has}
 use Rattle.cdm_runway.specs.declared.intervals.Interval.{Interval}
 use Rattle.cdm_runway.specs.inner.Intervals.{value_at, values_of, AreInOrder, end_of, IsPushed, NoneAfter, IsNext}
 use Rattle.cdm_runway.specs.Rules.{with_range}

@@ -2,7 +2,7 @@
 use Rattle.std.proofs.Common.{◌≡◌, ℕ, ◌<◌, ◌≤◌, ◌/◌, ◌%◌, Bool, true, false, List, length, arith, ◌∙◌}
 use Rattle.std.specs.Prelude.{if◌then◌else◌, not, ◌||◌, ◌==◌, nat_le}
 use Rattle.std.proofs.lemmas.Bool.Decides.{nat_tests}
-use Rattle.cdm_flight.specs.Journal.{window_has}
+use Rattle.cdm_time.specs.Windows.{window_has}
 use Rattle.cdm_runway.specs.Rules.{RunwayRules, AreRules, is_rate_window, with_range, with_rate, with_closed}
 use Rattle.cdm_runway.specs.Room.{cap_at, is_closed}
 use Rattle.cdm_runway.proofs.RangeLemmas.{get_or-with_range, length-with_range}

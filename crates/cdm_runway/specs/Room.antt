@@ -35,15 +35,12 @@ IsOpen r m = is_closed r m ≡ false
 abbrev pub IsSpaced : RunwayRules → List Taken → Group → ℕ → Type 0
 IsSpaced r taken group m = All (λ t. meets (taken_by r group m) t ≡ false) taken
 
--- the cell of a minute holds fewer than its capacity
-abbrev pub HasRoom : RunwayRules → List Taken → ℕ → Type 0
-HasRoom r taken m = held_in_cell r.cell taken m < cap_at r m
-
--- a flight of the group may take the minute
+-- a flight of the group may take the minute: the runway is open, the flight meets no other, and the minute's cell holds fewer
+-- than its capacity
 pub record IsFree (r : RunwayRules) (taken : List Taken) (group : Group) (m : ℕ) : Type 0 where
   pub is_open : IsOpen r m
   pub is_spaced : IsSpaced r taken group m
-  pub has_room : HasRoom r taken m
+  pub has_room : held_in_cell r.cell taken m < cap_at r m
 
 -- m is the earliest minute from `from` up to `to` that a flight of the group may take
 pub record IsEarliest (r : RunwayRules) (taken : List Taken) (group : Group) (from to m : ℕ) : Type 0 where

@@ -1,6 +1,6 @@
 //! A value for each place of a row, told by intervals.
 ghost use Rattle.std.specs.Prelude.{◌≡◌, ℕ, ◌<◌, ◌≤◌, true, length, replicate, slice_index_or, IfOk, OnOk, OnErr, MatchOption, if◌then◌else◌};
-ghost use Rattle.cdm_flight.specs.Journal.{window_has};
+ghost use Rattle.cdm_time.specs.Windows.{window_has};
 ghost use Rattle.cdm_runway.specs.Rules.{with_range};
 ghost use Rattle.cdm_runway.specs.inner.Intervals.{value_at, end_of, AreInOrder, IsPushed, NoneAfter, IsNext};
 

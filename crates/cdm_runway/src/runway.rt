@@ -1,6 +1,6 @@
 //! Rates and closures of a runway.
 ghost use Rattle.std.specs.Prelude.{◌≡◌, ℕ, ◌<◌, ◌≤◌, ◌↔◌, true, false, Err, IfOk, OnOk, OnErr, MatchOption, if◌then◌else◌};
-ghost use Rattle.cdm_flight.specs.Journal.{window_has};
+ghost use Rattle.cdm_time.specs.Windows.{window_has};
 ghost use Rattle.cdm_flight.specs.Spacing.{occupancy_of, with_occupancy};
 
 use crate::intervals::Intervals;

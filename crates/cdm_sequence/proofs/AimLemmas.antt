@@ -3,7 +3,7 @@ use Rattle.std.proofs.Common.{◌≡◌, ℕ, ◌+◌, ◌-◌, ◌<◌, ◌≤�
 use Rattle.std.proofs.Common.{arith, ap}
 use Rattle.std.proofs.lemmas.Bool.Decides.{nat_tests}
 use Rattle.std.specs.Prelude.{if◌then◌else◌}
-use Rattle.cdm_time.specs.Windows.{Interval, Margins, has_minute}
+use Rattle.cdm_time.specs.Windows.{Interval, Margins, window_has}
 use Rattle.cdm_flight.specs.declared.key.Key.{Key}
 use Rattle.cdm_flight.specs.declared.values.DayValues.{DayValues}
 use Rattle.cdm_flight.specs.Record.{Record}
@@ -29,25 +29,25 @@ window_of tolerance earliest ctot = record { from = window_from tolerance earlie
 
 -- the window's minutes are the candidates
 pub window_minutes : (tolerance : Margins) (earliest : ℕ) (ctot : Option ℕ) (m : ℕ)
-    → has_minute (window_of tolerance earliest ctot) m ≡ is_candidate tolerance earliest ctot m
+    → window_has (window_from tolerance earliest ctot) (window_to tolerance ctot) m ≡ is_candidate tolerance earliest ctot m
 window_minutes tolerance earliest None m = grind (arith, nat_tests)
 window_minutes tolerance earliest (Some ctot) m = grind (arith, nat_tests)
 
 -- a minute lies in a window where it lies between its bounds
-has : (w : Interval) (m : ℕ) → w.from ≤ m → m < w.to → has_minute w m ≡ true
+has : (w : Interval) (m : ℕ) → w.from ≤ m → m < w.to → window_has w.from w.to m ≡ true
 has w m from to = grind (arith, nat_tests)
 
-had : (w : Interval) (m : ℕ) → has_minute w m ≡ true → (w.from ≤ m) × (m < w.to)
+had : (w : Interval) (m : ℕ) → window_has w.from w.to m ≡ true → (w.from ≤ m) × (m < w.to)
 had w m h = (grind (arith, nat_tests), grind (arith, nat_tests))
 
-has_none : (w : Interval) (m : ℕ) → nat_lt w.from w.to ≡ false → has_minute w m ≡ false
+has_none : (w : Interval) (m : ℕ) → nat_lt w.from w.to ≡ false → window_has w.from w.to m ≡ false
 has_none w m h = grind (arith, nat_tests)
 
-had_none : (w : Interval) → has_minute w w.from ≡ false → nat_lt w.from w.to ≡ false
+had_none : (w : Interval) → window_has w.from w.to w.from ≡ false → nat_lt w.from w.to ≡ false
 had_none w h = grind (arith, nat_tests)
 
 -- windows with the same minutes are one
-window_one : (v w : Interval) → ((m : ℕ) → has_minute v m ≡ has_minute w m) → w.from < w.to → v ≡ w
+window_one : (v w : Interval) → ((m : ℕ) → window_has v.from v.to m ≡ window_has w.from w.to m) → w.from < w.to → v ≡ w
 window_one v w same some =
     let a = had v w.from (same w.from ∙ has w w.from (omega arith) some) in
     let b = had v (w.to - 1) (same (w.to - 1) ∙ has w (w.to - 1) (omega arith) (omega arith)) in

@@ -12,7 +12,7 @@ use Rattle.cdm_flight.specs.Names.{same_name}
 use Rattle.cdm_flight.specs.Order.{is_before}
 use Rattle.cdm_flight.proofs.Lists.{apart_from_head, contains_all, contains_kept, contains_head, contains_tail, distinct_filter, filter_map_same}
 use Rattle.cdm_runway.specs.Rules.{RunwayRules}
-use Rattle.cdm_runway.specs.Room.{cap_at, held_in_cell, taken_by, HasRoom, IsFree}
+use Rattle.cdm_runway.specs.Room.{cap_at, held_in_cell, taken_by, IsFree}
 use Rattle.cdm_runway.specs.declared.load.Taken.{Taken}
 use Rattle.cdm_sequence.specs.Plan.{Placing, taken_before, taken_of, IsLeast, IsPlan, MayHave, IsAllowed, IsSooner, IsEarlier, IsFirst}
 use Rattle.cdm_sequence.specs.Targets.{TargetRecord}
@@ -163,7 +163,7 @@ module _ (r : RunwayRules) (fixed : List Taken) (ts : List TargetRecord) (p : Pl
             true_from_ne_false (same_name h.key.name g.key.name) (λ n. false≢true (sym later ∙ before_or_after h.key g.key back n))) in
             let all = held_parted g in
             let taken = taken_before r fixed ts p g in
-            let within : (o : Option ℕ) → option_map_or (λ t. t.minute / r.cell == m / r.cell) (option_map (taken_by r g.group) o) false ≡ true → IsLeast r taken g o → HasRoom r taken m =
+            let within : (o : Option ℕ) → option_map_or (λ t. t.minute / r.cell == m / r.cell) (option_map (taken_by r g.group) o) false ≡ true → IsLeast r taken g o → held_in_cell r.cell taken m < cap_at r m =
             elim [
               | None ↦ λ t least. absurd (false≢true t)
               | Some n ↦ λ t least.

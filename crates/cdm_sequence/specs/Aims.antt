@@ -1,7 +1,7 @@
 -- Whether a planned flight can be sequenced, and when it may take off.
 use Rattle.std.specs.Prelude.{◌≡◌, ℕ, ◌+◌, ◌<◌, ◌≤◌, max, Bool, true, false, ◌&&◌, nat_le, nat_lt, List, Option, Some, None, IsSome}
 use Rattle.std.specs.Option.{IsSomeAnd, option_map_or}
-use Rattle.cdm_time.specs.Windows.{Margins, has_minute, horizon, is_in_tolerance}
+use Rattle.cdm_time.specs.Windows.{Margins, horizon, is_in_tolerance, window_has}
 use Rattle.cdm_flight.specs.declared.ice.Ice.{Ice}
 use Rattle.cdm_flight.specs.declared.ice.Ice.TheVariants.{AtStand}
 use Rattle.cdm_flight.specs.declared.place.Place.{Place}
@@ -43,7 +43,7 @@ pub record IsTarget (f : Record) (times : TaxiTimes) (values : DayValues) (t : T
   pub exot : exot_to times f t.runway ≡ Some t.exot
   pub ready : t.ready ≡ ready_at f t.key.tobt values
   pub some_minute : t.window.from < t.window.to
-  pub minutes : (m : ℕ) → has_minute t.window m ≡ is_candidate values.tolerance (t.ready + t.exot) t.ctot m
+  pub minutes : (m : ℕ) → window_has t.window.from t.window.to m ≡ is_candidate values.tolerance (t.ready + t.exot) t.ctot m
 
 -- the flight has a TOBT, a runway and a taxi-out time, and P holds of the minute from which on it could take
 -- off by them

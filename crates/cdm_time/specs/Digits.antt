@@ -1,21 +1,16 @@
 -- Numbers in texts.
-use Rattle.std.specs.Prelude.{ℕ, ◌+◌, ◌-◌, ◌*◌, ◌/◌, ◌%◌, Bool, true, ◌&&◌, List, [], ◌∷◌}
+use Rattle.std.specs.Prelude.{ℕ, ◌+◌, ◌-◌, ◌*◌, ◌/◌, ◌%◌, Bool, List, [], ◌∷◌}
 use Rattle.std.specs.Char.{is_ascii_digit}
+use Rattle.std.specs.List.{fold, list_all}
 use Rattle.std.specs.Str.{byte}
 
 -- all bytes are digits
 unfoldable pub are_digits : List ℕ → Bool
-are_digits [] = true
-are_digits (b ∷ bs) = is_ascii_digit b && are_digits bs
-
--- the number that digits spell after others that spell n
-unfoldable pub number_after : ℕ → List ℕ → ℕ
-number_after n [] = n
-number_after n (b ∷ bs) = number_after (10 * n + (b - byte "0")) bs
+are_digits text = list_all is_ascii_digit text
 
 -- the number that digits spell
-abbrev pub number_in : List ℕ → ℕ
-number_in text = number_after 0 text
+unfoldable pub number_in : List ℕ → ℕ
+number_in text = fold (λ n b. 10 * n + (b - byte "0")) 0 text
 
 -- a number below 100 in two digits
 abbrev pub two_digits : ℕ → List ℕ

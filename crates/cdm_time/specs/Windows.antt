@@ -6,9 +6,9 @@ pub record Interval : Type 0 where
   pub from : ℕ
   pub to : ℕ
 
--- the interval has this minute
-abbrev pub has_minute : Interval → ℕ → Bool
-has_minute i m = nat_le i.from m && nat_lt m i.to
+-- the minute is in the window, whose end is not
+abbrev pub window_has : ℕ → ℕ → ℕ → Bool
+window_has from to m = nat_le from m && nat_lt m to
 
 -- the horizon is the minutes below this one
 abbrev pub horizon : ℕ

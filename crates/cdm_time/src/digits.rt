@@ -4,7 +4,7 @@ ghost use Rattle.cdm_time.specs.Digits.{are_digits, number_in, two_digits};
 
 /// The number that a text of at most four bytes spells, with leading zeros or without, or `None`
 /// where a byte is no digit. A text without bytes spells 0.
-#[tactic(auto, unfolding(crate::specs::Digits::are_digits, crate::specs::Digits::number_after))]
+#[tactic(auto, unfolding(crate::specs::Digits::are_digits, crate::specs::Digits::number_in))]
 pub fn number_of(text: &[u8]) -> Option<u16>
     requires { length text.now ≤ 4 }
     ensures value { result ≡ (if are_digits text.now then Some (number_in text.now) else None) }

@@ -1,6 +1,6 @@
 //! Windows of minutes.
 ghost use Rattle.std.specs.Prelude.{◌≡◌, ℕ, ◌+◌, ◌-◌, ◌≤◌, ◌<◌, nat_lt, min, Some, None, if◌then◌else◌};
-ghost use Rattle.cdm_time.specs.Windows.{has_minute, is_in_tolerance};
+ghost use Rattle.cdm_time.specs.Windows.{is_in_tolerance, window_has};
 
 use crate::bound::Bound;
 use crate::minute::Minute;
@@ -58,7 +58,7 @@ impl Window {
 
     /// Whether a minute is one of the window's.
     pub fn contains(self, minute: Minute) -> bool
-        ensures { result ≡ has_minute self minute }
+        ensures { result ≡ window_has self.from self.to minute }
     {
         self.from.get() <= minute.get() && minute.get() < self.to.get()
     }
@@ -69,7 +69,7 @@ impl Window {
 pub fn ctot_window(ctot: Minute, tolerance: Tolerance) -> Window
     ensures from { result.from ≡ ctot - tolerance.before }
     ensures to { result.to ≡ min 2880 (ctot + tolerance.after + 1) }
-    ensures minutes { (m : ℕ) → m < 2880 → has_minute result m ≡ is_in_tolerance tolerance ctot m }
+    ensures minutes { (m : ℕ) → m < 2880 → window_has result.from result.to m ≡ is_in_tolerance tolerance ctot m }
 {
     let from = ctot.get().saturating_sub(tolerance.before());
     let to = (ctot.get() + tolerance.after() + 1).min(Bound::END.get());

@@ -20,7 +20,7 @@ use Rattle.std.specs.Option.{IsSome, IsSomeAnd}
 use Rattle.std.proofs.lemmas.Bool.Decides.{nat_tests}
 use Rattle.std.proofs.lemmas.Bool.{both_ways}
 use Rattle.cdm_flight.specs.declared.group.Group.{Group}
-use Rattle.cdm_time.specs.Windows.{has_minute}
+use Rattle.cdm_time.specs.Windows.{window_has}
 use Rattle.cdm_runway.specs.Room.{held_in_cell, is_closed, meets, taken_by, IsEarliest, IsFree, IsSpaced}
 use Rattle.cdm_sequence.specs.declared.rule.Rule.{Rule}
 use Rattle.cdm_sequence.specs.declared.rule.Rule.TheVariants as rule
@@ -85,7 +85,7 @@ pub record IsTurn (w : Waiting) (t : TargetRecord) (taken : List Taken) : Type 0
   pub exot : t.exot ≡ w.exot
   pub group : t.group ≡ w.flight.group
   pub some_minute : t.window.from < t.window.to
-  pub minutes : (m : ℕ) → has_minute t.window m ≡ is_candidate_for w m
+  pub minutes : (m : ℕ) → window_has t.window.from t.window.to m ≡ is_candidate_for w m
   pub same : IsPermutation taken (taken_for w)
 
 module _ (w : Waiting) (t : TargetRecord) (taken : List Taken) (turn : IsTurn w t taken) where

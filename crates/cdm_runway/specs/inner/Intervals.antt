@@ -1,7 +1,7 @@
 -- What intervals say of places.
 use Rattle.std.specs.Prelude.{◌≡◌, ℕ, ◌<◌, ◌≤◌, nat_le, max, List, [], ◌∷◌, map, if◌then◌else◌}
 use Rattle.std.specs.List.{range_with_len}
-use Rattle.cdm_flight.specs.Journal.{window_has}
+use Rattle.cdm_time.specs.Windows.{window_has}
 use Rattle.cdm_runway.specs.declared.intervals.Interval.{Interval}
 
 -- the value of a place: that of the last interval that has it, else the value of the rest
