@@ -2,7 +2,7 @@
 ghost use Rattle.std.specs.Prelude.{◌≡◌, ◌≤◌, ◌+◌, ◌++◌, ◌∷◌, ℕ, List, [], map, length, take, false, unwrap_or, vec_len, Ok, IfOk, IfErr, OnOk, OnErr, IsErrOf};
 ghost use Rattle.std.specs.Io.KnownBytes.{Appends};
 ghost use Rattle.std.specs.Option.{option_copied};
-ghost use Rattle.cdm_feed.specs.Input.{input_limit};
+ghost use Rattle.cdm_feed.specs.declared.input.TheConstants.{INPUT_LIMIT};
 ghost use Rattle.cdm_feed.specs.Readings.{AreRead, IfTold, reading};
 ghost use Rattle.cdm_feed.specs.Records.{records_of};
 ghost use Rattle.cdm_feed.specs.ScenarioFile.{scenarios_in};
@@ -186,7 +186,7 @@ fn told_of_day<R: Threads + Sync, G: Gate>(
     workers: Workers,
     gate: &G,
 ) -> Result<Told, AllocError>
-    requires { length feed.now ≤ input_limit }
+    requires { length feed.now ≤ INPUT_LIMIT }
     ensures lines { IfOk result (λ told. AreLinesOf (take most_told (
         findings_at (Ok airport) (airport_file paths.entry []) (feed_file paths.entry feed.now) (scenario_file paths.entry scenarios.now))) told.lines.items) }
     ensures refused { IfOk result (λ told. told.refused ≡ length (
@@ -215,7 +215,7 @@ fn told_of<R: Threads + Sync, G: Gate>(
     workers: Workers,
     gate: &G,
 ) -> Result<Told, AllocError>
-    requires { vec_len inputs.now.second ≤ input_limit }
+    requires { vec_len inputs.now.second ≤ INPUT_LIMIT }
     ensures lines { IfOk result (λ told. AreLinesOf (take most_told (findings_in (airport_file paths.entry inputs.now.airport.items)
         (feed_file paths.entry inputs.now.second.items) (scenario_file paths.entry inputs.now.third.items))) told.lines.items) }
     ensures refused { IfOk result (λ told. told.refused ≡ length (findings_in (airport_file paths.entry inputs.now.airport.items)
@@ -241,8 +241,8 @@ fn told_of<R: Threads + Sync, G: Gate>(
 
 // How many records all files have.
 fn record_counts(alloc: Global, inputs: &Inputs) -> Result<usize, AllocError>
-    requires second { vec_len inputs.now.second ≤ input_limit }
-    requires third { vec_len inputs.now.third ≤ input_limit }
+    requires second { vec_len inputs.now.second ≤ INPUT_LIMIT }
+    requires third { vec_len inputs.now.third ≤ INPUT_LIMIT }
     ensures { IfOk result (λ count. count ≡ length (records_of inputs.now.airport.items)
         + length (records_of inputs.now.second.items) + length (records_of inputs.now.third.items)) }
 {
@@ -271,8 +271,8 @@ fn check_of<R: Threads + Sync, G: Gate>(
     workers: Workers,
     gate: &G,
 ) -> Result<Checked, AllocError>
-    requires second { vec_len inputs.now.second ≤ input_limit }
-    requires third { vec_len inputs.now.third ≤ input_limit }
+    requires second { vec_len inputs.now.second ≤ INPUT_LIMIT }
+    requires third { vec_len inputs.now.third ≤ INPUT_LIMIT }
     ensures text { IfOk result (λ check.
         IsCheckAt paths.entry inputs.now.airport.items inputs.now.second.items inputs.now.third.items check.text.items) }
     ensures counts { IfOk result (λ check.

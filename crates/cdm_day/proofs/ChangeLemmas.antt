@@ -1,7 +1,7 @@
 -- What the longer journal says is what the day says with the change.
 use Rattle.std.proofs.Common.{◌≡◌, ℕ, ◌≤◌, Bool, true, false, List, [], ◌∷◌, ◌++◌, Option, None, Some, refl, sym, ap, ◌∙◌, subst, true≢false, arith}
 use Rattle.cdm_plan.proofs.ListWords.{if◌then◌else◌, nat_lt, Contains, cons_option, nat_list_eq_equiv, option_map, nat_tests, same_text}
-use Rattle.cdm_day.proofs.DayWords.{RunwayRow, Update, flight_in, reach_of, same_name, same_name-refl, same_reach, Record, is_fresh, TaxiRows, AirportRows, runway_row, flight_of, values_of}
+use Rattle.cdm_day.proofs.DayWords.{RunwayRow, Update, flight_in, reach_of, same_name, same_name-refl, same_reach, Flight, is_fresh, TaxiRows, AirportRows, runway_row, flight_of, values_of}
 use Rattle.cdm_day.proofs.DayWords.{flight_of-untouched, values_of-untouched, refusal_of, RunwayRules, is_rate_window, IsAirport, DayRecord, flights_in, rules_of, with_update}
 use Rattle.cdm_day.proofs.DayWords.{IsSound, TellTaxi, ChangesRunway, IsChange, has_window, with_change, cap_given, closed_given, then_some, window_has, Flt, Rate, Close, Reopen}
 use Rattle.cdm_flight.specs.declared.reach.Reach.{Reach}
@@ -10,7 +10,7 @@ use Rattle.cdm_plan.proofs.DayPlanLemmas.{record_name}
 use Rattle.cdm_plan.proofs.JournalFacts.{flights_in-push, new_flight-old}
 use Rattle.cdm_plan.proofs.NameLemmas.{find_some, one_row}
 use Rattle.cdm_plan.proofs.RunwayLemmas.{rules-same}
-use Rattle.cdm_plan.specs.Day.{new_flight}
+use Rattle.cdm_plan.proofs.PlanWords.{new_flight}
 use Rattle.cdm_day.proofs.RunwayLemmas.{rules-closed, rules-rate}
 use Rattle.cdm_day.proofs.SoundLemmas.{sound_after}
 use Rattle.cdm_day.proofs.TaxiLemmas.{taxi_after_other, taxi_after_taxi}
@@ -59,7 +59,7 @@ module _ (d : DayRecord) (u : Update) {what : Reach} (e : reach_of u ≡ what) w
 
 -- A record of a flight.
 
-flight_put : (d : DayRecord) (u : Update) (r : Record) → reach_of u ≡ reach.Flight r.name → flight_of d.airport (d.journal ++ u ∷ []) r.name ≡ Some r
+flight_put : (d : DayRecord) (u : Update) (r : Flight) → reach_of u ≡ reach.Flight r.name → flight_of d.airport (d.journal ++ u ∷ []) r.name ≡ Some r
     → (f : List ℕ) → flight_of d.airport (d.journal ++ u ∷ []) f ≡ (if same_name r.name f then Some r else flight_of d.airport d.journal f)
 flight_put d u r e says f = by (same_name r.name f) refl
   where
@@ -68,7 +68,7 @@ flight_put d u r e says f = by (same_name r.name f) refl
     by false h = flight_of-untouched f d.airport d.journal u (ap (λ what. same_reach what (reach.Flight f)) e ∙ h)
 
 -- what the longer journal says of the flight is its next record
-pub next_record : (d : DayRecord) (u : Update) (f : List ℕ) (r : Record) → reach_of u ≡ reach.Flight f → is_fresh u ≡ false
+pub next_record : (d : DayRecord) (u : Update) (f : List ℕ) (r : Flight) → reach_of u ≡ reach.Flight f → is_fresh u ≡ false
     → flight_of d.airport (d.journal ++ u ∷ []) f ≡ Some r → IsChange d u (NextRecord r)
 next_record d u f r e old says =
     let name : r.name ≡ f = record_name d.airport (d.journal ++ u ∷ []) f r says in

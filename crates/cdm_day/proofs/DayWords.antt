@@ -20,7 +20,7 @@ pub use Rattle.cdm_flight.specs.Journal.{last_value, of_flight, record_with, run
 pub use Rattle.cdm_flight.specs.Journal.{status_of, taxi_given, taxi_of}
 unfoldable pub use Rattle.cdm_flight.specs.Journal.{exot_of, flight_of, values_of}
 pub use Rattle.cdm_flight.specs.Names.{same_name}
-pub use Rattle.cdm_flight.specs.Record.{Record}
+pub use Rattle.cdm_flight.specs.declared.flight.Flight.{Flight}
 pub use Rattle.cdm_flight.specs.Reach.{flight_in, flight_of_update, reach_of, runway_of_update, same_reach, touching}
 pub use Rattle.cdm_flight.specs.Step.{is_fresh, or_refused, step_of, step_refusal}
 pub use Rattle.cdm_flight.specs.Taxi.{TaxiRows, is_new_stand, is_one_stand_too_many, stand_of_place, stands_in, taxi_cmp, taxi_out}
@@ -30,6 +30,7 @@ pub use Rattle.cdm_flight.specs.declared.update.Update.{Update}
 pub use Rattle.cdm_runway.proofs.RulesLemmas.{rate_window-in_order, rate_window-says}
 pub use Rattle.cdm_runway.specs.Rules.{RunwayRules, is_rate_window, with_closed, with_range, with_rate}
 unfoldable pub use Rattle.cdm_runway.specs.Rules.{plain_rules}
-pub use Rattle.cdm_sequence.specs.Slots.{PlanRecord, RunwayPlanRecord}
+pub use Rattle.cdm_sequence.specs.declared.plan.Plan.{Plan}
+pub use Rattle.cdm_sequence.specs.declared.plan.RunwayPlan.{RunwayPlan}
 pub use Rattle.cdm_taxi.proofs.StandLemmas.{distinct_count-same, has_row-insert, is_stand_of, stand_count-empty, stand_count-insert}
 pub use Rattle.cdm_flight.specs.declared.update.Update.TheVariants.{Close, Flt, Off, Rate, Reopen, Rwy, Taxi}

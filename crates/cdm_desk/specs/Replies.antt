@@ -11,7 +11,7 @@ use Rattle.cdm_flight.specs.declared.word.RefusalWord.{RefusalWord}
 use Rattle.cdm_plan.specs.Day.{DayRecord}
 use Rattle.cdm_plan.specs.DayPlan.{IsDayPlan}
 use Rattle.cdm_report.specs.Report.{line_end}
-use Rattle.cdm_sequence.specs.Slots.{PlanRecord}
+use Rattle.cdm_sequence.specs.declared.plan.Plan.{Plan}
 use Rattle.cdm_view.specs.Standings.{AreChanges, standing_line}
 use Rattle.cdm_view.specs.declared.standing.Standing.{Standing}
 use Rattle.cdm_desk.specs.declared.reply.DeskReply.{DeskReply}
@@ -29,8 +29,8 @@ day_after d (Err word) = d
 
 -- these are the changes from a day to another, by their plans
 pub record IsChangedTo (d next : DayRecord) (changed : List Standing) : Type 0 where
-  pub plan : PlanRecord
-  pub next_plan : PlanRecord
+  pub plan : Plan
+  pub next_plan : Plan
   pub of_day : IsDayPlan d plan
   pub of_next : IsDayPlan next next_plan
   pub changes : AreChanges d plan next next_plan changed

@@ -28,7 +28,7 @@ use Rattle.cdm_report.specs.Counts.{counts_of}
 use Rattle.cdm_feed.specs.Records.{records_of}
 use Rattle.cdm_feed.specs.Refused.{updates_in}
 use Rattle.cdm_report.specs.Report.{report_bytes}
-use Rattle.cdm_sequence.specs.Slots.{PlanRecord}
+use Rattle.cdm_sequence.specs.declared.plan.Plan.{Plan}
 use Rattle.cdm_feed.specs.declared.runs.RunCounts.{RunCounts}
 use Rattle.cdm_feed.specs.declared.airport_file.AirportRecord.{AirportRecord}
 use Rattle.cdm_feed.specs.declared.airport_file.AirportRecord.TheVariants.{Day, Runway, Space, Taxi}
@@ -111,7 +111,7 @@ one-report airport g feed questions x y is a b =
     let plans : b.plan ≡ a.plan = one_day_plan day b.plan a.plan runways flights b.of_day a.of_day in
     let answers : a.answers ≡ b.answers =
     one_each (IsAnswer day (counts_of a.plan)) (λ s. one_answer day (counts_of a.plan) s runways flights) questions a.answers b.answers a.of_scenarios
-    (subst (λ (p : PlanRecord). AllZip (IsAnswer day (counts_of p)) questions b.answers) plans b.of_scenarios) in
+    (subst (λ (p : Plan). AllZip (IsAnswer day (counts_of p)) questions b.answers) plans b.of_scenarios) in
     a.bytes ∙ (λ i. report_bytes g.day (sym plans i) (refusals_in g feed) ++ concat (answers i)) ∙ sym b.bytes
 
 pub one-output : (airport feed scenarios x y : List ℕ) (c d : RunCounts) → IsOutput airport feed scenarios x c → IsOutput airport feed scenarios y d → x ≡ y

@@ -1,7 +1,7 @@
 -- Texts of a run that answers a question.
 use Rattle.std.proofs.Common.{◌≡◌, ℕ, List, Option, None, Some, IfSome, subst, subst₂}
 use Rattle.cdm_flight.specs.Journal.{AirportRows}
-use Rattle.cdm_sequence.specs.Slots.{PlanRecord}
+use Rattle.cdm_sequence.specs.declared.plan.Plan.{Plan}
 use Rattle.cdm_plan.specs.Day.{DayRecord}
 use Rattle.cdm_plan.specs.DayPlan.{IsDayPlan}
 use Rattle.cdm_plan.proofs.OnePlanLemmas.{one_day_plan}
@@ -27,4 +27,4 @@ one-view question airport feed x y a b =
     let of_day : IsDayPlan day b.plan = subst (λ (g : AirportRows). IsDayPlan (day_in g feed) b.plan) rows b.of_day in
     let plans : b.plan ≡ a.plan = one_day_plan day b.plan a.plan kept.names (own_journal a.rows feed) of_day a.of_day in
     answer_one question day a.plan x y kept a.answer
-    (subst₂ (λ (g : AirportRows) (p : PlanRecord). IsAnswer question (day_in g feed) p y) rows plans b.answer)
+    (subst₂ (λ (g : AirportRows) (p : Plan). IsAnswer question (day_in g feed) p y) rows plans b.answer)

@@ -6,7 +6,7 @@ use Rattle.std.specs.Result.{result_map_both}
 use Rattle.csv.specs.Records.{field_at}
 use Rattle.cdm_time.specs.Digits.{are_digits, number_in}
 use Rattle.cdm_time.specs.Times.{minute_up_to}
-use Rattle.cdm_time.specs.Windows.{Margins}
+use Rattle.cdm_time.specs.declared.tolerance.Tolerance.{Tolerance}
 use Rattle.cdm_time.specs.declared.calendar.CalendarDate.{CalendarDate}
 use Rattle.cdm_time.specs.declared.day.TimeFault.{TimeFault}
 use Rattle.cdm_time.specs.declared.day.TimeFault.TheVariants as fault
@@ -101,7 +101,7 @@ number_field in_range text =
     else if in_range (number_in text) then Ok (number_in text) else Err Range
 
 -- a tolerance: 0 to 15 minutes before a CTOT, and 0 to 30 after it
-unfoldable pub tolerance_fields : List ℕ → List ℕ → Result Margins RefusalWord
+unfoldable pub tolerance_fields : List ℕ → List ℕ → Result Tolerance RefusalWord
 tolerance_fields before after =
     of_two (λ b a. record { before = b; after = a }) (number_field (from_to 0 15) before) (number_field (from_to 0 30) after)
 

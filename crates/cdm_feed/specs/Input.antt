@@ -1,11 +1,7 @@
--- The limit of an input, and how the read of one fails.
-use Rattle.std.specs.Prelude.{ℕ, Bool, true, false, Result, Ok, Err}
+-- How the read of an input fails.
+use Rattle.std.specs.Prelude.{Bool, true, false, Result, Ok, Err}
 use Rattle.cdm_feed.specs.declared.input.InputFault.{InputFault}
 use Rattle.cdm_feed.specs.declared.input.InputFault.TheVariants as fault
-
--- the most bytes that an input may have
-abbrev pub input_limit : ℕ
-input_limit = 8388608
 
 -- the input's reader failed
 abbrev pub is_failed_input : {T : Type 0} → Result T InputFault → Bool

@@ -5,7 +5,7 @@ use Rattle.cdm_flight.specs.Accepted.{accepted}
 use Rattle.cdm_flight.specs.Journal.{AirportRows}
 use Rattle.cdm_flight.specs.declared.update.Update.{Update}
 use Rattle.cdm_flight.specs.declared.word.RefusalWord.{RefusalWord}
-use Rattle.cdm_sequence.specs.Slots.{PlanRecord}
+use Rattle.cdm_sequence.specs.declared.plan.Plan.{Plan}
 use Rattle.cdm_report.specs.Counts.{counts_of}
 use Rattle.cdm_report.specs.Report.{report_bytes}
 use Rattle.cdm_plan.specs.Day.{DayRecord}
@@ -38,7 +38,7 @@ day_in g feed = record { airport = g; journal = accepted_in g feed }
 -- the text is the report of the day and of the feed's refused records, and then the answer to each
 -- scenario over that day
 pub record IsReport (g : AirportRows) (feed : List ℕ) (scenarios : List ScenarioRecord) (text : List ℕ) : Type 0 where
-  pub plan : PlanRecord
+  pub plan : Plan
   pub of_day : IsDayPlan (day_in g feed) plan
   pub answers : List (List ℕ)
   pub of_scenarios : AllZip (IsAnswer (day_in g feed) (counts_of plan)) scenarios answers

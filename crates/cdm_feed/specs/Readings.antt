@@ -2,7 +2,7 @@
 use Rattle.std.specs.Prelude.{◌≡◌, ◌≤◌, ◌+◌, ◌⊎◌, ⊤, ℕ, Bool, true, false, List, [], length, Option, Some, IfSome}
 use Rattle.std.specs.Io.KnownBytes.{Consumes, IsAtEnd}
 use Rattle.cdm_feed.specs.Device.{Wrapped}
-use Rattle.cdm_feed.specs.Input.{input_limit}
+use Rattle.cdm_feed.specs.declared.input.TheConstants.{INPUT_LIMIT}
 use Rattle.cdm_feed.specs.declared.common_fault.Input.{Input}
 use Rattle.cdm_feed.specs.declared.common_fault.Input.TheVariants.{Scenarios}
 
@@ -30,7 +30,7 @@ Gives Count r = (given : List ℕ) × Consumes r.before r.after given × Count (
 
 -- no read of the input failed, and it isn't too long as far as it was read
 abbrev pub IsUnfailed : Reading → Type 0
-IsUnfailed r = (r.failed ≡ false) × Gives (λ n. n ≤ input_limit) r
+IsUnfailed r = (r.failed ≡ false) × Gives (λ n. n ≤ INPUT_LIMIT) r
 
 -- the input was read to its end
 pub record IsRead (r : Reading) : Type 0 where
@@ -39,11 +39,11 @@ pub record IsRead (r : Reading) : Type 0 where
 
 -- it is the input of this name; a read of it failed, and before it the input wasn't too long
 abbrev pub IsFailed : Input → Reading → Type 0
-IsFailed name r = (r.name ≡ name) × (r.failed ≡ true) × Gives (λ n. n ≤ input_limit) r
+IsFailed name r = (r.name ≡ name) × (r.failed ≡ true) × Gives (λ n. n ≤ INPUT_LIMIT) r
 
 -- it is the input of this name; no read of it failed, and it has given the first byte past the limit
 abbrev pub IsTooLong : Input → Reading → Type 0
-IsTooLong name r = (r.name ≡ name) × (r.failed ≡ false) × Gives (λ n. n ≡ input_limit + 1) r
+IsTooLong name r = (r.name ≡ name) × (r.failed ≡ false) × Gives (λ n. n ≡ INPUT_LIMIT + 1) r
 
 -- all three inputs were read to their ends
 abbrev pub AreRead : Reading → Reading → Reading → Type 0

@@ -2,7 +2,7 @@
 use Rattle.std.specs.Prelude.{◌≡◌, ℕ, Bool, true, false, List, IfSome, Result, Ok, Err}
 use Rattle.std.specs.Result.{IsOkAnd}
 use Rattle.cdm_flight.specs.Journal.{AirportRows}
-use Rattle.cdm_sequence.specs.Slots.{PlanRecord}
+use Rattle.cdm_sequence.specs.declared.plan.Plan.{Plan}
 use Rattle.cdm_plan.specs.DayPlan.{IsDayPlan}
 use Rattle.cdm_view.specs.Questions.{IsAnswer, IsUnanswered}
 use Rattle.cdm_view.specs.declared.fault.ViewFault.{ViewFault}
@@ -20,7 +20,7 @@ use Rattle.cdm_feed.specs.declared.view_error.ViewError.TheVariants as error
 pub record IsView (question : Question) (airport feed text : List ℕ) : Type 0 where
   pub rows : AirportRows
   pub airport_file : airport_in airport ≡ Ok rows
-  pub plan : PlanRecord
+  pub plan : Plan
   pub of_day : IsDayPlan (day_in rows feed) plan
   pub answer : IsAnswer question (day_in rows feed) plan text
 

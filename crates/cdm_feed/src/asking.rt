@@ -1,7 +1,7 @@
 //! What is asked of a run: the day that its inputs make, and the scenarios over that day.
 ghost use Rattle.std.specs.Prelude.{◌≡◌, ◌≤◌, Ok, length, IfOk, IfErr};
 ghost use Rattle.cdm_feed.specs.AirportFile.{airport_in};
-ghost use Rattle.cdm_feed.specs.Input.{input_limit};
+ghost use Rattle.cdm_feed.specs.declared.input.TheConstants.{INPUT_LIMIT};
 ghost use Rattle.cdm_feed.specs.Output.{day_in, refusals_in};
 ghost use Rattle.cdm_feed.specs.RunFaults.{IsRecordFault};
 ghost use Rattle.cdm_feed.specs.ScenarioFile.{scenarios_in};
@@ -61,7 +61,7 @@ pub fn asked_day<R: Threads + Sync, G: Gate>(
     workers: Workers,
     gate: &G,
 ) -> Result<AskedDay, RunError>
-    requires { length inputs.now.second.items ≤ input_limit }
+    requires { length inputs.now.second.items ≤ INPUT_LIMIT }
     ensures airport { IfOk result (λ asked. airport_in inputs.now.airport.items ≡ Ok asked.state.airport) }
     ensures state { IfOk result (λ asked. asked.state ≡ day_in asked.state.airport inputs.now.second.items) }
     ensures refused { IfOk result (λ asked. asked.refused.items ≡ refusals_in asked.state.airport inputs.now.second.items) }

@@ -1,7 +1,7 @@
 //! Whole inputs.
 ghost use Rattle.std.specs.Prelude.{◌≡◌, ◌≤◌, ◌+◌, ℕ, List, length, false, vec_len, IfOk, OnOk, IfSome, IsErrOf};
 ghost use Rattle.std.specs.Io.KnownBytes.{Consumes, IsAtEnd};
-ghost use Rattle.cdm_feed.specs.Input.{input_limit, is_failed_input};
+ghost use Rattle.cdm_feed.specs.Input.{is_failed_input};
 ghost use Rattle.cdm_feed.specs.declared.input.InputFault.TheVariants as fault;
 
 use crate::device::Device;
@@ -48,16 +48,16 @@ pub fn read_input<R: Read>(alloc: Global, device: &mut Device<R>) -> Result<Vec<
     ensures whole { IfOk result (λ input.
         IfSome (R.remaining device.old.inner) (λ bytes. input.items ≡ bytes)) }
     ensures end { OnOk result (IsAtEnd (R.remaining device.new.inner)) }
-    ensures limit { IfOk result (λ input. vec_len input ≤ input_limit) }
+    ensures limit { IfOk result (λ input. vec_len input ≤ INPUT_LIMIT) }
     ensures failed { device.new.failed ≡ is_failed_input result }
 
     // One byte past the limit was given, or else no byte past it.
     ensures too_long { IsErrOf result InputFault.TooLong →
         (given : List ℕ) × Consumes (R.remaining device.old.inner) (R.remaining device.new.inner) given
-        × (length given ≡ input_limit + 1) }
+        × (length given ≡ INPUT_LIMIT + 1) }
     ensures within { ¬ IsErrOf result InputFault.TooLong →
         (given : List ℕ) × Consumes (R.remaining device.old.inner) (R.remaining device.new.inner) given
-        × (length given ≤ input_limit) }
+        × (length given ≤ INPUT_LIMIT) }
 {
     let mut input = Vec::new(alloc);
     let mut chunk = [0u8; CHUNK];

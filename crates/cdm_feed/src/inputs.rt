@@ -1,6 +1,6 @@
 //! The inputs of a run, read whole and in order.
 ghost use Rattle.std.specs.Prelude.{◌≡◌, ◌≤◌, false, vec_len, IfOk, IfErr, OnOk, IfSome};
-ghost use Rattle.cdm_feed.specs.Input.{input_limit};
+ghost use Rattle.cdm_feed.specs.declared.input.TheConstants.{INPUT_LIMIT};
 ghost use Rattle.cdm_feed.specs.Readings.{AreRead, IsRead, no_input, reading};
 ghost use Rattle.cdm_feed.specs.CommonFaults.{IsFirstInputFault, IsInputFault};
 
@@ -19,7 +19,7 @@ pub fn read_whole<R: Read>(
 ) -> Result<Vec<u8>, CommonFault>
     requires { device.old.failed ≡ false }
     ensures whole { IfOk result (λ bytes. IfSome (R.remaining device.old.inner) (λ all. bytes.items ≡ all)) }
-    ensures limit { IfOk result (λ bytes. vec_len bytes ≤ input_limit) }
+    ensures limit { IfOk result (λ bytes. vec_len bytes ≤ INPUT_LIMIT) }
     ensures read { OnOk result (IsRead (reading input R.remaining device.old device.new)) }
     ensures fault { IfErr result (IsInputFault (reading input R.remaining device.old device.new)) }
 {
@@ -43,7 +43,7 @@ pub fn read_two<A: Read, S: Read>(
     requires second { second.old.failed ≡ false }
     ensures airport { IfOk result (λ inputs. IfSome (A.remaining airport.old.inner) (λ all. inputs.0.items ≡ all)) }
     ensures second { IfOk result (λ inputs. IfSome (S.remaining second.old.inner) (λ all. inputs.1.items ≡ all)) }
-    ensures second_limit { IfOk result (λ inputs. vec_len inputs.1 ≤ input_limit) }
+    ensures second_limit { IfOk result (λ inputs. vec_len inputs.1 ≤ INPUT_LIMIT) }
     ensures read { OnOk result (AreRead
         (reading Input.Airport A.remaining airport.old airport.new) (reading name S.remaining second.old second.new) no_input) }
     ensures fault { IfErr result (IsFirstInputFault
@@ -80,8 +80,8 @@ pub fn read_inputs<A: Read, S: Read, T: Read>(
     ensures airport { IfOk result (λ inputs. IfSome (A.remaining airport.old.inner) (λ all. inputs.airport.items ≡ all)) }
     ensures second { IfOk result (λ inputs. IfSome (S.remaining second.old.inner) (λ all. inputs.second.items ≡ all)) }
     ensures third { IfOk result (λ inputs. IfSome (T.remaining third.old.inner) (λ all. inputs.third.items ≡ all)) }
-    ensures second_limit { IfOk result (λ inputs. vec_len inputs.second ≤ input_limit) }
-    ensures third_limit { IfOk result (λ inputs. vec_len inputs.third ≤ input_limit) }
+    ensures second_limit { IfOk result (λ inputs. vec_len inputs.second ≤ INPUT_LIMIT) }
+    ensures third_limit { IfOk result (λ inputs. vec_len inputs.third ≤ INPUT_LIMIT) }
     ensures read { OnOk result (AreRead
         (reading Input.Airport A.remaining airport.old airport.new)
         (reading names.0 S.remaining second.old second.new)

@@ -1,7 +1,7 @@
 //! A feed, judged at an airport.
 ghost use Rattle.std.specs.Prelude.{◌≡◌, ◌≤◌, ◌<◌, ◌+◌, ◌^◌, ◌++◌, [], length, IfOk, OnOk};
 ghost use Rattle.cdm_flight.specs.Accepted.{accepted};
-ghost use Rattle.cdm_feed.specs.Input.{input_limit};
+ghost use Rattle.cdm_feed.specs.declared.input.TheConstants.{INPUT_LIMIT};
 ghost use Rattle.cdm_feed.specs.Output.{accepted_in, refusals_in};
 ghost use Rattle.cdm_feed.specs.Refused.{refused_in, updates_in};
 
@@ -74,7 +74,7 @@ pub fn judge<R: Threads + Sync, G: Gate>(
     workers: Workers,
     gate: &G,
 ) -> Result<Judged, AllocError>
-    requires { length feed.now ≤ input_limit }
+    requires { length feed.now ≤ INPUT_LIMIT }
     ensures state { IfOk result (λ judged. judged.state ≡ record { airport = airport; journal = accepted_in airport feed.now }) }
     ensures refused { IfOk result (λ judged. judged.refused.items ≡ refusals_in airport feed.now) }
 {

@@ -1,7 +1,7 @@
 //! A whole run, from the bytes of its inputs to the bytes of its text.
 ghost use Rattle.std.specs.Prelude.{◌≡◌, ◌≤◌, ℕ, List, length, take, false, IfOk, IfErr, OnOk, OnErr, IsErrOf};
 ghost use Rattle.std.specs.Io.KnownBytes.{Appends};
-ghost use Rattle.cdm_feed.specs.Input.{input_limit};
+ghost use Rattle.cdm_feed.specs.declared.input.TheConstants.{INPUT_LIMIT};
 ghost use Rattle.cdm_feed.specs.Output.{HaveOneText, IsOutput};
 ghost use Rattle.cdm_feed.specs.Readings.{AreRead, IfTold, reading};
 ghost use Rattle.cdm_feed.specs.RunFaults.{IsFirstFault, IsRecordFault, is_write_fault};
@@ -46,7 +46,7 @@ fn report_of_inputs<R: Threads + Sync, G: Gate>(
     workers: Workers,
     gate: &G,
 ) -> Result<Report, RunError>
-    requires { length inputs.now.second.items ≤ input_limit }
+    requires { length inputs.now.second.items ≤ INPUT_LIMIT }
     ensures made { IfOk result (λ report.
         IsOutput inputs.now.airport.items inputs.now.second.items inputs.now.third.items report.text.items report.counts) }
     ensures fault { IfErr result (IsRecordFault inputs.now.airport.items inputs.now.third.items) }

@@ -1,7 +1,7 @@
 //! A whole run that answers a question, from the bytes of its inputs to the bytes of its text.
 ghost use Rattle.std.specs.Prelude.{◌≡◌, ◌≤◌, ℕ, List, length, take, false, IfOk, IfErr, IfSome, OnOk, OnErr, IsErrOf};
 ghost use Rattle.std.specs.Io.KnownBytes.{Appends};
-ghost use Rattle.cdm_feed.specs.Input.{input_limit};
+ghost use Rattle.cdm_feed.specs.declared.input.TheConstants.{INPUT_LIMIT};
 ghost use Rattle.cdm_feed.specs.Readings.{AreRead, no_input, reading};
 ghost use Rattle.cdm_feed.specs.Views.{HaveOneView, IsFirstViewFault, IsView, is_view_write_fault};
 ghost use Rattle.cdm_feed.specs.inner.Faults.{IsUnmade};
@@ -29,7 +29,7 @@ fn answer_of_inputs<R: Threads + Sync, G: Gate>(
     workers: Workers,
     gate: &G,
 ) -> Result<Vec<u8>, ViewError>
-    requires { length feed.now ≤ input_limit }
+    requires { length feed.now ≤ INPUT_LIMIT }
     ensures made { IfOk result (λ text. IsView question airport.now feed.now text.items) }
     ensures fault { IfErr result (IsUnmade question airport.now feed.now) }
 {

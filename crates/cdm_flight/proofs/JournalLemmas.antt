@@ -3,12 +3,12 @@ use Rattle.std.proofs.Common.{◌≡◌, ℕ, Bool, true, false, cond, not, ◌&
 use Rattle.std.specs.Prelude.{is_some, unwrap_or}
 use Rattle.std.specs.Option.{option_map, option_or}
 use Rattle.std.specs.FinMap as map
-use Rattle.std.specs.List.{list_all, list_any}
+use Rattle.std.specs.List.{list_all, list_any, take_while}
 use Rattle.std.proofs.lemmas.Grind.{common_steps}
 use Rattle.std.proofs.lemmas.List.{append-nil}
 use Rattle.std.proofs.lemmas.List.Elements.{filter-append}
 use Rattle.std.proofs.lemmas.List.Sums.{take_while-cons}
-use Rattle.cdm_time.specs.Windows.{Margins}
+use Rattle.cdm_time.specs.declared.tolerance.Tolerance.{Tolerance}
 use Rattle.cdm_flight.proofs.Lists.{option_or-none, option_or-assoc, list_any-push, take_while-all, take_while-append}
 use Rattle.cdm_flight.specs.declared.flight.Status.{Status}
 use Rattle.cdm_flight.specs.declared.flight.Status.TheVariants.{Planned, OffBlock, Airborne, Cancelled}
@@ -21,12 +21,13 @@ use Rattle.cdm_flight.specs.declared.update.Update.{Update}
 use Rattle.cdm_flight.specs.declared.update.Update.TheVariants.{Flt, Off, Air, Cnl, Clock, Tol}
 use Rattle.cdm_flight.specs.Names.{same_name}
 use Rattle.cdm_flight.specs.Reach.{reach_of, same_reach, touching}
-use Rattle.cdm_flight.specs.Record.{Record, fresh}
+use Rattle.cdm_flight.specs.Record.{fresh}
+use Rattle.cdm_flight.specs.declared.flight.Flight.{Flight}
 use Rattle.cdm_flight.specs.Step.{airborne_at, is_fresh, off_block_from, stepped, step_refusal}
 use Rattle.cdm_flight.specs.Journal.{AirportRows, last_value, tobt_given, stand_given, runway_given, ctot_given, ice_given, group_given, priority_given}
 use Rattle.cdm_flight.specs.Journal.{aobt_given, atot_given, is_cancel, taxi_given, clock_given, tolerance_given, taxi_of, of_flight, is_known}
 use Rattle.cdm_flight.specs.Journal.{exot_now}
-use Rattle.cdm_flight.specs.Journal.{before_off, status_from, status_of, record_with, exot_of, flight_of, values_of}
+use Rattle.cdm_flight.specs.Journal.{status_from, status_of, record_with, exot_of, flight_of, values_of}
 
 -- Last values of a flight.
 
@@ -78,7 +79,7 @@ values_of-clock a m =
     let own = touching reach.Day a in
     rw (touching-push reach.Day a (Clock m) refl, last_value-push clock_given own (Clock m), last_value-push tolerance_given own (Clock m)) refl
 
-pub values_of-tolerance : (a : List Update) (t : Margins) → values_of (a ++ Tol t ∷ []) ≡ record (values_of a) { tolerance = t }
+pub values_of-tolerance : (a : List Update) (t : Tolerance) → values_of (a ++ Tol t ∷ []) ≡ record (values_of a) { tolerance = t }
 unfolding values_of
 values_of-tolerance a t =
     let own = touching reach.Day a in
@@ -93,21 +94,24 @@ module _ (f : List ℕ) where
   abbrev is_off : Update → Bool
   is_off u = same_reach (reach_of u) (reach.Flight f) && is_some (aobt_given u)
 
+  abbrev before_off : List Update → List Update
+  before_off a = take_while (λ u. not (is_off u)) a
+
   no_off : (a : List Update) → list_all (λ u. not (is_off u)) a ≡ not (is_some (aobt_of a f))
   no_off [] = refl
   no_off (v ∷ a) = let later = no_off a in grind (arith, is_some-option_or (aobt_of a f) (aobt_given v))
 
   -- it stays once the flight has left
-  pub before_off-left : (a : List Update) (u : Update) (m : ℕ) → aobt_of a f ≡ Some m → before_off f (a ++ u ∷ []) ≡ before_off f a
+  pub before_off-left : (a : List Update) (u : Update) (m : ℕ) → aobt_of a f ≡ Some m → before_off (a ++ u ∷ []) ≡ before_off a
   before_off-left a u m h =
       let some : is_some (aobt_of a f) ≡ true = ap is_some h in
       grind (arith, no_off a, take_while-append (λ v. not (is_off v)) a (u ∷ []))
 
   -- and is all of it until then
-  pub before_off-all : (a : List Update) → aobt_of a f ≡ None → before_off f a ≡ a
+  pub before_off-all : (a : List Update) → aobt_of a f ≡ None → before_off a ≡ a
   before_off-all a h = take_while-all (λ v. not (is_off v)) a (no_off a ∙ ap (λ o. not (is_some o)) h)
 
-  pub before_off-leaves : (a : List Update) (u : Update) → aobt_of a f ≡ None → is_off u ≡ true → before_off f (a ++ u ∷ []) ≡ a
+  pub before_off-leaves : (a : List Update) (u : Update) → aobt_of a f ≡ None → is_off u ≡ true → before_off (a ++ u ∷ []) ≡ a
   before_off-leaves a u h e =
       let none : is_some (aobt_of a f) ≡ false = ap is_some h in
       let last = take_while-cons (λ v. not (is_off v)) u [] in
@@ -155,7 +159,7 @@ off_block_says false None None e true m x h = cc
 off_block_says false None None e false m x h = cc
 
 -- the record that the list says, by its status
-pub status_of-record : (f : List ℕ) (g : AirportRows) (a : List Update) (r : Record) → flight_of g a f ≡ Some r
+pub status_of-record : (f : List ℕ) (g : AirportRows) (a : List Update) (r : Flight) → flight_of g a f ≡ Some r
     → (status_of g a f ≡ Some r.status) × (record_with f (of_flight f a) r.status ≡ r)
 unfolding flight_of
 status_of-record f g a r h = by (status_of g a f) refl h
@@ -222,7 +226,7 @@ module _ (g : AirportRows) (a : List Update) (f : List ℕ) where
   aobt u e = ap (last_value aobt_given) (one_more u e) ∙ last_value-push aobt_given (of_flight f a) u
 
   -- the status that an update leaves, other than FLT, which no word refuses
-  status_after : (u : Update) (r : Record) → reach_of u ≡ reach.Flight f → status_of g a f ≡ Some r.status → is_fresh u ≡ false
+  status_after : (u : Update) (r : Flight) → reach_of u ≡ reach.Flight f → status_of g a f ≡ Some r.status → is_fresh u ≡ false
       → step_refusal r.status r.runway u (exot_of g a f) ≡ None → status_of g (a ++ u ∷ []) f ≡ Some (stepped r u (exot_of g a f)).status
   unfolding exot_of
   status_after (Off q m) r e told old ok =
@@ -247,7 +251,7 @@ module _ (g : AirportRows) (a : List Update) (f : List ℕ) where
   status_after u r e told old ok = status_of-same f g a u (cancelled u e) (atot u e) (aobt u e) (is_known-push u e) ∙ told
 
   -- after an update, other than FLT, which no word refuses, the journal says the record with its value
-  pub flight_of-step : (u : Update) (r : Record) → reach_of u ≡ reach.Flight f → flight_of g a f ≡ Some r → is_fresh u ≡ false
+  pub flight_of-step : (u : Update) (r : Flight) → reach_of u ≡ reach.Flight f → flight_of g a f ≡ Some r → is_fresh u ≡ false
       → step_refusal r.status r.runway u (exot_of g a f) ≡ None → flight_of g (a ++ u ∷ []) f ≡ Some (stepped r u (exot_of g a f))
   unfolding flight_of
   flight_of-step u r e there old ok =
@@ -256,7 +260,7 @@ module _ (g : AirportRows) (a : List Update) (f : List ℕ) where
       ap (option_map (record_with f (of_flight f (a ++ u ∷ [])))) (status_after u r e told.0 old ok)
       ∙ ap Some (ap (λ own. record_with f own after.status) (one_more u e)
       ∙ (fields f (of_flight f a) u r.status after.status (exot_of g a f) old
-      ∙ ap (λ (x : Record). record (stepped x u (exot_of g a f)) { status = after.status }) told.1))
+      ∙ ap (λ (x : Flight). record (stepped x u (exot_of g a f)) { status = after.status }) told.1))
 
 -- a flight that no update touched is a fresh record after its FLT
 pub flight_of-fresh : (g : AirportRows) (a : List Update) (f : List ℕ) (p : ℕ) → of_flight f a ≡ [] → flight_of g (a ++ Flt f p ∷ []) f ≡ Some (fresh f p)

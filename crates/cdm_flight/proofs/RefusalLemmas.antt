@@ -7,7 +7,7 @@ use Rattle.cdm_flight.specs.declared.update.Update.{Update}
 use Rattle.cdm_flight.specs.declared.update.Update.TheVariants.{Rate, Close, Reopen, Clock}
 use Rattle.cdm_flight.specs.declared.word.RefusalWord.TheVariants.{Full}
 use Rattle.cdm_flight.specs.Reach.{flight_in, reach_of}
-use Rattle.cdm_flight.specs.Record.{Record}
+use Rattle.cdm_flight.specs.declared.flight.Flight.{Flight}
 use Rattle.cdm_flight.specs.Step.{is_fresh, step_refusal}
 use Rattle.cdm_flight.specs.Journal.{AirportRows, exot_of, flight_of}
 use Rattle.cdm_flight.specs.Accepted.{is_unknown, is_disordered, is_full, refusal_of}
@@ -21,7 +21,7 @@ ordered-flight g a (Reopen r from to) f e = cc
 ordered-flight g a _ f e = refl
 
 -- the words on an update of a flight that is known
-pub refusal_of-flight : (g : AirportRows) (a : List Update) (u : Update) (f : List ℕ) (r : Record)
+pub refusal_of-flight : (g : AirportRows) (a : List Update) (u : Update) (f : List ℕ) (r : Flight)
     → reach_of u ≡ reach.Flight f → is_fresh u ≡ false → is_unknown g a u ≡ false → flight_of g a f ≡ Some r
     → refusal_of g a u ≡ option_or (step_refusal r.status r.runway u (exot_of g a f)) (if is_full g a u then Some Full else None)
 unfolding refusal_of

@@ -4,7 +4,8 @@ use Rattle.std.specs.Bool.{then_some}
 use Rattle.std.specs.Option.{option_and_then, option_eq, option_map, option_map_or, option_or}
 use Rattle.std.specs.List.{find, list_any, take_while}
 use Rattle.std.specs.FinMap as map
-use Rattle.cdm_time.specs.Windows.{Margins, usual_tolerance, window_has}
+use Rattle.cdm_time.specs.Windows.{window_has}
+use Rattle.cdm_time.specs.declared.tolerance.Tolerance.{Tolerance}
 use Rattle.cdm_time.specs.declared.calendar.CalendarDate.{CalendarDate}
 use Rattle.cdm_flight.specs.declared.airport.RunwayRow.{RunwayRow}
 use Rattle.cdm_flight.specs.declared.group.Group.{Group}
@@ -19,7 +20,7 @@ use Rattle.cdm_flight.specs.declared.update.Update.{Update}
 use Rattle.cdm_flight.specs.declared.update.Update.TheVariants.{Flt, Tobt, Stand, Rwy, Ctot, Ice as IceOf, Prio, Group as GroupOf, Off, Air, Cnl, Rate, Close, Reopen, Taxi, Clock, Tol}
 use Rattle.cdm_flight.specs.declared.values.DayValues.{DayValues}
 use Rattle.cdm_flight.specs.Names.{same_name}
-use Rattle.cdm_flight.specs.Record.{Record}
+use Rattle.cdm_flight.specs.declared.flight.Flight.{Flight}
 use Rattle.cdm_flight.specs.Reach.{reach_of, same_reach, touching}
 use Rattle.cdm_flight.specs.Step.{is_fresh}
 use Rattle.cdm_flight.specs.Taxi.{TaxiRows, stand_of_place, taxi_out}
@@ -106,7 +107,7 @@ abbrev pub clock_given : Update → Option ℕ
 clock_given (Clock m) = Some m
 clock_given _ = None
 
-abbrev pub tolerance_given : Update → Option Margins
+abbrev pub tolerance_given : Update → Option Tolerance
 tolerance_given (Tol t) = Some t
 tolerance_given _ = None
 
@@ -125,11 +126,11 @@ is_known a f = list_any is_fresh (of_flight f a)
 
 -- Last values of the day, of runways and of taxi times.
 
--- the clock: the last CLOCK, at first minute 0; the tolerance: the last TOL, at first the usual one
+-- the clock: the last CLOCK, at first minute 0; the tolerance: the last TOL, at first 5 minutes before and 10 after
 unfoldable pub values_of : List Update → DayValues
 values_of a = record {
   clock = unwrap_or (last_value clock_given (touching reach.Day a)) 0;
-  tolerance = unwrap_or (last_value tolerance_given (touching reach.Day a)) usual_tolerance;
+  tolerance = unwrap_or (last_value tolerance_given (touching reach.Day a)) (record { before = 5; after = 10 });
 }
 
 -- the capacity of a minute's cell: the last RATE of the runway whose window has the minute, else
@@ -154,13 +155,9 @@ exot_now g a f =
     let ice = unwrap_or (last_value ice_given own) NoIce in
     option_and_then (λ r. taxi_out (λ place. taxi_of g a place r) (last_value stand_given own) ice) (last_value runway_given own)
 
--- the journal up to just before the flight's OFF, or all of it
-abbrev pub before_off : List ℕ → List Update → List Update
-before_off f a = take_while (λ u. not (same_reach (reach_of u) (reach.Flight f) && is_some (aobt_given u))) a
-
--- the taxi-out time of the flight: OFF fixes it
+-- the taxi-out time of the flight: its OFF fixes it, and what comes before that in the journal says it
 unfoldable pub exot_of : AirportRows → List Update → List ℕ → Option ℕ
-exot_of g a f = exot_now g (before_off f a) f
+exot_of g a f = exot_now g (take_while (λ u. not (same_reach (reach_of u) (reach.Flight f) && is_some (aobt_given u))) a) f
 
 -- The flight's record.
 
@@ -179,7 +176,7 @@ status_of g a f =
     status_from (list_any is_cancel own) (last_value atot_given own) (last_value aobt_given own) (exot_of g a f) (is_known a f)
 
 -- all the last values of a flight among its updates
-abbrev pub record_with : List ℕ → List Update → Status → Record
+abbrev pub record_with : List ℕ → List Update → Status → Flight
 record_with f own status = record {
   name = f;
   priority = unwrap_or (last_value priority_given own) 0;
@@ -193,5 +190,5 @@ record_with f own status = record {
 }
 
 -- what the journal says of a flight, if it is known
-unfoldable pub flight_of : AirportRows → List Update → List ℕ → Option Record
+unfoldable pub flight_of : AirportRows → List Update → List ℕ → Option Flight
 flight_of g a f = option_map (record_with f (of_flight f a)) (status_of g a f)

@@ -1,25 +1,12 @@
--- What a contract sees of a flight.
+-- What contracts say of a flight's record.
 use Rattle.std.specs.Prelude.{ℕ, ◌+◌, Bool, true, false, ◌&&◌, nat_le, List, Option, None, is_some}
 use Rattle.std.specs.Option.{option_map}
-use Rattle.cdm_flight.specs.declared.group.Group.{Group}
 use Rattle.cdm_flight.specs.declared.group.Group.TheVariants.{Medium}
-use Rattle.cdm_flight.specs.declared.ice.Ice.{Ice}
 use Rattle.cdm_flight.specs.declared.ice.Ice.TheVariants.{NoIce}
+use Rattle.cdm_flight.specs.declared.flight.Flight.{Flight}
 use Rattle.cdm_flight.specs.declared.flight.Status.{Status}
 use Rattle.cdm_flight.specs.declared.flight.Status.TheVariants.{Planned, OffBlock, Airborne, Cancelled}
 use Rattle.cdm_flight.specs.declared.key.Key.{Key}
-
--- what is known of a flight
-pub record Record : Type 0 where
-  pub name : List ℕ
-  pub priority : ℕ
-  pub tobt : Option ℕ
-  pub stand : Option (List ℕ)
-  pub runway : Option (List ℕ)
-  pub ctot : Option ℕ
-  pub ice : Ice
-  pub group : Group
-  pub status : Status
 
 -- off-block or airborne it has a runway, it takes off within the horizon, and not before it left
 abbrev pub is_sound : Option (List ℕ) → Status → Bool
@@ -29,7 +16,7 @@ is_sound runway (Airborne aobt atot) = is_some runway && nat_le aobt atot
 is_sound runway Cancelled = true
 
 -- a planned flight of which nothing is known but its name and priority
-abbrev pub fresh : List ℕ → ℕ → Record
+abbrev pub fresh : List ℕ → ℕ → Flight
 fresh name priority = record {
   name = name;
   priority = priority;
@@ -48,5 +35,5 @@ is_planned Planned = true
 is_planned _ = false
 
 -- what the order of sequence compares, if the flight has a TOBT
-abbrev pub key_of : Record → Option Key
+abbrev pub key_of : Flight → Option Key
 key_of f = option_map (λ tobt. record { priority = f.priority; tobt = tobt; name = f.name }) f.tobt

@@ -6,7 +6,7 @@ use Rattle.cdm_flight.specs.declared.update.Update.{Update}
 use Rattle.cdm_flight.specs.declared.update.Update.TheVariants.{Flt, Tobt, Stand, Rwy, Ctot, Ice, Prio, Group, Off, Air, Cnl}
 use Rattle.cdm_flight.specs.declared.word.RefusalWord.{RefusalWord}
 use Rattle.cdm_flight.specs.declared.word.RefusalWord.TheVariants.{Ended, OffBlock as OffBlockWord, Order, NotReady}
-use Rattle.cdm_flight.specs.Record.{Record}
+use Rattle.cdm_flight.specs.declared.flight.Flight.{Flight}
 
 -- it makes a flight known
 abbrev pub is_fresh : Update → Bool
@@ -35,7 +35,7 @@ airborne_at (OffBlock aobt exot) atot = Airborne aobt atot
 airborne_at status atot = status
 
 -- the record with the update's value
-abbrev pub stepped : Record → Update → Option ℕ → Record
+abbrev pub stepped : Flight → Update → Option ℕ → Flight
 stepped r (Tobt f t) exot = record r { tobt = Some t }
 stepped r (Stand f s) exot = record r { stand = Some s }
 stepped r (Rwy f runway) exot = record r { runway = Some runway }
@@ -48,9 +48,9 @@ stepped r (Air f atot) exot = record r { status = airborne_at r.status atot }
 stepped r (Cnl f) exot = record r { status = Cancelled }
 stepped r _ exot = r
 
-abbrev pub or_refused : Record → Option RefusalWord → Result Record RefusalWord
+abbrev pub or_refused : Flight → Option RefusalWord → Result Flight RefusalWord
 or_refused r None = Ok r
 or_refused r (Some word) = Err word
 
-abbrev pub step_of : Record → Update → Option ℕ → Result Record RefusalWord
+abbrev pub step_of : Flight → Update → Option ℕ → Result Flight RefusalWord
 step_of r u exot = or_refused (stepped r u exot) (step_refusal r.status r.runway u exot)

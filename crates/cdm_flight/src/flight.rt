@@ -39,36 +39,18 @@ pub struct Flight {
 }
 
 impl Model for Flight {
+    ghost use Rattle.cdm_flight.specs.declared.flight.Flight.TheInside as inside;
+
+    ghost Value = { inside.Inside };
+
     ghost use Rattle.std.specs.Prelude.{IsTrue};
-    ghost use Rattle.cdm_flight.specs.Record.{Record, is_sound};
+    ghost use Rattle.cdm_flight.specs.Record.{is_sound};
 
-    ghost Value = { Record };
-
-    ghost view = { λ f. record {
-      name = f.name;
-      priority = f.priority;
-      tobt = f.tobt;
-      stand = f.stand;
-      runway = f.runway;
-      ctot = f.ctot;
-      ice = f.ice;
-      group = f.group;
-      status = f.status;
-    } };
+    ghost view = { λ f. f };
 
     ghost invariant = { λ f. IsTrue (is_sound f.runway f.status) };
 
-    ghost inverse = { λ f. record {
-      name = f.name;
-      priority = f.priority;
-      tobt = f.tobt;
-      stand = f.stand;
-      runway = f.runway;
-      ctot = f.ctot;
-      ice = f.ice;
-      group = f.group;
-      status = f.status;
-    } };
+    ghost inverse = { λ f. f };
 }
 
 impl Flight {

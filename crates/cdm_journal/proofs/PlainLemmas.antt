@@ -9,9 +9,9 @@ use Rattle.std.proofs.lemmas.List.{drop_all, drop-drop, take-append-drop}
 use Rattle.std.proofs.lemmas.List.Folds.{list_all-append, list_any-append}
 use Rattle.std.proofs.lemmas.Slice.Eq.{bytes_eq-Decides}
 use Rattle.csv.specs.Records.{field_at}
-use Rattle.cdm_time.specs.Dates.{date_in, has_date_form, is_date, is_date_text}
+use Rattle.cdm_time.specs.Dates.{date_in, is_date, is_date_text}
 use Rattle.cdm_time.specs.Digits.{are_digits}
-use Rattle.cdm_time.specs.Times.{has_time_form, hour_in, is_time_text, minute_in, minute_up_to}
+use Rattle.cdm_time.specs.Times.{hour_in, is_time_text, minute_in, minute_up_to}
 use Rattle.cdm_time.specs.declared.calendar.CalendarDate.{CalendarDate}
 use Rattle.cdm_time.specs.declared.day.TimeFault.{TimeFault}
 use Rattle.cdm_flight.specs.Names.{is_letter_or_digit, is_name}
@@ -65,19 +65,20 @@ nothing-behind n text is =
 
 -- Days and times.
 
-four : (a b c d : Bool) → (a && b && c && d) ≡ true → (a ≡ true) × (b ≡ true) × (c ≡ true) × (d ≡ true)
-four a b c d is = grind arith
+seven : (a b c d e f g : Bool) → (a && b && c && d && e && f && g) ≡ true
+    → (a ≡ true) × (b ≡ true) × (c ≡ true) × (d ≡ true) × (e ≡ true) × (f ≡ true) × (g ≡ true)
+seven a b c d e f g is = grind arith
 
-six : (a b c d e f : Bool) → (a && b && c && d && e && f) ≡ true → (a ≡ true) × (b ≡ true) × (c ≡ true) × (d ≡ true) × (e ≡ true) × (f ≡ true)
-six a b c d e f is = grind arith
+nine : (a b c d e f g h i : Bool) → (a && b && c && d && e && f && g && h && i) ≡ true
+    → (a ≡ true) × (b ≡ true) × (c ≡ true) × (d ≡ true) × (e ≡ true) × (f ≡ true) × (g ≡ true) × (h ≡ true) × (i ≡ true)
+nine a b c d e f g h i is = grind arith
 
 -- YYYY-MM-DD
 date-text : (text : List ℕ) → is_date_text text ≡ true → Unmarked text
 unfolding is_date_text
 date-text text is =
-    let form = (and_parts (has_date_form text) (is_date (date_in text)) is).0 in
-    let parts = six (length text == 10) (are_digits (slice_range text 0 4)) (slice_index text 4 == 45) (are_digits (slice_range text 5 7))
-    (slice_index text 7 == 45) (are_digits (slice_range text 8 10)) form in
+    let parts = seven (length text == 10) (are_digits (slice_range text 0 4)) (slice_index text 4 == 45) (are_digits (slice_range text 5 7))
+    (slice_index text 7 == 45) (are_digits (slice_range text 8 10)) (is_date (date_in text)) is in
     slice 0 4 text (omega arith) (digits _ parts.1)
     (byte-at 4 text 45 parts.2 refl
     (slice 5 7 text (omega arith) (digits _ parts.3)
@@ -89,10 +90,10 @@ date-text text is =
 time-text : (text : List ℕ) → is_time_text text ≡ true → Unmarked text
 unfolding is_time_text
 time-text text is =
-    let whole = four (has_time_form text) (is_date_text (slice_range text 0 10)) (nat_lt (hour_in text) 24) (nat_lt (minute_in text) 60) is in
-    let parts = six (length text == 17) (slice_index text 10 == 84) (are_digits (slice_range text 11 13)) (slice_index text 13 == 58)
-    (are_digits (slice_range text 14 16)) (slice_index text 16 == 90) whole.0 in
-    slice 0 10 text (omega arith) (date-text _ whole.1)
+    let parts = nine (length text == 17) (slice_index text 10 == 84) (are_digits (slice_range text 11 13)) (slice_index text 13 == 58)
+    (are_digits (slice_range text 14 16)) (slice_index text 16 == 90) (is_date_text (slice_range text 0 10)) (nat_lt (hour_in text) 24)
+    (nat_lt (minute_in text) 60) is in
+    slice 0 10 text (omega arith) (date-text _ parts.6)
     (byte-at 10 text 84 parts.1 refl
     (slice 11 13 text (omega arith) (digits _ parts.2)
     (byte-at 13 text 58 parts.3 refl

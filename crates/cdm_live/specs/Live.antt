@@ -8,7 +8,7 @@ use Rattle.cdm_flight.specs.Journal.{AirportRows}
 use Rattle.cdm_flight.specs.declared.role.Role.{Role}
 use Rattle.cdm_flight.specs.declared.update.Update.{Update}
 use Rattle.cdm_flight.specs.declared.word.RefusalWord.{RefusalWord}
-use Rattle.cdm_sequence.specs.Slots.{PlanRecord}
+use Rattle.cdm_sequence.specs.declared.plan.Plan.{Plan}
 use Rattle.cdm_report.specs.Report.{line_end, refused_line, report_bytes}
 use Rattle.cdm_plan.specs.DayPlan.{IsDayPlan}
 use Rattle.cdm_day.specs.declared.reply.Reply.{Reply}
@@ -77,7 +77,7 @@ text_at feed desk h = desk_text desk (batch_count (length (updates_in feed))) (r
 -- the text is the report of the day after the history, without refused records, and then what is told
 -- of desk 1 and of desk 2
 pub record IsTextOf (g : AirportRows) (feed1 feed2 : List Spelled) (h : List (ℕ × Call)) (text : List ℕ) : Type 0 where
-  pub plan : PlanRecord
+  pub plan : Plan
   pub of_day : IsDayPlan (day_of g (journal_of g [] h)) plan
   pub bytes : text ≡ report_bytes g.day plan [] ++ text_at feed1 1 h ++ text_at feed2 2 h
 

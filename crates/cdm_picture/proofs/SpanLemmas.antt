@@ -6,7 +6,9 @@ use Rattle.std.proofs.lemmas.List.Elements.{All-push, All-weaker}
 use Rattle.cdm_plan.proofs.NameLemmas.{all_taken, take-next}
 use Rattle.cdm_scenario.specs.declared.outcome.Outcome.{Outcome}
 use Rattle.cdm_scenario.specs.declared.outcome.Outcome.TheVariants.{Planned, Refused}
-use Rattle.cdm_sequence.specs.Slots.{PlanRecord, RunwayPlanRecord, SlotRecord}
+use Rattle.cdm_sequence.specs.declared.plan.Plan.{Plan}
+use Rattle.cdm_sequence.specs.declared.plan.RunwayPlan.{RunwayPlan}
+use Rattle.cdm_sequence.specs.declared.slot.Slot.{Slot}
 use Rattle.cdm_picture.specs.Places.{HaveTakeOffs, IsWithin}
 use Rattle.cdm_picture.specs.declared.hours.Hours.{Hours}
 use Rattle.cdm_picture.specs.declared.spans.Span.{Span}
@@ -24,13 +26,13 @@ pub all_of : {X : Type 0} (P : X → Type 0) (xs : List X) (k : ℕ) → length 
 all_of P xs k long all = subst (All P) (all_taken xs k long) all
 
 module _ (span longer : Span) (keeps : Keeps span longer) where
-  pub slot_kept : (s : SlotRecord) → Has span s.ttot → Has longer s.ttot
+  pub slot_kept : (s : Slot) → Has span s.ttot → Has longer s.ttot
   slot_kept s = keeps s.ttot
 
-  pub slots_kept : (p : RunwayPlanRecord) → HasSlots span p.slots → HasSlots longer p.slots
+  pub slots_kept : (p : RunwayPlan) → HasSlots span p.slots → HasSlots longer p.slots
   slots_kept p = All-weaker (λ s. Has span s.ttot) (λ s. Has longer s.ttot) slot_kept p.slots
 
-  pub plan_kept : (plan : PlanRecord) → HasPlan span plan → HasPlan longer plan
+  pub plan_kept : (plan : Plan) → HasPlan span plan → HasPlan longer plan
   plan_kept plan = All-weaker (λ p. HasSlots span p.slots) (λ p. HasSlots longer p.slots) slots_kept plan.runways
 
   pub outcome_kept : (o : Outcome) → HasOutcome span o → HasOutcome longer o
@@ -38,10 +40,10 @@ module _ (span longer : Span) (keeps : Keeps span longer) where
   outcome_kept (Refused number word) h = h
 
 module _ (span : Span) (hours : Hours) (within : (minute : ℕ) → Has span minute → IsWithin hours minute) where
-  slots_within : (p : RunwayPlanRecord) → HasSlots span p.slots → All (λ s. IsWithin hours s.ttot) p.slots
+  slots_within : (p : RunwayPlan) → HasSlots span p.slots → All (λ s. IsWithin hours s.ttot) p.slots
   slots_within p = All-weaker (λ s. Has span s.ttot) (λ s. IsWithin hours s.ttot) (λ s. within s.ttot) p.slots
 
-  pub plan_within : (plan : PlanRecord) → HasPlan span plan → HaveTakeOffs hours plan
+  pub plan_within : (plan : Plan) → HasPlan span plan → HaveTakeOffs hours plan
   plan_within plan = All-weaker (λ p. HasSlots span p.slots) (λ p. All (λ s. IsWithin hours s.ttot) p.slots) slots_within plan.runways
 
   pub outcome_within : (o : Outcome) → HasOutcome span o → HaveOutcome hours o

@@ -3,7 +3,7 @@ use Rattle.std.specs.Prelude.{◌≡◌, ℕ, List, ◌∷◌, Ok}
 use Rattle.std.specs.List.{AllZip}
 use Rattle.cdm_flight.specs.Journal.{AirportRows}
 use Rattle.cdm_report.specs.Report.{day_line}
-use Rattle.cdm_sequence.specs.Slots.{PlanRecord}
+use Rattle.cdm_sequence.specs.declared.plan.Plan.{Plan}
 use Rattle.cdm_plan.specs.Day.{DayRecord}
 use Rattle.cdm_plan.specs.DayPlan.{IsDayPlan}
 use Rattle.cdm_scenario.specs.Outcome.{IsOutcome}
@@ -30,7 +30,7 @@ IsScenarioDrawn d hours s section = (o : Outcome) × IsOutcome d s.updates o × 
 
 -- the text is SVG of the day itself, and of each scenario beneath it, over the same hours
 pub record IsPicture (d : DayRecord) (scenarios : List ScenarioRecord) (text : List ℕ) : Type 0 where
-  pub plan : PlanRecord
+  pub plan : Plan
   pub of_day : IsDayPlan d plan
   pub hours : Hours
   pub own : Section

@@ -4,7 +4,7 @@ use Rattle.std.specs.Fmt.{decimal}
 use Rattle.std.specs.List.{concat}
 use Rattle.cdm_flight.specs.Words.{text_of}
 use Rattle.cdm_flight.specs.declared.word.RefusalWord.{RefusalWord}
-use Rattle.cdm_sequence.specs.Slots.{PlanRecord}
+use Rattle.cdm_sequence.specs.declared.plan.Plan.{Plan}
 use Rattle.cdm_picture.specs.Places.{HaveTakeOffs, Place, plan_places}
 use Rattle.cdm_picture.specs.declared.hours.Hours.{Hours}
 use Rattle.cdm_picture.specs.declared.marks.FlightMark.{FlightMark}
@@ -25,7 +25,7 @@ place_of m = record { runway = m.runway; slot = m.slot; x = m.x }
 
 -- the hours have each take-off of the plan, each slot of it has one mark, at the place of its TTOT, and each blocked
 -- flight one line, with its rule
-pub record ShowsPlan (hours : Hours) (plan : PlanRecord) (s : Section) : Type 0 where
+pub record ShowsPlan (hours : Hours) (plan : Plan) (s : Section) : Type 0 where
   pub within : HaveTakeOffs hours plan
   pub flights : map place_of s.flights.items ≡ plan_places hours plan
   pub blocked : map (λ m. m.flight) s.blocked.items ≡ plan.blocked

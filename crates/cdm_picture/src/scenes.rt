@@ -148,7 +148,7 @@ pub(crate) fn picture<R: Threads + Sync, G: Gate>(
         hours,
         before: None,
     };
-    let heading = Words::day(alloc, day, plan.now)?;
+    let heading = Words::day(alloc, day, plan.clock)?;
     let own = plan_section(alloc, &page, base, plan, heading, LEGEND)?;
     let before = Standings::of(alloc, base, plan)?;
     let page = Page {

@@ -270,7 +270,7 @@ pub(crate) fn plan_section<R: Records>(
     let top = y.saturating_add(HEAD);
     let end = push_runways(alloc, page, records, plan, &mut shapes, &mut flights, top)?;
     let bottom = end.saturating_sub(GAP);
-    push_now(alloc, &mut shapes, page.hours, plan.now, top, bottom)?;
+    push_now(alloc, &mut shapes, page.hours, plan.clock, top, bottom)?;
     let counts = Words::counts(alloc, &indicators(plan))?;
     shapes.push(Shape::label(Paint::Plain, 100, y.saturating_add(36), counts))?;
     let listed = end.saturating_add(14);

@@ -3,14 +3,14 @@ use Rattle.std.proofs.Common.{◌≡◌, ℕ, Bool, true, false, not, List, ◌+
 use Rattle.std.proofs.lemmas.Bool.{not-true}
 use Rattle.cdm_plan.proofs.ListWords.{option_map_or, filter_map, filter_map-append, filter_map-filter, if_so}
 use Rattle.cdm_plan.proofs.ListWords.{IsPermutation, IsPermutation-filter_both, IsPermutation-filter_map, false_from_ne_true, false≢true}
-use Rattle.cdm_plan.proofs.PlanWords.{DayValues, Record, TaxiTimes}
+use Rattle.cdm_plan.proofs.PlanWords.{DayValues, Flight, TaxiTimes}
 use Rattle.cdm_plan.proofs.PlanWords.{asked_of, is_on, is_touched, is_untouched, kept_of, targets_on}
 use Rattle.cdm_plan.specs.declared.touched.Touched.{Touched}
 use Rattle.cdm_plan.proofs.JournalFacts.{some_named}
 use Rattle.cdm_plan.proofs.PlanningLemmas.{blocked_early, early-given, early_at, no_target_at, target_at, targets_of, targets_on-given}
 
 -- the runway of a flight whose runway was not touched
-pub untouched_runway : (t : Touched) (f : Record) → is_untouched t f ≡ true → (r : List ℕ) × (f.runway ≡ Some r) × (is_touched t r ≡ false)
+pub untouched_runway : (t : Touched) (f : Flight) → is_untouched t f ≡ true → (r : List ℕ) × (f.runway ≡ Some r) × (is_touched t r ≡ false)
 untouched_runway t f h = by f.runway h
   where
     by : (o : Option (List ℕ)) → option_map_or (λ r. not (is_touched t r)) o false ≡ true → (r : List ℕ) × (o ≡ Some r) × (is_touched t r ≡ false)
@@ -18,18 +18,18 @@ untouched_runway t f h = by f.runway h
     by (Some r) k = (r, refl, not-true (is_touched t r) k)
 
 -- a flight of a runway that was not touched
-pub untouched_on : (t : Touched) (f : Record) (r : List ℕ) → f.runway ≡ Some r → is_touched t r ≡ false → is_untouched t f ≡ true
+pub untouched_on : (t : Touched) (f : Flight) (r : List ℕ) → f.runway ≡ Some r → is_touched t r ≡ false → is_untouched t f ≡ true
 untouched_on t f r e h = ap (λ o. option_map_or (λ s. not (is_touched t s)) o false) e ∙ ap not h
 
 -- the targets of a touched runway are those of the flights that are asked
-pub targets-asked : (t : Touched) (r : List ℕ) → is_touched t r ≡ true → (times : TaxiTimes) (values : DayValues) (fs : List Record)
+pub targets-asked : (t : Touched) (r : List ℕ) → is_touched t r ≡ true → (times : TaxiTimes) (values : DayValues) (fs : List Flight)
     → targets_on r (targets_of (asked_of t fs) times values) ≡ targets_on r (targets_of fs times values)
 targets-asked t r h times values fs =
     targets_on-given r times values (asked_of t fs)
     ∙ (filter_map-filter (target_at r times values) (λ f. not (is_untouched t f)) fs
     ∙ ((λ i. filter_map (λ f. all f i) fs) ∙ sym (targets_on-given r times values fs)))
   where
-    off : (f : Record) → is_untouched t f ≡ true → is_on r f ≡ false
+    off : (f : Flight) → is_untouched t f ≡ true → is_on r f ≡ false
     off f k =
         let at = untouched_runway t f k in
         false_from_ne_true (is_on r f) (λ on.
@@ -37,15 +37,15 @@ targets-asked t r h times values fs =
         let same : at.0 ≡ r = cc (at.1, own) in
         false≢true (sym at.2 ∙ (ap (is_touched t) same ∙ h)))
 
-    by : (f : Record) (b : Bool) → is_untouched t f ≡ b → if_so (not b) (target_at r times values f) ≡ target_at r times values f
+    by : (f : Flight) (b : Bool) → is_untouched t f ≡ b → if_so (not b) (target_at r times values f) ≡ target_at r times values f
     by f false k = refl
     by f true k = sym (no_target_at r times values f (off f k))
 
-    all : (f : Record) → if_so (not (is_untouched t f)) (target_at r times values f) ≡ target_at r times values f
+    all : (f : Flight) → if_so (not (is_untouched t f)) (target_at r times values f) ≡ target_at r times values f
     all f = by f (is_untouched t f) refl
 
 -- the flights that are blocked early are those that need not be asked, and others that are asked
-pub early-parted : (t : Touched) (times : TaxiTimes) (values : DayValues) (fs : List Record)
+pub early-parted : (t : Touched) (times : TaxiTimes) (values : DayValues) (fs : List Flight)
     → IsPermutation (blocked_early fs times values) (blocked_early (kept_of t fs) times values ++ blocked_early (asked_of t fs) times values)
 early-parted t times values fs =
     let h = early_at times values in

@@ -5,10 +5,10 @@ use Rattle.cdm_plan.proofs.ListWords.{is_some, option_map_or, if◌then◌else�
 use Rattle.cdm_plan.proofs.ListWords.{filter-append, filter_map-append, filter_map-filter, filter_map_same, Contains-permutation, IsPermutation, IsPermutation-filter}
 use Rattle.cdm_plan.proofs.ListWords.{IsPermutation-refl, IsPermutation-sym, All-head, All-tail, All-weaker, All-permutation}
 use Rattle.cdm_plan.proofs.ListWords.{contains_from_given, contains_from_map, contains_map, if_so, one_of_key}
-use Rattle.cdm_plan.proofs.PlanWords.{DayValues, RunwayRow, Place, Update, reach_of, same_name, same_reach, Record, is_planned, taxi_out, flight_of}
+use Rattle.cdm_plan.proofs.PlanWords.{DayValues, RunwayRow, Place, Update, reach_of, same_name, same_reach, Flight, is_planned, taxi_out, flight_of}
 use Rattle.cdm_plan.proofs.PlanWords.{values_of, values_of-untouched, taxi_of, taxi_of-untouched, flight_of-untouched}
-use Rattle.cdm_plan.proofs.PlanWords.{RunwayRules, TaxiTimes, SlotRecord, fixed_slot, takeoffs, IsAim, IsSequence, IsSequenceBy}
-use Rattle.cdm_plan.proofs.PlanWords.{PlanRecord, RunwayPlanRecord, TargetRecord, AimResult, BlockedFlight, aim_means, aim_of, aim_with, aim_with_exot}
+use Rattle.cdm_plan.proofs.PlanWords.{RunwayRules, TaxiTimes, Slot, fixed_slot, takeoffs, IsAim, IsSequence, IsSequenceBy}
+use Rattle.cdm_plan.proofs.PlanWords.{Plan, RunwayPlan, Target, AimResult, BlockedFlight, aim_means, aim_of, aim_with, aim_with_exot}
 use Rattle.cdm_plan.proofs.PlanWords.{is_same, same_flips, same_is, if_on, if_passes, DayRecord, flights_in, new_flight, rules_of, with_update, IsDayPlan}
 use Rattle.cdm_plan.proofs.PlanWords.{day_rules, records_in, is_on, blocked_in, early_in, planned_of, target_in, targets_in, targets_on, fixed_on, Adds, AreAims}
 use Rattle.cdm_plan.proofs.PlanWords.{AreKept, IsMade, IsPlanOn, IsSince, fixed_in, is_early, is_kept_blocked, is_noted, is_touched, is_untouched}
@@ -51,15 +51,15 @@ fresh_is (Flt g p) f e = let same : g ≡ f = cc in ap reach.Flight same
 fresh_is _ f e = cc
 
 -- the flights that pass have runways that are not of what is touched
-abbrev IsOff : DayRecord → Reach → (Record → Bool) → Type 0
-IsOff d what test = (f : Record) → test f ≡ true → (r : List ℕ) × (f.runway ≡ Some r) × (is_noted d what r ≡ false)
+abbrev IsOff : DayRecord → Reach → (Flight → Bool) → Type 0
+IsOff d what test = (f : Flight) → test f ≡ true → (r : List ℕ) × (f.runway ≡ Some r) × (is_noted d what r ≡ false)
 
 -- so the flight that is touched does not pass
-none_passes : (d : DayRecord) (what : Reach) (k : List ℕ) (test : Record → Bool) → IsOff d what test → what ≡ reach.Flight k
+none_passes : (d : DayRecord) (what : Reach) (k : List ℕ) (test : Flight → Bool) → IsOff d what test → what ≡ reach.Flight k
     → if_passes test (flight_of d.airport d.journal k) ≡ None
 none_passes d what k test off e = by (flight_of d.airport d.journal k) refl
   where
-    passes : (f : Record) → flight_of d.airport d.journal k ≡ Some f → (b : Bool) → test f ≡ b → (if b then Some f else None) ≡ None
+    passes : (f : Flight) → flight_of d.airport d.journal k ≡ Some f → (b : Bool) → test f ≡ b → (if b then Some f else None) ≡ None
     passes f h false p = refl
     passes f h true p =
         let at = off f p in
@@ -68,11 +68,11 @@ none_passes d what k test off e = by (flight_of d.airport d.journal k) refl
         ∙ (ap (λ o. option_map_or (λ s. same_name s at.0) o false) at.1 ∙ is_same at.0 at.0 refl)) in
         absurd (true≢false (sym noted ∙ at.2))
 
-    by : (o : Option Record) → flight_of d.airport d.journal k ≡ o → if_passes test o ≡ None
+    by : (o : Option Flight) → flight_of d.airport d.journal k ≡ o → if_passes test o ≡ None
     by None h = refl
     by (Some f) h = passes f h (test f) refl
 
-module _ (d : DayRecord) (u : Update) (test : Record → Bool) (before : IsOff d (reach_of u) test) (after : IsOff (with_update d u) (reach_of u) test) where
+module _ (d : DayRecord) (u : Update) (test : Flight → Bool) (before : IsOff d (reach_of u) test) (after : IsOff (with_update d u) (reach_of u) test) where
   -- the flights that pass are the same after the update
   flight_same : (k : List ℕ) → if_passes test (flight_of d.airport d.journal k) ≡ if_passes test (flight_of d.airport (d.journal ++ u ∷ []) k)
   flight_same k = by (same_reach (reach_of u) (reach.Flight k)) refl
@@ -86,7 +86,7 @@ module _ (d : DayRecord) (u : Update) (test : Record → Bool) (before : IsOff d
 
   flights_same : filter test (records_in d.airport d.journal) ≡ filter test (records_in d.airport (d.journal ++ u ∷ []))
   flights_same =
-      let later : List ℕ → Option Record = λ k. if_passes test (flight_of d.airport (d.journal ++ u ∷ []) k) in
+      let later : List ℕ → Option Flight = λ k. if_passes test (flight_of d.airport (d.journal ++ u ∷ []) k) in
       let old = flights_in d.journal in
       filter-filter_map test (flight_of d.airport d.journal) old
       ∙ ((λ i. filter_map (λ k. flight_same k i) old)
@@ -97,7 +97,7 @@ module _ (d : DayRecord) (u : Update) (test : Record → Bool) (before : IsOff d
     where
       new : (o : Option (List ℕ)) → new_flight u ≡ o → filter_map (λ k. if_passes test (flight_of d.airport (d.journal ++ u ∷ []) k)) (cons_option o []) ≡ []
       new None e = refl
-      new (Some f) e = ap (λ (x : Option Record). cons_option x []) (none_passes (with_update d u) (reach_of u) f test after (fresh_is u f e))
+      new (Some f) e = ap (λ (x : Option Flight). cons_option x []) (none_passes (with_update d u) (reach_of u) f test after (fresh_is u f e))
 
 -- since the first day, after one more update
 pub since_taken : (first d next : DayRecord) (s m t : Touched) (u : Update) → next ≡ with_update d u → Adds s (is_noted d (reach_of u)) m
@@ -106,11 +106,11 @@ since_taken first d next s m t u is more later since =
     let what = reach_of u in
     let further : Adds m (is_noted (with_update d u) what) t = subst (λ (x : DayRecord). Adds m (is_noted x what) t) is later in
     let earlier : (r : List ℕ) → is_touched t r ≡ false → (is_touched s r ≡ false) × (is_noted d what r ≡ false) = λ r h. more r (further r h).0 in
-    let standing : (f : Record) → is_untouched t f ≡ true → is_untouched s f ≡ true = λ f h.
+    let standing : (f : Flight) → is_untouched t f ≡ true → is_untouched s f ≡ true = λ f h.
     let at = untouched_runway t f h in untouched_on s f at.0 at.1 (earlier at.0 at.2).0 in
-    let off : (f : Record) → is_untouched t f ≡ true → (r : List ℕ) × (f.runway ≡ Some r) × (is_noted d what r ≡ false) = λ f h.
+    let off : (f : Flight) → is_untouched t f ≡ true → (r : List ℕ) × (f.runway ≡ Some r) × (is_noted d what r ≡ false) = λ f h.
     let at = untouched_runway t f h in (at.0, at.1, (earlier at.0 at.2).1) in
-    let still_off : (f : Record) → is_untouched t f ≡ true → (r : List ℕ) × (f.runway ≡ Some r) × (is_noted (with_update d u) what r ≡ false) = λ f h.
+    let still_off : (f : Flight) → is_untouched t f ≡ true → (r : List ℕ) × (f.runway ≡ Some r) × (is_noted (with_update d u) what r ≡ false) = λ f h.
     let at = untouched_runway t f h in (at.0, at.1, (further at.0 at.2).1) in
     subst (IsSince first t) (sym is) (record {
       airport = since.airport;
@@ -139,7 +139,7 @@ since_itself d t = record {
 -- What stands of the first day's plan.
 
 -- a flight's aim depends on the taxi times to its own runway alone
-same_aim : (f : Record) (r : List ℕ) → f.runway ≡ Some r → (s t : TaxiTimes) (values : DayValues) → ((place : Place) → s place r ≡ t place r)
+same_aim : (f : Flight) (r : List ℕ) → f.runway ≡ Some r → (s t : TaxiTimes) (values : DayValues) → ((place : Place) → s place r ≡ t place r)
     → aim_of f s values ≡ aim_of f t values
 unfolding aim_of
 same_aim f r e s t values same = ap (aim_with f s values f.tobt) e ∙ (go f.tobt ∙ sym (ap (aim_with f t values f.tobt) e))
@@ -149,21 +149,21 @@ same_aim f r e s t values same = ap (aim_with f s values f.tobt) e ∙ (go f.tob
     go (Some tobt) = λ i. aim_with_exot f values tobt r (taxi_out (λ place. same place i) f.stand f.ice)
 
 -- the targets of a runway are those of its own flights
-targets_on-own : (r : List ℕ) (times : TaxiTimes) (values : DayValues) (fs : List Record)
+targets_on-own : (r : List ℕ) (times : TaxiTimes) (values : DayValues) (fs : List Flight)
     → targets_on r (targets_of fs times values) ≡ filter_map (target_at r times values) (filter (is_on r) fs)
 targets_on-own r times values fs =
     targets_on-given r times values fs
     ∙ ((λ i. filter_map (λ f. own f (is_on r f) refl i) fs) ∙ sym (filter_map-filter (target_at r times values) (is_on r) fs))
   where
-    own : (f : Record) (b : Bool) → is_on r f ≡ b → target_at r times values f ≡ if_so b (target_at r times values f)
+    own : (f : Flight) (b : Bool) → is_on r f ≡ b → target_at r times values f ≡ if_so b (target_at r times values f)
     own f true e = refl
     own f false e = no_target_at r times values f e
 
 -- what is blocked early has its flight's name, and an early rule
-abbrev IsEarlyOf : Record → BlockedFlight → Type 0
+abbrev IsEarlyOf : Flight → BlockedFlight → Type 0
 IsEarlyOf f b = (b.name ≡ f.name) × (is_early b.rule ≡ true)
 
-early_of : (times : TaxiTimes) (values : DayValues) (f : Record) → IfSome (early_at times values f) (IsEarlyOf f)
+early_of : (times : TaxiTimes) (values : DayValues) (f : Flight) → IfSome (early_at times values f) (IsEarlyOf f)
 early_of times values f = if_so-keeps (IsEarlyOf f) (is_planned f.status) (blocked_in f.name (aim_of f times values)) (by (aim_of f times values) (aim_means f times values))
   where
     by : (a : AimResult) → IsAim f times values a → IfSome (blocked_in f.name a) (IsEarlyOf f)
@@ -176,7 +176,7 @@ early_of times values f = if_so-keeps (IsEarlyOf f) (is_planned f.status) (block
     by (Early _) is = absurd is
 
 -- the runway's traffic blocks by other rules
-late_rule : (r : RunwayRules) (taken : List Taken) (f : TargetRecord) (rule : Rule) → Blocks r taken f rule → is_early rule ≡ false
+late_rule : (r : RunwayRules) (taken : List Taken) (f : Target) (rule : Rule) → Blocks r taken f rule → is_early rule ≡ false
 late_rule r taken f Closure h = refl
 late_rule r taken f Spacing h = refl
 late_rule r taken f Rate h = refl
@@ -185,19 +185,19 @@ late_rule r taken f _ h = absurd h
 abbrev IsLate : BlockedFlight → Type 0
 IsLate b = is_early b.rule ≡ false
 
-abbrev AreLate : RunwayPlanRecord → Type 0
+abbrev AreLate : RunwayPlan → Type 0
 AreLate p = All IsLate p.blocked
 
-late_plan : (placing : Placing) (r : RunwayRules) (fixed : List SlotRecord) (targets : List TargetRecord) (p : RunwayPlanRecord)
+late_plan : (placing : Placing) (r : RunwayRules) (fixed : List Slot) (targets : List Target) (p : RunwayPlan)
     → IsSequenceBy placing r fixed targets p → AreLate p
 late_plan placing r fixed targets p h = All-weaker (IsRightlyBlocked r (takeoffs r fixed) targets placing) IsLate
     (λ b w. late_rule r (taken_before r (takeoffs r fixed) targets placing w.0) w.0 b.rule w.3) p.blocked h.rules
 
 module _ (first d : DayRecord) (t : Touched) (since : IsSince first t d) where
-  abbrev flights_first : List Record
+  abbrev flights_first : List Flight
   flights_first = records_in first.airport first.journal
 
-  abbrev flights_now : List Record
+  abbrev flights_now : List Flight
   flights_now = records_in d.airport d.journal
 
   abbrev times_first : TaxiTimes
@@ -212,11 +212,11 @@ module _ (first d : DayRecord) (t : Touched) (since : IsSince first t d) where
   abbrev values_now : DayValues
   values_now = values_of d.journal
 
-  aim_stands : (f : Record) (r : List ℕ) → f.runway ≡ Some r → is_touched t r ≡ false → aim_of f times_first values_first ≡ aim_of f times_now values_now
+  aim_stands : (f : Flight) (r : List ℕ) → f.runway ≡ Some r → is_touched t r ≡ false → aim_of f times_first values_first ≡ aim_of f times_now values_now
   aim_stands f r e h = same_aim f r e times_first times_now values_first (since.taxi r h) ∙ ap (aim_of f times_now) (since.values r h)
 
   -- a runway that was not touched keeps its sequence
-  still_planned : (row : RunwayRow) (p : RunwayPlanRecord) → is_touched t row.name ≡ false → IsPlanOn first (rules_of first.airport first.journal row) p
+  still_planned : (row : RunwayRow) (p : RunwayPlan) → is_touched t row.name ≡ false → IsPlanOn first (rules_of first.airport first.journal row) p
       → IsPlanOn d (rules_of d.airport d.journal row) p
   unfolding rules_of fixed_on
   still_planned row p h old =
@@ -227,11 +227,11 @@ module _ (first d : DayRecord) (t : Touched) (since : IsSince first t d) where
       let targets : targets_at first r ≡ targets_at d r =
       targets_on-own r times_first values_first flights_first
       ∙ ((λ i. filter_map (λ f. target_same r h f i) (its i)) ∙ sym (targets_on-own r times_now values_now flights_now)) in
-      let old_targets = subst (λ (xs : List SlotRecord). IsSequence x xs (targets_at first r) p) fixed (has_sequence first x p old) in
-      let there = subst (λ (ts : List TargetRecord). IsSequence x (fixed_in d r) ts p) targets old_targets in
+      let old_targets = subst (λ (xs : List Slot). IsSequence x xs (targets_at first r) p) fixed (has_sequence first x p old) in
+      let there = subst (λ (ts : List Target). IsSequence x (fixed_in d r) ts p) targets old_targets in
       subst (λ (y : RunwayRules). IsPlanOn d y p) (since.rules row h) (is_plan_on d x p there)
     where
-      target_same : (r : List ℕ) → is_touched t r ≡ false → (f : Record) → target_at r times_first values_first f ≡ target_at r times_now values_now f
+      target_same : (r : List ℕ) → is_touched t r ≡ false → (f : Flight) → target_at r times_first values_first f ≡ target_at r times_now values_now f
       target_same r h f = by (is_on r f) refl
         where
           by : (b : Bool) → is_on r f ≡ b → target_at r times_first values_first f ≡ target_at r times_now values_now f
@@ -249,7 +249,7 @@ module _ (first d : DayRecord) (t : Touched) (since : IsSince first t d) where
       ∙ (sym (filter_map-filter (early_at times_now values_now) (is_untouched t) flights_first)
       ∙ (ap (filter_map (early_at times_now values_now)) (since.flights (is_untouched t) (λ f h. h)) ∙ sym (early-given times_now values_now (kept_of t flights_now))))))
     where
-      passes : (o : Option Record) → option_map_or (is_untouched t) o false ≡ is_some (if_passes (is_untouched t) o)
+      passes : (o : Option Flight) → option_map_or (is_untouched t) o false ≡ is_some (if_passes (is_untouched t) o)
       passes None = refl
       passes (Some f) = by (is_untouched t f)
         where
@@ -258,7 +258,7 @@ module _ (first d : DayRecord) (t : Touched) (since : IsSince first t d) where
           by false = refl
 
       -- it is kept now as it was
-      found : (f : Record) → Contains flights_first f → option_map_or (is_untouched t) (flight_of d.airport d.journal f.name) false ≡ is_untouched t f
+      found : (f : Flight) → Contains flights_first f → option_map_or (is_untouched t) (flight_of d.airport d.journal f.name) false ≡ is_untouched t f
       found f i =
           let from = contains_from_given (flight_of first.airport first.journal) (flights_in first.journal) f i in
           let k = from.0 in
@@ -266,21 +266,21 @@ module _ (first d : DayRecord) (t : Touched) (since : IsSince first t d) where
           ∙ (passes (flight_of d.airport d.journal k) ∙ (ap is_some (sym (since.flight (is_untouched t) (λ f h. h) k))
           ∙ (ap (λ o. is_some (if_passes (is_untouched t) o)) from.2 ∙ sym (passes (Some f)))))
 
-      out : (f : Record) → option_map_or (is_untouched t) (flight_of d.airport d.journal f.name) false ≡ false → (o : Option BlockedFlight)
+      out : (f : Flight) → option_map_or (is_untouched t) (flight_of d.airport d.journal f.name) false ≡ false → (o : Option BlockedFlight)
           → IfSome o (IsEarlyOf f) → if_passes (is_kept_blocked d t) o ≡ None
       out f now None h = refl
       out f now (Some b) h =
           let there = ap (λ n. option_map_or (is_untouched t) (flight_of d.airport d.journal n) false) h.0 ∙ now in
           ap (λ x. if x then Some b else None) (and_right (is_early b.rule) _ there)
 
-      stay : (f : Record) → option_map_or (is_untouched t) (flight_of d.airport d.journal f.name) false ≡ true → (o : Option BlockedFlight)
+      stay : (f : Flight) → option_map_or (is_untouched t) (flight_of d.airport d.journal f.name) false ≡ true → (o : Option BlockedFlight)
           → IfSome o (IsEarlyOf f) → if_passes (is_kept_blocked d t) o ≡ o
       stay f now None h = refl
       stay f now (Some b) h =
           let there = ap (λ n. option_map_or (is_untouched t) (flight_of d.airport d.journal n) false) h.0 ∙ now in
           ap (λ x. if x then Some b else None) (λ i. h.1 i && there i)
 
-      each : (f : Record) → option_map_or (is_untouched t) (flight_of d.airport d.journal f.name) false ≡ is_untouched t f → (b : Bool) → is_untouched t f ≡ b
+      each : (f : Flight) → option_map_or (is_untouched t) (flight_of d.airport d.journal f.name) false ≡ is_untouched t f → (b : Bool) → is_untouched t f ≡ b
           → if_passes (is_kept_blocked d t) (early_at times_first values_first f) ≡ if_so b (early_at times_now values_now f)
       each f now false e = out f (now ∙ e) (early_at times_first values_first f) (early_of times_first values_first f)
       each f now true e =
@@ -289,7 +289,7 @@ module _ (first d : DayRecord) (t : Touched) (since : IsSince first t d) where
           ∙ ap (λ a. if_so (is_planned f.status) (blocked_in f.name a)) (aim_stands f at.0 at.1 at.2)
 
   -- nor are others kept
-  none_late : (ps : List RunwayPlanRecord) → All AreLate ps → filter (is_kept_blocked d t) (flat_map (λ p. p.blocked) ps) ≡ []
+  none_late : (ps : List RunwayPlan) → All AreLate ps → filter (is_kept_blocked d t) (flat_map (λ p. p.blocked) ps) ≡ []
   none_late [] all = refl
   none_late (p ∷ ps) all =
       filter-append (is_kept_blocked d t) p.blocked (flat_map (λ p. p.blocked) ps)
@@ -313,7 +313,7 @@ module _ (first d : DayRecord) (t : Touched) (since : IsSince first t d) where
       let among : Contains first.airport.runways row = subst (λ g. Contains g.runways row) since.airport at.1 in
       (row, ap (λ (x : RunwayRules). x.name) at.2, contains_map (rules_of first.airport first.journal) first.airport.runways row among, at.2)
 
-  module _ (plan : PlanRecord) (made : IsMade first plan) where
+  module _ (plan : Plan) (made : IsMade first plan) where
     runway_stands : (r : RunwayRules) → Contains (day_rules d) r → kept_plan t plan.runways r.name ≡ None → is_touched t r.name ≡ true
     unfolding IsDayPlan rules_of
     runway_stands r i e = by (is_touched t r.name) e
@@ -325,17 +325,17 @@ module _ (first d : DayRecord) (t : Touched) (since : IsSince first t d) where
             let aims = made.of_day.1 in
             let day = made.of_day.2 in
             let row = its_row r i in
-            let R : RunwayRules → RunwayPlanRecord → Type 0 = λ x p. IsSequenceBy placing x (fixed_in first x.name) (targets_on x.name (targets_in aims)) p in
+            let R : RunwayRules → RunwayPlan → Type 0 = λ x p. IsSequenceBy placing x (fixed_in first x.name) (targets_on x.name (targets_in aims)) p in
             let named = made_named (fixed_in first) (λ n. targets_on n (targets_in aims)) (day_rules first) day.made
             (AllZip-weaker R (λ x p. IsSequence x (fixed_in first x.name) (targets_on x.name (targets_in aims)) p) (λ x p h. (placing, h)) (day_rules first) day.made day.sequences) in
             let name = contains_map (λ (x : RunwayRules). x.name) (day_rules first) (rules_of first.airport first.journal row.0) row.2 in
-            let at = contains_from_map (λ (p : RunwayPlanRecord). p.runway) day.made row.0.name
+            let at = contains_from_map (λ (p : RunwayPlan). p.runway) day.made row.0.name
             (subst (λ (ns : List (List ℕ)). Contains ns row.0.name) (sym named) name) in
             let there = Contains-permutation day.made plan.runways at.0 day.parts.runways at.1 in
             absurd (true≢false (sym (is_same at.0.runway r.name (at.2 ∙ row.1))
-            ∙ find_none (λ (p : RunwayPlanRecord). same_name p.runway r.name) plan.runways k at.0 there))
+            ∙ find_none (λ (p : RunwayPlan). same_name p.runway r.name) plan.runways k at.0 there))
 
-    plan_stands : (r : RunwayRules) (p : RunwayPlanRecord) → Contains (day_rules d) r → kept_plan t plan.runways r.name ≡ Some p → IsPlanOn d r p
+    plan_stands : (r : RunwayRules) (p : RunwayPlan) → Contains (day_rules d) r → kept_plan t plan.runways r.name ≡ Some p → IsPlanOn d r p
     unfolding IsDayPlan rules_of
     plan_stands r p i e = by (is_touched t r.name) refl e
       where
@@ -346,8 +346,8 @@ module _ (first d : DayRecord) (t : Touched) (since : IsSince first t d) where
             let aims = made.of_day.1 in
             let day = made.of_day.2 in
             let rules : RunwayRow → RunwayRules = rules_of first.airport first.journal in
-            let R : RunwayRules → RunwayPlanRecord → Type 0 = λ x p. IsSequenceBy placing x (fixed_in first x.name) (targets_on x.name (targets_in aims)) p in
-            let found = find_some (λ (p : RunwayPlanRecord). same_name p.runway r.name) plan.runways p k in
+            let R : RunwayRules → RunwayPlan → Type 0 = λ x p. IsSequenceBy placing x (fixed_in first x.name) (targets_on x.name (targets_in aims)) p in
+            let found = find_some (λ (p : RunwayPlan). same_name p.runway r.name) plan.runways p k in
             let old = partner R (day_rules first) day.made p day.sequences
             (Contains-permutation plan.runways day.made p (IsPermutation-sym day.made plan.runways day.parts.runways) found.0) in
             let row = its_row r i in
@@ -364,7 +364,7 @@ module _ (first d : DayRecord) (t : Touched) (since : IsSince first t d) where
     early_stands aims are =
         let day = made.of_day.2 in
         let kept = kept_of t flights_now in
-        let R : RunwayRules → RunwayPlanRecord → Type 0 =
+        let R : RunwayRules → RunwayPlan → Type 0 =
         λ x p. IsSequenceBy made.of_day.0 x (fixed_in first x.name) (targets_on x.name (targets_in made.of_day.1)) p in
         let late = All-permutation AreLate day.made plan.runways day.parts.runways
         (all_zipped R AreLate (λ x p h. late_plan made.of_day.0 x (fixed_in first x.name) (targets_on x.name (targets_in made.of_day.1)) p h)
@@ -376,7 +376,7 @@ module _ (first d : DayRecord) (t : Touched) (since : IsSince first t d) where
         ap (early_in kept) (sym (aims_are times_now values_now (planned_of kept) aims are)) ∙ early-aims times_now values_now kept in
         let stands : filter (is_kept_blocked d t) (early_in flights_first made.of_day.1) ≡ early_in kept aims =
         ap (filter (is_kept_blocked d t)) at_first ∙ (still_early ∙ sym at_last) in
-        let late_ones = flat_map (λ (p : RunwayPlanRecord). p.blocked) plan.runways in
+        let late_ones = flat_map (λ (p : RunwayPlan). p.blocked) plan.runways in
         let whole = IsPermutation-filter (is_kept_blocked d t) (early_in flights_first made.of_day.1 ++ late_ones) plan.blocked day.parts.blocked in
         let left : filter (is_kept_blocked d t) (early_in flights_first made.of_day.1 ++ late_ones) ≡ early_in kept aims =
         filter-append (is_kept_blocked d t) (early_in flights_first made.of_day.1) late_ones
@@ -384,7 +384,7 @@ module _ (first d : DayRecord) (t : Touched) (since : IsSince first t d) where
         subst (λ (bs : List BlockedFlight). IsPermutation bs (kept_blocked d t plan.blocked)) left whole
 
 -- what was not touched of the first day's plan stands
-pub kept_since : (first d : DayRecord) (t : Touched) (plan : PlanRecord) → IsMade first plan → IsSince first t d → AreKept d t plan.runways plan.blocked
+pub kept_since : (first d : DayRecord) (t : Touched) (plan : Plan) → IsMade first plan → IsSince first t d → AreKept d t plan.runways plan.blocked
 kept_since first d t plan made since = record {
   all = runway_stands first d t since plan made;
   right = plan_stands first d t since plan made;
@@ -396,12 +396,12 @@ pub none_kept : (d : DayRecord) → AreKept d touched.All [] []
 none_kept d = record {
   all = λ r i e. refl;
   right = λ r p i e. cc;
-  early = λ aims are. subst (λ (fs : List Record). IsPermutation (early_in fs aims) []) (sym (none (records_in d.airport d.journal))) (IsPermutation-refl []);
+  early = λ aims are. subst (λ (fs : List Flight). IsPermutation (early_in fs aims) []) (sym (none (records_in d.airport d.journal))) (IsPermutation-refl []);
 } where
   off : (r : Option (List ℕ)) → option_map_or (λ s. not (is_touched touched.All s)) r false ≡ false
   off None = refl
   off (Some s) = refl
 
-  none : (fs : List Record) → kept_of touched.All fs ≡ []
+  none : (fs : List Flight) → kept_of touched.All fs ≡ []
   none [] = refl
   none (f ∷ fs) = ap (λ b. cond b (f ∷ kept_of touched.All fs) (kept_of touched.All fs)) (off f.runway) ∙ none fs

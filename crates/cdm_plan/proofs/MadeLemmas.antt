@@ -4,8 +4,8 @@ use Rattle.cdm_plan.proofs.ListWords.{is_none, All, AllZip, Contains, cons_optio
 use Rattle.cdm_plan.proofs.ListWords.{IsPermutation-append_comm, IsPermutation-append_left, IsPermutation-append_right, All-contains, All-weaker}
 use Rattle.cdm_plan.proofs.ListWords.{IsPermutation-middle, IsPermutation-refl, IsPermutation-sym, IsPermutation-trans, contains_head, contains_map}
 use Rattle.cdm_plan.proofs.ListWords.{Contains-permutation, contains_tail, filter_passes, filter_same, length_permutation}
-use Rattle.cdm_plan.proofs.PlanWords.{DayValues, Record, is_planned, TaxiRows, values_of, taxi_of, RunwayRules, TaxiTimes, IsSequence}
-use Rattle.cdm_plan.proofs.PlanWords.{PlanRecord, RunwayPlanRecord, BlockedFlight, CanSequence, IsAimed, early_among, target_for, DayRecord, same_name}
+use Rattle.cdm_plan.proofs.PlanWords.{DayValues, Flight, is_planned, TaxiRows, values_of, taxi_of, RunwayRules, TaxiTimes, IsSequence}
+use Rattle.cdm_plan.proofs.PlanWords.{Plan, RunwayPlan, BlockedFlight, CanSequence, IsAimed, early_among, target_for, DayRecord, same_name}
 use Rattle.cdm_plan.proofs.PlanWords.{day_rules, records_in, HasParts, fixed_on, planned_of, TellTaxi, AreKept, Together, kept_plan}
 use Rattle.cdm_plan.proofs.PlanWords.{asked_of, is_touched, kept_blocked, kept_of}
 use Rattle.std.specs.FinMap as finite
@@ -21,13 +21,13 @@ use Rattle.cdm_plan.proofs.PartLemmas.{All-lent, AllZip-lent, few_parts}
 use Rattle.cdm_plan.proofs.PlanningLemmas.{aim_list, aimed, aimed_are, aims_mean, blocked-among, blocked_early, can_sequence, early-aims}
 use Rattle.cdm_plan.proofs.PlanningLemmas.{planned_are, targets-among}
 
-abbrev now : Bor Record → Record
+abbrev now : Bor Flight → Flight
 now f = f.now
 
 abbrev times_of : DayRecord → TaxiTimes
 times_of d = taxi_of d.airport d.journal
 
-abbrev flights_of : DayRecord → List Record
+abbrev flights_of : DayRecord → List Flight
 flights_of d = records_in d.airport d.journal
 
 -- what the asked flights of the day could have
@@ -35,15 +35,15 @@ abbrev aims_of : DayRecord → Touched → List Aimed
 aims_of d t = map (aimed (times_of d) (values_of d.journal)) (planned_of (asked_of t (flights_of d)))
 
 -- a runway has no plan that stands where it was touched, if each that was not touched has one
-none_stands : (t : Touched) (old : List RunwayPlanRecord) (r : List ℕ) → (kept_plan t old r ≡ None → is_touched t r ≡ true)
+none_stands : (t : Touched) (old : List RunwayPlan) (r : List ℕ) → (kept_plan t old r ≡ None → is_touched t r ≡ true)
     → is_touched t r ≡ is_none (kept_plan t old r)
 none_stands t old r h = by (kept_plan t old r) refl
   where
-    not_touched : (b : Bool) (o : Option RunwayPlanRecord) (p : RunwayPlanRecord) → (if b then None else o) ≡ Some p → b ≡ false
+    not_touched : (b : Bool) (o : Option RunwayPlan) (p : RunwayPlan) → (if b then None else o) ≡ Some p → b ≡ false
     not_touched true o p e = cc
     not_touched false o p e = refl
 
-    by : (o : Option RunwayPlanRecord) → kept_plan t old r ≡ o → is_touched t r ≡ is_none o
+    by : (o : Option RunwayPlan) → kept_plan t old r ≡ o → is_touched t r ≡ is_none o
     by None e = h e
     by (Some p) e = not_touched (is_touched t r) (find (λ p. same_name p.runway r) old) p e
 
@@ -84,7 +84,7 @@ AllZip-weaker_at R S (x ∷ xs) (y ∷ ys) h all = (
 AllZip-weaker_at R S _ _ h all = absurd all
 
 -- parts of a plan with the early blocked flights in another order
-HasParts-reordered : (early others : List BlockedFlight) (plans : List RunwayPlanRecord) (plan : PlanRecord) → IsPermutation others early
+HasParts-reordered : (early others : List BlockedFlight) (plans : List RunwayPlan) (plan : Plan) → IsPermutation others early
     → HasParts early plans plan → HasParts others plans plan
 HasParts-reordered early others plans plan same parts = record {
   runways = parts.runways;
@@ -96,7 +96,7 @@ HasParts-reordered early others plans plan same parts = record {
 module _ {d : DayRecord} {t : Touched} {w : Work} (is : IsWork d t w) where
   -- all the asked flights are planned
   pub work_planned : All (λ f. is_planned f.now.status ≡ true) w.asked.items
-  work_planned = All-lent (λ (f : Record). is_planned f.status ≡ true) w.asked.items (rw is.asked (planned_are (asked_of t (flights_of d))))
+  work_planned = All-lent (λ (f : Flight). is_planned f.status ≡ true) w.asked.items (rw is.asked (planned_are (asked_of t (flights_of d))))
 
   -- the runways that are left were touched
   left_touched : All (λ r. is_touched t r.now.name ≡ true) w.left.items
@@ -127,7 +127,7 @@ module _ {d : DayRecord} {t : Touched} {w : Work} (is : IsWork d t w) where
         w.left.items left_touched
 
     -- the flights that are blocked early are among the asked ones, or were so before
-    work_early : {old : List RunwayPlanRecord} {blocked : List BlockedFlight} → AreKept d t old blocked
+    work_early : {old : List RunwayPlan} {blocked : List BlockedFlight} → AreKept d t old blocked
         → IsPermutation (blocked_early (flights_of d) (times_of d) (values_of d.journal)) (early_among aims ++ kept_blocked d t blocked)
     work_early {blocked = blocked} kept =
         let fs = flights_of d in
@@ -142,12 +142,12 @@ module _ {d : DayRecord} {t : Touched} {w : Work} (is : IsWork d t w) where
         (IsPermutation-trans _ _ _ (IsPermutation-append_comm (blocked_early (kept_of t fs) times values) asked) (IsPermutation-append_right asked _ _ stands)))
 
     -- what stands of a former plan, and the plans that were made, make the day's
-    pub work_done : {old : List RunwayPlanRecord} {blocked : List BlockedFlight} (made : List RunwayPlanRecord) → AreKept d t old blocked
+    pub work_done : {old : List RunwayPlan} {blocked : List BlockedFlight} (made : List RunwayPlan) → AreKept d t old blocked
         → AllZip (λ r p. IsSequence r.now (fixed_on r.now.name (map now w.flights.items)) (filter_map (target_for r.now.name) aims) p) w.left.items made
         → Together d (early_among aims ++ kept_blocked d t blocked) (filter_map (λ r. kept_plan t old r.now.name) w.runways.items ++ made)
     work_done {old} {blocked} made kept each =
-        let R : Bor RunwayRules → RunwayPlanRecord → Type 0 = λ r p. HasSequence d r.now p in
-        let stands : Bor RunwayRules → Option RunwayPlanRecord = λ r. kept_plan t old r.now.name in
+        let R : Bor RunwayRules → RunwayPlan → Type 0 = λ r p. HasSequence d r.now p in
+        let stands : Bor RunwayRules → Option RunwayPlan = λ r. kept_plan t old r.now.name in
         let runways = w.runways.items in
         let rule : Bor RunwayRules → RunwayRules = λ r. r.now in
         let rules = map rule runways in
@@ -155,7 +155,7 @@ module _ {d : DayRecord} {t : Touched} {w : Work} (is : IsWork d t w) where
         Contains-permutation rules (day_rules d) r.now (IsPermutation-sym (day_rules d) rules is.runways.all) (contains_map rule runways r i) in
         let left : w.left.items ≡ filter (λ r. is_none (stands r)) runways =
         is.left ∙ filter_same (λ r. is_touched t r.now.name) (λ r. is_none (stands r)) runways (λ r i. none_stands t old r.now.name (kept.all r.now (of_day r i))) in
-        let right : (r : Bor RunwayRules) (p : RunwayPlanRecord) → Contains w.left.items r → IsSequence r.now (fixed_on r.now.name (map now w.flights.items))
+        let right : (r : Bor RunwayRules) (p : RunwayPlan) → Contains w.left.items r → IsSequence r.now (fixed_on r.now.name (map now w.flights.items))
         (filter_map (target_for r.now.name) aims) p → R r p = λ r p i h.
         rw (targets_are r.now.name (All-contains (λ (r : Bor RunwayRules). is_touched t r.now.name ≡ true) w.left.items r left_touched i), is.flights) at h in
         let new = rw left at (AllZip-weaker_at _ R w.left.items made right each) in

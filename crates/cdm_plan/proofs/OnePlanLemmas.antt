@@ -5,8 +5,8 @@ use Rattle.cdm_plan.proofs.ListWords.{map-append, All-permutation}
 use Rattle.cdm_plan.proofs.ListWords.{IsPermutation-append_comm, IsPermutation-map, IsPermutation-refl, IsPermutation-trans}
 use Rattle.cdm_plan.proofs.ListWords.{IsPermutation-append_left, IsPermutation-append_right, append_assoc}
 use Rattle.cdm_plan.proofs.ListWords.{IsDistinct-IsPermutation, contains_head, contains_tail, contains_cases, distinct_filter, distinct_right}
-use Rattle.cdm_plan.proofs.PlanWords.{DayValues, same_name, Record, RunwayRules, TaxiTimes, IsSequence, IsSequenceBy}
-use Rattle.cdm_plan.proofs.PlanWords.{PlanRecord, RunwayPlanRecord, TargetRecord, AimResult, BlockedFlight, Placing}
+use Rattle.cdm_plan.proofs.PlanWords.{DayValues, same_name, Flight, RunwayRules, TaxiTimes, IsSequence, IsSequenceBy}
+use Rattle.cdm_plan.proofs.PlanWords.{Plan, RunwayPlan, Target, AimResult, BlockedFlight, Placing}
 use Rattle.cdm_plan.proofs.PlanWords.{same_flips}
 use Rattle.cdm_plan.proofs.PlanWords.{runway_names, DayRecord, flights_in, IsDayPlan, day_rules, records_in}
 use Rattle.cdm_plan.proofs.PlanWords.{values_of, taxi_of, AreAims, HasParts, IsPlanOf, early_in, fixed_on, planned_of, targets_in}
@@ -46,18 +46,18 @@ partner R _ _ y all i = absurd all
 
 -- Plans.
 
-module _ (times : TaxiTimes) (values : DayValues) (fs : List Record) (own : IsDistinct same_name (map (λ f. f.name) fs)) where
-  abbrev targets_here : List ℕ → List TargetRecord
+module _ (times : TaxiTimes) (values : DayValues) (fs : List Flight) (own : IsDistinct same_name (map (λ f. f.name) fs)) where
+  abbrev targets_here : List ℕ → List Target
   targets_here r = targets_on r (targets_of fs times values)
 
-  abbrev IsSequenced : RunwayRules → RunwayPlanRecord → Type 0
+  abbrev IsSequenced : RunwayRules → RunwayPlan → Type 0
   IsSequenced r p = IsSequence r (fixed_on r.name fs) (targets_here r.name) p
 
-  abbrev IsSequencedBy : Placing → RunwayRules → RunwayPlanRecord → Type 0
+  abbrev IsSequencedBy : Placing → RunwayRules → RunwayPlan → Type 0
   IsSequencedBy placing r p = IsSequenceBy placing r (fixed_on r.name fs) (targets_here r.name) p
 
   -- the plans of the runways are determined
-  made_one : (rs : List RunwayRules) (xs ys : List RunwayPlanRecord) → AllZip IsSequenced rs xs → AllZip IsSequenced rs ys → xs ≡ ys
+  made_one : (rs : List RunwayRules) (xs ys : List RunwayPlan) → AllZip IsSequenced rs xs → AllZip IsSequenced rs ys → xs ≡ ys
   made_one [] [] [] a b = refl
   made_one (r ∷ rs) (x ∷ xs) (y ∷ ys) a b =
       let fixed = fixed_on r.name fs in
@@ -70,7 +70,7 @@ module _ (times : TaxiTimes) (values : DayValues) (fs : List Record) (own : IsDi
   made_one (r ∷ rs) (x ∷ xs) [] a b = absurd b
   made_one _ _ _ a b = absurd a
 
-  module _ (placing : Placing) (rs : List RunwayRules) (rs_own : IsDistinct same_name (map (λ r. r.name) rs)) (made : List RunwayPlanRecord)
+  module _ (placing : Placing) (rs : List RunwayRules) (rs_own : IsDistinct same_name (map (λ r. r.name) rs)) (made : List RunwayPlan)
       (all : AllZip (IsSequencedBy placing) rs made) where
     each_made : AllZip IsSequenced rs made
     each_made = AllZip-weaker (IsSequencedBy placing) IsSequenced (λ r p h. (placing, h)) rs made all
@@ -80,13 +80,13 @@ module _ (times : TaxiTimes) (values : DayValues) (fs : List Record) (own : IsDi
     made_own = rw (made_named (λ r. fixed_on r fs) targets_here rs made each_made) rs_own
 
     -- and so have all blocked flights
-    blocked_own : (ps : List RunwayPlanRecord) → IsPermutation made ps
+    blocked_own : (ps : List RunwayPlan) → IsPermutation made ps
         → IsDistinct same_name (map (λ b. b.name) (blocked_early fs times values ++ flat_map (λ p. p.blocked) ps))
     blocked_own ps same =
         let name : BlockedFlight → List ℕ = λ b. b.name in
-        let runway : RunwayPlanRecord → List ℕ = λ p. p.runway in
-        let slots : RunwayPlanRecord → List (List ℕ) = λ p. map (λ x. x.name) p.slots in
-        let blocked : RunwayPlanRecord → List (List ℕ) = λ p. map name p.blocked in
+        let runway : RunwayPlan → List ℕ = λ p. p.runway in
+        let slots : RunwayPlan → List (List ℕ) = λ p. map (λ x. x.name) p.slots in
+        let blocked : RunwayPlan → List (List ℕ) = λ p. map name p.blocked in
         let early = map name (blocked_early fs times values) in
         let apart = IsDistinct-IsPermutation same_name same_flips (map runway made) (map runway ps) (IsPermutation-map runway made ps same) made_own in
         let all = once times values fs ps apart (All-permutation (Shows times values fs) made ps same (shows_made times values fs rs made each_made)) in
@@ -94,33 +94,33 @@ module _ (times : TaxiTimes) (values : DayValues) (fs : List Record) (own : IsDi
         let back = IsPermutation-append_right (flat_map slots ps) _ _ (IsPermutation-append_comm (flat_map blocked ps) early) in
         let parts = IsPermutation-trans _ _ _ (IsPermutation-trans _ _ _ all front) (rw (append_assoc (flat_map slots ps) (flat_map blocked ps) early) back) in
         let apart = IsDistinct-IsPermutation same_name same_flips _ _ parts
-        (distinct_filter same_name (λ (f : Record). f.name) (stands_in times values fs ps) fs own) in
-        let flights : RunwayPlanRecord → List BlockedFlight = λ p. p.blocked in
+        (distinct_filter same_name (λ (f : Flight). f.name) (stands_in times values fs ps) fs own) in
+        let flights : RunwayPlan → List BlockedFlight = λ p. p.blocked in
         rw (map-append name (blocked_early fs times values) (flat_map flights ps), ← names_of_lists flights name ps)
         (distinct_right same_name (flat_map slots ps) (early ++ flat_map blocked ps) apart)
 
   -- a plan has parts
-  record Parts (rs : List RunwayRules) (plan : PlanRecord) : Type 0 where
+  record Parts (rs : List RunwayRules) (plan : Plan) : Type 0 where
     clock : plan.clock ≡ values.clock
     placing : Placing
-    made : List RunwayPlanRecord
+    made : List RunwayPlan
     all : AllZip (IsSequencedBy placing) rs made
     parts : HasParts (blocked_early fs times values) made plan
 
-  parts_of : (rs : List RunwayRules) (plan : PlanRecord) → IsPlanOf fs times values rs plan → Parts rs plan
+  parts_of : (rs : List RunwayRules) (plan : Plan) → IsPlanOf fs times values rs plan → Parts rs plan
   parts_of rs plan (placing, aims, e) =
       let are = aims_are times values (planned_of fs) aims e.aimed in
       record {
         clock = e.clock;
         placing = placing;
         made = e.made;
-        all = subst (λ (ts : List TargetRecord). AllZip (λ r p. IsSequenceBy placing r (fixed_on r.name fs) (targets_on r.name ts) p) rs e.made)
+        all = subst (λ (ts : List Target). AllZip (λ r p. IsSequenceBy placing r (fixed_on r.name fs) (targets_on r.name ts) p) rs e.made)
             (sym (ap targets_in are) ∙ targets-aims times values fs) e.sequences;
         parts = rw (← early-aims times values fs, are) e.parts;
       }
 
   -- there is one plan
-  pub one_plan : (rs : List RunwayRules) → IsDistinct same_name (map (λ r. r.name) rs) → (p q : PlanRecord) → IsPlanOf fs times values rs p
+  pub one_plan : (rs : List RunwayRules) → IsDistinct same_name (map (λ r. r.name) rs) → (p q : Plan) → IsPlanOf fs times values rs p
       → IsPlanOf fs times values rs q → p ≡ q
   one_plan rs rs_own p q x y =
       let a = parts_of rs p x in
@@ -129,11 +129,11 @@ module _ (times : TaxiTimes) (values : DayValues) (fs : List Record) (own : IsDi
       let other : IsPermutation a.made q.runways = rw equal at b.parts.runways in
       let clock : p.clock ≡ q.clock = a.clock ∙ sym b.clock in
       let runways : p.runways ≡ q.runways =
-      by_name (λ (p : RunwayPlanRecord). p.runway) a.made p.runways q.runways (made_own a.placing rs rs_own a.made a.all)
+      by_name (λ (p : RunwayPlan). p.runway) a.made p.runways q.runways (made_own a.placing rs rs_own a.made a.all)
       a.parts.runways other a.parts.runway_order b.parts.runway_order in
       let left = blocked_early fs times values ++ flat_map (λ p. p.blocked) p.runways in
       let others : IsPermutation left q.blocked =
-      subst (λ (ps : List RunwayPlanRecord). IsPermutation (blocked_early fs times values ++ flat_map (λ p. p.blocked) ps) q.blocked)
+      subst (λ (ps : List RunwayPlan). IsPermutation (blocked_early fs times values ++ flat_map (λ p. p.blocked) ps) q.blocked)
       (sym runways) b.parts.blocked in
       let blocked : p.blocked ≡ q.blocked =
       by_name (λ (b : BlockedFlight). b.name) left p.blocked q.blocked
@@ -142,7 +142,7 @@ module _ (times : TaxiTimes) (values : DayValues) (fs : List Record) (own : IsDi
 
 -- Days.
 
-pub one_day_plan : (d : DayRecord) (p q : PlanRecord) → IsDistinct same_name (runway_names d.airport) → IsDistinct same_name (flights_in d.journal)
+pub one_day_plan : (d : DayRecord) (p q : Plan) → IsDistinct same_name (runway_names d.airport) → IsDistinct same_name (flights_in d.journal)
     → IsDayPlan d p → IsDayPlan d q → p ≡ q
 unfolding IsDayPlan
 one_day_plan d p q runways flights a b =
@@ -150,7 +150,7 @@ one_day_plan d p q runways flights a b =
     (day_rules_differ d runways) p q a b
 
 -- plans of the runways make the day's
-pub day_made : (d : DayRecord) (aims : List AimResult) (made : List RunwayPlanRecord) (plan : PlanRecord) → IsDistinct same_name (runway_names d.airport)
+pub day_made : (d : DayRecord) (aims : List AimResult) (made : List RunwayPlan) (plan : Plan) → IsDistinct same_name (runway_names d.airport)
     → AreAims (records_in d.airport d.journal) (taxi_of d.airport d.journal) (values_of d.journal) aims
     → AllZip (λ r p. IsSequence r (fixed_on r.name (records_in d.airport d.journal)) (targets_on r.name (targets_in aims)) p) (day_rules d) made
     → plan.clock ≡ (values_of d.journal).clock → HasParts (early_in (records_in d.airport d.journal) aims) made plan → IsDayPlan d plan

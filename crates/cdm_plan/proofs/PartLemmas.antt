@@ -4,7 +4,7 @@ use Rattle.std.proofs.Common.{get_or, set}
 use Rattle.cdm_plan.proofs.ListWords.{length-map, All, AllZip, IsDistinct, flat_map, swap, IsPermutation, All-cons, All-head, All-nil}
 use Rattle.cdm_plan.proofs.ListWords.{All-tail, IsPermutation-keeps, IsPermutation-refl, IsPermutation-swap, IsPermutation-sym, IsPermutation-trans}
 use Rattle.cdm_plan.proofs.ListWords.{length_permutation, sum_by-IsPermutation, sum_by-add}
-use Rattle.cdm_plan.proofs.PlanWords.{DayValues, same_name, Record, RunwayRules, TaxiTimes, SlotRecord, IsSequence, PlanRecord, RunwayPlanRecord}
+use Rattle.cdm_plan.proofs.PlanWords.{DayValues, same_name, Flight, RunwayRules, TaxiTimes, Slot, IsSequence, Plan, RunwayPlan}
 use Rattle.cdm_plan.proofs.PlanWords.{AimResult, BlockedFlight, AreAims, HasParts, IsPlanOf, early_in, fixed_on, targets_in, targets_on}
 use Rattle.std.proofs.lemmas.List.Concat.{length-flat_map}
 use Rattle.std.proofs.lemmas.Slice.Zip.{AllZip-long}
@@ -63,20 +63,20 @@ All-lent P (x ∷ xs) all = All-cons (λ x. P x.now) x xs (All-head P x.now (map
 -- The parts of a plan.
 
 -- a plan has no more flights than its parts
-pub few_joined : (early : List BlockedFlight) (made ordered : List RunwayPlanRecord) (blocked : List BlockedFlight) (most : ℕ)
+pub few_joined : (early : List BlockedFlight) (made ordered : List RunwayPlan) (blocked : List BlockedFlight) (most : ℕ)
     → IsPermutation made ordered → IsPermutation (early ++ flat_map (λ p. p.blocked) ordered) blocked
     → sum_by (λ p. length p.slots + length p.blocked) made + length early ≤ most
     → sum_by (λ p. length p.slots) ordered + length blocked ≤ most
 few_joined early made ordered blocked most same others few =
-    let moved = sum_by-IsPermutation (λ (p : RunwayPlanRecord). length p.slots + length p.blocked) made ordered same in
-    let split = sum_by-add (λ (p : RunwayPlanRecord). length p.slots) (λ p. length p.blocked) ordered in
+    let moved = sum_by-IsPermutation (λ (p : RunwayPlan). length p.slots + length p.blocked) made ordered same in
+    let split = sum_by-add (λ (p : RunwayPlan). length p.slots) (λ p. length p.blocked) ordered in
     let count = length_permutation (early ++ flat_map (λ p. p.blocked) ordered) blocked others in
     let parts = length-append early (flat_map (λ p. p.blocked) ordered) in
-    let flat = length-flat_map (λ (p : RunwayPlanRecord). p.blocked) ordered in
+    let flat = length-flat_map (λ (p : RunwayPlan). p.blocked) ordered in
     omega arith
 
 -- and the parts have at most as many flights as there are
-pub few_parts : (times : TaxiTimes) (values : DayValues) (fs : List Record) (runways : List RunwayRules) (made plans : List RunwayPlanRecord)
+pub few_parts : (times : TaxiTimes) (values : DayValues) (fs : List Flight) (runways : List RunwayRules) (made plans : List RunwayPlan)
     → AllZip (λ r p. IsSequence r (fixed_on r.name fs) (targets_on r.name (targets_of fs times values)) p) runways made → IsPermutation made plans
     → IsDistinct same_name (map (λ r. r.name) runways)
     → sum_by (λ p. length p.slots + length p.blocked) plans + length (blocked_early fs times values) ≤ length fs
@@ -84,24 +84,24 @@ few_parts times values fs runways made plans each same own =
     let names = sym (made_named (λ r. fixed_on r fs) (λ r. targets_on r (targets_of fs times values)) runways made each) in
     let rest = map (λ (b : BlockedFlight). b.name) (blocked_early fs times values) in
     let all = once times values fs made (subst (IsDistinct same_name) names own) (shows_made times values fs runways made each) in
-    let few = few_names (λ (f : Record). f.name) fs (stands_in times values fs made) (flat_map shown made ++ rest) all in
-    let moved = sum_by-IsPermutation (λ (p : RunwayPlanRecord). length p.slots + length p.blocked) made plans same in
+    let few = few_names (λ (f : Flight). f.name) fs (stands_in times values fs made) (flat_map shown made ++ rest) all in
+    let moved = sum_by-IsPermutation (λ (p : RunwayPlan). length p.slots + length p.blocked) made plans same in
     let sizes : sum_by (λ p. length (shown p)) made ≡ sum_by (λ p. length p.slots + length p.blocked) made = λ i. sum_by (λ p. shown_length p i) made in
     let parts = length-append (flat_map shown made) rest in
     let flat = length-flat_map shown made in
     let long = length-map (blocked_early fs times values) (λ (b : BlockedFlight). b.name) in
     omega arith
   where
-    shown_length : (p : RunwayPlanRecord) → length (shown p) ≡ length p.slots + length p.blocked
+    shown_length : (p : RunwayPlan) → length (shown p) ≡ length p.slots + length p.blocked
     shown_length p = length-append (map (λ x. x.name) p.slots) (map (λ b. b.name) p.blocked)
-        ∙ (λ i. length-map p.slots (λ (x : SlotRecord). x.name) i + length-map p.blocked (λ (b : BlockedFlight). b.name) i)
+        ∙ (λ i. length-map p.slots (λ (x : Slot). x.name) i + length-map p.blocked (λ (b : BlockedFlight). b.name) i)
 
 -- plans that were made runway by runway make the day's plan
-pub runways_make : (times : TaxiTimes) (values : DayValues) (fs : List Record) (runways : List RunwayRules) (aims : List AimResult)
-    (made : List RunwayPlanRecord) (plan : PlanRecord) → AreAims fs times values aims → IsDistinct same_name (map (λ r. r.name) runways)
+pub runways_make : (times : TaxiTimes) (values : DayValues) (fs : List Flight) (runways : List RunwayRules) (aims : List AimResult)
+    (made : List RunwayPlan) (plan : Plan) → AreAims fs times values aims → IsDistinct same_name (map (λ r. r.name) runways)
     → AllZip (λ r p. IsSequence r (fixed_on r.name fs) (targets_on r.name (targets_in aims)) p) runways made → plan.clock ≡ values.clock
     → HasParts (early_in fs aims) made plan → IsPlanOf fs times values runways plan
 runways_make times values fs runways aims made plan are own all clock parts =
-    let fixed : List ℕ → List SlotRecord = λ r. fixed_on r fs in
+    let fixed : List ℕ → List Slot = λ r. fixed_on r fs in
     let placing = placing_of fixed (targets_in aims) runways made all in
     (placing, aims, record { aimed = are; clock = clock; made = made; sequences = placed fixed (targets_in aims) runways made own all; parts = parts })

@@ -1,5 +1,5 @@
 -- What a contract sees of a day, and what its journal says of flights and runways.
-use Rattle.std.specs.Prelude.{ℕ, ◌*◌, ◌/◌, List, [], ◌∷◌, ◌++◌, map, Option, None, if◌then◌else◌}
+use Rattle.std.specs.Prelude.{ℕ, ◌*◌, ◌/◌, List, [], ◌∷◌, ◌++◌, map, None, if◌then◌else◌}
 use Rattle.std.specs.List.{filter_map, range_with_len}
 use Rattle.cdm_flight.specs.declared.airport.RunwayRow.{RunwayRow}
 use Rattle.cdm_flight.specs.declared.update.Update.{Update}
@@ -17,13 +17,9 @@ pub record DayRecord : Type 0 where
 abbrev pub with_update : DayRecord → Update → DayRecord
 with_update day u = record day { journal = day.journal ++ u ∷ [] }
 
--- the flight that an FLT makes known
-abbrev pub new_flight : Update → Option (List ℕ)
-new_flight u = if is_fresh u then flight_of_update u else None
-
 -- the flights in the order in which an FLT made them known
 abbrev pub flights_in : List Update → List (List ℕ)
-flights_in a = filter_map new_flight a
+flights_in a = filter_map (λ u. if is_fresh u then flight_of_update u else None) a
 
 -- what the airport and the journal allow on a runway
 unfoldable pub rules_of : AirportRows → List Update → RunwayRow → RunwayRules

@@ -3,18 +3,18 @@ use Rattle.std.specs.Prelude.{◌≡◌, ℕ, List, All, IsPermutation, IsSorted
 use Rattle.std.specs.List.{filter_map}
 use Rattle.cdm_flight.specs.declared.update.Update.{Update}
 use Rattle.cdm_flight.specs.Names.{name_cmp}
-use Rattle.cdm_flight.specs.Record.{Record}
+use Rattle.cdm_flight.specs.declared.flight.Flight.{Flight}
 use Rattle.cdm_flight.specs.Journal.{AirportRows, flight_of, taxi_of, values_of}
 use Rattle.cdm_runway.specs.Rules.{RunwayRules}
 use Rattle.cdm_sequence.specs.Fixed.{takeoffs}
 use Rattle.cdm_sequence.specs.Plan.{Placing, IsAllowed, IsEarlier}
-use Rattle.cdm_sequence.specs.Slots.{PlanRecord}
+use Rattle.cdm_sequence.specs.declared.plan.Plan.{Plan}
 use Rattle.cdm_sequence.specs.declared.aims.AimResult.{AimResult}
 use Rattle.cdm_plan.specs.Day.{DayRecord, flights_in, rules_of}
 use Rattle.cdm_plan.specs.Planning.{IsPlanBy, IsPlanOf, fixed_on, targets_in, targets_on}
 
 -- what the journal says of its flights, in the order in which they were made known
-abbrev pub records_in : AirportRows → List Update → List Record
+abbrev pub records_in : AirportRows → List Update → List Flight
 records_in g a = filter_map (flight_of g a) (flights_in a)
 
 -- what the airport and the journal allow on the runways
@@ -31,11 +31,11 @@ abbrev pub IsRunwayAt : DayRecord → ℕ → Option RunwayRules → Type 0
 IsRunwayAt day place found = (runways : List RunwayRules) × AreByName day runways × (found ≡ slice_get runways place)
 
 -- the plan is that of the flights, taxi times, values and runways that the airport and the journal say
-unfoldable pub IsDayPlan : DayRecord → PlanRecord → Type 0
+unfoldable pub IsDayPlan : DayRecord → Plan → Type 0
 IsDayPlan day plan = IsPlanOf (records_in day.airport day.journal) (taxi_of day.airport day.journal) (values_of day.journal) (day_rules day) plan
 
 -- and it is so by this placing and these aims
-unfoldable pub IsDayPlanBy : Placing → List AimResult → DayRecord → PlanRecord → Type 0
+unfoldable pub IsDayPlanBy : Placing → List AimResult → DayRecord → Plan → Type 0
 IsDayPlanBy placing aims day plan =
     IsPlanBy placing aims (records_in day.airport day.journal) (taxi_of day.airport day.journal) (values_of day.journal) (day_rules day) plan
 

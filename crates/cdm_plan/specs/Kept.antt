@@ -4,14 +4,16 @@ use Rattle.std.specs.List.{find, list_any}
 use Rattle.std.specs.Option.{option_map_or}
 use Rattle.cdm_flight.specs.declared.airport.RunwayRow.{RunwayRow}
 use Rattle.cdm_flight.specs.declared.reach.Reach.{Reach}
-use Rattle.cdm_flight.specs.declared.reach.Reach.TheVariants.{Flight, Runway, Taxi, Day}
+use Rattle.cdm_flight.specs.declared.reach.Reach.TheVariants as reach
 use Rattle.cdm_flight.specs.Names.{same_name}
 use Rattle.cdm_flight.specs.Journal.{flight_of, taxi_of, values_of}
-use Rattle.cdm_flight.specs.Record.{Record}
+use Rattle.cdm_flight.specs.declared.flight.Flight.{Flight}
 use Rattle.cdm_flight.specs.declared.place.Place.{Place}
 use Rattle.cdm_runway.specs.Rules.{RunwayRules}
 use Rattle.cdm_sequence.specs.Sequence.{IsSequence}
-use Rattle.cdm_sequence.specs.Slots.{PlanRecord, RunwayPlanRecord, SlotRecord}
+use Rattle.cdm_sequence.specs.declared.plan.Plan.{Plan}
+use Rattle.cdm_sequence.specs.declared.plan.RunwayPlan.{RunwayPlan}
+use Rattle.cdm_sequence.specs.declared.slot.Slot.{Slot}
 use Rattle.cdm_sequence.specs.declared.aims.AimResult.{AimResult}
 use Rattle.cdm_sequence.specs.declared.rule.Rule.{Rule}
 use Rattle.cdm_sequence.specs.declared.rule.Rule.TheVariants.{Closure, Spacing, Rate}
@@ -31,36 +33,36 @@ is_touched (Named names) r = list_any (λ n. same_name n r) names.items
 
 -- what an update touches is of the runway or of all, or is a flight that has the runway
 abbrev pub is_noted : DayRecord → Reach → List ℕ → Bool
-is_noted d (Flight f) r = option_map_or (is_on r) (flight_of d.airport d.journal f) false
-is_noted d (Runway s) r = same_name s r
-is_noted d (Taxi s) r = same_name s r
-is_noted d Day r = true
+is_noted d (reach.Flight f) r = option_map_or (is_on r) (flight_of d.airport d.journal f) false
+is_noted d (reach.Runway s) r = same_name s r
+is_noted d (reach.Taxi s) r = same_name s r
+is_noted d reach.Day r = true
 
 -- what is not touched any more was not touched before, and is none of the others
 abbrev pub Adds : Touched → (List ℕ → Bool) → Touched → Type 0
 Adds before others after = (r : List ℕ) → is_touched after r ≡ false → (is_touched before r ≡ false) × (others r ≡ false)
 
 -- the runway's fixed flights on a day
-abbrev pub fixed_in : DayRecord → List ℕ → List SlotRecord
+abbrev pub fixed_in : DayRecord → List ℕ → List Slot
 fixed_in d r = fixed_on r (records_in d.airport d.journal)
 
 -- the plan is the runway's sequence on a day
-pub record IsPlanOn (d : DayRecord) (r : RunwayRules) (p : RunwayPlanRecord) : Type 0 where
+pub record IsPlanOn (d : DayRecord) (r : RunwayRules) (p : RunwayPlan) : Type 0 where
   pub aims : List AimResult
   pub aimed : AreAims (records_in d.airport d.journal) (taxi_of d.airport d.journal) (values_of d.journal) aims
   pub sequence : IsSequence r (fixed_in d r.name) (targets_on r.name (targets_in aims)) p
 
 -- the flight has a runway that was not touched, so that it need not be asked anew
-abbrev pub is_untouched : Touched → Record → Bool
+abbrev pub is_untouched : Touched → Flight → Bool
 is_untouched t f = option_map_or (λ r. not (is_touched t r)) f.runway false
 
 -- what was not touched since the first day is as it was then
 pub record IsSince (first : DayRecord) (t : Touched) (d : DayRecord) : Type 0 where
   pub airport : d.airport ≡ first.airport
   -- the flights of such runways, and among them those that pass a test
-  pub flight : (test : Record → Bool) → ((f : Record) → test f ≡ true → is_untouched t f ≡ true) → (k : List ℕ)
+  pub flight : (test : Flight → Bool) → ((f : Flight) → test f ≡ true → is_untouched t f ≡ true) → (k : List ℕ)
       → if_passes test (flight_of first.airport first.journal k) ≡ if_passes test (flight_of d.airport d.journal k)
-  pub flights : (test : Record → Bool) → ((f : Record) → test f ≡ true → is_untouched t f ≡ true)
+  pub flights : (test : Flight → Bool) → ((f : Flight) → test f ≡ true → is_untouched t f ≡ true)
       → filter test (records_in first.airport first.journal) ≡ filter test (records_in d.airport d.journal)
   -- what the runways allow, the taxi times to them, and the values of the day
   pub rules : (row : RunwayRow) → is_touched t row.name ≡ false → rules_of first.airport first.journal row ≡ rules_of d.airport d.journal row
@@ -68,14 +70,14 @@ pub record IsSince (first : DayRecord) (t : Touched) (d : DayRecord) : Type 0 wh
   pub values : (r : List ℕ) → is_touched t r ≡ false → values_of first.journal ≡ values_of d.journal
 
 -- the plan that stands on a runway, if one does
-abbrev pub kept_plan : Touched → List RunwayPlanRecord → List ℕ → Option RunwayPlanRecord
+abbrev pub kept_plan : Touched → List RunwayPlan → List ℕ → Option RunwayPlan
 kept_plan t plans r = if is_touched t r then None else find (λ p. same_name p.runway r) plans
 
 -- the flights that need not be asked anew, and the others
-abbrev pub kept_of : Touched → List Record → List Record
+abbrev pub kept_of : Touched → List Flight → List Flight
 kept_of t flights = filter (λ f. is_untouched t f) flights
 
-abbrev pub asked_of : Touched → List Record → List Record
+abbrev pub asked_of : Touched → List Flight → List Flight
 asked_of t flights = filter (λ f. not (is_untouched t f)) flights
 
 -- a rule that blocks a flight before the traffic of its runway is asked
@@ -94,17 +96,17 @@ abbrev pub kept_blocked : DayRecord → Touched → List BlockedFlight → List 
 kept_blocked d t blocked = filter (is_kept_blocked d t) blocked
 
 -- what stands of a plan is right on the day
-pub record AreKept (d : DayRecord) (t : Touched) (plans : List RunwayPlanRecord) (blocked : List BlockedFlight) : Type 0 where
+pub record AreKept (d : DayRecord) (t : Touched) (plans : List RunwayPlan) (blocked : List BlockedFlight) : Type 0 where
   -- each runway that was not touched has its plan
   pub all : (r : RunwayRules) → Contains (day_rules d) r → kept_plan t plans r.name ≡ None → is_touched t r.name ≡ true
-  pub right : (r : RunwayRules) (p : RunwayPlanRecord) → Contains (day_rules d) r → kept_plan t plans r.name ≡ Some p → IsPlanOn d r p
+  pub right : (r : RunwayRules) (p : RunwayPlan) → Contains (day_rules d) r → kept_plan t plans r.name ≡ Some p → IsPlanOn d r p
   -- and the flights that are not asked anew are blocked early where they were
   pub early : (aims : List AimResult)
       → AreAims (kept_of t (records_in d.airport d.journal)) (taxi_of d.airport d.journal) (values_of d.journal) aims
       → IsPermutation (early_in (kept_of t (records_in d.airport d.journal)) aims) (kept_blocked d t blocked)
 
 -- the day is sound, the plan is its plan, and no other is
-pub record IsMade (d : DayRecord) (plan : PlanRecord) : Type 0 where
+pub record IsMade (d : DayRecord) (plan : Plan) : Type 0 where
   pub sound : IsSound d
   pub of_day : IsDayPlan d plan
-  pub only : (other : PlanRecord) → IsDayPlan d other → other ≡ plan
+  pub only : (other : Plan) → IsDayPlan d other → other ≡ plan

@@ -2,7 +2,7 @@
 ghost use Rattle.std.specs.Prelude.{◌≡◌, ◌+◌, ◌≤◌, ◌++◌, length, IfOk, IsPermutation, IsSortedByKey, sum_by};
 ghost use Rattle.std.specs.List.{filter_map, flat_map};
 ghost use Rattle.cdm_flight.specs.Names.{name_cmp};
-ghost use Rattle.cdm_sequence.specs.Slots.{PlanRecord};
+ghost use Rattle.cdm_sequence.specs.declared.plan.Plan.{Plan as APlan};
 ghost use Rattle.cdm_plan.specs.Planning.{HasParts};
 ghost use Rattle.cdm_plan.specs.DayPlan.{IsDayPlan};
 ghost use Rattle.cdm_plan.specs.inner.Aimed.{early_among};
@@ -64,7 +64,7 @@ fn joined(
     let plans = by_name(plans);
     let blocked = all_blocked(early, &plans)?;
     Ok(Plan {
-        now: values.clock,
+        clock: values.clock,
         runways: Listed::new(plans),
         blocked: Listed::new(blocked),
     })
@@ -94,7 +94,7 @@ pub(crate) fn plan_together<D: Records>(
 /// The plan of the day that the records tell. No other plan is the day's.
 pub fn plan_of<D: Records>(alloc: Global, records: &D) -> Result<Plan, AllocError>
     ensures of_day { IfOk result (λ plan. IsDayPlan (D.day records.now) plan) }
-    ensures only { IfOk result (λ plan. (other : PlanRecord) → IsDayPlan (D.day records.now) other → other ≡ plan) }
+    ensures only { IfOk result (λ plan. (other : APlan) → IsDayPlan (D.day records.now) other → other ≡ plan) }
 {
     let touched = Touched::All;
     let kept = Kept {

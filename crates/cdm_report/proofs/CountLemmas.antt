@@ -5,13 +5,15 @@ use Rattle.std.specs.List.{cons_option, flat_map}
 use Rattle.std.proofs.lemmas.List.{take_more, take_all}
 use Rattle.std.proofs.lemmas.List.Elements.{filter_map-append}
 use Rattle.std.proofs.lemmas.List.Sums.{fold-append}
-use Rattle.cdm_sequence.specs.Slots.{SlotRecord, RunwayPlanRecord, PlanRecord}
+use Rattle.cdm_sequence.specs.declared.plan.Plan.{Plan}
+use Rattle.cdm_sequence.specs.declared.plan.RunwayPlan.{RunwayPlan}
+use Rattle.cdm_sequence.specs.declared.slot.Slot.{Slot}
 use Rattle.cdm_report.specs.declared.counts.Counts.{Counts}
 use Rattle.cdm_report.specs.Counts.{counts_of, delays_of}
 use Rattle.cdm_report.specs.inner.Counting.{delays_in, only_blocked, with_delay}
 
 -- one more slot
-pub fold-delays_in_more : (counts : Counts) (slots : List SlotRecord) (i : ℕ) (slot : SlotRecord) (delay : Option ℕ) → i < length slots → slot ≡ get_or slots i slot → slot.delay ≡ delay
+pub fold-delays_in_more : (counts : Counts) (slots : List Slot) (i : ℕ) (slot : Slot) (delay : Option ℕ) → i < length slots → slot ≡ get_or slots i slot → slot.delay ≡ delay
     → fold with_delay counts (delays_in (take (i + 1) slots)) ≡ fold with_delay (fold with_delay counts (delays_in (take i slots))) (cons_option delay [])
 fold-delays_in_more counts slots i slot delay h at is =
     ap (λ xs. fold with_delay counts (delays_in xs)) (take_more slots i slot h ∙ ap (λ s. take i slots ++ s ∷ []) (sym at))
@@ -37,13 +39,13 @@ fold-with_delay c (d ∷ ds) = fold-with_delay (with_delay c d) ds ∙ (λ i. re
     one_more a n = omega arith
 
 -- all delays counted in, after the blocked flights, give the indicators
-pub counted-is-counts_of : (plan : PlanRecord) (counts start : Counts) (runways : List RunwayPlanRecord) (i : ℕ)
+pub counted-is-counts_of : (plan : Plan) (counts start : Counts) (runways : List RunwayPlan) (i : ℕ)
     → start ≡ only_blocked plan.blocked → runways ≡ plan.runways → length runways ≤ i
     → counts ≡ fold with_delay start (flat_map (λ r. delays_in r.slots) (take i runways)) → counts ≡ counts_of plan
 unfolding counts_of
 counted-is-counts_of plan counts start runways i blocked same all counted =
     counted
-    ∙ ap (λ c. fold with_delay c (flat_map (λ (r : RunwayPlanRecord). delays_in r.slots) (take i runways))) blocked
-    ∙ ap (λ rs. fold with_delay (only_blocked plan.blocked) (flat_map (λ (r : RunwayPlanRecord). delays_in r.slots) rs)) (take_all i runways all ∙ same)
+    ∙ ap (λ c. fold with_delay c (flat_map (λ (r : RunwayPlan). delays_in r.slots) (take i runways))) blocked
+    ∙ ap (λ rs. fold with_delay (only_blocked plan.blocked) (flat_map (λ (r : RunwayPlan). delays_in r.slots) rs)) (take_all i runways all ∙ same)
     ∙ fold-with_delay (only_blocked plan.blocked) (delays_of plan)
     ∙ (λ i. record (counts_of plan) { placed = zero-add (length (delays_of plan)) i })

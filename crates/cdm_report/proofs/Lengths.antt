@@ -9,7 +9,7 @@ use Rattle.cdm_time.specs.declared.calendar.CalendarDate.{CalendarDate}
 use Rattle.cdm_time.specs.Times.{stamp}
 use Rattle.cdm_sequence.specs.declared.slot.Mark.{Mark}
 use Rattle.cdm_sequence.specs.declared.slot.Mark.TheVariants.{Planned, OffBlock, Airborne}
-use Rattle.cdm_sequence.specs.Slots.{SlotRecord}
+use Rattle.cdm_sequence.specs.declared.slot.Slot.{Slot}
 use Rattle.cdm_report.specs.Columns.{left_in, right_in, time_column, delay_column, mark_letter, flight_line}
 
 length-left_in : (width : ℕ) (text : List ℕ) → length text ≤ width → length (left_in width text) ≡ width
@@ -44,7 +44,7 @@ length-eight : (a b c d e f g h : List ℕ) → length (join_with_byte 32 (a ∷
     ≡ length a + (1 + (length b + (1 + (length c + (1 + (length d + (1 + (length e + (1 + (length f + (1 + (length g + (1 + length h)))))))))))))
 length-eight a b c d e f g h = simp length-append (omega arith)
 
-pub length-flight_line : (day : CalendarDate) (slot : SlotRecord) → length slot.name ≤ 7 → slot.exot < 2880 → ForSome slot.delay (λ d. d < 2880) → length (flight_line day slot) ≡ 47
+pub length-flight_line : (day : CalendarDate) (slot : Slot) → length slot.name ≤ 7 → slot.exot < 2880 → ForSome slot.delay (λ d. d < 2880) → length (flight_line day slot) ≡ 47
 unfolding flight_line
 length-flight_line day slot name exot delay =
     rw length-eight (rw (

@@ -7,7 +7,7 @@ use Rattle.cdm_time.specs.declared.calendar.CalendarDate.{CalendarDate}
 use Rattle.cdm_time.specs.Times.{stamp}
 use Rattle.cdm_sequence.specs.declared.slot.Mark.{Mark}
 use Rattle.cdm_sequence.specs.declared.slot.Mark.TheVariants.{Planned, OffBlock, Airborne}
-use Rattle.cdm_sequence.specs.Slots.{SlotRecord}
+use Rattle.cdm_sequence.specs.declared.slot.Slot.{Slot}
 
 -- a text on the left of a column, blanks behind it
 unfoldable pub left_in : ℕ → List ℕ → List ℕ
@@ -32,7 +32,7 @@ unfoldable pub delay_column : Option ℕ → List ℕ
 delay_column delay = option_map_or (λ minutes. right_in 4 (decimal minutes)) delay (codes "----")
 
 -- a flight's line: name, TOBT, EXOT, CTOT, TSAT, TTOT, letter and delay, with one blank between them
-unfoldable pub flight_line : CalendarDate → SlotRecord → List ℕ
+unfoldable pub flight_line : CalendarDate → Slot → List ℕ
 flight_line day slot = join_with_byte 32 (
     left_in 7 slot.name ∷ time_column day slot.tobt ∷ right_in 4 (decimal slot.exot) ∷ time_column day slot.ctot
     ∷ time_column day (Some slot.tsat) ∷ time_column day (Some slot.ttot) ∷ mark_letter slot.mark ∷ delay_column slot.delay ∷ [])

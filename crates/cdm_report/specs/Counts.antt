@@ -5,12 +5,12 @@ use denote.Enum.Bare.{sameb as same_variant}
 use Rattle.cdm_sequence.specs.declared.rule.Rule.{Rule}
 use Rattle.cdm_sequence.specs.contracts.rule.Rule.{the_type as rule_type}
 use Rattle.cdm_sequence.specs.declared.slot.BlockedFlight.{BlockedFlight}
-use Rattle.cdm_sequence.specs.Slots.{PlanRecord}
+use Rattle.cdm_sequence.specs.declared.plan.Plan.{Plan}
 use Rattle.cdm_sequence.specs.Words.{all_rules}
 use Rattle.cdm_report.specs.declared.counts.Counts.{Counts}
 
 -- the delays of all planned flights that get a minute
-abbrev pub delays_of : PlanRecord → List ℕ
+abbrev pub delays_of : Plan → List ℕ
 delays_of plan = flat_map (λ runway. filter_map (λ slot. slot.delay) runway.slots) plan.runways
 
 -- how many of the flights the rule blocks
@@ -19,7 +19,7 @@ blocked_by rule blocked = count_by (λ flight. same_variant rule_type flight.rul
 
 -- the indicators: how many delays there are, their sum, the greatest, those of more than 15 minutes, the blocked
 -- flights, and how many each rule blocks
-unfoldable pub counts_of : PlanRecord → Counts
+unfoldable pub counts_of : Plan → Counts
 counts_of plan = record {
   placed = length (delays_of plan);
   delay = sum (delays_of plan);

@@ -8,7 +8,8 @@ use Rattle.cdm_flight.specs.declared.word.RefusalWord.{RefusalWord}
 use Rattle.cdm_flight.specs.Words.{text_of}
 use Rattle.cdm_sequence.specs.declared.rule.Rule.{Rule}
 use Rattle.cdm_sequence.specs.declared.slot.BlockedFlight.{BlockedFlight}
-use Rattle.cdm_sequence.specs.Slots.{RunwayPlanRecord, PlanRecord}
+use Rattle.cdm_sequence.specs.declared.plan.Plan.{Plan}
+use Rattle.cdm_sequence.specs.declared.plan.RunwayPlan.{RunwayPlan}
 use Rattle.cdm_sequence.specs.Words.{rule_text}
 use Rattle.cdm_report.specs.declared.counts.Counts.{Counts}
 use Rattle.cdm_report.specs.Columns.{left_in, flight_line}
@@ -23,7 +24,7 @@ unfoldable pub day_line : CalendarDate → ℕ → List ℕ
 day_line day clock = concat (codes "DAY " ∷ date_text day ∷ codes " NOW " ∷ stamp day clock ∷ line_end ∷ [])
 
 -- a runway's heading and its flights
-unfoldable pub runway_lines : CalendarDate → RunwayPlanRecord → List ℕ
+unfoldable pub runway_lines : CalendarDate → RunwayPlan → List ℕ
 runway_lines day plan = concat (codes "RUNWAY " ∷ plan.runway ∷ line_end ∷ []) ++ flat_map (λ slot. flight_line day slot ++ line_end) plan.slots
 
 -- a blocked flight and the rule that leaves it no minute
@@ -56,7 +57,7 @@ unfoldable pub refused_line : (ℕ × RefusalWord) → List ℕ
 refused_line refusal = concat (codes "REFUSED " ∷ decimal refusal.0 ∷ codes " " ∷ text_of refusal.1 ∷ line_end ∷ [])
 
 -- the report of a day's plan and of the refused records
-unfoldable pub report_bytes : CalendarDate → PlanRecord → List (ℕ × RefusalWord) → List ℕ
+unfoldable pub report_bytes : CalendarDate → Plan → List (ℕ × RefusalWord) → List ℕ
 report_bytes day plan refused =
     day_line day plan.clock
     ++ flat_map (runway_lines day) plan.runways

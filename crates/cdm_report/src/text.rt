@@ -29,7 +29,7 @@ pub fn report_text(
     ensures { IfOk result (λ text. text.items ≡ report_bytes day.now plan.entry.now refused.now) }
 {
     let mut text = String::new(alloc);
-    push_day(&mut text, *day, plan.now)?;
+    push_day(&mut text, *day, plan.clock)?;
     push_runways(&mut text, *day, plan.runways.as_slice())?;
     push_blocked(&mut text, plan.blocked.as_slice())?;
     push_total(&mut text, &indicators(plan))?;

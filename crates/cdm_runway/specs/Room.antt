@@ -28,9 +28,6 @@ taken_by r group m = record { minute = m; occupancy = occupancy_of r.spacing gro
 abbrev pub meets : Taken → Taken → Bool
 meets s t = nat_lt (max s.minute t.minute) (min (s.minute + s.occupancy) (t.minute + t.occupancy))
 
-abbrev pub IsOpen : RunwayRules → ℕ → Type 0
-IsOpen r m = is_closed r m ≡ false
-
 -- a flight of the group that takes the minute meets none of those that took theirs
 abbrev pub IsSpaced : RunwayRules → List Taken → Group → ℕ → Type 0
 IsSpaced r taken group m = All (λ t. meets (taken_by r group m) t ≡ false) taken
@@ -38,7 +35,7 @@ IsSpaced r taken group m = All (λ t. meets (taken_by r group m) t ≡ false) ta
 -- a flight of the group may take the minute: the runway is open, the flight meets no other, and the minute's cell holds fewer
 -- than its capacity
 pub record IsFree (r : RunwayRules) (taken : List Taken) (group : Group) (m : ℕ) : Type 0 where
-  pub is_open : IsOpen r m
+  pub is_open : is_closed r m ≡ false
   pub is_spaced : IsSpaced r taken group m
   pub has_room : held_in_cell r.cell taken m < cap_at r m
 
@@ -55,13 +52,13 @@ AllClosed r from to = (k : ℕ) → from ≤ k → k < to → is_closed r k ≡ 
 
 -- the runway is open at some minute, and at each open one the flight meets another
 pub record AllMet (r : RunwayRules) (taken : List Taken) (group : Group) (from to : ℕ) : Type 0 where
-  pub some_open : (k : ℕ) × (from ≤ k) × (k < to) × IsOpen r k
-  pub met : (k : ℕ) → from ≤ k → k < to → IsOpen r k → IsSpaced r taken group k → ⊥
+  pub some_open : (k : ℕ) × (from ≤ k) × (k < to) × (is_closed r k ≡ false)
+  pub met : (k : ℕ) → from ≤ k → k < to → is_closed r k ≡ false → IsSpaced r taken group k → ⊥
 
 -- the flight meets none at some open minute, and the cell of each such minute is full
 pub record AllFull (r : RunwayRules) (taken : List Taken) (group : Group) (from to : ℕ) : Type 0 where
-  pub some_spaced : (k : ℕ) × (from ≤ k) × (k < to) × IsOpen r k × IsSpaced r taken group k
-  pub full : (k : ℕ) → from ≤ k → k < to → IsOpen r k → IsSpaced r taken group k → cap_at r k ≤ held_in_cell r.cell taken k
+  pub some_spaced : (k : ℕ) × (from ≤ k) × (k < to) × (is_closed r k ≡ false) × IsSpaced r taken group k
+  pub full : (k : ℕ) → from ≤ k → k < to → is_closed r k ≡ false → IsSpaced r taken group k → cap_at r k ≤ held_in_cell r.cell taken k
 
 -- what a window gives a flight of the group: the earliest minute that it may take, or the first of the
 -- three rules that leaves none

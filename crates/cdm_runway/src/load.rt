@@ -171,7 +171,7 @@ impl RunwayLoad {
     /// reasons for which there is none.
     pub fn earliest(&self, runway: &Runway, window: Window, group: Group) -> Result<Minute, Blocked>
         requires { self.now.cell ≡ runway.now.cell }
-        ensures { Gives runway.now self.now.taken group window.from window.to result }
+        ensures { Gives runway.now self.now.taken group window.start window.end result }
     {
         let end = window.to().get();
         let mut number = window.from().get();

@@ -57,7 +57,7 @@ impl Model for Runway {
 
 impl Runway {
     ghost use Rattle.cdm_runway.specs.Rules.{plain_rules, is_rate_window, with_rate, with_closed};
-    ghost use Rattle.cdm_runway.specs.Room.{cap_at, is_closed, IsOpen, AllClosed};
+    ghost use Rattle.cdm_runway.specs.Room.{cap_at, is_closed, AllClosed};
 
     /// A runway with one capacity everywhere, no closure, and no minute of occupancy for any group.
     pub fn new(
@@ -124,7 +124,7 @@ impl Runway {
 
     // The end of the closure that the minute is in, if the runway is closed at it.
     pub(crate) fn closed_until(&self, minute: Minute) -> Option<u16>
-        ensures { MatchOption result (IsOpen self.now minute) (λ end. (minute < end) × AllClosed self.now minute end) }
+        ensures { MatchOption result (is_closed self.now minute ≡ false) (λ end. (minute < end) × AllClosed self.now minute end) }
     {
         let closure = self.closed.at(minute.get());
         if closure.value {

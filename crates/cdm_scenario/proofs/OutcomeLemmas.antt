@@ -1,23 +1,18 @@
 -- The first update that a word refuses.
-use Rattle.std.proofs.Common.{◌≡◌, ℕ, ◌+◌, ◌≤◌, take, length, Option, None, Some, Ok, Err, List, ◌++◌, refl, sym, ap, ◌∙◌, subst, arith}
+use Rattle.std.proofs.Common.{◌≡◌, ℕ, ◌+◌, ◌≤◌, take, length, Option, None, Some, Ok, Err, List, ◌++◌, refl, sym, ap, ◌∙◌, arith}
 use Rattle.std.specs.Prelude.{is_none, slice_get, if◌then◌else◌}
 use Rattle.std.specs.Option.{option_and_then}
 use borrow.Author.Count.{below_more}
 use Rattle.cdm_flight.specs.declared.update.Update.{Update}
 use Rattle.cdm_flight.specs.declared.word.RefusalWord.{RefusalWord}
 use Rattle.cdm_flight.specs.Accepted.{refusal_of}
-use Rattle.cdm_sequence.specs.Slots.{PlanRecord}
-use Rattle.cdm_report.specs.Counts.{counts_of}
-use Rattle.cdm_report.specs.declared.counts.Counts.{Counts}
 use Rattle.cdm_day.specs.declared.reply.Reply.TheVariants as reply
 use Rattle.cdm_plan.specs.Day.{DayRecord, with_update}
-use Rattle.cdm_plan.specs.DayPlan.{IsDayPlan}
 use Rattle.cdm_day.specs.Replies.{reply_of}
 use Rattle.cdm_plan.proofs.NameLemmas.{all_taken}
 use Rattle.cdm_scenario.specs.Overlay.{after_judged, with_updates}
 use Rattle.cdm_scenario.specs.Outcome.{AreTaken, IsLaid, word_at}
 use Rattle.cdm_scenario.specs.inner.OneOutcome.{no_more, one_more}
-use Rattle.cdm_scenario.specs.declared.outcome.Outcome.TheVariants.{Planned, Refused}
 
 -- the day has the first k updates, and no word refused one of them
 pub record HasTaken (d : DayRecord) (updates : List Update) (k : ℕ) (day : DayRecord) : Type 0 where

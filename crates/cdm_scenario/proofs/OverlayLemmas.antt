@@ -17,7 +17,7 @@ use Rattle.cdm_flight.specs.declared.place.Place.{Place}
 use Rattle.cdm_flight.specs.declared.update.Update.{Update}
 use Rattle.cdm_flight.specs.declared.values.DayValues.{DayValues}
 use Rattle.cdm_flight.specs.Names.{same_name}
-use Rattle.cdm_flight.specs.Record.{Record}
+use Rattle.cdm_flight.specs.declared.flight.Flight.{Flight}
 use Rattle.cdm_flight.specs.Taxi.{TaxiRows, is_one_stand_too_many, stands_in}
 use Rattle.cdm_flight.specs.Journal.{AirportRows, flight_of, runway_row, values_of}
 use Rattle.cdm_flight.specs.Accepted.{refusal_of}
@@ -57,12 +57,12 @@ slice_get-back (x ∷ xs) ys (suc i) h = let same : i - length xs ≡ suc i - le
 
 -- The names of a day's flights are those of their records.
 
-name_at_place : (d : DayRecord) → IsSound d → (i : ℕ) (o : Option Record)
+name_at_place : (d : DayRecord) → IsSound d → (i : ℕ) (o : Option Flight)
     → o ≡ option_and_then (flight_of d.airport d.journal) (slice_get (flights_in d.journal) i)
     → option_map (λ r. r.name) o ≡ slice_get (flights_in d.journal) i
-name_at_place d sound i o at = ap (option_map (λ (r : Record). r.name)) at ∙ by (slice_get (flights_in d.journal) i) refl
+name_at_place d sound i o at = ap (option_map (λ (r : Flight). r.name)) at ∙ by (slice_get (flights_in d.journal) i) refl
   where
-    by_record : (k : List ℕ) (q : Option Record) → flight_of d.airport d.journal k ≡ q → is_some q ≡ true → option_map (λ r. r.name) q ≡ Some k
+    by_record : (k : List ℕ) (q : Option Flight) → flight_of d.airport d.journal k ≡ q → is_some q ≡ true → option_map (λ r. r.name) q ≡ Some k
     by_record k None e h = cc
     by_record k (Some r) e h = ap Some (record_name d.airport d.journal k r e)
 
@@ -135,7 +135,7 @@ module _ {g : AirportRows} {a e : List Update} {m : Flights} {new : List (List �
   -- The name of the flight at a place.
 
   pub old_name : {d : DayRecord} → record { airport = g; journal = e } ≡ d → IsSound (record { airport = g; journal = a }) → (i : ℕ) → i < length (flights_in a)
-      → (o : Option Record) → o ≡ option_and_then (flight_of g a) (slice_get (flights_in a) i) → option_map (λ r. r.name) o ≡ slice_get (flights_in d.journal) i
+      → (o : Option Flight) → o ≡ option_and_then (flight_of g a) (slice_get (flights_in a) i) → option_map (λ r. r.name) o ≡ slice_get (flights_in d.journal) i
   old_name is sound i below o at =
       name_at_place (record { airport = g; journal = a }) sound i o at
       ∙ (sym (ap (λ l. slice_get l i) told.order ∙ slice_get-front (flights_in a) new i below) ∙ ap (λ (d : DayRecord). slice_get (flights_in d.journal) i) is)
@@ -185,15 +185,15 @@ module _ {g : AirportRows} {a e : List Update} {m : Flights} {new : List (List �
           day = day ∙ (ap (values_with change) told.day ∙ sym says.day);
         }
       where
-        with_or : (change : Change) (f : List ℕ) (o p : Option Record) → flight_with change f (option_or o p) ≡ option_or (flight_with change f o) p
+        with_or : (change : Change) (f : List ℕ) (o p : Option Flight) → flight_with change f (option_or o p) ≡ option_or (flight_with change f o) p
         with_or (NewFlight r) f o p = either (same_name r.name f) r o p
           where
-            either : (b : Bool) (r : Record) (o p : Option Record) → (if b then Some r else option_or o p) ≡ option_or (if b then Some r else o) p
+            either : (b : Bool) (r : Flight) (o p : Option Flight) → (if b then Some r else option_or o p) ≡ option_or (if b then Some r else o) p
             either true r o p = refl
             either false r o p = refl
         with_or (NextRecord r) f o p = either (same_name r.name f) r o p
           where
-            either : (b : Bool) (r : Record) (o p : Option Record) → (if b then Some r else option_or o p) ≡ option_or (if b then Some r else o) p
+            either : (b : Bool) (r : Flight) (o p : Option Flight) → (if b then Some r else option_or o p) ≡ option_or (if b then Some r else o) p
             either true r o p = refl
             either false r o p = refl
         with_or _ f o p = refl

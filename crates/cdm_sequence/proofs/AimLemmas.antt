@@ -3,12 +3,14 @@ use Rattle.std.proofs.Common.{◌≡◌, ℕ, ◌+◌, ◌-◌, ◌<◌, ◌≤�
 use Rattle.std.proofs.Common.{arith, ap}
 use Rattle.std.proofs.lemmas.Bool.Decides.{nat_tests}
 use Rattle.std.specs.Prelude.{if◌then◌else◌}
-use Rattle.cdm_time.specs.Windows.{Interval, Margins, window_has}
+use Rattle.cdm_time.specs.Windows.{window_has}
+use Rattle.cdm_time.specs.declared.tolerance.Tolerance.{Tolerance}
+use Rattle.std.specs.declared.ops.Range.{Range}
 use Rattle.cdm_flight.specs.declared.key.Key.{Key}
 use Rattle.cdm_flight.specs.declared.values.DayValues.{DayValues}
-use Rattle.cdm_flight.specs.Record.{Record}
+use Rattle.cdm_flight.specs.declared.flight.Flight.{Flight}
 use Rattle.cdm_sequence.specs.Aims.{TaxiTimes, ready_at, exot_to, is_candidate, ReachesAt, IsAim}
-use Rattle.cdm_sequence.specs.Targets.{TargetRecord}
+use Rattle.cdm_sequence.specs.declared.target.Target.{Target}
 use Rattle.cdm_sequence.specs.declared.aims.AimResult.{AimResult}
 use Rattle.cdm_sequence.specs.declared.aims.AimResult.TheVariants.{Ready, Early}
 use Rattle.cdm_sequence.specs.declared.rule.Rule.TheVariants.{Tobt, Runway, Exot, Horizon, Ctot}
@@ -16,55 +18,55 @@ use Rattle.cdm_sequence.specs.declared.rule.Rule.TheVariants.{Tobt, Runway, Exot
 -- Windows.
 
 -- the first of the candidates, and the end of them
-abbrev pub window_from : Margins → ℕ → Option ℕ → ℕ
+abbrev pub window_from : Tolerance → ℕ → Option ℕ → ℕ
 window_from tolerance earliest None = earliest
 window_from tolerance earliest (Some ctot) = max earliest (ctot - tolerance.before)
 
-abbrev pub window_to : Margins → Option ℕ → ℕ
+abbrev pub window_to : Tolerance → Option ℕ → ℕ
 window_to tolerance None = 2880
 window_to tolerance (Some ctot) = min 2880 (ctot + tolerance.after + 1)
 
-abbrev pub window_of : Margins → ℕ → Option ℕ → Interval
-window_of tolerance earliest ctot = record { from = window_from tolerance earliest ctot; to = window_to tolerance ctot }
+abbrev pub window_of : Tolerance → ℕ → Option ℕ → Range ℕ
+window_of tolerance earliest ctot = record { start = window_from tolerance earliest ctot; end = window_to tolerance ctot }
 
 -- the window's minutes are the candidates
-pub window_minutes : (tolerance : Margins) (earliest : ℕ) (ctot : Option ℕ) (m : ℕ)
+pub window_minutes : (tolerance : Tolerance) (earliest : ℕ) (ctot : Option ℕ) (m : ℕ)
     → window_has (window_from tolerance earliest ctot) (window_to tolerance ctot) m ≡ is_candidate tolerance earliest ctot m
 window_minutes tolerance earliest None m = grind (arith, nat_tests)
 window_minutes tolerance earliest (Some ctot) m = grind (arith, nat_tests)
 
 -- a minute lies in a window where it lies between its bounds
-has : (w : Interval) (m : ℕ) → w.from ≤ m → m < w.to → window_has w.from w.to m ≡ true
+has : (w : Range ℕ) (m : ℕ) → w.start ≤ m → m < w.end → window_has w.start w.end m ≡ true
 has w m from to = grind (arith, nat_tests)
 
-had : (w : Interval) (m : ℕ) → window_has w.from w.to m ≡ true → (w.from ≤ m) × (m < w.to)
+had : (w : Range ℕ) (m : ℕ) → window_has w.start w.end m ≡ true → (w.start ≤ m) × (m < w.end)
 had w m h = (grind (arith, nat_tests), grind (arith, nat_tests))
 
-has_none : (w : Interval) (m : ℕ) → nat_lt w.from w.to ≡ false → window_has w.from w.to m ≡ false
+has_none : (w : Range ℕ) (m : ℕ) → nat_lt w.start w.end ≡ false → window_has w.start w.end m ≡ false
 has_none w m h = grind (arith, nat_tests)
 
-had_none : (w : Interval) → window_has w.from w.to w.from ≡ false → nat_lt w.from w.to ≡ false
+had_none : (w : Range ℕ) → window_has w.start w.end w.start ≡ false → nat_lt w.start w.end ≡ false
 had_none w h = grind (arith, nat_tests)
 
 -- windows with the same minutes are one
-window_one : (v w : Interval) → ((m : ℕ) → window_has v.from v.to m ≡ window_has w.from w.to m) → w.from < w.to → v ≡ w
+window_one : (v w : Range ℕ) → ((m : ℕ) → window_has v.start v.end m ≡ window_has w.start w.end m) → w.start < w.end → v ≡ w
 window_one v w same some =
-    let a = had v w.from (same w.from ∙ has w w.from (omega arith) some) in
-    let b = had v (w.to - 1) (same (w.to - 1) ∙ has w (w.to - 1) (omega arith) (omega arith)) in
-    let c = had w v.from (sym (same v.from) ∙ has v v.from (omega arith) (omega (arith, a.0, a.1))) in
-    let d = had w (v.to - 1) (sym (same (v.to - 1)) ∙ has v (v.to - 1) (omega (arith, a.0, a.1)) (omega (arith, a.1))) in
-    let from : v.from ≡ w.from = omega (arith, a.0, c.0) in
-    let to : v.to ≡ w.to = omega (arith, a.1, b.1, d.1, some) in
-    λ i. record { from = from i; to = to i }
+    let a = had v w.start (same w.start ∙ has w w.start (omega arith) some) in
+    let b = had v (w.end - 1) (same (w.end - 1) ∙ has w (w.end - 1) (omega arith) (omega arith)) in
+    let c = had w v.start (sym (same v.start) ∙ has v v.start (omega arith) (omega (arith, a.0, a.1))) in
+    let d = had w (v.end - 1) (sym (same (v.end - 1)) ∙ has v (v.end - 1) (omega (arith, a.0, a.1)) (omega (arith, a.1))) in
+    let from : v.start ≡ w.start = omega (arith, a.0, c.0) in
+    let to : v.end ≡ w.end = omega (arith, a.1, b.1, d.1, some) in
+    λ i. record { start = from i; end = to i }
 
-reached : (tolerance : Margins) (earliest : ℕ) (ctot : Option ℕ) → window_from tolerance earliest ctot < window_to tolerance ctot
+reached : (tolerance : Tolerance) (earliest : ℕ) (ctot : Option ℕ) → window_from tolerance earliest ctot < window_to tolerance ctot
     → (nat_le 2880 earliest ≡ false) × (nat_lt (window_from tolerance earliest ctot) (window_to tolerance ctot) ≡ true)
 reached tolerance earliest None h = (grind (arith, nat_tests), grind (arith, nat_tests))
 reached tolerance earliest (Some ctot) h = (grind (arith, nat_tests), grind (arith, nat_tests))
 
 -- The answer, step by step.
 
-abbrev target_of : Record → DayValues → ℕ → List ℕ → ℕ → TargetRecord
+abbrev target_of : Flight → DayValues → ℕ → List ℕ → ℕ → Target
 target_of f values tobt runway exot = record {
   key = record { priority = f.priority; tobt = tobt; name = f.name };
   runway = runway;
@@ -76,35 +78,35 @@ target_of f values tobt runway exot = record {
 }
 
 -- the flight has a candidate from the earliest minute on
-abbrev has_some : Record → DayValues → ℕ → Bool
+abbrev has_some : Flight → DayValues → ℕ → Bool
 has_some f values earliest = nat_lt (window_from values.tolerance earliest f.ctot) (window_to values.tolerance f.ctot)
 
 -- the target, unless no minute is in reach, or none of those is a candidate
-abbrev if_possible : Bool → Bool → TargetRecord → AimResult
+abbrev if_possible : Bool → Bool → Target → AimResult
 if_possible out some t = if out then Early Horizon else if some then Ready t else Early Ctot
 
-abbrev pub aim_with_exot : Record → DayValues → ℕ → List ℕ → Option ℕ → AimResult
+abbrev pub aim_with_exot : Flight → DayValues → ℕ → List ℕ → Option ℕ → AimResult
 aim_with_exot f values tobt runway None = Early Exot
 aim_with_exot f values tobt runway (Some exot) =
     if_possible (nat_le 2880 (ready_at f tobt values + exot)) (has_some f values (ready_at f tobt values + exot)) (target_of f values tobt runway exot)
 
-abbrev pub aim_with : Record → TaxiTimes → DayValues → Option ℕ → Option (List ℕ) → AimResult
+abbrev pub aim_with : Flight → TaxiTimes → DayValues → Option ℕ → Option (List ℕ) → AimResult
 aim_with f times values None runway = Early Tobt
 aim_with f times values (Some tobt) None = Early Runway
 aim_with f times values (Some tobt) (Some runway) = aim_with_exot f values tobt runway (exot_to times f runway)
 
-unfoldable pub aim_of : Record → TaxiTimes → DayValues → AimResult
+unfoldable pub aim_of : Flight → TaxiTimes → DayValues → AimResult
 aim_of f times values = aim_with f times values f.tobt f.runway
 
 -- a flight with a TOBT, a runway and a taxi-out time reaches the runway by them
-pub reaches : (f : Record) (times : TaxiTimes) (values : DayValues) (P : ℕ → Type 0) (tobt exot : ℕ) (runway : List ℕ) → f.tobt ≡ Some tobt
+pub reaches : (f : Flight) (times : TaxiTimes) (values : DayValues) (P : ℕ → Type 0) (tobt exot : ℕ) (runway : List ℕ) → f.tobt ≡ Some tobt
     → f.runway ≡ Some runway
     → exot_to times f runway ≡ Some exot → P (ready_at f tobt values + exot) → ReachesAt f times values P
 reaches f times values P tobt exot runway d e h p = rw (d, e, h) p
 
-module _ (f : Record) (times : TaxiTimes) (values : DayValues) where
+module _ (f : Flight) (times : TaxiTimes) (values : DayValues) where
   -- the flight with this TOBT and this runway
-  abbrev flight_with : Option ℕ → Option (List ℕ) → Record
+  abbrev flight_with : Option ℕ → Option (List ℕ) → Flight
   flight_with tobt runway = record f { tobt = tobt; runway = runway }
 
   -- the answer is right
@@ -159,7 +161,7 @@ module _ (f : Record) (times : TaxiTimes) (values : DayValues) where
         let far : 2880 ≤ ready_at f tobt values + exot = rw h at e in
         let t = target_of f values tobt runway exot in
         let out : nat_le 2880 (ready_at f tobt values + exot) ≡ true = grind (arith, nat_tests) in
-        ap (λ b. if_possible b (nat_lt t.window.from t.window.to) t) out
+        ap (λ b. if_possible b (nat_lt t.window.start t.window.end) t) out
     by None h (Early Ctot) e = absurd (rw h at e)
     by (Some exot) h (Early Ctot) e =
         let earliest = ready_at f tobt values + exot in
@@ -167,7 +169,7 @@ module _ (f : Record) (times : TaxiTimes) (values : DayValues) where
         let t = target_of f values tobt runway exot in
         let near = held.0 in
         let out : nat_le 2880 earliest ≡ false = grind (arith, nat_tests) in
-        let none = had_none t.window (window_minutes values.tolerance earliest f.ctot t.window.from ∙ held.1 t.window.from) in
+        let none = had_none t.window (window_minutes values.tolerance earliest f.ctot t.window.start ∙ held.1 t.window.start) in
         λ i. if_possible (out i) (none i) t
     by x h (Ready t) e =
         let own : Key = record { priority = f.priority; tobt = tobt; name = f.name } in
@@ -178,23 +180,23 @@ module _ (f : Record) (times : TaxiTimes) (values : DayValues) where
         let earliest = ready_at f tobt values + t.exot in
         let window : found.window ≡ t.window = window_one found.window t.window (λ m. window_minutes values.tolerance earliest f.ctot m
         ∙ ((λ i. is_candidate values.tolerance (ready i + t.exot) (sym e.ctot i) m) ∙ sym (e.minutes m))) e.some_minute in
-        let possible = reached values.tolerance earliest f.ctot (subst (λ (w : Interval). w.from < w.to) (sym window) e.some_minute) in
+        let possible = reached values.tolerance earliest f.ctot (subst (λ (w : Range ℕ). w.start < w.end) (sym window) e.some_minute) in
         let target : found ≡ t = λ i. record { key = key i; runway = runway_is i; ctot = sym e.ctot i; group = sym e.group i; exot = t.exot; ready = ready i; window = window i } in
         ap (aim_with_exot f values tobt runway) (sym h ∙ ap (exot_to times f) runway_is ∙ e.exot) ∙ (λ i. if_possible (possible.0 i) (possible.1 i) found)
         ∙ ap Ready target
     by x h _ e = absurd e
 
-pub aim_means : (f : Record) (times : TaxiTimes) (values : DayValues) → IsAim f times values (aim_of f times values)
+pub aim_means : (f : Flight) (times : TaxiTimes) (values : DayValues) → IsAim f times values (aim_of f times values)
 unfolding aim_of
 aim_means f times values = means f times values f.tobt f.runway
 
-pub aim_is : (f : Record) (times : TaxiTimes) (values : DayValues) (a : AimResult) → IsAim f times values a → aim_of f times values ≡ a
+pub aim_is : (f : Flight) (times : TaxiTimes) (values : DayValues) (a : AimResult) → IsAim f times values a → aim_of f times values ≡ a
 unfolding aim_of
 aim_is f times values = only f times values f.tobt f.runway
 
 -- so there is one
-pub aim_one : (f : Record) (times : TaxiTimes) (values : DayValues) (a b : AimResult) → IsAim f times values a → IsAim f times values b → a ≡ b
+pub aim_one : (f : Flight) (times : TaxiTimes) (values : DayValues) (a b : AimResult) → IsAim f times values a → IsAim f times values b → a ≡ b
 aim_one f times values a b x y = sym (aim_is f times values a x) ∙ aim_is f times values b y
 
-pub aim_some : (f : Record) (times : TaxiTimes) (values : DayValues) → (a : AimResult) × IsAim f times values a
+pub aim_some : (f : Flight) (times : TaxiTimes) (values : DayValues) → (a : AimResult) × IsAim f times values a
 aim_some f times values = (aim_of f times values, aim_means f times values)

@@ -7,7 +7,7 @@ use Rattle.std.proofs.lemmas.List.Elements.{All-contains, filter_passes}
 use Rattle.cdm_flight.proofs.Lists.{contains_all, contains_kept}
 use Rattle.cdm_flight.specs.Order.{is_before}
 use Rattle.cdm_sequence.specs.Plan.{Placing, IsSooner, IsEarlier}
-use Rattle.cdm_sequence.specs.Targets.{TargetRecord}
+use Rattle.cdm_sequence.specs.declared.target.Target.{Target}
 use Rattle.cdm_sequence.proofs.OrderLemmas.{first_in, keys_weak}
 
 abbrev unlike : Option ℕ → Option ℕ → Bool
@@ -26,14 +26,14 @@ one_sooner (Some a) (Some b) h = grind (arith, nat_tests)
 one_sooner None (Some b) h = inr tt
 one_sooner (Some a) None h = inl tt
 
-pub compared : (fs : List TargetRecord) (p q : Placing) → ((f : TargetRecord) → Contains fs f → p f ≡ q f) ⊎ (IsEarlier fs p q ⊎ IsEarlier fs q p)
+pub compared : (fs : List Target) (p q : Placing) → ((f : Target) → Contains fs f → p f ≡ q f) ⊎ (IsEarlier fs p q ⊎ IsEarlier fs q p)
 compared fs p q =
-    let differs : TargetRecord → Bool = λ f. unlike (p f) (q f) in
-    elim (first_in (λ (x y : TargetRecord). is_before x.key y.key) keys_weak (filter differs fs)) [
+    let differs : Target → Bool = λ f. unlike (p f) (q f) in
+    elim (first_in (λ (x y : Target). is_before x.key y.key) keys_weak (filter differs fs)) [
       | inl none ↦ inl (λ f i. alike (p f) (q f) (false_from_ne_true (differs f) (λ e. none f (contains_kept differs fs f i e))))
       | inr (g, i, least) ↦
           let among = contains_all differs fs g i in
-          let agree : (h : TargetRecord) → Contains fs h → is_before h.key g.key ≡ true → p h ≡ q h = λ h j b.
+          let agree : (h : Target) → Contains fs h → is_before h.key g.key ≡ true → p h ≡ q h = λ h j b.
           alike (p h) (q h) (false_from_ne_true (differs h) (λ e. false≢true (sym (least h (contains_kept differs fs h j e)) ∙ b))) in
           elim (one_sooner (p g) (q g) (All-contains (λ f. differs f ≡ true) (filter differs fs) g (filter_passes differs fs) i)) [
             | inl sooner ↦ inr (inl record { first = g; among = among; sooner = sooner; agree = agree })

@@ -8,8 +8,9 @@ use Rattle.std.proofs.lemmas.List.Sorted.{IsPermutation-append, IsPermutation-ap
 use Rattle.cdm_runway.specs.Rules.{RunwayRules}
 use Rattle.cdm_sequence.specs.Plan.{Placing}
 use Rattle.cdm_sequence.specs.Sequence.{planned_slot, flight_names, IsSequence}
-use Rattle.cdm_sequence.specs.Slots.{SlotRecord, RunwayPlanRecord}
-use Rattle.cdm_sequence.specs.Targets.{TargetRecord}
+use Rattle.cdm_sequence.specs.declared.plan.RunwayPlan.{RunwayPlan}
+use Rattle.cdm_sequence.specs.declared.slot.Slot.{Slot}
+use Rattle.cdm_sequence.specs.declared.target.Target.{Target}
 use Rattle.cdm_sequence.specs.inner.Shown.{slots_by, names_left}
 
 -- the names of what flights give are those of the flights that give something
@@ -26,14 +27,14 @@ names_given {X} {Y} name key h own (f ∷ fs) = go (h f) (own f) (names_given na
   go (Some y) e rest = λ i. e i ∷ rest i
 
 -- each flight has a slot, or is left without one
-pub shown_by : (p : Placing) (fixed : List SlotRecord) (ts : List TargetRecord)
+pub shown_by : (p : Placing) (fixed : List Slot) (ts : List Target)
     → IsPermutation (flight_names fixed ts) (map (λ x. x.name) (slots_by p fixed ts) ++ names_left p ts)
 shown_by p fixed ts =
-    let key : TargetRecord → List ℕ = λ t. t.key.name in
-    let slot : TargetRecord → Option SlotRecord = λ t. option_map (planned_slot t) (p t) in
-    let name : SlotRecord → List ℕ = λ x. x.name in
-    let own : (t : TargetRecord) (o : Option ℕ) → IfSome (option_map (planned_slot t) o) (λ x. x.name ≡ t.key.name) = λ t. elim [ None ↦ tt | Some m ↦ refl ] in
-    let other : (t : TargetRecord) (o : Option ℕ) → is_none o ≡ not (is_some (option_map (planned_slot t) o)) = λ t. elim [ None ↦ refl | Some m ↦ refl ] in
+    let key : Target → List ℕ = λ t. t.key.name in
+    let slot : Target → Option Slot = λ t. option_map (planned_slot t) (p t) in
+    let name : Slot → List ℕ = λ x. x.name in
+    let own : (t : Target) (o : Option ℕ) → IfSome (option_map (planned_slot t) o) (λ x. x.name ≡ t.key.name) = λ t. elim [ None ↦ tt | Some m ↦ refl ] in
+    let other : (t : Target) (o : Option ℕ) → is_none o ≡ not (is_some (option_map (planned_slot t) o)) = λ t. elim [ None ↦ refl | Some m ↦ refl ] in
     let given = filter (λ t. is_some (slot t)) ts in
     let left = filter (λ t. is_none (p t)) ts in
     let parted = IsPermutation-map key ts (given ++ left) (IsPermutation-filter_both (λ t. is_some (slot t)) (λ t. is_none (p t)) (λ t. other t (p t)) ts) in
@@ -45,12 +46,12 @@ shown_by p fixed ts =
     subst (IsPermutation (flight_names fixed ts)) whole (IsPermutation-append_right (map name fixed) _ _ (subst (IsPermutation (map key ts)) named parted))
 
 -- the names that the plan of a runway shows
-abbrev pub shown : RunwayPlanRecord → List (List ℕ)
+abbrev pub shown : RunwayPlan → List (List ℕ)
 shown plan = map (λ x. x.name) plan.slots ++ map (λ b. b.name) plan.blocked
 
 -- they are those of all its flights
-pub all_shown : (r : RunwayRules) (fixed : List SlotRecord) (targets : List TargetRecord) (plan : RunwayPlanRecord) → IsSequence r fixed targets plan
+pub all_shown : (r : RunwayRules) (fixed : List Slot) (targets : List Target) (plan : RunwayPlan) → IsSequence r fixed targets plan
     → IsPermutation (flight_names fixed targets) (shown plan)
 all_shown r fixed targets plan (p, e) =
-    let slots = IsPermutation-map (λ (x : SlotRecord). x.name) (slots_by p fixed targets) plan.slots e.slots in
+    let slots = IsPermutation-map (λ (x : Slot). x.name) (slots_by p fixed targets) plan.slots e.slots in
     IsPermutation-trans _ _ _ (shown_by p fixed targets) (IsPermutation-append _ _ _ _ slots e.blocked)

@@ -24,8 +24,10 @@ use Rattle.cdm_sequence.specs.Fixed.{takeoffs}
 use Rattle.cdm_sequence.specs.Plan.{Placing, taken_before, taken_of, IsLeast}
 use Rattle.cdm_sequence.specs.Sequence.{planned_slot, flight_names, Blocks, IsRightlyBlocked, IsSequenceBy, IsSequence}
 use Rattle.cdm_sequence.specs.inner.Shown.{slots_by, names_left}
-use Rattle.cdm_sequence.specs.Slots.{SlotRecord, RunwayPlanRecord, slot_cmp}
-use Rattle.cdm_sequence.specs.Targets.{TargetRecord}
+use Rattle.cdm_sequence.specs.Slots.{slot_cmp}
+use Rattle.cdm_sequence.specs.declared.plan.RunwayPlan.{RunwayPlan}
+use Rattle.cdm_sequence.specs.declared.slot.Slot.{Slot}
+use Rattle.cdm_sequence.specs.declared.target.Target.{Target}
 use Rattle.cdm_sequence.specs.declared.rule.Rule.{Rule}
 use Rattle.cdm_sequence.specs.declared.rule.Rule.TheVariants.{Closure, Spacing, Rate}
 use Rattle.cdm_sequence.specs.declared.slot.BlockedFlight.{BlockedFlight}
@@ -39,7 +41,7 @@ use Rattle.cdm_sequence.proofs.PlanLemmas.{plan_agree, plan_one, taken_agree}
 held_permuted : (c m : ℕ) (xs ys : List Taken) → IsPermutation xs ys → held_in_cell c ys m ≡ held_in_cell c xs m
 held_permuted c m xs ys same = sum_by-IsPermutation (λ t. cond (t.minute / c == m / c) 1 0) xs ys same
 
-module _ (r : RunwayRules) (xs ys : List Taken) (f : TargetRecord) (same : IsPermutation xs ys) where
+module _ (r : RunwayRules) (xs ys : List Taken) (f : Target) (same : IsPermutation xs ys) where
   spaced_permuted : (m : ℕ) → IsSpaced r xs f.group m → IsSpaced r ys f.group m
   spaced_permuted m = All-permutation (λ t. meets (taken_by r f.group m) t ≡ false) xs ys same
 
@@ -85,17 +87,17 @@ module _ (r : RunwayRules) (xs ys : List Taken) (f : TargetRecord) (same : IsPer
   blocks_permuted _ e = absurd e
 
 -- the sequence of flights is that of the same flights in another order
-reordered_by : (p : Placing) (r : RunwayRules) (fixed fixed' : List SlotRecord) (ts us : List TargetRecord) (plan : RunwayPlanRecord)
+reordered_by : (p : Placing) (r : RunwayRules) (fixed fixed' : List Slot) (ts us : List Target) (plan : RunwayPlan)
     → IsPermutation fixed fixed' → IsPermutation ts us → IsSequenceBy p r fixed ts plan → IsSequenceBy p r fixed' us plan
 reordered_by p r fixed fixed' ts us plan same order e =
     let xs = takeoffs r fixed in
     let ys = takeoffs r fixed' in
-    let taken : (f : TargetRecord) → IsPermutation (taken_before r xs ts p f) (taken_before r ys us p f) = λ f.
-    let earlier : TargetRecord → Bool = λ g. is_before g.key f.key in
-    IsPermutation-append _ _ _ _ (IsPermutation-map (λ (x : SlotRecord). taken_by r x.group x.ttot) fixed fixed' same)
+    let taken : (f : Target) → IsPermutation (taken_before r xs ts p f) (taken_before r ys us p f) = λ f.
+    let earlier : Target → Bool = λ g. is_before g.key f.key in
+    IsPermutation-append _ _ _ _ (IsPermutation-map (λ (x : Slot). taken_by r x.group x.ttot) fixed fixed' same)
     (IsPermutation-filter_map (taken_of r p) (filter earlier ts) (filter earlier us) (IsPermutation-filter earlier ts us order)) in
-    let slot : TargetRecord → Option SlotRecord = λ f. option_map (planned_slot f) (p f) in
-    let free : TargetRecord → Bool = λ f. is_none (p f) in
+    let slot : Target → Option Slot = λ f. option_map (planned_slot f) (p f) in
+    let free : Target → Bool = λ f. is_none (p f) in
     record {
       runway = e.runway;
       minutes = All-permutation (λ f. IsLeast r (taken_before r ys us p f) f (p f)) ts us order
@@ -103,7 +105,7 @@ reordered_by p r fixed fixed' ts us plan same order e =
       slots = IsPermutation-trans _ _ _ (IsPermutation-sym _ _ (IsPermutation-append _ _ _ _ same (IsPermutation-filter_map slot ts us order))) e.slots;
       slot_order = e.slot_order;
       blocked = IsPermutation-trans _ _ _
-          (IsPermutation-sym _ _ (IsPermutation-map (λ (f : TargetRecord). f.key.name) _ _ (IsPermutation-filter free ts us order))) e.blocked;
+          (IsPermutation-sym _ _ (IsPermutation-map (λ (f : Target). f.key.name) _ _ (IsPermutation-filter free ts us order))) e.blocked;
       rules = All-weaker (IsRightlyBlocked r xs ts p) (IsRightlyBlocked r ys us p)
           (λ b w.
           let other = blocks_permuted r (taken_before r xs ts p w.0) (taken_before r ys us p w.0) w.0 (taken w.0) b.rule w.3 in
@@ -112,15 +114,15 @@ reordered_by p r fixed fixed' ts us plan same order e =
       blocked_order = e.blocked_order;
     }
 
-pub reordered : (r : RunwayRules) (fixed fixed' : List SlotRecord) (ts us : List TargetRecord) (plan : RunwayPlanRecord)
+pub reordered : (r : RunwayRules) (fixed fixed' : List Slot) (ts us : List Target) (plan : RunwayPlan)
     → IsPermutation fixed fixed' → IsPermutation ts us → IsSequence r fixed ts plan → IsSequence r fixed' us plan
 reordered r fixed fixed' ts us plan same order (p, e) = (p, reordered_by p r fixed fixed' ts us plan same order e)
 
 -- Any placing.
 
 -- a placing that agrees with a sequence's on its targets is the sequence's
-pub sequence_agree : (p q : Placing) (r : RunwayRules) (fixed : List SlotRecord) (ts : List TargetRecord) (plan : RunwayPlanRecord)
-    → ((f : TargetRecord) → Contains ts f → p f ≡ q f) → IsSequenceBy p r fixed ts plan → IsSequenceBy q r fixed ts plan
+pub sequence_agree : (p q : Placing) (r : RunwayRules) (fixed : List Slot) (ts : List Target) (plan : RunwayPlan)
+    → ((f : Target) → Contains ts f → p f ≡ q f) → IsSequenceBy p r fixed ts plan → IsSequenceBy q r fixed ts plan
 sequence_agree p q r fixed ts plan agree e =
     let xs = takeoffs r fixed in
     let slots = filter_map_same (λ f. option_map (planned_slot f) (p f)) (λ f. option_map (planned_slot f) (q f)) ts
@@ -157,10 +159,10 @@ one_order {X} {K} {R} total key all xs ys one same other up vp =
     (λ g. sum_by-IsPermutation (λ a. g (key a)) all xs same ∙ sym (sum_by-IsPermutation (λ a. g (key a)) all ys other))
 
 slot_total : IsTotalOrder slot_cmp
-slot_total = then_total (on_total (λ (s : SlotRecord). s.ttot) nat_cmp_total) (on_total (λ (s : SlotRecord). s.name) nat_list_cmp_total)
+slot_total = then_total (on_total (λ (s : Slot). s.ttot) nat_cmp_total) (on_total (λ (s : Slot). s.name) nat_list_cmp_total)
 
 -- one rule blocks a flight
-rule_one : (r : RunwayRules) (taken : List Taken) (f : TargetRecord) (a b : Rule) → Blocks r taken f a → Blocks r taken f b → a ≡ b
+rule_one : (r : RunwayRules) (taken : List Taken) (f : Target) (a b : Rule) → Blocks r taken f a → Blocks r taken f b → a ≡ b
 rule_one r taken f Closure Closure h k = refl
 rule_one r taken f Spacing Spacing h k = refl
 rule_one r taken f Rate Rate h k = refl
@@ -176,15 +178,15 @@ rule_one r taken f Rate _ h k = absurd k
 rule_one r taken f _ b h k = absurd h
 
 -- two sequences by one placing are the same
-same_plan : (p : Placing) (r : RunwayRules) (fixed : List SlotRecord) (ts : List TargetRecord) (x y : RunwayPlanRecord)
+same_plan : (p : Placing) (r : RunwayRules) (fixed : List Slot) (ts : List Target) (x y : RunwayPlan)
     → IsDistinct same_name (flight_names fixed ts) → IsSequenceBy p r fixed ts x → IsSequenceBy p r fixed ts y → x ≡ y
 same_plan p r fixed ts x y own a b =
     let xs = takeoffs r fixed in
     let all = slots_by p fixed ts in
-    let slot_name : SlotRecord → List ℕ = λ s. s.name in
-    let key : TargetRecord → List ℕ = λ f. f.key.name in
+    let slot_name : Slot → List ℕ = λ s. s.name in
+    let key : Target → List ℕ = λ f. f.key.name in
     let names = distinct_left same_name (map slot_name all) (names_left p ts) (IsDistinct-IsPermutation same_name same_flips _ _ (shown_by p fixed ts) own) in
-    let slots : x.slots ≡ y.slots = one_order slot_total (λ (s : SlotRecord). s) all x.slots y.slots
+    let slots : x.slots ≡ y.slots = one_order slot_total (λ (s : Slot). s) all x.slots y.slots
     (λ s t i j tied. one_of_key same_name same_flips slot_name all s t names i j
     (is_same s.name t.name (tied_names s.name t.name (last_ties (nat_cmp s.ttot t.ttot) (name_cmp s.name t.name) tied))))
     a.slots b.slots a.slot_order b.slot_order in
@@ -198,7 +200,7 @@ same_plan p r fixed ts x y own a b =
     let w : IsRightlyBlocked r xs ts p d = All-contains (IsRightlyBlocked r xs ts p) y.blocked d b.rules j in
     let named : w.0.key.name ≡ v.0.key.name = sym w.2 ∙ sym same ∙ v.2 in
     let target : w.0 ≡ v.0 = one_of_key same_name same_flips key ts w.0 v.0 own_targets w.1 v.1 (is_same _ _ named) in
-    let other : Blocks r (taken_before r xs ts p v.0) v.0 d.rule = subst (λ (f : TargetRecord). Blocks r (taken_before r xs ts p f) f d.rule) target w.3 in
+    let other : Blocks r (taken_before r xs ts p v.0) v.0 d.rule = subst (λ (f : Target). Blocks r (taken_before r xs ts p f) f d.rule) target w.3 in
     let rule : c.rule ≡ d.rule = rule_one r (taken_before r xs ts p v.0) v.0 c.rule d.rule v.3 other in
     λ i. record { name = same i; rule = rule i })
     a.blocked_order b.blocked_order
@@ -209,7 +211,7 @@ same_plan p r fixed ts x y own a b =
     λ i. record { runway = runway i; slots = slots i; blocked = blocked i }
 
 -- a runway has one sequence
-pub sequence_one : (r : RunwayRules) (fixed fixed' : List SlotRecord) (ts us : List TargetRecord) (x y : RunwayPlanRecord)
+pub sequence_one : (r : RunwayRules) (fixed fixed' : List Slot) (ts us : List Target) (x y : RunwayPlan)
     → IsDistinct same_name (flight_names fixed ts)
     → IsPermutation fixed fixed' → IsPermutation ts us → IsSequence r fixed ts x → IsSequence r fixed' us y → x ≡ y
 sequence_one r fixed fixed' ts us x y own same order (p, a) (q, b) =

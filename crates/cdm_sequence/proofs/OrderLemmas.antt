@@ -17,7 +17,7 @@ use Rattle.std.proofs.lemmas.Slice.Eq.{slice_eq-Decides}
 use Rattle.cdm_flight.specs.declared.key.Key.{Key}
 use Rattle.cdm_flight.specs.Names.{name_cmp, same_name}
 use Rattle.cdm_flight.specs.Order.{key_cmp, is_before}
-use Rattle.cdm_sequence.specs.Targets.{TargetRecord}
+use Rattle.cdm_sequence.specs.declared.target.Target.{Target}
 
 names_decide : (m n : List ℕ) → Decides (same_name m n) (m ≡ n)
 names_decide m n = slice_eq-Decides Decides-eqb m n (same_name m n) refl
@@ -76,7 +76,7 @@ not_back a b h = go (is_before b a) refl where
   go false e = refl
   go true e = absurd (false≢true (sym (before_itself a) ∙ before_trans a b a h e))
 
-pub keys_weak : IsStrictWeakOrder (λ (x y : TargetRecord). is_before x.key y.key)
+pub keys_weak : IsStrictWeakOrder (λ (x y : Target). is_before x.key y.key)
 unfolding is_before
 keys_weak = ranks_by key_total (λ t. t.key)
 

@@ -15,37 +15,37 @@ use Rattle.cdm_runway.specs.Rules.{RunwayRules}
 use Rattle.cdm_runway.specs.Room.{cap_at, held_in_cell, taken_by, IsFree}
 use Rattle.cdm_runway.specs.declared.load.Taken.{Taken}
 use Rattle.cdm_sequence.specs.Plan.{Placing, taken_before, taken_of, IsLeast, IsPlan, MayHave, IsAllowed, IsSooner, IsEarlier, IsFirst}
-use Rattle.cdm_sequence.specs.Targets.{TargetRecord}
+use Rattle.cdm_sequence.specs.declared.target.Target.{Target}
 use Rattle.cdm_sequence.proofs.OrderLemmas.{before_itself, before_or_after, first_in, is_same, keys_weak, same_is}
 use Rattle.cdm_sequence.proofs.DifferenceLemmas.{compared}
 use Rattle.std.proofs.lemmas.List.Sorted.{IsStrictWeakOrder-flip}
 
 -- placings that agree on the flights before f leave it the same
-pub taken_agree : (r : RunwayRules) (fixed : List Taken) (ts : List TargetRecord) (p q : Placing) (f : TargetRecord)
-    → ((g : TargetRecord) → Contains ts g → is_before g.key f.key ≡ true → p g ≡ q g) → taken_before r fixed ts p f ≡ taken_before r fixed ts q f
+pub taken_agree : (r : RunwayRules) (fixed : List Taken) (ts : List Target) (p q : Placing) (f : Target)
+    → ((g : Target) → Contains ts g → is_before g.key f.key ≡ true → p g ≡ q g) → taken_before r fixed ts p f ≡ taken_before r fixed ts q f
 taken_agree r fixed ts p q f same =
-    let earlier : TargetRecord → Bool = λ g. is_before g.key f.key in
+    let earlier : Target → Bool = λ g. is_before g.key f.key in
     let passes = filter_passes earlier ts in
     ap (λ (xs : List Taken). fixed ++ xs) (filter_map_same (taken_of r p) (taken_of r q) (filter earlier ts) (λ g i.
     ap (option_map (taken_by r g.group)) (same g (contains_all earlier ts g i) (All-contains (λ g. earlier g ≡ true) (filter earlier ts) g passes i))))
 
 -- a minute at which the flight could take off
-abbrev Fits : RunwayRules → List Taken → TargetRecord → ℕ → Type 0
-Fits r taken f m = (f.window.from ≤ m) × (m < f.window.to) × IsFree r taken f.group m
+abbrev Fits : RunwayRules → List Taken → Target → ℕ → Type 0
+Fits r taken f m = (f.window.start ≤ m) × (m < f.window.end) × IsFree r taken f.group m
 
 -- none is sooner than its earliest
-fits_later : (r : RunwayRules) (taken : List Taken) (f : TargetRecord) (o u : Option ℕ) → IfSome o (Fits r taken f) → IsLeast r taken f u → IsSooner o u → ⊥
+fits_later : (r : RunwayRules) (taken : List Taken) (f : Target) (o u : Option ℕ) → IfSome o (Fits r taken f) → IsLeast r taken f u → IsSooner o u → ⊥
 fits_later r taken f None u fits least s = s
 fits_later r taken f (Some m) None fits least s = least m fits.0 fits.1 fits.2
 fits_later r taken f (Some m) (Some n) fits least s = let l = least.least m fits.0 fits.1 fits.2 in omega arith
 
-least_fits : (r : RunwayRules) (taken : List Taken) (f : TargetRecord) (o : Option ℕ) → IsLeast r taken f o → IfSome o (Fits r taken f)
+least_fits : (r : RunwayRules) (taken : List Taken) (f : Target) (o : Option ℕ) → IsLeast r taken f o → IfSome o (Fits r taken f)
 least_fits r taken f None least = tt
 least_fits r taken f (Some m) least = (least.after, least.before, least.free)
 
-module _ (r : RunwayRules) (fixed : List Taken) (ts : List TargetRecord) where
+module _ (r : RunwayRules) (fixed : List Taken) (ts : List Target) where
   -- each flight has its earliest minute
-  least_of : (p : Placing) → IsPlan r fixed ts p → (f : TargetRecord) → Contains ts f → IsLeast r (taken_before r fixed ts p f) f (p f)
+  least_of : (p : Placing) → IsPlan r fixed ts p → (f : Target) → Contains ts f → IsLeast r (taken_before r fixed ts p f) f (p f)
   least_of p plan f = All-contains (λ f. IsLeast r (taken_before r fixed ts p f) f (p f)) ts f plan
 
   -- where a placing is earlier than the plan, its first other minute doesn't fit
@@ -55,7 +55,7 @@ module _ (r : RunwayRules) (fixed : List Taken) (ts : List TargetRecord) where
       (subst (λ (xs : List Taken). IsLeast r xs e.first (p e.first)) (sym (taken_agree r fixed ts q p e.first e.agree)) (least_of p plan e.first e.among)) e.sooner
 
   -- there is one plan
-  pub plan_one : (p q : Placing) → IsPlan r fixed ts p → IsPlan r fixed ts q → (f : TargetRecord) → Contains ts f → p f ≡ q f
+  pub plan_one : (p q : Placing) → IsPlan r fixed ts p → IsPlan r fixed ts q → (f : Target) → Contains ts f → p f ≡ q f
   plan_one p q a b = elim (compared ts p q) [
     | inl same ↦ same
     | inr (inl e) ↦ absurd (none_fits q p b e (least_fits r (taken_before r fixed ts p e.first) e.first (p e.first) (least_of p a e.first e.among)))
@@ -63,7 +63,7 @@ module _ (r : RunwayRules) (fixed : List Taken) (ts : List TargetRecord) where
   ]
 
   -- a placing that agrees with the plan on its targets is the plan
-  pub plan_agree : (p q : Placing) → ((g : TargetRecord) → Contains ts g → p g ≡ q g) → IsPlan r fixed ts p → IsPlan r fixed ts q
+  pub plan_agree : (p q : Placing) → ((g : Target) → Contains ts g → p g ≡ q g) → IsPlan r fixed ts p → IsPlan r fixed ts q
   plan_agree p q same plan = λ k d l.
       let f = get_or ts k d in
       let taken = taken_agree r fixed ts p q f (λ g i b. same g i) in
@@ -101,27 +101,27 @@ given_parted {X} {Y} t p b (x ∷ xs) = go (b x) (given_parted t p b xs) where
   ]
 
 -- flights of one name of which each has a name of its own are one at most
-one_at_most : (name : List ℕ) (fs : List TargetRecord) → IsDistinct same_name (map (λ f. f.key.name) fs)
-    → ((f : TargetRecord) → Contains fs f → same_name f.key.name name ≡ true) → length fs ≤ 1
+one_at_most : (name : List ℕ) (fs : List Target) → IsDistinct same_name (map (λ f. f.key.name) fs)
+    → ((f : Target) → Contains fs f → same_name f.key.name name ≡ true) → length fs ≤ 1
 one_at_most name [] own same = omega arith
 one_at_most name (f ∷ []) own same = omega arith
 one_at_most name (f ∷ g ∷ fs) own same =
-    let names = map (λ (f : TargetRecord). f.key.name) fs in
+    let names = map (λ (f : Target). f.key.name) fs in
     let apart = apart_from_head same_name f.key.name (g.key.name ∷ names) g.key.name own (contains_head g.key.name names) in
     let here = same_is f.key.name name (same f (contains_head f (g ∷ fs))) in
     let next = same_is g.key.name name (same g (contains_tail f (g ∷ fs) g (contains_head g fs))) in
     absurd (false≢true (sym apart ∙ is_same f.key.name g.key.name (here ∙ sym next)))
 
-module _ (r : RunwayRules) (fixed : List Taken) (ts : List TargetRecord) (p : Placing) (m : ℕ) where
+module _ (r : RunwayRules) (fixed : List Taken) (ts : List Target) (p : Placing) (m : ℕ) where
   -- the placing puts the flight into the cell of m
-  here : TargetRecord → Bool
+  here : Target → Bool
   here f = option_map_or (λ t. t.minute / r.cell == m / r.cell) (taken_of r p f) false
 
   -- those that it puts there, and that don't come before f
-  rest : TargetRecord → TargetRecord → Bool
+  rest : Target → Target → Bool
   rest f g = not (is_before g.key f.key) && here g
 
-  held_parted : (f : TargetRecord)
+  held_parted : (f : Target)
       → held_in_cell r.cell (fixed ++ filter_map (taken_of r p) ts) m ≡ held_in_cell r.cell (taken_before r fixed ts p f) m + length (filter (rest f) ts)
   unfolding rest here
   held_parted f =
@@ -131,12 +131,12 @@ module _ (r : RunwayRules) (fixed : List Taken) (ts : List TargetRecord) (p : Pl
       let c = given_parted (λ (t : Taken). t.minute / r.cell == m / r.cell) (taken_of r p) (λ g. is_before g.key f.key) ts in
       omega arith
 
-  is_here : (f : TargetRecord) → p f ≡ Some m → here f ≡ true
+  is_here : (f : Target) → p f ≡ Some m → here f ≡ true
   unfolding here
   is_here f e = ap (λ (o : Option ℕ). option_map_or (λ t. t.minute / r.cell == m / r.cell) (option_map (taken_by r f.group) o) false) e ∙ eq-eqb (m / r.cell) (m / r.cell) refl
 
   -- where the placing has f at m, its cell has all that stands before f, and f
-  room_for : (f : TargetRecord) → Contains ts f → p f ≡ Some m
+  room_for : (f : Target) → Contains ts f → p f ≡ Some m
       → held_in_cell r.cell (taken_before r fixed ts p f) m < held_in_cell r.cell (fixed ++ filter_map (taken_of r p) ts) m
   unfolding rest
   room_for f i e =
@@ -146,16 +146,16 @@ module _ (r : RunwayRules) (fixed : List Taken) (ts : List TargetRecord) (p : Pl
       omega arith
 
   -- the cell of a minute that a plan gives isn't overfilled
-  cell_within : IsDistinct same_name (map (λ f. f.key.name) ts) → IsPlan r fixed ts p → (f : TargetRecord) → Contains ts f → p f ≡ Some m
+  cell_within : IsDistinct same_name (map (λ f. f.key.name) ts) → IsPlan r fixed ts p → (f : Target) → Contains ts f → p f ≡ Some m
       → held_in_cell r.cell (fixed ++ filter_map (taken_of r p) ts) m ≤ cap_at r m
   unfolding rest here
   cell_within own plan f i e =
-      let order = IsStrictWeakOrder-flip (λ (x y : TargetRecord). is_before x.key y.key) keys_weak in
+      let order = IsStrictWeakOrder-flip (λ (x y : Target). is_before x.key y.key) keys_weak in
       elim (first_in (λ x y. is_before y.key x.key) order (filter here ts)) [
         | inl none ↦ absurd (none f (contains_kept here ts f i (is_here f e)))
         | inr (g, j, last) ↦
             let among = contains_all here ts g j in
-            let most = one_at_most g.key.name (filter (rest g) ts) (distinct_filter same_name (λ (f : TargetRecord). f.key.name) (rest g) ts own) (λ h k.
+            let most = one_at_most g.key.name (filter (rest g) ts) (distinct_filter same_name (λ (f : Target). f.key.name) (rest g) ts own) (λ h k.
             let passes = All-contains (λ f. rest g f ≡ true) (filter (rest g) ts) h (filter_passes (rest g) ts) k in
             let parts = and_parts (not (is_before h.key g.key)) (here h) passes in
             let later = not-true (is_before h.key g.key) parts.0 in
@@ -173,7 +173,7 @@ module _ (r : RunwayRules) (fixed : List Taken) (ts : List TargetRecord) (p : Pl
             omega arith
       ]
 
-module _ (r : RunwayRules) (fixed : List Taken) (ts : List TargetRecord) where
+module _ (r : RunwayRules) (fixed : List Taken) (ts : List Target) where
   -- a plan of flights with names of their own is allowed
   pub plan_allowed : (p : Placing) → IsDistinct same_name (map (λ f. f.key.name) ts) → IsPlan r fixed ts p → IsAllowed r fixed ts p
   plan_allowed p own plan = λ k d l.
@@ -206,7 +206,7 @@ module _ (r : RunwayRules) (fixed : List Taken) (ts : List TargetRecord) where
   plan_first p own plan = record { allowed = plan_allowed p own plan; none_earlier = λ q allowed e. none_earlier p q plan allowed e }
 
   -- and no other is
-  pub first_one : (p q : Placing) → IsFirst r fixed ts p → IsFirst r fixed ts q → (f : TargetRecord) → Contains ts f → p f ≡ q f
+  pub first_one : (p q : Placing) → IsFirst r fixed ts p → IsFirst r fixed ts q → (f : Target) → Contains ts f → p f ≡ q f
   first_one p q a b = elim (compared ts p q) [
     | inl same ↦ same
     | inr (inl e) ↦ absurd (b.none_earlier p a.allowed e)

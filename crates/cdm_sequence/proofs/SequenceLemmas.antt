@@ -28,21 +28,23 @@ use Rattle.cdm_sequence.specs.Plan.{Placing, taken_before, taken_of, IsLeast}
 use Rattle.cdm_sequence.specs.Sequence.{planned_slot, flight_names, Blocks, IsRightlyBlocked, IsSequence}
 use Rattle.cdm_sequence.specs.inner.Shown.{names_left}
 use Rattle.cdm_sequence.specs.inner.Turns.{placed_at, taken_in, blocked_from, IsDecided, AreDecided}
-use Rattle.cdm_sequence.specs.Slots.{SlotRecord, RunwayPlanRecord, slot_cmp}
-use Rattle.cdm_sequence.specs.Targets.{TargetRecord}
+use Rattle.cdm_sequence.specs.Slots.{slot_cmp}
+use Rattle.cdm_sequence.specs.declared.plan.RunwayPlan.{RunwayPlan}
+use Rattle.cdm_sequence.specs.declared.slot.Slot.{Slot}
+use Rattle.cdm_sequence.specs.declared.target.Target.{Target}
 use Rattle.cdm_sequence.specs.Words.{rule_for}
 use Rattle.cdm_sequence.specs.declared.decision.Decision.{Decision}
 use Rattle.cdm_sequence.specs.declared.slot.BlockedFlight.{BlockedFlight}
 use Rattle.cdm_sequence.proofs.OneLemmas.{reordered}
 use Rattle.cdm_sequence.proofs.OrderLemmas.{before_itself, before_or_after, keys_weak, not_back, same_flips}
 
-abbrev pub targets_of : List Decision → List TargetRecord
+abbrev pub targets_of : List Decision → List Target
 targets_of ds = map (λ d. d.target) ds
 
 abbrev pub minutes_of : RunwayRules → List Decision → List Taken
 minutes_of r ds = filter_map (taken_in r) ds
 
-abbrev pub slots_given : List Decision → List SlotRecord
+abbrev pub slots_given : List Decision → List Slot
 slots_given ds = filter_map (λ d. option_map (planned_slot d.target) (placed_at d.outcome)) ds
 
 abbrev pub blocked_given : List Decision → List BlockedFlight
@@ -80,7 +82,7 @@ given_lengths (d ∷ ds) = go d.outcome (given_lengths ds) where
   go (Err reason) e = omega arith
 
 -- so as many as flights
-pub as_many : (fixed : List SlotRecord) (ds : List Decision) (ss : List SlotRecord) (bs : List BlockedFlight) → IsPermutation (fixed ++ slots_given ds) ss
+pub as_many : (fixed : List Slot) (ds : List Decision) (ss : List Slot) (bs : List BlockedFlight) → IsPermutation (fixed ++ slots_given ds) ss
     → IsPermutation (blocked_given ds) bs → length ss + length bs ≡ length fixed + length ds
 as_many fixed ds ss bs slots blocked =
     let a = length_permutation (fixed ++ slots_given ds) ss slots in
@@ -97,7 +99,7 @@ filter_none {X} p (x ∷ xs) none =
     ap (λ b. cond b (x ∷ filter p xs) (filter p xs)) (none x (contains_head x xs)) ∙ filter_none p xs (λ y i. none y (contains_tail x xs y i))
 
 -- each comes before those after it
-abbrev Rise : List TargetRecord → Type 0
+abbrev Rise : List Target → Type 0
 Rise fs = AllPairs (λ f g. is_before f.key g.key ≡ true) fs
 
 -- the placing has what was decided
@@ -105,10 +107,10 @@ abbrev Agrees : Placing → List Decision → Type 0
 Agrees p ds = (d : Decision) → Contains ds d → p d.target ≡ placed_at d.outcome
 
 -- sorted targets with names of their own rise
-rise_from_sorted : (fs : List TargetRecord) → IsSortedByKey (λ t. t.key) key_cmp fs → IsDistinct (λ f g. same_name f.key.name g.key.name) fs → Rise fs
+rise_from_sorted : (fs : List Target) → IsSortedByKey (λ t. t.key) key_cmp fs → IsDistinct (λ f g. same_name f.key.name g.key.name) fs → Rise fs
 unfolding is_before
 rise_from_sorted fs up own = λ i j d l u.
-    before_or_after (get_or fs i d).key (get_or fs j d).key (sorted_far (λ (x y : TargetRecord). is_before x.key y.key) keys_weak fs up i j d (omega arith) u)
+    before_or_after (get_or fs i d).key (get_or fs j d).key (sorted_far (λ (x y : Target). is_before x.key y.key) keys_weak fs up i j d (omega arith) u)
     (apart_from_distinct (λ f g. same_name f.key.name g.key.name) fs i j d own l u)
 
 -- each decision, by what the flights before it take
@@ -118,22 +120,22 @@ decided_each r p taken [] a up agree d i = absurd (omega (arith, i.1))
 decided_each r p taken (e ∷ ds) a up agree d i =
     let f = e.target in
     let fs = targets_of ds in
-    let after : (g : TargetRecord) → Contains fs g → is_before f.key g.key ≡ true = λ g j.
+    let after : (g : Target) → Contains fs g → is_before f.key g.key ≡ true = λ g j.
     All-contains (λ g. is_before f.key g.key ≡ true) fs g (λ k x l. up 0 (suc k) x (omega arith) (omega arith)) j in
-    let earlier : Decision → TargetRecord → Bool = λ d g. is_before g.key d.target.key in
+    let earlier : Decision → Target → Bool = λ d g. is_before g.key d.target.key in
     let front : (d : Decision) (b : Bool) → is_before f.key d.target.key ≡ b
     → filter (earlier d) (f ∷ fs) ≡ cond b (f ∷ filter (earlier d) fs) (filter (earlier d) fs) = λ d b e.
     ap (λ b. cond b (f ∷ filter (earlier d) fs) (filter (earlier d) fs)) e in
     elim (contains_cases e ds d i) [
       | inl same ↦
           let none = front e false (before_itself f.key) ∙ filter_none (earlier e) fs (λ g j. not_back f.key g.key (after g j)) in
-          let first : taken_before r taken (f ∷ fs) p f ≡ taken = ap (λ (gs : List TargetRecord). taken ++ filter_map (taken_of r p) gs) none ∙ append-nil taken in
+          let first : taken_before r taken (f ∷ fs) p f ≡ taken = ap (λ (gs : List Target). taken ++ filter_map (taken_of r p) gs) none ∙ append-nil taken in
           subst (λ (d : Decision). IsDecided r (taken_before r taken (f ∷ fs) p d.target) d) same (subst (λ (xs : List Taken). IsDecided r xs e) (sym first) a.0)
       | inr j ↦
           let now = option_to_list (taken_in r e) in
           let gs = filter (earlier d) fs in
           let next : taken_before r taken (f ∷ fs) p d.target ≡ taken_before r (taken ++ now) fs p d.target =
-          ap (λ (gs : List TargetRecord). taken ++ filter_map (taken_of r p) gs) (front d true (after d.target (contains_map (λ (d : Decision). d.target) ds d j)))
+          ap (λ (gs : List Target). taken ++ filter_map (taken_of r p) gs) (front d true (after d.target (contains_map (λ (d : Decision). d.target) ds d j)))
           ∙ ap (λ (xs : List Taken). taken ++ xs)
           (filter_map_cons (taken_of r p) f gs
           ∙ ap (λ (o : Option ℕ). option_to_list (option_map (taken_by r f.group) o) ++ filter_map (taken_of r p) gs) (agree e (contains_head e ds)))
@@ -143,14 +145,14 @@ decided_each r p taken (e ∷ ds) a up agree d i =
           (λ x k. agree x (contains_tail e ds x k)) d j)
     ]
 
-least_from_gives : (r : RunwayRules) (xs : List Taken) (f : TargetRecord) (o : Result ℕ Blocked) → Gives r xs f.group f.window.from f.window.to o
+least_from_gives : (r : RunwayRules) (xs : List Taken) (f : Target) (o : Result ℕ Blocked) → Gives r xs f.group f.window.start f.window.end o
     → IsLeast r xs f (placed_at o)
 least_from_gives r xs f (Ok m) e = e
 least_from_gives r xs f (Err Closure) e = λ k a b free. absurd (false≢true (sym free.is_open ∙ e k a b))
 least_from_gives r xs f (Err Spacing) e = λ k a b free. e.met k a b free.is_open free.is_spaced
 least_from_gives r xs f (Err Rate) e = λ k a b free. let t = e.full k a b free.is_open free.is_spaced in let room = free.has_room in omega arith
 
-blocks_from_gives : (r : RunwayRules) (xs : List Taken) (f : TargetRecord) (reason : Blocked) → Gives r xs f.group f.window.from f.window.to (Err reason)
+blocks_from_gives : (r : RunwayRules) (xs : List Taken) (f : Target) (reason : Blocked) → Gives r xs f.group f.window.start f.window.end (Err reason)
     → Blocks r xs f (rule_for reason)
 blocks_from_gives r xs f Closure e = e
 blocks_from_gives r xs f Spacing e = e
@@ -162,7 +164,7 @@ blocks_from_gives r xs f Rate e = e
 names_shown : (p : Placing) (ds : List Decision) → Agrees p ds → names_left p (targets_of ds) ≡ map (λ b. b.name) (blocked_given ds)
 names_shown p [] agree = refl
 names_shown p (d ∷ ds) agree = go d.outcome (p d.target) (agree d (contains_head d ds)) (names_shown p ds (λ e i. agree e (contains_tail d ds e i))) where
-  free : List TargetRecord
+  free : List Target
   free = filter (λ f. is_none (p f)) (targets_of ds)
 
   go : (o : Result ℕ Blocked) (m : Option ℕ) → m ≡ placed_at o → names_left p (targets_of ds) ≡ map (λ b. b.name) (blocked_given ds)
@@ -173,10 +175,10 @@ names_shown p (d ∷ ds) agree = go d.outcome (p d.target) (agree d (contains_he
   go (Err reason) (Some n) h e = cc
 
 -- the decisions of all targets, made in the order of sequence, and what is shown of them
-pub record IsMade (r : RunwayRules) (fixed : List SlotRecord) (targets : List TargetRecord) (ds : List Decision) (plan : RunwayPlanRecord) : Type 0 where
+pub record IsMade (r : RunwayRules) (fixed : List Slot) (targets : List Target) (ds : List Decision) (plan : RunwayPlan) : Type 0 where
   pub names : IsDistinct same_name (flight_names fixed targets)
   pub same : IsPermutation targets (targets_of ds)
-  pub sorted : IsSortedByKey (λ (t : TargetRecord). t.key) key_cmp (targets_of ds)
+  pub sorted : IsSortedByKey (λ (t : Target). t.key) key_cmp (targets_of ds)
   pub decided : AreDecided r (takeoffs r fixed) ds
   pub runway : plan.runway ≡ r.name
   pub slots : IsPermutation (fixed ++ slots_given ds) plan.slots
@@ -185,29 +187,29 @@ pub record IsMade (r : RunwayRules) (fixed : List SlotRecord) (targets : List Ta
   pub blocked_order : IsSortedByKey (λ b. b.name) name_cmp plan.blocked
 
 -- so they show the runway's sequence
-pub sequence_made : (r : RunwayRules) (fixed : List SlotRecord) (targets : List TargetRecord) (ds : List Decision) (plan : RunwayPlanRecord)
+pub sequence_made : (r : RunwayRules) (fixed : List Slot) (targets : List Target) (ds : List Decision) (plan : RunwayPlan)
     → IsMade r fixed targets ds plan → IsSequence r fixed targets plan
 sequence_made r fixed targets ds plan made =
     let us = targets_of ds in
     let xs = takeoffs r fixed in
-    let key : TargetRecord → List ℕ = λ f. f.key.name in
+    let key : Target → List ℕ = λ f. f.key.name in
     let entry : Decision → List ℕ × Option ℕ = λ d. (d.target.key.name, placed_at d.outcome) in
     let p : Placing = λ f. option_and_then (λ o. o) (lookup (same_name f.key.name) (map entry ds)) in
     let own : IsDistinct same_name (map key us) = IsDistinct-IsPermutation same_name same_flips (map key targets) (map key us)
     (IsPermutation-map key targets us made.same)
-    (distinct_right same_name (map (λ (x : SlotRecord). x.name) fixed) (map key targets) made.names) in
+    (distinct_right same_name (map (λ (x : Slot). x.name) fixed) (map key targets) made.names) in
     let named = map-map key (λ (d : Decision). d.target) ds ∙ sym (map-map (λ (e : List ℕ × Option ℕ). e.0) entry ds) in
     let agree : Agrees p ds = λ d i.
     ap (option_and_then (λ o. o)) (lookup-from_Contains nat_list_eq_equiv d.target.key.name (placed_at d.outcome) (map entry ds)
     (subst (IsDistinct same_name) named own) (contains_map entry ds d i)) in
     let up : Rise us = rise_from_sorted us made.sorted (distinct_by same_name key us own) in
     let each = decided_each r p xs ds made.decided up agree in
-    let P : TargetRecord → Type 0 = λ f. IsLeast r (taken_before r xs us p f) f (p f) in
+    let P : Target → Type 0 = λ f. IsLeast r (taken_before r xs us p f) f (p f) in
     let least : (d : Decision) → Contains ds d → P d.target = λ d i.
     subst (IsLeast r (taken_before r xs us p d.target) d.target) (sym (agree d i))
     (least_from_gives r (taken_before r xs us p d.target) d.target d.outcome (each d i)) in
     let blocked : (d : Decision) → Contains ds d → IfSome (blocked_from d.target d.outcome) (IsRightlyBlocked r xs us p) = λ d i.
-    let go : (o : Result ℕ Blocked) → Gives r (taken_before r xs us p d.target) d.target.group d.target.window.from d.target.window.to o
+    let go : (o : Result ℕ Blocked) → Gives r (taken_before r xs us p d.target) d.target.group d.target.window.start d.target.window.end o
     → IfSome (blocked_from d.target o) (IsRightlyBlocked r xs us p) =
     elim [
       | Ok m ↦ λ g. tt

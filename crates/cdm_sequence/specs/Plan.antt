@@ -1,47 +1,47 @@
 -- The plan of one runway, as a fact about which flight has which minute.
-use Rattle.std.specs.Prelude.{◌≡◌, ℕ, ◌<◌, ◌≤◌, ◌++◌, true, List, Option, Some, None, IfSome, All, Contains, filter}
+use Rattle.std.specs.Prelude.{◌≡◌, ℕ, ◌<◌, ◌≤◌, ◌++◌, true, false, List, Option, Some, None, IfSome, All, Contains, filter}
 use Rattle.std.specs.List.{filter_map}
 use Rattle.std.specs.Option.{option_map}
 use Rattle.cdm_flight.specs.Order.{is_before}
 use Rattle.cdm_runway.specs.Rules.{RunwayRules}
-use Rattle.cdm_runway.specs.Room.{cap_at, held_in_cell, taken_by, IsEarliest, IsFree, IsOpen, IsSpaced}
+use Rattle.cdm_runway.specs.Room.{cap_at, held_in_cell, is_closed, taken_by, IsEarliest, IsFree, IsSpaced}
 use Rattle.cdm_runway.specs.declared.load.Taken.{Taken}
-use Rattle.cdm_sequence.specs.Targets.{TargetRecord}
+use Rattle.cdm_sequence.specs.declared.target.Target.{Target}
 
 -- a set of pairs of a flight and a minute, at most one for each flight
 abbrev pub Placing : Type 0
-Placing = TargetRecord → Option ℕ
+Placing = Target → Option ℕ
 
 -- what a flight takes of a runway by a placing
-abbrev pub taken_of : RunwayRules → Placing → TargetRecord → Option Taken
+abbrev pub taken_of : RunwayRules → Placing → Target → Option Taken
 taken_of r placing f = option_map (taken_by r f.group) (placing f)
 
 -- what is taken when a flight's turn comes: by the fixed flights, and by the flights before it
-abbrev pub taken_before : RunwayRules → List Taken → List TargetRecord → Placing → TargetRecord → List Taken
+abbrev pub taken_before : RunwayRules → List Taken → List Target → Placing → Target → List Taken
 taken_before r fixed targets placing f = fixed ++ filter_map (taken_of r placing) (filter (λ g. is_before g.key f.key) targets)
 
 -- the earliest minute of its window that the flight may take, or nothing where there is none
-abbrev pub IsLeast : RunwayRules → List Taken → TargetRecord → Option ℕ → Type 0
-IsLeast r taken f (Some m) = IsEarliest r taken f.group f.window.from f.window.to m
-IsLeast r taken f None = (k : ℕ) → f.window.from ≤ k → k < f.window.to → IsFree r taken f.group k → ⊥
+abbrev pub IsLeast : RunwayRules → List Taken → Target → Option ℕ → Type 0
+IsLeast r taken f (Some m) = IsEarliest r taken f.group f.window.start f.window.end m
+IsLeast r taken f None = (k : ℕ) → f.window.start ≤ k → k < f.window.end → IsFree r taken f.group k → ⊥
 
 -- each flight has the earliest minute that the fixed flights and those before it leave, and no
 -- minute where they leave none
-abbrev pub IsPlan : RunwayRules → List Taken → List TargetRecord → Placing → Type 0
+abbrev pub IsPlan : RunwayRules → List Taken → List Target → Placing → Type 0
 IsPlan r fixed targets placing = All (λ f. IsLeast r (taken_before r fixed targets placing f) f (placing f)) targets
 
 -- a minute that a flight may have, where the fixed flights and those before it take these, and all flights
 -- those
-pub record MayHave (r : RunwayRules) (earlier all : List Taken) (f : TargetRecord) (m : ℕ) : Type 0 where
-  pub after : f.window.from ≤ m
-  pub before : m < f.window.to
-  pub is_open : IsOpen r m
+pub record MayHave (r : RunwayRules) (earlier all : List Taken) (f : Target) (m : ℕ) : Type 0 where
+  pub after : f.window.start ≤ m
+  pub before : m < f.window.end
+  pub is_open : is_closed r m ≡ false
   pub is_spaced : IsSpaced r earlier f.group m
   pub within_cap : held_in_cell r.cell all m ≤ cap_at r m
 
 -- each flight that has a minute may have it: it is open and in the flight's window, no two flights meet, of
 -- which the later in the order is asked, and the cell isn't overfilled
-abbrev pub IsAllowed : RunwayRules → List Taken → List TargetRecord → Placing → Type 0
+abbrev pub IsAllowed : RunwayRules → List Taken → List Target → Placing → Type 0
 IsAllowed r fixed targets placing =
     All (λ f. IfSome (placing f) (MayHave r (taken_before r fixed targets placing f) (fixed ++ filter_map (taken_of r placing) targets) f)) targets
 
@@ -52,13 +52,13 @@ IsSooner (Some a) None = Unit {0}
 IsSooner None b = ⊥
 
 -- at the first flight in the order at which the two differ, p has it sooner
-pub record IsEarlier (targets : List TargetRecord) (p q : Placing) : Type 0 where
-  pub first : TargetRecord
+pub record IsEarlier (targets : List Target) (p q : Placing) : Type 0 where
+  pub first : Target
   pub among : Contains targets first
   pub sooner : IsSooner (p first) (q first)
-  pub agree : (g : TargetRecord) → Contains targets g → is_before g.key first.key ≡ true → p g ≡ q g
+  pub agree : (g : Target) → Contains targets g → is_before g.key first.key ≡ true → p g ≡ q g
 
 -- first in order: it is allowed, and no allowed placing is earlier
-pub record IsFirst (r : RunwayRules) (fixed : List Taken) (targets : List TargetRecord) (placing : Placing) : Type 0 where
+pub record IsFirst (r : RunwayRules) (fixed : List Taken) (targets : List Target) (placing : Placing) : Type 0 where
   pub allowed : IsAllowed r fixed targets placing
   pub none_earlier : (other : Placing) → IsAllowed r fixed targets other → IsEarlier targets other placing → ⊥

@@ -1,25 +1,14 @@
--- What contracts see of slots and plans, and their orders.
+-- What slots and plans keep, and their orders.
 use Rattle.std.specs.Prelude.{◌≡◌, ℕ, ◌+◌, ◌<◌, ◌≤◌, Bool, true, false, IsTrue, List, length, Option, Some, None, sum_by, IsSorted, IsSortedByKey}
 use Rattle.std.specs.declared.cmp.Ordering.{Ordering}
 use Rattle.std.specs.Ordering.{nat_cmp, ordering_then}
 use Rattle.std.specs.Option.{ForSome}
-use Rattle.cdm_flight.specs.declared.group.Group.{Group}
 use Rattle.cdm_flight.specs.Names.{name_cmp}
+use Rattle.cdm_sequence.specs.declared.plan.RunwayPlan.{RunwayPlan}
 use Rattle.cdm_sequence.specs.declared.slot.BlockedFlight.{BlockedFlight}
 use Rattle.cdm_sequence.specs.declared.slot.Mark.{Mark}
 use Rattle.cdm_sequence.specs.declared.slot.Mark.TheVariants.{Planned}
-
--- the columns of a flight's line, and its group
-pub record SlotRecord : Type 0 where
-  pub name : List ℕ
-  pub tobt : Option ℕ
-  pub exot : ℕ
-  pub ctot : Option ℕ
-  pub group : Group
-  pub tsat : ℕ
-  pub ttot : ℕ
-  pub mark : Mark
-  pub delay : Option ℕ
+use Rattle.cdm_sequence.specs.declared.slot.Slot.{Slot}
 
 -- off-block or airborne, its take-off is fixed
 abbrev pub is_fixed : Mark → Bool
@@ -39,30 +28,18 @@ pub record KeepsTimes (tobt : Option ℕ) (exot tsat ttot : ℕ) (mark : Mark) (
   pub delayed : IsDelay delay mark tobt tsat
   pub delay_range : ForSome delay (λ d. d < 2880)
 
--- one runway's plan
-pub record RunwayPlanRecord : Type 0 where
-  pub runway : List ℕ
-  pub slots : List SlotRecord
-  pub blocked : List BlockedFlight
-
--- the plan of all runways, and the minute that it is now
-pub record PlanRecord : Type 0 where
-  pub clock : ℕ
-  pub runways : List RunwayPlanRecord
-  pub blocked : List BlockedFlight
-
 -- by take-off, then by name
-abbrev pub slot_cmp : SlotRecord → SlotRecord → Ordering
+abbrev pub slot_cmp : Slot → Slot → Ordering
 slot_cmp a b = ordering_then (nat_cmp a.ttot b.ttot) (name_cmp a.name b.name)
 
 -- what each plan of a runway keeps: its orders, and at most 2,000 flights
-pub record KeepsRunwayOrder (slots : List SlotRecord) (blocked : List BlockedFlight) : Type 0 where
+pub record KeepsRunwayOrder (slots : List Slot) (blocked : List BlockedFlight) : Type 0 where
   pub slot_order : IsSorted slot_cmp slots
   pub blocked_order : IsSortedByKey (λ b. b.name) name_cmp blocked
   pub few : length slots + length blocked ≤ 2000
 
 -- what each plan of a day keeps: its orders, and at most 2,000 flights
-pub record KeepsPlanOrder (runways : List RunwayPlanRecord) (blocked : List BlockedFlight) : Type 0 where
+pub record KeepsPlanOrder (runways : List RunwayPlan) (blocked : List BlockedFlight) : Type 0 where
   pub runway_order : IsSortedByKey (λ r. r.runway) name_cmp runways
   pub blocked_order : IsSortedByKey (λ b. b.name) name_cmp blocked
   pub few : sum_by (λ r. length r.slots) runways + length blocked ≤ 2000

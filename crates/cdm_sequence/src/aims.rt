@@ -35,7 +35,7 @@ fn minutes_on_stand(ice: Ice) -> u16
 // any.
 fn candidates(earliest: Minute, ctot: Option<Minute>, tolerance: Tolerance) -> Option<Window>
     ensures minutes { AreCandidates tolerance earliest ctot result }
-    ensures reachable { IfSome result (λ window. earliest ≤ window.from) }
+    ensures reachable { IfSome result (λ window. earliest ≤ window.start) }
 {
     let (from, to) = match ctot {
         Some(ctot) => {

@@ -17,11 +17,13 @@ pub struct RunwayPlan {
 }
 
 impl Model for RunwayPlan {
-    ghost use Rattle.cdm_sequence.specs.Slots.{RunwayPlanRecord, KeepsRunwayOrder};
+    ghost use Rattle.cdm_sequence.specs.declared.plan.RunwayPlan.TheInside as inside;
 
-    ghost Value = { RunwayPlanRecord };
+    ghost Value = { inside.Inside };
 
-    ghost view = { λ p. record { runway = p.runway; slots = p.slots; blocked = p.blocked } };
+    ghost use Rattle.cdm_sequence.specs.Slots.{KeepsRunwayOrder};
+
+    ghost view = { λ p. p };
 
     ghost invariant = { λ p. KeepsRunwayOrder p.slots p.blocked };
 }
@@ -45,17 +47,19 @@ impl RunwayPlan {
 /// blocked flights by name. It has at most 2,000 flights.
 #[derive(Debug, Drop)]
 pub struct Plan {
-    pub now: Minute,
+    pub clock: Minute,
     pub runways: Listed<RunwayPlan>,
     pub blocked: Listed<BlockedFlight>,
 }
 
 impl Model for Plan {
-    ghost use Rattle.cdm_sequence.specs.Slots.{PlanRecord, KeepsPlanOrder};
+    ghost use Rattle.cdm_sequence.specs.declared.plan.Plan.TheInside as inside;
 
-    ghost Value = { PlanRecord };
+    ghost Value = { inside.Inside };
 
-    ghost view = { λ p. record { clock = p.now; runways = p.runways; blocked = p.blocked } };
+    ghost use Rattle.cdm_sequence.specs.Slots.{KeepsPlanOrder};
+
+    ghost view = { λ p. p };
 
     ghost invariant = { λ p. KeepsPlanOrder p.runways p.blocked };
 }
@@ -68,7 +72,7 @@ impl Plan {
         let runways = copies(alloc, self.runways.as_slice())?;
         let blocked = Vec::from_slice(alloc, self.blocked.as_slice())?;
         Ok(Plan {
-            now: self.now,
+            clock: self.clock,
             runways: Listed::new(runways),
             blocked: Listed::new(blocked),
         })

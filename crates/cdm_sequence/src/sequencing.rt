@@ -7,7 +7,7 @@ ghost use Rattle.cdm_sequence.specs.Fixed.{takeoffs};
 ghost use Rattle.cdm_sequence.specs.Plan.{Placing, IsFirst};
 ghost use Rattle.cdm_sequence.specs.Sequence.{IsSequence, IsSequenceBy, flight_names, planned_slot};
 ghost use Rattle.cdm_sequence.specs.Slots.{is_fixed, slot_cmp};
-ghost use Rattle.cdm_sequence.specs.Targets.{TargetRecord};
+ghost use Rattle.cdm_sequence.specs.declared.target.Target.{Target as ATarget};
 ghost use Rattle.cdm_sequence.specs.inner.Turns.{blocked_from, placed_at};
 
 use crate::decision::Decision;
@@ -131,7 +131,7 @@ pub fn sequence(
         IsFirst runway.now (takeoffs runway.now fixed.now) targets.now placing) }
     ensures only { IfOk result (λ plan. (placing other : Placing) → IsSequenceBy placing runway.now fixed.now targets.now plan →
         IsFirst runway.now (takeoffs runway.now fixed.now) targets.now other →
-        (f : TargetRecord) → Contains targets.now f → other f ≡ placing f) }
+        (f : ATarget) → Contains targets.now f → other f ≡ placing f) }
 {
     let ordered = in_order(alloc, targets)?;
     let load = load_of(runway, fixed);

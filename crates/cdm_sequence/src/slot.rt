@@ -39,35 +39,17 @@ pub struct Slot {
 }
 
 impl Model for Slot {
-    ghost use Rattle.cdm_sequence.specs.Slots.{SlotRecord, KeepsTimes};
+    ghost use Rattle.cdm_sequence.specs.declared.slot.Slot.TheInside as inside;
 
-    ghost Value = { SlotRecord };
+    ghost Value = { inside.Inside };
 
-    ghost view = { λ s. record {
-      name = s.name;
-      tobt = s.tobt;
-      exot = s.exot;
-      ctot = s.ctot;
-      group = s.group;
-      tsat = s.tsat;
-      ttot = s.ttot;
-      mark = s.mark;
-      delay = s.delay;
-    } };
+    ghost use Rattle.cdm_sequence.specs.Slots.{KeepsTimes};
+
+    ghost view = { λ s. s };
 
     ghost invariant = { λ s. KeepsTimes s.tobt s.exot s.tsat s.ttot s.mark s.delay };
 
-    ghost inverse = { λ s. record {
-      name = s.name;
-      tobt = s.tobt;
-      exot = s.exot;
-      ctot = s.ctot;
-      group = s.group;
-      tsat = s.tsat;
-      ttot = s.ttot;
-      mark = s.mark;
-      delay = s.delay;
-    } };
+    ghost inverse = { λ s. s };
 }
 
 /// A planned flight that gets no take-off minute, and the first rule that leaves it none.

@@ -25,31 +25,17 @@ pub struct Target {
 }
 
 impl Model for Target {
-    ghost use Rattle.cdm_sequence.specs.Targets.{TargetRecord, KeepsReadiness};
+    ghost use Rattle.cdm_sequence.specs.declared.target.Target.TheInside as inside;
 
-    ghost Value = { TargetRecord };
+    ghost Value = { inside.Inside };
 
-    ghost view = { λ t. record {
-      key = t.key;
-      runway = t.runway;
-      ctot = t.ctot;
-      group = t.group;
-      exot = t.exot;
-      ready = t.ready;
-      window = t.window;
-    } };
+    ghost use Rattle.cdm_sequence.specs.Targets.{KeepsReadiness};
+
+    ghost view = { λ t. t };
 
     ghost invariant = { λ t. KeepsReadiness t.key t.exot t.ready t.window };
 
-    ghost inverse = { λ t. record {
-      key = t.key;
-      runway = t.runway;
-      ctot = t.ctot;
-      group = t.group;
-      exot = t.exot;
-      ready = t.ready;
-      window = t.window;
-    } };
+    ghost inverse = { λ t. t };
 }
 
 // The minute of a number of minutes before another.

@@ -10,13 +10,13 @@ use Rattle.cdm_flight.specs.declared.word.RefusalWord.TheVariants as word
 use Rattle.cdm_plan.specs.Day.{DayRecord}
 use Rattle.cdm_plan.specs.DayPlan.{IsDayPlan}
 use Rattle.cdm_report.specs.Report.{line_end, report_bytes}
-use Rattle.cdm_sequence.specs.Slots.{PlanRecord}
+use Rattle.cdm_sequence.specs.declared.plan.Plan.{Plan}
 use Rattle.cdm_view.specs.Load.{unknown_in}
 use Rattle.cdm_view.specs.Questions.{IsAnswer}
 use Rattle.cdm_view.specs.declared.question.Question.{Question}
 use Rattle.cdm_view.specs.declared.question.Question.TheVariants as question
 use Rattle.cdm_serve.specs.declared.asked.Asked.{Asked}
-use Rattle.cdm_serve.specs.declared.asked.Asked.TheVariants.{Plan, View}
+use Rattle.cdm_serve.specs.declared.asked.Asked.TheVariants as asked
 
 -- the word of a question
 abbrev pub word_of : Question → List ℕ
@@ -36,7 +36,7 @@ IsUnknown d (question.Load runway) = IsSome (unknown_in d.airport runway)
 -- the text replies to a question of this number: the report of the day's plan without refused records, or the answer
 -- of a view; UNKNOWN refuses a flight or a runway that isn't there
 abbrev pub IsAnswerText : DayRecord → ℕ → Asked → List ℕ → Type 0
-IsAnswerText d number Plan text = (plan : PlanRecord) × IsDayPlan d plan × (text ≡ told_text number (codes "PLAN") (report_bytes d.airport.day plan []))
-IsAnswerText d number (View q) text =
+IsAnswerText d number asked.Plan text = (plan : Plan) × IsDayPlan d plan × (text ≡ told_text number (codes "PLAN") (report_bytes d.airport.day plan []))
+IsAnswerText d number (asked.View q) text =
     (IsUnknown d q × (text ≡ reply_text d.airport.day number (Refused word.Unknown)))
-    ⊎ ((plan : PlanRecord) × (body : List ℕ) × IsDayPlan d plan × IsAnswer q d plan body × (text ≡ told_text number (word_of q) body))
+    ⊎ ((plan : Plan) × (body : List ℕ) × IsDayPlan d plan × IsAnswer q d plan body × (text ≡ told_text number (word_of q) body))

@@ -10,7 +10,7 @@ use Rattle.std.proofs.lemmas.Grind.{flat_map-append}
 use Rattle.csv.specs.Writing.{default_writer, fields_text, is_blank, needs_byte, row_text}
 use Rattle.cdm_time.specs.contracts.minute.MinutePartialEq.TheImpl as minute_eq
 use Rattle.cdm_flight.specs.Names.{is_letter_or_digit, same_name}
-use Rattle.cdm_flight.specs.Record.{Record}
+use Rattle.cdm_flight.specs.declared.flight.Flight.{Flight}
 use Rattle.cdm_flight.specs.contracts.flight.FlightPartialEq.TheImpl as flight_eq
 use Rattle.cdm_flight.specs.contracts.flight.StatusPartialEq.TheImpl as status_eq
 use Rattle.cdm_flight.specs.contracts.group.GroupPartialEq.TheImpl as group_eq
@@ -56,7 +56,7 @@ ices_decide a b = search rules
 statuses_decide : (a b : Status) → Decides ((status_eq.ghosts).eq a b) (a ≡ b)
 statuses_decide a b = search rules
 
-pub equal_flights : (f g : Record) → (flight_eq.ghosts).eq f g ≡ true → f ≡ g
+pub equal_flights : (f g : Flight) → (flight_eq.ghosts).eq f g ≡ true → f ≡ g
 equal_flights f g h =
     let name = and_parts (same_name f.name g.name) _ h in
     let priority = and_parts (nat_eq f.priority g.priority) _ name.1 in
@@ -122,7 +122,7 @@ named_row name field fields is =
     rw (plain_name name is) (append_assoc name rest (10 ∷ []))
 
 -- a flight's row under a scenario's name is the name, and then its row under none
-pub named_flight : (day : CalendarDate) (name : List ℕ) (f : Record) (exot : Option ℕ) (s : Standing) → is_scenario_name name ≡ true
+pub named_flight : (day : CalendarDate) (name : List ℕ) (f : Flight) (exot : Option ℕ) (s : Standing) → is_scenario_name name ≡ true
     → row_text default_writer (flight_row day name f exot s) ≡ name ++ row_text default_writer (flight_row day [] f exot s)
 unfolding flight_fields
 named_flight day name f exot s is =

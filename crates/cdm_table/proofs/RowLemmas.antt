@@ -7,8 +7,8 @@ use Rattle.std.proofs.lemmas.Bool.{false≢true}
 use Rattle.std.proofs.lemmas.List.Sorted.{Contains-permutation, IsPermutation-sym}
 use Rattle.cdm_flight.proofs.Lists.{contains_head, contains_map, contains_tail}
 use Rattle.cdm_flight.specs.Journal.{flight_of}
-use Rattle.cdm_flight.specs.Record.{Record}
-use Rattle.cdm_sequence.specs.Slots.{PlanRecord}
+use Rattle.cdm_flight.specs.declared.flight.Flight.{Flight}
+use Rattle.cdm_sequence.specs.declared.plan.Plan.{Plan}
 use Rattle.cdm_plan.specs.Day.{DayRecord, flights_in}
 use Rattle.cdm_plan.proofs.DayPlanLemmas.{record_name}
 use Rattle.cdm_view.specs.Standings.{AreStandings, flight_name}
@@ -25,7 +25,7 @@ module _ (d : DayRecord) (scenario : List ℕ) where
   unfolding flight_fields
   named s rest known = by (flight_of d.airport d.journal (flight_name s)) refl known
     where
-      by : (o : Option Record) → flight_of d.airport d.journal (flight_name s) ≡ o → is_some o ≡ true
+      by : (o : Option Flight) → flight_of d.airport d.journal (flight_name s) ≡ o → is_some o ≡ true
           → map flight_of_row (cons_option (option_map (λ f. flight_row d.airport.day scenario f (exot_of d f s) s) o) rest) ≡ flight_name s ∷ map flight_of_row rest
       by None e h = absurd (false≢true h)
       by (Some f) e h = ap (λ n. n ∷ map flight_of_row rest) (record_name d.airport d.journal (flight_name s) f e)
@@ -36,7 +36,7 @@ module _ (d : DayRecord) (scenario : List ℕ) where
       named s (rows_of d scenario later) (known s (contains_head s later))
       ∙ ap (λ ns. flight_name s ∷ ns) (rows_named later (λ t i. known t (contains_tail s later t i)))
 
-  pub one_row : (plan : PlanRecord) (standings : List Standing) → AreStandings d plan standings
+  pub one_row : (plan : Plan) (standings : List Standing) → AreStandings d plan standings
       → IsPermutation (flights_in d.journal) (map flight_of_row (rows_of d scenario standings))
   one_row plan standings are =
       let known = λ (s : Standing) (i : Contains standings s).

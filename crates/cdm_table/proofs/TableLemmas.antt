@@ -11,7 +11,7 @@ use Rattle.cdm_flight.specs.Names.{same_name}
 use Rattle.cdm_flight.proofs.Lists.{contains_cases}
 use Rattle.cdm_sequence.proofs.OneLemmas.{one_order}
 use Rattle.cdm_sequence.proofs.OrderLemmas.{last_ties}
-use Rattle.cdm_sequence.specs.Slots.{PlanRecord}
+use Rattle.cdm_sequence.specs.declared.plan.Plan.{Plan}
 use Rattle.cdm_report.specs.Counts.{counts_of}
 use Rattle.cdm_report.specs.declared.counts.Counts.{Counts}
 use Rattle.cdm_plan.specs.Airport.{runway_names}
@@ -105,7 +105,7 @@ module _ (d : DayRecord) (runways : IsDistinct same_name (runway_names d.airport
   one_csv : (scenarios : List ScenarioRecord) (x y : List ℕ) → IsCsv d scenarios x → IsCsv d scenarios y → x ≡ y
   one_csv scenarios x y a b =
       let plans : a.plan ≡ b.plan = one_day_plan d a.plan b.plan runways flights a.of_day b.of_day in
-      let rows_too : AreFlightRows d a.plan [] b.own = subst (λ (p : PlanRecord). AreFlightRows d p [] b.own) (sym plans) b.rows in
+      let rows_too : AreFlightRows d a.plan [] b.own = subst (λ (p : Plan). AreFlightRows d p [] b.own) (sym plans) b.rows in
       let own : a.own ≡ b.own = one_flight_rows d a.plan runways flights a.of_day [] a.own b.own a.rows rows_too in
       let answers : a.answers ≡ b.answers =
       one_each (AreScenarioRows d) (one_scenario_rows d runways flights) scenarios a.answers b.answers a.of_scenarios b.of_scenarios in
@@ -119,7 +119,7 @@ module _ (d : DayRecord) (runways : IsDistinct same_name (runway_names d.airport
       → IsComparison d scenarios asked y → x ≡ y
   one_comparison scenarios asked x y a b =
       let plans : a.plan ≡ b.plan = one_day_plan d a.plan b.plan runways flights a.of_day b.of_day in
-      let stand : AreStandings d a.plan b.before = subst (λ (p : PlanRecord). AreStandings d p b.before) (sym plans) b.stand in
+      let stand : AreStandings d a.plan b.before = subst (λ (p : Plan). AreStandings d p b.before) (sym plans) b.stand in
       let before : a.before ≡ b.before = one_standings d a.plan runways flights a.of_day a.before b.before a.stand stand in
       let of_scenarios : AllZip (IsSummary d a.before) scenarios b.summaries =
       subst (λ (l : List Standing). AllZip (IsSummary d l) scenarios b.summaries) (sym before) b.of_scenarios in

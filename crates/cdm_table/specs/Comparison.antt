@@ -9,7 +9,7 @@ use Rattle.cdm_time.specs.declared.calendar.CalendarDate.{CalendarDate}
 use Rattle.cdm_flight.specs.Names.{same_name}
 use Rattle.cdm_flight.specs.Words.{text_of}
 use Rattle.cdm_flight.specs.declared.word.RefusalWord.{RefusalWord}
-use Rattle.cdm_sequence.specs.Slots.{PlanRecord}
+use Rattle.cdm_sequence.specs.declared.plan.Plan.{Plan}
 use Rattle.cdm_report.specs.Columns.{left_in, right_in}
 use Rattle.cdm_report.specs.Counts.{counts_of}
 use Rattle.cdm_report.specs.Report.{line_end, refused_line}
@@ -32,7 +32,7 @@ use Rattle.cdm_table.specs.declared.line.Summary.TheVariants as summary
 -- first update that is refused, and its word
 abbrev pub IsChanged : DayRecord → List Standing → ScenarioRecord → Result (Counts × List Standing) (ℕ × RefusalWord) → Type 0
 IsChanged d before s (Ok (counts, changed)) =
-    (plan : PlanRecord) × (after : List Standing) × IsOutcome d s.updates (Planned plan counts)
+    (plan : Plan) × (after : List Standing) × IsOutcome d s.updates (Planned plan counts)
     × AreStandings (with_updates d s.updates) plan after × (changed ≡ changes d.airport.day before after)
 IsChanged d before s (Err (number, word)) = IsOutcome d s.updates (Refused number word)
 
@@ -128,7 +128,7 @@ scenario_named scenarios name = find (λ s. same_name s.name name) scenarios
 
 -- a line for the day and one for each scenario, the best first, and then what is told of the one asked for
 pub record IsComparison (d : DayRecord) (scenarios : List ScenarioRecord) (asked : Option ScenarioRecord) (text : List ℕ) : Type 0 where
-  pub plan : PlanRecord
+  pub plan : Plan
   pub of_day : IsDayPlan d plan
   pub before : List Standing
   pub stand : AreStandings d plan before

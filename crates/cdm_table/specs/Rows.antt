@@ -7,10 +7,11 @@ use Rattle.csv.specs.Writing.{default_writer, row_text}
 use Rattle.cdm_time.specs.declared.calendar.CalendarDate.{CalendarDate}
 use Rattle.cdm_time.specs.Times.{time_text}
 use Rattle.cdm_flight.specs.Journal.{flight_of, taxi_of}
-use Rattle.cdm_flight.specs.Record.{Record}
+use Rattle.cdm_flight.specs.declared.flight.Flight.{Flight}
 use Rattle.cdm_flight.specs.Words.{text_of}
 use Rattle.cdm_flight.specs.declared.word.RefusalWord.{RefusalWord}
-use Rattle.cdm_sequence.specs.Slots.{PlanRecord, SlotRecord}
+use Rattle.cdm_sequence.specs.declared.plan.Plan.{Plan}
+use Rattle.cdm_sequence.specs.declared.slot.Slot.{Slot}
 use Rattle.cdm_sequence.specs.Words.{rule_text}
 use Rattle.cdm_sequence.specs.declared.slot.Mark.{Mark}
 use Rattle.cdm_sequence.specs.declared.slot.Mark.TheVariants as mark
@@ -49,7 +50,7 @@ status_word (OnRunway runway slot) = mark_word slot.mark
 status_word (Blocked flight) = codes "BLOCKED"
 status_word (Cancelled name) = codes "CANCELLED"
 
-abbrev pub slot_of : Standing → Option SlotRecord
+abbrev pub slot_of : Standing → Option Slot
 slot_of (OnRunway runway slot) = Some slot
 slot_of standing = None
 
@@ -58,7 +59,7 @@ rule_field (Blocked flight) = rule_text flight.rule
 rule_field standing = []
 
 -- the taxi-out time: that of a slot; of a blocked flight that from its stand to its runway, if it is known
-abbrev pub exot_of : DayRecord → Record → Standing → Option ℕ
+abbrev pub exot_of : DayRecord → Flight → Standing → Option ℕ
 exot_of d f (OnRunway runway slot) = Some slot.exot
 exot_of d f (Blocked flight) = option_and_then (exot_to (taxi_of d.airport d.journal) f) f.runway
 exot_of d f (Cancelled name) = None
@@ -70,19 +71,19 @@ heading =
     ∷ codes "tobt" ∷ codes "exot" ∷ codes "ctot" ∷ codes "tsat" ∷ codes "ttot" ∷ codes "delay" ∷ codes "rule" ∷ []
 
 -- a flight under a scenario's name, or under none for the day itself
-unfoldable pub flight_fields : List ℕ → Record → Standing → List (List ℕ)
+unfoldable pub flight_fields : List ℕ → Flight → Standing → List (List ℕ)
 flight_fields scenario f standing =
     scenario ∷ f.name ∷ status_word standing ∷ name_field f.runway ∷ name_field f.stand ∷ decimal f.priority ∷ group_letter f.group ∷ []
 
 -- its times, and the rule that blocks it
-unfoldable pub time_fields : CalendarDate → Record → Option ℕ → Standing → List (List ℕ)
+unfoldable pub time_fields : CalendarDate → Flight → Option ℕ → Standing → List (List ℕ)
 time_fields day f exot standing =
     let slot = slot_of standing in
     time_field day f.tobt ∷ number_field exot ∷ time_field day f.ctot
     ∷ time_field day (option_map (λ s. s.tsat) slot) ∷ time_field day (option_map (λ s. s.ttot) slot)
     ∷ number_field (option_and_then (λ s. s.delay) slot) ∷ rule_field standing ∷ []
 
-abbrev pub flight_row : CalendarDate → List ℕ → Record → Option ℕ → Standing → List (List ℕ)
+abbrev pub flight_row : CalendarDate → List ℕ → Flight → Option ℕ → Standing → List (List ℕ)
 flight_row day scenario f exot standing = flight_fields scenario f standing ++ time_fields day f exot standing
 
 -- the flight of a row
@@ -111,7 +112,7 @@ abbrev pub csv_text : List (List (List ℕ)) → List ℕ
 csv_text rows = flat_map (row_text default_writer) rows
 
 -- the text has the rows of a day's flights by name, under a scenario's name or under none
-abbrev pub AreFlightRows : DayRecord → PlanRecord → List ℕ → List ℕ → Type 0
+abbrev pub AreFlightRows : DayRecord → Plan → List ℕ → List ℕ → Type 0
 AreFlightRows d plan scenario text = (standings : List Standing) × AreStandings d plan standings × (text ≡ csv_text (rows_of d scenario standings))
 
 -- what comes of the day by a scenario: each flight's row, or the one of its word
@@ -124,7 +125,7 @@ AreScenarioRows d s text = (o : Outcome) × IsOutcome d s.updates o × AreRows d
 
 -- the heading, the rows of the day itself, and those of each scenario
 pub record IsCsv (d : DayRecord) (scenarios : List ScenarioRecord) (text : List ℕ) : Type 0 where
-  pub plan : PlanRecord
+  pub plan : Plan
   pub of_day : IsDayPlan d plan
   pub own : List ℕ
   pub rows : AreFlightRows d plan [] own

@@ -18,14 +18,10 @@ day_number d = days_from_civil (pos d.year) d.month d.day
 abbrev pub date_in : List ℕ → CalendarDate
 date_in text = record { year = number_in (slice_range text 0 4); month = number_in (slice_range text 5 7); day = number_in (slice_range text 8 10) }
 
--- the text has the form YYYY-MM-DD, with any digits
-abbrev pub has_date_form : List ℕ → Bool
-has_date_form text = (length text == 10) && are_digits (slice_range text 0 4) && (slice_index text 4 == byte "-")
-    && are_digits (slice_range text 5 7) && (slice_index text 7 == byte "-") && are_digits (slice_range text 8 10)
-
 -- a text of the form YYYY-MM-DD with a date of the calendar
 unfoldable pub is_date_text : List ℕ → Bool
-is_date_text text = has_date_form text && is_date (date_in text)
+is_date_text text = (length text == 10) && are_digits (slice_range text 0 4) && (slice_index text 4 == byte "-")
+    && are_digits (slice_range text 5 7) && (slice_index text 7 == byte "-") && are_digits (slice_range text 8 10) && is_date (date_in text)
 
 -- a date of the years 2000 to 2099, on which a horizon may begin
 abbrev pub is_first_day : CalendarDate → Bool

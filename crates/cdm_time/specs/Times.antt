@@ -19,14 +19,11 @@ hour_in text = number_in (slice_range text 11 13)
 abbrev pub minute_in : List ℕ → ℕ
 minute_in text = number_in (slice_range text 14 16)
 
--- the text has the form YYYY-MM-DDTHH:MMZ, with any date and digits
-abbrev pub has_time_form : List ℕ → Bool
-has_time_form text = (length text == 17) && (slice_index text 10 == byte "T") && are_digits (slice_range text 11 13)
-    && (slice_index text 13 == byte ":") && are_digits (slice_range text 14 16) && (slice_index text 16 == byte "Z")
-
 -- a text of the form YYYY-MM-DDTHH:MMZ with a date of the calendar and a time of the day
 unfoldable pub is_time_text : List ℕ → Bool
-is_time_text text = has_time_form text && is_date_text (slice_range text 0 10) && nat_lt (hour_in text) 24 && nat_lt (minute_in text) 60
+is_time_text text = (length text == 17) && (slice_index text 10 == byte "T") && are_digits (slice_range text 11 13)
+    && (slice_index text 13 == byte ":") && are_digits (slice_range text 14 16) && (slice_index text 16 == byte "Z")
+    && is_date_text (slice_range text 0 10) && nat_lt (hour_in text) 24 && nat_lt (minute_in text) 60
 
 -- the minutes from the day's start to the time that a text names
 unfoldable pub minutes_between : CalendarDate → List ℕ → ℤ

@@ -1,6 +1,5 @@
 //! The CTOT tolerance.
-ghost use Rattle.std.specs.Prelude.{◌≡◌, ℕ, ◌≤◌, ◌&&◌, nat_le, Some, None, if◌then◌else◌};
-ghost use Rattle.cdm_time.specs.Windows.{usual_tolerance};
+ghost use Rattle.std.specs.Prelude.{◌≡◌, ◌&&◌, nat_le, Some, None, if◌then◌else◌};
 
 use std::marker::Model;
 
@@ -8,21 +7,22 @@ use std::marker::Model;
 /// it (local profile, after the manual's slot tolerance window).
 #[derive(Clone, Copy, PartialEq, Eq, Hash, Debug)]
 pub struct Tolerance {
-    before: u16,
-    after: u16,
+    pub before: u16,
+    pub after: u16,
 }
 
 impl Model for Tolerance {
+    ghost use Rattle.cdm_time.specs.declared.tolerance.Tolerance.TheInside as inside;
+
+    ghost Value = { inside.Inside };
+
     ghost use Rattle.std.specs.Prelude.{◌≤◌};
-    ghost use Rattle.cdm_time.specs.Windows.{Margins};
 
-    ghost Value = { Margins };
-
-    ghost view = { λ t. record { before = t.before; after = t.after } };
-
-    ghost inverse = { λ m. record { before = m.before; after = m.after } };
+    ghost view = { λ t. t };
 
     ghost invariant = { λ t. (t.before ≤ 15) × (t.after ≤ 30) };
+
+    ghost inverse = { λ t. t };
 }
 
 impl Tolerance {
@@ -40,27 +40,11 @@ impl Tolerance {
 
     /// The usual one: 5 minutes before and 10 after (the manual's slot tolerance window).
     pub fn usual() -> Tolerance
-        ensures { result ≡ usual_tolerance }
+        ensures { result ≡ record { before = 5; after = 10 } }
     {
         Tolerance {
             before: 5,
             after: 10,
         }
-    }
-
-    /// How many minutes before its CTOT a flight may take off.
-    pub fn before(self) -> u16
-        ensures value { result ≡ self.before }
-        ensures range { result ≤ 15 }
-    {
-        self.before
-    }
-
-    /// How many minutes after its CTOT a flight may take off.
-    pub fn after(self) -> u16
-        ensures value { result ≡ self.after }
-        ensures range { result ≤ 30 }
-    {
-        self.after
     }
 }

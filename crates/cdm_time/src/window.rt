@@ -15,14 +15,14 @@ pub struct Window {
 }
 
 impl Model for Window {
-    ghost use Rattle.std.specs.Prelude.{◌<◌};
-    ghost use Rattle.cdm_time.specs.Windows.{Interval};
+    ghost use Rattle.std.specs.Prelude.{◌<◌, ℕ};
+    ghost use Rattle.std.specs.declared.ops.Range.{Range};
 
-    ghost Value = { Interval };
+    ghost Value = { Range ℕ };
 
-    ghost view = { λ w. record { from = w.from; to = w.to } };
+    ghost view = { λ w. record { start = w.from; end = w.to } };
 
-    ghost inverse = { λ i. record { from = i.from; to = i.to } };
+    ghost inverse = { λ r. record { from = r.start; to = r.end } };
 
     ghost invariant = { λ w. w.from < w.to };
 }
@@ -30,7 +30,7 @@ impl Model for Window {
 impl Window {
     /// The window from a minute up to a bound, or `None` where it would have no minute.
     pub fn new(from: Minute, to: Bound) -> Option<Window>
-        ensures { result ≡ (if nat_lt from to then Some (record { from = from; to = to }) else None) }
+        ensures { result ≡ (if nat_lt from to then Some (record { start = from; end = to }) else None) }
     {
         if from.get() < to.get() {
             Some(Window { from, to })
@@ -41,24 +41,24 @@ impl Window {
 
     /// The window's first minute.
     pub fn from(self) -> Minute
-        ensures value { result ≡ self.from }
-        ensures ordered { self.from < self.to }
+        ensures value { result ≡ self.start }
+        ensures ordered { self.start < self.end }
     {
         self.from
     }
 
     /// The bound at which the window ends.
     pub fn to(self) -> Bound
-        ensures value { result ≡ self.to }
-        ensures ordered { self.from < self.to }
-        ensures in_horizon { self.to ≤ 2880 }
+        ensures value { result ≡ self.end }
+        ensures ordered { self.start < self.end }
+        ensures in_horizon { self.end ≤ 2880 }
     {
         self.to
     }
 
     /// Whether a minute is one of the window's.
     pub fn contains(self, minute: Minute) -> bool
-        ensures { result ≡ window_has self.from self.to minute }
+        ensures { result ≡ window_has self.start self.end minute }
     {
         self.from.get() <= minute.get() && minute.get() < self.to.get()
     }
@@ -67,12 +67,12 @@ impl Window {
 /// The minutes at which a flight with this CTOT may take off: those of the horizon within the
 /// tolerance of the CTOT.
 pub fn ctot_window(ctot: Minute, tolerance: Tolerance) -> Window
-    ensures from { result.from ≡ ctot - tolerance.before }
-    ensures to { result.to ≡ min 2880 (ctot + tolerance.after + 1) }
-    ensures minutes { (m : ℕ) → m < 2880 → window_has result.from result.to m ≡ is_in_tolerance tolerance ctot m }
+    ensures from { result.start ≡ ctot - tolerance.before }
+    ensures to { result.end ≡ min 2880 (ctot + tolerance.after + 1) }
+    ensures minutes { (m : ℕ) → m < 2880 → window_has result.start result.end m ≡ is_in_tolerance tolerance ctot m }
 {
-    let from = ctot.get().saturating_sub(tolerance.before());
-    let to = (ctot.get() + tolerance.after() + 1).min(Bound::END.get());
+    let from = ctot.get().saturating_sub(tolerance.before);
+    let to = (ctot.get() + tolerance.after + 1).min(Bound::END.get());
     Window {
         from: Minute { number: from },
         to: Bound { number: to },

@@ -7,7 +7,7 @@ use Rattle.cdm_flight.specs.Names.{same_name}
 use Rattle.cdm_flight.specs.declared.role.Role.{Role}
 use Rattle.cdm_flight.specs.declared.update.Update.{Update}
 use Rattle.cdm_flight.specs.declared.word.RefusalWord.{RefusalWord}
-use Rattle.cdm_sequence.specs.Slots.{PlanRecord}
+use Rattle.cdm_sequence.specs.declared.plan.Plan.{Plan}
 use Rattle.cdm_plan.specs.Airport.{IsAirport, runway_names}
 use Rattle.cdm_plan.specs.Day.{DayRecord, flights_in}
 use Rattle.cdm_plan.specs.DayPlan.{IsDayPlan}
@@ -43,7 +43,7 @@ own_next d (Ok u) own = (own.0, own_after d u own.1)
 own_next d (Err word) own = own
 
 -- the changes between two days with their plans
-one_changes : (d : DayRecord) (plan : PlanRecord) (next : DayRecord) (next_plan : PlanRecord) → Own next → IsDayPlan next next_plan
+one_changes : (d : DayRecord) (plan : Plan) (next : DayRecord) (next_plan : Plan) → Own next → IsDayPlan next next_plan
     → (x y : List Standing) → AreChanges d plan next next_plan x → AreChanges d plan next next_plan y → x ≡ y
 one_changes d plan next next_plan own is x y a b =
     let before = standings_of d plan in
@@ -57,7 +57,7 @@ one_changed d next own after x y a b =
     let plans : b.plan ≡ a.plan = one_day_plan d b.plan a.plan own.0 own.1 b.of_day a.of_day in
     let next_plans : b.next_plan ≡ a.next_plan = one_day_plan next b.next_plan a.next_plan after.0 after.1 b.of_next a.of_next in
     let changed : AreChanges d a.plan next a.next_plan y =
-    subst (λ (p : PlanRecord). AreChanges d p next a.next_plan y) plans (subst (λ (p : PlanRecord). AreChanges d b.plan next p y) next_plans b.changes) in
+    subst (λ (p : Plan). AreChanges d p next a.next_plan y) plans (subst (λ (p : Plan). AreChanges d b.plan next p y) next_plans b.changes) in
     one_changes d a.plan next a.next_plan after a.of_next x y a.changes changed
 
 -- the reply where this word refuses a record, or none does

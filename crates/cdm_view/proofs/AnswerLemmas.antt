@@ -1,10 +1,10 @@
 -- A question has one answer.
 use Rattle.std.proofs.Common.{◌≡◌, ◌∙◌, ℕ, ◌+◌, List, [], MatchOption, Option, None, Some, ap, sym}
 use Rattle.std.specs.Option.{IsSomeAnd, option_map_or}
-use Rattle.cdm_time.specs.Windows.{horizon}
+use Rattle.cdm_time.specs.declared.bound.TheConstants.{HORIZON_MINUTES}
 use Rattle.cdm_flight.specs.Journal.{flight_of}
-use Rattle.cdm_flight.specs.Record.{Record}
-use Rattle.cdm_sequence.specs.Slots.{PlanRecord}
+use Rattle.cdm_flight.specs.declared.flight.Flight.{Flight}
+use Rattle.cdm_sequence.specs.declared.plan.Plan.{Plan}
 use Rattle.cdm_plan.specs.Airport.{IsAirport}
 use Rattle.cdm_plan.specs.Day.{DayRecord}
 use Rattle.cdm_plan.proofs.NameLemmas.{in_order}
@@ -18,7 +18,7 @@ use Rattle.cdm_view.specs.Why.{IsWhy, own_slot, waits_for, why_bytes}
 use Rattle.cdm_view.specs.declared.runs.Run.{Run}
 use Rattle.cdm_view.proofs.RunLemmas.{runs_one}
 
-load_same : (d : DayRecord) (plan : PlanRecord) (asked : Option (List ℕ)) (x y : List ℕ) → IsAirport d.airport
+load_same : (d : DayRecord) (plan : Plan) (asked : Option (List ℕ)) (x y : List ℕ) → IsAirport d.airport
     → IsLoad d plan asked x → IsLoad d plan asked y → x ≡ y
 load_same d plan asked x y airport (xs, these, is) (ys, those, also) =
     is ∙ ap (load_text d.airport plan asked) (in_order d xs airport these ∙ sym (in_order d ys airport those)) ∙ sym also
@@ -29,15 +29,15 @@ waits_one : (w : Option Waiting) (to : ℕ) (xs ys : List Run) → MatchOption w
 waits_one None to xs ys a b = a ∙ sym b
 waits_one (Some w) to xs ys a b = runs_one (reason_at w) (w.tobt + w.exot) to xs ys a b
 
-why_same : (known : Option Record) (d : DayRecord) (plan : PlanRecord) (x y : List ℕ)
+why_same : (known : Option Flight) (d : DayRecord) (plan : Plan) (x y : List ℕ)
     → IsSomeAnd known (λ f. IsWhy d plan f x) → IsSomeAnd known (λ f. IsWhy d plan f y) → x ≡ y
 why_same None d plan x y a b = absurd a
 why_same (Some f) d plan x y a b =
-    let to = option_map_or (λ s. s.ttot) (own_slot plan f) horizon in
+    let to = option_map_or (λ s. s.ttot) (own_slot plan f) HORIZON_MINUTES in
     let runs : a.runs ≡ b.runs = waits_one (waits_for d plan f) to a.runs b.runs a.waits b.waits in
     a.bytes ∙ ap (why_bytes d plan f) runs ∙ sym b.bytes
 
-pub answer_one : (question : Question) (d : DayRecord) (plan : PlanRecord) (x y : List ℕ) → IsAirport d.airport
+pub answer_one : (question : Question) (d : DayRecord) (plan : Plan) (x y : List ℕ) → IsAirport d.airport
     → IsAnswer question d plan x → IsAnswer question d plan y → x ≡ y
 answer_one (Why name) d plan x y airport a b = why_same (flight_of d.airport d.journal name) d plan x y a b
 answer_one (Load runway) d plan x y airport a b = load_same d plan runway x y airport a.1 b.1

@@ -23,7 +23,7 @@ use Rattle.cdm_plan.proofs.ListWords.{list_any-append, map-append, IsPermutation
 use Rattle.cdm_plan.proofs.ListWords.{IsPermutation-append_right, IsPermutation-map, IsPermutation-sym}
 use Rattle.cdm_plan.proofs.ListWords.{IsPermutation-trans}
 use Rattle.cdm_plan.proofs.PlanWords.{is_same, name_cmp, same_is, same_name, tied_names, DayRecord, IsDayPlan}
-use Rattle.cdm_plan.proofs.PlanWords.{PlanRecord, same_flips}
+use Rattle.cdm_plan.proofs.PlanWords.{Plan, same_flips}
 use Rattle.cdm_time.specs.declared.calendar.CalendarDate.{CalendarDate}
 use Rattle.cdm_view.specs.declared.standing.Standing.{Standing}
 use Rattle.cdm_view.specs.Standings.{KeepsFlights, changes, flight_name, is_same_told, is_told, standing_line}
@@ -198,7 +198,7 @@ AreParts-all one other = record { start = []; rest = []; of_one = sym (append-ni
 -- Names.
 
 -- what is left of the standings of a day is of flights of its own
-pub left_apart : (d : DayRecord) (plan : PlanRecord) (same rest : List Standing) → AllSound d → IsDayPlan d plan
+pub left_apart : (d : DayRecord) (plan : Plan) (same rest : List Standing) → AllSound d → IsDayPlan d plan
     → IsPermutation (same ++ rest) (standings_of d plan) → IsDistinct same_name (map flight_name rest)
 left_apart d plan same rest sound of_day is =
     let whole = standings_of d plan in

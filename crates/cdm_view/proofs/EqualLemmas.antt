@@ -13,7 +13,7 @@ use Rattle.cdm_time.specs.contracts.minute.MinutePartialEq.TheImpl as minute_eq
 use Rattle.cdm_flight.specs.contracts.group.GroupPartialEq.TheImpl as group_eq
 use Rattle.cdm_flight.specs.declared.group.Group.{Group}
 use Rattle.cdm_plan.proofs.PlanWords.{same_is, same_name}
-use Rattle.cdm_sequence.specs.Slots.{SlotRecord}
+use Rattle.cdm_sequence.specs.declared.slot.Slot.{Slot}
 use Rattle.cdm_sequence.specs.contracts.slot.BlockedFlightPartialEq.TheImpl as blocked_eq
 use Rattle.cdm_sequence.specs.contracts.slot.MarkPartialEq.TheImpl as mark_eq
 use Rattle.cdm_sequence.specs.contracts.slot.SlotPartialEq.TheImpl as slot_eq
@@ -39,7 +39,7 @@ marks_decide a b = search rules
 pub blocked_decide : (a b : BlockedFlight) → Decides ((blocked_eq.ghosts).eq a b) (a ≡ b)
 blocked_decide a b = search rules
 
-pub equal_slots : (s t : SlotRecord) → (slot_eq.ghosts).eq s t ≡ true → s ≡ t
+pub equal_slots : (s t : Slot) → (slot_eq.ghosts).eq s t ≡ true → s ≡ t
 equal_slots s t h =
     let name = and_parts (same_name s.name t.name) _ h in
     let tobt = and_parts (option_eq (minute_eq.ghosts).eq s.tobt t.tobt) _ name.1 in

@@ -15,7 +15,7 @@ use Rattle.cdm_plan.proofs.DayPlanLemmas.{record_name, records-next}
 use Rattle.cdm_plan.proofs.JournalFacts.{known-among}
 use Rattle.std.proofs.lemmas.Map.Views.{Contains-from_any}
 use Rattle.cdm_plan.proofs.PlanWords.{same_flips, AimResult, DayRecord, DayValues, IsAim, IsDayPlan, IsSound}
-use Rattle.cdm_plan.proofs.PlanWords.{PlanRecord, Record, RunwayPlanRecord, RunwayRow, Early, Ready, TaxiTimes}
+use Rattle.cdm_plan.proofs.PlanWords.{Plan, Flight, RunwayPlan, RunwayRow, Early, Ready, TaxiTimes}
 use Rattle.cdm_plan.proofs.PlanWords.{aim_means, aim_of, blocked_in, fixed_slot, flight_of, flights_in, is_known}
 use Rattle.cdm_plan.proofs.PlanWords.{is_on, is_planned, records_in, same_is, same_name, slot_by}
 use Rattle.cdm_plan.proofs.PlanWords.{status_of-record, taxi_of, values_of}
@@ -30,7 +30,7 @@ use Rattle.cdm_view.specs.inner.Known.{AllSound}
 
 -- Flights one after another.
 
-module _ (h : List ℕ → Option Record) (names : List (List ℕ)) (place : ℕ) (o : Option Record)
+module _ (h : List ℕ → Option Flight) (names : List (List ℕ)) (place : ℕ) (o : Option Flight)
     (known : o ≡ option_and_then h (slice_get names place)) where
   flights_next : filter_map h (take (place + 1) names) ≡ filter_map h (take place names) ++ cons_option o []
   flights_next = records-next h names place ∙ ap (λ q. filter_map h (take place names) ++ cons_option q []) (sym known)
@@ -44,30 +44,30 @@ module _ (h : List ℕ → Option Record) (names : List (List ℕ)) (place : ℕ
       rw (flights_next, filter_map-append cancelled earlier (cons_option o []), ← whole, ← so_far) more
 
   -- what holds of each, with one more
-  pub all_next : (P : Record → Type 0) → All P (filter_map h (take place names)) → ForSome o P → All P (filter_map h (take (place + 1) names))
+  pub all_next : (P : Flight → Type 0) → All P (filter_map h (take place names)) → ForSome o P → All P (filter_map h (take (place + 1) names))
   all_next P so_far here = rw flights_next (All-append P (filter_map h (take place names)) (cons_option o []) so_far (one o here))
     where
-      one : (q : Option Record) → ForSome q P → All P (cons_option q [])
+      one : (q : Option Flight) → ForSome q P → All P (cons_option q [])
       one q k = grind (arith, k, All-nil P, All-cons P)
 
 -- A flight that a plan shows.
 
-module _ (times : TaxiTimes) (values : DayValues) (fs : List Record) (f : Record) where
+module _ (times : TaxiTimes) (values : DayValues) (fs : List Flight) (f : Flight) where
   -- it stands where it stands on the runway of one of the plans
-  stands_there : (ps : List RunwayPlanRecord) (r : List ℕ) → Contains (map (λ p. p.runway) ps) r → stands times values r f ≡ true
+  stands_there : (ps : List RunwayPlan) (r : List ℕ) → Contains (map (λ p. p.runway) ps) r → stands times values r f ≡ true
       → stands_in times values fs ps f ≡ true
   stands_there [] r i h = absurd (omega (arith, i.1))
-  stands_there (p ∷ ps) r i h = elim (contains_cases p.runway (map (λ (p : RunwayPlanRecord). p.runway) ps) r i) [
+  stands_there (p ∷ ps) r i h = elim (contains_cases p.runway (map (λ (p : RunwayPlan). p.runway) ps) r i) [
     | inl same ↦ ap (λ s. stands times values s f || stands_in times values fs ps f) same ∙ ap (λ b. b || stands_in times values fs ps f) h
     | inr j ↦ or_right (stands times values p.runway f) (stands_in times values fs ps f) (stands_there ps r j h)
   ]
 
   -- and where it is blocked early
-  stands_early : (ps : List RunwayPlanRecord) → is_some (early_at times values f) ≡ true → stands_in times values fs ps f ≡ true
+  stands_early : (ps : List RunwayPlan) → is_some (early_at times values f) ≡ true → stands_in times values fs ps f ≡ true
   stands_early [] h = h
   stands_early (p ∷ ps) h = or_right (stands times values p.runway f) (stands_in times values fs ps f) (stands_early ps h)
 
-  module _ (ps : List RunwayPlanRecord) (planned : (r : List ℕ) → f.runway ≡ Some r → Contains (map (λ p. p.runway) ps) r) where
+  module _ (ps : List RunwayPlan) (planned : (r : List ℕ) → f.runway ≡ Some r → Contains (map (λ p. p.runway) ps) r) where
     on_own : (r : List ℕ) → f.runway ≡ Some r → is_on r f ≡ true
     on_own r e = ap (λ o. option_map_or (λ s. same_name s r) o false) e ∙ same_name-refl r
 
@@ -103,7 +103,7 @@ module _ (times : TaxiTimes) (values : DayValues) (fs : List Record) (f : Record
 -- The flights of a day.
 
 module _ (d : DayRecord) where
-  abbrev pub flights : List Record
+  abbrev pub flights : List Flight
   flights = records_in d.airport d.journal
 
   -- the journal says something of each flight that it makes known
@@ -116,20 +116,20 @@ module _ (d : DayRecord) where
       grind arith
 
   -- so the known flights are those that it says something of
-  known_named : map (λ (f : Record). f.name) flights ≡ flights_in d.journal
+  known_named : map (λ (f : Flight). f.name) flights ≡ flights_in d.journal
   known_named =
-      names_given (λ (f : Record). f.name) (λ n. n) (flight_of d.airport d.journal) (λ n. named n (flight_of d.airport d.journal n) refl) (flights_in d.journal)
+      names_given (λ (f : Flight). f.name) (λ n. n) (flight_of d.airport d.journal) (λ n. named n (flight_of d.airport d.journal n) refl) (flights_in d.journal)
       ∙ (ap (map (λ (n : List ℕ). n)) (filter_all (λ n. is_some (flight_of d.airport d.journal n)) (flights_in d.journal) each_recorded)
       ∙ map_fixed (λ (n : List ℕ). n) (flights_in d.journal) (λ k n l. refl))
     where
-      named : (n : List ℕ) (o : Option Record) → flight_of d.airport d.journal n ≡ o → IfSome o (λ f. f.name ≡ n)
+      named : (n : List ℕ) (o : Option Flight) → flight_of d.airport d.journal n ≡ o → IfSome o (λ f. f.name ≡ n)
       named n o e = grind (arith, record_name d.airport d.journal n)
 
   -- the runway of a flight is one of the airport's
-  own_runway : IsSound d → (f : Record) → Contains (flights) f → (r : List ℕ) → f.runway ≡ Some r → Contains (map (λ row. row.name) d.airport.runways) r
+  own_runway : IsSound d → (f : Flight) → Contains (flights) f → (r : List ℕ) → f.runway ≡ Some r → Contains (map (λ row. row.name) d.airport.runways) r
   own_runway sound f i r e =
       let says = status_of-record f.name d.airport d.journal f (told d f i) in
-      let has = sound.runways f.name r (ap (λ (x : Record). x.runway) says.1 ∙ e) in
+      let has = sound.runways f.name r (ap (λ (x : Flight). x.runway) says.1 ∙ e) in
       let rows = d.airport.runways in
       let name : RunwayRow → List ℕ = λ row. row.name in
       let test : RunwayRow → Bool = λ row. same_name row.name r in
@@ -138,7 +138,7 @@ module _ (d : DayRecord) where
       Contains-from_any same_is r (map name rows) found
 
   -- each known flight has one standing, and no other has one
-  pub each_stands : (plan : PlanRecord) → AllSound d → IsDayPlan d plan
+  pub each_stands : (plan : Plan) → AllSound d → IsDayPlan d plan
       → IsPermutation (flights_in d.journal) (map flight_name (standings_of d plan))
   each_stands plan sound is =
       let fs = flights in
@@ -147,7 +147,7 @@ module _ (d : DayRecord) where
       let plans = standing.runways_planned d plan sound.day.airport.names is in
       let all = filter_all (λ f. standing.stands d plan f || is_some (cancelled f)) fs (λ f i.
       sound_stands times values fs f plan.runways
-      (λ r e. Contains-permutation _ (map (λ (p : RunwayPlanRecord). p.runway) plan.runways) r plans (own_runway sound.day f i r e))
-      (All-contains (λ (f : Record). IsTrue (is_sound f.runway f.status)) fs f sound.flights i)) in
+      (λ r e. Contains-permutation _ (map (λ (p : RunwayPlan). p.runway) plan.runways) r plans (own_runway sound.day f i r e))
+      (All-contains (λ (f : Flight). IsTrue (is_sound f.runway f.status)) fs f sound.flights i)) in
       subst (λ (ns : List (List ℕ)). IsPermutation ns (map flight_name (standings_of d plan)))
-      (ap (map (λ (f : Record). f.name)) all ∙ known_named) (standing.standings_named d plan sound.day.airport.names is)
+      (ap (map (λ (f : Flight). f.name)) all ∙ known_named) (standing.standings_named d plan sound.day.airport.names is)

@@ -14,7 +14,8 @@ use Rattle.cdm_flight.specs.Cells.{is_cell_length}
 use Rattle.cdm_flight.proofs.Lists.{contains_kept, contains_head, contains_tail, sum_by-add, sum_by-zero}
 use Rattle.cdm_runway.specs.Rules.{RunwayRules}
 use Rattle.cdm_runway.proofs.CellLemmas.{cell_below, cells-fill}
-use Rattle.cdm_sequence.specs.Slots.{PlanRecord, SlotRecord}
+use Rattle.cdm_sequence.specs.declared.plan.Plan.{Plan}
+use Rattle.cdm_sequence.specs.declared.slot.Slot.{Slot}
 use Rattle.cdm_report.specs.Columns.{left_in}
 use Rattle.cdm_report.specs.Report.{day_line}
 use Rattle.cdm_time.specs.declared.calendar.CalendarDate.{CalendarDate}
@@ -54,7 +55,7 @@ runways_more told asked start before after runways place next at so_far more =
 
 -- a text that begins with the line of the day, and tells of the runways whichever they are by name, is the one text
 -- that tells how full they are
-module _ (d : DayRecord) (h : AirportRows) (plan : PlanRecord) (asked : Option (List ℕ)) (day : CalendarDate) (clock : ℕ) (none begun text : List ℕ)
+module _ (d : DayRecord) (h : AirportRows) (plan : Plan) (asked : Option (List ℕ)) (day : CalendarDate) (clock : ℕ) (none begun text : List ℕ)
     (same : h ≡ d.airport) (of_day : day ≡ h.day) (now : clock ≡ plan.clock) (empty : none ≡ []) (first : begun ≡ none ++ day_line day clock)
     (rest : (runways : List RunwayRules) → AreByName d runways → text ≡ begun ++ flat_map (runway_load h plan) (filter (is_asked asked) runways)) where
   load_is : (runways : List RunwayRules) → AreByName d runways → text ≡ load_text d.airport plan asked runways
@@ -68,7 +69,7 @@ module _ (d : DayRecord) (h : AirportRows) (plan : PlanRecord) (asked : Option (
   load_one other (runways, by_name, is) = is ∙ sym (load_is runways by_name)
 
 -- a cell with a flight is told
-pub told_with_flight : (rules : RunwayRules) (usual : ℕ) (slots : List SlotRecord) (k : ℕ) → k < 2880 / rules.cell
+pub told_with_flight : (rules : RunwayRules) (usual : ℕ) (slots : List Slot) (k : ℕ) → k < 2880 / rules.cell
     → 0 < length (flights_in_cell rules slots k) → is_between (tells rules usual slots) (cells_of rules) k ≡ true
 unfolding tells
 told_with_flight rules usual slots k below more =
@@ -77,7 +78,7 @@ told_with_flight rules usual slots k below more =
     between_itself (tells rules usual slots) (2880 / rules.cell) k below telling
 
 -- a flight is told in one line, that of the cell of its take-off
-pub in_one_line : (rules : RunwayRules) (usual : ℕ) (slots : List SlotRecord) (flight : SlotRecord)
+pub in_one_line : (rules : RunwayRules) (usual : ℕ) (slots : List Slot) (flight : Slot)
     → IsTrue (is_cell_length rules.cell) → Contains slots flight → flight.ttot < 2880 → IsInOneLine rules usual slots flight
 unfolding told_cells
 in_one_line rules usual slots flight length_ok among early =
@@ -120,13 +121,13 @@ sum_kept f test (x ∷ xs) none =
 
 -- each slot is in one of the cells
 module _ (c n : ℕ) where
-  abbrev count_at : List SlotRecord → ℕ → ℕ
+  abbrev count_at : List Slot → ℕ → ℕ
   count_at slots k = length (filter (λ s. s.ttot / c == k) slots)
 
-  one_more : (s : SlotRecord) (slots : List SlotRecord) (k : ℕ) → count_at (s ∷ slots) k ≡ is_number (s.ttot / c) k + count_at slots k
+  one_more : (s : Slot) (slots : List Slot) (k : ℕ) → count_at (s ∷ slots) k ≡ is_number (s.ttot / c) k + count_at slots k
   one_more s slots k = grind arith
 
-  all_counted : (slots : List SlotRecord) → ((s : SlotRecord) → Contains slots s → s.ttot / c < n) → sum_by (count_at slots) (range_with_len 0 n) ≡ length slots
+  all_counted : (slots : List Slot) → ((s : Slot) → Contains slots s → s.ttot / c < n) → sum_by (count_at slots) (range_with_len 0 n) ≡ length slots
   all_counted [] each = sum_by-zero (range_with_len 0 n)
   all_counted (s ∷ slots) each =
       let rest = all_counted slots (λ t i. each t (contains_tail s slots t i)) in
@@ -138,7 +139,7 @@ module _ (c n : ℕ) where
       omega arith
 
 -- the counts of the lines that are told add up to the slots
-pub counts_add : (rules : RunwayRules) (usual : ℕ) (slots : List SlotRecord) → IsTrue (is_cell_length rules.cell) → All (λ s. s.ttot < 2880) slots
+pub counts_add : (rules : RunwayRules) (usual : ℕ) (slots : List Slot) → IsTrue (is_cell_length rules.cell) → All (λ s. s.ttot < 2880) slots
     → sum_by (λ k. length (flights_in_cell rules slots k)) (told_cells rules usual slots) ≡ length slots
 unfolding told_cells
 counts_add rules usual slots length_ok early =
@@ -149,4 +150,4 @@ counts_add rules usual slots length_ok early =
     let none : 0 < count_at rules.cell n slots k → ⊥ =
     λ more. both_ways (told k) untold (told_with_flight rules usual slots k (omega arith) more) in
     omega (arith, none))
-    ∙ all_counted rules.cell n slots (λ s i. cell_below rules.cell s.ttot length_ok (All-contains (λ (t : SlotRecord). t.ttot < 2880) slots s early i))
+    ∙ all_counted rules.cell n slots (λ s i. cell_below rules.cell s.ttot length_ok (All-contains (λ (t : Slot). t.ttot < 2880) slots s early i))

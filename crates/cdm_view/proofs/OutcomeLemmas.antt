@@ -9,8 +9,8 @@ use Rattle.cdm_plan.proofs.ListWords.{All-contains, Contains, Contains-permutati
 use Rattle.cdm_plan.proofs.ListWords.{contains_from_map, contains_kept, contains_map, filter_map, filter_passes}
 use Rattle.cdm_plan.proofs.ListWords.{flat_map, option_map, IsDistinct, IsDistinct-IsPermutation, IsPermutation}
 use Rattle.cdm_plan.proofs.ListWords.{one_of_key, option_and_then, option_map_or}
-use Rattle.cdm_plan.proofs.PlanWords.{AimResult, BlockedFlight, DayRecord, DayValues, Early, IsAim, Placing, PlanRecord}
-use Rattle.cdm_plan.proofs.PlanWords.{Ready, Record, RunwayPlanRecord, RunwayRules, SlotRecord, TargetRecord, TaxiTimes}
+use Rattle.cdm_plan.proofs.PlanWords.{AimResult, BlockedFlight, DayRecord, DayValues, Early, IsAim, Placing, Plan}
+use Rattle.cdm_plan.proofs.PlanWords.{Ready, Flight, RunwayPlan, RunwayRules, Slot, Target, TaxiTimes}
 use Rattle.cdm_plan.proofs.PlanWords.{aim_means, aim_of, blocked_in, fixed_on, flight_of, flights_in, is_known}
 use Rattle.cdm_plan.proofs.PlanWords.{is_planned, is_same, planned_of, records_in, same_is, same_name, status_of-record}
 use Rattle.cdm_plan.proofs.PlanWords.{takeoffs, target_in, taxi_of, values_of, IsSequence, IsSequenceBy, RunwayRow}
@@ -49,14 +49,14 @@ blocked_says name a b h = grind arith
 planned_is : (s : Status) → is_planned s ≡ true → s ≡ Planned
 planned_is s h = grind arith
 
-module _ (d : DayRecord) (plan : PlanRecord) (f : Record) (w : Waiting) (is : Waits d plan f w) where
+module _ (d : DayRecord) (plan : Plan) (f : Flight) (w : Waiting) (is : Waits d plan f w) where
   abbrev times : TaxiTimes
   times = taxi_of d.airport d.journal
 
   abbrev values : DayValues
   values = values_of d.journal
 
-  abbrev flights : List Record
+  abbrev flights : List Flight
   flights = records_in d.airport d.journal
 
   abbrev made : IsMadeOf d plan f w
@@ -66,23 +66,23 @@ module _ (d : DayRecord) (plan : PlanRecord) (f : Record) (w : Waiting) (is : Wa
   parts = parts_on d plan is.of_day
 
   -- what is on a runway
-  abbrev targets_at : RunwayRules → List TargetRecord
+  abbrev targets_at : RunwayRules → List Target
   targets_at r = targets_on r.name (targets_of flights times values)
 
-  abbrev IsOf : Placing → RunwayRules → RunwayPlanRecord → Type 0
+  abbrev IsOf : Placing → RunwayRules → RunwayPlan → Type 0
   IsOf placing r p = IsSequenceBy placing r (fixed_on r.name flights) (targets_at r) p
 
-  abbrev fixed : List SlotRecord
+  abbrev fixed : List Slot
   fixed = fixed_on w.rules.name flights
 
-  abbrev targets : List TargetRecord
+  abbrev targets : List Target
   targets = targets_at w.rules
 
   abbrev early : List BlockedFlight
   early = blocked_early flights times values
 
   abbrev late : List BlockedFlight
-  late = flat_map (λ (p : RunwayPlanRecord). p.blocked) plan.runways
+  late = flat_map (λ (p : RunwayPlan). p.blocked) plan.runways
 
   row_named : Contains d.airport.runways made.row × (same_name made.row.name made.runway ≡ true)
   row_named = find_some (λ (row : RunwayRow). same_name row.name made.runway) d.airport.runways made.row made.found
@@ -107,7 +107,7 @@ module _ (d : DayRecord) (plan : PlanRecord) (f : Record) (w : Waiting) (is : Wa
   named = plans_named d plan is.sound.airport.names is.of_day
 
   -- each plan is a runway's
-  runway_of_plan : (p : RunwayPlanRecord) → Contains plan.runways p
+  runway_of_plan : (p : RunwayPlan) → Contains plan.runways p
       → (r : RunwayRules) × ((placing : Placing) × IsOf placing r p) × Contains (day_rules d) r
   runway_of_plan p i =
       let back = IsPermutation-sym parts.made plan.runways parts.parts.runways in
@@ -115,73 +115,73 @@ module _ (d : DayRecord) (plan : PlanRecord) (f : Record) (w : Waiting) (is : Wa
       parts.sequences (Contains-permutation plan.runways parts.made p back i)
 
   -- the plan of the flight's runway, and its slots
-  record IsHere (p : RunwayPlanRecord) : Type 0 where
+  record IsHere (p : RunwayPlan) : Type 0 where
     among : Contains plan.runways p
     placing : Placing
     sequence : IsOf placing w.rules p
     slots : slots_on plan w.rules.name ≡ p.slots
 
-  plan_here : (p : RunwayPlanRecord) → Contains plan.runways p → p.runway ≡ w.rules.name → IsHere p
+  plan_here : (p : RunwayPlan) → Contains plan.runways p → p.runway ≡ w.rules.name → IsHere p
   plan_here p i on =
-      let runway : RunwayPlanRecord → List ℕ = λ p. p.runway in
+      let runway : RunwayPlan → List ℕ = λ p. p.runway in
       let name : RunwayRules → List ℕ = λ r. r.name in
       let (r, (placing, seq), j) = runway_of_plan p i in
       let same = is_same r.name w.rules.name (sym seq.runway ∙ on) in
       let own = one_of_key same_name same_flips name (day_rules d) r w.rules rules_differ j rules_among same in
       let differ = IsDistinct-IsPermutation same_name same_flips _ _ named rules_differ in
-      let test : RunwayPlanRecord → Bool = λ q. same_name q.runway w.rules.name in
+      let test : RunwayPlan → Bool = λ q. same_name q.runway w.rules.name in
       record {
         among = i;
         placing = placing;
         sequence = subst (λ (r : RunwayRules). IsOf placing r p) own seq;
-        slots = ap (λ (o : Option RunwayPlanRecord). option_map_or (λ p. p.slots) o [])
+        slots = ap (λ (o : Option RunwayPlan). option_map_or (λ p. p.slots) o [])
             (find_only test plan.runways p i (is_same p.runway w.rules.name on)
             (λ q k h. one_of_key same_name same_flips runway plan.runways q p differ k i
             (is_same q.runway p.runway (same_is q.runway w.rules.name h ∙ sym on))));
       }
 
   -- there is one
-  some_here : (p : RunwayPlanRecord) × IsHere p
+  some_here : (p : RunwayPlan) × IsHere p
   some_here =
-      let runway : RunwayPlanRecord → List ℕ = λ p. p.runway in
+      let runway : RunwayPlan → List ℕ = λ p. p.runway in
       let there = contains_map (λ (r : RunwayRules). r.name) (day_rules d) w.rules rules_among in
       let among = Contains-permutation _ (map runway plan.runways) w.rules.name named there in
       let (p, i, on) = contains_from_map runway plan.runways w.rules.name among in
       (p, plan_here p i on)
 
-  aimed : (r : RunwayRules) (t : TargetRecord) → Contains (targets_at r) t
-      → (g : Record) × Contains flights g × IsTarget g times values t
+  aimed : (r : RunwayRules) (t : Target) → Contains (targets_at r) t
+      → (g : Flight) × Contains flights g × IsTarget g times values t
   aimed r t i =
       let among = contains_all (λ t. same_name t.runway r.name) (targets_of flights times values) t i in
       flight_aimed times values flights t among
 
   -- the target of a flight of this name
-  target_of : (r : RunwayRules) (t : TargetRecord) → Contains (targets_at r) t → t.key.name ≡ f.name
+  target_of : (r : RunwayRules) (t : Target) → Contains (targets_at r) t → t.key.name ≡ f.name
       → IsTarget f times values t
   target_of r t i own =
       let (g, j, aim) = aimed r t i in
       let one = same_flight d f g is.known j (sym (key_says g t.key aim.key).0 ∙ own) in
-      subst (λ (g : Record). IsTarget g times values t) one aim
+      subst (λ (g : Flight). IsTarget g times values t) one aim
 
   -- fixed flights come before it
-  fixed_earlier : (s : SlotRecord) → Contains fixed s → is_earlier d made.key s ≡ true
+  fixed_earlier : (s : Slot) → Contains fixed s → is_earlier d made.key s ≡ true
   fixed_earlier s i = or_left (is_fixed s.mark) _ (fixed_flight w.rules.name flights s i).2.fixed
 
   -- and planned ones by the order of sequence
-  planned_earlier : (u : TargetRecord) (m : ℕ) → Contains targets u
+  planned_earlier : (u : Target) (m : ℕ) → Contains targets u
       → is_earlier d made.key (planned_slot u m) ≡ is_before u.key made.key
   planned_earlier u m i =
       let (g, j, aim) = aimed w.rules u i in
       let said = ap (flight_of d.airport d.journal) (key_says g u.key aim.key).0 ∙ told d g j in
-      ap (λ (o : Option Record). option_map_or (λ k. is_before k made.key) (option_and_then key_of o) false) said
+      ap (λ (o : Option Flight). option_map_or (λ k. is_before k made.key) (option_and_then key_of o) false) said
       ∙ ap (λ (o : Option Key). option_map_or (λ k. is_before k made.key) o false) aim.key
 
   -- the turn of the flight on its runway
-  abbrev taken : Placing → TargetRecord → List Taken
+  abbrev taken : Placing → Target → List Taken
   taken placing t = taken_before w.rules (takeoffs w.rules fixed) targets placing t
 
-  turn_of : (t : TargetRecord) → Contains targets t → t.key.name ≡ f.name
-      → (p : RunwayPlanRecord) (here : IsHere p) → IsTurn w t (taken here.placing t)
+  turn_of : (t : Target) → Contains targets t → t.key.name ≡ f.name
+      → (p : RunwayPlan) (here : IsHere p) → IsTurn w t (taken here.placing t)
   turn_of t i own p here =
       let aim = target_of w.rules t i own in
       let key : t.key ≡ made.key = cc made.keyed in
@@ -200,33 +200,33 @@ module _ (d : DayRecord) (plan : PlanRecord) (f : Record) (w : Waiting) (is : Wa
         group = cc made.same;
         some_minute = aim.some_minute;
         minutes = λ m. aim.minutes m ∙ (λ i. is_candidate (made.same i).values.tolerance (ready i + exot i) (ctot i) m);
-        same = subst (λ (ss : List SlotRecord). IsPermutation (taken here.placing t) (map (taken_as w.rules) ss))
+        same = subst (λ (ss : List Slot). IsPermutation (taken here.placing t) (map (taken_as w.rules) ss))
             (sym slots) before;
       }
 
   -- A flight that has a slot.
 
   -- a planned flight has no slot of one that left
-  not_fixed : (s : SlotRecord) → Contains fixed s → s.name ≡ f.name → ⊥
+  not_fixed : (s : Slot) → Contains fixed s → s.name ≡ f.name → ⊥
   not_fixed s i named =
       let (g, j, left) = fixed_flight w.rules.name flights s i in
       let one = same_flight d f g is.known j (sym left.named ∙ named) in
-      false≢true (sym left.left ∙ (ap (λ (g : Record). is_planned g.status) one ∙ is.planned))
+      false≢true (sym left.left ∙ (ap (λ (g : Flight). is_planned g.status) one ∙ is.planned))
 
-  pub placed : (s : SlotRecord) → Contains (slots_on plan w.rules.name) s → s.name ≡ f.name → IsPlaced w s
+  pub placed : (s : Slot) → Contains (slots_on plan w.rules.name) s → s.name ≡ f.name → IsPlaced w s
   placed s i named =
       let (p, here) = some_here in
       let given = filter_map (slot_for w.rules here.placing) targets in
-      let shown = subst (λ (ss : List SlotRecord). Contains ss s) here.slots i in
+      let shown = subst (λ (ss : List Slot). Contains ss s) here.slots i in
       let same = IsPermutation-sym (fixed ++ given) p.slots here.sequence.slots in
       elim (Contains-append_cases fixed given s (Contains-permutation p.slots (fixed ++ given) s same shown)) [
         | inl j ↦ absurd (not_fixed s j named)
         | inr j ↦
             let (t, k, e) = contains_from_given (slot_for w.rules here.placing) targets s j in
             let (m, minute, same) = option_map_some (planned_slot t) (here.placing t) s e in
-            let turn = turn_of t k (ap (λ (x : SlotRecord). x.name) same ∙ named) p here in
+            let turn = turn_of t k (ap (λ (x : Slot). x.name) same ∙ named) p here in
             let before = taken here.placing in
-            let is_least = λ (t : TargetRecord). IsLeast w.rules (before t) t (here.placing t) in
+            let is_least = λ (t : Target). IsLeast w.rules (before t) t (here.placing t) in
             let least = All-contains is_least targets t here.sequence.minutes k in
             let first = subst (IsLeast w.rules (before t) t) minute least in
             subst (IsPlaced w) same (placed_at w t (before t) turn m first)
@@ -274,13 +274,13 @@ module _ (d : DayRecord) (plan : PlanRecord) (f : Record) (w : Waiting) (is : Wa
       let known = contains_all (λ g. is_planned g.status) flights g j in
       let one = same_flight d f g is.known known (sym says.1 ∙ named) in
       let aim = subst (IsAim g times values) says.0 (aim_means g times values) in
-      early_for b.rule (subst (λ (g : Record). IsAim g times values (Early b.rule)) one aim)
+      early_for b.rule (subst (λ (g : Flight). IsAim g times values (Early b.rule)) one aim)
 
   abbrev IsBlockedOn : Placing → RunwayRules → BlockedFlight → Type 0
   IsBlockedOn placing r b =
       IsRightlyBlocked r (takeoffs r (fixed_on r.name flights)) (targets_at r) placing b
 
-  here_by : (p : RunwayPlanRecord) → IsHere p → (b : BlockedFlight) → Contains p.blocked b
+  here_by : (p : RunwayPlan) → IsHere p → (b : BlockedFlight) → Contains p.blocked b
       → b.name ≡ f.name → Blocked w b.rule
   here_by p here b i named =
       let (t, j, own, blocks) = All-contains (IsBlockedOn here.placing w.rules) p.blocked b here.sequence.rules i in
@@ -289,11 +289,11 @@ module _ (d : DayRecord) (plan : PlanRecord) (f : Record) (w : Waiting) (is : Wa
   -- the plan of the runway on which it is blocked is that of its own
   late_by : (b : BlockedFlight) → Contains late b → b.name ≡ f.name → Blocked w b.rule
   late_by b i named =
-      let (p, j, k) = contains_flat (λ (p : RunwayPlanRecord). p.blocked) plan.runways b i in
+      let (p, j, k) = contains_flat (λ (p : RunwayPlan). p.blocked) plan.runways b i in
       let (r, (placing, seq), l) = runway_of_plan p j in
       let (t, m, own, blocks) = All-contains (IsBlockedOn placing r) p.blocked b seq.rules k in
       let aim = target_of r t m (sym own ∙ named) in
-      let test = λ (t : TargetRecord). same_name t.runway r.name in
+      let test = λ (t : Target). same_name t.runway r.name in
       let passes = filter_passes test (targets_of flights times values) in
       let on = same_is t.runway r.name (All-contains (λ t. test t ≡ true) (targets_at r) t passes m) in
       let own_runway = same_Some t.runway w.rules.name (sym aim.runway ∙ on_runway) in
@@ -310,7 +310,7 @@ module _ (d : DayRecord) (plan : PlanRecord) (f : Record) (w : Waiting) (is : Wa
   -- One of both.
 
   abbrev HasSlot : Type 0
-  HasSlot = (s : SlotRecord) × Contains (slots_on plan w.rules.name) s × (s.name ≡ f.name)
+  HasSlot = (s : Slot) × Contains (slots_on plan w.rules.name) s × (s.name ≡ f.name)
 
   abbrev IsBlocked : Type 0
   IsBlocked = (b : BlockedFlight) × Contains plan.blocked b × (b.name ≡ f.name)
@@ -329,7 +329,7 @@ module _ (d : DayRecord) (plan : PlanRecord) (f : Record) (w : Waiting) (is : Wa
   blocked_among : (b : BlockedFlight) → Contains (early ++ late) b → Contains plan.blocked b
   blocked_among b = Contains-permutation (early ++ late) plan.blocked b parts.parts.blocked
 
-  at_target : (p : RunwayPlanRecord) (here : IsHere p) (t : TargetRecord) → Contains targets t
+  at_target : (p : RunwayPlan) (here : IsHere p) (t : Target) → Contains targets t
       → t.key.name ≡ f.name → (o : Option ℕ) → here.placing t ≡ o → HasSlot ⊎ IsBlocked
   at_target p here t i named (Some m) e =
       let slots = slot_for w.rules here.placing in
@@ -338,15 +338,15 @@ module _ (d : DayRecord) (plan : PlanRecord) (f : Record) (w : Waiting) (is : Wa
       let there = contains_given slots targets t slot i (ap (option_map (planned_slot t)) e) in
       let among = Contains-append_right fixed given slot there in
       let shown = Contains-permutation (fixed ++ given) p.slots slot here.sequence.slots among in
-      inl (slot, subst (λ (ss : List SlotRecord). Contains ss slot) (sym here.slots) shown, named)
+      inl (slot, subst (λ (ss : List Slot). Contains ss slot) (sym here.slots) shown, named)
   at_target p here t i named None e =
       let name : BlockedFlight → List ℕ = λ b. b.name in
-      let key : TargetRecord → List ℕ = λ t. t.key.name in
+      let key : Target → List ℕ = λ t. t.key.name in
       let left = filter (λ t. is_none (here.placing t)) targets in
       let kept = contains_map key left t (contains_kept (λ t. is_none (here.placing t)) targets t i (ap is_none e)) in
       let among = Contains-permutation (map key left) (map name p.blocked) t.key.name here.sequence.blocked kept in
       let (b, j, own) = contains_from_map name p.blocked t.key.name among in
-      let flat = contains_in_flat (λ (p : RunwayPlanRecord). p.blocked) plan.runways p b here.among j in
+      let flat = contains_in_flat (λ (p : RunwayPlan). p.blocked) plan.runways p b here.among j in
       inr (b, blocked_among b (Contains-append_right early late b flat), own ∙ named)
 
   pub either : HasSlot ⊎ IsBlocked
@@ -359,7 +359,7 @@ module _ (d : DayRecord) (plan : PlanRecord) (f : Record) (w : Waiting) (is : Wa
       by : (a : AimResult) → aim_of f times values ≡ a → IsAim f times values a → HasSlot ⊎ IsBlocked
       by (Ready t) e aim =
           let on = same_Some t.runway w.rules.name (sym aim.runway ∙ on_runway) in
-          let target : Record → Option TargetRecord = λ f. target_in (aim_of f times values) in
+          let target : Flight → Option Target = λ f. target_in (aim_of f times values) in
           let given = contains_given target (planned_of flights) f t planned (ap target_in e) in
           let kept = contains_kept (λ t. same_name t.runway w.rules.name) (targets_of flights times values) t given
           (is_same t.runway w.rules.name on) in
@@ -367,7 +367,7 @@ module _ (d : DayRecord) (plan : PlanRecord) (f : Record) (w : Waiting) (is : Wa
           at_target p here t kept (key_says f t.key aim.key).0 (here.placing t) refl
       by (Early why) e aim =
           let b : BlockedFlight = record { name = f.name; rule = why } in
-          let blocked : Record → Option BlockedFlight = λ f. blocked_in f.name (aim_of f times values) in
+          let blocked : Flight → Option BlockedFlight = λ f. blocked_in f.name (aim_of f times values) in
           let given = contains_given blocked (planned_of flights) f b planned (ap (blocked_in f.name) e) in
           inr (b, blocked_among b (Contains-append_left early late b given), refl)
 

@@ -9,9 +9,9 @@ use Rattle.std.proofs.lemmas.Bool.Decides.{Decides-by_and, nat_tests}
 use Rattle.std.proofs.lemmas.List.Sums.{length-filter}
 use Rattle.cdm_flight.proofs.Lists.{sum_map}
 use Rattle.cdm_plan.proofs.ListWords.{All, count_by, nat_le, nat_lt, option_map_or}
-use Rattle.cdm_plan.proofs.PlanWords.{RunwayRules, SlotRecord}
+use Rattle.cdm_plan.proofs.PlanWords.{RunwayRules, Slot}
 use Rattle.cdm_time.specs.Windows.{is_in_tolerance}
-use Rattle.cdm_runway.specs.Room.{cap_at, held_in_cell, is_closed, meets, taken_by, IsOpen, IsSpaced}
+use Rattle.cdm_runway.specs.Room.{cap_at, held_in_cell, is_closed, meets, taken_by, IsSpaced}
 use Rattle.cdm_runway.specs.declared.load.Taken.{Taken}
 use Rattle.cdm_sequence.specs.Aims.{is_candidate, ready_at, stand_minutes}
 use Rattle.cdm_sequence.specs.declared.rule.Rule.{Rule}
@@ -44,7 +44,7 @@ pub place_below : (r : Rule) → place_of r < 8
 place_below r = grind arith
 
 -- what a slot takes of a runway
-abbrev pub taken_as : RunwayRules → SlotRecord → Taken
+abbrev pub taken_as : RunwayRules → Slot → Taken
 taken_as r s = taken_by r s.group s.ttot
 
 -- what is taken when the flight's turn comes
@@ -66,7 +66,7 @@ IsSpacedFor w m = IsSpaced w.rules (taken_for w) w.flight.group m
 abbrev pub Keeps : Waiting → ℕ → Rule → Type 0
 Keeps w m rule.Horizon = earliest_for w ≤ m
 Keeps w m rule.Ctot = is_candidate_for w m ≡ true
-Keeps w m rule.Closure = IsOpen w.rules m
+Keeps w m rule.Closure = is_closed w.rules m ≡ false
 Keeps w m rule.Spacing = IsSpacedFor w m
 Keeps w m rule.Rate = held_in_cell w.rules.cell (taken_for w) m < cap_at w.rules m
 Keeps w m _ = Unit {0}
@@ -103,7 +103,7 @@ module _ (w : Waiting) (m : ℕ) where
   pub candidate_keeps : is_candidate_for w m ≡ true → KeepsBefore w m 5
   candidate_keeps h = and_next rule.Ctot (and_next rule.Horizon none_before (candidate_within h).0) h
 
-  pub free_keeps : is_candidate_for w m ≡ true → IsOpen w.rules m → IsSpacedFor w m
+  pub free_keeps : is_candidate_for w m ≡ true → is_closed w.rules m ≡ false → IsSpacedFor w m
       → held_in_cell w.rules.cell (taken_for w) m < cap_at w.rules m → (r : Rule) → Keeps w m r
   free_keeps h is_open spaced room r =
       let before = and_next rule.Spacing (and_next rule.Closure (candidate_keeps h) is_open) spaced in

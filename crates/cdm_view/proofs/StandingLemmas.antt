@@ -5,8 +5,8 @@ use Rattle.cdm_plan.proofs.ListWords.{is_some, All-permutation, AllZip, IsDistin
 use Rattle.cdm_plan.proofs.ListWords.{IsPermutation-append_comm, IsPermutation-append_left, IsPermutation-append_right}
 use Rattle.cdm_plan.proofs.ListWords.{IsPermutation-map, IsPermutation-trans, append_assoc}
 use Rattle.cdm_plan.proofs.ListWords.{distinct_filter, filter_map, flat_map, if_so, if◌then◌else◌, map-append}
-use Rattle.cdm_plan.proofs.PlanWords.{BlockedFlight, DayRecord, IsDayPlan, IsSequenceBy, PlanRecord, Record}
-use Rattle.cdm_plan.proofs.PlanWords.{RunwayPlanRecord, RunwayRules, SlotRecord, HasParts, day_rules, fixed_on}
+use Rattle.cdm_plan.proofs.PlanWords.{BlockedFlight, DayRecord, IsDayPlan, IsSequenceBy, Plan, Flight}
+use Rattle.cdm_plan.proofs.PlanWords.{RunwayPlan, RunwayRules, Slot, HasParts, day_rules, fixed_on}
 use Rattle.cdm_plan.proofs.PlanWords.{flights_in}
 use Rattle.cdm_plan.proofs.PlanWords.{DayValues, TaxiTimes, is_on, is_planned, planned_of, records_in, runway_names, same_flips, same_name}
 use Rattle.cdm_plan.proofs.PlanWords.{fixed_slot, blocked_in, aim_of, targets_in, targets_on, taxi_of, values_of}
@@ -35,22 +35,22 @@ map_named : {X : Type 0} (to : X → Standing) (xs : List X)
 map_named to [] = refl
 map_named to (x ∷ xs) = ap (λ (ns : List (List ℕ)). flight_name (to x) ∷ ns) (map_named to xs)
 
-runways_named : (plans : List RunwayPlanRecord) → map flight_name (flat_map on_runway plans) ≡ flat_map (λ p. map (λ s. s.name) p.slots) plans
+runways_named : (plans : List RunwayPlan) → map flight_name (flat_map on_runway plans) ≡ flat_map (λ p. map (λ s. s.name) p.slots) plans
 runways_named plans =
     sym (names_of_lists on_runway flight_name plans)
     ∙ (λ i. flat_map (λ p. map_named (OnRunway p.runway) p.slots i) plans)
 
-cancelled_named : (fs : List Record) → map flight_name (filter_map cancelled fs) ≡ map (λ f. f.name) (filter (λ f. is_some (cancelled f)) fs)
+cancelled_named : (fs : List Flight) → map flight_name (filter_map cancelled fs) ≡ map (λ f. f.name) (filter (λ f. is_some (cancelled f)) fs)
 cancelled_named fs = names_given flight_name (λ f. f.name) cancelled (λ f. by f (is_cancelled f.status)) fs
   where
-    by : (f : Record) (b : Bool) → IfSome (if b then Some (Cancelled f.name) else None) (λ s. flight_name s ≡ f.name)
+    by : (f : Flight) (b : Bool) → IfSome (if b then Some (Cancelled f.name) else None) (λ s. flight_name s ≡ f.name)
     by f b = grind arith
 
-no_slot : (b : Bool) → is_some {T = SlotRecord} (if_so b None) ≡ false
+no_slot : (b : Bool) → is_some {T = Slot} (if_so b None) ≡ false
 no_slot b = grind arith
 
-module _ (d : DayRecord) (plan : PlanRecord) where
-  abbrev flights : List Record
+module _ (d : DayRecord) (plan : Plan) where
+  abbrev flights : List Flight
   flights = records_in d.airport d.journal
 
   abbrev times : TaxiTimes
@@ -61,7 +61,7 @@ module _ (d : DayRecord) (plan : PlanRecord) where
 
   -- the day's plan has the sequences of its runways
   pub record Parts : Type 0 where
-    pub made : List RunwayPlanRecord
+    pub made : List RunwayPlan
     pub sequences : AllZip (HasSequence d) (day_rules d) made
     pub parts : HasParts (blocked_early flights times values) made plan
 
@@ -69,7 +69,7 @@ module _ (d : DayRecord) (plan : PlanRecord) where
   unfolding IsDayPlan
   parts_on (placing, aims, by) =
       let are = aims_are times values (planned_of flights) aims by.aimed in
-      let placed : RunwayRules → RunwayPlanRecord → Type 0 =
+      let placed : RunwayRules → RunwayPlan → Type 0 =
       λ r p. IsSequenceBy placing r (fixed_on r.name flights) (targets_on r.name (targets_in aims)) p in
       record {
         made = by.made;
@@ -79,18 +79,18 @@ module _ (d : DayRecord) (plan : PlanRecord) where
         parts = rw (← early-aims times values flights, are) by.parts;
       }
 
-  abbrev pub stands : Record → Bool
+  abbrev pub stands : Flight → Bool
   stands f = stands_in times values flights plan.runways f
 
   -- a cancelled flight has no slot, and isn't blocked
-  nowhere : (f : Record) → f.status ≡ status.Cancelled → (ps : List RunwayPlanRecord)
+  nowhere : (f : Flight) → f.status ≡ status.Cancelled → (ps : List RunwayPlan)
       → stands_in times values flights ps f ≡ false
   unfolding fixed_slot
   nowhere f gone [] = ap (λ s. is_some (if_so (is_planned s) (blocked_in f.name (aim_of f times values)))) gone
   nowhere f gone (p ∷ ps) = simp (gone, no_slot (is_on p.runway f), nowhere f gone ps)
 
   -- what stands isn't cancelled
-  stands_apart : (f : Record) → stands f ≡ true → is_some (cancelled f) ≡ false
+  stands_apart : (f : Flight) → stands f ≡ true → is_some (cancelled f) ≡ false
   stands_apart f h =
       let none : f.status ≡ status.Cancelled → stands f ≡ false = λ gone. nowhere f gone plan.runways in
       grind arith
@@ -103,7 +103,7 @@ module _ (d : DayRecord) (plan : PlanRecord) where
     pub plans_named : IsPermutation (map (λ r. r.name) (day_rules d)) (map (λ p. p.runway) plan.runways)
     plans_named =
         rw (← made_named (λ r. fixed_on r flights) (targets_at d) (day_rules d) parts.made parts.sequences)
-        (IsPermutation-map (λ (p : RunwayPlanRecord). p.runway) parts.made plan.runways parts.parts.runways)
+        (IsPermutation-map (λ (p : RunwayPlan). p.runway) parts.made plan.runways parts.parts.runways)
 
     -- each runway of the airport has a plan
     pub runways_planned : IsPermutation (runway_names d.airport) (map (λ p. p.runway) plan.runways)
@@ -114,8 +114,8 @@ module _ (d : DayRecord) (plan : PlanRecord) where
         (map flight_name (flat_map on_runway plan.runways) ++ map flight_name (map Blocked plan.blocked))
     stand_named =
         let name : BlockedFlight → List ℕ = λ b. b.name in
-        let slots : RunwayPlanRecord → List (List ℕ) = λ p. map (λ x. x.name) p.slots in
-        let blocked : RunwayPlanRecord → List (List ℕ) = λ p. map name p.blocked in
+        let slots : RunwayPlan → List (List ℕ) = λ p. map (λ x. x.name) p.slots in
+        let blocked : RunwayPlan → List (List ℕ) = λ p. map name p.blocked in
         let ps = plan.runways in
         let early = map name (blocked_early flights times values) in
         let shown = shows_made times values flights (day_rules d) parts.made parts.sequences in
@@ -125,7 +125,7 @@ module _ (d : DayRecord) (plan : PlanRecord) where
         let back = IsPermutation-append_right (flat_map slots ps) _ _ (IsPermutation-append_comm (flat_map blocked ps) early) in
         let whole = IsPermutation-trans _ _ _ (IsPermutation-trans _ _ _ all front)
         (rw (append_assoc (flat_map slots ps) (flat_map blocked ps) early) back) in
-        let lists : RunwayPlanRecord → List BlockedFlight = λ p. p.blocked in
+        let lists : RunwayPlan → List BlockedFlight = λ p. p.blocked in
         let left = blocked_early flights times values ++ flat_map lists ps in
         let held = IsPermutation-map name left plan.blocked parts.parts.blocked in
         let told = IsPermutation-append_right (flat_map slots ps) _ _ held in
@@ -137,8 +137,8 @@ module _ (d : DayRecord) (plan : PlanRecord) where
     pub standings_named : IsPermutation (map (λ f. f.name) (filter (λ f. stands f || is_some (cancelled f)) flights))
         (map flight_name (standings_of d plan))
     standings_named =
-        let name : Record → List ℕ = λ f. f.name in
-        let gone : Record → Bool = λ f. is_some (cancelled f) in
+        let name : Flight → List ℕ = λ f. f.name in
+        let gone : Flight → Bool = λ f. is_some (cancelled f) in
         let on = flat_map on_runway plan.runways in
         let held = map Blocked plan.blocked in
         let split = IsPermutation-map name _ _ (parted stands gone stands_apart flights) in
@@ -155,10 +155,10 @@ module _ (d : DayRecord) (plan : PlanRecord) where
       → IsDistinct same_name (map flight_name (standings_of d plan))
   standings_apart runways own is =
       IsDistinct-IsPermutation same_name same_flips _ _ (standings_named runways is)
-      (distinct_filter same_name (λ (f : Record). f.name) (λ f. stands f || is_some (cancelled f)) flights (record_names_differ d own))
+      (distinct_filter same_name (λ (f : Flight). f.name) (λ f. stands f || is_some (cancelled f)) flights (record_names_differ d own))
 
 -- a day with its plan has one list of standings
-pub one_standings : (d : DayRecord) (plan : PlanRecord) → IsDistinct same_name (runway_names d.airport) → IsDistinct same_name (flights_in d.journal)
+pub one_standings : (d : DayRecord) (plan : Plan) → IsDistinct same_name (runway_names d.airport) → IsDistinct same_name (flights_in d.journal)
     → IsDayPlan d plan → (x y : List Standing) → AreStandings d plan x → AreStandings d plan y → x ≡ y
 one_standings d plan runways own is x y a b =
     by_name flight_name (standings_of d plan) x y (standings_apart d plan runways own is) a.all b.all a.by_name b.by_name

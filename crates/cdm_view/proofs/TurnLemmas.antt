@@ -6,7 +6,7 @@ use Rattle.cdm_plan.proofs.ListWords.{Contains, IsPermutation, IsPermutation-map
 use Rattle.cdm_plan.proofs.ListWords.{filter_map-filter, filter_map_same, if_so, option_map}
 use Rattle.cdm_plan.proofs.ListWords.{All-permutation, IsPermutation-sym, sum_by-IsPermutation}
 use Rattle.cdm_plan.proofs.PlanningLemmas.{filter-filter_map}
-use Rattle.cdm_plan.proofs.PlanWords.{if_passes, Placing, RunwayRules, SlotRecord, TargetRecord, takeoffs}
+use Rattle.cdm_plan.proofs.PlanWords.{if_passes, Placing, RunwayRules, Slot, Target, takeoffs}
 use Rattle.cdm_flight.proofs.Lists.{IsPermutation-filter}
 use Rattle.cdm_flight.specs.Order.{is_before}
 use Rattle.cdm_runway.specs.declared.load.Taken.{Taken}
@@ -40,18 +40,18 @@ filter_given {X} {Y} q p h xs same =
 
 module _ (r : RunwayRules) (p : Placing) where
   -- the slot of a flight at its minute
-  abbrev pub slot_for : TargetRecord → Option SlotRecord
+  abbrev pub slot_for : Target → Option Slot
   slot_for f = option_map (planned_slot f) (p f)
 
   -- slots take what their flights take
-  slots_take : (fs : List TargetRecord) → map (taken_as r) (filter_map slot_for fs) ≡ filter_map (taken_of r p) fs
+  slots_take : (fs : List Target) → map (taken_as r) (filter_map slot_for fs) ≡ filter_map (taken_of r p) fs
   slots_take [] = refl
   slots_take (f ∷ fs) = let rest = slots_take fs in grind arith
 
-  module _ (fixed : List SlotRecord) (targets : List TargetRecord) (t : TargetRecord) (earlier : SlotRecord → Bool)
-      (all_fixed : (s : SlotRecord) → Contains fixed s → earlier s ≡ true)
-      (in_order : (f : TargetRecord) (m : ℕ) → Contains targets f → earlier (planned_slot f m) ≡ is_before f.key t.key) where
-    same_order : (f : TargetRecord) (s : SlotRecord) → Contains targets f → slot_for f ≡ Some s
+  module _ (fixed : List Slot) (targets : List Target) (t : Target) (earlier : Slot → Bool)
+      (all_fixed : (s : Slot) → Contains fixed s → earlier s ≡ true)
+      (in_order : (f : Target) (m : ℕ) → Contains targets f → earlier (planned_slot f m) ≡ is_before f.key t.key) where
+    same_order : (f : Target) (s : Slot) → Contains targets f → slot_for f ≡ Some s
         → earlier s ≡ is_before f.key t.key
     same_order f s i e =
         let (m, minute, same) = option_map_some (planned_slot f) (p f) s e in
@@ -59,13 +59,13 @@ module _ (r : RunwayRules) (p : Placing) where
 
     earlier_take : map (taken_as r) (filter earlier (fixed ++ filter_map slot_for targets)) ≡ taken_before r (takeoffs r fixed) targets p t
     earlier_take =
-        let before : TargetRecord → Bool = λ f. is_before f.key t.key in
+        let before : Target → Bool = λ f. is_before f.key t.key in
         rw (filter-append earlier fixed (filter_map slot_for targets), filter_all earlier fixed all_fixed)
         (rw (filter_given earlier before slot_for targets same_order, map-append (taken_as r) fixed _)
         (ap (λ ts. takeoffs r fixed ++ ts) (slots_take (filter before targets))))
 
     -- in whatever order the slots stand
-    pub earlier_taken : (slots : List SlotRecord) → IsPermutation (fixed ++ filter_map slot_for targets) slots
+    pub earlier_taken : (slots : List Slot) → IsPermutation (fixed ++ filter_map slot_for targets) slots
         → IsPermutation (taken_before r (takeoffs r fixed) targets p t) (map (taken_as r) (filter earlier slots))
     earlier_taken slots same =
         let all = fixed ++ filter_map slot_for targets in
@@ -73,26 +73,26 @@ module _ (r : RunwayRules) (p : Placing) where
         (IsPermutation-map (taken_as r) (filter earlier all) (filter earlier slots) (IsPermutation-filter earlier all slots same))
 
 -- what is known of a flight's slot
-pub record IsPlaced (w : Waiting) (s : SlotRecord) : Type 0 where
+pub record IsPlaced (w : Waiting) (s : Slot) : Type 0 where
   pub within : s.ttot < 2880
   pub delayed : IsSomeAnd s.delay (λ delay. s.ttot ≡ w.tobt + w.exot + delay)
   pub held : (m : ℕ) → m < s.ttot → IsSome (reason_at w m)
   pub free : reason_at w s.ttot ≡ None
 
 -- the target is that of the flight that waits, and this is taken when its turn comes
-pub record IsTurn (w : Waiting) (t : TargetRecord) (taken : List Taken) : Type 0 where
+pub record IsTurn (w : Waiting) (t : Target) (taken : List Taken) : Type 0 where
   pub tobt : t.key.tobt ≡ w.tobt
   pub exot : t.exot ≡ w.exot
   pub group : t.group ≡ w.flight.group
-  pub some_minute : t.window.from < t.window.to
-  pub minutes : (m : ℕ) → window_has t.window.from t.window.to m ≡ is_candidate_for w m
+  pub some_minute : t.window.start < t.window.end
+  pub minutes : (m : ℕ) → window_has t.window.start t.window.end m ≡ is_candidate_for w m
   pub same : IsPermutation taken (taken_for w)
 
-module _ (w : Waiting) (t : TargetRecord) (taken : List Taken) (turn : IsTurn w t taken) where
-  within : (k : ℕ) → is_candidate_for w k ≡ true → (t.window.from ≤ k) × (k < t.window.to)
+module _ (w : Waiting) (t : Target) (taken : List Taken) (turn : IsTurn w t taken) where
+  within : (k : ℕ) → is_candidate_for w k ≡ true → (t.window.start ≤ k) × (k < t.window.end)
   within k h = grind (arith, nat_tests, turn.minutes k)
 
-  candidate : (k : ℕ) → t.window.from ≤ k → k < t.window.to → is_candidate_for w k ≡ true
+  candidate : (k : ℕ) → t.window.start ≤ k → k < t.window.end → is_candidate_for w k ≡ true
   candidate k after before = grind (arith, nat_tests, turn.minutes k)
 
   -- how full a cell is and whom the flight meets doesn't depend on the order of what is taken
@@ -114,7 +114,7 @@ module _ (w : Waiting) (t : TargetRecord) (taken : List Taken) (turn : IsTurn w 
 
   -- the rule that blocks the target blocks the flight that waits
   blocked_at : (why : Rule) → 4 < place_of why → (k : ℕ) → is_candidate_for w k ≡ true → KeepsBefore w k (place_of why)
-      → ((m : ℕ) → t.window.from ≤ m → m < t.window.to → KeepsBefore w m (suc (place_of why)) → ⊥) → Blocked w why
+      → ((m : ℕ) → t.window.start ≤ m → m < t.window.end → KeepsBefore w m (suc (place_of why)) → ⊥) → Blocked w why
   blocked_at why late k h before never = record {
     minute = k;
     within = (candidate_within w k h).1;
@@ -125,8 +125,8 @@ module _ (w : Waiting) (t : TargetRecord) (taken : List Taken) (turn : IsTurn w 
   pub blocked_for : (why : Rule) → Blocks w.rules taken t why → Blocked w why
   blocked_for rule.Closure h =
       let some = turn.some_minute in
-      let first = candidate t.window.from (omega arith) some in
-      blocked_at rule.Closure (omega arith) t.window.from first (candidate_keeps w t.window.from first)
+      let first = candidate t.window.start (omega arith) some in
+      blocked_at rule.Closure (omega arith) t.window.start first (candidate_keeps w t.window.start first)
       (λ m after before keeps. both_ways (is_closed w.rules m) (keeps rule.Closure (omega arith)) (h m after before))
   blocked_for rule.Spacing h =
       let (k, after, before, is_open) = h.some_open in
@@ -148,7 +148,7 @@ module _ (w : Waiting) (t : TargetRecord) (taken : List Taken) (turn : IsTurn w 
   blocked_for _ h = absurd h
 
   -- the target's slot is at the first minute without a reason
-  pub placed_at : (m : ℕ) → IsEarliest w.rules taken t.group t.window.from t.window.to m → IsPlaced w (planned_slot t m)
+  pub placed_at : (m : ℕ) → IsEarliest w.rules taken t.group t.window.start t.window.end m → IsPlaced w (planned_slot t m)
   placed_at m first =
       let at_first = candidate m first.after first.before in
       let reach = candidate_within w m at_first in

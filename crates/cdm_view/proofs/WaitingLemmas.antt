@@ -2,8 +2,8 @@
 use Rattle.std.proofs.Common.{◌≡◌, ℕ, true, false, List, filter, Some, sym, ◌∙◌, ap, arith}
 use Rattle.std.proofs.lemmas.Option.{option_and_then_some, same_Some}
 use Rattle.cdm_plan.proofs.ListWords.{Contains, contains_all}
-use Rattle.cdm_plan.proofs.PlanWords.{AimResult, DayRecord, DayValues, IsAim, PlanRecord, Record}
-use Rattle.cdm_plan.proofs.PlanWords.{RunwayRow, SlotRecord, TargetRecord, TaxiTimes, aim_means, aim_of, fixed_on}
+use Rattle.cdm_plan.proofs.PlanWords.{AimResult, DayRecord, DayValues, IsAim, Plan, Flight}
+use Rattle.cdm_plan.proofs.PlanWords.{RunwayRow, Slot, Target, TaxiTimes, aim_means, aim_of, fixed_on}
 use Rattle.cdm_plan.proofs.PlanWords.{fixed_slot, flight_of, flights_in, is_on, is_planned, planned_of, records_in}
 use Rattle.cdm_plan.proofs.PlanWords.{rules_of, runway_row, target_in, taxi_of, values_of}
 use Rattle.cdm_plan.proofs.DayPlanLemmas.{record_name}
@@ -18,7 +18,7 @@ use Rattle.cdm_view.proofs.ListLemmas.{option_map_some}
 
 -- What a flight waits for.
 
-abbrev waiting_with : DayRecord → PlanRecord → Record → Key → List ℕ → RunwayRow → ℕ → Waiting
+abbrev waiting_with : DayRecord → Plan → Flight → Key → List ℕ → RunwayRow → ℕ → Waiting
 waiting_with d plan f key r row exot = record {
   flight = f;
   tobt = key.tobt;
@@ -29,7 +29,7 @@ waiting_with d plan f key r row exot = record {
 }
 
 -- it is made of the flight's key, its runway with its row, and its taxi-out time
-pub record IsMadeOf (d : DayRecord) (plan : PlanRecord) (f : Record) (w : Waiting) : Type 0 where
+pub record IsMadeOf (d : DayRecord) (plan : Plan) (f : Flight) (w : Waiting) : Type 0 where
   pub key : Key
   pub keyed : key_of f ≡ Some key
   pub runway : List ℕ
@@ -40,7 +40,7 @@ pub record IsMadeOf (d : DayRecord) (plan : PlanRecord) (f : Record) (w : Waitin
   pub taxi : exot_to (taxi_of d.airport d.journal) f runway ≡ Some exot
   pub same : waiting_with d plan f key runway row exot ≡ w
 
-pub made_of : (d : DayRecord) (plan : PlanRecord) (f : Record) (w : Waiting) → waiting_of d plan f ≡ Some w
+pub made_of : (d : DayRecord) (plan : Plan) (f : Flight) (w : Waiting) → waiting_of d plan f ≡ Some w
     → IsMadeOf d plan f w
 unfolding waiting_of
 made_of d plan f w h =
@@ -63,49 +63,49 @@ made_of d plan f w h =
 -- Flights and their slots.
 
 -- the record of a day's flight is the one that the journal says
-pub told : (d : DayRecord) (g : Record) → Contains (records_in d.airport d.journal) g
+pub told : (d : DayRecord) (g : Flight) → Contains (records_in d.airport d.journal) g
     → flight_of d.airport d.journal g.name ≡ Some g
 told d g i =
     let from = contains_from_given (flight_of d.airport d.journal) (flights_in d.journal) g i in
     ap (flight_of d.airport d.journal) (record_name d.airport d.journal from.0 g from.2) ∙ from.2
 
 -- flights of one name are one
-pub same_flight : (d : DayRecord) (f g : Record) → flight_of d.airport d.journal f.name ≡ Some f → Contains (records_in d.airport d.journal) g → g.name ≡ f.name
+pub same_flight : (d : DayRecord) (f g : Flight) → flight_of d.airport d.journal f.name ≡ Some f → Contains (records_in d.airport d.journal) g → g.name ≡ f.name
     → g ≡ f
 same_flight d f g known i named = same_Some g f (sym (told d g i) ∙ (ap (flight_of d.airport d.journal) named ∙ known))
 
-abbrev key_with : Record → ℕ → Key
+abbrev key_with : Flight → ℕ → Key
 key_with g tobt = record { priority = g.priority; tobt = tobt; name = g.name }
 
 -- a key has its flight's name and TOBT
-pub key_says : (g : Record) (k : Key) → key_of g ≡ Some k → (k.name ≡ g.name) × (g.tobt ≡ Some k.tobt)
+pub key_says : (g : Flight) (k : Key) → key_of g ≡ Some k → (k.name ≡ g.name) × (g.tobt ≡ Some k.tobt)
 key_says g k h =
     let (tobt, is, same) = option_map_some (key_with g) g.tobt k h in
     (sym (ap (λ (x : Key). x.name) same), is ∙ ap (λ (x : Key). Some x.tobt) same)
 
 -- the slot of a flight that has left
-pub record IsFixedSlot (g : Record) (s : SlotRecord) : Type 0 where
+pub record IsFixedSlot (g : Flight) (s : Slot) : Type 0 where
   pub fixed : is_fixed s.mark ≡ true
   pub named : s.name ≡ g.name
   pub left : is_planned g.status ≡ false
 
-fixed_says : (g : Record) (s : SlotRecord) → fixed_slot g ≡ Some s → IsFixedSlot g s
+fixed_says : (g : Flight) (s : Slot) → fixed_slot g ≡ Some s → IsFixedSlot g s
 unfolding fixed_slot
 fixed_says g s e = grind arith
 
-pub fixed_flight : (r : List ℕ) (fs : List Record) (s : SlotRecord) → Contains (fixed_on r fs) s → (g : Record) × Contains fs g × IsFixedSlot g s
+pub fixed_flight : (r : List ℕ) (fs : List Flight) (s : Slot) → Contains (fixed_on r fs) s → (g : Flight) × Contains fs g × IsFixedSlot g s
 unfolding fixed_on
 fixed_flight r fs s i =
     let (g, j, e) = contains_from_given fixed_slot (filter (is_on r) fs) s i in
     (g, contains_all (is_on r) fs g j, fixed_says g s e)
 
 -- a target is that of a flight
-is_target : (f : Record) (times : TaxiTimes) (values : DayValues) (a : AimResult) (t : TargetRecord) → IsAim f times values a → target_in a ≡ Some t
+is_target : (f : Flight) (times : TaxiTimes) (values : DayValues) (a : AimResult) (t : Target) → IsAim f times values a → target_in a ≡ Some t
     → IsTarget f times values t
 is_target f times values a t is e = grind arith
 
-pub flight_aimed : (times : TaxiTimes) (values : DayValues) (fs : List Record) (t : TargetRecord)
-    → Contains (targets_of fs times values) t → (g : Record) × Contains fs g × IsTarget g times values t
+pub flight_aimed : (times : TaxiTimes) (values : DayValues) (fs : List Flight) (t : Target)
+    → Contains (targets_of fs times values) t → (g : Flight) × Contains fs g × IsTarget g times values t
 unfolding targets_of
 flight_aimed times values fs t i =
     let (g, j, e) = contains_from_given (λ f. target_in (aim_of f times values)) (planned_of fs) t i in

@@ -7,7 +7,7 @@ use Rattle.cdm_time.specs.declared.calendar.CalendarDate.{CalendarDate}
 use Rattle.cdm_flight.specs.declared.group.Group.TheVariants.{Medium}
 use Rattle.cdm_sequence.specs.declared.rule.Rule.TheVariants.{Tobt}
 use Rattle.cdm_sequence.specs.declared.slot.Mark.TheVariants.{Planned}
-use Rattle.cdm_sequence.specs.Slots.{SlotRecord}
+use Rattle.cdm_sequence.specs.declared.slot.Slot.{Slot}
 use Rattle.cdm_report.specs.Columns.{delay_column, flight_line, left_in, mark_letter, right_in, time_column}
 use Rattle.cdm_view.specs.declared.standing.Standing.TheVariants.{OnRunway, Blocked, Cancelled}
 use Rattle.cdm_view.specs.Standings.{standing_line}
@@ -15,7 +15,7 @@ use Rattle.cdm_view.specs.Standings.{standing_line}
 abbrev day : CalendarDate
 day = record { year = 2025; month = 3; day = 10 }
 
-abbrev slot : SlotRecord
+abbrev slot : Slot
 slot = record {
   name = codes "AB1";
   tobt = Some 360;

@@ -10,7 +10,8 @@ use Rattle.cdm_flight.specs.Journal.{AirportRows, runway_row}
 use Rattle.cdm_flight.specs.Names.{same_name}
 use Rattle.cdm_runway.specs.Room.{cap_at, is_closed}
 use Rattle.cdm_runway.specs.Rules.{RunwayRules}
-use Rattle.cdm_sequence.specs.Slots.{PlanRecord, SlotRecord}
+use Rattle.cdm_sequence.specs.declared.plan.Plan.{Plan}
+use Rattle.cdm_sequence.specs.declared.slot.Slot.{Slot}
 use Rattle.cdm_report.specs.Columns.{left_in, right_in}
 use Rattle.cdm_report.specs.Report.{day_line, line_end}
 use Rattle.cdm_plan.specs.Day.{DayRecord}
@@ -24,7 +25,7 @@ abbrev pub cells_of : RunwayRules → List ℕ
 cells_of rules = range_with_len 0 (2880 / rules.cell)
 
 -- the flights of the slots that take off in a cell
-abbrev pub flights_in_cell : RunwayRules → List SlotRecord → ℕ → List SlotRecord
+abbrev pub flights_in_cell : RunwayRules → List Slot → ℕ → List Slot
 flights_in_cell rules slots k = filter (λ s. s.ttot / rules.cell == k) slots
 
 -- how many minutes of a cell are closed
@@ -36,7 +37,7 @@ abbrev pub cap_of_cell : RunwayRules → ℕ → ℕ
 cap_of_cell rules k = cap_at rules (k * rules.cell)
 
 -- a cell tells something: a flight, a closed minute, or another cap than the usual one
-unfoldable pub tells : RunwayRules → ℕ → List SlotRecord → ℕ → Bool
+unfoldable pub tells : RunwayRules → ℕ → List Slot → ℕ → Bool
 tells rules usual slots k = nat_lt 0 (length (flights_in_cell rules slots k)) || nat_lt 0 (closed_in_cell rules k) || not (cap_of_cell rules k == usual)
 
 -- of some numbers one up to k passes the test, and one from k on does
@@ -44,17 +45,17 @@ abbrev pub is_between : (ℕ → Bool) → List ℕ → ℕ → Bool
 is_between test numbers k = list_any (λ j. nat_le j k && test j) numbers && list_any (λ j. nat_le k j && test j) numbers
 
 -- the cells from the first that tells something to the last
-unfoldable pub told_cells : RunwayRules → ℕ → List SlotRecord → List ℕ
+unfoldable pub told_cells : RunwayRules → ℕ → List Slot → List ℕ
 told_cells rules usual slots = filter (is_between (tells rules usual slots) (cells_of rules)) (cells_of rules)
 
 -- a cell's columns: its first minute, how many flights it has and may have, and how many of its minutes are closed
-unfoldable pub cell_columns : CalendarDate → RunwayRules → List SlotRecord → ℕ → List ℕ
+unfoldable pub cell_columns : CalendarDate → RunwayRules → List Slot → ℕ → List ℕ
 cell_columns day rules slots k = concat (
     stamp day (k * rules.cell) ∷ codes " " ∷ right_in 2 (decimal (length (flights_in_cell rules slots k)))
     ∷ codes "/" ∷ left_in 2 (decimal (cap_of_cell rules k)) ∷ codes " CLOSED " ∷ right_in 2 (decimal (closed_in_cell rules k)) ∷ [])
 
 -- a cell's line: its columns, and the names of its flights
-unfoldable pub cell_line : CalendarDate → RunwayRules → List SlotRecord → ℕ → List ℕ
+unfoldable pub cell_line : CalendarDate → RunwayRules → List Slot → ℕ → List ℕ
 cell_line day rules slots k =
     cell_columns day rules slots k ++ flat_map (λ s. codes " " ++ s.name) (flights_in_cell rules slots k) ++ line_end
 
@@ -67,7 +68,7 @@ abbrev pub usual_cap : AirportRows → List ℕ → ℕ
 usual_cap g r = option_map_or (λ row. row.cap) (runway_row g r) 0
 
 -- a runway's heading and cells
-unfoldable pub runway_load : AirportRows → PlanRecord → RunwayRules → List ℕ
+unfoldable pub runway_load : AirportRows → Plan → RunwayRules → List ℕ
 runway_load g plan rules =
     let slots = slots_on plan rules.name in
     heading rules ++ flat_map (cell_line g.day rules slots) (told_cells rules (usual_cap g rules.name) slots)
@@ -77,7 +78,7 @@ abbrev pub is_asked : Option (List ℕ) → RunwayRules → Bool
 is_asked asked rules = option_map_or (λ name. same_name name rules.name) asked true
 
 -- how full the runways asked are, of these
-unfoldable pub load_text : AirportRows → PlanRecord → Option (List ℕ) → List RunwayRules → List ℕ
+unfoldable pub load_text : AirportRows → Plan → Option (List ℕ) → List RunwayRules → List ℕ
 load_text g plan asked runways = day_line g.day plan.clock ++ flat_map (runway_load g plan) (filter (is_asked asked) runways)
 
 -- the runway asked, if it is none of the airport's
@@ -91,11 +92,11 @@ IsLoadFault g asked (fault.NoFlight name) = ⊥
 IsLoadFault g asked fault.Memory = unknown_in g asked ≡ None
 
 -- how full the runways asked are, of the day's by name
-abbrev pub IsLoad : DayRecord → PlanRecord → Option (List ℕ) → List ℕ → Type 0
+abbrev pub IsLoad : DayRecord → Plan → Option (List ℕ) → List ℕ → Type 0
 IsLoad day plan asked text = (runways : List RunwayRules) × AreByName day runways × (text ≡ load_text day.airport plan asked runways)
 
 -- a flight is told in the line of the cell of its take-off, and in no other
-pub record IsInOneLine (rules : RunwayRules) (usual : ℕ) (slots : List SlotRecord) (flight : SlotRecord) : Type 0 where
+pub record IsInOneLine (rules : RunwayRules) (usual : ℕ) (slots : List Slot) (flight : Slot) : Type 0 where
   pub told : Contains (told_cells rules usual slots) (flight.ttot / rules.cell)
   pub counted : Contains (flights_in_cell rules slots (flight.ttot / rules.cell)) flight
   pub once : (k : ℕ) → Contains (flights_in_cell rules slots k) flight → k ≡ flight.ttot / rules.cell

@@ -2,7 +2,7 @@
 use Rattle.std.specs.Prelude.{◌≡◌, ℕ, List, None}
 use Rattle.std.specs.Option.{IsSomeAnd}
 use Rattle.cdm_flight.specs.Journal.{flight_of}
-use Rattle.cdm_sequence.specs.Slots.{PlanRecord}
+use Rattle.cdm_sequence.specs.declared.plan.Plan.{Plan}
 use Rattle.cdm_plan.specs.Day.{DayRecord}
 use Rattle.cdm_view.specs.declared.fault.ViewFault.{ViewFault}
 use Rattle.cdm_view.specs.declared.question.Question.{Question}
@@ -11,7 +11,7 @@ use Rattle.cdm_view.specs.Load.{IsLoad, IsLoadFault, unknown_in}
 use Rattle.cdm_view.specs.Why.{IsWhy, IsWhyFault}
 
 -- the text that answers a question of a day with this plan, which knows the flight or the runway that is asked for
-abbrev pub IsAnswer : Question → DayRecord → PlanRecord → List ℕ → Type 0
+abbrev pub IsAnswer : Question → DayRecord → Plan → List ℕ → Type 0
 IsAnswer (Why name) d plan text = IsSomeAnd (flight_of d.airport d.journal name) (λ f. IsWhy d plan f text)
 IsAnswer (Load runway) d plan text = (unknown_in d.airport runway ≡ None) × IsLoad d plan runway text
 

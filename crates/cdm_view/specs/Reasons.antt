@@ -8,11 +8,14 @@ use Rattle.cdm_flight.specs.declared.values.DayValues.{DayValues}
 use Rattle.cdm_flight.specs.Journal.{flight_of, runway_row, taxi_of, values_of}
 use Rattle.cdm_flight.specs.Names.{same_name}
 use Rattle.cdm_flight.specs.Order.{is_before}
-use Rattle.cdm_flight.specs.Record.{Record, key_of}
+use Rattle.cdm_flight.specs.Record.{key_of}
+use Rattle.cdm_flight.specs.declared.flight.Flight.{Flight}
 use Rattle.cdm_runway.specs.Rules.{RunwayRules}
 use Rattle.cdm_runway.specs.Room.{cap_at, is_closed, meets, taken_by}
 use Rattle.cdm_sequence.specs.Aims.{exot_to, stand_minutes}
-use Rattle.cdm_sequence.specs.Slots.{PlanRecord, SlotRecord, is_fixed}
+use Rattle.cdm_sequence.specs.Slots.{is_fixed}
+use Rattle.cdm_sequence.specs.declared.plan.Plan.{Plan}
+use Rattle.cdm_sequence.specs.declared.slot.Slot.{Slot}
 use Rattle.cdm_plan.specs.Day.{DayRecord, rules_of}
 use Rattle.cdm_view.specs.declared.reason.Reason.{Reason}
 use Rattle.cdm_view.specs.declared.reason.Reason.TheVariants.{Ice, Now, Ctot, Closure, Spacing, Rate}
@@ -20,22 +23,22 @@ use Rattle.cdm_view.specs.declared.reason.Reason.TheVariants.{Ice, Now, Ctot, Cl
 -- a flight with its TOBT and its taxi-out time to its runway, the values of the day, what the runway allows, and
 -- the slots on it that are taken when the flight's turn comes
 pub record Waiting : Type 0 where
-  pub flight : Record
+  pub flight : Flight
   pub tobt : ℕ
   pub exot : ℕ
   pub values : DayValues
   pub rules : RunwayRules
-  pub earlier : List SlotRecord
+  pub earlier : List Slot
 
 -- the slots whose flights the flight would meet if it took off at the minute
-abbrev pub met_at : Waiting → ℕ → List SlotRecord
+abbrev pub met_at : Waiting → ℕ → List Slot
 met_at w m = filter (λ s. meets (taken_by w.rules w.flight.group m) (taken_by w.rules s.group s.ttot)) w.earlier
 
 -- the slots in the cell of the minute
-abbrev pub held_at : Waiting → ℕ → List SlotRecord
+abbrev pub held_at : Waiting → ℕ → List Slot
 held_at w m = filter (λ s. s.ttot / w.rules.cell == m / w.rules.cell) w.earlier
 
-abbrev pub names_of : List SlotRecord → List (List ℕ)
+abbrev pub names_of : List Slot → List (List ℕ)
 names_of slots = map (λ s. s.name) slots
 
 -- why the flight can't take off at the minute: the first of these that holds
@@ -50,16 +53,16 @@ reason_at w m =
     else None
 
 -- the slots that the plan has on a runway, by take-off and name
-abbrev pub slots_on : PlanRecord → List ℕ → List SlotRecord
+abbrev pub slots_on : Plan → List ℕ → List Slot
 slots_on plan r = option_map_or (λ p. p.slots) (find (λ p. same_name p.runway r) plan.runways) []
 
 -- the slot is taken when the turn of the flight with this key comes: its own flight has left its stand, or comes
 -- before the other in the order of sequence
-abbrev pub is_earlier : DayRecord → Key → SlotRecord → Bool
+abbrev pub is_earlier : DayRecord → Key → Slot → Bool
 is_earlier d key s = is_fixed s.mark || option_map_or (λ k. is_before k key) (option_and_then key_of (flight_of d.airport d.journal s.name)) false
 
 -- what the flight waits for, if it has a TOBT, a runway of the airport and a taxi-out time to it
-unfoldable pub waiting_of : DayRecord → PlanRecord → Record → Option Waiting
+unfoldable pub waiting_of : DayRecord → Plan → Flight → Option Waiting
 waiting_of d plan f =
     option_and_then (λ key. option_and_then (λ r. option_and_then (λ row. option_map (λ exot. record {
       flight = f;

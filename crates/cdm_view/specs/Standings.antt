@@ -7,8 +7,9 @@ use Rattle.cdm_time.specs.declared.calendar.CalendarDate.{CalendarDate}
 use Rattle.cdm_flight.specs.declared.flight.Status.{Status}
 use Rattle.cdm_flight.specs.declared.flight.Status.TheVariants as status
 use Rattle.cdm_flight.specs.Names.{name_cmp, same_name}
-use Rattle.cdm_flight.specs.Record.{Record}
-use Rattle.cdm_sequence.specs.Slots.{PlanRecord, RunwayPlanRecord}
+use Rattle.cdm_flight.specs.declared.flight.Flight.{Flight}
+use Rattle.cdm_sequence.specs.declared.plan.Plan.{Plan}
+use Rattle.cdm_sequence.specs.declared.plan.RunwayPlan.{RunwayPlan}
 use Rattle.cdm_sequence.specs.Words.{rule_text}
 use Rattle.cdm_plan.specs.Day.{DayRecord, flights_in}
 use Rattle.cdm_plan.specs.DayPlan.{records_in}
@@ -31,7 +32,7 @@ standing_line day (Cancelled name) = codes "CANCELLED " ++ name
 -- The standings of a day.
 
 -- the slots of a runway
-abbrev pub on_runway : RunwayPlanRecord → List Standing
+abbrev pub on_runway : RunwayPlan → List Standing
 on_runway plan = map (OnRunway plan.runway) plan.slots
 
 -- the flight won't depart
@@ -40,15 +41,15 @@ is_cancelled status.Cancelled = true
 is_cancelled _ = false
 
 -- the standing of a flight that is cancelled
-abbrev pub cancelled : Record → Option Standing
+abbrev pub cancelled : Flight → Option Standing
 cancelled f = if is_cancelled f.status then Some (Cancelled f.name) else None
 
 -- all standings of a day with this plan: its slots, its blocked flights, and the cancelled ones
-abbrev pub standings_of : DayRecord → PlanRecord → List Standing
+abbrev pub standings_of : DayRecord → Plan → List Standing
 standings_of d plan = flat_map on_runway plan.runways ++ map Blocked plan.blocked ++ filter_map cancelled (records_in d.airport d.journal)
 
 -- these are all of them, by name, and each known flight has one
-pub record AreStandings (d : DayRecord) (plan : PlanRecord) (standings : List Standing) : Type 0 where
+pub record AreStandings (d : DayRecord) (plan : Plan) (standings : List Standing) : Type 0 where
   pub all : IsPermutation (standings_of d plan) standings
   pub by_name : IsSortedByKey flight_name name_cmp standings
   pub each : IsPermutation (flights_in d.journal) (map flight_name standings)
@@ -73,6 +74,6 @@ abbrev pub changes : CalendarDate → List Standing → List Standing → List S
 changes day before after = filter (λ s. not (is_told day before s)) after
 
 -- the changes from a day with its plan to another: by name, the standings there that were not told before
-pub record AreChanges (d : DayRecord) (plan : PlanRecord) (next : DayRecord) (next_plan : PlanRecord) (changed : List Standing) : Type 0 where
+pub record AreChanges (d : DayRecord) (plan : Plan) (next : DayRecord) (next_plan : Plan) (changed : List Standing) : Type 0 where
   pub all : IsPermutation (changes d.airport.day (standings_of d plan) (standings_of next next_plan)) changed
   pub by_name : IsSortedByKey flight_name name_cmp changed

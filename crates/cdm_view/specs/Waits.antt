@@ -1,8 +1,9 @@
 -- A flight that waits by the plan of a day.
 use Rattle.std.specs.Prelude.{◌≡◌, ℕ, true, Some}
 use Rattle.cdm_flight.specs.Journal.{flight_of}
-use Rattle.cdm_flight.specs.Record.{Record, is_planned}
-use Rattle.cdm_sequence.specs.Slots.{PlanRecord}
+use Rattle.cdm_flight.specs.Record.{is_planned}
+use Rattle.cdm_flight.specs.declared.flight.Flight.{Flight}
+use Rattle.cdm_sequence.specs.declared.plan.Plan.{Plan}
 use Rattle.cdm_sequence.specs.declared.rule.Rule.{Rule}
 use Rattle.cdm_sequence.specs.declared.rule.Rule.TheVariants as rule
 use Rattle.cdm_plan.specs.Day.{DayRecord}
@@ -13,7 +14,7 @@ use Rattle.cdm_view.specs.declared.reason.Reason.{Reason}
 use Rattle.cdm_view.specs.declared.reason.Reason.TheVariants.{Ice, Now, Ctot, Closure, Spacing, Rate}
 
 -- the flight is on its stand on a sound day, and waits for this by the day's plan
-pub record Waits (d : DayRecord) (plan : PlanRecord) (f : Record) (w : Waiting) : Type 0 where
+pub record Waits (d : DayRecord) (plan : Plan) (f : Flight) (w : Waiting) : Type 0 where
   pub sound : IsSound d
   pub of_day : IsDayPlan d plan
   pub known : flight_of d.airport d.journal f.name ≡ Some f

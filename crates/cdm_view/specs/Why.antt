@@ -4,7 +4,7 @@ use Rattle.std.specs.Fmt.{decimal}
 use Rattle.std.specs.List.{concat, find}
 use Rattle.std.specs.Option.{option_and_then, option_map_or}
 use Rattle.cdm_time.specs.declared.calendar.CalendarDate.{CalendarDate}
-use Rattle.cdm_time.specs.Windows.{horizon}
+use Rattle.cdm_time.specs.declared.bound.TheConstants.{HORIZON_MINUTES}
 use Rattle.cdm_flight.specs.declared.flight.Status.{Status}
 use Rattle.cdm_flight.specs.declared.flight.Status.TheVariants.{Planned, OffBlock, Airborne, Cancelled}
 use Rattle.cdm_flight.specs.declared.group.Group.{Group}
@@ -13,10 +13,12 @@ use Rattle.cdm_flight.specs.declared.ice.Ice.{Ice}
 use Rattle.cdm_flight.specs.declared.ice.Ice.TheVariants.{NoIce, AtStand, Remote}
 use Rattle.cdm_flight.specs.Journal.{taxi_of}
 use Rattle.cdm_flight.specs.Names.{same_name}
-use Rattle.cdm_flight.specs.Record.{Record, is_planned}
+use Rattle.cdm_flight.specs.Record.{is_planned}
+use Rattle.cdm_flight.specs.declared.flight.Flight.{Flight}
 use Rattle.cdm_sequence.specs.declared.slot.BlockedFlight.{BlockedFlight}
 use Rattle.cdm_sequence.specs.Aims.{exot_to}
-use Rattle.cdm_sequence.specs.Slots.{PlanRecord, SlotRecord}
+use Rattle.cdm_sequence.specs.declared.plan.Plan.{Plan}
+use Rattle.cdm_sequence.specs.declared.slot.Slot.{Slot}
 use Rattle.cdm_sequence.specs.Words.{rule_text}
 use Rattle.cdm_plan.specs.Day.{DayRecord}
 use Rattle.cdm_report.specs.Columns.{time_column}
@@ -52,20 +54,20 @@ ice_told (AtStand minutes) = codes "STAND " ++ decimal minutes
 ice_told (Remote minutes) = codes "REMOTE " ++ decimal minutes
 
 -- the taxi-out time: of a flight on its stand as it is known now, off-block as it was fixed then
-abbrev pub exot_known : DayRecord → Record → Status → Option ℕ
+abbrev pub exot_known : DayRecord → Flight → Status → Option ℕ
 exot_known d f Planned = option_and_then (exot_to (taxi_of d.airport d.journal) f) f.runway
 exot_known d f (OffBlock aobt exot) = Some exot
 exot_known d f (Airborne aobt atot) = None
 exot_known d f Cancelled = None
 
 -- the flight with its runway, stand, priority and group
-unfoldable pub flight_line : Record → List ℕ
+unfoldable pub flight_line : Flight → List ℕ
 flight_line f = concat (
     codes "FLIGHT " ∷ f.name ∷ codes " RUNWAY " ∷ name_or_dash f.runway ∷ codes " STAND " ∷ name_or_dash f.stand
     ∷ codes " PRIORITY " ∷ decimal f.priority ∷ codes " GROUP " ∷ group_letter f.group ∷ line_end ∷ [])
 
 -- its TOBT, de-icing, taxi-out time and CTOT
-unfoldable pub times_line : CalendarDate → Record → Option ℕ → List ℕ
+unfoldable pub times_line : CalendarDate → Flight → Option ℕ → List ℕ
 times_line day f exot = concat (
     codes "TOBT " ∷ time_column day f.tobt ∷ codes " ICE " ∷ ice_told f.ice ∷ codes " EXOT " ∷ minutes_or_dash exot
     ∷ codes " CTOT " ∷ time_column day f.ctot ∷ line_end ∷ [])
@@ -91,23 +93,23 @@ wait_line day run = concat (
     codes "WAIT " ∷ time_column day (Some run.first) ∷ codes " " ∷ time_column day (Some run.last) ∷ codes " " ∷ reason_told run.reason ∷ line_end ∷ [])
 
 -- the flight's slot on its runway
-abbrev pub own_slot : PlanRecord → Record → Option SlotRecord
+abbrev pub own_slot : Plan → Flight → Option Slot
 own_slot plan f = option_and_then (λ r. find (λ s. same_name s.name f.name) (slots_on plan r)) f.runway
 
 -- what the flight waits for, on its stand
-abbrev pub waits_for : DayRecord → PlanRecord → Record → Option Waiting
+abbrev pub waits_for : DayRecord → Plan → Flight → Option Waiting
 waits_for d plan f = if is_planned f.status then waiting_of d plan f else None
 
 -- the runs of its waiting up to its take-off, or up to the horizon's end where the plan has none; no run, where it
 -- waits for nothing
-abbrev pub AreWaits : DayRecord → PlanRecord → Record → List Run → Type 0
+abbrev pub AreWaits : DayRecord → Plan → Flight → List Run → Type 0
 AreWaits d plan f runs =
-    MatchOption (waits_for d plan f) (runs ≡ []) (λ w. AreRuns (reason_at w) (w.tobt + w.exot) (option_map_or (λ s. s.ttot) (own_slot plan f) horizon) runs)
+    MatchOption (waits_for d plan f) (runs ≡ []) (λ w. AreRuns (reason_at w) (w.tobt + w.exot) (option_map_or (λ s. s.ttot) (own_slot plan f) HORIZON_MINUTES) runs)
 
 -- What comes of it.
 
 -- a planned take-off: start-up, take-off and delay
-unfoldable pub slot_line : CalendarDate → SlotRecord → List ℕ
+unfoldable pub slot_line : CalendarDate → Slot → List ℕ
 slot_line day s = concat (
     codes "TSAT " ∷ time_column day (Some s.tsat) ∷ codes " TTOT " ∷ time_column day (Some s.ttot) ∷ codes " DELAY " ∷ minutes_or_dash s.delay ∷ line_end ∷ [])
 
@@ -116,7 +118,7 @@ unfoldable pub blocked_line : BlockedFlight → List ℕ
 blocked_line b = concat (codes "BLOCKED " ∷ rule_text b.rule ∷ line_end ∷ [])
 
 -- its slot, else the rule that blocks it; no line, where the plan has neither
-abbrev pub plan_line : CalendarDate → Option SlotRecord → Option BlockedFlight → List ℕ
+abbrev pub plan_line : CalendarDate → Option Slot → Option BlockedFlight → List ℕ
 plan_line day (Some s) blocked = slot_line day s
 plan_line day None (Some b) = blocked_line b
 plan_line day None None = []
@@ -127,7 +129,7 @@ left_line day aobt word takeoff =
     concat (codes "OFFBLOCK " ∷ time_column day (Some aobt) ∷ codes " " ∷ word ∷ codes " " ∷ time_column day (Some takeoff) ∷ line_end ∷ [])
 
 -- what the plan gives the flight, or how far it has come
-unfoldable pub outcome_line : CalendarDate → PlanRecord → Record → Status → List ℕ
+unfoldable pub outcome_line : CalendarDate → Plan → Flight → Status → List ℕ
 outcome_line day plan f Planned = plan_line day (own_slot plan f) (find (λ b. same_name b.name f.name) plan.blocked)
 outcome_line day plan f (OffBlock aobt exot) = left_line day aobt (codes "TTOT") (aobt + exot)
 outcome_line day plan f (Airborne aobt atot) = left_line day aobt (codes "AIRBORNE") atot
@@ -136,7 +138,7 @@ outcome_line day plan f Cancelled = codes "CANCELLED" ++ line_end
 -- The text.
 
 -- the text with these runs
-unfoldable pub why_bytes : DayRecord → PlanRecord → Record → List Run → List ℕ
+unfoldable pub why_bytes : DayRecord → Plan → Flight → List Run → List ℕ
 why_bytes d plan f runs =
     day_line d.airport.day plan.clock
     ++ flight_line f
@@ -145,13 +147,13 @@ why_bytes d plan f runs =
     ++ outcome_line d.airport.day plan f f.status
 
 -- the text says what holds the flight
-pub record IsWhy (d : DayRecord) (plan : PlanRecord) (f : Record) (text : List ℕ) : Type 0 where
+pub record IsWhy (d : DayRecord) (plan : Plan) (f : Flight) (text : List ℕ) : Type 0 where
   pub runs : List Run
   pub waits : AreWaits d plan f runs
   pub bytes : text ≡ why_bytes d plan f runs
 
 -- no such flight is known, or there was no memory for the text
-abbrev pub IsWhyFault : Option Record → List ℕ → ViewFault → Type 0
+abbrev pub IsWhyFault : Option Flight → List ℕ → ViewFault → Type 0
 IsWhyFault known name (fault.NoFlight f) = (f ≡ name) × (known ≡ None)
 IsWhyFault known name (fault.NoRunway r) = ⊥
 IsWhyFault known name fault.Memory = IsSome known

@@ -2,7 +2,8 @@
 ghost use Rattle.std.specs.Prelude.{◌≡◌, ℕ, ◌<◌, List, All, Contains, IsTrue, length, sum_by};
 ghost use Rattle.cdm_flight.specs.Cells.{is_cell_length};
 ghost use Rattle.cdm_runway.specs.Rules.{RunwayRules};
-ghost use Rattle.cdm_sequence.specs.Slots.{PlanRecord, SlotRecord};
+ghost use Rattle.cdm_sequence.specs.declared.plan.Plan.{Plan};
+ghost use Rattle.cdm_sequence.specs.declared.slot.Slot.{Slot};
 ghost use Rattle.cdm_plan.specs.Airport.{IsAirport};
 ghost use Rattle.cdm_plan.specs.Day.{DayRecord};
 ghost use Rattle.cdm_view.specs.declared.question.Question.{Question as Asked};
@@ -12,7 +13,7 @@ ghost use Rattle.cdm_view.specs.Questions.{IsAnswer};
 /// Each flight of a runway's slots is told in one line of the runway's load, that of the cell of its
 /// take-off.
 pub fn each_flight_in_one_line()
-    ensures { (rules : RunwayRules) (usual : ℕ) (slots : List SlotRecord) (flight : SlotRecord) →
+    ensures { (rules : RunwayRules) (usual : ℕ) (slots : List Slot) (flight : Slot) →
         IsTrue (is_cell_length rules.cell) → Contains slots flight → flight.ttot < 2880 → IsInOneLine rules usual slots flight }
 {}
 
@@ -20,7 +21,7 @@ pub fn each_flight_in_one_line()
 /// twice.
 #[tactic(auto, using(crate::proofs::LoadLemmas::counts_add))]
 pub fn counts_add_up()
-    ensures { (rules : RunwayRules) (usual : ℕ) (slots : List SlotRecord) →
+    ensures { (rules : RunwayRules) (usual : ℕ) (slots : List Slot) →
         IsTrue (is_cell_length rules.cell) → All (λ s. s.ttot < 2880) slots →
         sum_by (λ k. length (flights_in_cell rules slots k)) (told_cells rules usual slots) ≡ length slots }
 {}
@@ -28,6 +29,6 @@ pub fn counts_add_up()
 /// A question of a day and its plan has one answer at most.
 #[tactic(auto, using(crate::proofs::AnswerLemmas::answer_one))]
 pub fn one_answer()
-    ensures { (question : Asked) (d : DayRecord) (plan : PlanRecord) (x y : List ℕ) → IsAirport d.airport →
+    ensures { (question : Asked) (d : DayRecord) (plan : Plan) (x y : List ℕ) → IsAirport d.airport →
         IsAnswer question d plan x → IsAnswer question d plan y → x ≡ y }
 {}

@@ -49,7 +49,7 @@ pub fn load<R: Records>(
         return Err(ViewFault::NoRunway(name));
     }
     let mut text = String::new(alloc);
-    push_day(&mut text, *airport.day(), plan.now)?;
+    push_day(&mut text, *airport.day(), plan.clock)?;
     push_runways(&mut text, airport, records, plan, &runway)?;
     Ok(text.into_bytes())
 }

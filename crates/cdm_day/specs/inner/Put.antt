@@ -3,7 +3,7 @@ use Rattle.std.specs.Prelude.{ℕ, if◌then◌else◌, List, [], ◌∷◌, Opt
 use Rattle.std.specs.FinMap.{insert}
 use Rattle.cdm_flight.specs.declared.values.DayValues.{DayValues}
 use Rattle.cdm_flight.specs.Names.{same_name}
-use Rattle.cdm_flight.specs.Record.{Record}
+use Rattle.cdm_flight.specs.declared.flight.Flight.{Flight}
 use Rattle.cdm_flight.specs.Taxi.{TaxiRows}
 use Rattle.cdm_runway.specs.Rules.{RunwayRules}
 use Rattle.cdm_day.specs.Changes.{with_change}
@@ -12,7 +12,7 @@ use Rattle.cdm_day.specs.declared.change.Change.TheVariants.{NewFlight, NextReco
 use Rattle.cdm_day.specs.declared.change.RunwayChange.{RunwayChange}
 
 -- what is known of a flight
-abbrev pub flight_with : Change → List ℕ → Option Record → Option Record
+abbrev pub flight_with : Change → List ℕ → Option Flight → Option Flight
 flight_with (NewFlight r) f known = if same_name r.name f then Some r else known
 flight_with (NextRecord r) f known = if same_name r.name f then Some r else known
 flight_with _ f known = known

@@ -3,7 +3,7 @@ use Rattle.std.specs.Prelude.{◌≡◌, ◌≢◌, ◌+◌, ◌<◌, ◌≤◌,
 use Rattle.cdm_flight.specs.Journal.{AirportRows}
 use Rattle.cdm_flight.specs.declared.role.Role.{Role}
 use Rattle.cdm_flight.specs.declared.update.Update.{Update}
-use Rattle.cdm_sequence.specs.Slots.{PlanRecord}
+use Rattle.cdm_sequence.specs.declared.plan.Plan.{Plan}
 use Rattle.cdm_report.specs.Report.{report_bytes}
 use Rattle.cdm_plan.specs.Day.{DayRecord}
 use Rattle.cdm_plan.specs.DayPlan.{IsDayPlan}
@@ -64,7 +64,7 @@ IsRecordFault airport feed1 feed2 error.Mismatch = FitsBoard airport feed1 feed2
 -- the text of a day, without refused records, and of two desks that posted so many batches and were
 -- given these replies
 pub record IsMergedText (feed1 feed2 : List Spelled) (d : DayRecord) (replies1 replies2 : List Reply) (posts1 posts2 : ℕ) (text : List ℕ) : Type 0 where
-  pub plan : PlanRecord
+  pub plan : Plan
   pub of_day : IsDayPlan d plan
   pub bytes : text
       ≡ report_bytes d.airport.day plan []

@@ -2,7 +2,8 @@
 use Rattle.std.specs.Prelude.{ℕ, ◌<◌, ◌≤◌, All, List, ⊤}
 use Rattle.cdm_scenario.specs.declared.outcome.Outcome.{Outcome}
 use Rattle.cdm_scenario.specs.declared.outcome.Outcome.TheVariants.{Planned, Refused}
-use Rattle.cdm_sequence.specs.Slots.{PlanRecord, SlotRecord}
+use Rattle.cdm_sequence.specs.declared.plan.Plan.{Plan}
+use Rattle.cdm_sequence.specs.declared.slot.Slot.{Slot}
 use Rattle.cdm_picture.specs.Places.{HaveTakeOffs}
 use Rattle.cdm_picture.specs.declared.hours.Hours.{Hours}
 use Rattle.cdm_picture.specs.declared.spans.Span.{Span}
@@ -16,10 +17,10 @@ abbrev pub Keeps : Span → Span → Type 0
 Keeps span longer = (minute : ℕ) → Has span minute → Has longer minute
 
 -- the span has the take-offs of slots, of a plan, and of an outcome that is a plan
-abbrev pub HasSlots : Span → List SlotRecord → Type 0
+abbrev pub HasSlots : Span → List Slot → Type 0
 HasSlots span slots = All (λ s. Has span s.ttot) slots
 
-abbrev pub HasPlan : Span → PlanRecord → Type 0
+abbrev pub HasPlan : Span → Plan → Type 0
 HasPlan span plan = All (λ p. HasSlots span p.slots) plan.runways
 
 abbrev pub HasOutcome : Span → Outcome → Type 0

@@ -3,12 +3,12 @@ use Rattle.std.specs.Prelude.{ℕ, ◌+◌, List, length, map, max, nat_lt, if�
 use Rattle.std.specs.List.{filter_map}
 use Rattle.cdm_sequence.specs.Words.{all_rules}
 use Rattle.cdm_sequence.specs.declared.slot.BlockedFlight.{BlockedFlight}
-use Rattle.cdm_sequence.specs.Slots.{SlotRecord}
+use Rattle.cdm_sequence.specs.declared.slot.Slot.{Slot}
 use Rattle.cdm_report.specs.declared.counts.Counts.{Counts}
 use Rattle.cdm_report.specs.Counts.{blocked_by}
 
 -- the delays of the planned flights among the slots
-abbrev pub delays_in : List SlotRecord → List ℕ
+abbrev pub delays_in : List Slot → List ℕ
 delays_in slots = filter_map (λ slot. slot.delay) slots
 
 -- the indicators where these flights are blocked and no other is planned

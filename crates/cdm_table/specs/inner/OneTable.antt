@@ -5,7 +5,7 @@ use Rattle.cdm_flight.specs.Names.{same_name}
 use Rattle.cdm_flight.specs.declared.word.RefusalWord.{RefusalWord}
 use Rattle.cdm_report.specs.declared.counts.Counts.{Counts}
 use Rattle.cdm_plan.specs.Airport.{runway_names}
-use Rattle.cdm_sequence.specs.Slots.{PlanRecord}
+use Rattle.cdm_sequence.specs.declared.plan.Plan.{Plan}
 use Rattle.cdm_plan.specs.Day.{DayRecord, flights_in}
 use Rattle.cdm_plan.specs.DayPlan.{IsDayPlan}
 use Rattle.cdm_view.specs.Standings.{AreStandings, changes}
@@ -22,7 +22,7 @@ use Rattle.cdm_table.specs.Rows.{AreFlightRows, AreRows, AreScenarioRows, csv_te
 use Rattle.cdm_table.specs.declared.line.Summary.{Summary}
 
 -- the rows of a day's flights
-pub one_flight_rows : (d : DayRecord) (plan : PlanRecord) → IsDistinct same_name (runway_names d.airport) → IsDistinct same_name (flights_in d.journal)
+pub one_flight_rows : (d : DayRecord) (plan : Plan) → IsDistinct same_name (runway_names d.airport) → IsDistinct same_name (flights_in d.journal)
     → IsDayPlan d plan → (scenario x y : List ℕ) → AreFlightRows d plan scenario x → AreFlightRows d plan scenario y → x ≡ y
 one_flight_rows d plan runways flights is scenario x y a b =
     let same : a.0 ≡ b.0 = one_standings d plan runways flights is a.0 b.0 a.1 b.1 in

@@ -6,7 +6,7 @@ use Rattle.cdm_report.specs.Report.{day_line}
 use Rattle.cdm_scenario.specs.Outcome.{IsOutcome}
 use Rattle.cdm_scenario.specs.Scenarios.{ScenarioRecord}
 use Rattle.cdm_scenario.specs.declared.outcome.Outcome.{Outcome}
-use Rattle.cdm_sequence.specs.Slots.{PlanRecord}
+use Rattle.cdm_sequence.specs.declared.plan.Plan.{Plan}
 use Rattle.cdm_picture.specs.Svg.{picture_text}
 use Rattle.cdm_picture.specs.inner.Spans.{HasOutcome, HaveOutcome, Keeps}
 use Rattle.cdm_picture.proofs.SpanLemmas.{outcome_within, plan_kept, plan_within}
@@ -37,7 +37,7 @@ scenario_sections-requires-clause-within g c =
 
 pub returns : goal.returns
 returns g c =
-    let clock : c.plan.inside.now ≡ c.plan-plan.result.now.clock = cc (ap (λ (p : PlanRecord). p.clock) c.plan.view_is) in
+    let clock : c.plan.inside.clock ≡ c.plan-plan.result.now.clock = cc (ap (λ (p : Plan). p.clock) c.plan.view_is) in
     let sections = c.deref-5.ensures.value ∙ c.in_ok-sections.ensures in
     record {
       plan = c.plan-plan.result.now;

@@ -1,6 +1,6 @@
 use Rattle.std.proofs.Common.{map, Bor, ◌≡◌}
 use Rattle.cdm_plan.proofs.ListWords.{filter_map}
-use Rattle.cdm_plan.proofs.PlanWords.{Record, fixed_on, target_for}
+use Rattle.cdm_plan.proofs.PlanWords.{Flight, fixed_on, target_for}
 use Rattle.cdm_plan.proofs.PlanningLemmas.{on_it, fixed_on-lent}
 use Rattle.cdm_plan.proofs.jobs.runway_plan.Goals as goal
 
@@ -26,6 +26,6 @@ pub returns : goal.returns
 returns c =
     let targets : c.deref-2.result.now ≡ filter_map (target_for c.args.runway.now.name) c.args.aims.now =
     rw (c.deref-2.ensures.value, c.in_ok-targets.ensures, c.name-2.ensures) in
-    let fixed : c.deref.result.now ≡ fixed_on c.args.runway.now.name (map (λ (f : Bor Record). f.now) c.args.flights.now) =
+    let fixed : c.deref.result.now ≡ fixed_on c.args.runway.now.name (map (λ (f : Bor Flight). f.now) c.args.flights.now) =
     rw (c.deref.ensures.value, c.in_ok-fixed.ensures, fixed_on-lent c.name.result c.args.flights.now, c.name.ensures) in
     rw (← targets, ← fixed) c.in_ok-plan.ensures.sequence

@@ -6,8 +6,8 @@ use Rattle.cdm_runway.specs.Load.{Load}
 use Rattle.cdm_runway.specs.Room.{taken_by}
 use Rattle.cdm_sequence.specs.declared.decision.Decision.{Decision}
 use Rattle.cdm_sequence.specs.Fixed.{takeoffs}
-use Rattle.cdm_sequence.specs.Slots.{SlotRecord}
-use Rattle.cdm_sequence.specs.Targets.{TargetRecord}
+use Rattle.cdm_sequence.specs.declared.slot.Slot.{Slot}
+use Rattle.cdm_sequence.specs.declared.target.Target.{Target}
 use Rattle.cdm_sequence.proofs.NameLemmas.{all_shown}
 use Rattle.cdm_flight.proofs.Lists.{distinct_right}
 use Rattle.cdm_sequence.specs.Plan.{Placing, IsFirst}
@@ -18,7 +18,7 @@ use Rattle.cdm_sequence.proofs.sequencing.sequence.Goals as goal
 
 pub decide_all-requires-clause-room : goal.decide_all-requires-clause-room
 decide_all-requires-clause-room c =
-    let few = length-map c.args.fixed.now (λ (x : SlotRecord). taken_by c.args.runway.now x.group x.ttot) in
+    let few = length-map c.args.fixed.now (λ (x : Slot). taken_by c.args.runway.now x.group x.ttot) in
     let taken = ap (λ (l : Load). length l.taken) c.load_of-load.ensures in
     omega (arith, length_permutation _ _ c.in_ok-ordered.ensures.same, ap length c.deref.ensures.value)
 
@@ -55,8 +55,8 @@ first : (c : goal.After-drop-ordered-2) (placing : Placing)
     → IsFirst c.args.runway.now (takeoffs c.args.runway.now c.args.fixed.now) c.args.targets.now placing
 first c placing made =
     plan_first c.args.runway.now (takeoffs c.args.runway.now c.args.fixed.now) c.args.targets.now placing
-    (distinct_right same_name (map (λ (x : SlotRecord). x.name) c.args.fixed.now)
-    (map (λ (f : TargetRecord). f.key.name) c.args.targets.now) c.requires.names) made.minutes
+    (distinct_right same_name (map (λ (x : Slot). x.name) c.args.fixed.now)
+    (map (λ (f : Target). f.key.name) c.args.targets.now) c.requires.names) made.minutes
 
 pub returns-clause-first : goal.returns-clause-first
 returns-clause-first c = first c

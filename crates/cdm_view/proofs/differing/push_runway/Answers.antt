@@ -1,5 +1,5 @@
 use Rattle.std.proofs.Common.{◌∙◌, ◌++◌, List, ℕ, ap, map}
-use Rattle.cdm_plan.proofs.PlanWords.{RunwayPlanRecord}
+use Rattle.cdm_plan.proofs.PlanWords.{RunwayPlan}
 use Rattle.cdm_view.specs.Standings.{on_runway}
 use Rattle.cdm_view.specs.declared.standing.Standing.TheVariants.{OnRunway}
 use Rattle.cdm_view.proofs.ChangeLemmas.{left_parts}
@@ -11,8 +11,8 @@ returns c = λ first second are.
     let two = c.slots_between.result.1.now in
     let old = c.args.differing.now in
     let before = c.in_ok-push_slots.ensures
-    ∙ ap (λ (r : List ℕ). old.before.items ++ map (OnRunway r) one) (ap (λ (p : RunwayPlanRecord). p.runway) c.before-2.view_is) in
+    ∙ ap (λ (r : List ℕ). old.before.items ++ map (OnRunway r) one) (ap (λ (p : RunwayPlan). p.runway) c.before-2.view_is) in
     let after = c.in_ok-push_slots-2.ensures
-    ∙ ap (λ (r : List ℕ). old.after.items ++ map (OnRunway r) two) (ap (λ (p : RunwayPlanRecord). p.runway) c.after.view_is) in
+    ∙ ap (λ (r : List ℕ). old.after.items ++ map (OnRunway r) two) (ap (λ (p : RunwayPlan). p.runway) c.after.view_is) in
     left_parts first second (on_runway c.args.before.now) (on_runway c.args.after.now) (map (OnRunway c.args.before.now.runway) one)
     (map (OnRunway c.args.after.now.runway) two) old _ c.slots_between.ensures before after are

@@ -1,5 +1,5 @@
 use Rattle.std.proofs.Common.{IsTrue}
-use Rattle.cdm_plan.proofs.PlanWords.{Record, flight_of, flights_in}
+use Rattle.cdm_plan.proofs.PlanWords.{Flight, flight_of, flights_in}
 use Rattle.cdm_flight.specs.Record.{is_sound}
 use Rattle.cdm_view.proofs.KnownLemmas.{all_next, cancelled_next}
 use Rattle.cdm_view.proofs.gathering.push_cancelled.Goals as goal
@@ -13,7 +13,7 @@ loop-place-preserved g c =
     let so_far = c.loop-place.invariant in
     let more = c.in_ok-push_if_cancelled.ensures.pushed in
     let here = c.push_if_cancelled.ensures.sound in
-    let is_sound_flight = λ (f : Record). IsTrue (is_sound f.runway f.status) in (
+    let is_sound_flight = λ (f : Flight). IsTrue (is_sound f.runway f.status) in (
       cancelled_next known names c.loop-place.place _ value _ _ _ so_far.0 more,
       all_next known names c.loop-place.place _ value is_sound_flight so_far.1 here,
     )

@@ -1,6 +1,6 @@
 use Rattle.std.proofs.Common.{◌≡◌, ◌++◌, IsTrue, take}
 use Rattle.cdm_plan.proofs.ListWords.{All, filter_map}
-use Rattle.cdm_plan.proofs.PlanWords.{flight_of, flights_in, Record}
+use Rattle.cdm_plan.proofs.PlanWords.{flight_of, flights_in, Flight}
 use Rattle.cdm_flight.specs.Record.{is_sound}
 use Rattle.cdm_view.specs.Standings.{cancelled}
 use Rattle.cdm_view.proofs.gathering.push_cancelled.Given as goal
@@ -10,4 +10,4 @@ abbrev pub invariant-loop-place : goal.invariant-loop-place
 invariant-loop-place g l =
     let d = g.R.Records.day l.records in
     let known = filter_map (flight_of d.airport d.journal) (take l.place (flights_in d.journal)) in
-    (l.standings.items ≡ l.initial.standings.items ++ filter_map cancelled known) × All (λ (f : Record). IsTrue (is_sound f.runway f.status)) known
+    (l.standings.items ≡ l.initial.standings.items ++ filter_map cancelled known) × All (λ (f : Flight). IsTrue (is_sound f.runway f.status)) known

@@ -1,6 +1,6 @@
 use Rattle.std.proofs.Common.{◌≡◌, ℕ, [], ◌∷◌, ◌++◌, ap, ◌∙◌, false, refl}
 use Rattle.cdm_flight.specs.declared.reach.Reach.TheVariants as reach
-use Rattle.cdm_time.specs.Windows.{Margins}
+use Rattle.cdm_time.specs.declared.tolerance.Tolerance.{Tolerance}
 use Rattle.cdm_flight.specs.declared.update.Update.{Update as AnUpdate}
 use Rattle.cdm_flight.specs.declared.update.Update.TheVariants.{Clock, Tol}
 use Rattle.cdm_flight.specs.declared.values.DayValues.{DayValues}
@@ -17,7 +17,7 @@ returns-in-Tol c = λ a h.
     ap (λ u. values_of (a ++ u ∷ [])) c.in-Tol.is
     ∙ (values_of-tolerance a c.in-Tol.tolerance ∙ ap (λ (v : DayValues). record v { tolerance = c.in-Tol.tolerance }) h)
 
-not_day : (u : AnUpdate) → ((m : ℕ) → u ≡ Clock m → ⊥) → ((t : Margins) → u ≡ Tol t → ⊥) → same_reach (reach_of u) reach.Day ≡ false
+not_day : (u : AnUpdate) → ((m : ℕ) → u ≡ Clock m → ⊥) → ((t : Tolerance) → u ≡ Tol t → ⊥) → same_reach (reach_of u) reach.Day ≡ false
 not_day (Clock m) h k = absurd (h m refl)
 not_day (Tol t) h k = absurd (k t refl)
 not_day _ h k = refl

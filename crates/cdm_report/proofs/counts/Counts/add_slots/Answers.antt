@@ -1,5 +1,5 @@
 use Rattle.std.proofs.Common.{arith, sym, ap, ◌∙◌, Some, None}
-use Rattle.cdm_sequence.specs.Slots.{SlotRecord}
+use Rattle.cdm_sequence.specs.declared.slot.Slot.{Slot}
 use Rattle.cdm_report.specs.inner.Counting.{with_delay}
 use Rattle.cdm_report.proofs.CountLemmas.{fold-delays_in_more}
 use Rattle.cdm_report.proofs.counts.Counts.add_slots.Goals as goal
@@ -8,7 +8,7 @@ use Rattle.cdm_report.proofs.counts.Counts.add_slots.Goals.{in-Some, in_default}
 pub loop-slot-preserved : goal.loop-slot-preserved
 loop-slot-preserved c =
     let more = fold-delays_in_more c.args.self.now c.args.slots.now c.loop-slot.slot-index c.slot-item.result in
-    let delay = ap (λ (s : SlotRecord). s.delay) (sym c.slot.view_is) in
+    let delay = ap (λ (s : Slot). s.delay) (sym c.slot.view_is) in
     record {
       counted = elim c.match-slot.branch [
         | in-Some w ↦ w.self-is ∙ w.add_delay.ensures.counted ∙ ap (λ x. with_delay x w.in-Some.delay) c.loop-slot.invariant.counted

@@ -1,5 +1,5 @@
-use Rattle.std.proofs.Common.{ℕ, ◌-◌, ◌<◌, ◌≤◌, MatchBool}
-use Rattle.cdm_runway.specs.Room.{held_in_cell, cap_at, AllClosed, IsOpen, IsSpaced}
+use Rattle.std.proofs.Common.{◌≡◌, ℕ, false, ◌-◌, ◌<◌, ◌≤◌, MatchBool}
+use Rattle.cdm_runway.specs.Room.{held_in_cell, cap_at, is_closed, AllClosed, IsSpaced}
 use Rattle.cdm_runway.proofs.load.RunwayLoad.earliest.Given as goal
 
 -- each open minute so far at which the flight meets no other one is in a full cell, and the flags say whether
@@ -7,13 +7,13 @@ use Rattle.cdm_runway.proofs.load.RunwayLoad.earliest.Given as goal
 abbrev pub invariant-loop-number : goal.invariant-loop-number
 invariant-loop-number l =
     let r = l.runway in
-    let from = l.fn.window.from in
+    let from = l.fn.window.start in
     record {
       begun : from ≤ l.number;
-      full : (k : ℕ) → from ≤ k → k < l.number → IsOpen r k → IsSpaced r l.self.taken l.group k → cap_at r k ≤ held_in_cell r.cell l.self.taken k;
-      met : MatchBool l.some_spaced ((k : ℕ) × (from ≤ k) × (k < l.end) × IsOpen r k × IsSpaced r l.self.taken l.group k)
-          ((k : ℕ) → from ≤ k → k < l.number → IsOpen r k → IsSpaced r l.self.taken l.group k → ⊥);
-      flag : MatchBool l.some_open ((k : ℕ) × (from ≤ k) × (k < l.end) × IsOpen r k) (AllClosed r from l.number);
+      full : (k : ℕ) → from ≤ k → k < l.number → is_closed r k ≡ false → IsSpaced r l.self.taken l.group k → cap_at r k ≤ held_in_cell r.cell l.self.taken k;
+      met : MatchBool l.some_spaced ((k : ℕ) × (from ≤ k) × (k < l.end) × (is_closed r k ≡ false) × IsSpaced r l.self.taken l.group k)
+          ((k : ℕ) → from ≤ k → k < l.number → is_closed r k ≡ false → IsSpaced r l.self.taken l.group k → ⊥);
+      flag : MatchBool l.some_open ((k : ℕ) × (from ≤ k) × (k < l.end) × (is_closed r k ≡ false)) (AllClosed r from l.number);
     }
 
 -- the minutes that are left

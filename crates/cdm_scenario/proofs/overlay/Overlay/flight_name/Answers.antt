@@ -1,7 +1,7 @@
 use Rattle.std.proofs.Common.{◌-◌, ◌<◌, ◌≤◌, None, Some, sym, ap, ◌∙◌, length, arith}
 use Rattle.std.specs.Prelude.{slice_get}
 use Rattle.std.specs.Option.{option_copied}
-use Rattle.cdm_flight.specs.Record.{Record}
+use Rattle.cdm_flight.specs.declared.flight.Flight.{Flight}
 use Rattle.cdm_plan.specs.Day.{flights_in}
 use Rattle.cdm_scenario.proofs.OverlayLemmas.{new_name, old_name}
 use Rattle.cdm_scenario.proofs.overlay.Overlay.flight_name.Goals as goal
@@ -14,7 +14,7 @@ returns-in_err-flight-clause-value c =
 pub returns-then-place-known-clause-value : goal.returns-then-place-known-clause-value
 returns-then-place-known-clause-value c =
     let below : c.args.place < length (flights_in c.self.inside.base.now.journal) = omega (arith, c.flights-known.ensures.value) in
-    ap (λ (r : Record). Some r.name) c.flight.view_is
+    ap (λ (r : Flight). Some r.name) c.flight.view_is
     ∙ old_name c.self.invariant c.self.view_is c.flights-known.ensures.sound c.args.place below (Some c.in_ok-flight.flight.now) (sym (ap option_copied c.in_ok-flight.was) ∙ c.flight_at.ensures.value)
 
 pub returns-clause-value : goal.returns-clause-value

@@ -1,7 +1,7 @@
 use Rattle.std.proofs.Common.{[], ◌∷◌, ◌++◌, refl, sym, ap, ◌∙◌}
 use Rattle.std.specs.Option.{option_copied}
 use Rattle.std.proofs.lemmas.List.{append-nil, append_assoc}
-use Rattle.cdm_flight.specs.Record.{Record}
+use Rattle.cdm_flight.specs.declared.flight.Flight.{Flight}
 use Rattle.cdm_day.specs.declared.change.Change.TheVariants.{NewFlight, NextRecord, Runway, TaxiRow, Values}
 use Rattle.cdm_day.proofs.TableLemmas.{has_record}
 use Rattle.cdm_scenario.proofs.OverlayLemmas.{over_change, row_fits, runway_changed, runway_there, runways_left, taxi_left, taxi_set, window_over}
@@ -37,16 +37,16 @@ invariant_of-self-2 c =
       | in-NewFlight+in_ok-reserve-in-NewFlight+in_ok-insert-in-NewFlight w ↦
           let change = NewFlight w.in-NewFlight.flight in
           let is = rw w.in-NewFlight.is at what in
-          let put = rw (ap (λ (r : Record). r.name) w.flight.view_is) at w.in_ok-insert-in-NewFlight.ensures.updates in
+          let put = rw (ap (λ (r : Flight). r.name) w.flight.view_is) at w.in_ok-insert-in-NewFlight.ensures.updates in
           rw (w.self-inside-is, c.in_ok-reserve.ensures.items, w.push_reserved.ensures, w.in_ok-reserve-in-NewFlight.ensures.items, ← append_assoc)
           (over_change told refl u good change is _ _ _ _ _
           (has_record c.self.inside.flights w.insert.new.self w.in-NewFlight.flight (put.1, put.2))
-          (ap (λ (r : Record). new ++ r.name ∷ []) w.flight-in-NewFlight.view_is)
+          (ap (λ (r : Flight). new ++ r.name ∷ []) w.flight-in-NewFlight.view_is)
           (runways_left told refl u good change is (λ x. refl)) (taxi_left told refl u good change is (λ x. refl)) refl)
       | in-NextRecord+in_ok-insert-in-NextRecord w ↦
           let change = NextRecord w.in-NextRecord.flight in
           let is = rw w.in-NextRecord.is at what in
-          let put = rw (ap (λ (r : Record). r.name) w.flight-in-NextRecord.view_is) at w.in_ok-insert-in-NextRecord.ensures.updates in
+          let put = rw (ap (λ (r : Flight). r.name) w.flight-in-NextRecord.view_is) at w.in_ok-insert-in-NextRecord.ensures.updates in
           rw (w.self-inside-is, c.in_ok-reserve.ensures.items, ← append_assoc)
           (over_change told refl u good change is _ _ _ _ _
           (has_record c.self.inside.flights w.insert-in-NextRecord.new.self w.in-NextRecord.flight (put.1, put.2)) none

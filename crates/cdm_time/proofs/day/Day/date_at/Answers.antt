@@ -1,5 +1,4 @@
-use Rattle.std.proofs.Common.{◌≡◌, ◌/◌, ◌+ℤ◌, pos, true, arith, sym}
-use Rattle.cdm_time.specs.Dates.{day_number, is_date}
+use Rattle.std.proofs.Common.{◌≡◌, ◌/◌, arith, sym}
 use Rattle.cdm_time.proofs.DateFacts.{day_number-next_date, is_date-first_day}
 use Rattle.cdm_time.proofs.day.Day.date_at.Goals as goal
 
