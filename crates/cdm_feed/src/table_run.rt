@@ -13,6 +13,7 @@ use crate::inputs::{Inputs, read_inputs};
 use crate::output::write_text;
 use crate::table_error::TableError;
 use cdm_phase::{Gate, Workers};
+use cdm_plan::Runner;
 use cdm_table::{Table, tabulate};
 use std::alloc::Global;
 use std::io::{Read, Write};
@@ -36,7 +37,8 @@ fn table_of_inputs<R: Threads + Sync, G: Gate>(
         scenarios,
         ..
     } = asked_day(rt, alloc, inputs, workers, gate)?;
-    let text = tabulate(rt, alloc, &state, &scenarios, asked, workers, gate)?;
+    let runner = Runner { rt, workers, gate };
+    let text = tabulate(alloc, &state, &scenarios, asked, &runner)?;
     Ok(text)
 }
 

@@ -4,7 +4,7 @@ use Rattle.std.specs.Bool.{then_some}
 use Rattle.std.specs.Option.{option_and_then, option_eq, option_map, option_map_or, option_or}
 use Rattle.std.specs.List.{find, list_any, take_while}
 use Rattle.std.specs.FinMap as map
-use Rattle.cdm_time.specs.Windows.{window_has}
+use Rattle.cdm_time.specs.Windows.{usual_tolerance, window_has}
 use Rattle.cdm_time.specs.declared.tolerance.Tolerance.{Tolerance}
 use Rattle.cdm_time.specs.declared.calendar.CalendarDate.{CalendarDate}
 use Rattle.cdm_flight.specs.declared.airport.RunwayRow.{RunwayRow}
@@ -126,11 +126,11 @@ is_known a f = list_any is_fresh (of_flight f a)
 
 -- Last values of the day, of runways and of taxi times.
 
--- the clock: the last CLOCK, at first minute 0; the tolerance: the last TOL, at first 5 minutes before and 10 after
+-- the clock: the last CLOCK, at first minute 0; the tolerance: the last TOL, at first the usual one
 unfoldable pub values_of : List Update → DayValues
 values_of a = record {
   clock = unwrap_or (last_value clock_given (touching reach.Day a)) 0;
-  tolerance = unwrap_or (last_value tolerance_given (touching reach.Day a)) (record { before = 5; after = 10 });
+  tolerance = unwrap_or (last_value tolerance_given (touching reach.Day a)) usual_tolerance;
 }
 
 -- the capacity of a minute's cell: the last RATE of the runway whose window has the minute, else

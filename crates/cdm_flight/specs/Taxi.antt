@@ -7,7 +7,7 @@ use Rattle.std.specs.List.{filter_map, list_any}
 use Rattle.std.specs.Set.{distinct_count}
 use Rattle.std.specs.FinMap.{FinMap, keys}
 use Rattle.cdm_flight.specs.declared.ice.Ice.{Ice}
-use Rattle.cdm_flight.specs.declared.ice.Ice.TheVariants.{Remote}
+use Rattle.cdm_flight.specs.declared.ice.Ice.TheVariants.{AtStand, Remote}
 use Rattle.cdm_flight.specs.declared.place.Place.{Place}
 use Rattle.cdm_flight.specs.declared.place.Place.TheVariants as place
 use Rattle.cdm_flight.specs.Names.{name_cmp, same_name}
@@ -37,7 +37,11 @@ is_new_stand stands place = option_map_or (λ stand. not (list_any (same_name st
 abbrev pub is_one_stand_too_many : List (List ℕ) → Place → Bool
 is_one_stand_too_many stands place = is_new_stand stands place && nat_le 400 (distinct_count same_name stands)
 
--- the minutes of remote de-icing
+-- the minutes of de-icing on the stand, and of remote de-icing
+abbrev pub stand_minutes : Ice → ℕ
+stand_minutes (AtStand minutes) = minutes
+stand_minutes _ = 0
+
 abbrev pub remote_minutes : Ice → ℕ
 remote_minutes (Remote minutes) = minutes
 remote_minutes _ = 0

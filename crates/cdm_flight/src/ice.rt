@@ -1,4 +1,6 @@
 //! De-icing.
+ghost use Rattle.std.specs.Prelude.{◌≡◌, ◌≤◌};
+
 use crate::IceMinutes;
 
 /// Where a flight is de-iced and for how long (the manual's de-icing; the two places are local
@@ -11,4 +13,19 @@ pub enum Ice {
     AtStand(IceMinutes),
     /// On the way to the runway.
     Remote(IceMinutes),
+}
+
+impl Ice {
+    ghost use Rattle.cdm_flight.specs.Taxi.{stand_minutes};
+
+    /// The minutes of de-icing on the stand, 0 for a flight that isn't de-iced there.
+    pub fn minutes_on_stand(self) -> u16
+        ensures value { result ≡ stand_minutes self }
+        ensures range { result ≤ 60 }
+    {
+        match self {
+            Ice::AtStand(minutes) => minutes.get(),
+            Ice::NoIce | Ice::Remote(_) => 0,
+        }
+    }
 }

@@ -22,7 +22,7 @@ pub use flight::{Flight, Status};
 pub use group::Group;
 pub use ice::Ice;
 pub use key::{Key, before};
-pub use list::{Listed, push_last, push_reserved};
+pub use list::{Listed, push_last};
 pub use name::Name;
 pub use place::Place;
 pub use reach::Reach;

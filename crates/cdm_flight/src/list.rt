@@ -1,5 +1,5 @@
 //! Lists as contracts see them.
-ghost use Rattle.std.specs.Prelude.{◌≡◌, ◌==◌, ◌<◌, ◌++◌, [], ◌∷◌, List, OnOk, length, vec_len, vec_capacity};
+ghost use Rattle.std.specs.Prelude.{◌≡◌, ◌==◌, ◌++◌, [], ◌∷◌, List, OnOk, length};
 
 use std::alloc::AllocError;
 use std::marker::Model;
@@ -61,15 +61,4 @@ pub fn push_last<T: Copy>(items: &mut Vec<T>, item: T) -> Result<(), AllocError>
 {
     items.push(item)?;
     Ok(())
-}
-
-/// Puts one more item behind the others, for which there is room already, so that no memory is taken.
-pub fn push_reserved<T: Copy>(items: &mut Vec<T>, item: T)
-    requires { vec_len items.old < vec_capacity items.old }
-    ensures { items.new.items ≡ items.old.items ++ item ∷ [] }
-{
-    match items.push(item) {
-        Ok(()) => {}
-        Err(_) => unreachable!(),
-    }
 }

@@ -17,11 +17,11 @@ const MOST_CELLS: usize = HORIZON_MINUTES as usize;
 #[derive(Clone, Copy, PartialEq, Eq, Debug)]
 pub enum Blocked {
     /// The runway is closed at each of its minutes.
-    Closure = 1,
+    Closure,
     /// At some of its open minutes the flight meets no other one, and each of those is in a full cell.
-    Rate = 2,
+    Rate,
     /// The runway is open at some of its minutes, and at each of those the flight meets another one.
-    Spacing = 3,
+    Spacing,
 }
 
 /// A minute that a flight takes, and for how many minutes from it on it occupies the runway.
@@ -51,14 +51,6 @@ impl Model for RunwayLoad {
     ghost view = { λ l. record { cell = l.cell; taken = take l.len l.taken } };
 
     ghost invariant = { λ l. AreCounted l.cell l.len l.taken l.counts l.longest };
-}
-
-// The minute of a number.
-fn minute_at(number: u16) -> Minute
-    requires { number < 2880 }
-    ensures { result ≡ number }
-{
-    Minute::new(number).unwrap()
 }
 
 // The first minute after the minute's cell.
@@ -177,7 +169,7 @@ impl RunwayLoad {
         let mut number = window.from().get();
         let (mut some_open, mut some_spaced) = (false, false);
         while number < end {
-            let minute = minute_at(number);
+            let minute = Minute::at(number);
             if let Some(opening) = runway.closed_until(minute) {
                 number = opening;
                 continue;

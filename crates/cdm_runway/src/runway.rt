@@ -13,9 +13,9 @@ use std::marker::Model;
 #[derive(Clone, Copy, PartialEq, Eq, Debug)]
 pub enum RunwayFault {
     /// The window has no minute, or cuts a cell.
-    Order = 1,
+    Order,
     /// There was no memory for the change.
-    Memory = 2,
+    Memory,
 }
 
 impl From<AllocError> for RunwayFault {

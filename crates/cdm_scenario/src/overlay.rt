@@ -8,8 +8,9 @@ ghost use Rattle.cdm_scenario.specs.Overlay.{after_judged};
 mod records;
 
 use crate::changes::{change_over, set_over};
+use crate::scenario::push_reserved;
 use cdm_day::{Change, DayState, Records, Reply, Takes, judge, runway_named};
-use cdm_flight::{DayValues, Flight, FlightName, RefusalWord, RunwayName, Update, push_reserved};
+use cdm_flight::{DayValues, Flight, FlightName, RefusalWord, RunwayName, Update};
 use cdm_runway::Runway;
 use cdm_taxi::TaxiTable;
 use indexmap::IndexMap;

@@ -1,10 +1,10 @@
 //! Scenarios.
-ghost use Rattle.std.specs.Prelude.{◌≡◌, ◌≤◌, ◌↔◌, ◌++◌, [], ◌∷◌, Some, None, Err, OnOk, OnErr, if◌then◌else◌, nat_le, length};
+ghost use Rattle.std.specs.Prelude.{◌≡◌, ◌≤◌, ◌<◌, ◌↔◌, ◌++◌, [], ◌∷◌, Some, None, Err, OnOk, OnErr, if◌then◌else◌, nat_le, length, vec_len, vec_capacity};
 ghost use Rattle.cdm_scenario.specs.Scenarios.{empty_scenario};
 ghost use Rattle.cdm_scenario.specs.declared.scenario.ScenarioFault.TheVariants as ScenarioFault;
 
 use crate::ScenarioName;
-use cdm_flight::{Update, push_reserved};
+use cdm_flight::Update;
 use std::alloc::{AllocError, Global};
 use std::marker::Model;
 use thiserror::Error;
@@ -29,6 +29,14 @@ impl From<AllocError> for ScenarioFault {
     fn from(_error: AllocError) -> ScenarioFault {
         ScenarioFault::Memory
     }
+}
+
+/// Puts one more item behind the others, for which there is room already.
+pub(crate) fn push_reserved<T: Copy>(items: &mut Vec<T>, item: T)
+    requires { vec_len items.old < vec_capacity items.old }
+    ensures { items.new.items ≡ items.old.items ++ item ∷ [] }
+{
+    items.push_reserved(item);
 }
 
 /// A what-if question: what would the day be if these updates came now, by a role that may make all of

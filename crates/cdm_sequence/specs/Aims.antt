@@ -4,13 +4,11 @@ use Rattle.std.specs.Option.{IsSomeAnd, option_map_or}
 use Rattle.cdm_time.specs.Windows.{is_in_tolerance, window_has}
 use Rattle.cdm_time.specs.declared.bound.TheConstants.{HORIZON_MINUTES}
 use Rattle.cdm_time.specs.declared.tolerance.Tolerance.{Tolerance}
-use Rattle.cdm_flight.specs.declared.ice.Ice.{Ice}
-use Rattle.cdm_flight.specs.declared.ice.Ice.TheVariants.{AtStand}
 use Rattle.cdm_flight.specs.declared.place.Place.{Place}
 use Rattle.cdm_flight.specs.declared.values.DayValues.{DayValues}
 use Rattle.cdm_flight.specs.Record.{key_of}
 use Rattle.cdm_flight.specs.declared.flight.Flight.{Flight}
-use Rattle.cdm_flight.specs.Taxi.{taxi_out}
+use Rattle.cdm_flight.specs.Taxi.{stand_minutes, taxi_out}
 use Rattle.cdm_sequence.specs.declared.target.Target.{Target}
 use Rattle.cdm_sequence.specs.declared.aims.AimResult.{AimResult}
 use Rattle.cdm_sequence.specs.declared.aims.AimResult.TheVariants.{Ready, Early}
@@ -19,11 +17,6 @@ use Rattle.cdm_sequence.specs.declared.rule.Rule.TheVariants.{Tobt, Runway, Exot
 -- the taxi times from each place to each runway
 abbrev pub TaxiTimes : Type 0
 TaxiTimes = Place → List ℕ → Option ℕ
-
--- the minutes of de-icing on the stand
-abbrev pub stand_minutes : Ice → ℕ
-stand_minutes (AtStand minutes) = minutes
-stand_minutes _ = 0
 
 -- when the flight can leave its stand: after its TOBT and de-icing there, and not before now
 abbrev pub ready_at : Flight → ℕ → DayValues → ℕ

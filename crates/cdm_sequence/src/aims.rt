@@ -4,7 +4,7 @@ ghost use Rattle.std.specs.FinMap as map;
 ghost use Rattle.cdm_flight.specs.Record.{is_planned};
 
 use crate::{Rule, Target};
-use cdm_flight::{DayValues, Flight, Ice};
+use cdm_flight::{DayValues, Flight};
 use cdm_taxi::TaxiTable;
 use cdm_time::{Bound, Minute, Tolerance, Window, ctot_window};
 
@@ -17,19 +17,8 @@ pub enum AimResult {
     Early(Rule),
 }
 
-ghost use Rattle.cdm_sequence.specs.Aims.{stand_minutes, IsAim};
+ghost use Rattle.cdm_sequence.specs.Aims.{IsAim};
 ghost use Rattle.cdm_sequence.specs.inner.Candidates.{AreCandidates};
-
-// The minutes of de-icing on the stand.
-fn minutes_on_stand(ice: Ice) -> u16
-    ensures value { result ≡ stand_minutes ice }
-    ensures range { result ≤ 60 }
-{
-    match ice {
-        Ice::AtStand(minutes) => minutes.get(),
-        Ice::NoIce | Ice::Remote(_) => 0,
-    }
-}
 
 // The minutes of the horizon from the earliest on that keep the tolerance of the CTOT, if there are
 // any.
@@ -65,7 +54,7 @@ pub fn aim(flight: &Flight, taxi: &TaxiTable, values: DayValues) -> AimResult
     let Some(exot) = taxi.exot(flight.stand, runway, flight.ice) else {
         return AimResult::Early(Rule::Exot);
     };
-    let ready = (key.tobt.get() + minutes_on_stand(flight.ice)).max(values.clock.get());
+    let ready = (key.tobt.get() + flight.ice.minutes_on_stand()).max(values.clock.get());
     let Some(earliest) = Minute::new(ready + exot) else {
         return AimResult::Early(Rule::Horizon);
     };

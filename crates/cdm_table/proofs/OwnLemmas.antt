@@ -1,5 +1,5 @@
 -- A row under a scenario's name is the name, and then the row under none; and rows made of equal things.
-use Rattle.std.proofs.Common.{◌≡◌, ◌∙◌, ◌++◌, ◌==◌, ◌||◌, ◌&&◌, ◌+◌, ℕ, Bool, true, false, not, List, [], ◌∷◌, Option, None, Some, refl, sym, ap, rules, inl, inr, append_assoc}
+use Rattle.std.proofs.Common.{◌≡◌, ◌∙◌, ◌++◌, ◌==◌, ◌||◌, ◌&&◌, ◌+◌, ℕ, Bool, true, false, List, [], ◌∷◌, Option, None, Some, refl, sym, ap, rules, inl, inr, append_assoc}
 use Rattle.std.specs.Bool.{Decides}
 use Rattle.std.specs.List.{cons_option, list_all, list_any}
 use Rattle.std.specs.Option.{option_eq}
@@ -25,12 +25,11 @@ use Rattle.cdm_view.specs.declared.standing.Standing.{Standing}
 use Rattle.cdm_view.specs.Why.{group_letter}
 use Rattle.cdm_time.specs.declared.calendar.CalendarDate.{CalendarDate}
 use Rattle.std.specs.Fmt.{decimal}
+use Rattle.cdm_view.proofs.EqualLemmas.{equal_standings}
+use Rattle.cdm_table.specs.contracts.row.FlightFactsPartialEq.TheImpl as facts_eq
+use Rattle.cdm_table.specs.declared.row.FlightFacts.{FlightFacts}
 use Rattle.cdm_table.specs.Rows.{csv_text, flight_fields, flight_row, name_field, rows_of, standing_row, status_word, time_fields}
 use Rattle.cdm_table.proofs.LineLemmas.{filter_map-next}
-
-pub from_not : (b : Bool) → not b ≡ false → b ≡ true
-from_not true h = refl
-from_not false h = absurd (false≢true (sym h))
 
 -- Flights.
 
@@ -56,7 +55,7 @@ ices_decide a b = search rules
 statuses_decide : (a b : Status) → Decides ((status_eq.ghosts).eq a b) (a ≡ b)
 statuses_decide a b = search rules
 
-pub equal_flights : (f g : Flight) → (flight_eq.ghosts).eq f g ≡ true → f ≡ g
+equal_flights : (f g : Flight) → (flight_eq.ghosts).eq f g ≡ true → f ≡ g
 equal_flights f g h =
     let name = and_parts (same_name f.name g.name) _ h in
     let priority = and_parts (nat_eq f.priority g.priority) _ name.1 in
@@ -78,10 +77,20 @@ equal_flights f g h =
       status = (statuses_decide f.status g.status).0 group.1 i;
     }
 
-pub equal_exots : (a b : Option ℕ) → option_eq nat_eq a b ≡ true → a ≡ b
+equal_exots : (a b : Option ℕ) → option_eq nat_eq a b ≡ true → a ≡ b
 equal_exots None None h = refl
 equal_exots (Some a) (Some b) h = ap Some (same_number a b h)
 equal_exots _ _ h = absurd (false≢true h)
+
+pub equal_facts : (a b : FlightFacts) → (facts_eq.ghosts).eq a b ≡ true → a ≡ b
+equal_facts a b h =
+    let flight = and_parts ((flight_eq.ghosts).eq a.flight b.flight) _ h in
+    let exot = and_parts (option_eq nat_eq a.exot b.exot) _ flight.1 in
+    λ i. record {
+      flight = equal_flights a.flight b.flight flight.0 i;
+      exot = equal_exots a.exot b.exot exot.0 i;
+      standing = equal_standings a.standing b.standing exot.1 i;
+    }
 
 -- Names need no quotes.
 

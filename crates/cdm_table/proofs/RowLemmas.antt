@@ -14,7 +14,7 @@ use Rattle.cdm_plan.proofs.DayPlanLemmas.{record_name}
 use Rattle.cdm_view.specs.Standings.{AreStandings, flight_name}
 use Rattle.cdm_view.specs.declared.standing.Standing.{Standing}
 use Rattle.cdm_view.proofs.KnownLemmas.{each_recorded}
-use Rattle.cdm_table.specs.Rows.{exot_of, flight_fields, flight_of_row, flight_row, rows_of, standing_row}
+use Rattle.cdm_table.specs.Rows.{told_exot, flight_fields, flight_of_row, flight_row, rows_of, standing_row}
 
 module _ (d : DayRecord) (scenario : List ℕ) where
   abbrev Known : Standing → Type 0
@@ -26,7 +26,7 @@ module _ (d : DayRecord) (scenario : List ℕ) where
   named s rest known = by (flight_of d.airport d.journal (flight_name s)) refl known
     where
       by : (o : Option Flight) → flight_of d.airport d.journal (flight_name s) ≡ o → is_some o ≡ true
-          → map flight_of_row (cons_option (option_map (λ f. flight_row d.airport.day scenario f (exot_of d f s) s) o) rest) ≡ flight_name s ∷ map flight_of_row rest
+          → map flight_of_row (cons_option (option_map (λ f. flight_row d.airport.day scenario f (told_exot d f s) s) o) rest) ≡ flight_name s ∷ map flight_of_row rest
       by None e h = absurd (false≢true h)
       by (Some f) e h = ap (λ n. n ∷ map flight_of_row rest) (record_name d.airport d.journal (flight_name s) f e)
 

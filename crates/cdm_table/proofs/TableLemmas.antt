@@ -109,7 +109,7 @@ module _ (d : DayRecord) (runways : IsDistinct same_name (runway_names d.airport
       let own : a.own ≡ b.own = one_flight_rows d a.plan runways flights a.of_day [] a.own b.own a.rows rows_too in
       let answers : a.answers ≡ b.answers =
       one_each (AreScenarioRows d) (one_scenario_rows d runways flights) scenarios a.answers b.answers a.of_scenarios b.of_scenarios in
-      a.bytes ∙ ((λ i. csv_text (rows.heading ∷ []) ++ own i ++ concat (answers i)) ∙ sym b.bytes)
+      a.bytes ∙ ((λ i. csv_text (rows.column_names ∷ []) ++ own i ++ concat (answers i)) ∙ sym b.bytes)
 
   one_told_if : (before : List Standing) (asked : Option ScenarioRecord) (x y : List ℕ) → IsToldIf d before asked x → IsToldIf d before asked y → x ≡ y
   one_told_if before None x y a b = a ∙ sym b

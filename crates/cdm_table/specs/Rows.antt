@@ -59,14 +59,14 @@ rule_field (Blocked flight) = rule_text flight.rule
 rule_field standing = []
 
 -- the taxi-out time: that of a slot; of a blocked flight that from its stand to its runway, if it is known
-abbrev pub exot_of : DayRecord → Flight → Standing → Option ℕ
-exot_of d f (OnRunway runway slot) = Some slot.exot
-exot_of d f (Blocked flight) = option_and_then (exot_to (taxi_of d.airport d.journal) f) f.runway
-exot_of d f (Cancelled name) = None
+abbrev pub told_exot : DayRecord → Flight → Standing → Option ℕ
+told_exot d f (OnRunway runway slot) = Some slot.exot
+told_exot d f (Blocked flight) = option_and_then (exot_to (taxi_of d.airport d.journal) f) f.runway
+told_exot d f (Cancelled name) = None
 
 -- the first row names the columns
-unfoldable pub heading : List (List ℕ)
-heading =
+unfoldable pub column_names : List (List ℕ)
+column_names =
     codes "scenario" ∷ codes "flight" ∷ codes "status" ∷ codes "runway" ∷ codes "stand" ∷ codes "priority" ∷ codes "group"
     ∷ codes "tobt" ∷ codes "exot" ∷ codes "ctot" ∷ codes "tsat" ∷ codes "ttot" ∷ codes "delay" ∷ codes "rule" ∷ []
 
@@ -101,7 +101,7 @@ refused_row scenario word =
 -- the row of a standing, from what is known of its flight
 abbrev pub standing_row : DayRecord → List ℕ → Standing → Option (List (List ℕ))
 standing_row d scenario s =
-    option_map (λ f. flight_row d.airport.day scenario f (exot_of d f s) s) (flight_of d.airport d.journal (flight_name s))
+    option_map (λ f. flight_row d.airport.day scenario f (told_exot d f s) s) (flight_of d.airport d.journal (flight_name s))
 
 -- the rows of standings
 abbrev pub rows_of : DayRecord → List ℕ → List Standing → List (List (List ℕ))
@@ -123,7 +123,7 @@ AreRows d s (Refused number word) text = text ≡ csv_text (refused_row s.name w
 abbrev pub AreScenarioRows : DayRecord → ScenarioRecord → List ℕ → Type 0
 AreScenarioRows d s text = (o : Outcome) × IsOutcome d s.updates o × AreRows d s o text
 
--- the heading, the rows of the day itself, and those of each scenario
+-- the names of the columns, the rows of the day itself, and those of each scenario
 pub record IsCsv (d : DayRecord) (scenarios : List ScenarioRecord) (text : List ℕ) : Type 0 where
   pub plan : Plan
   pub of_day : IsDayPlan d plan
@@ -131,4 +131,4 @@ pub record IsCsv (d : DayRecord) (scenarios : List ScenarioRecord) (text : List 
   pub rows : AreFlightRows d plan [] own
   pub answers : List (List ℕ)
   pub of_scenarios : AllZip (AreScenarioRows d) scenarios answers
-  pub bytes : text ≡ csv_text (heading ∷ []) ++ own ++ concat answers
+  pub bytes : text ≡ csv_text (column_names ∷ []) ++ own ++ concat answers

@@ -10,7 +10,8 @@ use crate::changing::{Changed, changed_by};
 use crate::line::{Line, Summary};
 use cdm_day::{DayState, Records};
 use cdm_flight::push_last;
-use cdm_phase::{Gate, Job, PhaseName, Workers, run_phase};
+use cdm_phase::{Gate, Job, PhaseName, run_phase};
+use cdm_plan::Runner;
 use cdm_report::Counts;
 use cdm_scenario::Scenario;
 use cdm_view::Standings;
@@ -58,26 +59,25 @@ impl Job for SummaryJob<'_> {
 }
 
 /// What comes of each scenario over the base, in numbers, where the flights stand so before. Each is
-/// answered by one of so many workers in phase `Scenarios`, and every scenario is one piece.
+/// answered by one of the workers in phase `Scenarios`, and every scenario is one piece.
 pub(crate) fn summaries<R: Threads + Sync, G: Gate>(
-    rt: &R,
     alloc: Global,
     base: &DayState,
     before: &Standings,
     scenarios: &[Scenario],
-    workers: Workers,
-    gate: &G,
+    runner: &Runner<'_, R, G>,
 ) -> Result<Vec<Summary>, AllocError>
     ensures { IfOk result (λ summaries. AllZip (IsSummary base.now before.now) scenarios.now summaries.items) }
 {
     // What the base's records tell is sound, which makes each answer the only one.
     let _values = base.values();
     let job = SummaryJob { base, before };
+    let (rt, workers, gate) = (runner.rt, runner.workers, runner.gate);
     run_phase(rt, alloc, workers, 1, &job, scenarios, gate)
 }
 
 // The line of the scenario at a place of the file, which is counted from 0.
-fn line_of(place: usize, scenario: &Scenario, summary: &Summary) -> Line
+fn summary_line(place: usize, scenario: &Scenario, summary: &Summary) -> Line
     requires { place + 1 < 2 ^ 64 }
     ensures { result ≡ record { place = place + 1; name = Some scenario.now.name; summary = summary.now } }
 {
@@ -106,7 +106,7 @@ pub(crate) fn lines_of(
     };
     push_last(&mut lines, day)?;
     for place in 0..scenarios.len() {
-        let line = line_of(place, &scenarios[place], &summaries[place]);
+        let line = summary_line(place, &scenarios[place], &summaries[place]);
         push_last(&mut lines, line)?;
     }
     Ok(lines)

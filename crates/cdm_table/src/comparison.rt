@@ -9,7 +9,8 @@ use crate::changing::{Changed, changed_by};
 use crate::comparing::{lines_of, summaries};
 use crate::line::{Line, Summary, ranked};
 use cdm_day::DayState;
-use cdm_phase::{Gate, Workers};
+use cdm_phase::Gate;
+use cdm_plan::Runner;
 use cdm_report::{indicators, refused_text};
 use cdm_scenario::{Scenario, ScenarioName};
 use cdm_time::Day;
@@ -184,21 +185,19 @@ fn told(
 }
 
 /// A line for the day and for each scenario, the best first, and then what changes by the scenario that is
-/// asked for, if one is. Each scenario is answered over the base by one of so many workers in phase
+/// asked for, if one is. Each scenario is answered over the base by one of the workers in phase
 /// `Scenarios`, and every scenario is one piece.
 pub(crate) fn comparison<R: Threads + Sync, G: Gate>(
-    rt: &R,
     alloc: Global,
     base: &DayState,
     scenarios: &[Scenario],
     asked: Option<&Scenario>,
-    workers: Workers,
-    gate: &G,
+    runner: &Runner<'_, R, G>,
 ) -> Result<Vec<u8>, AllocError>
     ensures { IfOk result (λ text. IsComparison base.now scenarios.now (option_copied asked.entry) text.items) }
 {
     let before = Standings::of(alloc, base, base.plan())?;
-    let summaries = summaries(rt, alloc, base, &before, scenarios, workers, gate)?;
+    let summaries = summaries(alloc, base, &before, scenarios, runner)?;
     let lines = lines_of(alloc, indicators(base.plan()), scenarios, &summaries)?;
     let mut text = lines_text(alloc, &ranked(lines))?;
     text.extend_from_slice(&told(alloc, base, &before, asked)?)?;

@@ -5,16 +5,17 @@ ghost use Rattle.cdm_phase.specs.declared.job.PhaseName.TheVariants.{Scenarios};
 ghost use Rattle.cdm_plan.specs.DayPlan.{IsDayPlan};
 ghost use Rattle.cdm_plan.specs.Sound.{IsSound};
 ghost use Rattle.csv.specs.Writing.{default_writer, row_text};
-ghost use Rattle.cdm_table.specs.Rows.{AreFlightRows, AreScenarioRows, IsCsv, csv_text, flight_row, heading as columns, refused_row, standing_row};
+ghost use Rattle.cdm_table.specs.Rows.{AreFlightRows, AreScenarioRows, IsCsv, column_names, csv_text, flight_row, refused_row, standing_row};
 ghost use Rattle.cdm_table.specs.inner.OwnRows.{IsOwnRow, own_text};
 ghost use Rattle.cdm_table.specs.inner.OneTable.{one_scenario_rows};
 
-use crate::own_row::{OwnRow, exot_of, first_of, from_flight, own_rows};
-use crate::row::{heading, refused_row, set_flight};
+use crate::own_row::{OwnRow, facts_of, first_of, from_flight, own_rows};
+use crate::row::{FlightFacts, FlightWriter, column_names, refused_row};
 use crate::row_text::{Row, RowWriter};
 use cdm_day::{DayState, Records, plan_of};
-use cdm_flight::{Flight, Listed, RefusalWord};
-use cdm_phase::{Gate, Job, PhaseName, Workers, run_phase};
+use cdm_flight::{Listed, RefusalWord};
+use cdm_phase::{Gate, Job, PhaseName, run_phase};
+use cdm_plan::Runner;
 use cdm_scenario::{Overlay, Scenario, ScenarioName};
 use cdm_sequence::Plan;
 use cdm_time::Day;
@@ -25,57 +26,54 @@ use std::thread::Threads;
 /// For how many bytes the text of a scenario has room at first, for each flight of the day.
 const ROOM: usize = 120;
 
-// The row of a flight under a scenario's name, behind the others: the day's own with the name before it, where
-// it is the same, else written anew.
-fn push_flight(
-    alloc: Global,
-    text: &mut Vec<u8>,
-    writer: &mut RowWriter,
-    row: &mut Row,
+// The day of rows, and the scenario whose rows they are.
+#[derive(Clone, Copy)]
+struct Sheet<'a> {
     day: Day,
-    scenario: &ScenarioName,
-    flight: &Flight,
-    exot: Option<u16>,
-    standing: &Standing,
+    scenario: &'a ScenarioName,
+}
+
+// The row of a flight behind the others: the day's own with the scenario's name before it, where it is the same,
+// else written anew.
+fn push_flight(
+    text: &mut Vec<u8>,
+    writer: &mut FlightWriter,
+    sheet: &Sheet<'_>,
+    facts: &FlightFacts,
     own: Option<&OwnRow>,
 ) -> Result<(), AllocError>
-    requires { IfSome own (λ own. IsOwnRow day own.now) }
-    ensures { OnOk result (text.new.items ≡ text.old.items ++ row_text default_writer (flight_row day scenario.now flight.now exot standing.now)) }
+    requires { IfSome own (λ own. IsOwnRow sheet.now.day own.now) }
+    ensures { OnOk result (text.new.items ≡ text.old.items ++ row_text default_writer
+        (flight_row sheet.now.day sheet.now.scenario.now facts.now.flight facts.now.exot facts.now.standing)) }
 {
     if let Some(own) = own {
-        if own.is_of(flight, exot, standing) {
-            text.extend_from_slice(scenario.bytes())?;
+        if own.facts() == facts {
+            text.extend_from_slice(sheet.scenario.bytes())?;
             text.extend_from_slice(own.text())?;
             return Ok(());
         }
     }
-    set_flight(row, day, scenario.bytes(), flight, exot, standing)?;
-    writer.push_row(alloc, text, row)
+    writer.push(text, sheet.day, sheet.scenario.bytes(), facts)
 }
 
 // The row of a standing behind the others, if its flight is known.
 fn push_standing<R: Records>(
-    alloc: Global,
     text: &mut Vec<u8>,
-    writer: &mut RowWriter,
-    row: &mut Row,
-    day: Day,
+    writer: &mut FlightWriter,
+    sheet: &Sheet<'_>,
     records: &R,
-    scenario: &ScenarioName,
     standing: &Standing,
     own: Option<&OwnRow>,
 ) -> Result<(), AllocError>
-    requires day { day ≡ (R.day records.now).airport.day }
-    requires own { IfSome own (λ own. IsOwnRow day own.now) }
+    requires day { sheet.now.day ≡ (R.day records.now).airport.day }
+    requires own { IfSome own (λ own. IsOwnRow sheet.now.day own.now) }
     ensures { OnOk result (text.new.items ≡ text.old.items
-        ++ flat_map (row_text default_writer) (cons_option (standing_row (R.day records.now) scenario.now standing.now) [])) }
+        ++ flat_map (row_text default_writer) (cons_option (standing_row (R.day records.now) sheet.now.scenario.now standing.now) [])) }
 {
     match records.flight(standing.flight()) {
         Some(flight) => {
-            let exot = exot_of(records, flight, standing);
-            push_flight(
-                alloc, text, writer, row, day, scenario, flight, exot, standing, own,
-            )
+            let facts = facts_of(records, flight, standing);
+            push_flight(text, writer, sheet, &facts, own)
         }
         None => Ok(()),
     }
@@ -85,32 +83,27 @@ fn push_standing<R: Records>(
 // is gone through once.
 fn flight_rows<R: Records>(
     alloc: Global,
-    day: Day,
+    sheet: &Sheet<'_>,
     records: &R,
     plan: &Plan,
-    scenario: &ScenarioName,
     own: &[OwnRow],
 ) -> Result<Vec<u8>, AllocError>
-    requires day { day ≡ (R.day records.now).airport.day }
+    requires day { sheet.now.day ≡ (R.day records.now).airport.day }
     requires of_day { IsDayPlan (R.day records.now) plan.now }
-    requires own { All (IsOwnRow day) own.now }
-    ensures { IfOk result (λ text. AreFlightRows (R.day records.now) plan.entry.now scenario.now text.items) }
+    requires own { All (IsOwnRow sheet.now.day) own.now }
+    ensures { IfOk result (λ text. AreFlightRows (R.day records.now) plan.entry.now sheet.now.scenario.now text.items) }
 {
     let standings = Standings::of(alloc, records, plan)?;
-    let mut writer = RowWriter::new(alloc);
-    let mut row = Row::new(alloc)?;
+    let mut writer = FlightWriter::new(alloc)?;
     let mut text = Vec::with_capacity(alloc, own.len().saturating_mul(ROOM))?;
     let mut left = own;
     for standing in standings.as_slice() {
         left = from_flight(left, standing.flight());
         push_standing(
-            alloc,
             &mut text,
             &mut writer,
-            &mut row,
-            day,
+            sheet,
             records,
-            scenario,
             standing,
             first_of(left),
         )?;
@@ -152,7 +145,11 @@ fn scenario_rows(
     match Overlay::after(alloc, base, scenario.updates())? {
         Ok(day) => {
             let plan = plan_of(alloc, &day)?;
-            let text = flight_rows(alloc, *base.day(), &day, &plan, name, own)?;
+            let sheet = Sheet {
+                day: *base.day(),
+                scenario: name,
+            };
+            let text = flight_rows(alloc, &sheet, &day, &plan, own)?;
             Ok(text)
         }
         Err((_, word)) => {
@@ -193,10 +190,10 @@ impl Job for RowsJob<'_> {
 }
 
 // The row that names the columns.
-fn heading_text(alloc: Global) -> Result<Vec<u8>, AllocError>
-    ensures { IfOk result (λ text. text.items ≡ csv_text (columns ∷ [])) }
+fn column_text(alloc: Global) -> Result<Vec<u8>, AllocError>
+    ensures { IfOk result (λ text. text.items ≡ csv_text (column_names ∷ [])) }
 {
-    text_of(alloc, &heading(alloc)?)
+    text_of(alloc, &column_names(alloc)?)
 }
 
 // Puts the texts of rows behind what is there.
@@ -229,23 +226,22 @@ fn push_all(text: &mut Vec<u8>, answers: &[Listed<u8>]) -> Result<(), AllocError
 }
 
 /// Each flight's row by name, of the day and then of each scenario, as CSV. Each scenario is answered over
-/// the base by one of so many workers in phase `Scenarios`, and every scenario is one piece.
+/// the base by one of the workers in phase `Scenarios`, and every scenario is one piece.
 pub(crate) fn csv<R: Threads + Sync, G: Gate>(
-    rt: &R,
     alloc: Global,
     base: &DayState,
     scenarios: &[Scenario],
-    workers: Workers,
-    gate: &G,
+    runner: &Runner<'_, R, G>,
 ) -> Result<Vec<u8>, AllocError>
     ensures { IfOk result (λ text. IsCsv base.now scenarios.now text.items) }
 {
     // What the base's records tell is sound, which makes each answer the only one.
     let _values = base.values();
-    let mut text = heading_text(alloc)?;
+    let mut text = column_text(alloc)?;
     let own = own_rows(alloc, *base.day(), base, base.plan())?;
     push_own(&mut text, &own)?;
     let job = RowsJob { base, own: &own };
+    let (rt, workers, gate) = (runner.rt, runner.workers, runner.gate);
     let answers = run_phase(rt, alloc, workers, 1, &job, scenarios, gate)?;
     push_all(&mut text, &answers)?;
     Ok(text)

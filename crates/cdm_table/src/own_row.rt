@@ -1,14 +1,13 @@
 //! The rows of a day itself, which those of its scenarios mostly repeat.
-ghost use Rattle.std.specs.Prelude.{◌≡◌, ◌++◌, [], true, All, IfOk, IfSome, OnOk, flat_map};
+ghost use Rattle.std.specs.Prelude.{◌≡◌, ◌++◌, [], All, IfOk, IfSome, OnOk, flat_map};
 ghost use Rattle.std.specs.List.{cons_option};
 ghost use Rattle.csv.specs.Writing.{default_writer, row_text};
 ghost use Rattle.cdm_time.specs.declared.calendar.CalendarDate.{CalendarDate};
 ghost use Rattle.cdm_plan.specs.DayPlan.{IsDayPlan};
-ghost use Rattle.cdm_table.specs.Rows.{AreFlightRows, exot_of, rows_of, standing_row};
+ghost use Rattle.cdm_table.specs.Rows.{AreFlightRows, told_exot, rows_of, standing_row};
 ghost use Rattle.cdm_table.specs.inner.OwnRows.{IsOwnRow, own_text};
 
-use crate::row::set_flight;
-use crate::row_text::{Row, RowWriter};
+use crate::row::{FlightFacts, FlightWriter};
 use cdm_day::Records;
 use cdm_flight::{Flight, FlightName};
 use cdm_sequence::Plan;
@@ -22,37 +21,29 @@ const ROOM: usize = 128;
 /// The text of a flight's row under no scenario's name, and what it was made of.
 #[derive(Drop)]
 pub(crate) struct OwnRow {
-    flight: Flight,
-    exot: Option<u16>,
-    standing: Standing,
+    facts: FlightFacts,
     text: Vec<u8>,
 }
 
 impl OwnRow {
+    /// What the row was made of.
+    pub(crate) fn facts(&self) -> &FlightFacts
+        ensures { result.now ≡ self.now.facts }
+    {
+        &self.facts
+    }
+
     /// The row's text.
     pub(crate) fn text(&self) -> &[u8]
         ensures { result.now ≡ self.now.text.items }
     {
         &self.text
     }
-
-    /// Whether it was made of these.
-    pub(crate) fn is_of(&self, flight: &Flight, exot: Option<u16>, standing: &Standing) -> bool
-        ensures { result ≡ true → (self.now.flight ≡ flight.now) × (self.now.exot ≡ exot) × (self.now.standing ≡ standing.now) }
-    {
-        if self.flight != *flight {
-            return false;
-        }
-        if self.exot != exot {
-            return false;
-        }
-        self.standing == *standing
-    }
 }
 
-/// The flight's taxi-out time, if it has one.
-pub(crate) fn exot_of<R: Records>(records: &R, flight: &Flight, standing: &Standing) -> Option<u16>
-    ensures { result ≡ exot_of (R.day records.now) flight.now standing.now }
+// The flight's taxi-out time, if it has one.
+fn told_exot<R: Records>(records: &R, flight: &Flight, standing: &Standing) -> Option<u16>
+    ensures { result ≡ told_exot (R.day records.now) flight.now standing.now }
 {
     match standing {
         Standing::OnRunway(_, slot) => Some(slot.exot),
@@ -61,12 +52,26 @@ pub(crate) fn exot_of<R: Records>(records: &R, flight: &Flight, standing: &Stand
     }
 }
 
+/// What the row of a flight is made of.
+pub(crate) fn facts_of<R: Records>(records: &R, flight: &Flight, standing: &Standing) -> FlightFacts
+    ensures { result ≡ record {
+      flight = flight.now;
+      exot = told_exot (R.day records.now) flight.now standing.now;
+      standing = standing.now;
+    } }
+{
+    FlightFacts {
+        flight: *flight,
+        exot: told_exot(records, flight, standing),
+        standing: *standing,
+    }
+}
+
 // The own row of a standing behind the others, if its flight is known.
 fn push_own<R: Records>(
     alloc: Global,
     rows: &mut Vec<OwnRow>,
-    writer: &mut RowWriter,
-    row: &mut Row,
+    writer: &mut FlightWriter,
     day: Day,
     records: &R,
     standing: &Standing,
@@ -80,16 +85,10 @@ fn push_own<R: Records>(
     let Some(flight) = records.flight(standing.flight()) else {
         return Ok(());
     };
-    let exot = exot_of(records, flight, standing);
+    let facts = facts_of(records, flight, standing);
     let mut text = Vec::with_capacity(alloc, ROOM)?;
-    set_flight(row, day, b"", flight, exot, standing)?;
-    writer.push_row(alloc, &mut text, row)?;
-    rows.push(OwnRow {
-        flight: *flight,
-        exot,
-        standing: *standing,
-        text,
-    })?;
+    writer.push(&mut text, day, b"", &facts)?;
+    rows.push(OwnRow { facts, text })?;
     Ok(())
 }
 
@@ -106,19 +105,10 @@ pub(crate) fn own_rows<R: Records>(
     ensures text { IfOk result (λ rows. AreFlightRows (R.day records.now) plan.entry.now [] (own_text rows.items)) }
 {
     let standings = Standings::of(alloc, records, plan)?;
-    let mut writer = RowWriter::new(alloc);
-    let mut row = Row::new(alloc)?;
+    let mut writer = FlightWriter::new(alloc)?;
     let mut rows = Vec::new(alloc);
     for standing in standings.as_slice() {
-        push_own(
-            alloc,
-            &mut rows,
-            &mut writer,
-            &mut row,
-            day,
-            records,
-            standing,
-        )?;
+        push_own(alloc, &mut rows, &mut writer, day, records, standing)?;
     }
     Ok(rows)
 }
@@ -129,7 +119,7 @@ pub(crate) fn from_flight(rows: &[OwnRow], name: FlightName) -> &[OwnRow]
 {
     let below = rows
         .iter()
-        .take_while(|row| row.standing.flight() < name)
+        .take_while(|row| row.facts.standing.flight() < name)
         .count();
     &rows[below..]
 }

@@ -1,15 +1,24 @@
 //! The row of a flight, and of a scenario that is refused.
 ghost use Rattle.std.specs.Prelude.{◌≡◌, ◌++◌, [], IfOk, OnOk, unwrap_or};
 ghost use Rattle.std.specs.Option.{option_and_then, option_map};
-ghost use Rattle.cdm_table.specs.Rows.{flight_fields, flight_row, heading, name_field, refused_row, rule_field, slot_of, status_word, time_field, time_fields};
+ghost use Rattle.csv.specs.Writing.{default_writer, row_text};
+ghost use Rattle.cdm_table.specs.Rows.{flight_fields, flight_row, column_names, name_field, refused_row, rule_field, slot_of, status_word, time_field, time_fields};
 
-use crate::row_text::Row;
+use crate::row_text::{Row, RowWriter};
 use cdm_flight::{Flight, Name, RefusalWord};
 use cdm_scenario::ScenarioName;
 use cdm_sequence::Mark;
 use cdm_time::{Day, Minute};
 use cdm_view::{Standing, group_letter};
 use std::alloc::{AllocError, Global};
+
+/// What the row of a flight is made of: its last values, its taxi-out time, and where it stands.
+#[derive(Clone, Copy, PartialEq, Debug)]
+pub(crate) struct FlightFacts {
+    pub(crate) flight: Flight,
+    pub(crate) exot: Option<u16>,
+    pub(crate) standing: Standing,
+}
 
 // The word of how far a flight has come.
 fn status_word(standing: &Standing) -> &'static str
@@ -97,9 +106,9 @@ fn rule_field(standing: &Standing) -> &'static [u8]
 }
 
 /// The row that names the columns.
-#[tactic(auto, unfolding(crate::specs::Rows::heading))]
-pub(crate) fn heading(alloc: Global) -> Result<Row, AllocError>
-    ensures { IfOk result (λ row. row ≡ heading) }
+#[tactic(auto, unfolding(crate::specs::Rows::column_names))]
+pub(crate) fn column_names(alloc: Global) -> Result<Row, AllocError>
+    ensures { IfOk result (λ row. row ≡ column_names) }
 {
     Row::of(
         alloc,
@@ -124,17 +133,13 @@ pub(crate) fn heading(alloc: Global) -> Result<Row, AllocError>
 
 // A flight under a scenario's name, behind the other fields.
 #[tactic(auto, unfolding(crate::specs::Rows::flight_fields))]
-fn push_flight(
-    row: &mut Row,
-    scenario: &[u8],
-    flight: &Flight,
-    standing: &Standing,
-) -> Result<(), AllocError>
-    ensures { OnOk result (row.new ≡ row.old ++ flight_fields scenario.now flight.now standing.now) }
+fn push_flight(row: &mut Row, scenario: &[u8], facts: &FlightFacts) -> Result<(), AllocError>
+    ensures { OnOk result (row.new ≡ row.old ++ flight_fields scenario.now facts.now.flight facts.now.standing) }
 {
+    let flight = &facts.flight;
     row.push(scenario)?;
     row.push(flight.name.bytes())?;
-    row.push(status_word(standing).as_bytes())?;
+    row.push(status_word(&facts.standing).as_bytes())?;
     row.push(name_field(&flight.runway))?;
     row.push(name_field(&flight.stand))?;
     row.push_number(Some(u16::from(flight.priority.get())))?;
@@ -143,21 +148,20 @@ fn push_flight(
 
 // A flight's times, behind the other fields.
 #[tactic(auto, unfolding(crate::specs::Rows::time_fields))]
-fn push_times(
-    row: &mut Row,
-    day: Day,
-    flight: &Flight,
-    exot: Option<u16>,
-    standing: &Standing,
-) -> Result<(), AllocError>
-    ensures { OnOk result (row.new ≡ row.old ++ time_fields day flight.now exot standing.now) }
+fn push_times(row: &mut Row, day: Day, facts: &FlightFacts) -> Result<(), AllocError>
+    ensures { OnOk result (row.new ≡ row.old ++ time_fields day facts.now.flight facts.now.exot facts.now.standing) }
 {
+    let FlightFacts {
+        flight,
+        exot,
+        standing,
+    } = facts;
     let tobt = time_field(day, flight.tobt);
     let ctot = time_field(day, flight.ctot);
     let tsat = time_field(day, tsat_of(standing));
     let ttot = time_field(day, ttot_of(standing));
     row.push(bytes_of(&tobt))?;
-    row.push_number(exot)?;
+    row.push_number(*exot)?;
     row.push(bytes_of(&ctot))?;
     row.push(bytes_of(&tsat))?;
     row.push(bytes_of(&ttot))?;
@@ -165,20 +169,52 @@ fn push_times(
     row.push(rule_field(standing))
 }
 
-/// Makes the row that of a flight, under a scenario's name or under none.
-pub(crate) fn set_flight(
+// Makes the row that of a flight, under a scenario's name or under none.
+fn set_flight(
     row: &mut Row,
     day: Day,
     scenario: &[u8],
-    flight: &Flight,
-    exot: Option<u16>,
-    standing: &Standing,
+    facts: &FlightFacts,
 ) -> Result<(), AllocError>
-    ensures { OnOk result (row.new ≡ flight_row day scenario.now flight.now exot standing.now) }
+    ensures { OnOk result (row.new ≡ flight_row day scenario.now facts.now.flight facts.now.exot facts.now.standing) }
 {
     row.clear();
-    push_flight(row, scenario, flight, standing)?;
-    push_times(row, day, flight, exot, standing)
+    push_flight(row, scenario, facts)?;
+    push_times(row, day, facts)
+}
+
+/// Writes rows of flights, each over the one before.
+#[derive(Drop)]
+pub(crate) struct FlightWriter {
+    alloc: Global,
+    row: Row,
+    writer: RowWriter,
+}
+
+impl FlightWriter {
+    /// A writer that has written nothing.
+    pub(crate) fn new(alloc: Global) -> Result<FlightWriter, AllocError> {
+        Ok(FlightWriter {
+            alloc,
+            row: Row::new(alloc)?,
+            writer: RowWriter::new(alloc),
+        })
+    }
+
+    /// Puts the row of a flight behind the text, under a scenario's name or under none.
+    pub(crate) fn push(
+        &mut self,
+        text: &mut Vec<u8>,
+        day: Day,
+        scenario: &[u8],
+        facts: &FlightFacts,
+    ) -> Result<(), AllocError>
+        ensures { OnOk result (text.new.items ≡ text.old.items
+            ++ row_text default_writer (flight_row day scenario.now facts.now.flight facts.now.exot facts.now.standing)) }
+    {
+        set_flight(&mut self.row, day, scenario, facts)?;
+        self.writer.push_row(self.alloc, text, &self.row)
+    }
 }
 
 /// The row of a scenario that is refused, with its word.

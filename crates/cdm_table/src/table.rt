@@ -6,7 +6,8 @@ ghost use Rattle.cdm_table.specs.declared.table.TableFault.TheVariants as fault;
 use crate::comparison::{comparison, scenario_named};
 use crate::csv_rows::csv;
 use cdm_day::{DayState, Records};
-use cdm_phase::{Gate, Workers};
+use cdm_phase::Gate;
+use cdm_plan::Runner;
 use cdm_scenario::{Scenario, ScenarioName};
 use std::alloc::{AllocError, Global};
 use std::thread::Threads;
@@ -41,18 +42,16 @@ impl From<AllocError> for TableFault {
 /// The table of a day and scenarios over it: as CSV each known flight's row by name, of the day and then of
 /// each scenario (`each_flight_has_one_row`), or the scenarios side by side, the best first: fewer blocked
 /// flights, then less delay, then the order of the file, in which the day itself is first; and behind them
-/// those that are refused (local profile). Each scenario is answered over the base, by one of so many workers
+/// those that are refused (local profile). Each scenario is answered over the base, by one of the workers
 /// in phase `Scenarios`, and every scenario is one piece.
 ///
 /// `NoScenario` where none of them has the name that is asked for, and else only `Memory`.
 pub fn tabulate<R: Threads + Sync, G: Gate>(
-    rt: &R,
     alloc: Global,
     base: &DayState,
     scenarios: &[Scenario],
     table: Table,
-    workers: Workers,
-    gate: &G,
+    runner: &Runner<'_, R, G>,
 ) -> Result<Vec<u8>, TableFault>
     ensures table { IfOk result (λ text. IsTable table base.now scenarios.now text.items) }
     ensures only { IfOk result (λ text. (other : List ℕ) → IsTable table base.now scenarios.now other → other ≡ text.items) }
@@ -61,7 +60,7 @@ pub fn tabulate<R: Threads + Sync, G: Gate>(
     // What the base's records tell is sound, which makes the table the only one.
     let _values = base.values();
     let asked = match table {
-        Table::Csv => return Ok(csv(rt, alloc, base, scenarios, workers, gate)?),
+        Table::Csv => return Ok(csv(alloc, base, scenarios, runner)?),
         Table::Comparison(asked) => asked,
     };
     let scenario = match asked {
@@ -71,5 +70,5 @@ pub fn tabulate<R: Threads + Sync, G: Gate>(
         },
         None => None,
     };
-    Ok(comparison(rt, alloc, base, scenarios, scenario, workers, gate)?)
+    Ok(comparison(alloc, base, scenarios, scenario, runner)?)
 }

@@ -1,14 +1,15 @@
 //! Taxi times by place and runway.
-ghost use Rattle.std.specs.Prelude.{◌≡◌, ℕ, ◌≤◌, ◌↔◌, ◌&&◌, List, not, Ok, Err, None, Some, IfOk, IfSome, OnOk, OnErr, IsTrue, if◌then◌else◌};
+ghost use Rattle.std.specs.Prelude.{◌≡◌, ℕ, ◌≤◌, ◌↔◌, ◌&&◌, List, false, not, Ok, Err, None, Some, IfOk, IfSome, OnOk, OnErr, IsTrue, if◌then◌else◌};
 ghost use Rattle.std.specs.FinMap as map;
+ghost use Rattle.cdm_flight.specs.declared.place.Place.TheVariants as place;
 ghost use Rattle.cdm_flight.specs.Names.{same_name};
-ghost use Rattle.cdm_flight.specs.Taxi.{taxi_out};
 ghost use Rattle.cdm_flight.specs.Journal.{same_place};
-ghost use Rattle.cdm_flight.specs.Taxi.{is_one_stand_too_many, stands_in};
+ghost use Rattle.cdm_flight.specs.Taxi.{is_new_stand, is_one_stand_too_many, stands_in, taxi_out};
+ghost use Rattle.cdm_taxi.specs.Stands.{has_row, stand_count};
 
-use crate::rows::Rows;
 use cdm_flight::{Ice, Place, RunwayName, StandName, TaxiMinutes};
 use std::alloc::{AllocError, Global};
+use std::collections::{BTreeMap, BTreeSet};
 use std::marker::Model;
 
 /// How many stands may have taxi times (local profile).
@@ -18,9 +19,9 @@ pub const MOST_STANDS: usize = 400;
 #[derive(Clone, Copy, PartialEq, Eq, Debug)]
 pub enum TaxiFault {
     /// The stand has no taxi time, and 400 others have.
-    Full = 1,
+    Full,
     /// There was no memory for the row.
-    Memory = 2,
+    Memory,
 }
 
 impl From<AllocError> for TaxiFault {
@@ -37,7 +38,9 @@ impl From<AllocError> for TaxiFault {
 /// variable taxi times).
 #[derive(Debug, Drop)]
 pub struct TaxiTable {
-    rows: Rows,
+    minutes: BTreeMap<(Place, RunwayName), TaxiMinutes>,
+    // The stands that have taxi times.
+    stands: BTreeSet<StandName>,
 }
 
 impl Model for TaxiTable {
@@ -45,12 +48,25 @@ impl Model for TaxiTable {
     ghost use Rattle.std.specs.Coded.{coded_ℕ};
     ghost use Rattle.cdm_flight.specs.Taxi.{TaxiRows};
     ghost use Rattle.cdm_taxi.specs.inner.Keys.{key_code};
+    ghost use Rattle.cdm_taxi.specs.inner.StandSet.{AreStandsOf};
 
     ghost Value = { TaxiRows };
 
     ghost coded = { map.code key_code coded_ℕ };
 
-    ghost view = { λ t. t.rows };
+    ghost view = { λ t. map.from_entries t.minutes.entries };
+
+    ghost invariant = { λ t. AreStandsOf (map.from_entries t.minutes.entries) t.stands };
+}
+
+// Whether the taxi times are those of the other.
+fn is_same_times(
+    one: &BTreeMap<(Place, RunwayName), TaxiMinutes>,
+    other: &BTreeMap<(Place, RunwayName), TaxiMinutes>,
+) -> bool
+    ensures { IsTrue result ↔ (one.now.entries ≡ other.now.entries) }
+{
+    one == other
 }
 
 impl TaxiTable {
@@ -59,7 +75,8 @@ impl TaxiTable {
         ensures { result ≡ map.empty }
     {
         TaxiTable {
-            rows: Rows::empty(alloc),
+            minutes: BTreeMap::new(alloc),
+            stands: BTreeSet::new(alloc),
         }
     }
 
@@ -67,7 +84,31 @@ impl TaxiTable {
     pub fn minutes(&self, place: Place, runway: RunwayName) -> Option<TaxiMinutes>
         ensures { result ≡ map.get self.now (place, runway) }
     {
-        self.rows.get(place, runway)
+        self.minutes.get(&(place, runway)).copied()
+    }
+
+    // How many stands have rows.
+    fn stands(&self) -> usize
+        ensures { result ≡ stand_count self.now }
+    {
+        self.stands.len()
+    }
+
+    // Whether the stand has a row.
+    fn has_row(&self, stand: StandName) -> bool
+        ensures { result ≡ has_row self.now stand }
+    {
+        self.stands.contains(&stand)
+    }
+
+    // Whether the place is a stand without a row.
+    fn is_new_stand(&self, place: &Place) -> bool
+        ensures { result ≡ is_new_stand (stands_in self.now) place.now }
+    {
+        match place {
+            Place::Default => false,
+            Place::Stand(stand) => !self.has_row(*stand),
+        }
     }
 
     /// Whether a taxi time from the place may be set: not from a stand without one where 400 stands
@@ -75,7 +116,50 @@ impl TaxiTable {
     pub fn fits(&self, place: Place) -> bool
         ensures { result ≡ not (is_one_stand_too_many (stands_in self.now) place) }
     {
-        self.rows.stands() < MOST_STANDS || !self.rows.is_new_stand(&place)
+        self.stands() < MOST_STANDS || !self.is_new_stand(&place)
+    }
+
+    // Writes a row, in place of an older one.
+    fn put(
+        &mut self,
+        place: Place,
+        runway: RunwayName,
+        minutes: TaxiMinutes,
+    ) -> Result<(), AllocError>
+        ensures ok { OnOk result (self.new ≡ map.insert self.old (place, runway) minutes) }
+        ensures err { OnErr result (self.new ≡ self.old) }
+        ensures new_row { OnErr result (map.get self.old (place, runway) ≡ None) }
+    {
+        if !self.is_new_stand(&place) {
+            self.minutes.insert((place, runway), minutes)?;
+            return Ok(());
+        }
+        let Place::Stand(stand) = place else {
+            unreachable!()
+        };
+        self.put_first(stand, runway, minutes)
+    }
+
+    // Writes the first row of a stand.
+    fn put_first(
+        &mut self,
+        stand: StandName,
+        runway: RunwayName,
+        minutes: TaxiMinutes,
+    ) -> Result<(), AllocError>
+        requires { has_row self.old stand ≡ false }
+        ensures ok { OnOk result (self.new ≡ map.insert self.old (place.Stand stand, runway) minutes) }
+        ensures err { OnErr result (self.new ≡ self.old) }
+        ensures new_row { OnErr result (map.get self.old (place.Stand stand, runway) ≡ None) }
+    {
+        self.stands.insert(stand)?;
+        match self.minutes.insert((Place::Stand(stand), runway), minutes) {
+            Ok(_) => Ok(()),
+            Err(_) => {
+                self.stands.remove(&stand);
+                Err(AllocError)
+            }
+        }
     }
 
     /// Sets the taxi time from the place to the runway, in place of an older one.
@@ -95,10 +179,10 @@ impl TaxiTable {
         ensures rows { OnOk result ((p : Place) (r : List ℕ) → map.get self.new (p, r) ≡
             (if same_place place p && same_name runway r then Some minutes else map.get self.old (p, r))) }
     {
-        if self.rows.is_new_stand(&place) && self.rows.stands() >= MOST_STANDS {
+        if self.is_new_stand(&place) && self.stands() >= MOST_STANDS {
             return Err(TaxiFault::Full);
         }
-        self.rows.put(place, runway, minutes)?;
+        self.put(place, runway, minutes)?;
         Ok(())
     }
 
@@ -128,14 +212,15 @@ impl TaxiTable {
     pub fn is_same(&self, other: &TaxiTable) -> bool
         ensures { IsTrue result ↔ (self.now ≡ other.now) }
     {
-        self.rows.is_same(&other.rows)
+        self.minutes.len() == other.minutes.len() && is_same_times(&self.minutes, &other.minutes)
     }
 
     /// A copy of the table. Its memory comes from where the table's own does.
     pub fn copy(&self) -> Result<TaxiTable, AllocError>
         ensures { IfOk result (λ t. t ≡ self.now) }
     {
-        let rows = self.rows.copy()?;
-        Ok(TaxiTable { rows })
+        let minutes = self.minutes.clone()?;
+        let stands = self.stands.clone()?;
+        Ok(TaxiTable { minutes, stands })
     }
 }

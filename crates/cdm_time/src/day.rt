@@ -11,9 +11,9 @@ use std::marker::Model;
 #[derive(Clone, Copy, PartialEq, Eq, Debug)]
 pub enum TimeFault {
     /// The text hasn't the form, or names a date or a time of the day that doesn't exist.
-    Text = 1,
+    Text,
     /// The text names a day or a time that is out of range.
-    Range = 2,
+    Range,
 }
 
 /// The airport's day, a date of the years 2000 to 2099. The horizon begins at its 00:00 UTC and ends

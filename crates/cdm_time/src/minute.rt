@@ -40,6 +40,14 @@ impl Minute {
         }
     }
 
+    /// The minute of a number that is below 2,880.
+    pub fn at(number: u16) -> Minute
+        requires { number < 2880 }
+        ensures { result ≡ number }
+    {
+        Minute { number }
+    }
+
     /// The minute's number.
     pub fn get(self) -> u16
         ensures value { result ≡ self }

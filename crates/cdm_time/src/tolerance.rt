@@ -26,6 +26,8 @@ impl Model for Tolerance {
 }
 
 impl Tolerance {
+    ghost use Rattle.cdm_time.specs.Windows.{usual_tolerance};
+
     /// The tolerance of so many minutes before the CTOT and after it, or None above 15 before or
     /// above 30 after.
     pub fn new(before: u16, after: u16) -> Option<Tolerance>
@@ -40,7 +42,7 @@ impl Tolerance {
 
     /// The usual one: 5 minutes before and 10 after (the manual's slot tolerance window).
     pub fn usual() -> Tolerance
-        ensures { result ≡ record { before = 5; after = 10 } }
+        ensures { result ≡ usual_tolerance }
     {
         Tolerance {
             before: 5,

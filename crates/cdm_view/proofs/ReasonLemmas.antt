@@ -13,7 +13,8 @@ use Rattle.cdm_plan.proofs.PlanWords.{RunwayRules, Slot}
 use Rattle.cdm_time.specs.Windows.{is_in_tolerance}
 use Rattle.cdm_runway.specs.Room.{cap_at, held_in_cell, is_closed, meets, taken_by, IsSpaced}
 use Rattle.cdm_runway.specs.declared.load.Taken.{Taken}
-use Rattle.cdm_sequence.specs.Aims.{is_candidate, ready_at, stand_minutes}
+use Rattle.cdm_flight.specs.Taxi.{stand_minutes}
+use Rattle.cdm_sequence.specs.Aims.{is_candidate, ready_at}
 use Rattle.cdm_sequence.specs.declared.rule.Rule.{Rule}
 use Rattle.cdm_sequence.specs.declared.rule.Rule.TheVariants as rule
 use Rattle.cdm_view.specs.Reasons.{reason_at, Waiting, held_at, met_at}

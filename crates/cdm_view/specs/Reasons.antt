@@ -12,7 +12,8 @@ use Rattle.cdm_flight.specs.Record.{key_of}
 use Rattle.cdm_flight.specs.declared.flight.Flight.{Flight}
 use Rattle.cdm_runway.specs.Rules.{RunwayRules}
 use Rattle.cdm_runway.specs.Room.{cap_at, is_closed, meets, taken_by}
-use Rattle.cdm_sequence.specs.Aims.{exot_to, stand_minutes}
+use Rattle.cdm_flight.specs.Taxi.{stand_minutes}
+use Rattle.cdm_sequence.specs.Aims.{exot_to}
 use Rattle.cdm_sequence.specs.Slots.{is_fixed}
 use Rattle.cdm_sequence.specs.declared.plan.Plan.{Plan}
 use Rattle.cdm_sequence.specs.declared.slot.Slot.{Slot}

@@ -14,21 +14,13 @@ pub fn cell_count(runway: &Runway) -> u16
     HORIZON_MINUTES / runway.cell().get()
 }
 
-// The minute of a number.
-fn minute_at(number: u16) -> Minute
-    requires { number < 2880 }
-    ensures { result ≡ number }
-{
-    Minute::new(number).unwrap()
-}
-
 /// The cell's first minute.
 pub fn first_minute(runway: &Runway, cell: u16) -> Minute
     requires { cell < 2880 / runway.now.cell }
     ensures value { result ≡ cell * runway.now.cell }
     ensures whole { cell * runway.now.cell + runway.now.cell ≤ 2880 }
 {
-    minute_at(cell * runway.cell().get())
+    Minute::at(cell * runway.cell().get())
 }
 
 /// Whether the flight takes off in the cell.
@@ -57,7 +49,7 @@ pub fn closed_in_cell(runway: &Runway, cell: u16) -> u16
     let end = first + runway.cell().get();
     let mut closed = 0;
     for number in first..end {
-        if runway.closed(minute_at(number)) {
+        if runway.closed(Minute::at(number)) {
             closed += 1;
         }
     }

@@ -4,13 +4,13 @@ ghost use Rattle.std.specs.Option.{ForSome, option_map_or};
 ghost use Rattle.cdm_time.specs.Windows.{is_in_tolerance};
 ghost use Rattle.cdm_flight.specs.Journal.{taxi_of};
 ghost use Rattle.cdm_runway.specs.Room.{meets, taken_by};
-ghost use Rattle.cdm_sequence.specs.Aims.{exot_to, stand_minutes};
+ghost use Rattle.cdm_sequence.specs.Aims.{exot_to};
 ghost use Rattle.cdm_view.specs.Reasons.{held_at, is_earlier, met_at, names_of, reason_at, waiting_of};
 
 use crate::reason::Reason;
 use crate::slots::slots_on;
 use cdm_day::runway_named;
-use cdm_flight::{DayValues, Flight, FlightName, Ice, Key, Listed, RunwayName, before, push_last};
+use cdm_flight::{DayValues, Flight, FlightName, Key, Listed, RunwayName, before, push_last};
 use cdm_plan::Records;
 use cdm_runway::Runway;
 use cdm_sequence::{Mark, Plan, Slot};
@@ -46,17 +46,6 @@ impl<'a> Model for Waiting<'a> {
     } };
 
     ghost invariant = { λ w. w.exot ≤ 180 };
-}
-
-// The minutes of de-icing on the stand.
-fn minutes_on_stand(ice: Ice) -> u16
-    ensures value { result ≡ stand_minutes ice }
-    ensures range { result ≤ 60 }
-{
-    match ice {
-        Ice::AtStand(minutes) => minutes.get(),
-        Ice::NoIce | Ice::Remote(_) => 0,
-    }
 }
 
 impl Waiting<'_> {
@@ -114,7 +103,7 @@ impl Waiting<'_> {
     {
         let flight = self.flight;
         let number = minute.get();
-        if number < self.tobt.get() + minutes_on_stand(flight.ice) + self.exot {
+        if number < self.tobt.get() + flight.ice.minutes_on_stand() + self.exot {
             return Ok(Some(Reason::Ice));
         }
         if number < self.values.clock.get() + self.exot {

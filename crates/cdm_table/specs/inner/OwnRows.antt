@@ -7,7 +7,7 @@ use Rattle.cdm_table.specs.declared.own_row.OwnRow.{OwnRow}
 
 -- the text is that of the flight's row under no scenario's name
 abbrev pub IsOwnRow : CalendarDate → OwnRow → Type 0
-IsOwnRow day own = own.text.items ≡ row_text default_writer (flight_row day [] own.flight own.exot own.standing)
+IsOwnRow day own = own.text.items ≡ row_text default_writer (flight_row day [] own.facts.flight own.facts.exot own.facts.standing)
 
 -- the texts, one after another
 abbrev pub own_text : List OwnRow → List ℕ

@@ -15,10 +15,10 @@ loop-place-preserved c =
     let xs = c.args.summaries.now in
     let k = c.loop-place.place in
     let s = c.index-scenarios-place.result in
-    let x = c.line_of-line.result.summary in
+    let x = c.summary_line-line.result.summary in
     let at = slice_get_read ss (length ss) k s refl c.loop-place-test.true c.index-scenarios-place.is in
-    let own = ap (λ (l : Line). l.summary) c.line_of-line.ensures in
+    let own = ap (λ (l : Line). l.summary) c.summary_line-line.ensures in
     let also = slice_get-get_or xs k _ (omega (arith, c.requires, c.loop-place-test.true)) ∙ ap Some (sym own) in
     let next = one_more_line c.args.counts ss xs k s x c.requires c.loop-place-test.true at also in
-    let line : c.line_of-line.result ≡ line_at (k + 1) s x = c.line_of-line.ensures ∙ sym (ap (line_at (k + 1) s) own) in
+    let line : c.summary_line-line.result ≡ line_at (k + 1) s x = c.summary_line-line.ensures ∙ sym (ap (line_at (k + 1) s) own) in
     c.in_ok-push_last-2.ensures ∙ ((λ i. c.loop-place.invariant i ++ line i ∷ []) ∙ sym next)

@@ -8,7 +8,7 @@ loop-number-preserved-in-Some-met_until c =
     let inv = c.loop-number.invariant in
     let met = c.in-Some-met_until.ensures in
     let number = c.loop-number.number in
-    let is = c.minute_at-minute.ensures in
+    let is = c.at-minute.ensures in
     let after = met.0 in
     record {
       begun = omega arith;

@@ -11,7 +11,7 @@ put-requires-2 c =
 
 pub invariant_of-self-in-Some : goal.invariant_of-self-in-Some
 invariant_of-self-in-Some c =
-    rw (c.push_reserved.ensures, c.make_room.ensures.items, c.in-Some.ensures.value)
+    rw (c.push_reserved.ensures.items, c.make_room.ensures.items, c.in-Some.ensures.value)
     (told_after _ c.args.update c.self.inside.parts c.self.invariant (rw (← c.self.view_is) at c.requires.accepted) c.args.change _ (rw (← c.self.view_is) at c.requires.change) c.in_ok-put.ensures.ok)
 
 pub invariant_of-self-2 : goal.invariant_of-self-2

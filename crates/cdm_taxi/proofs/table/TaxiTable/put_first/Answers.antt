@@ -5,7 +5,7 @@ use Rattle.cdm_taxi.specs.Stands.{has_row}
 use Rattle.cdm_taxi.specs.inner.StandSet.{AreStandsOf}
 use Rattle.cdm_taxi.proofs.RowLemmas.{OnErr-from, rows_of, rows_of-insert}
 use Rattle.cdm_taxi.proofs.StandLemmas.{no_row_of_stand, are_stands_of-insert_new, are_stands_of-taken_back}
-use Rattle.cdm_taxi.proofs.rows.Rows.put_first.Goals as goal
+use Rattle.cdm_taxi.proofs.table.TaxiTable.put_first.Goals as goal
 
 pub returns-in_err-insert-clause-new_row : goal.returns-in_err-insert-clause-new_row
 returns-in_err-insert-clause-new_row c = OnErr-from c.from_residual.result (no_row_of_stand c.args.self.now c.args.stand c.args.runway c.requires)

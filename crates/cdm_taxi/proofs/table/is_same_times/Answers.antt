@@ -4,7 +4,7 @@ use Rattle.cdm_flight.specs.contracts.place.PlacePartialEq.TheImpl as place_eq
 use Rattle.cdm_flight.specs.contracts.units.TaxiMinutesPartialEq.TheImpl as minutes_eq
 use Rattle.cdm_flight.specs.Names.{same_name}
 use Rattle.cdm_taxi.proofs.RowLemmas.{Key}
-use Rattle.cdm_taxi.proofs.rows.is_same_times.Goals as goal
+use Rattle.cdm_taxi.proofs.table.is_same_times.Goals as goal
 
 -- equality of keys as it is derived for a place and a name
 abbrev same_key : Key → Key → Bool

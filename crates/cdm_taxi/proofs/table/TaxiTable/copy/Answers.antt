@@ -1,6 +1,6 @@
 use Rattle.std.proofs.lemmas.List.Elements.{same_from_all_zip}
 use Rattle.cdm_taxi.proofs.RowLemmas.{entries-clone}
-use Rattle.cdm_taxi.proofs.rows.Rows.copy.Goals as goal
+use Rattle.cdm_taxi.proofs.table.TaxiTable.copy.Goals as goal
 
 pub invariant_of-result : goal.invariant_of-result
 invariant_of-result c = λ stand.
