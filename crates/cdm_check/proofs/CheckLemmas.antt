@@ -1,8 +1,8 @@
 -- The first fault of a check.
-use Rattle.cdm_feed.specs.CommonFaults.{IsFirstInputFault}
-use Rattle.cdm_feed.specs.Readings.{AreRead, Reading}
-use Rattle.cdm_feed.specs.declared.common_fault.CommonFault.{CommonFault}
-use Rattle.cdm_feed.specs.declared.common_fault.CommonFault.TheVariants as common
+use Rattle.cdm_files.specs.CommonFaults.{IsFirstInputFault}
+use Rattle.cdm_files.specs.Readings.{AreRead, Reading}
+use Rattle.cdm_files.specs.declared.common_fault.CommonFault.{CommonFault}
+use Rattle.cdm_files.specs.declared.common_fault.CommonFault.TheVariants as common
 use Rattle.cdm_check.specs.CheckFaults.{IsFirstFault}
 
 -- a fault of the inputs is the first

@@ -1,9 +1,9 @@
 -- What each fault of a check says.
 use Rattle.std.specs.Prelude.{⊤, Bool, true, false, Result, Err}
-use Rattle.cdm_feed.specs.CommonFaults.{IsFirstCommonFault}
-use Rattle.cdm_feed.specs.Readings.{Reading}
-use Rattle.cdm_feed.specs.declared.common_fault.CommonFault.{CommonFault}
-use Rattle.cdm_feed.specs.declared.common_fault.CommonFault.TheVariants as common
+use Rattle.cdm_files.specs.CommonFaults.{IsFirstCommonFault}
+use Rattle.cdm_files.specs.Readings.{Reading}
+use Rattle.cdm_files.specs.declared.common_fault.CommonFault.{CommonFault}
+use Rattle.cdm_files.specs.declared.common_fault.CommonFault.TheVariants as common
 
 -- the first fault of a check: a faulty record is a finding, and no fault
 abbrev pub IsFirstFault : Reading → Reading → Reading → CommonFault → Type 0

@@ -2,10 +2,10 @@
 ghost use Rattle.std.specs.Prelude.{◌≡◌, ◌≤◌, ◌+◌, ◌++◌, ◌∷◌, ℕ, List, [], map, length, take, false, unwrap_or, vec_len, Ok, IfOk, IfErr, OnOk, OnErr, IsErrOf};
 ghost use Rattle.std.specs.Io.KnownBytes.{Appends};
 ghost use Rattle.std.specs.Option.{option_copied};
-ghost use Rattle.cdm_feed.specs.declared.input.TheConstants.{INPUT_LIMIT};
-ghost use Rattle.cdm_feed.specs.Readings.{AreRead, IfTold, reading};
-ghost use Rattle.cdm_feed.specs.Records.{records_of};
-ghost use Rattle.cdm_feed.specs.ScenarioFile.{scenarios_in};
+ghost use Rattle.cdm_files.specs.Input.{input_limit};
+ghost use Rattle.cdm_files.specs.Readings.{AreRead, IfTold, reading};
+ghost use Rattle.cdm_files.specs.Records.{records_of};
+ghost use Rattle.cdm_files.specs.ScenarioFile.{scenarios_in};
 ghost use Rattle.cdm_check.specs.Check.{AreHintsOf, AreLinesOf, most_told};
 ghost use Rattle.cdm_check.specs.CheckFaults.{IsFirstFault, is_write_fault};
 ghost use Rattle.cdm_check.specs.Findings.{fault_at, finding, findings_at, findings_in};
@@ -21,7 +21,7 @@ use crate::place::Cause;
 use crate::scenario_words::scenario_fault;
 use crate::walk::FeedWalk;
 use cdm_day::Airport;
-use cdm_feed::{
+use cdm_files::{
     CommonFault, Device, FileFault, Input, Inputs, judge, read_airport, read_inputs,
     read_scenarios, write_text,
 };
@@ -186,7 +186,7 @@ fn told_of_day<R: Threads + Sync, G: Gate>(
     workers: Workers,
     gate: &G,
 ) -> Result<Told, AllocError>
-    requires { length feed.now ≤ INPUT_LIMIT }
+    requires { length feed.now ≤ input_limit }
     ensures lines { IfOk result (λ told. AreLinesOf (take most_told (
         findings_at (Ok airport) (airport_file paths.entry []) (feed_file paths.entry feed.now) (scenario_file paths.entry scenarios.now))) told.lines.items) }
     ensures refused { IfOk result (λ told. told.refused ≡ length (
@@ -215,7 +215,7 @@ fn told_of<R: Threads + Sync, G: Gate>(
     workers: Workers,
     gate: &G,
 ) -> Result<Told, AllocError>
-    requires { vec_len inputs.now.second ≤ INPUT_LIMIT }
+    requires { vec_len inputs.now.second ≤ input_limit }
     ensures lines { IfOk result (λ told. AreLinesOf (take most_told (findings_in (airport_file paths.entry inputs.now.airport.items)
         (feed_file paths.entry inputs.now.second.items) (scenario_file paths.entry inputs.now.third.items))) told.lines.items) }
     ensures refused { IfOk result (λ told. told.refused ≡ length (findings_in (airport_file paths.entry inputs.now.airport.items)
@@ -241,8 +241,8 @@ fn told_of<R: Threads + Sync, G: Gate>(
 
 // How many records all files have.
 fn record_counts(alloc: Global, inputs: &Inputs) -> Result<usize, AllocError>
-    requires second { vec_len inputs.now.second ≤ INPUT_LIMIT }
-    requires third { vec_len inputs.now.third ≤ INPUT_LIMIT }
+    requires second { vec_len inputs.now.second ≤ input_limit }
+    requires third { vec_len inputs.now.third ≤ input_limit }
     ensures { IfOk result (λ count. count ≡ length (records_of inputs.now.airport.items)
         + length (records_of inputs.now.second.items) + length (records_of inputs.now.third.items)) }
 {
@@ -271,8 +271,8 @@ fn check_of<R: Threads + Sync, G: Gate>(
     workers: Workers,
     gate: &G,
 ) -> Result<Checked, AllocError>
-    requires second { vec_len inputs.now.second ≤ INPUT_LIMIT }
-    requires third { vec_len inputs.now.third ≤ INPUT_LIMIT }
+    requires second { vec_len inputs.now.second ≤ input_limit }
+    requires third { vec_len inputs.now.third ≤ input_limit }
     ensures text { IfOk result (λ check.
         IsCheckAt paths.entry inputs.now.airport.items inputs.now.second.items inputs.now.third.items check.text.items) }
     ensures counts { IfOk result (λ check.

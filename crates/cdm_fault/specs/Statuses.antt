@@ -2,9 +2,9 @@
 -- opened, a device fails, memory is short or the board gives a wrong answer, 2 where the words name no command.
 use Rattle.std.specs.Prelude.{ℕ, ◌==◌, if◌then◌else◌}
 use Rattle.cdm_check.specs.declared.counts.CheckCounts.{CheckCounts}
-use Rattle.cdm_feed.specs.declared.common_fault.CommonFault.{CommonFault}
-use Rattle.cdm_feed.specs.declared.common_fault.CommonFault.TheVariants as common
-use Rattle.cdm_feed.specs.declared.run_error.RunError.TheVariants as run
+use Rattle.cdm_files.specs.declared.common_fault.CommonFault.{CommonFault}
+use Rattle.cdm_files.specs.declared.common_fault.CommonFault.TheVariants as common
+use Rattle.cdm_files.specs.declared.run_error.RunError.TheVariants as run
 use Rattle.cdm_feed.specs.declared.table_error.TableError.TheVariants as table
 use Rattle.cdm_feed.specs.declared.view_error.ViewError.TheVariants as view
 use Rattle.cdm_live.specs.declared.live_error.LiveError.TheVariants as live

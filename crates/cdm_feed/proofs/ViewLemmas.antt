@@ -1,5 +1,5 @@
 -- Texts of a run that answers a question.
-use Rattle.std.proofs.Common.{◌≡◌, ℕ, List, Option, None, Some, IfSome, subst, subst₂}
+use Rattle.std.proofs.Common.{◌≡◌, ℕ, List, subst, subst₂}
 use Rattle.cdm_flight.specs.Journal.{AirportRows}
 use Rattle.cdm_sequence.specs.declared.plan.Plan.{Plan}
 use Rattle.cdm_plan.specs.Day.{DayRecord}
@@ -8,15 +8,9 @@ use Rattle.cdm_plan.proofs.OnePlanLemmas.{one_day_plan}
 use Rattle.cdm_view.specs.Questions.{IsAnswer}
 use Rattle.cdm_view.specs.declared.question.Question.{Question}
 use Rattle.cdm_view.proofs.AnswerLemmas.{answer_one}
-use Rattle.cdm_feed.specs.Output.{day_in}
+use Rattle.cdm_files.proofs.FeedDayLemmas.{own_airport, own_journal}
+use Rattle.cdm_files.specs.FeedDay.{day_in}
 use Rattle.cdm_feed.specs.Views.{IsView}
-use Rattle.cdm_feed.proofs.OutputLemmas.{own_airport, own_journal}
-
--- what holds of all bytes holds of those that two readers have left
-pub of_two : (P : List ℕ → List ℕ → Type 0) (a f : Option (List ℕ)) → ((x y : List ℕ) → P x y) → IfSome a (λ x. IfSome f (P x))
-of_two P None f p = tt
-of_two P (Some x) None p = tt
-of_two P (Some x) (Some y) p = p x y
 
 -- a question of two files has one text
 pub one-view : (question : Question) (airport feed x y : List ℕ) → IsView question airport feed x → IsView question airport feed y → x ≡ y

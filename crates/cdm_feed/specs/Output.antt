@@ -1,39 +1,17 @@
 -- What a run writes, and what it counts.
-use Rattle.std.specs.Prelude.{◌≡◌, ℕ, List, [], ◌++◌, length, map, Ok}
+use Rattle.std.specs.Prelude.{◌≡◌, ℕ, List, ◌++◌, length, Ok}
 use Rattle.std.specs.List.{AllZip, concat}
-use Rattle.cdm_flight.specs.Accepted.{accepted}
 use Rattle.cdm_flight.specs.Journal.{AirportRows}
-use Rattle.cdm_flight.specs.declared.update.Update.{Update}
-use Rattle.cdm_flight.specs.declared.word.RefusalWord.{RefusalWord}
 use Rattle.cdm_sequence.specs.declared.plan.Plan.{Plan}
 use Rattle.cdm_report.specs.Counts.{counts_of}
 use Rattle.cdm_report.specs.Report.{report_bytes}
-use Rattle.cdm_plan.specs.Day.{DayRecord}
 use Rattle.cdm_plan.specs.DayPlan.{IsDayPlan}
 use Rattle.cdm_scenario.specs.Scenarios.{ScenarioRecord}
-use Rattle.cdm_feed.specs.AirportFile.{airport_in}
+use Rattle.cdm_files.specs.AirportFile.{airport_in}
+use Rattle.cdm_files.specs.FeedDay.{accepted_in, day_in, refusals_in}
 use Rattle.cdm_feed.specs.Answers.{IsAnswer}
-use Rattle.cdm_feed.specs.Parsing.{parse_of}
-use Rattle.cdm_feed.specs.Records.{records_of}
-use Rattle.cdm_feed.specs.ScenarioFile.{scenarios_in}
+use Rattle.cdm_files.specs.ScenarioFile.{scenarios_in}
 use Rattle.cdm_feed.specs.declared.runs.RunCounts.{RunCounts}
-use Rattle.cdm_feed.specs.Refused.{Spelled, updates_in, refused_in}
-
--- what each record of a feed spells
-abbrev pub spelled_in : AirportRows → List ℕ → List Spelled
-spelled_in g feed = map (parse_of g.day) (records_of feed)
-
--- the updates of a feed that are accepted, in order
-unfoldable pub accepted_in : AirportRows → List ℕ → List Update
-accepted_in g feed = accepted g [] (updates_in (spelled_in g feed))
-
--- the refused records of a feed, by number
-unfoldable pub refusals_in : AirportRows → List ℕ → List (ℕ × RefusalWord)
-refusals_in g feed = refused_in g [] 1 (spelled_in g feed)
-
--- the day that an airport and the accepted updates of a feed make
-abbrev pub day_in : AirportRows → List ℕ → DayRecord
-day_in g feed = record { airport = g; journal = accepted_in g feed }
 
 -- the text is the report of the day and of the feed's refused records, and then the answer to each
 -- scenario over that day

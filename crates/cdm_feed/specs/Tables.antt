@@ -7,15 +7,15 @@ use Rattle.cdm_table.specs.Tables.{IsTable, unknown_among}
 use Rattle.cdm_table.specs.declared.table.Table.{Table}
 use Rattle.cdm_table.specs.declared.table.TableFault.{TableFault}
 use Rattle.cdm_table.specs.declared.table.TableFault.TheVariants as fault
-use Rattle.cdm_feed.specs.AirportFile.{airport_in}
-use Rattle.cdm_feed.specs.CommonFaults.{IsFirstCommonFault}
-use Rattle.cdm_feed.specs.Output.{day_in}
-use Rattle.cdm_feed.specs.Readings.{AreRead, IfTold, Reading}
-use Rattle.cdm_feed.specs.RunFaults.{Asks}
-use Rattle.cdm_feed.specs.ScenarioFile.{scenarios_in}
-use Rattle.cdm_feed.specs.declared.common_fault.CommonFault.TheVariants as common
-use Rattle.cdm_feed.specs.declared.run_error.RunError.{RunError}
-use Rattle.cdm_feed.specs.declared.run_error.RunError.TheVariants as run
+use Rattle.cdm_files.specs.AirportFile.{airport_in}
+use Rattle.cdm_files.specs.CommonFaults.{IsFirstCommonFault}
+use Rattle.cdm_files.specs.FeedDay.{day_in}
+use Rattle.cdm_files.specs.Readings.{AreRead, IfTold, Reading}
+use Rattle.cdm_files.specs.RunFaults.{Asks}
+use Rattle.cdm_files.specs.ScenarioFile.{scenarios_in}
+use Rattle.cdm_files.specs.declared.common_fault.CommonFault.TheVariants as common
+use Rattle.cdm_files.specs.declared.run_error.RunError.{RunError}
+use Rattle.cdm_files.specs.declared.run_error.RunError.TheVariants as run
 use Rattle.cdm_feed.specs.declared.table_error.TableError.{TableError}
 use Rattle.cdm_feed.specs.declared.table_error.TableError.TheVariants as error
 

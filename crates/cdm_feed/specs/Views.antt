@@ -8,11 +8,11 @@ use Rattle.cdm_view.specs.Questions.{IsAnswer, IsUnanswered}
 use Rattle.cdm_view.specs.declared.fault.ViewFault.{ViewFault}
 use Rattle.cdm_view.specs.declared.fault.ViewFault.TheVariants as fault
 use Rattle.cdm_view.specs.declared.question.Question.{Question}
-use Rattle.cdm_feed.specs.AirportFile.{airport_in}
-use Rattle.cdm_feed.specs.CommonFaults.{IsFirstCommonFault}
-use Rattle.cdm_feed.specs.Output.{day_in}
-use Rattle.cdm_feed.specs.Readings.{AreRead, Reading, no_input}
-use Rattle.cdm_feed.specs.declared.common_fault.CommonFault.TheVariants as common
+use Rattle.cdm_files.specs.AirportFile.{airport_in}
+use Rattle.cdm_files.specs.CommonFaults.{IsFirstCommonFault}
+use Rattle.cdm_files.specs.FeedDay.{day_in}
+use Rattle.cdm_files.specs.Readings.{AreRead, OfBoth, Reading, no_input}
+use Rattle.cdm_files.specs.declared.common_fault.CommonFault.TheVariants as common
 use Rattle.cdm_feed.specs.declared.view_error.ViewError.{ViewError}
 use Rattle.cdm_feed.specs.declared.view_error.ViewError.TheVariants as error
 
@@ -37,10 +37,6 @@ error_of fault.Memory = error.Common common.Memory
 -- the airport file is accepted, and the day that it makes with the feed has no answer for this cause
 abbrev pub IsUnknown : Question → ViewFault → List ℕ → List ℕ → Type 0
 IsUnknown question cause airport feed = IsOkAnd (airport_in airport) (λ g. IsUnanswered question (day_in g feed) cause)
-
--- it holds of the bytes of an airport file and of a feed, where their readers tell those that they had left
-abbrev pub OfBoth : Reading → Reading → (List ℕ → List ℕ → Type 0) → Type 0
-OfBoth a f Holds = IfSome a.before (λ airport. IfSome f.before (Holds airport))
 
 -- the first fault of a run that answers a question: after the records of the airport file the feed is judged and the
 -- flight or the runway is looked for, and then the text is made

@@ -1,19 +1,19 @@
 //! A whole run, from the bytes of its inputs to the bytes of its text.
 ghost use Rattle.std.specs.Prelude.{◌≡◌, ◌≤◌, ℕ, List, length, take, false, IfOk, IfErr, OnOk, OnErr, IsErrOf};
 ghost use Rattle.std.specs.Io.KnownBytes.{Appends};
-ghost use Rattle.cdm_feed.specs.declared.input.TheConstants.{INPUT_LIMIT};
+ghost use Rattle.cdm_files.specs.Input.{input_limit};
 ghost use Rattle.cdm_feed.specs.Output.{HaveOneText, IsOutput};
-ghost use Rattle.cdm_feed.specs.Readings.{AreRead, IfTold, reading};
-ghost use Rattle.cdm_feed.specs.RunFaults.{IsFirstFault, IsRecordFault, is_write_fault};
+ghost use Rattle.cdm_files.specs.Readings.{AreRead, IfTold, reading};
+ghost use Rattle.cdm_files.specs.RunFaults.{IsFirstFault, IsRecordFault, is_write_fault};
 ghost use Rattle.cdm_feed.specs.declared.runs.RunCounts.{RunCounts};
 
 use crate::answers::push_answers;
-use crate::asking::{AskedDay, asked_day};
-use crate::common_fault::{CommonFault, Input};
-use crate::device::Device;
-use crate::inputs::{Inputs, read_inputs};
-use crate::output::write_text;
-use crate::run_error::RunError;
+use cdm_files::{AskedDay, asked_day};
+use cdm_files::{CommonFault, Input};
+use cdm_files::Device;
+use cdm_files::{Inputs, read_inputs};
+use cdm_files::write_text;
+use cdm_files::RunError;
 use cdm_phase::{Gate, Workers};
 use cdm_report::{indicators, report_text};
 use std::alloc::Global;
@@ -46,7 +46,7 @@ fn report_of_inputs<R: Threads + Sync, G: Gate>(
     workers: Workers,
     gate: &G,
 ) -> Result<Report, RunError>
-    requires { length inputs.now.second.items ≤ INPUT_LIMIT }
+    requires { length inputs.now.second.items ≤ input_limit }
     ensures made { IfOk result (λ report.
         IsOutput inputs.now.airport.items inputs.now.second.items inputs.now.third.items report.text.items report.counts) }
     ensures fault { IfErr result (IsRecordFault inputs.now.airport.items inputs.now.third.items) }

@@ -1,12 +1,12 @@
 //! Why a run that makes a table ends without its whole text.
 ghost use Rattle.std.specs.Prelude.{◌≡◌};
-ghost use Rattle.cdm_feed.specs.declared.common_fault.CommonFault.TheVariants as common;
+ghost use Rattle.cdm_files.specs.declared.common_fault.CommonFault.TheVariants as common;
 ghost use Rattle.cdm_feed.specs.declared.table_error.TableError.TheVariants as error;
 ghost use Rattle.cdm_feed.specs.Tables.{error_of, error_of_run};
 
-use crate::common_fault::CommonFault;
-use crate::output::WriteFault;
-use crate::run_error::RunError;
+use cdm_files::CommonFault;
+use cdm_files::WriteFault;
+use cdm_files::RunError;
 use cdm_flight::RefusalWord;
 use cdm_scenario::ScenarioName;
 use cdm_table::TableFault;

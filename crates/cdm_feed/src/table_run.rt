@@ -1,16 +1,16 @@
 //! A whole run that makes a table, from the bytes of its inputs to the bytes of its text.
 ghost use Rattle.std.specs.Prelude.{◌≡◌, ◌≤◌, ℕ, List, length, take, false, IfOk, IfErr, OnOk, OnErr, IsErrOf};
 ghost use Rattle.std.specs.Io.KnownBytes.{Appends};
-ghost use Rattle.cdm_feed.specs.declared.input.TheConstants.{INPUT_LIMIT};
-ghost use Rattle.cdm_feed.specs.Readings.{AreRead, IfTold, reading};
+ghost use Rattle.cdm_files.specs.Input.{input_limit};
+ghost use Rattle.cdm_files.specs.Readings.{AreRead, IfTold, reading};
 ghost use Rattle.cdm_feed.specs.Tables.{HaveOneTable, IsFirstTableFault, IsTabled, is_table_write_fault};
 ghost use Rattle.cdm_feed.specs.inner.Faults.{IsUntabled};
 
-use crate::asking::{AskedDay, asked_day};
-use crate::common_fault::{CommonFault, Input};
-use crate::device::Device;
-use crate::inputs::{Inputs, read_inputs};
-use crate::output::write_text;
+use cdm_files::{AskedDay, asked_day};
+use cdm_files::{CommonFault, Input};
+use cdm_files::Device;
+use cdm_files::{Inputs, read_inputs};
+use cdm_files::write_text;
 use crate::table_error::TableError;
 use cdm_phase::{Gate, Workers};
 use cdm_table::{Table, tabulate};
@@ -27,7 +27,7 @@ fn table_of_inputs<R: Threads + Sync, G: Gate>(
     workers: Workers,
     gate: &G,
 ) -> Result<Vec<u8>, TableError>
-    requires { length inputs.now.second.items ≤ INPUT_LIMIT }
+    requires { length inputs.now.second.items ≤ input_limit }
     ensures made { IfOk result (λ text. IsTabled asked inputs.now.airport.items inputs.now.second.items inputs.now.third.items text.items) }
     ensures fault { IfErr result (IsUntabled asked inputs.now.airport.items inputs.now.third.items) }
 {

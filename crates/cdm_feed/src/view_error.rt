@@ -1,11 +1,11 @@
 //! Why a run that answers a question ends without its whole text.
 ghost use Rattle.std.specs.Prelude.{◌≡◌};
-ghost use Rattle.cdm_feed.specs.declared.common_fault.CommonFault.TheVariants as common;
+ghost use Rattle.cdm_files.specs.declared.common_fault.CommonFault.TheVariants as common;
 ghost use Rattle.cdm_feed.specs.declared.view_error.ViewError.TheVariants as error;
 ghost use Rattle.cdm_feed.specs.Views.{error_of};
 
-use crate::common_fault::CommonFault;
-use crate::output::WriteFault;
+use cdm_files::CommonFault;
+use cdm_files::WriteFault;
 use cdm_flight::{FlightName, RunwayName};
 use cdm_view::ViewFault;
 use std::alloc::AllocError;

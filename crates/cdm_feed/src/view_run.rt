@@ -1,17 +1,17 @@
 //! A whole run that answers a question, from the bytes of its inputs to the bytes of its text.
 ghost use Rattle.std.specs.Prelude.{◌≡◌, ◌≤◌, ℕ, List, length, take, false, IfOk, IfErr, IfSome, OnOk, OnErr, IsErrOf};
 ghost use Rattle.std.specs.Io.KnownBytes.{Appends};
-ghost use Rattle.cdm_feed.specs.declared.input.TheConstants.{INPUT_LIMIT};
-ghost use Rattle.cdm_feed.specs.Readings.{AreRead, no_input, reading};
+ghost use Rattle.cdm_files.specs.Input.{input_limit};
+ghost use Rattle.cdm_files.specs.Readings.{AreRead, no_input, reading};
 ghost use Rattle.cdm_feed.specs.Views.{HaveOneView, IsFirstViewFault, IsView, is_view_write_fault};
 ghost use Rattle.cdm_feed.specs.inner.Faults.{IsUnmade};
 
-use crate::airport_file::airport_of;
-use crate::common_fault::{CommonFault, Input};
-use crate::device::Device;
-use crate::inputs::read_two;
-use crate::judging::{Judged, judge};
-use crate::output::write_text;
+use cdm_files::airport_of;
+use cdm_files::{CommonFault, Input};
+use cdm_files::Device;
+use cdm_files::read_two;
+use cdm_files::{Judged, judge};
+use cdm_files::write_text;
 use crate::view_error::ViewError;
 use cdm_phase::{Gate, Workers};
 use cdm_view::{Question, answer};
@@ -29,7 +29,7 @@ fn answer_of_inputs<R: Threads + Sync, G: Gate>(
     workers: Workers,
     gate: &G,
 ) -> Result<Vec<u8>, ViewError>
-    requires { length feed.now ≤ INPUT_LIMIT }
+    requires { length feed.now ≤ input_limit }
     ensures made { IfOk result (λ text. IsView question airport.now feed.now text.items) }
     ensures fault { IfErr result (IsUnmade question airport.now feed.now) }
 {

@@ -10,9 +10,9 @@ use Rattle.cdm_scenario.specs.Outcome.{IsOutcome}
 use Rattle.cdm_scenario.specs.Scenarios.{ScenarioRecord}
 use Rattle.cdm_scenario.specs.declared.outcome.Outcome.{Outcome}
 use Rattle.cdm_scenario.specs.declared.outcome.Outcome.TheVariants.{Planned, Refused}
-use Rattle.cdm_feed.specs.AirportFile.{airport_in}
-use Rattle.cdm_feed.specs.Output.{day_in}
-use Rattle.cdm_feed.specs.ScenarioFile.{scenarios_in}
+use Rattle.cdm_files.specs.AirportFile.{airport_in}
+use Rattle.cdm_files.specs.FeedDay.{day_in}
+use Rattle.cdm_files.specs.ScenarioFile.{scenarios_in}
 use Rattle.cdm_picture.specs.Sections.{IsEmpty, ShowsPlan, refused_heading, scenario_heading}
 use Rattle.cdm_picture.specs.Svg.{picture_text}
 use Rattle.cdm_picture.specs.declared.hours.Hours.{Hours}

@@ -1,13 +1,13 @@
 //! A whole run that draws a picture, from the bytes of its inputs to the bytes of its text.
 ghost use Rattle.std.specs.Prelude.{◌≡◌, ◌≤◌, ℕ, List, length, take, false, IfOk, IfErr, OnOk, OnErr, IsErrOf};
 ghost use Rattle.std.specs.Io.KnownBytes.{Appends};
-ghost use Rattle.cdm_feed.specs.declared.input.TheConstants.{INPUT_LIMIT};
-ghost use Rattle.cdm_feed.specs.Readings.{AreRead, IfTold, reading};
-ghost use Rattle.cdm_feed.specs.RunFaults.{IsFirstFault, IsRecordFault, is_write_fault};
+ghost use Rattle.cdm_files.specs.Input.{input_limit};
+ghost use Rattle.cdm_files.specs.Readings.{AreRead, IfTold, reading};
+ghost use Rattle.cdm_files.specs.RunFaults.{IsFirstFault, IsRecordFault, is_write_fault};
 ghost use Rattle.cdm_picture.specs.Pictures.{IsDrawn};
 
 use crate::scenes::picture;
-use cdm_feed::{
+use cdm_files::{
     AskedDay, CommonFault, Device, Input, Inputs, RunError, asked_day, read_inputs, write_text,
 };
 use cdm_phase::{Gate, Workers};
@@ -23,7 +23,7 @@ fn picture_of_inputs<R: Threads + Sync, G: Gate>(
     workers: Workers,
     gate: &G,
 ) -> Result<Vec<u8>, RunError>
-    requires { length inputs.now.second.items ≤ INPUT_LIMIT }
+    requires { length inputs.now.second.items ≤ input_limit }
     ensures made { IfOk result (λ text. IsDrawn inputs.now.airport.items inputs.now.second.items inputs.now.third.items text.items) }
     ensures fault { IfErr result (IsRecordFault inputs.now.airport.items inputs.now.third.items) }
 {

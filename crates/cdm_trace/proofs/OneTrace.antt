@@ -22,11 +22,11 @@ use Rattle.cdm_plan.proofs.NameLemmas.{by_name}
 use Rattle.cdm_desk.specs.Replies.{IsChangedTo, IsReply, IsReplyBy, day_after}
 use Rattle.cdm_desk.specs.declared.reply.DeskReply.{DeskReply}
 use Rattle.cdm_desk.specs.declared.reply.DeskReply.TheVariants.{Accepted, Refused}
-use Rattle.cdm_feed.specs.AirportFile.{airport_in}
-use Rattle.cdm_feed.specs.Parsing.{parse_of}
-use Rattle.cdm_feed.specs.Records.{records_of}
-use Rattle.cdm_feed.specs.Refused.{Spelled}
-use Rattle.cdm_feed.proofs.OutputLemmas.{own_airport, same-ok}
+use Rattle.cdm_files.specs.AirportFile.{airport_in}
+use Rattle.cdm_files.specs.Parsing.{parse_of}
+use Rattle.cdm_files.specs.Records.{records_of}
+use Rattle.cdm_files.specs.Refused.{Spelled}
+use Rattle.cdm_files.proofs.FeedDayLemmas.{own_airport, same-ok}
 use Rattle.cdm_trace.specs.Traces.{HaveOneTrace, IsTold, told}
 use Rattle.cdm_trace.proofs.TraceLemmas.{first_day}
 

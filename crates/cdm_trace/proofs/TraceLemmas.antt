@@ -6,10 +6,10 @@ use Rattle.cdm_flight.specs.Journal.{AirportRows}
 use Rattle.cdm_plan.specs.Day.{DayRecord}
 use Rattle.cdm_desk.specs.Replies.{IsReply, day_after}
 use Rattle.cdm_desk.specs.declared.reply.DeskReply.{DeskReply}
-use Rattle.cdm_feed.specs.Output.{accepted_in, spelled_in}
-use Rattle.cdm_feed.specs.Parsing.{parse_of}
-use Rattle.cdm_feed.specs.Records.{records_of}
-use Rattle.cdm_feed.specs.Refused.{Spelled, updates_in}
+use Rattle.cdm_files.specs.FeedDay.{accepted_in, spelled_in}
+use Rattle.cdm_files.specs.Parsing.{parse_of}
+use Rattle.cdm_files.specs.Records.{records_of}
+use Rattle.cdm_files.specs.Refused.{Spelled, updates_in}
 use Rattle.cdm_trace.specs.Traces.{IsTold, told}
 
 abbrev pub first_day : AirportRows → DayRecord

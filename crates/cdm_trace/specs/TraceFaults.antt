@@ -3,12 +3,11 @@ use Rattle.std.specs.Prelude.{◌≡◌, ⊤, ℕ, Bool, true, false, List, Opti
 use Rattle.std.specs.Result.{IsOkAnd}
 use Rattle.cdm_flight.specs.Journal.{flight_of}
 use Rattle.cdm_plan.specs.Day.{DayRecord}
-use Rattle.cdm_feed.specs.AirportFile.{airport_in}
-use Rattle.cdm_feed.specs.CommonFaults.{IsAirportFault, IsFirstCommonFault}
-use Rattle.cdm_feed.specs.Output.{day_in}
-use Rattle.cdm_feed.specs.Readings.{AreRead, Reading, no_input}
-use Rattle.cdm_feed.specs.Views.{OfBoth}
-use Rattle.cdm_feed.specs.declared.common_fault.CommonFault.TheVariants as common
+use Rattle.cdm_files.specs.AirportFile.{airport_in}
+use Rattle.cdm_files.specs.CommonFaults.{IsAirportFault, IsFirstCommonFault}
+use Rattle.cdm_files.specs.FeedDay.{day_in}
+use Rattle.cdm_files.specs.Readings.{AreRead, OfBoth, Reading, no_input}
+use Rattle.cdm_files.specs.declared.common_fault.CommonFault.TheVariants as common
 use Rattle.cdm_trace.specs.Traces.{IsTrace}
 use Rattle.cdm_trace.specs.declared.trace_error.TraceError.{TraceError}
 use Rattle.cdm_trace.specs.declared.trace_error.TraceError.TheVariants as error

@@ -12,10 +12,10 @@ use Rattle.cdm_view.specs.declared.standing.Standing.{Standing}
 use Rattle.cdm_desk.specs.Replies.{IsReply, changed_line, day_after, reply_text}
 use Rattle.cdm_desk.specs.declared.reply.DeskReply.{DeskReply}
 use Rattle.cdm_desk.specs.declared.reply.DeskReply.TheVariants.{Accepted, Refused}
-use Rattle.cdm_feed.specs.AirportFile.{airport_in}
-use Rattle.cdm_feed.specs.Output.{day_in}
-use Rattle.cdm_feed.specs.Parsing.{parse_of}
-use Rattle.cdm_feed.specs.Records.{records_of}
+use Rattle.cdm_files.specs.AirportFile.{airport_in}
+use Rattle.cdm_files.specs.FeedDay.{day_in}
+use Rattle.cdm_files.specs.Parsing.{parse_of}
+use Rattle.cdm_files.specs.Records.{records_of}
 use Rattle.cdm_journal.specs.Journal.{record_text}
 
 -- What is told of a record by its reply.

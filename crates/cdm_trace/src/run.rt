@@ -1,14 +1,14 @@
 //! A whole run that traces a feed, from the bytes of its inputs to the bytes of its text.
 ghost use Rattle.std.specs.Prelude.{◌≡◌, ◌≤◌, ℕ, List, length, take, false, IfErr, IfOk, IfSome, IsErrOf, OnErr, OnOk};
 ghost use Rattle.std.specs.Io.KnownBytes.{Appends};
-ghost use Rattle.cdm_feed.specs.declared.input.TheConstants.{INPUT_LIMIT};
-ghost use Rattle.cdm_feed.specs.Readings.{AreRead, no_input, reading};
+ghost use Rattle.cdm_files.specs.Input.{input_limit};
+ghost use Rattle.cdm_files.specs.Readings.{AreRead, no_input, reading};
 ghost use Rattle.cdm_trace.specs.Traces.{HaveOneTrace, IsTrace};
 ghost use Rattle.cdm_trace.specs.TraceFaults.{IsFirstTraceFault, IsUntraced, is_trace_write_fault};
 
 use crate::trace_error::TraceError;
 use crate::tracing::trace_of;
-use cdm_feed::{CommonFault, Device, Input, airport_of, read_two, write_text};
+use cdm_files::{CommonFault, Device, Input, airport_of, read_two, write_text};
 use cdm_flight::FlightName;
 use std::alloc::Global;
 use std::io::{Read, Write};
@@ -20,7 +20,7 @@ fn trace_of_inputs(
     feed: &[u8],
     asked: Option<FlightName>,
 ) -> Result<Vec<u8>, TraceError>
-    requires { length feed.now ≤ INPUT_LIMIT }
+    requires { length feed.now ≤ input_limit }
     ensures made { IfOk result (λ text. IsTrace asked airport.now feed.now text.items) }
     ensures fault { IfErr result (IsUntraced asked airport.now feed.now) }
 {

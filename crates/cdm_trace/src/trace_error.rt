@@ -1,9 +1,9 @@
 //! Why a run that traces a feed ends without its whole text.
 ghost use Rattle.std.specs.Prelude.{◌≡◌};
-ghost use Rattle.cdm_feed.specs.declared.common_fault.CommonFault.TheVariants as common;
+ghost use Rattle.cdm_files.specs.declared.common_fault.CommonFault.TheVariants as common;
 ghost use Rattle.cdm_trace.specs.declared.trace_error.TraceError.TheVariants as error;
 
-use cdm_feed::{CommonFault, WriteFault};
+use cdm_files::{CommonFault, WriteFault};
 use cdm_flight::FlightName;
 use std::alloc::AllocError;
 use thiserror::Error;

@@ -1,8 +1,8 @@
 //! The records of a feed, one after the other.
 ghost use Rattle.std.specs.Prelude.{◌≡◌, ◌≤◌, [], length, IfErr, IfOk, OnOk};
-ghost use Rattle.cdm_feed.specs.declared.input.TheConstants.{INPUT_LIMIT};
-ghost use Rattle.cdm_feed.specs.Output.{day_in};
-ghost use Rattle.cdm_feed.specs.Records.{records_of};
+ghost use Rattle.cdm_files.specs.Input.{input_limit};
+ghost use Rattle.cdm_files.specs.FeedDay.{day_in};
+ghost use Rattle.cdm_files.specs.Records.{records_of};
 ghost use Rattle.cdm_trace.specs.TraceFaults.{IsUntold};
 ghost use Rattle.cdm_trace.specs.Traces.{IsKnown, IsTold};
 
@@ -10,7 +10,7 @@ use crate::told::push_told;
 use crate::trace_error::TraceError;
 use cdm_day::{Airport, DayState};
 use cdm_desk::DeskDay;
-use cdm_feed::{RecordReader, parse_record};
+use cdm_files::{RecordReader, parse_record};
 use cdm_flight::FlightName;
 use cdm_plan::Records;
 use csv::ByteRecord;
@@ -49,7 +49,7 @@ pub(crate) fn trace_of(
     feed: &[u8],
     asked: Option<FlightName>,
 ) -> Result<Vec<u8>, TraceError>
-    requires { length feed.now ≤ INPUT_LIMIT }
+    requires { length feed.now ≤ input_limit }
     ensures told { IfOk result (λ text. IsTold asked (record { airport = airport; journal = [] }) 1 (records_of feed.now) text.items) }
     ensures known { OnOk result (IsKnown asked (day_in airport feed.now)) }
     ensures fault { IfErr result (IsUntold asked (day_in airport feed.now)) }

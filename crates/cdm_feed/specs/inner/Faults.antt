@@ -2,8 +2,8 @@
 use Rattle.std.specs.Prelude.{◌≡◌, ℕ, List, Err}
 use Rattle.cdm_view.specs.declared.fault.ViewFault.TheVariants as fault
 use Rattle.cdm_view.specs.declared.question.Question.{Question}
-use Rattle.cdm_feed.specs.CommonFaults.{IsAirportFault}
-use Rattle.cdm_feed.specs.RunFaults.{Asks}
+use Rattle.cdm_files.specs.CommonFaults.{IsAirportFault}
+use Rattle.cdm_files.specs.RunFaults.{Asks}
 use Rattle.cdm_feed.specs.Views.{IsUnknown}
 use Rattle.cdm_table.specs.declared.table.Table.{Table}
 use Rattle.cdm_feed.specs.Tables.{IsUnknownIn}

@@ -1,7 +1,7 @@
 use Rattle.std.proofs.Common.{◌≡◌, ℕ, List, take, subst}
 use Rattle.std.specs.Io.KnownBytes.{Appends}
 use Rattle.std.proofs.lemmas.Result.{err_from_is_err_and}
-use Rattle.cdm_feed.proofs.RunLemmas.{of_inputs}
+use Rattle.cdm_files.proofs.RunLemmas.{of_inputs}
 use Rattle.cdm_check.specs.Paths.{IsCheckAt, counts_at}
 use Rattle.cdm_check.proofs.CheckLemmas.{input_fault-first, memory-first, write-first}
 use Rattle.cdm_check.proofs.check_run.run_check.Goals as goal

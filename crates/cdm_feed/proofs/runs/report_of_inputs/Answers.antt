@@ -7,7 +7,7 @@ use Rattle.cdm_report.specs.Report.{report_bytes}
 use Rattle.cdm_report.specs.declared.counts.Counts.{Counts}
 use Rattle.cdm_scenario.specs.Scenarios.{ScenarioRecord}
 use Rattle.cdm_feed.specs.Answers.{IsAnswer}
-use Rattle.cdm_feed.specs.Output.{day_in}
+use Rattle.cdm_files.specs.FeedDay.{day_in}
 use Rattle.cdm_feed.proofs.runs.report_of_inputs.Goals as goal
 
 pub returns-clause-made : goal.returns-clause-made

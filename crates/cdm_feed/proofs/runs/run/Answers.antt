@@ -1,6 +1,6 @@
 use Rattle.cdm_feed.specs.Output.{HaveOneText}
 use Rattle.cdm_feed.proofs.OutputLemmas.{one-output}
-use Rattle.cdm_feed.proofs.RunLemmas.{of_known}
+use Rattle.cdm_files.proofs.RunLemmas.{of_known}
 use Rattle.cdm_feed.proofs.runs.run.Goals as goal
 
 pub returns-clause-one : goal.returns-clause-one

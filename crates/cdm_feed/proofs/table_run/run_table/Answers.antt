@@ -4,10 +4,10 @@ use Rattle.cdm_scenario.specs.Scenarios.{ScenarioRecord}
 use Rattle.cdm_table.specs.Tables.{IsTable}
 use Rattle.cdm_table.specs.declared.table.Table.{Table}
 use Rattle.cdm_table.proofs.TableLemmas.{one_table}
-use Rattle.cdm_feed.specs.Output.{day_in}
+use Rattle.cdm_files.specs.FeedDay.{day_in}
 use Rattle.cdm_feed.specs.Tables.{HaveOneTable, IsTabled}
-use Rattle.cdm_feed.proofs.OutputLemmas.{own_airport, own_journal}
-use Rattle.cdm_feed.proofs.RunLemmas.{of_known}
+use Rattle.cdm_files.proofs.FeedDayLemmas.{own_airport, own_journal}
+use Rattle.cdm_files.proofs.RunLemmas.{of_known}
 use Rattle.cdm_feed.proofs.table_run.run_table.Goals as goal
 
 -- three files have one table

@@ -1,5 +1,6 @@
+use Rattle.cdm_files.proofs.RunLemmas.{of_two}
 use Rattle.cdm_feed.specs.Views.{HaveOneView}
-use Rattle.cdm_feed.proofs.ViewLemmas.{of_two, one-view}
+use Rattle.cdm_feed.proofs.ViewLemmas.{one-view}
 use Rattle.cdm_feed.proofs.view_run.run_view.Goals as goal
 
 pub returns-clause-one : goal.returns-clause-one

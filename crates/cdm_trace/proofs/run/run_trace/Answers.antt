@@ -1,4 +1,4 @@
-use Rattle.cdm_feed.proofs.ViewLemmas.{of_two}
+use Rattle.cdm_files.proofs.RunLemmas.{of_two}
 use Rattle.cdm_trace.specs.Traces.{HaveOneTrace}
 use Rattle.cdm_trace.proofs.OneTrace.{one}
 use Rattle.cdm_trace.proofs.run.run_trace.Goals as goal

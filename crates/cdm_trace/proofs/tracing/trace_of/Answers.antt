@@ -1,7 +1,7 @@
 use Rattle.std.proofs.Common.{◌≡◌, ◌∙◌, Bool, true, false, List, [], ◌∷◌, if◌then◌else◌, refl, subst}
 use Rattle.std.proofs.lemmas.Result.{err_from_is_err_and}
 use Rattle.cdm_plan.specs.Day.{DayRecord}
-use Rattle.cdm_feed.specs.Output.{day_in}
+use Rattle.cdm_files.specs.FeedDay.{day_in}
 use Rattle.cdm_trace.specs.TraceFaults.{IsUntold}
 use Rattle.cdm_trace.specs.Traces.{IsKnown}
 use Rattle.cdm_trace.proofs.TraceLemmas.{all_told, tells_first, tells_next}
