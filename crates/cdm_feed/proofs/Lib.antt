@@ -1,2 +1,2 @@
 pub mod OutputLemmas
-pub mod ViewLemmas
+pub mod RunLemmas

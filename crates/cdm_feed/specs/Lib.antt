@@ -1,5 +1,5 @@
 pub mod Answers
 pub mod Output
-pub mod Views
-pub mod Tables
+pub mod Made
+pub mod Counts
 pub mod inner

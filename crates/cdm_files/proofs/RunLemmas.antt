@@ -1,15 +1,11 @@
 -- Faults of a run, and what holds of its inputs.
-use Rattle.std.proofs.Common.{◌≡◌, ℕ, arith, List, [], Option, None, Some, IfSome, refl, sym, ap, subst, ◌∙◌}
+use Rattle.std.proofs.Common.{◌≡◌, ℕ, List, Option, None, Some, IfSome, sym, ap, subst, ◌∙◌}
 use Rattle.std.proofs.lemmas.Option.{IfSome_then}
 use Rattle.cdm_files.specs.AirportFile.{airport_in}
 use Rattle.cdm_files.specs.CommonFaults.{IsAirportFault, IsFirstCommonFault, IsFirstInputFault}
-use Rattle.cdm_files.specs.Readings.{AreRead, IfTold, IsRead, Reading, no_input}
+use Rattle.cdm_files.specs.Readings.{AreRead, IfTold, OfBytes, Reading}
 use Rattle.cdm_files.specs.declared.common_fault.CommonFault.{CommonFault}
 use Rattle.cdm_files.specs.declared.common_fault.CommonFault.TheVariants as common
-
--- a last input that a run doesn't read counts as read
-pub no_input-read : IsRead no_input
-no_input-read = record { unfailed = (refl, ([], refl, omega arith)); ended = refl }
 
 -- a fault of the inputs is the first, whatever is asked of them
 pub input_fault-first : (a s t : Reading) (Good : Type 0) (e : CommonFault) → IsFirstInputFault a s t e → IsFirstCommonFault a s t Good e
@@ -42,15 +38,14 @@ pub of_inputs : (P : List ℕ → List ℕ → List ℕ → Type 0) (a s t : Opt
 of_inputs P a s t airport second third as_airport as_second as_third p =
     IfSome_then a as_airport (λ x is. of_both (P x) s t second third as_second as_third (subst (λ (bytes : List ℕ). P bytes second third) is p))
 
+pub of_told : {P Q : List ℕ → List ℕ → List ℕ → Type 0} (a s t : Option (List ℕ)) → OfBytes a s t P
+    → ((x y z : List ℕ) → P x y z → Q x y z) → IfTold a s t Q
+of_told {Q = Q} a s t of more =
+    of_inputs Q a s t of.airport of.second of.third of.of_airport of.of_second of.of_third (more of.airport of.second of.third of.holds)
+
 -- what holds of all bytes holds of those that readers have left
 pub of_known : (P : List ℕ → List ℕ → List ℕ → Type 0) (a s t : Option (List ℕ)) → ((x y z : List ℕ) → P x y z) → IfTold a s t P
 of_known P None s t p = tt
 of_known P (Some x) None t p = tt
 of_known P (Some x) (Some y) None p = tt
 of_known P (Some x) (Some y) (Some z) p = p x y z
-
--- what holds of all bytes holds of those that two readers have left
-pub of_two : (P : List ℕ → List ℕ → Type 0) (a f : Option (List ℕ)) → ((x y : List ℕ) → P x y) → IfSome a (λ x. IfSome f (P x))
-of_two P None f p = tt
-of_two P (Some x) None p = tt
-of_two P (Some x) (Some y) p = p x y

@@ -5,7 +5,7 @@ use Rattle.cdm_files.specs.Readings.{AreRead, HoldsFirst, IsFailed, IsTooLong, I
 use Rattle.cdm_files.specs.declared.common_fault.CommonFault.{CommonFault}
 use Rattle.cdm_files.specs.declared.common_fault.CommonFault.TheVariants as common
 
--- the first fault of a run: three inputs are read in their order, then the records of the airport file are asked,
+-- the first fault that every run can have: three inputs are read in their order, then the records of the airport file are asked,
 -- then the text is made, and then, where all this is good, it is written. Want of memory may come anywhere before the
 -- writing, but not in place of a failed read or of an input that is too long.
 abbrev pub IsFirstCommonFault : Reading → Reading → Reading → Type 0 → CommonFault → Type 0

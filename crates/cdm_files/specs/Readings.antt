@@ -20,7 +20,7 @@ abbrev pub reading : {T : Type 0} → Input → (T → Option (List ℕ)) → Wr
 reading name remaining old new =
     record { name = name; before = remaining old.inner; after = remaining new.inner; failed = new.failed; IsUnread = new ≡ old }
 
--- a last input of a run that reads none: it has no byte, and was read to its end
+-- an input that isn't read: it has no byte, and was read to its end
 abbrev pub no_input : Reading
 no_input = record { name = Scenarios; before = Some []; after = Some []; failed = false; IsUnread = ⊤ }
 
@@ -58,6 +58,12 @@ HoldsFirst a s t Holds = (Holds a × s.IsUnread × t.IsUnread) ⊎ (IsRead a × 
 abbrev pub IfTold : Option (List ℕ) → Option (List ℕ) → Option (List ℕ) → (List ℕ → List ℕ → List ℕ → Type 0) → Type 0
 IfTold a s t Holds = IfSome a (λ x. IfSome s (λ y. IfSome t (Holds x y)))
 
--- it holds of the bytes of an airport file and of a feed, where their readers tell those that they had left
-abbrev pub OfBoth : Reading → Reading → (List ℕ → List ℕ → Type 0) → Type 0
-OfBoth a f Holds = IfSome a.before (λ airport. IfSome f.before (Holds airport))
+-- it holds of some bytes of three inputs, which are those that their readers have left, where these tell them
+pub record OfBytes (a s t : Option (List ℕ)) (Holds : List ℕ → List ℕ → List ℕ → Type 0) : Type 0 where
+  pub airport : List ℕ
+  pub second : List ℕ
+  pub third : List ℕ
+  pub of_airport : IfSome a (λ all. airport ≡ all)
+  pub of_second : IfSome s (λ all. second ≡ all)
+  pub of_third : IfSome t (λ all. third ≡ all)
+  pub holds : Holds airport second third

@@ -20,13 +20,15 @@ Asks Said airport scenarios = IsOkAnd (airport_in airport) (λ g. Said (scenario
 abbrev pub IsRecordFault : List ℕ → List ℕ → RunError → Type 0
 IsRecordFault airport scenarios (error.Common fault) = IsAirportFault airport fault
 IsRecordFault airport scenarios (error.Scenario number word) = Asks (λ said. said ≡ Err (number, word)) airport scenarios
+IsRecordFault airport scenarios fault = ⊥
 
--- the first fault of a run: after the records of the airport file those of the scenario file are asked, and then the
--- text is made
+-- the first fault of a run that makes a report: after the records of the airport file those of the scenario file are
+-- asked, and then the text is made
 abbrev pub IsFirstFault : Reading → Reading → Reading → RunError → Type 0
 IsFirstFault a f s (error.Common fault) = IsFirstCommonFault a f s (IfSome a.before (λ airport. IfSome s.before (Asks IsOk airport))) fault
 IsFirstFault a f s (error.Scenario number word) =
     AreRead a f s × IfSome a.before (λ airport. IfSome s.before (Asks (λ said. said ≡ Err (number, word)) airport))
+IsFirstFault a f s fault = ⊥
 
 -- the writer failed
 abbrev pub is_write_fault : {T : Type 0} → Result T RunError → Bool

@@ -1,7 +1,7 @@
 //! The inputs of a run, read whole and in order.
 ghost use Rattle.std.specs.Prelude.{◌≡◌, ◌≤◌, false, vec_len, IfOk, IfErr, OnOk, IfSome};
 ghost use Rattle.cdm_files.specs.Input.{input_limit};
-ghost use Rattle.cdm_files.specs.Readings.{AreRead, IsRead, no_input, reading};
+ghost use Rattle.cdm_files.specs.Readings.{AreRead, IsRead, reading};
 ghost use Rattle.cdm_files.specs.CommonFaults.{IsFirstInputFault, IsInputFault};
 
 use crate::common_fault::{CommonFault, Input};
@@ -29,29 +29,6 @@ pub fn read_whole<R: Read>(
         Err(InputFault::TooLong) => Err(CommonFault::TooLong(input)),
         Err(InputFault::Memory) => Err(CommonFault::Memory),
     }
-}
-
-/// Reads the airport file and one more input of this name, in this order, up to the first fault, which
-/// is `Read`, `TooLong` or `Memory`.
-pub fn read_two<A: Read, S: Read>(
-    alloc: Global,
-    name: Input,
-    airport: &mut Device<A>,
-    second: &mut Device<S>,
-) -> Result<(Vec<u8>, Vec<u8>), CommonFault>
-    requires airport { airport.old.failed ≡ false }
-    requires second { second.old.failed ≡ false }
-    ensures airport { IfOk result (λ inputs. IfSome (A.remaining airport.old.inner) (λ all. inputs.0.items ≡ all)) }
-    ensures second { IfOk result (λ inputs. IfSome (S.remaining second.old.inner) (λ all. inputs.1.items ≡ all)) }
-    ensures second_limit { IfOk result (λ inputs. vec_len inputs.1 ≤ input_limit) }
-    ensures read { OnOk result (AreRead
-        (reading Input.Airport A.remaining airport.old airport.new) (reading name S.remaining second.old second.new) no_input) }
-    ensures fault { IfErr result (IsFirstInputFault
-        (reading Input.Airport A.remaining airport.old airport.new) (reading name S.remaining second.old second.new) no_input) }
-{
-    let airport = read_whole(alloc, Input::Airport, airport)?;
-    let second = read_whole(alloc, name, second)?;
-    Ok((airport, second))
 }
 
 /// The bytes of all inputs of a run: those of the airport file, and of the two that are read after it.
@@ -91,7 +68,8 @@ pub fn read_inputs<A: Read, S: Read, T: Read>(
         (reading names.0 S.remaining second.old second.new)
         (reading names.1 T.remaining third.old third.new)) }
 {
-    let (airport, second) = read_two(alloc, names.0, airport, second)?;
+    let airport = read_whole(alloc, Input::Airport, airport)?;
+    let second = read_whole(alloc, names.0, second)?;
     let third = read_whole(alloc, names.1, third)?;
     Ok(Inputs {
         airport,

@@ -29,8 +29,8 @@ pub struct Judged {
     records: u32,
 }
 
-// The day of an airport before its first update.
-fn day_of(alloc: Global, airport: Airport) -> Result<DayState, AllocError>
+/// The day of an airport before its first update.
+pub fn day_of(alloc: Global, airport: Airport) -> Result<DayState, AllocError>
     ensures { IfOk result (λ s. s ≡ record { airport = airport; journal = [] }) }
 {
     match DayState::new(alloc, airport) {

@@ -1,11 +1,12 @@
-//! Why a run of the feed and its scenarios ends without its whole text.
+//! Why a run ends without its whole text.
 ghost use Rattle.std.specs.Prelude.{◌≡◌};
 ghost use Rattle.cdm_files.specs.declared.common_fault.CommonFault.TheVariants as common;
 ghost use Rattle.cdm_files.specs.declared.run_error.RunError.TheVariants as error;
 
 use crate::common_fault::CommonFault;
 use crate::output::WriteFault;
-use cdm_flight::RefusalWord;
+use cdm_flight::{FlightName, RefusalWord, RunwayName};
+use cdm_scenario::ScenarioName;
 use std::alloc::AllocError;
 use thiserror::Error;
 
@@ -18,6 +19,15 @@ pub enum RunError {
     /// The first faulty record of the scenario file, and the word that refuses it.
     #[error("SCENARIOS record {0}: {1}")]
     Scenario(usize, RefusalWord),
+    /// No such flight is known.
+    #[error("no flight {}", .0.text())]
+    NoFlight(FlightName),
+    /// The airport has no such runway.
+    #[error("no runway {}", .0.text())]
+    NoRunway(RunwayName),
+    /// The scenario file has no scenario of this name.
+    #[error("no scenario {}", .0.text())]
+    NoScenario(ScenarioName),
 }
 
 impl From<CommonFault> for RunError {
