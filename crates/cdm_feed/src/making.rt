@@ -175,18 +175,18 @@ fn made_of_day<R: Threads + Sync, G: Gate>(
 /// What is asked for, made of whole inputs: an airport file, a feed and a scenario file.
 pub(crate) fn made_of_inputs<R: Threads + Sync, G: Gate>(
     lent: &Lent<'_, R, G>,
-    asked: Asked<'_>,
+    asked: &Asked<'_>,
     inputs: &Inputs,
 ) -> Result<Made, RunError>
     requires second { length inputs.now.second.items ≤ input_limit }
     requires third { length inputs.now.third.items ≤ input_limit }
-    ensures made { IfOk result (λ made. IsMade asked.entry inputs.now.airport.items inputs.now.second.items inputs.now.third.items made.text.items made.counted) }
-    ensures fault { IfErr result (IsUnmade asked.entry inputs.now.airport.items inputs.now.second.items inputs.now.third.items) }
+    ensures made { IfOk result (λ made. IsMade asked.now inputs.now.airport.items inputs.now.second.items inputs.now.third.items made.text.items made.counted) }
+    ensures fault { IfErr result (IsUnmade asked.now inputs.now.airport.items inputs.now.second.items inputs.now.third.items) }
 {
     match asked {
-        Asked::Day(asked) => made_of_day(lent, asked, inputs),
+        Asked::Day(text) => made_of_day(lent, *text, inputs),
         Asked::Check(paths) => {
-            let Checked { text, counts } = check_of(lent, paths, inputs)?;
+            let Checked { text, counts } = check_of(lent, *paths, inputs)?;
             let counted = Counted::Check(counts);
             Ok(Made { text, counted })
         }

@@ -39,7 +39,7 @@ pub struct RunCounts {
 /// `Write`. Before `Write` nothing was written, and at `Write` a prefix of the text was.
 pub fn run_asked<R: Threads + Sync, A: Read, F: Read, S: Read, G: Gate, W: Write>(
     lent: &Lent<'_, R, G>,
-    asked: Asked<'_>,
+    asked: &Asked<'_>,
     airport: &mut Device<A>,
     feed: &mut Device<F>,
     scenarios: &mut Device<S>,
@@ -53,17 +53,17 @@ pub fn run_asked<R: Threads + Sync, A: Read, F: Read, S: Read, G: Gate, W: Write
     // The text that is asked for was written, and what it counts is the answer.
     ensures written { IfOk result (λ counted.
         OfBytes (A.remaining airport.old.inner) (F.remaining feed.old.inner) (S.remaining scenarios.old.inner) (λ airport_file feed_file scenario_file.
-        (text : List ℕ) × IsMade asked.entry airport_file feed_file scenario_file text counted
+        (text : List ℕ) × IsMade asked.now airport_file feed_file scenario_file text counted
         × Appends (W.contents out.old.inner) (W.contents out.new.inner) text)) }
     ensures one { OnOk result
-        (IfTold (A.remaining airport.old.inner) (F.remaining feed.old.inner) (S.remaining scenarios.old.inner) (HaveOne asked.entry)) }
+        (IfTold (A.remaining airport.old.inner) (F.remaining feed.old.inner) (S.remaining scenarios.old.inner) (HaveOne asked.now)) }
 
     // The first fault is the answer, and Ok where there was none.
     ensures read { OnOk result (AreRead
         (reading Input.Airport A.remaining airport.old airport.new)
         (reading Input.Feed F.remaining feed.old feed.new)
         (reading Input.Scenarios S.remaining scenarios.old scenarios.new)) }
-    ensures fault { IfErr result (IsFirstOf asked.entry
+    ensures fault { IfErr result (IsFirstOf asked.now
         (reading Input.Airport A.remaining airport.old airport.new)
         (reading Input.Feed F.remaining feed.old feed.new)
         (reading Input.Scenarios S.remaining scenarios.old scenarios.new)) }
@@ -71,7 +71,7 @@ pub fn run_asked<R: Threads + Sync, A: Read, F: Read, S: Read, G: Gate, W: Write
     ensures failed { out.new.failed ≡ is_write_fault result }
     ensures prefix { IsErrOf result (RunError.Common CommonFault.Write) →
         OfBytes (A.remaining airport.old.inner) (F.remaining feed.old.inner) (S.remaining scenarios.old.inner) (λ airport_file feed_file scenario_file.
-        (text : List ℕ) × (counted : Counted) × IsMade asked.entry airport_file feed_file scenario_file text counted
+        (text : List ℕ) × (counted : Counted) × IsMade asked.now airport_file feed_file scenario_file text counted
         × (n : ℕ) × Appends (W.contents out.old.inner) (W.contents out.new.inner) (take n text)) }
 {
     let names = (Input::Feed, Input::Scenarios);
@@ -137,6 +137,6 @@ pub fn run<R: Threads + Sync, A: Read, F: Read, S: Read, G: Gate, W: Write>(
         gate,
     };
     let asked = Asked::Day(DayText::Report);
-    let counted = run_asked(&lent, asked, airport, feed, scenarios, out)?;
+    let counted = run_asked(&lent, &asked, airport, feed, scenarios, out)?;
     Ok(counted.of_day())
 }

@@ -137,7 +137,7 @@ where
         Command::Serve { airport, journal } => return serve_day(rt, airport, journal, out),
         Command::Print(text) => return print(text, out),
     };
-    make(rt, files, Asked::Day(text), workers, out)
+    make(rt, files, &Asked::Day(text), workers, out)
 }
 
 // The paths of the files of a day, and of its scenarios, if there are some.
@@ -204,7 +204,7 @@ fn open_scenarios<R: AllocGlobal + Files + io::Input>(
 fn make<R: AllocGlobal + Files + io::Input + Threads + Sync, W: Write>(
     rt: &R,
     files: DayFiles<'_>,
-    asked: Asked<'_>,
+    asked: &Asked<'_>,
     workers: Workers,
     out: &mut Device<W>,
 ) -> Result<u8, Fault>
@@ -241,7 +241,7 @@ fn check<R: AllocGlobal + Files + io::Input + Threads + Sync, W: Write>(
         feed: &feed,
         scenarios: files.scenarios.map(|_| scenarios.as_str()),
     };
-    make(rt, files, Asked::Check(paths), workers, out)
+    make(rt, files, &Asked::Check(paths), workers, out)
 }
 
 // Serves the day of an airport: records come from standard input, and replies go to `out`. Answers
