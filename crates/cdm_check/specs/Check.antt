@@ -4,7 +4,7 @@ use Rattle.std.specs.Fmt.{decimal}
 use Rattle.std.specs.List.{AllZip, concat, list_all}
 use Rattle.cdm_flight.specs.Words.{text_of}
 use Rattle.cdm_report.specs.Report.{line_end}
-use Rattle.cdm_feed.specs.Records.{records_of}
+use Rattle.cdm_files.specs.Records.{records_of}
 use Rattle.cdm_check.specs.Findings.{File, Finding, findings_in}
 use Rattle.cdm_check.specs.declared.counts.CheckCounts.{CheckCounts}
 

@@ -2,9 +2,9 @@
 use Rattle.std.specs.Prelude.{ℕ, List, [], ◌∷◌, ◌++◌, map, Result, Ok, Err}
 use Rattle.cdm_flight.specs.Journal.{AirportRows}
 use Rattle.cdm_flight.specs.declared.word.RefusalWord.{RefusalWord}
-use Rattle.cdm_feed.specs.AirportFile.{airport_in}
-use Rattle.cdm_feed.specs.Output.{refusals_in}
-use Rattle.cdm_feed.specs.ScenarioFile.{scenarios_in}
+use Rattle.cdm_files.specs.AirportFile.{airport_in}
+use Rattle.cdm_files.specs.FeedDay.{refusals_in}
+use Rattle.cdm_files.specs.ScenarioFile.{scenarios_in}
 
 -- a file: its path as it is told, and its bytes
 pub record File : Type 0 where

@@ -1,4 +1,3 @@
 pub mod Findings
 pub mod Check
-pub mod CheckFaults
 pub mod Paths

@@ -5,7 +5,7 @@ use crate::kinds::FileKind;
 use crate::place::{Cause, line_of};
 use crate::record_words::cause_in_record;
 use crate::shown::shown;
-use cdm_feed::RecordReader;
+use cdm_files::RecordReader;
 use cdm_flight::RefusalWord;
 use cdm_time::Day;
 use csv::ByteRecord;

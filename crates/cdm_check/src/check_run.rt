@@ -1,13 +1,10 @@
-//! A whole check, from the bytes of its inputs to the bytes of its text.
-ghost use Rattle.std.specs.Prelude.{◌≡◌, ◌≤◌, ◌+◌, ◌++◌, ◌∷◌, ℕ, List, [], map, length, take, false, unwrap_or, vec_len, Ok, IfOk, IfErr, OnOk, OnErr, IsErrOf};
-ghost use Rattle.std.specs.Io.KnownBytes.{Appends};
+//! A whole check, from the bytes of its inputs to its text.
+ghost use Rattle.std.specs.Prelude.{◌≡◌, ◌≤◌, ◌+◌, ◌++◌, ◌∷◌, [], map, length, take, unwrap_or, vec_len, Ok, IfOk};
 ghost use Rattle.std.specs.Option.{option_copied};
-ghost use Rattle.cdm_feed.specs.declared.input.TheConstants.{INPUT_LIMIT};
-ghost use Rattle.cdm_feed.specs.Readings.{AreRead, IfTold, reading};
-ghost use Rattle.cdm_feed.specs.Records.{records_of};
-ghost use Rattle.cdm_feed.specs.ScenarioFile.{scenarios_in};
+ghost use Rattle.cdm_files.specs.Input.{input_limit};
+ghost use Rattle.cdm_files.specs.Records.{records_of};
+ghost use Rattle.cdm_files.specs.ScenarioFile.{scenarios_in};
 ghost use Rattle.cdm_check.specs.Check.{AreHintsOf, AreLinesOf, most_told};
-ghost use Rattle.cdm_check.specs.CheckFaults.{IsFirstFault, is_write_fault};
 ghost use Rattle.cdm_check.specs.Findings.{fault_at, finding, findings_at, findings_in};
 ghost use Rattle.cdm_check.specs.Paths.{IsCheckAt, airport_file, counts_at, feed_file, scenario_file};
 
@@ -21,15 +18,11 @@ use crate::place::Cause;
 use crate::scenario_words::scenario_fault;
 use crate::walk::FeedWalk;
 use cdm_day::Airport;
-use cdm_feed::{
-    CommonFault, Device, FileFault, Input, Inputs, judge, read_airport, read_inputs,
-    read_scenarios, write_text,
-};
+use cdm_files::{FileFault, Inputs, Lent, judge, read_airport, read_scenarios};
 use cdm_flight::RefusalWord;
-use cdm_phase::{Gate, Workers};
+use cdm_phase::Gate;
 use cdm_time::Day;
 use std::alloc::{AllocError, Global};
-use std::io::{Read, Write};
 use std::thread::Threads;
 
 // The lines of the first findings, and how many findings there are.
@@ -39,11 +32,13 @@ struct Told {
     refused: usize,
 }
 
-// The text of a check and what it counts.
+/// The text of a check and what it counts.
 #[derive(Drop)]
-struct Checked {
-    text: Vec<u8>,
-    counts: CheckCounts,
+pub struct Checked {
+    /// The text.
+    pub text: Vec<u8>,
+    /// What its last line tells.
+    pub counts: CheckCounts,
 }
 
 // The lines of refused records of a feed.
@@ -177,22 +172,20 @@ fn scenario_path(paths: FilePaths<'_>) -> &str
 
 // What is found in the feed and in the scenario file of an airport.
 fn told_of_day<R: Threads + Sync, G: Gate>(
-    rt: &R,
-    alloc: Global,
+    lent: &Lent<'_, R, G>,
     paths: FilePaths<'_>,
     airport: Airport,
     feed: &[u8],
     scenarios: &[u8],
-    workers: Workers,
-    gate: &G,
 ) -> Result<Told, AllocError>
-    requires { length feed.now ≤ INPUT_LIMIT }
+    requires { length feed.now ≤ input_limit }
     ensures lines { IfOk result (λ told. AreLinesOf (take most_told (
         findings_at (Ok airport) (airport_file paths.entry []) (feed_file paths.entry feed.now) (scenario_file paths.entry scenarios.now))) told.lines.items) }
     ensures refused { IfOk result (λ told. told.refused ≡ length (
         findings_at (Ok airport) (airport_file paths.entry []) (feed_file paths.entry feed.now) (scenario_file paths.entry scenarios.now))) }
 {
-    let judged = judge(rt, alloc, airport, feed, workers, gate)?;
+    let alloc = lent.alloc;
+    let judged = judge(lent.rt, alloc, airport, feed, lent.workers, lent.gate)?;
     let airport = judged.state.airport();
     let mut lines = feed_lines(alloc, paths.feed, airport, feed, first_of(&judged.refused))?;
     let scenario = scenario_lines(alloc, scenario_path(paths), airport, scenarios)?;
@@ -208,30 +201,19 @@ fn told_of_day<R: Threads + Sync, G: Gate>(
 // What is found in all files.
 #[tactic(auto, unfolding(crate::specs::Findings::findings_in))]
 fn told_of<R: Threads + Sync, G: Gate>(
-    rt: &R,
-    alloc: Global,
+    lent: &Lent<'_, R, G>,
     paths: FilePaths<'_>,
     inputs: &Inputs,
-    workers: Workers,
-    gate: &G,
 ) -> Result<Told, AllocError>
-    requires { vec_len inputs.now.second ≤ INPUT_LIMIT }
+    requires { vec_len inputs.now.second ≤ input_limit }
     ensures lines { IfOk result (λ told. AreLinesOf (take most_told (findings_in (airport_file paths.entry inputs.now.airport.items)
         (feed_file paths.entry inputs.now.second.items) (scenario_file paths.entry inputs.now.third.items))) told.lines.items) }
     ensures refused { IfOk result (λ told. told.refused ≡ length (findings_in (airport_file paths.entry inputs.now.airport.items)
         (feed_file paths.entry inputs.now.second.items) (scenario_file paths.entry inputs.now.third.items))) }
 {
+    let alloc = lent.alloc;
     match read_airport(alloc, &inputs.airport) {
-        Ok(airport) => told_of_day(
-            rt,
-            alloc,
-            paths,
-            airport,
-            &inputs.second,
-            &inputs.third,
-            workers,
-            gate,
-        ),
+        Ok(airport) => told_of_day(lent, paths, airport, &inputs.second, &inputs.third),
         Err(FileFault::Refused(number, word)) => {
             airport_line(alloc, paths.airport, &inputs.airport, number, word)
         }
@@ -241,8 +223,8 @@ fn told_of<R: Threads + Sync, G: Gate>(
 
 // How many records all files have.
 fn record_counts(alloc: Global, inputs: &Inputs) -> Result<usize, AllocError>
-    requires second { vec_len inputs.now.second ≤ INPUT_LIMIT }
-    requires third { vec_len inputs.now.third ≤ INPUT_LIMIT }
+    requires second { vec_len inputs.now.second ≤ input_limit }
+    requires third { vec_len inputs.now.third ≤ input_limit }
     ensures { IfOk result (λ count. count ≡ length (records_of inputs.now.airport.items)
         + length (records_of inputs.now.second.items) + length (records_of inputs.now.third.items)) }
 {
@@ -262,23 +244,24 @@ fn scenario_hints(alloc: Global, path: Option<&str>, text: &[u8]) -> Result<Vec<
     }
 }
 
-// The text of a check, and what it counts.
-fn check_of<R: Threads + Sync, G: Gate>(
-    rt: &R,
-    alloc: Global,
+/// The text of a check of files, which are these inputs, and what it counts: a line for the first faulty record of the
+/// airport file, or else for each refused record of the feed and for the first faulty record of the scenario file, 1,000
+/// lines at most; then hints on whole files; and then how many records there are, and how many of them are refused. The
+/// records that are told, and their words, are those that a run of these files tells as refused or as its fault.
+pub fn check_of<R: Threads + Sync, G: Gate>(
+    lent: &Lent<'_, R, G>,
     paths: FilePaths<'_>,
     inputs: &Inputs,
-    workers: Workers,
-    gate: &G,
 ) -> Result<Checked, AllocError>
-    requires second { vec_len inputs.now.second ≤ INPUT_LIMIT }
-    requires third { vec_len inputs.now.third ≤ INPUT_LIMIT }
+    requires second { vec_len inputs.now.second ≤ input_limit }
+    requires third { vec_len inputs.now.third ≤ input_limit }
     ensures text { IfOk result (λ check.
         IsCheckAt paths.entry inputs.now.airport.items inputs.now.second.items inputs.now.third.items check.text.items) }
     ensures counts { IfOk result (λ check.
         check.counts ≡ counts_at paths.entry inputs.now.airport.items inputs.now.second.items inputs.now.third.items) }
 {
-    let told = told_of(rt, alloc, paths, inputs, workers, gate)?;
+    let alloc = lent.alloc;
+    let told = told_of(lent, paths, inputs)?;
     let records = record_counts(alloc, inputs)?;
     let refused = told.refused;
     let mut text = told.lines;
@@ -292,62 +275,4 @@ fn check_of<R: Threads + Sync, G: Gate>(
     text.extend_from_slice(&last)?;
     let counts = CheckCounts { records, refused };
     Ok(Checked { text, counts })
-}
-
-/// Checks files: reads the airport file, the feed and the scenario file, and writes a line for the first faulty
-/// record of the airport file, or else for each refused record of the feed and for the first faulty record of the
-/// scenario file, 1,000 lines at most; then hints on whole files; and then how many records there are, and how many
-/// of them are refused. The records that are told, and their words, are those that a run of these files tells as
-/// refused or as its fault.
-///
-/// `Ok` has read the three inputs to their ends, counts what the last line tells, and has written the whole text and
-/// flushed it. Faults in their order: `Read` and `TooLong` of the airport file, of the feed and of the scenario file;
-/// `Memory`, wherever memory was first refused; `Write`. Before `Write` nothing was written, and at `Write` a prefix
-/// of the text was. `Airport` is never answered.
-pub fn run_check<R: Threads + Sync, A: Read, F: Read, S: Read, G: Gate, W: Write>(
-    rt: &R,
-    alloc: Global,
-    paths: FilePaths<'_>,
-    airport: &mut Device<A>,
-    feed: &mut Device<F>,
-    scenarios: &mut Device<S>,
-    workers: Workers,
-    gate: &G,
-    out: &mut Device<W>,
-) -> Result<CheckCounts, CommonFault>
-    requires airport { airport.old.failed ≡ false }
-    requires feed { feed.old.failed ≡ false }
-    requires scenarios { scenarios.old.failed ≡ false }
-    requires out { out.old.failed ≡ false }
-
-    // The text of a check of the three inputs was written, and what it counts is the answer.
-    ensures written { OnOk result
-        (IfTold (A.remaining airport.old.inner) (F.remaining feed.old.inner) (S.remaining scenarios.old.inner) (λ airport_bytes feed_bytes scenario_bytes.
-        (text : List ℕ) × IsCheckAt paths.entry airport_bytes feed_bytes scenario_bytes text
-        × Appends (W.contents out.old.inner) (W.contents out.new.inner) text)) }
-    ensures clean { IfOk result (λ counts.
-        IfTold (A.remaining airport.old.inner) (F.remaining feed.old.inner) (S.remaining scenarios.old.inner) (λ airport_bytes feed_bytes scenario_bytes.
-        counts ≡ counts_at paths.entry airport_bytes feed_bytes scenario_bytes)) }
-
-    // The first fault is the answer, and Ok where there was none.
-    ensures read { OnOk result (AreRead
-        (reading Input.Airport A.remaining airport.old airport.new)
-        (reading Input.Feed F.remaining feed.old feed.new)
-        (reading Input.Scenarios S.remaining scenarios.old scenarios.new)) }
-    ensures fault { IfErr result (IsFirstFault
-        (reading Input.Airport A.remaining airport.old airport.new)
-        (reading Input.Feed F.remaining feed.old feed.new)
-        (reading Input.Scenarios S.remaining scenarios.old scenarios.new)) }
-    ensures nothing { OnErr result (is_write_fault result ≡ false → out.new ≡ out.old) }
-    ensures failed { out.new.failed ≡ is_write_fault result }
-    ensures prefix { IsErrOf result CommonFault.Write →
-        IfTold (A.remaining airport.old.inner) (F.remaining feed.old.inner) (S.remaining scenarios.old.inner) (λ airport_bytes feed_bytes scenario_bytes.
-        (text : List ℕ) × IsCheckAt paths.entry airport_bytes feed_bytes scenario_bytes text
-        × (n : ℕ) × Appends (W.contents out.old.inner) (W.contents out.new.inner) (take n text)) }
-{
-    let names = (Input::Feed, Input::Scenarios);
-    let inputs = read_inputs(alloc, names, airport, feed, scenarios)?;
-    let check = check_of(rt, alloc, paths, &inputs, workers, gate)?;
-    write_text(out, &check.text)?;
-    Ok(check.counts)
 }

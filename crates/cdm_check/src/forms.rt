@@ -2,7 +2,7 @@
 
 use crate::kinds::FileKind;
 use crate::times::DateText;
-use cdm_feed::{ctot_field, number_field, place_field, role_of};
+use cdm_files::{ctot_field, number_field, place_field, role_of};
 use cdm_flight::{CellLength, FlightName, Group, RefusalWord, RunwayName, StandName};
 use cdm_scenario::ScenarioName;
 use cdm_time::{Day, TimeFault};

@@ -9,7 +9,7 @@ use crate::lines::hint_line;
 use crate::place::{line_of, without_mark};
 use crate::quotes::open_quote;
 use crate::shown::trimmed;
-use cdm_feed::{RecordReader, role_of};
+use cdm_files::{RecordReader, role_of};
 use csv::ByteRecord;
 use std::alloc::{AllocError, Global};
 

@@ -21,6 +21,6 @@ mod shown;
 mod times;
 mod walk;
 
-pub use check_run::run_check;
+pub use check_run::{Checked, check_of};
 pub use counts::CheckCounts;
 pub use paths::FilePaths;

@@ -1,10 +1,10 @@
 //! The lines of a check.
 ghost use Rattle.std.specs.Prelude.{◌≡◌, ◌≤◌, length, take, filter, IfOk};
-ghost use Rattle.cdm_feed.specs.Records.{records_of};
+ghost use Rattle.cdm_files.specs.Records.{records_of};
 ghost use Rattle.cdm_check.specs.Check.{IsHintOf, IsLineOf, IsSentence, is_printable, last_line};
 ghost use Rattle.cdm_check.specs.Findings.{finding};
 
-use cdm_feed::RecordReader;
+use cdm_files::RecordReader;
 use cdm_flight::RefusalWord;
 use csv::ByteRecord;
 use std::alloc::{AllocError, Global};

@@ -4,7 +4,7 @@ use crate::fields::{Field, faulty_field, field_at, kind_of};
 use crate::forms::Form;
 use crate::kinds::{FileKind, Kind, UPDATE_KINDS};
 use crate::shown::{shown, trimmed, where_spaces_are};
-use cdm_feed::role_of;
+use cdm_files::role_of;
 use cdm_flight::RefusalWord;
 use cdm_time::Day;
 use csv::ByteRecord;

@@ -6,7 +6,7 @@ use crate::known::Known;
 use crate::place::{Cause, line_of};
 use crate::record_words::cause_in_record;
 use cdm_day::Airport;
-use cdm_feed::{RecordReader, parse_record};
+use cdm_files::{RecordReader, parse_record};
 use cdm_flight::RefusalWord;
 use csv::ByteRecord;
 use std::alloc::{AllocError, Global};

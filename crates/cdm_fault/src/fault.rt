@@ -1,16 +1,14 @@
 //! What stops the program, and how it is told.
 ghost use Rattle.std.specs.Prelude.{◌≡◌};
-ghost use Rattle.cdm_fault.specs.Statuses.{status_of_check, status_of_command_fault, status_of_common, status_of_fault};
+ghost use Rattle.cdm_fault.specs.Statuses.{status_of_command_fault, status_of_common, status_of_fault, status_of_run};
 ghost use Rattle.cdm_fault.specs.declared.fault.Fault.TheVariants as fault;
 
 use crate::unopened::UnopenedFile;
-use cdm_check::CheckCounts;
 use cdm_command::CommandFault;
-use cdm_feed::{CommonFault, Device, Input, RunError, TableError, ViewError};
+use cdm_feed::{CommonFault, Counted, Device, Input, RunError};
 use cdm_live::LiveError;
 use cdm_port::PortFault;
 use cdm_serve::ServeError;
-use cdm_trace::TraceError;
 use std::alloc::AllocError;
 use std::io::Write;
 use thiserror::Error;
@@ -30,21 +28,9 @@ pub enum Fault {
     /// The run has not written its whole text.
     #[error(transparent)]
     Run(#[from] RunError),
-    /// The run has not made the whole table.
-    #[error(transparent)]
-    Table(#[from] TableError),
-    /// The run has not answered the question.
-    #[error(transparent)]
-    View(#[from] ViewError),
     /// The live run has not written its whole text.
     #[error(transparent)]
     Live(#[from] LiveError),
-    /// The check has not written its whole text.
-    #[error(transparent)]
-    Check(#[from] CommonFault),
-    /// The trace has not written its whole text.
-    #[error(transparent)]
-    Trace(#[from] TraceError),
     /// The journal's file can't be opened.
     #[error("cannot open JOURNAL ({0})")]
     CannotOpenJournal(UnopenedFile),
@@ -72,16 +58,14 @@ impl Fault {
     {
         match self {
             Fault::Run(RunError::Common(fault))
-            | Fault::Table(TableError::Common(fault))
-            | Fault::View(ViewError::Common(fault))
             | Fault::Live(LiveError::Common(fault))
-            | Fault::Trace(TraceError::Common(fault))
-            | Fault::Serve(ServeError::Common(fault))
-            | Fault::Check(fault) => common_status(*fault),
-            Fault::Run(RunError::Scenario(..))
-            | Fault::Table(TableError::Scenario(..) | TableError::NoScenario(_))
-            | Fault::View(ViewError::NoFlight(_) | ViewError::NoRunway(_))
-            | Fault::Trace(TraceError::NoFlight(_))
+            | Fault::Serve(ServeError::Common(fault)) => common_status(*fault),
+            Fault::Run(
+                RunError::Scenario(..)
+                | RunError::NoFlight(_)
+                | RunError::NoRunway(_)
+                | RunError::NoScenario(_),
+            )
             | Fault::Serve(ServeError::Journal(..) | ServeError::Port(PortFault::JournalTooLong))
             | Fault::Live(LiveError::HistoryFull) => 3,
             Fault::CannotOpen(..)
@@ -104,11 +88,14 @@ fn common_status(fault: CommonFault) -> u8
     }
 }
 
-/// The exit status of a check: 4 where a record is refused.
-pub fn check_status(counts: &CheckCounts) -> u8
-    ensures { result ≡ status_of_check counts.now }
+/// The exit status of a run that has written its text: 4 where a check refuses a record.
+pub fn run_status(counted: &Counted) -> u8
+    ensures { result ≡ status_of_run counted.now }
 {
-    if counts.refused == 0 { 0 } else { 4 }
+    match counted {
+        Counted::Check(counts) if counts.refused > 0 => 4,
+        Counted::Check(_) | Counted::Day(_) => 0,
+    }
 }
 
 /// Writes the fault's line, and answers its exit status, also where the line can't be written.

@@ -1,122 +1,87 @@
 -- A run has one text.
-use Rattle.std.proofs.Common.{◌≡◌, ◌++◌, ◌∙◌, ℕ, ◌+◌, Bool, true, false, not, List, [], ◌∷◌, Option, None, Some, Result, Ok, Err, IfOk, refl, sym, subst, subst₂}
-use Rattle.std.specs.Prelude.{⊤, if◌then◌else◌}
-use Rattle.std.specs.Result.{result_map_both}
-use Rattle.std.specs.List.{AllZip, concat, IsDistinct}
-use Rattle.std.specs.Option.{ok_or}
-use Rattle.cdm_flight.specs.Accepted.{has_runway}
+use Rattle.std.proofs.Common.{◌≡◌, ◌++◌, ◌∙◌, ℕ, List, Ok, sym, subst, subst₂}
+use Rattle.std.specs.List.{AllZip, IsDistinct, concat}
 use Rattle.cdm_flight.specs.Journal.{AirportRows}
 use Rattle.cdm_flight.specs.Names.{same_name}
 use Rattle.cdm_flight.specs.declared.word.RefusalWord.{RefusalWord}
-use Rattle.cdm_flight.specs.declared.word.RefusalWord.TheVariants.{Order, Unknown}
-use Rattle.cdm_day.specs.Airport.{with_runway, with_space, with_taxi}
-use Rattle.cdm_plan.specs.Airport.{IsAirport}
+use Rattle.cdm_plan.specs.Airport.{IsAirport, runway_names}
 use Rattle.cdm_plan.specs.Day.{DayRecord, flights_in}
+use Rattle.cdm_plan.specs.DayPlan.{IsDayPlan}
 use Rattle.cdm_plan.proofs.OnePlanLemmas.{one_day_plan}
-use Rattle.cdm_day.proofs.BatchLemmas.{accepted-keeps}
 use Rattle.cdm_scenario.specs.inner.OneOutcome.{one_each}
-use Rattle.cdm_day.proofs.AirportLemmas.{airport_after_runway, airport_after_taxi, airport_with_space, airport_without_rows}
-use Rattle.cdm_plan.proofs.JournalFacts.{names_after}
-use Rattle.cdm_feed.specs.AirportFile.{airport_in, airport_record_of, with_record}
-use Rattle.cdm_feed.specs.Fields.{and_then, of_one}
-use Rattle.cdm_feed.specs.Files.{after_records}
-use Rattle.cdm_feed.specs.Answers.{IsAnswer}
-use Rattle.cdm_feed.specs.Output.{IsOutput, IsReport, accepted_in, day_in, refusals_in, spelled_in}
-use Rattle.cdm_feed.specs.inner.OneAnswer.{one_answer}
 use Rattle.cdm_scenario.specs.Scenarios.{ScenarioRecord}
 use Rattle.cdm_report.specs.Counts.{counts_of}
-use Rattle.cdm_feed.specs.Records.{records_of}
-use Rattle.cdm_feed.specs.Refused.{updates_in}
 use Rattle.cdm_report.specs.Report.{report_bytes}
 use Rattle.cdm_sequence.specs.declared.plan.Plan.{Plan}
+use Rattle.cdm_table.proofs.TableLemmas.{one_table}
+use Rattle.cdm_trace.proofs.OneTrace.{one}
+use Rattle.cdm_view.specs.Questions.{IsAnswer as IsAnswerTo}
+use Rattle.cdm_view.specs.declared.question.Question.{Question}
+use Rattle.cdm_view.proofs.AnswerLemmas.{answer_one}
+use Rattle.cdm_files.specs.FeedDay.{day_in}
+use Rattle.cdm_files.proofs.FeedDayLemmas.{own_airport, own_journal}
+use Rattle.cdm_feed.specs.Answers.{IsAnswer}
+use Rattle.cdm_feed.specs.Made.{HaveOne, IsMade, IsTextOf, IsView}
+use Rattle.cdm_feed.specs.Output.{HaveOneText, IsMadeBy, IsReport}
+use Rattle.cdm_feed.specs.inner.OneAnswer.{one_answer}
+use Rattle.cdm_feed.specs.declared.asked.DayText.{DayText}
+use Rattle.cdm_feed.specs.declared.asked.DayText.TheVariants.{Report, Table, Picture, Answer, Trace}
+use Rattle.cdm_feed.specs.declared.asked.Asked.{Asked}
+use Rattle.cdm_feed.specs.declared.asked.Asked.TheVariants as ask
+use Rattle.cdm_feed.specs.declared.counted.Counted.{Counted}
+use Rattle.cdm_feed.specs.declared.counted.Counted.TheVariants as counted
 use Rattle.cdm_feed.specs.declared.runs.RunCounts.{RunCounts}
-use Rattle.cdm_feed.specs.declared.airport_file.AirportRecord.{AirportRecord}
-use Rattle.cdm_feed.specs.declared.airport_file.AirportRecord.TheVariants.{Day, Runway, Space, Taxi}
 
--- Each flight becomes known once.
+-- the day's runways have names of their own, and so have its flights
+abbrev Own : DayRecord → Type 0
+Own d = IsDistinct same_name (runway_names d.airport) × IsDistinct same_name (flights_in d.journal)
 
-pub own_journal : (g : AirportRows) (feed : List ℕ) → IsDistinct same_name (flights_in (accepted_in g feed))
-unfolding accepted_in IsDistinct
-own_journal g feed =
-    accepted-keeps (λ a. IsDistinct same_name (flights_in a)) g (names_after g) [] (updates_in (spelled_in g feed)) tt
-
--- An airport file gives its runways names of their own.
-
-abbrev pub Keeps : Option AirportRows → Type 0
-Keeps None = ⊤
-Keeps (Some g) = IsAirport g
-
-row-kept : (r : Result AirportRows RefusalWord) → ((h : AirportRows) → r ≡ Ok h → IsAirport h) → IfOk (of_one Some r) Keeps
-row-kept (Ok h) k = k h refl
-row-kept (Err word) k = tt
-
-unless-refused : (b : Bool) (word : RefusalWord) (g h : AirportRows) → IsAirport g → (if b then Err word else Ok g) ≡ Ok h → IsAirport h
-unless-refused true word g h k e = cc
-unless-refused false word g h k e = let same : g ≡ h = cc in subst IsAirport same k
-
-record-kept : (s : Option AirportRows) (said : AirportRecord) → Keeps s → IfOk (with_record s said) Keeps
-unfolding with_record
-record-kept None (Day day) k = airport_without_rows _ refl refl
-record-kept None (Runway r cell cap) k = tt
-record-kept None (Taxi place r minutes) k = tt
-record-kept None (Space r group minutes) k = tt
-record-kept (Some g) (Day day) k = tt
-record-kept (Some g) (Runway r cell cap) k = row-kept (with_runway g r cell cap) (λ h. airport_after_runway g h r cell cap k)
-record-kept (Some g) (Taxi place r minutes) k = row-kept (with_taxi g place r minutes) (λ h. airport_after_taxi g h place r minutes k)
-record-kept (Some g) (Space r group minutes) k =
-    row-kept (with_space g r group minutes) (λ h. unless-refused (not (has_runway g r)) Unknown _ h (airport_with_space r group minutes g k))
-
-fields-kept : (s : Option AirportRows) (fields : List (List ℕ)) → Keeps s → IfOk (and_then (airport_record_of fields) (with_record s)) Keeps
-fields-kept s fields k = by (airport_record_of fields)
-  where
-    by : (r : Result AirportRecord RefusalWord) → IfOk (and_then r (with_record s)) Keeps
-    by (Ok said) = record-kept s said k
-    by (Err word) = tt
-
-records-kept : (s : Option AirportRows) (number : ℕ) (records : List (List (List ℕ))) → Keeps s
-    → IfOk (after_records airport_record_of with_record s number records) Keeps
-unfolding after_records
-records-kept s number [] k = k
-records-kept s number (fields ∷ later) k = by (λ next. records-kept next (number + 1) later) (and_then (airport_record_of fields) (with_record s)) (fields-kept s fields k)
-  where
-    by : ((next : Option AirportRows) → Keeps next → IfOk (after_records airport_record_of with_record next (number + 1) later) Keeps)
-        → (r : Result (Option AirportRows) RefusalWord) → IfOk r Keeps
-        → IfOk (and_then (result_map_both (λ next. next) (λ word. (number, word)) r) (λ next. after_records airport_record_of with_record next (number + 1) later)) Keeps
-    by more (Ok next) h = more next h
-    by more (Err word) h = tt
-
-began-kept : (r : Result (Option AirportRows) (ℕ × RefusalWord)) (fault : ℕ × RefusalWord) → IfOk r Keeps
-    → IfOk (and_then r (λ rows. ok_or rows fault)) IsAirport
-began-kept (Ok (Some g)) fault h = h
-began-kept (Ok None) fault h = tt
-began-kept (Err other) fault h = tt
-
-pub own_airport : (text : List ℕ) (g : AirportRows) → airport_in text ≡ Ok g → IsAirport g
-unfolding airport_in
-own_airport text g h =
-    let kept = began-kept (after_records airport_record_of with_record None 1 (records_of text)) (1, Order) (records-kept None 1 (records_of text) tt) in
-    subst (λ (r : Result AirportRows (ℕ × RefusalWord)). IfOk r IsAirport) h kept
-
--- One text.
-
-pub same-ok : {T E : Type 0} (r : Result T E) (x y : T) → r ≡ Ok x → r ≡ Ok y → x ≡ y
-same-ok r x y a b = cc
-
-one-report : (airport : List ℕ) (g : AirportRows) (feed : List ℕ) (questions : List ScenarioRecord) (x y : List ℕ) → airport_in airport ≡ Ok g
-    → IsReport g feed questions x → IsReport g feed questions y → x ≡ y
-one-report airport g feed questions x y is a b =
-    let day : DayRecord = day_in g feed in
-    let runways = (own_airport airport g is).names in
-    let flights = own_journal g feed in
-    let plans : b.plan ≡ a.plan = one_day_plan day b.plan a.plan runways flights b.of_day a.of_day in
+one-report : (d : DayRecord) (refused : List (ℕ × RefusalWord)) (questions : List ScenarioRecord) → Own d
+    → (x y : List ℕ) → IsReport d refused questions x → IsReport d refused questions y → x ≡ y
+one-report d refused questions own x y a b =
+    let plans : b.plan ≡ a.plan = one_day_plan d b.plan a.plan own.0 own.1 b.of_day a.of_day in
     let answers : a.answers ≡ b.answers =
-    one_each (IsAnswer day (counts_of a.plan)) (λ s. one_answer day (counts_of a.plan) s runways flights) questions a.answers b.answers a.of_scenarios
-    (subst (λ (p : Plan). AllZip (IsAnswer day (counts_of p)) questions b.answers) plans b.of_scenarios) in
-    a.bytes ∙ (λ i. report_bytes g.day (sym plans i) (refusals_in g feed) ++ concat (answers i)) ∙ sym b.bytes
+    one_each (IsAnswer d (counts_of a.plan)) (λ s. one_answer d (counts_of a.plan) s own.0 own.1) questions a.answers b.answers a.of_scenarios
+    (subst (λ (p : Plan). AllZip (IsAnswer d (counts_of p)) questions b.answers) plans b.of_scenarios) in
+    a.bytes ∙ (λ i. report_bytes d.airport.day (sym plans i) refused ++ concat (answers i)) ∙ sym b.bytes
 
-pub one-output : (airport feed scenarios x y : List ℕ) (c d : RunCounts) → IsOutput airport feed scenarios x c → IsOutput airport feed scenarios y d → x ≡ y
-one-output airport feed scenarios x y c d a b =
+one-view : (question : Question) (d : DayRecord) → IsAirport d.airport → Own d → (x y : List ℕ) → IsView question d x → IsView question d y → x ≡ y
+one-view question d kept own x y a b =
+    let plans : b.plan ≡ a.plan = one_day_plan d b.plan a.plan own.0 own.1 b.of_day a.of_day in
+    answer_one question d a.plan x y kept a.answer (subst (λ (p : Plan). IsAnswerTo question d p y) plans b.answer)
+
+-- where an airport, a feed and scenarios have one text, three files have one
+one-by : (IsText : AirportRows → List ℕ → List ScenarioRecord → List ℕ → Type 0) (airport feed scenarios : List ℕ)
+    → ((g : AirportRows) (questions : List ScenarioRecord) → IsAirport g → (x y : List ℕ) → IsText g feed questions x → IsText g feed questions y → x ≡ y)
+    → (x y : List ℕ) (c d : RunCounts) → IsMadeBy IsText airport feed scenarios x c → IsMadeBy IsText airport feed scenarios y d → x ≡ y
+one-by IsText airport feed scenarios alone x y c d a b =
     let rows : b.rows ≡ a.rows = cc in
     let asked : b.questions ≡ a.questions = cc in
-    one-report airport a.rows feed a.questions x y a.airport_file a.report
-    (subst₂ (λ (g : AirportRows) (q : List ScenarioRecord). IsReport g feed q y) rows asked b.report)
+    alone a.rows a.questions (own_airport airport a.rows a.airport_file) x y a.made
+    (subst₂ (λ (g : AirportRows) (q : List ScenarioRecord). IsText g feed q y) rows asked b.made)
+
+own-day : (g : AirportRows) (feed : List ℕ) → IsAirport g → Own (day_in g feed)
+own-day g feed kept = (kept.names, own_journal g feed)
+
+pub one-output : (airport feed scenarios : List ℕ) → HaveOneText airport feed scenarios
+one-output airport feed scenarios =
+    one-by (IsTextOf Report) airport feed scenarios (λ g questions kept. one-report (day_in g feed) _ questions (own-day g feed kept))
+
+one-counted : (asked : DayText) (airport feed scenarios : List ℕ)
+    → ((g : AirportRows) (questions : List ScenarioRecord) → IsAirport g → (x y : List ℕ) → IsTextOf asked g feed questions x → IsTextOf asked g feed questions y → x ≡ y)
+    → (x y : List ℕ) (c d : Counted) → IsMade (ask.Day asked) airport feed scenarios x c → IsMade (ask.Day asked) airport feed scenarios y d → x ≡ y
+one-counted asked airport feed scenarios alone x y (counted.Day c) (counted.Day d) a b = one-by (IsTextOf asked) airport feed scenarios alone x y c d a b
+one-counted asked airport feed scenarios alone x y (counted.Check c) d a b = absurd a
+one-counted asked airport feed scenarios alone x y (counted.Day c) (counted.Check d) a b = absurd b
+
+pub one-each : (asked : Asked) (airport feed scenarios : List ℕ) → HaveOne asked airport feed scenarios
+one-each (ask.Check paths) airport feed scenarios = tt
+one-each (ask.Day Picture) airport feed scenarios = tt
+one-each (ask.Day Report) airport feed scenarios =
+    one-counted Report airport feed scenarios (λ g questions kept. one-report (day_in g feed) _ questions (own-day g feed kept))
+one-each (ask.Day (Table table)) airport feed scenarios =
+    one-counted (Table table) airport feed scenarios (λ g questions kept. one_table (day_in g feed) kept.names (own_journal g feed) table questions)
+one-each (ask.Day (Answer question)) airport feed scenarios =
+    one-counted (Answer question) airport feed scenarios (λ g questions kept. one-view question (day_in g feed) kept (own-day g feed kept))
+one-each (ask.Day (Trace flight)) airport feed scenarios =
+    one-counted (Trace flight) airport feed scenarios (λ g questions kept x y a b. one flight g feed kept x y a.1 b.1)

@@ -1,50 +1,138 @@
--- Faults of a run, and what holds of its inputs.
-use Rattle.std.proofs.Common.{◌≡◌, ℕ, arith, List, [], Option, None, Some, IfSome, refl, sym, ap, subst, ◌∙◌}
+-- The first fault of a run, by why its whole inputs make no text.
+use Rattle.std.proofs.Common.{◌≡◌, ◌∙◌, ℕ, List, Option, None, Some, IfSome, Result, Ok, Err, ap, sym, subst}
 use Rattle.std.proofs.lemmas.Option.{IfSome_then}
-use Rattle.cdm_feed.specs.AirportFile.{airport_in}
-use Rattle.cdm_feed.specs.CommonFaults.{IsAirportFault, IsFirstCommonFault, IsFirstInputFault}
-use Rattle.cdm_feed.specs.Readings.{AreRead, IfTold, IsRead, Reading, no_input}
-use Rattle.cdm_feed.specs.declared.common_fault.CommonFault.{CommonFault}
-use Rattle.cdm_feed.specs.declared.common_fault.CommonFault.TheVariants as common
+use Rattle.std.specs.Prelude.{IsOk}
+use Rattle.std.specs.Result.{IsOkAnd}
+use Rattle.cdm_flight.specs.Journal.{AirportRows}
+use Rattle.cdm_flight.specs.declared.word.RefusalWord.{RefusalWord}
+use Rattle.cdm_plan.specs.Day.{DayRecord}
+use Rattle.cdm_scenario.specs.Scenarios.{ScenarioRecord}
+use Rattle.cdm_files.specs.AirportFile.{airport_in}
+use Rattle.cdm_files.specs.CommonFaults.{IsFirstInputFault}
+use Rattle.cdm_files.specs.FeedDay.{day_in}
+use Rattle.cdm_files.specs.Readings.{AreRead, OfBytes, Reading}
+use Rattle.cdm_files.specs.RunFaults.{Asks, IsFirstFault, IsRecordFault}
+use Rattle.cdm_files.specs.ScenarioFile.{scenarios_in}
+use Rattle.cdm_files.specs.declared.common_fault.CommonFault.{CommonFault}
+use Rattle.cdm_files.specs.declared.common_fault.CommonFault.TheVariants as common
+use Rattle.cdm_files.specs.declared.run_error.RunError.{RunError}
+use Rattle.cdm_files.specs.declared.run_error.RunError.TheVariants as error
+use Rattle.cdm_files.proofs.RunLemmas.{airport_record-first, input_fault-first}
+use Rattle.cdm_feed.specs.Made.{HaveText, IsFirstOf, IsMade, IsUnmade, IsUntold}
+use Rattle.cdm_feed.specs.Output.{IsOutput}
+use Rattle.cdm_feed.specs.Counts.{day_counts}
+use Rattle.cdm_feed.specs.declared.asked.DayText.{DayText}
+use Rattle.cdm_feed.specs.declared.asked.DayText.TheVariants.{Report}
+use Rattle.cdm_feed.specs.declared.asked.Asked.{Asked}
+use Rattle.cdm_feed.specs.declared.asked.Asked.TheVariants as ask
+use Rattle.cdm_feed.specs.declared.counted.Counted.{Counted}
+use Rattle.cdm_feed.specs.declared.counted.Counted.TheVariants as counted
 
--- a last input that a run doesn't read counts as read
-pub no_input-read : IsRead no_input
-no_input-read = record { unfailed = (refl, ([], refl, omega arith)); ended = refl }
+-- what is said of these bytes, which are those that were read
+pub of-read : {P : List ℕ → List ℕ → List ℕ → Type 0} {a s t : Option (List ℕ)} (x y z : List ℕ)
+    → IfSome a (λ all. x ≡ all) → IfSome s (λ all. y ≡ all) → IfSome t (λ all. z ≡ all) → P x y z → OfBytes a s t P
+of-read x y z first second third p =
+    record { airport = x; second = y; third = z; of_airport = first; of_second = second; of_third = third; holds = p }
 
--- a fault of the inputs is the first, whatever is asked of them
-pub input_fault-first : (a s t : Reading) (Good : Type 0) (e : CommonFault) → IsFirstInputFault a s t e → IsFirstCommonFault a s t Good e
-input_fault-first a s t Good (common.Read name) fault = fault
-input_fault-first a s t Good (common.TooLong name) fault = fault
-input_fault-first a s t Good (common.Airport number word) fault = absurd fault
-input_fault-first a s t Good common.Memory fault = fault
-input_fault-first a s t Good common.Write fault = absurd fault
+-- a fault of the inputs is the first, whatever is asked for
+pub input-first : (asked : Asked) (a f s : Reading) (e : CommonFault) → IsFirstInputFault a f s e → IsFirstOf asked a f s (error.Common e)
+input-first (ask.Day asked) a f s e fault = input_fault-first a f s _ e fault
+input-first (ask.Check paths) a f s (common.Read name) fault = fault
+input-first (ask.Check paths) a f s (common.TooLong name) fault = fault
+input-first (ask.Check paths) a f s (common.Airport number word) fault = absurd fault
+input-first (ask.Check paths) a f s common.Memory fault = fault
+input-first (ask.Check paths) a f s common.Write fault = absurd fault
 
--- and so is a fault of the airport file, where they were read
-pub airport_record-first : (a s t : Reading) (Good : Type 0) (airport : List ℕ) (e : CommonFault) → AreRead a s t
-    → IfSome a.before (λ bytes. airport ≡ bytes) → IsAirportFault airport e → IsFirstCommonFault a s t Good e
-airport_record-first a s t Good airport (common.Read name) read is fault = absurd fault
-airport_record-first a s t Good airport (common.TooLong name) read is fault = absurd fault
-airport_record-first a s t Good airport (common.Airport number word) read is fault =
-    (read, IfSome_then a.before is (λ bytes same. sym (ap airport_in same) ∙ fault))
-airport_record-first a s t Good airport common.Memory read is fault = (read.0.unfailed, read.1.unfailed, read.2.unfailed)
-airport_record-first a s t Good airport common.Write read is fault = absurd fault
+-- and so is why whole inputs make no text, where they were read
+pub unmade-first : (asked : Asked) (a f s : Reading) (x y z : List ℕ) (e : RunError) → AreRead a f s
+    → IfSome a.before (λ all. x ≡ all) → IfSome f.before (λ all. y ≡ all) → IfSome s.before (λ all. z ≡ all)
+    → IsUnmade asked x y z e → IsFirstOf asked a f s e
+unmade-first (ask.Check paths) a f s x y z e read first second third fault =
+    subst (IsFirstOf (ask.Check paths) a f s) (sym fault) (read.0.unfailed, read.1.unfailed, read.2.unfailed)
+unmade-first (ask.Day asked) a f s x y z (error.Common e) read first second third fault = airport_record-first a f s _ x e read first fault
+unmade-first (ask.Day asked) a f s x y z (error.Scenario number word) read first second third fault = (read, of-read x y z first second third fault)
+unmade-first (ask.Day asked) a f s x y z (error.NoFlight name) read first second third fault = (read, of-read x y z first second third fault)
+unmade-first (ask.Day asked) a f s x y z (error.NoRunway name) read first second third fault = (read, of-read x y z first second third fault)
+unmade-first (ask.Day asked) a f s x y z (error.NoScenario name) read first second third fault = (read, of-read x y z first second third fault)
 
--- what is said of the bytes that were read is said of the inputs
-pub of_both : (P : List ℕ → List ℕ → Type 0) (a s : Option (List ℕ)) (airport scenarios : List ℕ)
-    → IfSome a (λ bytes. airport ≡ bytes) → IfSome s (λ bytes. scenarios ≡ bytes)
-    → P airport scenarios → IfSome a (λ x. IfSome s (P x))
-of_both P a s airport scenarios is also p =
-    IfSome_then a is (λ x same. IfSome_then s also (λ y so. subst (λ (bytes : List ℕ). P bytes y) same (subst (P airport) so p)))
+-- a faulty record is why they make none
+pub record-unmade : (asked : DayText) (a f s : List ℕ) (e : RunError) → IsRecordFault a s e → IsUnmade (ask.Day asked) a f s e
+record-unmade asked a f s (error.Common e) fault = fault
+record-unmade asked a f s (error.Scenario number word) fault = fault
+record-unmade asked a f s (error.NoFlight name) fault = absurd fault
+record-unmade asked a f s (error.NoRunway name) fault = absurd fault
+record-unmade asked a f s (error.NoScenario name) fault = absurd fault
 
-pub of_inputs : (P : List ℕ → List ℕ → List ℕ → Type 0) (a s t : Option (List ℕ)) (airport second third : List ℕ)
-    → IfSome a (λ bytes. airport ≡ bytes) → IfSome s (λ bytes. second ≡ bytes) → IfSome t (λ bytes. third ≡ bytes)
-    → P airport second third → IfTold a s t P
-of_inputs P a s t airport second third as_airport as_second as_third p =
-    IfSome_then a as_airport (λ x is. of_both (P x) s t second third as_second as_third (subst (λ (bytes : List ℕ). P bytes second third) is p))
+-- and what their day doesn't know
+unknown-unmade : (asked : DayText) (a f s : List ℕ) (d : DayRecord) (questions : List ScenarioRecord) (e : RunError)
+    → airport_in a ≡ Ok d.airport → d ≡ day_in d.airport f → scenarios_in d.airport.day s ≡ Ok questions → IsUntold asked d questions e
+    → IsOkAnd (airport_in a) (λ g. IsOkAnd (scenarios_in g.day s) (λ asks. IsUntold asked (day_in g f) asks e))
+unknown-unmade asked a f s d questions e airport is said fault =
+    let known : IsUntold asked (day_in d.airport f) questions e = subst (λ (x : DayRecord). IsUntold asked x questions e) is fault in
+    let so : IsOkAnd (scenarios_in d.airport.day s) (λ asks. IsUntold asked (day_in d.airport f) asks e) =
+    subst (λ (r : Result (List ScenarioRecord) (ℕ × RefusalWord)). IsOkAnd r (λ asks. IsUntold asked (day_in d.airport f) asks e)) (sym said) known in
+    subst (λ (r : Result AirportRows (ℕ × RefusalWord)). IsOkAnd r (λ g. IsOkAnd (scenarios_in g.day s) (λ asks. IsUntold asked (day_in g f) asks e))) (sym airport) so
 
--- what holds of all bytes holds of those that readers have left
-pub of_known : (P : List ℕ → List ℕ → List ℕ → Type 0) (a s t : Option (List ℕ)) → ((x y z : List ℕ) → P x y z) → IfTold a s t P
-of_known P None s t p = tt
-of_known P (Some x) None t p = tt
-of_known P (Some x) (Some y) None p = tt
-of_known P (Some x) (Some y) (Some z) p = p x y z
+pub untold-unmade : (asked : DayText) (a f s : List ℕ) (d : DayRecord) (questions : List ScenarioRecord) (e : RunError)
+    → airport_in a ≡ Ok d.airport → d ≡ day_in d.airport f → scenarios_in d.airport.day s ≡ Ok questions → IsUntold asked d questions e
+    → IsUnmade (ask.Day asked) a f s e
+untold-unmade asked a f s d questions (error.Common common.Memory) airport is said fault = tt
+untold-unmade asked a f s d questions (error.Common (common.Read name)) airport is said fault = absurd fault
+untold-unmade asked a f s d questions (error.Common (common.TooLong name)) airport is said fault = absurd fault
+untold-unmade asked a f s d questions (error.Common (common.Airport number word)) airport is said fault = absurd fault
+untold-unmade asked a f s d questions (error.Common common.Write) airport is said fault = absurd fault
+untold-unmade asked a f s d questions (error.Scenario number word) airport is said fault = absurd fault
+untold-unmade asked a f s d questions (error.NoFlight name) airport is said fault = unknown-unmade asked a f s d questions (error.NoFlight name) airport is said fault
+untold-unmade asked a f s d questions (error.NoRunway name) airport is said fault = unknown-unmade asked a f s d questions (error.NoRunway name) airport is said fault
+untold-unmade asked a f s d questions (error.NoScenario name) airport is said fault = unknown-unmade asked a f s d questions (error.NoScenario name) airport is said fault
+
+-- and so is a failed write of a text that they make
+pub write-first : (asked : Asked) (a f s : Reading) → AreRead a f s → OfBytes a.before f.before s.before (HaveText asked) → IsFirstOf asked a f s (error.Common common.Write)
+write-first (ask.Day asked) a f s read made = (read, made)
+write-first (ask.Check paths) a f s read made = (read, made)
+
+-- Where a report is asked for.
+
+-- the text is that of the feed and its scenarios
+pub report-output : (x y z text : List ℕ) (c : Counted) → IsMade (ask.Day Report) x y z text c → IsOutput x y z text (day_counts c)
+report-output x y z text (counted.Day counts) made = made
+report-output x y z text (counted.Check counts) made = absurd made
+
+ok-said : {A E : Type 0} (r : Result A E) (x : A) → r ≡ Ok x → IsOk r
+ok-said r x is = subst IsOk (sym is) tt
+
+-- a report is made of an airport file that is accepted, and of a scenario file too
+report-asks : (x y z text : List ℕ) (c : Counted) → IsMade (ask.Day Report) x y z text c → Asks IsOk x z
+report-asks x y z text (counted.Day counts) made =
+    subst (λ r. IsOkAnd r (λ g. IsOk (scenarios_in g.day z))) (sym made.airport_file) (ok-said (scenarios_in made.rows.day z) made.questions made.scenario_file)
+report-asks x y z text (counted.Check counts) made = absurd made
+
+-- what is said of the airport file and the scenario file
+of-two : {P : List ℕ → List ℕ → List ℕ → Type 0} (Q : List ℕ → List ℕ → Type 0) (a f s : Option (List ℕ))
+    → ((x y z : List ℕ) → P x y z → Q x z) → OfBytes a f s P → IfSome a (λ x. IfSome s (Q x))
+of-two Q a f s more of =
+    IfSome_then a of.of_airport (λ x is. IfSome_then s of.of_third (λ z so.
+    subst (Q x) so (subst (λ bytes. Q bytes of.third) is (more of.airport of.second of.third of.holds))))
+
+-- a report asks for nothing that could be unknown
+never : {A B E F : Type 0} (r : Result A E) (next : A → Result B F) → IsOkAnd r (λ g. IsOkAnd (next g) (λ b. ⊥)) → ⊥
+never (Ok g) next h = by (next g) h
+  where
+    by : {B F : Type 0} (q : Result B F) → IsOkAnd q (λ b. ⊥) → ⊥
+    by (Ok b) h = h
+    by (Err e) h = h
+never (Err e) next h = h
+
+-- and so the first fault is that of a run that makes a report
+pub report-first : (a f s : Reading) (e : RunError) → IsFirstOf (ask.Day Report) a f s e → IsFirstFault a f s e
+report-first a f s (error.Common (common.Read name)) fault = fault
+report-first a f s (error.Common (common.TooLong name)) fault = fault
+report-first a f s (error.Common (common.Airport number word)) fault = fault
+report-first a f s (error.Common common.Memory) fault = fault
+report-first a f s (error.Common common.Write) fault =
+    (fault.0, of-two (Asks IsOk) a.before f.before s.before (λ x y z h. report-asks x y z h.0 h.1 h.2) fault.1)
+report-first a f s (error.Scenario number word) fault =
+    (fault.0, of-two (Asks (λ said. said ≡ Err (number, word))) a.before f.before s.before (λ x y z h. h) fault.1)
+report-first a f s (error.NoFlight name) fault = absurd (never _ _ fault.1.holds)
+report-first a f s (error.NoRunway name) fault = absurd (never _ _ fault.1.holds)
+report-first a f s (error.NoScenario name) fault = absurd (never _ _ fault.1.holds)

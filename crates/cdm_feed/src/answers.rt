@@ -8,8 +8,9 @@ ghost use Rattle.cdm_feed.specs.Answers.{IsAnswer, outcome_text};
 ghost use Rattle.cdm_feed.specs.inner.OneAnswer.{one_answer};
 
 use cdm_day::{DayState, Records};
+use cdm_files::Lent;
 use cdm_flight::Listed;
-use cdm_phase::{Gate, Job, PhaseName, Workers, run_phase};
+use cdm_phase::{Gate, Job, PhaseName, run_phase};
 use cdm_report::{Counts, delta_text, refused_text, report_text};
 use cdm_scenario::{Outcome, Scenario, ScenarioName, answer};
 use cdm_time::Day;
@@ -105,16 +106,13 @@ fn push_all(text: &mut Vec<u8>, answers: &[Listed<u8>]) -> Result<(), AllocError
 
 /// Puts what is written of each scenario behind the text, in the order of the scenarios: its name, and
 /// the report and the growth of the indicators, or the first update that is refused. Each scenario is
-/// answered over the base, which counts `counts`, by one of so many workers in phase `Scenarios`, and
+/// answered over the base, which counts `counts`, by one of the workers in phase `Scenarios`, and
 /// every scenario is one piece. No plan of a scenario is kept longer than its text is made.
 pub(crate) fn push_answers<R: Threads + Sync, G: Gate>(
-    rt: &R,
-    alloc: Global,
+    lent: &Lent<'_, R, G>,
     base: &DayState,
     counts: Counts,
     scenarios: &[Scenario],
-    workers: Workers,
-    gate: &G,
     text: &mut Vec<u8>,
 ) -> Result<(), AllocError>
     ensures { OnOk result ((answers : List (List ℕ))
@@ -124,6 +122,14 @@ pub(crate) fn push_answers<R: Threads + Sync, G: Gate>(
     // What the base's records tell is sound, which makes each answer the only one.
     let _values = base.values();
     let job = TextJob { base, counts };
-    let answers = run_phase(rt, alloc, workers, 1, &job, scenarios, gate)?;
+    let answers = run_phase(
+        lent.rt,
+        lent.alloc,
+        lent.workers,
+        1,
+        &job,
+        scenarios,
+        lent.gate,
+    )?;
     push_all(text, &answers)
 }

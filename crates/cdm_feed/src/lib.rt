@@ -1,53 +1,20 @@
-//! Reads and writes bytes: whole inputs and texts, the records of a feed, of an airport file
-//! and of a scenario file, and what their fields spell.
+//! Whole runs, from the bytes of an airport file, of a feed and of a scenario file to one text.
 #![tactic(auto)]
 
-mod airport_file;
 mod answers;
-mod asking;
-mod common_fault;
-mod device;
-mod feed;
-mod feed_record;
-mod field;
-mod file_fault;
-mod input;
-mod inputs;
-mod judging;
+mod asked;
+mod counted;
 mod laws;
-mod output;
-mod record_reader;
-mod refused;
-mod role;
-mod run_error;
+mod making;
 mod runs;
-mod scenario_file;
-mod scenario_record;
-mod table_error;
-mod table_run;
-mod view_error;
-mod view_run;
 
-pub use airport_file::{airport_of, read_airport};
-pub use asking::{AskedDay, asked_day};
-pub use common_fault::{CommonFault, Input};
-pub use device::Device;
-pub use feed::read_feed;
-pub use feed_record::{ctot_field, parse_record};
-pub use field::{number_field, place_field};
-pub use file_fault::FileFault;
-pub use input::{INPUT_LIMIT, InputFault, read_input};
-pub use inputs::{Inputs, read_inputs, read_two, read_whole};
-pub use judging::{Judged, judge};
-pub use laws::{one_text, records_are_read_back};
-pub use output::{WriteFault, write_text};
-pub use record_reader::RecordReader;
-pub use refused::{refusals_of, updates_of};
-pub use role::role_of;
-pub use run_error::RunError;
-pub use runs::{RunCounts, run};
-pub use scenario_file::read_scenarios;
-pub use table_error::TableError;
-pub use table_run::run_table;
-pub use view_error::ViewError;
-pub use view_run::run_view;
+pub use asked::{Asked, DayText};
+pub use cdm_files::{
+    AskedDay, CommonFault, Device, FileFault, INPUT_LIMIT, Input, InputFault, Inputs, Judged, Lent,
+    RecordReader, RunError, WriteFault, airport_of, asked_day, ctot_field, judge, number_field,
+    parse_record, place_field, read_airport, read_feed, read_input, read_inputs, read_scenarios,
+    read_whole, records_are_read_back, refusals_of, role_of, updates_of, write_text,
+};
+pub use counted::Counted;
+pub use laws::{one_text, one_text_each};
+pub use runs::{RunCounts, run, run_asked};

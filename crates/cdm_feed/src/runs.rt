@@ -1,21 +1,18 @@
 //! A whole run, from the bytes of its inputs to the bytes of its text.
-ghost use Rattle.std.specs.Prelude.{◌≡◌, ◌≤◌, ℕ, List, length, take, false, IfOk, IfErr, OnOk, OnErr, IsErrOf};
+ghost use Rattle.std.specs.Prelude.{◌≡◌, ℕ, List, take, false, IfOk, IfErr, OnOk, OnErr, IsErrOf};
 ghost use Rattle.std.specs.Io.KnownBytes.{Appends};
-ghost use Rattle.cdm_feed.specs.declared.input.TheConstants.{INPUT_LIMIT};
+ghost use Rattle.cdm_files.specs.Readings.{AreRead, IfTold, OfBytes, reading};
+ghost use Rattle.cdm_files.specs.RunFaults.{IsFirstFault, is_write_fault};
+ghost use Rattle.cdm_feed.specs.Made.{HaveOne, IsFirstOf, IsMade};
 ghost use Rattle.cdm_feed.specs.Output.{HaveOneText, IsOutput};
-ghost use Rattle.cdm_feed.specs.Readings.{AreRead, IfTold, reading};
-ghost use Rattle.cdm_feed.specs.RunFaults.{IsFirstFault, IsRecordFault, is_write_fault};
+ghost use Rattle.cdm_feed.specs.declared.counted.Counted.{Counted};
 ghost use Rattle.cdm_feed.specs.declared.runs.RunCounts.{RunCounts};
 
-use crate::answers::push_answers;
-use crate::asking::{AskedDay, asked_day};
-use crate::common_fault::{CommonFault, Input};
-use crate::device::Device;
-use crate::inputs::{Inputs, read_inputs};
-use crate::output::write_text;
-use crate::run_error::RunError;
+use crate::asked::{Asked, DayText};
+use crate::counted::Counted;
+use crate::making::made_of_inputs;
+use cdm_files::{CommonFault, Device, Input, Lent, RunError, read_inputs, write_text};
 use cdm_phase::{Gate, Workers};
-use cdm_report::{indicators, report_text};
 use std::alloc::Global;
 use std::io::{Read, Write};
 use std::thread::Threads;
@@ -31,43 +28,57 @@ pub struct RunCounts {
     pub scenarios: usize,
 }
 
-// The text of a run and what it counts.
-#[derive(Drop)]
-struct Report {
-    text: Vec<u8>,
-    counts: RunCounts,
-}
+/// Makes what is asked for: reads the airport file, the feed and the scenario file, makes the one text of their bytes, and
+/// writes it. Where no scenario file is asked for, its reader has no byte. The text depends on what is asked for and on the
+/// bytes of the inputs alone, whatever the workers and the gate do.
+///
+/// `Ok` has read the three inputs to their ends, answers what is counted, and has written the whole text and flushed it.
+/// Faults in their order: `Read` and `TooLong` of the airport file, of the feed and of the scenario file; `Airport` and
+/// `Scenario`, the first faulty record of that file and its word, unless a check is asked for, to which these are findings;
+/// `NoFlight`, `NoRunway` and `NoScenario`, where what is asked for isn't known; `Memory`, wherever memory was first refused;
+/// `Write`. Before `Write` nothing was written, and at `Write` a prefix of the text was.
+pub fn run_asked<R: Threads + Sync, A: Read, F: Read, S: Read, G: Gate, W: Write>(
+    lent: &Lent<'_, R, G>,
+    asked: &Asked<'_>,
+    airport: &mut Device<A>,
+    feed: &mut Device<F>,
+    scenarios: &mut Device<S>,
+    out: &mut Device<W>,
+) -> Result<Counted, RunError>
+    requires airport { airport.old.failed ≡ false }
+    requires feed { feed.old.failed ≡ false }
+    requires scenarios { scenarios.old.failed ≡ false }
+    requires out { out.old.failed ≡ false }
 
-// The text that the inputs make, and its counts.
-fn report_of_inputs<R: Threads + Sync, G: Gate>(
-    rt: &R,
-    alloc: Global,
-    inputs: &Inputs,
-    workers: Workers,
-    gate: &G,
-) -> Result<Report, RunError>
-    requires { length inputs.now.second.items ≤ INPUT_LIMIT }
-    ensures made { IfOk result (λ report.
-        IsOutput inputs.now.airport.items inputs.now.second.items inputs.now.third.items report.text.items report.counts) }
-    ensures fault { IfErr result (IsRecordFault inputs.now.airport.items inputs.now.third.items) }
+    // The text that is asked for was written, and what it counts is the answer.
+    ensures written { IfOk result (λ counted.
+        OfBytes (A.remaining airport.old.inner) (F.remaining feed.old.inner) (S.remaining scenarios.old.inner) (λ airport_file feed_file scenario_file.
+        (text : List ℕ) × IsMade asked.now airport_file feed_file scenario_file text counted
+        × Appends (W.contents out.old.inner) (W.contents out.new.inner) text)) }
+    ensures one { OnOk result
+        (IfTold (A.remaining airport.old.inner) (F.remaining feed.old.inner) (S.remaining scenarios.old.inner) (HaveOne asked.now)) }
+
+    // The first fault is the answer, and Ok where there was none.
+    ensures read { OnOk result (AreRead
+        (reading Input.Airport A.remaining airport.old airport.new)
+        (reading Input.Feed F.remaining feed.old feed.new)
+        (reading Input.Scenarios S.remaining scenarios.old scenarios.new)) }
+    ensures fault { IfErr result (IsFirstOf asked.now
+        (reading Input.Airport A.remaining airport.old airport.new)
+        (reading Input.Feed F.remaining feed.old feed.new)
+        (reading Input.Scenarios S.remaining scenarios.old scenarios.new)) }
+    ensures nothing { OnErr result (is_write_fault result ≡ false → out.new ≡ out.old) }
+    ensures failed { out.new.failed ≡ is_write_fault result }
+    ensures prefix { IsErrOf result (RunError.Common CommonFault.Write) →
+        OfBytes (A.remaining airport.old.inner) (F.remaining feed.old.inner) (S.remaining scenarios.old.inner) (λ airport_file feed_file scenario_file.
+        (text : List ℕ) × (counted : Counted) × IsMade asked.now airport_file feed_file scenario_file text counted
+        × (n : ℕ) × Appends (W.contents out.old.inner) (W.contents out.new.inner) (take n text)) }
 {
-    let AskedDay {
-        state,
-        refused,
-        scenarios,
-    } = asked_day(rt, alloc, inputs, workers, gate)?;
-    let plan = state.plan();
-    let mut text = report_text(alloc, state.day(), plan, &refused)?;
-    let base = indicators(plan);
-    push_answers(
-        rt, alloc, &state, base, &scenarios, workers, gate, &mut text,
-    )?;
-    let counts = RunCounts {
-        accepted: state.journal().len(),
-        refused: refused.len(),
-        scenarios: scenarios.len(),
-    };
-    Ok(Report { text, counts })
+    let names = (Input::Feed, Input::Scenarios);
+    let inputs = read_inputs(lent.alloc, names, airport, feed, scenarios)?;
+    let made = made_of_inputs(lent, asked, &inputs)?;
+    write_text(out, &made.text)?;
+    Ok(made.counted)
 }
 
 /// Runs a day: reads the airport file, the feed and the scenario file, judges the feed's updates in
@@ -119,9 +130,13 @@ pub fn run<R: Threads + Sync, A: Read, F: Read, S: Read, G: Gate, W: Write>(
         (text : List ℕ) × (counts : RunCounts) × IsOutput airport_file feed_file scenario_file text counts
         × (n : ℕ) × Appends (W.contents out.old.inner) (W.contents out.new.inner) (take n text)) }
 {
-    let names = (Input::Feed, Input::Scenarios);
-    let inputs = read_inputs(alloc, names, airport, feed, scenarios)?;
-    let report = report_of_inputs(rt, alloc, &inputs, workers, gate)?;
-    write_text(out, &report.text)?;
-    Ok(report.counts)
+    let lent = Lent {
+        rt,
+        alloc,
+        workers,
+        gate,
+    };
+    let asked = Asked::Day(DayText::Report);
+    let counted = run_asked(&lent, &asked, airport, feed, scenarios, out)?;
+    Ok(counted.of_day())
 }

@@ -14,10 +14,10 @@ use Rattle.csv.specs.declared.parser.Action.TheVariants as act
 use Rattle.csv.specs.declared.parser.State.{State}
 use Rattle.csv.specs.declared.parser.State.TheVariants as st
 use Rattle.csv.proofs.RoundTrip.{read-write-many}
-use Rattle.cdm_feed.specs.Records.{records_of}
-use Rattle.cdm_feed.specs.Written.{is_mark}
-use Rattle.cdm_feed.proofs.RecordFacts.{step-between}
-use Rattle.cdm_feed.proofs.WrittenLemmas.{unmarked}
+use Rattle.cdm_files.specs.Records.{records_of}
+use Rattle.cdm_files.specs.Written.{is_mark}
+use Rattle.cdm_files.proofs.RecordFacts.{step-between}
+use Rattle.cdm_files.proofs.WrittenLemmas.{unmarked}
 use Rattle.cdm_journal.specs.Journal.{IsWhole, journal_line, record_text}
 use Rattle.cdm_journal.proofs.WholeLemmas.{AreUnmarked, whole-nil, whole-one, whole-text}
 

@@ -20,11 +20,11 @@ use Rattle.cdm_flight.specs.declared.role.Role.{Role}
 use Rattle.cdm_flight.specs.declared.update.Update.{Update}
 use Rattle.cdm_flight.specs.declared.word.RefusalWord.{RefusalWord}
 use Rattle.cdm_flight.specs.declared.word.RefusalWord.TheVariants as word
-use Rattle.cdm_feed.specs.Fields.{all_four, all_three, bound_field, both, counted, ctot_field, field, from_to, group_field, ice_field, name_field, number_field, of_one, place_field, refused_by_word, time_field, tolerance_fields}
-use Rattle.cdm_feed.specs.Kinds.{update_of}
-use Rattle.cdm_feed.specs.Parsing.{parse_of, with_role}
-use Rattle.cdm_feed.specs.Roles.{role_of}
-use Rattle.cdm_feed.specs.Written.{is_mark}
+use Rattle.cdm_files.specs.Fields.{all_four, all_three, bound_field, both, counted, ctot_field, field, from_to, group_field, ice_field, name_field, number_field, of_one, place_field, refused_by_word, time_field, tolerance_fields}
+use Rattle.cdm_files.specs.Kinds.{update_of}
+use Rattle.cdm_files.specs.Parsing.{parse_of, with_role}
+use Rattle.cdm_files.specs.Roles.{role_of}
+use Rattle.cdm_files.specs.Written.{is_mark}
 use Rattle.cdm_journal.specs.Journal.{is_lone_empty, is_plain}
 use Rattle.cdm_journal.proofs.WholeLemmas.{AreUnmarked}
 

@@ -12,11 +12,11 @@ use Rattle.cdm_flight.specs.Journal.{AirportRows}
 use Rattle.cdm_flight.specs.declared.role.Role.{Role}
 use Rattle.cdm_flight.specs.declared.update.Update.{Update}
 use Rattle.cdm_flight.specs.declared.word.RefusalWord.{RefusalWord}
-use Rattle.cdm_feed.specs.Output.{accepted_in, refusals_in, spelled_in}
-use Rattle.cdm_feed.specs.Parsing.{parse_of}
-use Rattle.cdm_feed.specs.Records.{records_of}
-use Rattle.cdm_feed.specs.Refused.{Spelled, if_refused, refused_in, updates_in}
-use Rattle.cdm_feed.proofs.StretchLemmas.{accepted-both, refused-both}
+use Rattle.cdm_files.specs.FeedDay.{accepted_in, refusals_in, spelled_in}
+use Rattle.cdm_files.specs.Parsing.{parse_of}
+use Rattle.cdm_files.specs.Records.{records_of}
+use Rattle.cdm_files.specs.Refused.{Spelled, if_refused, refused_in, updates_in}
+use Rattle.cdm_files.proofs.StretchLemmas.{accepted-both, refused-both}
 use Rattle.cdm_journal.specs.Journal.{IsWhole, journal_line, record_text}
 use Rattle.cdm_journal.specs.Laws.{TakesUpdate}
 use Rattle.cdm_journal.proofs.MachineLemmas.{AllUnmarked, text-goes-on, unmarked-begin}

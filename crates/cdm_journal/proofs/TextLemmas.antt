@@ -1,7 +1,7 @@
 -- A record's text, field by field.
 use Rattle.std.proofs.Common.{◌≡◌, ◌+◌, ◌<◌, ◌∙◌, ℕ, zero, suc, List, [], ◌∷◌, ◌++◌, length, take, refl, sym, ap, append_assoc, add-one, arith}
 use Rattle.csv.specs.Records.{field_at}
-use Rattle.cdm_feed.specs.Fields.{field}
+use Rattle.cdm_files.specs.Fields.{field}
 use Rattle.cdm_journal.specs.Journal.{record_text}
 
 pub first-text : (fields : List (List ℕ)) → field fields 0 ≡ record_text (take 1 fields)

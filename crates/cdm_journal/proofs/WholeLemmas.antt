@@ -6,7 +6,7 @@ use Rattle.std.proofs.lemmas.Bool.{and_parts, cases_Bool, false_from_ne_true, no
 use Rattle.std.proofs.lemmas.List.Elements.{All-from_get_or}
 use Rattle.std.proofs.lemmas.List.Folds.{list_any-append, list_any_at, list_any_none}
 use Rattle.memchr.specs.Find.{IsLastByte, is_byte}
-use Rattle.cdm_feed.specs.Written.{is_mark}
+use Rattle.cdm_files.specs.Written.{is_mark}
 use Rattle.cdm_journal.specs.Journal.{IsWhole, has_line_feed, is_lone_empty, is_plain, journal_line, record_text, whole_lines}
 
 -- Whole texts.

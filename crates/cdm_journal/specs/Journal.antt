@@ -3,7 +3,7 @@ use Rattle.std.specs.Prelude.{◌≡◌, ◌==◌, ◌&&◌, ℕ, Bool, true, fa
 use Rattle.std.specs.List.{flat_map, join_with_byte, list_all, list_any}
 use Rattle.csv.specs.Machine.{line_feed}
 use Rattle.csv.specs.Writing.{comma}
-use Rattle.cdm_feed.specs.Written.{is_mark}
+use Rattle.cdm_files.specs.Written.{is_mark}
 
 -- Records as they are written.
 

@@ -6,9 +6,9 @@ use Rattle.cdm_flight.specs.Accepted.{refusal}
 use Rattle.cdm_flight.specs.Journal.{AirportRows}
 use Rattle.cdm_flight.specs.declared.role.Role.{Role}
 use Rattle.cdm_flight.specs.declared.update.Update.{Update}
-use Rattle.cdm_feed.specs.Output.{accepted_in, refusals_in}
-use Rattle.cdm_feed.specs.Parsing.{parse_of}
-use Rattle.cdm_feed.specs.Records.{records_of}
+use Rattle.cdm_files.specs.FeedDay.{accepted_in, refusals_in}
+use Rattle.cdm_files.specs.Parsing.{parse_of}
+use Rattle.cdm_files.specs.Records.{records_of}
 use Rattle.cdm_journal.specs.Journal.{IsWhole, is_plain, journal_line, whole_lines}
 
 -- a record that spells an update can stand in a journal as it is

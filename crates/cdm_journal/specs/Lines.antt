@@ -1,7 +1,7 @@
 -- What a line of the input says.
 use Rattle.std.specs.Prelude.{ℕ, List, [], ◌∷◌}
 use Rattle.csv.specs.Records.{fields_of}
-use Rattle.cdm_feed.specs.Records.{records_of}
+use Rattle.cdm_files.specs.Records.{records_of}
 use Rattle.cdm_journal.specs.declared.lines.LineRead.{LineRead}
 use Rattle.cdm_journal.specs.declared.lines.LineRead.TheVariants as read
 

@@ -2,7 +2,7 @@
 ghost use Rattle.std.specs.Prelude.{◌≡◌, IfOk};
 ghost use Rattle.cdm_journal.specs.Lines.{line_record, read_as};
 
-use cdm_feed::RecordReader;
+use cdm_files::RecordReader;
 use csv::ByteRecord;
 use std::alloc::{AllocError, Global};
 

@@ -1,11 +1,11 @@
 //! The day that a journal makes.
 ghost use Rattle.std.specs.Prelude.{◌≡◌, ◌≤◌, ◌∷◌, ℕ, [], IfErr, IfOk, List, length};
-ghost use Rattle.cdm_feed.specs.declared.input.TheConstants.{INPUT_LIMIT};
-ghost use Rattle.cdm_feed.specs.Output.{accepted_in, refusals_in};
+ghost use Rattle.cdm_files.specs.Input.{input_limit};
+ghost use Rattle.cdm_files.specs.FeedDay.{accepted_in, refusals_in};
 ghost use Rattle.cdm_journal.specs.Reading.{TellsFirst};
 
 use cdm_day::{Airport, DayState};
-use cdm_feed::{FileFault, Judged, judge};
+use cdm_files::{FileFault, Judged, judge};
 use cdm_phase::{Gate, Workers};
 use std::alloc::Global;
 use std::thread::Threads;
@@ -20,7 +20,7 @@ pub fn read_journal<R: Threads + Sync, G: Gate>(
     workers: Workers,
     gate: &G,
 ) -> Result<DayState, FileFault>
-    requires { length journal.now ≤ INPUT_LIMIT }
+    requires { length journal.now ≤ input_limit }
     ensures state { IfOk result (λ state. state ≡ record { airport = airport; journal = accepted_in airport journal.now }) }
     ensures none_refused { IfOk result (λ _. refusals_in airport journal.now ≡ []) }
     ensures fault { IfErr result (TellsFirst (refusals_in airport journal.now)) }

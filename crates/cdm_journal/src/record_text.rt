@@ -1,7 +1,7 @@
 //! Records as they are written.
 ghost use Rattle.std.specs.Prelude.{◌≡◌, ◌++◌, OnOk};
 ghost use Rattle.csv.specs.Records.{fields_of};
-ghost use Rattle.cdm_feed.specs.Fields.{field};
+ghost use Rattle.cdm_files.specs.Fields.{field};
 ghost use Rattle.cdm_journal.specs.Journal.{journal_line, record_text};
 
 use csv::ByteRecord;

@@ -8,12 +8,12 @@ use Rattle.cdm_plan.specs.Day.{DayRecord}
 use Rattle.cdm_plan.specs.DayPlan.{IsDayPlan}
 use Rattle.cdm_day.specs.declared.reply.Reply.{Reply}
 use Rattle.cdm_board.specs.History.{Call, calls_of}
-use Rattle.cdm_feed.specs.AirportFile.{airport_in}
-use Rattle.cdm_feed.specs.Output.{spelled_in}
-use Rattle.cdm_feed.specs.Refused.{Spelled, refused_by_replies, updates_in}
-use Rattle.cdm_feed.specs.Readings.{AreRead, Reading}
-use Rattle.cdm_feed.specs.declared.common_fault.CommonFault.TheVariants as common
-use Rattle.cdm_feed.proofs.RunLemmas.{airport_record-first, of_inputs}
+use Rattle.cdm_files.specs.AirportFile.{airport_in}
+use Rattle.cdm_files.specs.FeedDay.{spelled_in}
+use Rattle.cdm_files.specs.Refused.{Spelled, refused_by_replies, updates_in}
+use Rattle.cdm_files.specs.Readings.{AreRead, Reading}
+use Rattle.cdm_files.specs.declared.common_fault.CommonFault.TheVariants as common
+use Rattle.cdm_files.proofs.RunLemmas.{airport_record-first, of_inputs}
 use Rattle.cdm_live.specs.Live.{IsCountedText, IsWorkOf, batch_count, desk_text}
 use Rattle.cdm_live.specs.LiveFaults.{FillsBoard, FitsBoard, IsFirstFault, calls_needed}
 use Rattle.cdm_live.specs.declared.live_error.LiveError.{LiveError}

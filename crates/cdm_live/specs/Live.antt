@@ -13,9 +13,9 @@ use Rattle.cdm_report.specs.Report.{line_end, refused_line, report_bytes}
 use Rattle.cdm_plan.specs.DayPlan.{IsDayPlan}
 use Rattle.cdm_day.specs.declared.reply.Reply.{Reply}
 use Rattle.cdm_board.specs.History.{Call, Posts, Looks, IsLegal, calls_of, day_of, journal_of}
-use Rattle.cdm_feed.specs.AirportFile.{airport_in}
-use Rattle.cdm_feed.specs.Output.{spelled_in}
-use Rattle.cdm_feed.specs.Refused.{Spelled, refused_by_replies, updates_in}
+use Rattle.cdm_files.specs.AirportFile.{airport_in}
+use Rattle.cdm_files.specs.FeedDay.{spelled_in}
+use Rattle.cdm_files.specs.Refused.{Spelled, refused_by_replies, updates_in}
 use Rattle.cdm_live.specs.declared.live_run.LiveCounts.{LiveCounts}
 
 -- What a desk does.

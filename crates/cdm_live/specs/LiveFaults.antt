@@ -1,12 +1,12 @@
 -- What each fault of a live run says.
 use Rattle.std.specs.Prelude.{◌≡◌, ◌≤◌, ◌<◌, ◌+◌, ℕ, Bool, true, false, List, length, Result, Ok, Err}
 use Rattle.cdm_flight.specs.Journal.{AirportRows}
-use Rattle.cdm_feed.specs.AirportFile.{airport_in}
-use Rattle.cdm_feed.specs.CommonFaults.{IsFirstCommonFault}
-use Rattle.cdm_feed.specs.Readings.{AreRead, IfTold, Reading}
-use Rattle.cdm_feed.specs.declared.common_fault.CommonFault.TheVariants as common
-use Rattle.cdm_feed.specs.Output.{spelled_in}
-use Rattle.cdm_feed.specs.Refused.{updates_in}
+use Rattle.cdm_files.specs.AirportFile.{airport_in}
+use Rattle.cdm_files.specs.CommonFaults.{IsFirstCommonFault}
+use Rattle.cdm_files.specs.Readings.{AreRead, IfTold, Reading}
+use Rattle.cdm_files.specs.declared.common_fault.CommonFault.TheVariants as common
+use Rattle.cdm_files.specs.FeedDay.{spelled_in}
+use Rattle.cdm_files.specs.Refused.{updates_in}
 use Rattle.cdm_live.specs.Live.{batch_count}
 use Rattle.cdm_live.specs.declared.live_error.LiveError.{LiveError}
 use Rattle.cdm_live.specs.declared.live_error.LiveError.TheVariants as error

@@ -1,10 +1,10 @@
 //! Why a live run ends without its whole text.
 ghost use Rattle.std.specs.Prelude.{◌≡◌};
-ghost use Rattle.cdm_feed.specs.declared.common_fault.CommonFault.TheVariants as common;
+ghost use Rattle.cdm_files.specs.declared.common_fault.CommonFault.TheVariants as common;
 ghost use Rattle.cdm_live.specs.declared.live_error.LiveError.TheVariants as error;
 
 use cdm_board::{BoardError, MOST_CALLS};
-use cdm_feed::{CommonFault, WriteFault};
+use cdm_files::{CommonFault, WriteFault};
 use std::alloc::{AllocError, AllocFailed};
 use thiserror::Error;
 

@@ -1,9 +1,9 @@
 //! A live run, from the bytes of its inputs to the bytes of its text.
 ghost use Rattle.std.specs.Prelude.{◌≡◌, ◌≤◌, ◌↔◌, ℕ, List, length, take, false, IfOk, IfErr, OnOk, OnErr, IsErrOf, IsTrue, vec_len};
 ghost use Rattle.std.specs.Io.KnownBytes.{Appends};
-ghost use Rattle.cdm_feed.specs.declared.input.TheConstants.{INPUT_LIMIT};
-ghost use Rattle.cdm_feed.specs.Refused.{updates_in};
-ghost use Rattle.cdm_feed.specs.Readings.{AreRead, IfTold, reading};
+ghost use Rattle.cdm_files.specs.Input.{input_limit};
+ghost use Rattle.cdm_files.specs.Refused.{updates_in};
+ghost use Rattle.cdm_files.specs.Readings.{AreRead, IfTold, reading};
 ghost use Rattle.cdm_live.specs.Live.{IsCounted, IsCountedText, IsLive, batch_count};
 ghost use Rattle.cdm_live.specs.LiveFaults.{FitsBoard, IsFirstFault, calls_needed, is_write_fault};
 ghost use Rattle.cdm_live.specs.inner.LiveSteps.{HasMerged, IsBoardFault, IsMergedText, IsRecordFault, merged_counts};
@@ -13,7 +13,7 @@ use crate::desks::{Merged, run_desks};
 use crate::live_error::LiveError;
 use cdm_board::{MOST_CALLS, MOST_UPDATES};
 use cdm_day::{Airport, DayState};
-use cdm_feed::{
+use cdm_files::{
     CommonFault, Device, Input, Inputs, airport_of, read_feed, read_inputs, refusals_of,
     updates_of, write_text,
 };
@@ -93,8 +93,8 @@ fn report_of<R: Threads + Wait + Sync, G: Gate>(
     feed2: &[Result<(Role, Update), RefusalWord>],
     gate: &G,
 ) -> Result<LiveReport, LiveError>
-    requires few1 { length feed1.now ≤ INPUT_LIMIT }
-    requires few2 { length feed2.now ≤ INPUT_LIMIT }
+    requires few1 { length feed1.now ≤ input_limit }
+    requires few2 { length feed2.now ≤ input_limit }
     ensures counted { IfOk result (λ report. IsCountedText airport feed1.now feed2.now report.text.items report.counts) }
     ensures fits { OnOk result (calls_needed (length (updates_in feed1.now)) (length (updates_in feed2.now)) ≤ 4096) }
     ensures fault { IfErr result (IsBoardFault (length (updates_in feed1.now)) (length (updates_in feed2.now))) }
@@ -117,8 +117,8 @@ fn report_merged(
     posts1: usize,
     posts2: usize,
 ) -> Result<LiveReport, AllocError>
-    requires few1 { length feed1.now ≤ INPUT_LIMIT }
-    requires few2 { length feed2.now ≤ INPUT_LIMIT }
+    requires few1 { length feed1.now ≤ input_limit }
+    requires few2 { length feed2.now ≤ input_limit }
     ensures text { IfOk result (λ report.
         IsMergedText feed1.now feed2.now merged.now.state merged.now.replies1.items merged.now.replies2.items posts1 posts2 report.text.items) }
     ensures counts { IfOk result (λ report. report.counts
@@ -145,8 +145,8 @@ fn report_of_inputs<R: Threads + Wait + Sync, G: Gate>(
     inputs: &Inputs,
     gate: &G,
 ) -> Result<LiveReport, LiveError>
-    requires limit1 { vec_len inputs.now.second ≤ INPUT_LIMIT }
-    requires limit2 { vec_len inputs.now.third ≤ INPUT_LIMIT }
+    requires limit1 { vec_len inputs.now.second ≤ input_limit }
+    requires limit2 { vec_len inputs.now.third ≤ input_limit }
     ensures counted { IfOk result (λ report.
         IsCounted inputs.now.airport.items inputs.now.second.items inputs.now.third.items report.text.items report.counts) }
     ensures fits { OnOk result (FitsBoard inputs.now.airport.items inputs.now.second.items inputs.now.third.items) }

@@ -3,21 +3,16 @@
 
 ghost use Rattle.std.specs.Prelude.{◌≡◌, false};
 
-use cdm_check::{FilePaths, run_check};
+use cdm_check::FilePaths;
 pub use cdm_command::{Command, CommandFault, STANDARD_INPUT, command_of};
 pub use cdm_fault::{
-    Fault, PathText, UnopenedFile, check_status, report_command_fault, report_fault,
+    Fault, PathText, UnopenedFile, report_command_fault, report_fault, run_status,
 };
-use cdm_feed::{Device, Input, WriteFault, run, run_table, run_view, write_text};
-use cdm_flight::FlightName;
+use cdm_feed::{Asked, DayText, Device, Input, Lent, WriteFault, run_asked, write_text};
 pub use cdm_live::{LiveCounts, LiveError, run_live};
 use cdm_phase::{OpenGate, Workers};
-use cdm_picture::run_picture;
 use cdm_serve::serve;
 use cdm_streams::Streams;
-use cdm_table::Table;
-use cdm_trace::run_trace;
-use cdm_view::Question;
 use either::Either;
 use std::alloc::{AllocError, Global};
 use std::fs::{File, OpenFile, OpenOptions, TryLockError};
@@ -94,59 +89,79 @@ where
     R: AllocGlobal + Files<File = File> + io::Input + Threads + Wait + Sync,
     requires { out.old.failed ≡ false }
 {
-    match command {
+    let one = Workers::new(1).unwrap();
+    let (files, text, workers) = match command {
         Command::Plan {
             airport,
             feed,
             scenarios,
             workers,
-        } => make(rt, airport, feed, *scenarios, Made::Plan, *workers, out)?,
+        } => (files(airport, feed, *scenarios), DayText::Report, *workers),
         Command::Tabulate {
             airport,
             feed,
             scenarios,
             table,
             workers,
-        } => make(
-            rt,
-            airport,
-            feed,
-            *scenarios,
-            Made::Table(*table),
+        } => (
+            files(airport, feed, *scenarios),
+            DayText::Table(*table),
             *workers,
-            out,
-        )?,
-        Command::Live {
-            airport,
-            feed1,
-            feed2,
-        } => live(rt, airport, feed1, feed2, out)?,
+        ),
         Command::Draw {
             airport,
             feed,
             scenarios,
             workers,
-        } => make(rt, airport, feed, *scenarios, Made::Picture, *workers, out)?,
+        } => (files(airport, feed, *scenarios), DayText::Picture, *workers),
         Command::Ask {
             airport,
             feed,
             question,
-        } => ask(rt, airport, feed, *question, out)?,
+        } => (files(airport, feed, None), DayText::Answer(*question), one),
         Command::Trace {
             airport,
             feed,
             flight,
-        } => trace(rt, airport, feed, *flight, out)?,
-        Command::Serve { airport, journal } => serve_day(rt, airport, journal, out)?,
+        } => (files(airport, feed, None), DayText::Trace(*flight), one),
         Command::Check {
             airport,
             feed,
             scenarios,
-        } => return check(rt, airport, feed, *scenarios, out),
-        Command::Print(text) => {
-            write_text(out, text.as_bytes()).map_err(|fault: WriteFault| Fault::Run(fault.into()))?
-        }
+        } => return check(rt, files(airport, feed, *scenarios), one, out),
+        Command::Live {
+            airport,
+            feed1,
+            feed2,
+        } => return live(rt, airport, feed1, feed2, out),
+        Command::Serve { airport, journal } => return serve_day(rt, airport, journal, out),
+        Command::Print(text) => return print(text, out),
+    };
+    make(rt, files, &Asked::Day(text), workers, out)
+}
+
+// The paths of the files of a day, and of its scenarios, if there are some.
+#[derive(Clone, Copy)]
+struct DayFiles<'a> {
+    airport: &'a str,
+    feed: &'a str,
+    scenarios: Option<&'a str>,
+}
+
+// The files of these paths.
+fn files<'a>(airport: &'a str, feed: &'a str, scenarios: Option<&'a str>) -> DayFiles<'a> {
+    DayFiles {
+        airport,
+        feed,
+        scenarios,
     }
+}
+
+// Writes a text, and answers the exit status.
+fn print<W: Write>(text: &str, out: &mut Device<W>) -> Result<u8, Fault>
+    requires { out.old.failed ≡ false }
+{
+    write_text(out, text.as_bytes()).map_err(|fault: WriteFault| Fault::Run(fault.into()))?;
     Ok(0)
 }
 
@@ -185,101 +200,58 @@ fn open_scenarios<R: AllocGlobal + Files + io::Input>(
     }
 }
 
-// What is made of a day and its scenarios.
-#[derive(Clone, Copy)]
-enum Made {
-    Plan,
-    Table(Table),
-    Picture,
-}
-
-// Writes what is made of the day and its scenarios.
+// Writes what is asked of a day and its scenarios, and answers the exit status.
 fn make<R: AllocGlobal + Files + io::Input + Threads + Sync, W: Write>(
     rt: &R,
-    airport: &str,
-    feed: &str,
-    scenarios: Option<&str>,
-    made: Made,
+    files: DayFiles<'_>,
+    asked: &Asked<'_>,
     workers: Workers,
     out: &mut Device<W>,
-) -> Result<(), Fault>
+) -> Result<u8, Fault>
+    requires { out.old.failed ≡ false }
+{
+    let airport = &mut Device::new(open(rt, files.airport, Input::Airport)?);
+    let feed = &mut Device::new(open(rt, files.feed, Input::Feed)?);
+    let scenarios = &mut Device::new(open_scenarios(rt, files.scenarios)?);
+    let lent = Lent {
+        rt,
+        alloc: rt.alloc(),
+        workers,
+        gate: &OpenGate,
+    };
+    let counted = run_asked(&lent, asked, airport, feed, scenarios, out)?;
+    Ok(run_status(&counted))
+}
+
+// Writes what is wrong with the files, and answers the exit status.
+fn check<R: AllocGlobal + Files + io::Input + Threads + Sync, W: Write>(
+    rt: &R,
+    files: DayFiles<'_>,
+    workers: Workers,
+    out: &mut Device<W>,
+) -> Result<u8, Fault>
     requires { out.old.failed ≡ false }
 {
     let alloc = rt.alloc();
-    let airport = &mut Device::new(open(rt, airport, Input::Airport)?);
-    let feed = &mut Device::new(open(rt, feed, Input::Feed)?);
-    let scenarios = &mut Device::new(open_scenarios(rt, scenarios)?);
-    let gate = &OpenGate;
-    match made {
-        Made::Plan => {
-            run(rt, alloc, airport, feed, scenarios, workers, gate, out)?;
-        }
-        Made::Table(table) => {
-            run_table(
-                rt, alloc, airport, feed, scenarios, table, workers, gate, out,
-            )?;
-        }
-        Made::Picture => {
-            run_picture(rt, alloc, airport, feed, scenarios, workers, gate, out)?;
-        }
-    }
-    Ok(())
+    let airport = shown_path(alloc, files.airport)?;
+    let feed = shown_path(alloc, files.feed)?;
+    let scenarios = shown_path(alloc, files.scenarios.unwrap_or_default())?;
+    let paths = FilePaths {
+        airport: &airport,
+        feed: &feed,
+        scenarios: files.scenarios.map(|_| scenarios.as_str()),
+    };
+    make(rt, files, &Asked::Check(paths), workers, out)
 }
 
-// Writes the answer to a question of the day.
-fn ask<R: AllocGlobal + Files + io::Input + Threads + Sync, W: Write>(
-    rt: &R,
-    airport: &str,
-    feed: &str,
-    question: Question,
-    out: &mut Device<W>,
-) -> Result<(), Fault>
-    requires { out.old.failed ≡ false }
-{
-    let airport = open(rt, airport, Input::Airport)?;
-    let feed = open(rt, feed, Input::Feed)?;
-    run_view(
-        rt,
-        rt.alloc(),
-        &mut Device::new(airport),
-        &mut Device::new(feed),
-        question,
-        Workers::new(1).unwrap(),
-        &OpenGate,
-        out,
-    )?;
-    Ok(())
-}
-
-// Writes which record moved whose start-up.
-fn trace<R: AllocGlobal + Files + io::Input + Threads + Sync, W: Write>(
-    rt: &R,
-    airport: &str,
-    feed: &str,
-    flight: Option<FlightName>,
-    out: &mut Device<W>,
-) -> Result<(), Fault>
-    requires { out.old.failed ≡ false }
-{
-    let airport = open(rt, airport, Input::Airport)?;
-    let feed = open(rt, feed, Input::Feed)?;
-    run_trace(
-        rt.alloc(),
-        &mut Device::new(airport),
-        &mut Device::new(feed),
-        flight,
-        out,
-    )?;
-    Ok(())
-}
-
-// Serves the day of an airport: records come from standard input, and replies go to `out`.
+// Serves the day of an airport: records come from standard input, and replies go to `out`. Answers
+// the exit status.
 fn serve_day<R, W: Write>(
     rt: &R,
     airport: &str,
     journal: &str,
     out: &mut Device<W>,
-) -> Result<(), Fault>
+) -> Result<u8, Fault>
 where
     R: AllocGlobal + Files<File = File> + io::Input + Threads + Sync,
 {
@@ -290,7 +262,7 @@ where
     };
     let mut port = Streams::new(input, out, journal);
     serve(rt, rt.alloc(), &mut Device::new(airport), &mut port)?;
-    Ok(())
+    Ok(0)
 }
 
 // Opens the file of a journal, or makes it, for this process alone.
@@ -334,14 +306,14 @@ fn sync_folder_of<R: Files>(rt: &R, path: &str) {
     }
 }
 
-// Writes the day that two desks make.
+// Writes the day that two desks make, and answers the exit status.
 fn live<R: AllocGlobal + Files + io::Input + Threads + Wait + Sync, W: Write>(
     rt: &R,
     airport: &str,
     feed1: &str,
     feed2: &str,
     out: &mut Device<W>,
-) -> Result<(), Fault>
+) -> Result<u8, Fault>
     requires { out.old.failed ≡ false }
 {
     let airport = open(rt, airport, Input::Airport)?;
@@ -356,42 +328,7 @@ fn live<R: AllocGlobal + Files + io::Input + Threads + Wait + Sync, W: Write>(
         &OpenGate,
         out,
     )?;
-    Ok(())
-}
-
-// Writes what is wrong with the files, and answers the exit status.
-fn check<R: AllocGlobal + Files + io::Input + Threads + Sync, W: Write>(
-    rt: &R,
-    airport: &str,
-    feed: &str,
-    scenarios: Option<&str>,
-    out: &mut Device<W>,
-) -> Result<u8, Fault>
-    requires { out.old.failed ≡ false }
-{
-    let alloc = rt.alloc();
-    let (airport_path, feed_path) = (shown_path(alloc, airport)?, shown_path(alloc, feed)?);
-    let scenario_path = shown_path(alloc, scenarios.unwrap_or_default())?;
-    let paths = FilePaths {
-        airport: &airport_path,
-        feed: &feed_path,
-        scenarios: scenarios.map(|_| scenario_path.as_str()),
-    };
-    let airport = open(rt, airport, Input::Airport)?;
-    let feed = open(rt, feed, Input::Feed)?;
-    let scenarios = open_scenarios(rt, scenarios)?;
-    let counts = run_check(
-        rt,
-        alloc,
-        paths,
-        &mut Device::new(airport),
-        &mut Device::new(feed),
-        &mut Device::new(scenarios),
-        Workers::new(1).unwrap(),
-        &OpenGate,
-        out,
-    )?;
-    Ok(check_status(&counts))
+    Ok(0)
 }
 
 // A path as the lines of a check show it.

@@ -1,7 +1,6 @@
 -- The picture of a day and of scenarios over it.
-use Rattle.std.specs.Prelude.{◌≡◌, ℕ, List, ◌∷◌, Ok}
+use Rattle.std.specs.Prelude.{◌≡◌, ℕ, List, ◌∷◌}
 use Rattle.std.specs.List.{AllZip}
-use Rattle.cdm_flight.specs.Journal.{AirportRows}
 use Rattle.cdm_report.specs.Report.{day_line}
 use Rattle.cdm_sequence.specs.declared.plan.Plan.{Plan}
 use Rattle.cdm_plan.specs.Day.{DayRecord}
@@ -10,9 +9,6 @@ use Rattle.cdm_scenario.specs.Outcome.{IsOutcome}
 use Rattle.cdm_scenario.specs.Scenarios.{ScenarioRecord}
 use Rattle.cdm_scenario.specs.declared.outcome.Outcome.{Outcome}
 use Rattle.cdm_scenario.specs.declared.outcome.Outcome.TheVariants.{Planned, Refused}
-use Rattle.cdm_feed.specs.AirportFile.{airport_in}
-use Rattle.cdm_feed.specs.Output.{day_in}
-use Rattle.cdm_feed.specs.ScenarioFile.{scenarios_in}
 use Rattle.cdm_picture.specs.Sections.{IsEmpty, ShowsPlan, refused_heading, scenario_heading}
 use Rattle.cdm_picture.specs.Svg.{picture_text}
 use Rattle.cdm_picture.specs.declared.hours.Hours.{Hours}
@@ -41,12 +37,3 @@ pub record IsPicture (d : DayRecord) (scenarios : List ScenarioRecord) (text : L
   pub height : ℕ
   pub legend : List Shape
   pub bytes : text ≡ picture_text d.airport.day height legend (own ∷ others)
-
--- the text is the picture of the day and the scenarios that the bytes of an airport file, of a feed and of a scenario
--- file make
-pub record IsDrawn (airport feed scenarios text : List ℕ) : Type 0 where
-  pub rows : AirportRows
-  pub airport_file : airport_in airport ≡ Ok rows
-  pub questions : List ScenarioRecord
-  pub scenario_file : scenarios_in rows.day scenarios ≡ Ok questions
-  pub picture : IsPicture (day_in rows feed) questions text

@@ -9,7 +9,6 @@ mod hours;
 mod lanes;
 mod legend;
 mod marks;
-mod run;
 mod scenes;
 mod section;
 mod shape;
@@ -18,4 +17,4 @@ mod style;
 mod svg;
 mod words;
 
-pub use run::run_picture;
+pub use scenes::picture;

@@ -126,9 +126,10 @@ fn height_of(sections: &[Section]) -> u32 {
     }
 }
 
-/// The picture of a day and of scenarios over it, as SVG. What becomes of the scenarios is found by so many
+/// The picture of a day and of scenarios over it, as SVG 1.1, with each scenario beneath the day. Each flight with a take-off
+/// has one mark, at the place of its TTOT, and each blocked flight stands once in the list below (`IsPicture`). What becomes of the scenarios is found by so many
 /// workers in phase `Scenarios`, and every scenario is one piece.
-pub(crate) fn picture<R: Threads + Sync, G: Gate>(
+pub fn picture<R: Threads + Sync, G: Gate>(
     rt: &R,
     alloc: Global,
     base: &DayState,

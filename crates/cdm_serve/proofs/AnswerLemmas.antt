@@ -2,8 +2,8 @@
 use Rattle.std.proofs.Common.{◌≡◌, ℕ, Bool, true, false, Result, Ok, Err, List, refl}
 use Rattle.std.specs.Prelude.{if◌then◌else◌, bytes_eq, codes}
 use Rattle.cdm_time.specs.declared.calendar.CalendarDate.{CalendarDate}
-use Rattle.cdm_feed.specs.Fields.{field}
-use Rattle.cdm_feed.specs.Parsing.{parse_of}
+use Rattle.cdm_files.specs.Fields.{field}
+use Rattle.cdm_files.specs.Parsing.{parse_of}
 use Rattle.cdm_flight.specs.declared.word.RefusalWord.{RefusalWord}
 use Rattle.cdm_journal.specs.Lines.{LineRecord}
 use Rattle.cdm_journal.specs.Lines.LineRecord.{Blank, One, Several}

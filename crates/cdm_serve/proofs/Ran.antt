@@ -14,7 +14,7 @@ use Rattle.cdm_serve.specs.Requests.{request_of}
 use Rattle.cdm_serve.specs.Served.{AreReplies, Exchange, IsHeard, IsReplyTo, answered, line_of, numbered, said, served, told_of}
 use Rattle.cdm_serve.specs.Taken.{TakenRecord, after, taken}
 use Rattle.cdm_serve.specs.inner.Steps.{HearsInVain, HearsLine, IsAnswerFault, IsLinesFault, IsPortFault, ServeStops, Serves}
-use Rattle.cdm_feed.specs.declared.common_fault.CommonFault.TheVariants as common
+use Rattle.cdm_files.specs.declared.common_fault.CommonFault.TheVariants as common
 use Rattle.cdm_serve.specs.declared.fault.ServeError.{ServeError}
 use Rattle.cdm_serve.specs.declared.fault.ServeError.TheVariants as error
 

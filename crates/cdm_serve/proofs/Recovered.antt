@@ -3,8 +3,8 @@ use Rattle.std.proofs.Common.{◌≡◌, IsOk, Ok, inl, inr, ℕ, Option, None, 
 use Rattle.std.specs.Option.{option_to_list}
 use Rattle.std.proofs.lemmas.List.{append-nil, append_cancel_left}
 use Rattle.std.proofs.lemmas.List.Concat.{flat_map-append}
-use Rattle.cdm_feed.specs.Output.{accepted_in, refusals_in}
-use Rattle.cdm_feed.specs.Parsing.{parse_of}
+use Rattle.cdm_files.specs.FeedDay.{accepted_in, refusals_in}
+use Rattle.cdm_files.specs.Parsing.{parse_of}
 use Rattle.cdm_flight.specs.Accepted.{refusal}
 use Rattle.cdm_flight.specs.Journal.{AirportRows}
 use Rattle.cdm_flight.specs.declared.update.Update.{Update}

@@ -1,7 +1,7 @@
 -- The start of a served day, step by step.
 use Rattle.std.proofs.Common.{◌≡◌, inl, inr, ℕ, List, [], ◌∷◌, ◌++◌, length, refl, sym, ◌∙◌, ap, append_assoc}
 use Rattle.std.proofs.lemmas.List.{append-nil}
-use Rattle.cdm_feed.specs.Output.{refusals_in}
+use Rattle.cdm_files.specs.FeedDay.{refusals_in}
 use Rattle.cdm_flight.specs.Journal.{AirportRows}
 use Rattle.cdm_journal.specs.Journal.{whole_lines}
 use Rattle.cdm_plan.specs.Day.{DayRecord}

@@ -1,11 +1,11 @@
 -- Why a served day ends before its input does.
 use Rattle.std.specs.Prelude.{◌≡◌, ◌≤◌, ◌^◌, ⊤, ℕ, Bool, true, false, List, [], ◌∷◌, count_by, IfSome}
 use Rattle.std.specs.Result.{IsOkAnd}
-use Rattle.cdm_feed.specs.AirportFile.{airport_in}
-use Rattle.cdm_feed.specs.CommonFaults.{IsFirstCommonFault}
-use Rattle.cdm_feed.specs.Output.{refusals_in}
-use Rattle.cdm_feed.specs.Readings.{IsRead, IsUnfailed, Reading, no_input}
-use Rattle.cdm_feed.specs.declared.common_fault.CommonFault.TheVariants as common
+use Rattle.cdm_files.specs.AirportFile.{airport_in}
+use Rattle.cdm_files.specs.CommonFaults.{IsFirstCommonFault}
+use Rattle.cdm_files.specs.FeedDay.{refusals_in}
+use Rattle.cdm_files.specs.Readings.{IsRead, IsUnfailed, Reading, no_input}
+use Rattle.cdm_files.specs.declared.common_fault.CommonFault.TheVariants as common
 use Rattle.cdm_flight.specs.Journal.{AirportRows}
 use Rattle.cdm_flight.specs.declared.word.RefusalWord.{RefusalWord}
 use Rattle.cdm_journal.specs.Journal.{whole_lines}

@@ -3,8 +3,8 @@ use Rattle.std.specs.Prelude.{ℕ, List, length, Some, bytes_eq, codes, Result, 
 use Rattle.cdm_time.specs.declared.calendar.CalendarDate.{CalendarDate}
 use Rattle.cdm_flight.specs.declared.word.RefusalWord.{RefusalWord}
 use Rattle.cdm_flight.specs.declared.word.RefusalWord.TheVariants.{Fields}
-use Rattle.cdm_feed.specs.Fields.{counted, field, flight_field, of_one, runway_field}
-use Rattle.cdm_feed.specs.Parsing.{parse_of}
+use Rattle.cdm_files.specs.Fields.{counted, field, flight_field, of_one, runway_field}
+use Rattle.cdm_files.specs.Parsing.{parse_of}
 use Rattle.cdm_journal.specs.Lines.{LineRecord}
 use Rattle.cdm_journal.specs.Lines.LineRecord.{Blank, One, Several}
 use Rattle.cdm_view.specs.declared.question.Question.TheVariants.{Load, Why}

@@ -4,7 +4,7 @@ use Rattle.std.specs.Fmt.{decimal}
 use Rattle.std.specs.List.{concat}
 use Rattle.cdm_desk.specs.Replies.{IsReply, reply_text}
 use Rattle.cdm_desk.specs.declared.reply.DeskReply.{DeskReply}
-use Rattle.cdm_feed.specs.Output.{day_in, refusals_in}
+use Rattle.cdm_files.specs.FeedDay.{day_in, refusals_in}
 use Rattle.cdm_flight.specs.Journal.{AirportRows}
 use Rattle.cdm_journal.specs.Journal.{journal_line, whole_lines}
 use Rattle.cdm_journal.specs.Lines.{LineRecord}

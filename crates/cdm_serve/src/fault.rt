@@ -1,9 +1,9 @@
 //! Why a served day ends before its input does.
 ghost use Rattle.std.specs.Prelude.{◌≡◌};
-ghost use Rattle.cdm_feed.specs.declared.common_fault.CommonFault.TheVariants as common;
+ghost use Rattle.cdm_files.specs.declared.common_fault.CommonFault.TheVariants as common;
 ghost use Rattle.cdm_serve.specs.declared.fault.ServeError.TheVariants as error;
 
-use cdm_feed::{CommonFault, FileFault};
+use cdm_files::{CommonFault, FileFault};
 use cdm_flight::RefusalWord;
 use cdm_port::PortFault;
 use std::alloc::AllocError;

@@ -1,12 +1,12 @@
 //! What a line of the input asks for.
 ghost use Rattle.std.specs.Prelude.{◌≡◌};
 ghost use Rattle.csv.specs.Records.{fields_of};
-ghost use Rattle.cdm_feed.specs.Fields.{counted};
+ghost use Rattle.cdm_files.specs.Fields.{counted};
 ghost use Rattle.cdm_journal.specs.Lines.{read_as};
 ghost use Rattle.cdm_serve.specs.Requests.{asked_by, flight_asked, request_in, request_of, runway_asked};
 
 use crate::asked::Asked;
-use cdm_feed::parse_record;
+use cdm_files::parse_record;
 use cdm_flight::{FlightName, RefusalWord, Role, RunwayName, Update};
 use cdm_journal::{LineRead, field};
 use cdm_time::Day;
@@ -25,7 +25,7 @@ pub enum Request {
 }
 
 // The question what holds a flight.
-#[tactic(auto, unfolding(cdm_feed::specs::Fields::name_field))]
+#[tactic(auto, unfolding(cdm_files::specs::Fields::name_field))]
 fn flight_asked(name: &[u8]) -> Result<Asked, RefusalWord>
     ensures { result ≡ flight_asked name.now }
 {
@@ -34,7 +34,7 @@ fn flight_asked(name: &[u8]) -> Result<Asked, RefusalWord>
 }
 
 // The question how full a runway is.
-#[tactic(auto, unfolding(cdm_feed::specs::Fields::name_field))]
+#[tactic(auto, unfolding(cdm_files::specs::Fields::name_field))]
 fn runway_asked(name: &[u8]) -> Result<Asked, RefusalWord>
     ensures { result ≡ runway_asked name.now }
 {

@@ -1,8 +1,8 @@
 //! A day served over a port.
 ghost use Rattle.std.specs.Prelude.{◌≡◌, ◌++◌, ℕ, List, false, IfErr, IfOk, IfSome, OnErr, OnOk};
 ghost use Rattle.std.specs.Result.{IsOkAnd};
-ghost use Rattle.cdm_feed.specs.AirportFile.{airport_in};
-ghost use Rattle.cdm_feed.specs.Readings.{IsRead, reading};
+ghost use Rattle.cdm_files.specs.AirportFile.{airport_in};
+ghost use Rattle.cdm_files.specs.Readings.{IsRead, reading};
 ghost use Rattle.cdm_port.specs.Event.Event.{End};
 ghost use Rattle.cdm_port.specs.Stop.{since};
 ghost use Rattle.cdm_serve.specs.Faults.{IsDayFault, IsServeFault};
@@ -16,7 +16,7 @@ use crate::performing::perform;
 use crate::starting::start;
 use cdm_day::Airport;
 use cdm_desk::DeskDay;
-use cdm_feed::{Device, Input, airport_of, read_whole};
+use cdm_files::{Device, Input, airport_of, read_whole};
 use cdm_journal::{LineRead, read_line};
 use cdm_port::{Heard, Port};
 use std::alloc::Global;

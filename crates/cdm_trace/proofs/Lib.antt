@@ -1,2 +1,2 @@
 mod TraceLemmas
-mod OneTrace
+pub mod OneTrace

@@ -1,5 +1,5 @@
 -- A feed has one trace.
-use Rattle.std.proofs.Common.{◌≡◌, ◌∙◌, ◌+◌, ℕ, List, [], ◌∷◌, ◌++◌, Option, None, Some, Result, Ok, Err, refl, sym, ap, subst, not}
+use Rattle.std.proofs.Common.{◌≡◌, ◌∙◌, ◌+◌, ℕ, List, [], ◌∷◌, ◌++◌, Option, None, Some, Ok, Err, refl, sym, ap, subst, not}
 use Rattle.std.specs.List.{IsDistinct}
 use Rattle.cdm_flight.specs.Accepted.{accepted, after_one, refusal}
 use Rattle.cdm_flight.specs.Journal.{AirportRows}
@@ -22,12 +22,10 @@ use Rattle.cdm_plan.proofs.NameLemmas.{by_name}
 use Rattle.cdm_desk.specs.Replies.{IsChangedTo, IsReply, IsReplyBy, day_after}
 use Rattle.cdm_desk.specs.declared.reply.DeskReply.{DeskReply}
 use Rattle.cdm_desk.specs.declared.reply.DeskReply.TheVariants.{Accepted, Refused}
-use Rattle.cdm_feed.specs.AirportFile.{airport_in}
-use Rattle.cdm_feed.specs.Parsing.{parse_of}
-use Rattle.cdm_feed.specs.Records.{records_of}
-use Rattle.cdm_feed.specs.Refused.{Spelled}
-use Rattle.cdm_feed.proofs.OutputLemmas.{own_airport, same-ok}
-use Rattle.cdm_trace.specs.Traces.{HaveOneTrace, IsTold, told}
+use Rattle.cdm_files.specs.Parsing.{parse_of}
+use Rattle.cdm_files.specs.Records.{records_of}
+use Rattle.cdm_files.specs.Refused.{Spelled}
+use Rattle.cdm_trace.specs.Traces.{IsTold, IsTrace, told}
 use Rattle.cdm_trace.proofs.TraceLemmas.{first_day}
 
 -- the day's runways have names of their own, and so have its flights
@@ -85,8 +83,5 @@ own_first : (g : AirportRows) → IsAirport g → Own (first_day g)
 unfolding IsDistinct
 own_first g is = (is.names, tt)
 
-pub one : (asked : Option (List ℕ)) (airport feed : List ℕ) → HaveOneTrace asked airport feed
-one asked airport feed x y a b =
-    let same : b.rows ≡ a.rows = same-ok (airport_in airport) b.rows a.rows b.airport_file a.airport_file in
-    let told : IsTold asked (first_day a.rows) 1 (records_of feed) y = subst (λ (g : AirportRows). IsTold asked (first_day g) 1 (records_of feed) y) same b.told in
-    one_told asked (first_day a.rows) 1 (records_of feed) (own_first a.rows (own_airport airport a.rows a.airport_file)) x y a.told told
+pub one : (asked : Option (List ℕ)) (g : AirportRows) (feed : List ℕ) → IsAirport g → (x y : List ℕ) → IsTrace asked g feed x → IsTrace asked g feed y → x ≡ y
+one asked g feed is = one_told asked (first_day g) 1 (records_of feed) (own_first g is)

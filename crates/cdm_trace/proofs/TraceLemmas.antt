@@ -1,15 +1,13 @@
 -- What is told of the records of a feed, one after the other.
-use Rattle.std.proofs.Common.{◌≡◌, ◌≤◌, ◌+◌, ◌∙◌, ℕ, Bool, true, false, List, [], ◌∷◌, ◌++◌, Option, Result, Ok, Err, if◌then◌else◌, refl, sym, ap, subst, length, map, arith, append_assoc, append-nil}
+use Rattle.std.proofs.Common.{◌≡◌, ◌≤◌, ◌+◌, ◌∙◌, ℕ, List, [], ◌∷◌, ◌++◌, Option, Ok, Err, refl, sym, ap, subst, length, arith, append_assoc, append-nil}
 use Rattle.cdm_time.specs.declared.calendar.CalendarDate.{CalendarDate}
-use Rattle.cdm_flight.specs.Accepted.{accepted, after_one}
 use Rattle.cdm_flight.specs.Journal.{AirportRows}
 use Rattle.cdm_plan.specs.Day.{DayRecord}
 use Rattle.cdm_desk.specs.Replies.{IsReply, day_after}
 use Rattle.cdm_desk.specs.declared.reply.DeskReply.{DeskReply}
-use Rattle.cdm_feed.specs.Output.{accepted_in, spelled_in}
-use Rattle.cdm_feed.specs.Parsing.{parse_of}
-use Rattle.cdm_feed.specs.Records.{records_of}
-use Rattle.cdm_feed.specs.Refused.{Spelled, updates_in}
+use Rattle.cdm_files.specs.Parsing.{parse_of}
+use Rattle.cdm_files.specs.Records.{records_of}
+use Rattle.cdm_files.specs.Refused.{Spelled}
 use Rattle.cdm_trace.specs.Traces.{IsTold, told}
 
 abbrev pub first_day : AirportRows → DayRecord
@@ -19,7 +17,6 @@ first_day g = record { airport = g; journal = [] }
 pub record Tells (asked : Option (List ℕ)) (g : AirportRows) (feed : List ℕ) (day : CalendarDate) (s : DayRecord) (number : ℕ) (left : List (List (List ℕ))) (text : List ℕ) : Type 0 where
   pub of_day : day ≡ g.day
   pub airport : s.airport ≡ g
-  pub accepted : accepted g s.journal (updates_in (map (parse_of g.day) left)) ≡ accepted_in g feed
   pub told : (later : List ℕ) → IsTold asked s (number + 1) left later → IsTold asked (first_day g) 1 (records_of feed) (text ++ later)
   pub count : number + length left ≤ length feed
 
@@ -28,22 +25,13 @@ same_airport : (s : DayRecord) (spelled : Spelled) → (day_after s spelled).air
 same_airport s (Ok u) = refl
 same_airport s (Err word) = refl
 
--- a record, and then those after it
-record_more : (g : AirportRows) (s : DayRecord) (spelled : Spelled) (later : List Spelled) → s.airport ≡ g
-    → accepted g s.journal (updates_in (spelled ∷ later)) ≡ accepted g (day_after s spelled).journal (updates_in later)
-unfolding accepted updates_in
-record_more g s (Ok u) later is = λ i. accepted g (after_one (sym is i) s.journal u) (updates_in later)
-record_more g s (Err word) later is = refl
-
 module _ (asked : Option (List ℕ)) (g : AirportRows) (feed : List ℕ) (day : CalendarDate) where
   -- before the first record
   pub tells_first : (s : DayRecord) (left : List (List (List ℕ))) (text : List ℕ) → day ≡ g.day → s ≡ first_day g → left ≡ records_of feed
       → length left ≤ length feed → text ≡ [] → Tells asked g feed day s 0 left text
-  unfolding accepted_in
   tells_first s left text of_day is all few none = record {
     of_day = of_day;
     airport = ap (λ (d : DayRecord). d.airport) is;
-    accepted = λ i. accepted g (is i).journal (updates_in (map (parse_of g.day) (all i)));
     told = λ later h.
         let at : IsTold asked (first_day g) 1 (records_of feed) later =
         subst (λ (rs : List (List (List ℕ))). IsTold asked (first_day g) 1 rs later) all (subst (λ (d : DayRecord). IsTold asked d 1 left later) is h) in
@@ -57,9 +45,7 @@ module _ (asked : Option (List ℕ)) (g : AirportRows) (feed : List ℕ) (day : 
       → IsReply s spelled reply → next ≡ day_after s spelled → more ≡ text ++ told asked day (number + 1) fields reply
       → Tells asked g feed day next (number + 1) new more
   tells_next s next number fields old new text more spelled reply t split said is after wrote =
-      let f = parse_of g.day in
       let own_day : day ≡ s.airport.day = t.of_day ∙ ap (λ (a : AirportRows). a.day) (sym t.airport) in
-      let of_day : spelled ≡ f fields = said ∙ ap (λ (d : CalendarDate). parse_of d fields) t.of_day in
       let of_own : spelled ≡ parse_of s.airport.day fields = said ∙ ap (λ (d : CalendarDate). parse_of d fields) own_day in
       let piece = told asked s.airport.day (number + 1) fields reply in
       let wrote_piece : more ≡ text ++ piece = wrote ∙ ap (λ (d : CalendarDate). text ++ told asked d (number + 1) fields reply) own_day in
@@ -68,10 +54,6 @@ module _ (asked : Option (List ℕ)) (g : AirportRows) (feed : List ℕ) (day : 
       record {
         of_day = t.of_day;
         airport = ap (λ (d : DayRecord). d.airport) after ∙ (same_airport s spelled ∙ t.airport);
-        accepted = (λ i. accepted g (after i).journal (updates_in (map f new)))
-            ∙ (sym (record_more g s spelled (map f new) t.airport)
-            ∙ ((λ i. accepted g s.journal (updates_in (of_day i ∷ map f new)))
-            ∙ ((λ i. accepted g s.journal (updates_in (map f (sym split i)))) ∙ t.accepted)));
         told = λ later h.
             let rest : IsTold asked (day_after s (parse_of s.airport.day fields)) (number + 1 + 1) new later =
             subst (λ (d : DayRecord). IsTold asked d (number + 1 + 1) new later) next_day h in
@@ -85,9 +67,7 @@ module _ (asked : Option (List ℕ)) (g : AirportRows) (feed : List ℕ) (day : 
 
   -- behind the last record
   pub all_told : (s : DayRecord) (number : ℕ) (left : List (List (List ℕ))) (text : List ℕ) → Tells asked g feed day s number left text → left ≡ []
-      → (s ≡ record { airport = g; journal = accepted_in g feed }) × IsTold asked (first_day g) 1 (records_of feed) text
-  unfolding accepted updates_in
+      → IsTold asked (first_day g) 1 (records_of feed) text
   all_told s number left text t none =
-      let journal : s.journal ≡ accepted_in g feed = subst (λ (rs : List (List (List ℕ))). accepted g s.journal (updates_in (map (parse_of g.day) rs)) ≡ accepted_in g feed) none t.accepted in
       let nothing : IsTold asked s (number + 1) left [] = subst (λ (rs : List (List (List ℕ))). IsTold asked s (number + 1) rs []) (sym none) refl in
-      ((λ i. record { airport = t.airport i; journal = journal i }), subst (IsTold asked (first_day g) 1 (records_of feed)) (append-nil text) (t.told [] nothing))
+      subst (IsTold asked (first_day g) 1 (records_of feed)) (append-nil text) (t.told [] nothing)

@@ -1,9 +1,9 @@
 -- Which record of a feed moved whose start-up.
-use Rattle.std.specs.Prelude.{◌≡◌, ⊤, ℕ, ◌+◌, List, [], ◌∷◌, ◌++◌, codes, Option, None, Some, IsSome, Ok}
+use Rattle.std.specs.Prelude.{◌≡◌, ℕ, ◌+◌, List, [], ◌∷◌, ◌++◌, codes, Option, None, Some}
 use Rattle.std.specs.Fmt.{decimal}
 use Rattle.std.specs.List.{concat, find}
 use Rattle.cdm_time.specs.declared.calendar.CalendarDate.{CalendarDate}
-use Rattle.cdm_flight.specs.Journal.{AirportRows, flight_of}
+use Rattle.cdm_flight.specs.Journal.{AirportRows}
 use Rattle.cdm_flight.specs.Names.{same_name}
 use Rattle.cdm_plan.specs.Day.{DayRecord}
 use Rattle.cdm_report.specs.Report.{line_end}
@@ -12,10 +12,8 @@ use Rattle.cdm_view.specs.declared.standing.Standing.{Standing}
 use Rattle.cdm_desk.specs.Replies.{IsReply, changed_line, day_after, reply_text}
 use Rattle.cdm_desk.specs.declared.reply.DeskReply.{DeskReply}
 use Rattle.cdm_desk.specs.declared.reply.DeskReply.TheVariants.{Accepted, Refused}
-use Rattle.cdm_feed.specs.AirportFile.{airport_in}
-use Rattle.cdm_feed.specs.Output.{day_in}
-use Rattle.cdm_feed.specs.Parsing.{parse_of}
-use Rattle.cdm_feed.specs.Records.{records_of}
+use Rattle.cdm_files.specs.Parsing.{parse_of}
+use Rattle.cdm_files.specs.Records.{records_of}
 use Rattle.cdm_journal.specs.Journal.{record_text}
 
 -- What is told of a record by its reply.
@@ -59,18 +57,6 @@ IsTold asked d number (fields ∷ records) text =
     × IsTold asked (day_after d (parse_of d.airport.day fields)) (number + 1) records later
     × (text ≡ told asked d.airport.day number fields reply ++ later)
 
--- the day knows the flight that is asked for, if one is
-abbrev pub IsKnown : Option (List ℕ) → DayRecord → Type 0
-IsKnown None d = ⊤
-IsKnown (Some name) d = IsSome (flight_of d.airport d.journal name)
-
 -- the text tells of the records of a feed at an airport
-pub record IsTrace (asked : Option (List ℕ)) (airport feed text : List ℕ) : Type 0 where
-  pub rows : AirportRows
-  pub airport_file : airport_in airport ≡ Ok rows
-  pub known : IsKnown asked (day_in rows feed)
-  pub told : IsTold asked (record { airport = rows; journal = [] }) 1 (records_of feed) text
-
--- the bytes of an airport file and of a feed have one trace at most
-abbrev pub HaveOneTrace : Option (List ℕ) → List ℕ → List ℕ → Type 0
-HaveOneTrace asked airport feed = (x y : List ℕ) → IsTrace asked airport feed x → IsTrace asked airport feed y → x ≡ y
+abbrev pub IsTrace : Option (List ℕ) → AirportRows → List ℕ → List ℕ → Type 0
+IsTrace asked g feed text = IsTold asked (record { airport = g; journal = [] }) 1 (records_of feed) text

@@ -1,58 +1,27 @@
 //! The records of a feed, one after the other.
-ghost use Rattle.std.specs.Prelude.{◌≡◌, ◌≤◌, [], length, IfErr, IfOk, OnOk};
-ghost use Rattle.cdm_feed.specs.declared.input.TheConstants.{INPUT_LIMIT};
-ghost use Rattle.cdm_feed.specs.Output.{day_in};
-ghost use Rattle.cdm_feed.specs.Records.{records_of};
-ghost use Rattle.cdm_trace.specs.TraceFaults.{IsUntold};
-ghost use Rattle.cdm_trace.specs.Traces.{IsKnown, IsTold};
+ghost use Rattle.std.specs.Prelude.{◌≤◌, length, IfOk};
+ghost use Rattle.cdm_files.specs.Input.{input_limit};
+ghost use Rattle.cdm_trace.specs.Traces.{IsTrace};
 
 use crate::told::push_told;
-use crate::trace_error::TraceError;
-use cdm_day::{Airport, DayState};
+use cdm_day::Airport;
 use cdm_desk::DeskDay;
-use cdm_feed::{RecordReader, parse_record};
+use cdm_files::{RecordReader, day_of, parse_record};
 use cdm_flight::FlightName;
-use cdm_plan::Records;
 use csv::ByteRecord;
 use std::alloc::{AllocError, Global};
 
-// The day of an airport before its first update.
-fn day_of(alloc: Global, airport: Airport) -> Result<DayState, AllocError>
-    ensures { IfOk result (λ s. s ≡ record { airport = airport; journal = [] }) }
-{
-    match DayState::new(alloc, airport) {
-        Ok(state) => Ok(state),
-        Err(_) => Err(AllocError),
-    }
-}
-
-// Whether the day knows the flight that is asked for, if one is.
-fn check_known(state: &DayState, asked: Option<FlightName>) -> Result<(), TraceError>
-    ensures known { OnOk result (IsKnown asked state.now) }
-    ensures fault { IfErr result (IsUntold asked state.now) }
-{
-    match asked {
-        None => Ok(()),
-        Some(name) => match state.flight(name) {
-            Some(_) => Ok(()),
-            None => Err(TraceError::NoFlight(name)),
-        },
-    }
-}
-
-/// Posts the records of a feed to the day of an airport, and tells of each what it changed.
-///
-/// `NoFlight` where the day doesn't know in the end the flight that is asked for, and `Memory`.
-pub(crate) fn trace_of(
+/// Posts the records of a feed one after the other to the day of an airport, and tells of each what it changed. Without a
+/// flight that is the reply to each record that is refused or by which a flight stands otherwise; of a flight, each record
+/// by which it stands otherwise, and where it stands then.
+pub fn trace_of(
     alloc: Global,
     airport: Airport,
     feed: &[u8],
     asked: Option<FlightName>,
-) -> Result<Vec<u8>, TraceError>
-    requires { length feed.now ≤ INPUT_LIMIT }
-    ensures told { IfOk result (λ text. IsTold asked (record { airport = airport; journal = [] }) 1 (records_of feed.now) text.items) }
-    ensures known { OnOk result (IsKnown asked (day_in airport feed.now)) }
-    ensures fault { IfErr result (IsUntold asked (day_in airport feed.now)) }
+) -> Result<Vec<u8>, AllocError>
+    requires { length feed.now ≤ input_limit }
+    ensures { IfOk result (λ text. IsTrace asked airport feed.now text.items) }
 {
     let day = *airport.day();
     let mut reader = RecordReader::new(alloc, feed);
@@ -63,7 +32,6 @@ pub(crate) fn trace_of(
     let mut number = 0;
     'records: loop {
         if !reader.read(&mut row)? {
-            check_known(desk.state(), asked)?;
             return Ok(text);
         }
         number += 1;

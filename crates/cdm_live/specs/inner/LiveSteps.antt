@@ -11,9 +11,9 @@ use Rattle.cdm_day.specs.declared.reply.Reply.{Reply}
 use Rattle.cdm_board.specs.History.{Call, DeskRecord, IsLegal, calls_of, day_of, journal_of}
 use Rattle.cdm_board.specs.declared.fault.BoardError.{BoardError}
 use Rattle.cdm_board.specs.declared.fault.BoardError.TheVariants as board
-use Rattle.cdm_feed.specs.CommonFaults.{IsAirportFault}
-use Rattle.cdm_feed.specs.Refused.{Spelled, refused_by_replies}
-use Rattle.cdm_feed.specs.declared.common_fault.CommonFault.TheVariants as common
+use Rattle.cdm_files.specs.CommonFaults.{IsAirportFault}
+use Rattle.cdm_files.specs.Refused.{Spelled, refused_by_replies}
+use Rattle.cdm_files.specs.declared.common_fault.CommonFault.TheVariants as common
 use Rattle.cdm_live.specs.Live.{IsWorkOf, desk_text, replies_of}
 use Rattle.cdm_live.specs.LiveFaults.{FillsBoard, FitsBoard, calls_needed}
 use Rattle.cdm_live.specs.declared.live_error.LiveError.{LiveError}

@@ -1,9 +1,9 @@
 -- What the steps of a served day leave.
 use Rattle.std.specs.Prelude.{◌≡◌, ◌⊎◌, ◌+◌, ◌≤◌, ◌^◌, ⊤, ℕ, count_by, List, [], ◌∷◌, ◌++◌, length, Option, None, Some}
-use Rattle.cdm_feed.specs.declared.common_fault.CommonFault.TheVariants as common
-use Rattle.cdm_feed.specs.declared.file_fault.FileFault.{FileFault}
-use Rattle.cdm_feed.specs.declared.file_fault.FileFault.TheVariants as file
-use Rattle.cdm_feed.specs.Output.{refusals_in}
+use Rattle.cdm_files.specs.declared.common_fault.CommonFault.TheVariants as common
+use Rattle.cdm_files.specs.declared.file_fault.FileFault.{FileFault}
+use Rattle.cdm_files.specs.declared.file_fault.FileFault.TheVariants as file
+use Rattle.cdm_files.specs.FeedDay.{refusals_in}
 use Rattle.cdm_flight.specs.Journal.{AirportRows}
 use Rattle.cdm_flight.specs.declared.word.RefusalWord.{RefusalWord}
 use Rattle.cdm_journal.specs.Journal.{whole_lines}

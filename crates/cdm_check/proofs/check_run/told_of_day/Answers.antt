@@ -3,8 +3,8 @@ use Rattle.std.specs.Option.{option_copied}
 use Rattle.cdm_flight.specs.Journal.{AirportRows}
 use Rattle.cdm_flight.specs.declared.word.RefusalWord.{RefusalWord}
 use Rattle.cdm_plan.specs.Day.{DayRecord}
-use Rattle.cdm_feed.specs.Output.{refusals_in}
-use Rattle.cdm_feed.specs.ScenarioFile.{scenarios_in}
+use Rattle.cdm_files.specs.FeedDay.{refusals_in}
+use Rattle.cdm_files.specs.ScenarioFile.{scenarios_in}
 use Rattle.cdm_check.specs.Check.{AreLinesOf}
 use Rattle.cdm_check.specs.Findings.{fault_at, finding}
 use Rattle.cdm_check.proofs.LineLemmas.{counted, one_fault, with_room, without_room}

@@ -1,5 +1,5 @@
 use Rattle.std.proofs.Common.{◌≡◌, ◌+◌, length}
-use Rattle.cdm_feed.specs.Records.{records_of}
+use Rattle.cdm_files.specs.Records.{records_of}
 use Rattle.cdm_check.proofs.lines.record_count.Given as goal
 
 abbrev pub invariant-records : goal.invariant-records

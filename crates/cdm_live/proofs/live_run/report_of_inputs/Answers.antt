@@ -3,10 +3,10 @@ use Rattle.std.proofs.lemmas.Result.{err_from_is_err_and}
 use Rattle.cdm_flight.specs.Journal.{AirportRows}
 use Rattle.cdm_time.specs.declared.calendar.CalendarDate.{CalendarDate}
 use Rattle.std.specs.Prelude.{ℕ, List, Ok}
-use Rattle.cdm_feed.specs.AirportFile.{airport_in}
-use Rattle.cdm_feed.specs.Parsing.{parse_of}
-use Rattle.cdm_feed.specs.Records.{records_of}
-use Rattle.cdm_feed.specs.Refused.{Spelled, updates_in}
+use Rattle.cdm_files.specs.AirportFile.{airport_in}
+use Rattle.cdm_files.specs.Parsing.{parse_of}
+use Rattle.cdm_files.specs.Records.{records_of}
+use Rattle.cdm_files.specs.Refused.{Spelled, updates_in}
 use Rattle.cdm_live.specs.Live.{IsCountedText}
 use Rattle.cdm_live.specs.LiveFaults.{calls_needed}
 use Rattle.cdm_live.proofs.LiveLemmas.{AreSpelled, board_fault-record, of_spelled}

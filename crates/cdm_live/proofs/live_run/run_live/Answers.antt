@@ -1,7 +1,7 @@
 use Rattle.std.proofs.Common.{ℕ, List, take, subst}
 use Rattle.std.specs.Io.KnownBytes.{Appends}
 use Rattle.std.proofs.lemmas.Result.{err_from_is_err_and}
-use Rattle.cdm_feed.proofs.RunLemmas.{input_fault-first, of_inputs}
+use Rattle.cdm_files.proofs.RunLemmas.{input_fault-first, of_inputs}
 use Rattle.cdm_live.specs.Live.{IsCounted, IsLive}
 use Rattle.cdm_live.specs.LiveFaults.{FitsBoard}
 use Rattle.cdm_live.proofs.LiveLemmas.{record_fault-first}

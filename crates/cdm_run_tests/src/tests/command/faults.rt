@@ -1,7 +1,7 @@
 //! The lines of faults. Their statuses are told by clauses.
 use crate::tests::devices::Page;
 use cdm_fault::{Fault, UnopenedFile, report_fault};
-use cdm_feed::{CommonFault, Device, RunError, TableError, ViewError};
+use cdm_feed::{CommonFault, Device, RunError};
 use cdm_flight::RefusalWord;
 use cdm_live::LiveError;
 use cdm_port::PortFault;
@@ -21,7 +21,7 @@ fn check_line(rt: &impl Abort, fault: Fault, line: &str) {
 
 #[test]
 fn faults_have_lines(rt: HostRuntime) {
-    use Fault::{Live, NoMemory, Run, Table, View};
+    use Fault::{Live, NoMemory, Run};
     use cdm_feed::Input::{Airport, Feed, Feed1, Feed2};
     let unknown = CommonFault::Airport(5, RefusalWord::Unknown);
     let common = [
@@ -42,16 +42,12 @@ fn faults_have_lines(rt: HostRuntime) {
     ];
     for (fault, line) in common {
         check_line(&rt, Run(RunError::Common(fault)), line);
-        check_line(&rt, Table(TableError::Common(fault)), line);
-        check_line(&rt, View(ViewError::Common(fault)), line);
         check_line(&rt, Live(LiveError::Common(fault)), line);
     }
     let disordered = RunError::Scenario(1, RefusalWord::Order);
-    let unordered = TableError::Scenario(1, RefusalWord::Order);
     let cases = [
         (NoMemory, "out of memory"),
         (Run(disordered), "SCENARIOS record 1: ORDER"),
-        (Table(unordered), "SCENARIOS record 1: ORDER"),
         (
             Live(LiveError::HistoryFull),
             "board is full after 4096 calls",

@@ -1,7 +1,7 @@
 use Rattle.std.proofs.Common.{◌≡◌, IfSome, Ok, rules}
-use Rattle.cdm_feed.specs.AirportFile.{airport_in}
-use Rattle.cdm_feed.specs.Readings.{IsRead, reading}
-use Rattle.cdm_feed.specs.declared.common_fault.Input.TheVariants as input
+use Rattle.cdm_files.specs.AirportFile.{airport_in}
+use Rattle.cdm_files.specs.Readings.{IsRead, reading}
+use Rattle.cdm_files.specs.declared.common_fault.Input.TheVariants as input
 use Rattle.cdm_serve.proofs.Runs.{served_fault}
 use Rattle.cdm_serve.proofs.serving.serve.Goals as goal
 

@@ -1,6 +1,6 @@
 -- Each exit of the start, by what was done before it.
 use Rattle.std.proofs.Common.{◌≡◌, ◌++◌, [], ◌∷◌, length, rules}
-use Rattle.cdm_feed.specs.Output.{refusals_in}
+use Rattle.cdm_files.specs.FeedDay.{refusals_in}
 use Rattle.cdm_journal.specs.Journal.{whole_lines}
 use Rattle.cdm_port.specs.Event.Event.{Flushed, Read, Replied, Synced}
 use Rattle.cdm_port.specs.Stop.{Stops}

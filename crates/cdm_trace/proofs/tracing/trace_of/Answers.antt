@@ -1,9 +1,4 @@
-use Rattle.std.proofs.Common.{◌≡◌, ◌∙◌, Bool, true, false, List, [], ◌∷◌, if◌then◌else◌, refl, subst}
-use Rattle.std.proofs.lemmas.Result.{err_from_is_err_and}
-use Rattle.cdm_plan.specs.Day.{DayRecord}
-use Rattle.cdm_feed.specs.Output.{day_in}
-use Rattle.cdm_trace.specs.TraceFaults.{IsUntold}
-use Rattle.cdm_trace.specs.Traces.{IsKnown}
+use Rattle.std.proofs.Common.{◌≡◌, ◌∙◌, Bool, true, false, List, [], ◌∷◌, if◌then◌else◌}
 use Rattle.cdm_trace.proofs.TraceLemmas.{all_told, tells_first, tells_next}
 use Rattle.cdm_trace.proofs.tracing.trace_of.Goals as goal
 
@@ -22,26 +17,10 @@ records-init c =
     tells_first c.args.asked c.args.airport c.args.feed.now c.day-day.result.now _ _ _ c.day-day.ensures (c.new-desk.ensures ∙ c.in_ok-state.ensures)
     c.new-reader.ensures.left c.new-reader.ensures.count c.new-text.ensures.items
 
-pub returns-then-not-branch-clause-told : goal.returns-then-not-branch-clause-told
-returns-then-not-branch-clause-told c =
-    (all_told c.args.asked c.args.airport c.args.feed.now c.day-day.result.now _ _ _ _ c.records.invariant
-    (none-read _ _ _ _ c.if-not-branch.true c.in_ok-read.ensures.left)).1
-
-pub returns-then-not-branch-clause-known : goal.returns-then-not-branch-clause-known
-returns-then-not-branch-clause-known c =
-    let day = (all_told c.args.asked c.args.airport c.args.feed.now c.day-day.result.now _ _ _ _ c.records.invariant
-    (none-read _ _ _ _ c.if-not-branch.true c.in_ok-read.ensures.left)).0 in
-    subst (IsKnown c.args.asked) (c.state.ensures ∙ day) c.in_ok-check_known.ensures.known
-
-pub returns-in_err-check_known-clause-fault : goal.returns-in_err-check_known-clause-fault
-returns-in_err-check_known-clause-fault c =
-    let day = (all_told c.args.asked c.args.airport c.args.feed.now c.day-day.result.now _ _ _ _ c.records.invariant
-    (none-read _ _ _ _ c.if-not-branch.true c.in_ok-read.ensures.left)).0 in
-    let e = c.in_err-check_known.field-0.0 in
-    let fault : IsUntold c.args.asked (day_in c.args.airport c.args.feed.now) e =
-    subst (λ (d : DayRecord). IsUntold c.args.asked d e) (c.state.ensures ∙ day) c.in_err-check_known.ensures.fault in
-    let p = err_from_is_err_and c.from_residual-in_err-check_known.result c.from_residual-in_err-check_known.ensures.1 in
-    rw (p.1, p.2) fault
+pub returns-then-not-branch : goal.returns-then-not-branch
+returns-then-not-branch c =
+    all_told c.args.asked c.args.airport c.args.feed.now c.day-day.result.now _ _ _ _ c.records.invariant
+    (none-read _ _ _ _ c.if-not-branch.true c.in_ok-read.ensures.left)
 
 pub records-preserved-in_ok-push_told : goal.records-preserved-in_ok-push_told
 records-preserved-in_ok-push_told c =

@@ -1,7 +1,0 @@
-use Rattle.std.proofs.Common.{◌≡◌, take}
-use Rattle.std.specs.List.{filter_map}
-use Rattle.std.specs.Result.{result_ok}
-use Rattle.cdm_feed.proofs.refused.updates_of.Given as goal
-
-abbrev pub invariant-loop-spelled : goal.invariant-loop-spelled
-invariant-loop-spelled l = l.updates.items ≡ filter_map result_ok (take l.spelled-index l.parsed)

@@ -1,0 +1,49 @@
+use Rattle.std.proofs.Common.{ℕ, List, take, subst}
+use Rattle.std.specs.Io.KnownBytes.{Appends}
+use Rattle.std.proofs.lemmas.Result.{err_from_is_err_and}
+use Rattle.cdm_files.proofs.RunLemmas.{of_known}
+use Rattle.cdm_feed.specs.Made.{HaveOne}
+use Rattle.cdm_feed.proofs.OutputLemmas.{one-each}
+use Rattle.cdm_feed.proofs.RunLemmas.{input-first, of-read, unmade-first, write-first}
+use Rattle.cdm_feed.proofs.runs.run_asked.Goals as goal
+
+pub returns-in_err-inputs-clause-fault : goal.returns-in_err-inputs-clause-fault
+returns-in_err-inputs-clause-fault g c =
+    let p = err_from_is_err_and c.from_residual.result c.from_residual.ensures.1 in
+    rw (p.1, p.2) (input-first c.args.asked.now _ _ _ c.in_err-inputs.field-0.0 c.in_err-inputs.ensures.fault)
+
+pub returns-in_err-made-clause-fault : goal.returns-in_err-made-clause-fault
+returns-in_err-made-clause-fault g c =
+    let inputs = c.in_ok-inputs.ensures in
+    let p = err_from_is_err_and c.from_residual-in_err-made.result c.from_residual-in_err-made.ensures.1 in
+    rw (p.1, p.2) (unmade-first c.args.asked.now _ _ _ _ _ _ c.in_err-made.field-0.0 inputs.read inputs.airport inputs.second inputs.third c.in_err-made.ensures.fault)
+
+pub returns-in_err-write_text-clause-fault : goal.returns-in_err-write_text-clause-fault
+returns-in_err-write_text-clause-fault g c =
+    let inputs = c.in_ok-inputs.ensures in
+    let made = c.in_ok-made.made in
+    let p = err_from_is_err_and c.from_residual-in_err-write_text.result c.from_residual-in_err-write_text.ensures.1 in
+    rw (p.1, p.2) (write-first c.args.asked.now _ _ _ inputs.read
+    (of-read _ _ _ inputs.airport inputs.second inputs.third (made.text.items, made.counted, c.in_ok-made.ensures.made)))
+
+pub returns-in_err-write_text-clause-prefix : goal.returns-in_err-write_text-clause-prefix
+returns-in_err-write_text-clause-prefix g c = λ _.
+    let inputs = c.in_ok-inputs.ensures in
+    let made = c.in_ok-made.made in
+    let Adds : List ℕ → Type 0 = Appends (g.W.Write.contents c.args.out.now.inner) (g.W.Write.contents c.write_text.new.device.inner) in
+    let part = c.in_err-write_text.ensures.prefix in
+    of-read _ _ _ inputs.airport inputs.second inputs.third
+    (made.text.items, made.counted, c.in_ok-made.ensures.made, part.0, subst (λ (text : List ℕ). Adds (take part.0 text)) c.deref.ensures.value part.1)
+
+pub returns-clause-written : goal.returns-clause-written
+returns-clause-written g c =
+    let inputs = c.in_ok-inputs.ensures in
+    let made = c.in_ok-made.made in
+    let Adds : List ℕ → Type 0 = Appends (g.W.Write.contents c.args.out.now.inner) (g.W.Write.contents c.write_text.new.device.inner) in
+    of-read _ _ _ inputs.airport inputs.second inputs.third
+    (made.text.items, c.in_ok-made.ensures.made, subst Adds c.deref.ensures.value c.in_ok-write_text.ensures.whole)
+
+pub returns-clause-one : goal.returns-clause-one
+returns-clause-one g c =
+    of_known (HaveOne c.args.asked.now) (g.A.Read.remaining c.args.airport.now.inner) (g.F.Read.remaining c.args.feed.now.inner)
+    (g.S.Read.remaining c.args.scenarios.now.inner) (one-each c.args.asked.now)

@@ -1,0 +1,29 @@
+//! What is asked of a run.
+use cdm_check::FilePaths;
+use cdm_flight::FlightName;
+use cdm_table::Table;
+use cdm_view::Question;
+
+/// What is told of a day, which an airport file and a feed make, and of the scenarios of a scenario file over it.
+#[derive(Clone, Copy, PartialEq, Eq, Debug)]
+pub enum DayText {
+    /// The report of the day with the feed's refused records, and then the answer to each scenario.
+    Report,
+    /// A table of the day and the scenarios.
+    Table(Table),
+    /// The picture of the day, and of each scenario beneath it.
+    Picture,
+    /// The answer to a question of the day.
+    Answer(Question),
+    /// Which records of the feed moved whose start-up, or that of one flight.
+    Trace(Option<FlightName>),
+}
+
+/// What is asked of a run.
+#[derive(Clone, Copy, Debug)]
+pub enum Asked<'a> {
+    /// What is told of the day.
+    Day(DayText),
+    /// What is wrong with the files, which have these paths.
+    Check(FilePaths<'a>),
+}

@@ -1,0 +1,192 @@
+//! What is made of whole inputs.
+ghost use Rattle.std.specs.Prelude.{◌≡◌, ◌≤◌, None, Some, length, IfErr, IfOk, OnOk};
+ghost use Rattle.cdm_flight.specs.Journal.{flight_of};
+ghost use Rattle.cdm_files.specs.FeedDay.{day_in, refusals_in};
+ghost use Rattle.cdm_files.specs.Input.{input_limit};
+ghost use Rattle.cdm_table.specs.Tables.{IsTable};
+ghost use Rattle.cdm_trace.specs.Traces.{IsTrace};
+ghost use Rattle.cdm_feed.specs.Made.{IsKnown, IsMade, IsTextOf, IsUnmade, IsUntold, IsView};
+ghost use Rattle.cdm_feed.specs.Output.{IsReport};
+
+use crate::answers::push_answers;
+use crate::asked::{Asked, DayText};
+use crate::counted::Counted;
+use crate::runs::RunCounts;
+use cdm_check::{Checked, check_of};
+use cdm_day::{DayState, Records};
+use cdm_files::{AskedDay, CommonFault, Inputs, Lent, RunError, asked_day};
+use cdm_flight::FlightName;
+use cdm_phase::Gate;
+use cdm_plan::Runner;
+use cdm_picture::picture;
+use cdm_report::{indicators, report_text};
+use cdm_table::{Table, TableFault, tabulate};
+use cdm_trace::trace_of;
+use cdm_view::{Question, ViewFault, answer};
+use std::alloc::{AllocError, Global};
+use std::thread::Threads;
+
+/// The text of a run and what it counts.
+#[derive(Drop)]
+pub(crate) struct Made {
+    pub(crate) text: Vec<u8>,
+    pub(crate) counted: Counted,
+}
+
+// The report of a day, and then the answer to each scenario.
+fn report_of<R: Threads + Sync, G: Gate>(
+    lent: &Lent<'_, R, G>,
+    day: &AskedDay,
+) -> Result<Vec<u8>, AllocError>
+    ensures { IfOk result (λ text. IsReport day.now.state day.now.refused.items day.now.scenarios.items text.items) }
+{
+    let state = &day.state;
+    let plan = state.plan();
+    let mut text = report_text(lent.alloc, state.day(), plan, &day.refused)?;
+    push_answers(lent, state, indicators(plan), &day.scenarios, &mut text)?;
+    Ok(text)
+}
+
+// A table of a day and its scenarios.
+fn table_of<R: Threads + Sync, G: Gate>(
+    lent: &Lent<'_, R, G>,
+    table: Table,
+    day: &AskedDay,
+) -> Result<Vec<u8>, RunError>
+    ensures made { IfOk result (λ text. IsTable table day.now.state day.now.scenarios.items text.items) }
+    ensures fault { IfErr result (IsUntold (DayText.Table table) day.now.state day.now.scenarios.items) }
+{
+    let AskedDay {
+        state,
+        scenarios,
+        ..
+    } = day;
+    let runner = Runner {
+        rt: lent.rt,
+        workers: lent.workers,
+        gate: lent.gate,
+    };
+    match tabulate(lent.alloc, state, scenarios, table, &runner) {
+        Ok(text) => Ok(text),
+        Err(TableFault::NoScenario(name)) => Err(RunError::NoScenario(name)),
+        Err(TableFault::Memory) => Err(RunError::Common(CommonFault::Memory)),
+    }
+}
+
+// The answer to a question of a day.
+fn answer_of(alloc: Global, question: Question, day: &AskedDay) -> Result<Vec<u8>, RunError>
+    ensures made { IfOk result (λ text. IsView question day.now.state text.items) }
+    ensures fault { IfErr result (IsUntold (DayText.Answer question) day.now.state day.now.scenarios.items) }
+{
+    let state = &day.state;
+    match answer(alloc, state.airport(), state, state.plan(), question) {
+        Ok(text) => Ok(text),
+        Err(ViewFault::NoFlight(name)) => Err(RunError::NoFlight(name)),
+        Err(ViewFault::NoRunway(name)) => Err(RunError::NoRunway(name)),
+        Err(ViewFault::Memory) => Err(RunError::Common(CommonFault::Memory)),
+    }
+}
+
+// The flight that is asked for, if one is, is known to the day.
+fn check_known(state: &DayState, asked: Option<FlightName>) -> Result<(), FlightName>
+    ensures known { OnOk result (IsKnown asked state.now) }
+    ensures unknown { IfErr result (λ name. (asked ≡ Some name) × (flight_of state.now.airport state.now.journal name ≡ None)) }
+{
+    match asked {
+        None => Ok(()),
+        Some(name) => match state.flight(name) {
+            Some(_) => Ok(()),
+            None => Err(name),
+        },
+    }
+}
+
+// What is told of the records of the feed that made a day.
+fn trace_in(
+    alloc: Global,
+    flight: Option<FlightName>,
+    day: &AskedDay,
+    feed: &[u8],
+) -> Result<Vec<u8>, RunError>
+    requires { length feed.now ≤ input_limit }
+    ensures known { OnOk result (IsKnown flight day.now.state) }
+    ensures made { IfOk result (λ text. IsTrace flight day.now.state.airport feed.now text.items) }
+    ensures fault { IfErr result (IsUntold (DayText.Trace flight) day.now.state day.now.scenarios.items) }
+{
+    if let Err(name) = check_known(&day.state, flight) {
+        return Err(RunError::NoFlight(name));
+    }
+    let airport = day.state.airport().copy(alloc)?;
+    Ok(trace_of(alloc, airport, feed, flight)?)
+}
+
+// What is told of the day that a feed makes.
+fn text_of_day<R: Threads + Sync, G: Gate>(
+    lent: &Lent<'_, R, G>,
+    asked: DayText,
+    day: &AskedDay,
+    feed: &[u8],
+) -> Result<Vec<u8>, RunError>
+    requires limit { length feed.now ≤ input_limit }
+    requires state { day.now.state ≡ day_in day.now.state.airport feed.now }
+    requires refused { day.now.refused.items ≡ refusals_in day.now.state.airport feed.now }
+    ensures made { IfOk result (λ text. IsTextOf asked day.now.state.airport feed.now day.now.scenarios.items text.items) }
+    ensures fault { IfErr result (IsUntold asked day.now.state day.now.scenarios.items) }
+{
+    match asked {
+        DayText::Report => Ok(report_of(lent, day)?),
+        DayText::Table(table) => table_of(lent, table, day),
+        DayText::Picture => Ok(picture(
+            lent.rt,
+            lent.alloc,
+            &day.state,
+            &day.scenarios,
+            lent.workers,
+            lent.gate,
+        )?),
+        DayText::Answer(question) => answer_of(lent.alloc, question, day),
+        DayText::Trace(flight) => trace_in(lent.alloc, flight, day, feed),
+    }
+}
+
+// What is told of the day and the scenarios that the inputs make.
+fn made_of_day<R: Threads + Sync, G: Gate>(
+    lent: &Lent<'_, R, G>,
+    asked: DayText,
+    inputs: &Inputs,
+) -> Result<Made, RunError>
+    requires { length inputs.now.second.items ≤ input_limit }
+    ensures made { IfOk result (λ made. IsMade (Asked.Day asked) inputs.now.airport.items inputs.now.second.items inputs.now.third.items made.text.items made.counted) }
+    ensures fault { IfErr result (IsUnmade (Asked.Day asked) inputs.now.airport.items inputs.now.second.items inputs.now.third.items) }
+{
+    let day = asked_day(lent.rt, lent.alloc, inputs, lent.workers, lent.gate)?;
+    let text = text_of_day(lent, asked, &day, &inputs.second)?;
+    let counts = RunCounts {
+        accepted: day.state.journal().len(),
+        refused: day.refused.len(),
+        scenarios: day.scenarios.len(),
+    };
+    let counted = Counted::Day(counts);
+    Ok(Made { text, counted })
+}
+
+/// What is asked for, made of whole inputs: an airport file, a feed and a scenario file.
+pub(crate) fn made_of_inputs<R: Threads + Sync, G: Gate>(
+    lent: &Lent<'_, R, G>,
+    asked: &Asked<'_>,
+    inputs: &Inputs,
+) -> Result<Made, RunError>
+    requires second { length inputs.now.second.items ≤ input_limit }
+    requires third { length inputs.now.third.items ≤ input_limit }
+    ensures made { IfOk result (λ made. IsMade asked.now inputs.now.airport.items inputs.now.second.items inputs.now.third.items made.text.items made.counted) }
+    ensures fault { IfErr result (IsUnmade asked.now inputs.now.airport.items inputs.now.second.items inputs.now.third.items) }
+{
+    match asked {
+        Asked::Day(text) => made_of_day(lent, *text, inputs),
+        Asked::Check(paths) => {
+            let Checked { text, counts } = check_of(lent, *paths, inputs)?;
+            let counted = Counted::Check(counts);
+            Ok(Made { text, counted })
+        }
+    }
+}

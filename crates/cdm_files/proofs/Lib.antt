@@ -1,0 +1,9 @@
+pub mod RecordFacts
+pub mod RefusedLemmas
+pub mod WrittenLemmas
+mod WorkedRecords
+pub mod RunLemmas
+pub mod FeedDayLemmas
+pub mod ScenarioLemmas
+pub mod StretchLemmas
+pub mod RowLemmas

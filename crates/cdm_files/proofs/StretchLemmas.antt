@@ -1,0 +1,117 @@
+-- A feed is judged stretch by stretch.
+use Rattle.std.proofs.Common.{◌≡◌, ◌<◌, ◌+◌, ◌∙◌, ℕ, zero, suc, List, [], ◌∷◌, ◌++◌, Ok, Err, refl, sym, ap, length, map, arith, append_assoc, append-nil, length-append, ◌≤◌}
+use Rattle.std.specs.Option.{option_map, option_to_list}
+use Rattle.std.proofs.lemmas.List.{length-map, nil_from_length}
+use Rattle.cdm_flight.specs.Accepted.{accepted, after_one, refusal}
+use Rattle.cdm_flight.specs.Journal.{AirportRows}
+use Rattle.cdm_flight.specs.declared.update.Update.{Update}
+use Rattle.cdm_flight.specs.declared.word.RefusalWord.{RefusalWord}
+use Rattle.cdm_time.specs.declared.calendar.CalendarDate.{CalendarDate}
+use Rattle.cdm_plan.specs.Day.{DayRecord}
+use Rattle.cdm_files.specs.FeedDay.{accepted_in, refusals_in, spelled_in}
+use Rattle.cdm_files.specs.Parsing.{parse_of}
+use Rattle.cdm_files.specs.Records.{records_of}
+use Rattle.cdm_files.specs.Refused.{Spelled, refused_in, updates_in}
+
+-- the journal after two stretches
+pub accepted-both : (g : AirportRows) (a : List Update) (xs ys : List Spelled)
+    → accepted g a (updates_in (xs ++ ys)) ≡ accepted g (accepted g a (updates_in xs)) (updates_in ys)
+unfolding updates_in accepted
+accepted-both g a [] ys = refl
+accepted-both g a (Err word ∷ xs) ys = accepted-both g a xs ys
+accepted-both g a (Ok p ∷ xs) ys = accepted-both g (after_one g a p) xs ys
+
+-- the refused records of two stretches
+pub refused-both : (g : AirportRows) (a : List Update) (n : ℕ) (xs ys : List Spelled)
+    → refused_in g a n (xs ++ ys) ≡ refused_in g a n xs ++ refused_in g (accepted g a (updates_in xs)) (n + length xs) ys
+unfolding updates_in accepted refused_in
+refused-both g a n [] ys = let same : n ≡ n + 0 = omega arith in ap (λ (k : ℕ). refused_in g a k ys) same
+refused-both g a n (Err word ∷ xs) ys =
+    let same : n + 1 + length xs ≡ n + suc (length xs) = omega arith in
+    ap (λ (rs : List (ℕ × RefusalWord)). (n, word) ∷ rs)
+    (refused-both g a (n + 1) xs ys ∙ ap (λ (k : ℕ). refused_in g a (n + 1) xs ++ refused_in g (accepted g a (updates_in xs)) k ys) same)
+refused-both g a n (Ok p ∷ xs) ys =
+    let b = after_one g a p in
+    let here = option_to_list (option_map (λ (word : RefusalWord). (n, word)) (refusal g a p.0 p.1)) in
+    let same : n + 1 + length xs ≡ n + suc (length xs) = omega arith in
+    ap (λ (rs : List (ℕ × RefusalWord)). here ++ rs)
+    (refused-both g b (n + 1) xs ys ∙ ap (λ (k : ℕ). refused_in g b (n + 1) xs ++ refused_in g (accepted g b (updates_in xs)) k ys) same)
+    ∙ sym (append_assoc here (refused_in g b (n + 1) xs) (refused_in g (accepted g b (updates_in xs)) (n + suc (length xs)) ys))
+
+-- how many records are left
+pub fewer-left : {X Y : Type 0} (f : X → Y) (old new : List X) (parsed : List Y) → map f old ≡ parsed ++ map f new → length old ≡ length parsed + length new
+fewer-left f old new parsed is =
+    sym (length-map old f) ∙ ap length is ∙ length-append parsed (map f new) ∙ ap (λ (k : ℕ). length parsed + k) (length-map new f)
+
+-- a stretch that may hold all records leaves none
+pub none-after : {X Y : Type 0} (f : X → Y) (old new : List X) (parsed : List Y) (most : ℕ) → length old ≤ most
+    → map f old ≡ parsed ++ map f new → (length parsed < most → new ≡ []) → new ≡ []
+none-after f old new parsed most few split all = by (length new) refl
+  where
+    by : (k : ℕ) → length new ≡ k → new ≡ []
+    by zero none = nil_from_length new none
+    by (suc k) some = let fewer = fewer-left f old new parsed split in all (omega (arith, few, fewer, some))
+
+-- the records that are left of a feed tell, after those that were judged, what the whole feed tells
+pub record IsLeft (g : AirportRows) (day : CalendarDate) (feed : List ℕ) (s : DayRecord) (refused : List (ℕ × RefusalWord)) (judged : ℕ) (left : List (List (List ℕ))) : Type 0 where
+  pub airport : s.airport ≡ g
+  pub count : judged + length left ≤ length feed
+  pub journal : accepted_in g feed ≡ accepted g s.journal (updates_in (map (parse_of day) left))
+  pub all : refusals_in g feed ≡ refused ++ refused_in g s.journal (judged + 1) (map (parse_of day) left)
+
+pub all-left : (g : AirportRows) (day : CalendarDate) (feed : List ℕ) (s : DayRecord) (refused : List (ℕ × RefusalWord)) (left : List (List (List ℕ)))
+    → day ≡ g.day → s ≡ record { airport = g; journal = [] } → refused ≡ [] → left ≡ records_of feed → length left ≤ length feed
+    → IsLeft g day feed s refused 0 left
+unfolding accepted_in refusals_in
+all-left g day feed s refused left is fresh none all few =
+    let spelled : spelled_in g feed ≡ map (parse_of day) left = λ i. map (parse_of (sym is i)) (sym all i) in
+    let first : s.journal ≡ [] = ap (λ (x : DayRecord). x.journal) fresh in
+    record {
+      airport = ap (λ (x : DayRecord). x.airport) fresh;
+      count = omega (arith, few);
+      journal = λ i. accepted g (sym first i) (updates_in (spelled i));
+      all = λ i. sym none i ++ refused_in g (sym first i) 1 (spelled i);
+    }
+
+pub next-left : (g : AirportRows) (day : CalendarDate) (feed : List ℕ) (s t : DayRecord) (refused after : List (ℕ × RefusalWord)) (n m : ℕ)
+    (old new : List (List (List ℕ))) (parsed : List Spelled) → IsLeft g day feed s refused n old
+    → map (parse_of day) old ≡ parsed ++ map (parse_of day) new
+    → t ≡ record s { journal = accepted s.airport s.journal (updates_in parsed) }
+    → after ≡ refused ++ refused_in s.airport s.journal (n + 1) parsed → m ≡ n + length parsed
+    → IsLeft g day feed t after m new
+next-left g day feed s t refused after n m old new parsed left split made told more =
+    let rest = map (parse_of day) new in
+    let journal : t.journal ≡ accepted g s.journal (updates_in parsed) =
+    ap (λ (x : DayRecord). x.journal) made ∙ ap (λ (h : AirportRows). accepted h s.journal (updates_in parsed)) left.airport in
+    let fewer = fewer-left (parse_of day) old new parsed split in
+    let few = left.count in
+    let these : after ≡ refused ++ refused_in g s.journal (n + 1) parsed =
+    told ∙ ap (λ (h : AirportRows). refused ++ refused_in h s.journal (n + 1) parsed) left.airport in
+    let number : n + 1 + length parsed ≡ m + 1 = omega (arith, more) in
+    let both : refused_in g s.journal (n + 1) (parsed ++ rest) ≡ refused_in g s.journal (n + 1) parsed ++ refused_in g t.journal (m + 1) rest =
+    refused-both g s.journal (n + 1) parsed rest ∙ (λ i. refused_in g s.journal (n + 1) parsed ++ refused_in g (sym journal i) (number i) rest) in
+    record {
+      airport = ap (λ (x : DayRecord). x.airport) made ∙ left.airport;
+      count = omega (arith, few, fewer, more);
+      journal = left.journal
+          ∙ ap (λ (xs : List Spelled). accepted g s.journal (updates_in xs)) split
+          ∙ accepted-both g s.journal parsed rest
+          ∙ ap (λ (a : List Update). accepted g a (updates_in rest)) (sym journal);
+      all = left.all
+          ∙ ap (λ (xs : List Spelled). refused ++ refused_in g s.journal (n + 1) xs) split
+          ∙ ap (λ (rs : List (ℕ × RefusalWord)). refused ++ rs) both
+          ∙ sym (append_assoc refused (refused_in g s.journal (n + 1) parsed) (refused_in g t.journal (m + 1) rest))
+          ∙ ap (λ (rs : List (ℕ × RefusalWord)). rs ++ refused_in g t.journal (m + 1) rest) (sym these);
+    }
+
+pub none-left : (g : AirportRows) (day : CalendarDate) (feed : List ℕ) (s : DayRecord) (refused : List (ℕ × RefusalWord)) (n : ℕ)
+    (old new : List (List (List ℕ))) (parsed : List Spelled) → IsLeft g day feed s refused n old
+    → map (parse_of day) old ≡ parsed ++ map (parse_of day) new → length parsed ≡ 0 → new ≡ []
+    → (s ≡ record { airport = g; journal = accepted_in g feed }) × (refused ≡ refusals_in g feed)
+unfolding accepted updates_in refused_in
+none-left g day feed s refused n old new parsed left split none last =
+    let empty = nil_from_length parsed none in
+    let ended : map (parse_of day) old ≡ [] = split ∙ (λ i. empty i ++ map (parse_of day) (last i)) in
+    let journal : accepted_in g feed ≡ s.journal = left.journal ∙ ap (λ (xs : List Spelled). accepted g s.journal (updates_in xs)) ended in
+    let all : refusals_in g feed ≡ refused ++ [] = left.all ∙ ap (λ (xs : List Spelled). refused ++ refused_in g s.journal (n + 1) xs) ended in
+    ((λ i. record { airport = left.airport i; journal = sym journal i }), sym (all ∙ append-nil refused))

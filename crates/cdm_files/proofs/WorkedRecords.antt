@@ -1,0 +1,62 @@
+-- The bytes of two files of examples, read back: `one_flight/airport.csv` as it stands, and `one_flight/feed.csv`
+-- with CR LF, a blank line and no line end after the last record.
+use Rattle.std.proofs.Common.{◌≡◌, List, ℕ, [], ◌∷◌, refl}
+use Rattle.std.specs.Prelude.{codes, map}
+use Rattle.std.proofs.lemmas.List.Elements.{All-from_recursion}
+use Rattle.csv.specs.Reading.{strip_bom}
+use Rattle.cdm_files.specs.Records.{records_of}
+use Rattle.cdm_files.specs.Written.{AreWritten, Field, Line, LineEnd, Lf, CrLf, Plain, after_commas}
+use Rattle.cdm_files.proofs.WrittenLemmas.{Told, read-back}
+
+abbrev plain : List (List ℕ) → List Field
+plain fields = map Plain fields
+
+abbrev line_with : LineEnd → List Field → Line
+line_with end fields = record { fields = fields; end = end }
+
+-- AIRPORT
+
+abbrev day : List (List ℕ)
+day = codes "DAY" ∷ codes "2025-03-10" ∷ []
+
+abbrev runway : List (List ℕ)
+runway = codes "RUNWAY" ∷ codes "27L" ∷ codes "10" ∷ codes "2" ∷ []
+
+abbrev default : List (List ℕ)
+default = codes "TAXI" ∷ codes "*" ∷ codes "27L" ∷ codes "15" ∷ []
+
+abbrev stand : List (List ℕ)
+stand = codes "TAXI" ∷ codes "A1" ∷ codes "27L" ∷ codes "10" ∷ []
+
+abbrev airport : List Line
+airport = map (line_with Lf) (plain day ∷ plain runway ∷ plain default ∷ plain stand ∷ [])
+
+airport_written : AreWritten airport []
+unfolding strip_bom after_commas
+airport_written = record { each = All-from_recursion Told airport (refl, (refl, (refl, (refl, tt)))); at_end = refl; unmarked = refl }
+
+airport_read : records_of (codes "DAY,2025-03-10\nRUNWAY,27L,10,2\nTAXI,*,27L,15\nTAXI,A1,27L,10\n") ≡ day ∷ runway ∷ default ∷ stand ∷ []
+unfolding after_commas
+airport_read = read-back airport [] airport_written
+
+-- FEED
+
+abbrev flt : List (List ℕ)
+flt = codes "AP" ∷ codes "FLT" ∷ codes "AB1" ∷ codes "5" ∷ []
+
+abbrev rwy : List (List ℕ)
+rwy = codes "ATC" ∷ codes "RWY" ∷ codes "AB1" ∷ codes "27L" ∷ []
+
+abbrev tobt : List (List ℕ)
+tobt = codes "AO" ∷ codes "TOBT" ∷ codes "AB1" ∷ codes "2025-03-10T06:00Z" ∷ []
+
+abbrev feed : List Line
+feed = map (line_with CrLf) (plain flt ∷ [] ∷ plain rwy ∷ [])
+
+feed_written : AreWritten feed (plain tobt)
+unfolding strip_bom after_commas
+feed_written = record { each = All-from_recursion Told feed (refl, (refl, (refl, tt))); at_end = refl; unmarked = refl }
+
+feed_read : records_of (codes "AP,FLT,AB1,5\r\n\r\nATC,RWY,AB1,27L\r\nAO,TOBT,AB1,2025-03-10T06:00Z") ≡ flt ∷ rwy ∷ tobt ∷ []
+unfolding after_commas
+feed_read = read-back feed (plain tobt) feed_written

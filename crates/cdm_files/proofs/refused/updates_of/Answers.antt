@@ -1,0 +1,11 @@
+use Rattle.std.proofs.Common.{arith}
+use Rattle.std.proofs.lemmas.Grind.{common_steps}
+use Rattle.std.proofs.lemmas.List.Elements.{filter_map-append}
+use Rattle.cdm_files.proofs.refused.updates_of.Goals as goal
+use Rattle.cdm_files.proofs.refused.updates_of.Goals.{in-Ok+in_ok-push_last, in_default}
+
+pub loop-spelled-preserved : goal.loop-spelled-preserved
+loop-spelled-preserved c = elim c.match-spelled.branch [
+  | in-Ok+in_ok-push_last w ↦ grind (arith, common_steps, filter_map-append)
+  | in_default w ↦ grind (arith, common_steps, filter_map-append)
+]

@@ -1,0 +1,55 @@
+//! Why a run ends without its whole text.
+ghost use Rattle.std.specs.Prelude.{◌≡◌};
+ghost use Rattle.cdm_files.specs.declared.common_fault.CommonFault.TheVariants as common;
+ghost use Rattle.cdm_files.specs.declared.run_error.RunError.TheVariants as error;
+
+use crate::common_fault::CommonFault;
+use crate::output::WriteFault;
+use cdm_flight::{FlightName, RefusalWord, RunwayName};
+use cdm_scenario::ScenarioName;
+use std::alloc::AllocError;
+use thiserror::Error;
+
+/// Why a run ends without its whole text. Records are numbered from 1.
+#[derive(Clone, Copy, PartialEq, Eq, Hash, Debug, Error)]
+pub enum RunError {
+    /// A fault that every run can have.
+    #[error(transparent)]
+    Common(CommonFault),
+    /// The first faulty record of the scenario file, and the word that refuses it.
+    #[error("SCENARIOS record {0}: {1}")]
+    Scenario(usize, RefusalWord),
+    /// No such flight is known.
+    #[error("no flight {}", .0.text())]
+    NoFlight(FlightName),
+    /// The airport has no such runway.
+    #[error("no runway {}", .0.text())]
+    NoRunway(RunwayName),
+    /// The scenario file has no scenario of this name.
+    #[error("no scenario {}", .0.text())]
+    NoScenario(ScenarioName),
+}
+
+impl From<CommonFault> for RunError {
+    ghost from_gives = { λ fault e. e ≡ error.Common fault };
+
+    fn from(fault: CommonFault) -> RunError {
+        RunError::Common(fault)
+    }
+}
+
+impl From<AllocError> for RunError {
+    ghost from_gives = { λ _ e. e ≡ error.Common common.Memory };
+
+    fn from(_error: AllocError) -> RunError {
+        RunError::Common(CommonFault::Memory)
+    }
+}
+
+impl From<WriteFault> for RunError {
+    ghost from_gives = { λ _ e. e ≡ error.Common common.Write };
+
+    fn from(_fault: WriteFault) -> RunError {
+        RunError::Common(CommonFault::Write)
+    }
+}
