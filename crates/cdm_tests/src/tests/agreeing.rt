@@ -17,7 +17,10 @@ struct Numbers {
 impl Numbers {
     // The next one, below a bound, or 0 where that is 0.
     fn below(&mut self, bound: u16) -> u16 {
-        self.last = self.last.wrapping_mul(1_664_525).wrapping_add(1_013_904_223);
+        self.last = self
+            .last
+            .wrapping_mul(1_664_525)
+            .wrapping_add(1_013_904_223);
         ((self.last >> 16) as u16).checked_rem(bound).unwrap_or(0)
     }
 }
@@ -73,7 +76,10 @@ fn a_runway_agrees_with_a_list_of_minutes(rt: HostRuntime) -> Result<(), Fail> {
     };
     for change in 0..CHANGES {
         let kind = usize::from(numbers.below(3));
-        let word = ["RATE", "CLOSE", "OPEN"].get(kind).copied().unwrap_or("RATE");
+        let word = ["RATE", "CLOSE", "OPEN"]
+            .get(kind)
+            .copied()
+            .unwrap_or("RATE");
         let (from, to) = window(&mut numbers, word);
         let cap = numbers.below(5);
         minutes.set(word, from, to, cap);
@@ -97,7 +103,11 @@ fn place(number: u16) -> Option<Place> {
     if number == 40 {
         return Some(Place::Default);
     }
-    let digits = [b'S', b'0' + (number / 10 % 10) as u8, b'0' + (number % 10) as u8];
+    let digits = [
+        b'S',
+        b'0' + (number / 10 % 10) as u8,
+        b'0' + (number % 10) as u8,
+    ];
     Some(Place::Stand(StandName::new(&digits)?))
 }
 

@@ -63,7 +63,11 @@ fn refused_memory_leaves_an_airport(rt: HostRuntime) -> Result<(), Fail> {
             airport.is_same(&before)
         );
         assert_eq!(rt; answered, answer, "{row:?} {runway}");
-        assert_eq!(rt; airport.is_same(&before), answer.is_err(), "{row:?} {runway}");
+        assert_eq!(rt;
+            airport.is_same(&before),
+            answer.is_err(),
+            "{row:?} {runway}"
+        );
     }
     let copied = again!(rt, airport.copy(alloc), AllocError, true)?;
     let day = match DayState::new(alloc, airport) {

@@ -44,7 +44,11 @@ fn opened(alloc: Global) -> Option<(Board, Vec<Desk>)> {
         Ok(opened) => Some(opened),
         Err(OpenFault { error, state }) => {
             let came_back = error == BoardError::Memory && is_day(&state, 3, ONE);
-            if came_back { Board::open(alloc, state, 2).ok() } else { None }
+            if came_back {
+                Board::open(alloc, state, 2).ok()
+            } else {
+                None
+            }
         }
     }
 }
@@ -91,7 +95,12 @@ fn are_late(outcomes: &[Outcome]) -> bool {
 fn refused_memory_leaves_a_snapshot(rt: HostRuntime) -> Result<(), Fail> {
     let alloc = rt.alloc();
     let mut state = BoardState::new(alloc, made(alloc, &["AB1"]).ok_or("no day")?);
-    let snapshot = again!(rt, state.look(alloc, 1), BoardError::Memory, state.calls() == 0)?;
+    let snapshot = again!(
+        rt,
+        state.look(alloc, 1),
+        BoardError::Memory,
+        state.calls() == 0
+    )?;
     let name = ScenarioName::new(b"SHUT").ok_or("no name")?;
     let mut scenarios = [Scenario::empty(alloc, name), Scenario::empty(alloc, name)];
     for scenario in &mut scenarios {

@@ -3,9 +3,7 @@ use super::{PLANS, is_day, is_planned, made, morning};
 use crate::tests::days::THREE_FLIGHTS;
 use cdm_day::{Records, Reply, plan_of};
 use cdm_phase::{OpenGate, Workers};
-use cdm_scenario::{
-    Outcome, Overlay, Scenario, ScenarioFault, ScenarioName, answer, answer_all,
-};
+use cdm_scenario::{Outcome, Overlay, Scenario, ScenarioFault, ScenarioName, answer, answer_all};
 use std::alloc::AllocError;
 use std::test::Fail;
 

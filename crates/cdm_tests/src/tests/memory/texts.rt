@@ -68,13 +68,23 @@ fn refused_memory_in_texts(rt: HostRuntime) -> Result<(), Fail> {
     let state = made(alloc, &THREE_FLIGHTS).ok_or("no day")?;
     let (day, plan) = (state.day(), state.plan());
     let refused = [(7, RefusalWord::Exists), (1000, RefusalWord::Full)];
-    let text = again!(rt, report_text(alloc, day, plan, &refused), AllocError, true)?;
+    let text = again!(
+        rt,
+        report_text(alloc, day, plan, &refused),
+        AllocError,
+        true
+    )?;
     assert_eq!(rt; text.as_slice(), REPORT.as_bytes());
     let empty = made(alloc, &[]).ok_or("no day")?;
     let (base, counts) = (indicators(empty.plan()), indicators(plan));
     let text = again!(rt, delta_text(alloc, &base, &counts), AllocError, true)?;
     assert_eq!(rt; text.as_slice(), DELTA.as_bytes());
-    let text = again!(rt, refused_text(alloc, 7, RefusalWord::Exists), AllocError, true)?;
+    let text = again!(
+        rt,
+        refused_text(alloc, 7, RefusalWord::Exists),
+        AllocError,
+        true
+    )?;
     assert_eq!(rt; text.as_slice(), b"REFUSED 7 EXISTS\n".as_slice());
     let flight = FlightName::new(b"AB3").ok_or("no name")?;
     for (question, wanted) in [(Question::Why(flight), WHY), (Question::Load(None), LOAD)] {
@@ -88,7 +98,12 @@ fn refused_memory_in_texts(rt: HostRuntime) -> Result<(), Fail> {
         assert_eq!(rt; text.as_slice(), wanted.as_bytes());
     }
     let standings = again!(rt, Standings::of(alloc, &state, plan), AllocError, true)?;
-    let none = again!(rt, standings.changes(alloc, day, &standings), AllocError, true)?;
+    let none = again!(
+        rt,
+        standings.changes(alloc, day, &standings),
+        AllocError,
+        true
+    )?;
     assert_eq!(rt; (standings.as_slice().len(), none.len()), (3, 0));
     assert!(rt; is_day(&state, 9, PLANS[0]));
     Ok(())
