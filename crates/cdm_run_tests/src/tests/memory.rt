@@ -2,3 +2,4 @@
 //! would have given. `cases/refuse` refuses each request in its turn.
 mod readers;
 mod runs;
+mod tables;

@@ -1,4 +1,6 @@
-//! Runways and taxi times against plain lists, which are gone through from their end.
+//! Runways and taxi times against plain lists.
+ghost use Rattle.std.specs.Prelude.{◌<◌};
+
 use crate::tests::memory::runway::{set_window, two_in_ten};
 use cdm_flight::{Cap, Ice, Place, RunwayName, StandName, TaxiMinutes};
 use cdm_taxi::TaxiTable;
@@ -15,13 +17,16 @@ struct Numbers {
 }
 
 impl Numbers {
-    // The next one, below a bound, or 0 where that is 0.
-    fn below(&mut self, bound: u16) -> u16 {
+    // The next one, below a bound.
+    fn below(&mut self, bound: u16) -> u16
+        requires { 0 < bound }
+        ensures { result < bound }
+    {
         self.last = self
             .last
             .wrapping_mul(1_664_525)
             .wrapping_add(1_013_904_223);
-        ((self.last >> 16) as u16).checked_rem(bound).unwrap_or(0)
+        (self.last / 65_536 % 65_536) as u16 % bound
     }
 }
 

@@ -10,7 +10,7 @@ use std::sync::Wait;
 use std::test::Fail;
 use std::thread::Threads;
 
-const AIRPORT: &str = "\
+pub const AIRPORT: &str = "\
 DAY,2025-03-10
 RUNWAY,27L,10,2
 TAXI,*,27L,15
@@ -18,7 +18,7 @@ TAXI,A1,27L,10
 ";
 
 /// Three flights that want one cell.
-const FEED: &str = "\
+pub const FEED: &str = "\
 AP,FLT,AB1,5
 ATC,RWY,AB1,27L
 AO,TOBT,AB1,2025-03-10T06:00Z

@@ -49,8 +49,10 @@ fn refused_memory_leaves_a_day(rt: HostRuntime) -> Result<(), Fail> {
         }
         let copied = again!(rt, day.copy(alloc), AllocError, is_day(&day, 18, PLANS[9]))?;
         assert!(rt; is_day(&copied, 18, PLANS[9]));
-        let (airport, journal) = (day.share_airport(), day.share_journal());
-        assert!(rt; airport.is_ok() || journal.is_ok());
+        let airport = again!(rt, day.share_airport(), AllocError, true)?;
+        assert!(rt; airport.is_same(day.airport()));
+        let journal = again!(rt, day.share_journal(), AllocError, true)?;
+        assert_eq!(rt; journal.len(), 18);
     }
     Ok(())
 }

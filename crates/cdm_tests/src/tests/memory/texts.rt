@@ -1,11 +1,8 @@
-//! Texts and tables of a day.
+//! Texts of a day.
 use super::{PLANS, is_day, made};
-use crate::tests::days::{THREE_FLIGHTS, closed};
+use crate::tests::days::THREE_FLIGHTS;
 use cdm_flight::{FlightName, RefusalWord};
-use cdm_phase::{OpenGate, Workers};
 use cdm_report::{delta_text, indicators, refused_text, report_text};
-use cdm_scenario::{Scenario, ScenarioFault, ScenarioName};
-use cdm_table::{Table, TableFault, tabulate};
 use cdm_view::{Question, Standings, ViewFault, answer};
 use std::alloc::AllocError;
 use std::test::Fail;
@@ -37,28 +34,6 @@ DAY 2025-03-10 NOW 100000
 RUNWAY 27L CELL 10
 100610  2/2  CLOSED  0 AB1 AB2
 100620  1/2  CLOSED  0 AB3
-";
-
-const ROWS: &str = "\
-scenario,flight,status,runway,stand,priority,group,tobt,exot,ctot,tsat,ttot,delay,rule
-,AB1,PLANNED,27L,,5,M,2025-03-10T06:00Z,15,,2025-03-10T06:00Z,2025-03-10T06:15Z,0,
-,AB2,PLANNED,27L,,5,M,2025-03-10T06:00Z,15,,2025-03-10T06:00Z,2025-03-10T06:15Z,0,
-,AB3,PLANNED,27L,,5,M,2025-03-10T06:00Z,15,,2025-03-10T06:05Z,2025-03-10T06:20Z,5,
-SHUT,AB1,PLANNED,27L,,5,M,2025-03-10T06:00Z,15,,2025-03-10T06:15Z,2025-03-10T06:30Z,15,
-SHUT,AB2,PLANNED,27L,,5,M,2025-03-10T06:00Z,15,,2025-03-10T06:15Z,2025-03-10T06:30Z,15,
-SHUT,AB3,PLANNED,27L,,5,M,2025-03-10T06:00Z,15,,2025-03-10T06:25Z,2025-03-10T06:40Z,25,
-";
-
-const COMPARED: &str = "\
-SCENARIO         PLACED  DELAY   MAX  LATE BLOCKED  MOVED
--                     3      5     5     0       0      0
-SHUT                  3     55    25     1       0      3
-- SLOT 27L AB1     100600   15 ------ 100600 100615 P    0
-+ SLOT 27L AB1     100600   15 ------ 100615 100630 P   15
-- SLOT 27L AB2     100600   15 ------ 100600 100615 P    0
-+ SLOT 27L AB2     100600   15 ------ 100615 100630 P   15
-- SLOT 27L AB3     100600   15 ------ 100605 100620 P    5
-+ SLOT 27L AB3     100600   15 ------ 100625 100640 P   25
 ";
 
 /// The report of a day, a growth, the line of a refused record, and what holds a flight.
@@ -106,38 +81,5 @@ fn refused_memory_in_texts(rt: HostRuntime) -> Result<(), Fail> {
     )?;
     assert_eq!(rt; (standings.as_slice().len(), none.len()), (3, 0));
     assert!(rt; is_day(&state, 9, PLANS[0]));
-    Ok(())
-}
-
-/// Rows and a comparison of a day and a scenario over it, by one worker and by two.
-#[test]
-fn refused_memory_in_tables(rt: HostRuntime) -> Result<(), Fail> {
-    let alloc = rt.alloc();
-    let base = made(alloc, &THREE_FLIGHTS).ok_or("no day")?;
-    let name = ScenarioName::new(b"SHUT").ok_or("no name")?;
-    let mut scenario = Scenario::empty(alloc, name);
-    let closure = closed().ok_or("no closure")?;
-    again!(
-        rt,
-        scenario.add(closure),
-        ScenarioFault::Memory,
-        scenario.updates().is_empty()
-    )?;
-    let scenarios = [scenario];
-    for (table, count, wanted) in [
-        (Table::Csv, 1, ROWS),
-        (Table::Csv, 2, ROWS),
-        (Table::Comparison(Some(name)), 2, COMPARED),
-    ] {
-        let workers = Workers::new(count).ok_or("no workers")?;
-        let text = again!(
-            rt,
-            tabulate(&rt, alloc, &base, &scenarios, table, workers, &OpenGate),
-            TableFault::Memory,
-            is_day(&base, 9, PLANS[0])
-        );
-        let text = text.map_err(|_| "no table")?;
-        assert_eq!(rt; text.as_slice(), wanted.as_bytes(), "{count} workers");
-    }
     Ok(())
 }
