@@ -116,6 +116,14 @@ fn place(number: u16) -> Option<Place> {
     Some(Place::Stand(StandName::new(&digits)?))
 }
 
+// The stand, if it is one.
+fn stand_of(place: Place) -> Option<StandName> {
+    match place {
+        Place::Stand(stand) => Some(stand),
+        Place::Default => None,
+    }
+}
+
 // The last time that was set of a place and a runway.
 fn last_of(
     rows: &[(Place, RunwayName, TaxiMinutes)],
@@ -151,17 +159,14 @@ fn a_taxi_table_agrees_with_a_list_of_rows(rt: HostRuntime) -> Result<(), Fail> 
         let name = [b'0', b'1' + numbers.below(3) as u8];
         let runway = RunwayName::new(&name).ok_or("no runway")?;
         let minutes = TaxiMinutes::new(1 + numbers.below(120)).ok_or("no minutes")?;
-        table.set(set, runway, minutes).map_err(|_| "not set")?;
-        rows.push((set, runway, minutes))?;
+        let row = (set, runway, minutes);
+        table.set(row.0, row.1, row.2).map_err(|_| "not set")?;
+        rows.push(row)?;
         for number in 0..=40u16 {
             let place = place(number).ok_or("no place")?;
             let found = table.minutes(place, runway).map(TaxiMinutes::get);
             assert_eq!(rt; found, last_of(&rows, place, runway), "change {change}");
-            let stand = match place {
-                Place::Stand(stand) => Some(stand),
-                Place::Default => None,
-            };
-            let found = table.exot(stand, runway, Ice::NoIce);
+            let found = table.exot(stand_of(place), runway, Ice::NoIce);
             assert_eq!(rt; found, plain_exot(&rows, place, runway), "change {change}");
         }
     }

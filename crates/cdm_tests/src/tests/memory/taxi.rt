@@ -18,7 +18,8 @@ fn has_rows(table: &TaxiTable, runway: RunwayName, stands: u16) -> bool {
     for number in 0..=stands {
         if let Some((place, minutes)) = row(number) {
             let wanted = (number < stands).then_some(minutes);
-            has = has && table.minutes(place, runway) == wanted && table.fits(place);
+            let (found, fits) = (table.minutes(place, runway), table.fits(place));
+            has = has && found == wanted && fits;
         }
     }
     has
