@@ -23,10 +23,11 @@ fn refused_memory_ends_a_served_day(rt: HostRuntime) -> Result<(), Fail> {
     let mut port = again!(rt, port_of(alloc), AllocError, true)?;
     match answer_of(&rt, &mut port) {
         Ok(()) => {
-            let journal = again!(rt, journal_after(alloc, SCRIPT.len()).ok_or(()), (), true);
-            let replies = again!(rt, replies_after(alloc, SCRIPT.len()).ok_or(()), (), true);
-            assert!(rt; journal.is_ok_and(|journal| port.journal == journal));
-            assert!(rt; replies.is_ok_and(|replies| port.replies == replies));
+            let count = SCRIPT.len();
+            let journal = journal_after(alloc, count).or_else(|| journal_after(alloc, count));
+            let replies = replies_after(alloc, count).or_else(|| replies_after(alloc, count));
+            assert!(rt; journal.is_some_and(|journal| port.journal == journal));
+            assert!(rt; replies.is_some_and(|replies| port.replies == replies));
         }
         Err(fault) => {
             let is_memory = fault == ServeError::Common(CommonFault::Memory)

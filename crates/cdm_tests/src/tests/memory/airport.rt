@@ -13,7 +13,7 @@ enum Row {
     Space(&'static str),
 }
 
-// Adds the row of a runway.
+// Adds the row of a runway, if it is one.
 fn add(airport: &mut Airport, row: Row, runway: &str) -> Option<Result<(), AirportFault>> {
     let runway = RunwayName::new(runway.as_bytes())?;
     Some(match row {
@@ -30,13 +30,18 @@ fn add(airport: &mut Airport, row: Row, runway: &str) -> Option<Result<(), Airpo
     })
 }
 
+// The answer to the row of a runway.
+fn answer(airport: &mut Airport, row: Row, runway: &str) -> Result<(), AirportFault> {
+    add(airport, row, runway).unwrap_or(Err(AirportFault::Unknown))
+}
+
 /// A refused row leaves no trace, and the airport comes back where its day can't begin.
 #[test]
 fn refused_memory_leaves_an_airport(rt: HostRuntime) -> Result<(), Fail> {
     let alloc = rt.alloc();
     let day = Day::of_text(b"2025-03-10").map_err(|_| "no day")?;
     let mut airport = Airport::new(alloc, day);
-    for (row, runway, answer) in [
+    for (row, runway, wanted) in [
         (Row::Taxi("*"), "01", Err(AirportFault::Unknown)),
         (Row::Space("H"), "01", Err(AirportFault::Unknown)),
         (Row::Runway, "02", Ok(())),
@@ -58,14 +63,14 @@ fn refused_memory_leaves_an_airport(rt: HostRuntime) -> Result<(), Fail> {
         let before = again!(rt, airport.copy(alloc), AllocError, true)?;
         let answered = again!(
             rt,
-            add(&mut airport, row, runway).ok_or("no row")?,
+            answer(&mut airport, row, runway),
             AirportFault::Memory,
             airport.is_same(&before)
         );
-        assert_eq!(rt; answered, answer, "{row:?} {runway}");
+        assert_eq!(rt; answered, wanted, "{row:?} {runway}");
         assert_eq!(rt;
             airport.is_same(&before),
-            answer.is_err(),
+            wanted.is_err(),
             "{row:?} {runway}"
         );
     }
