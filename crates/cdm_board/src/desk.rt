@@ -7,7 +7,7 @@ ghost use Rattle.cdm_board.specs.Refusals.{IsPostRefusal, IsLookRefusal};
 use crate::fault::BoardError;
 use crate::receipt::Receipt;
 use crate::snapshot::Snapshot;
-use crate::state::{BoardState, MOST_CALLS, MOST_UPDATES};
+use crate::state::{BoardState, MOST_BATCH_UPDATES, MOST_CALLS};
 use cdm_day::Reply;
 use cdm_flight::{Role, Update};
 use std::alloc::Global;
@@ -84,7 +84,7 @@ impl Desk {
         ensures cause { MatchResult result (λ _. (length batch.now ≤ 256) × (length state.old.history < 4096)) (λ e. IsPostRefusal (length batch.now) (length state.old.history) e) }
         ensures err { OnErr result ((state.new ≡ state.old) × (self.new ≡ self.old)) }
     {
-        if batch.len() > MOST_UPDATES {
+        if batch.len() > MOST_BATCH_UPDATES {
             return Err(BoardError::BatchSize);
         }
         if state.calls() == MOST_CALLS {

@@ -18,4 +18,4 @@ pub use fault::BoardError;
 pub use history::History;
 pub use receipt::{Entry, Receipt};
 pub use snapshot::{Snapshot, what_if};
-pub use state::{BoardState, MOST_CALLS, MOST_UPDATES};
+pub use state::{BoardState, MOST_BATCH_UPDATES, MOST_CALLS};

@@ -18,7 +18,7 @@ use std::marker::Model;
 pub const MOST_CALLS: usize = 4096;
 
 /// How many updates a batch has at most (local profile).
-pub const MOST_UPDATES: usize = 256;
+pub const MOST_BATCH_UPDATES: usize = 256;
 
 /// The board that one thread would have: a day, and the history of the calls on it. A contract sees the
 /// airport and the journal from which it began and the calls since; its day is the one that these calls
@@ -144,7 +144,7 @@ impl BoardState {
         ensures cause { MatchResult result (λ _. (length batch.now ≤ 256) × (length self.old.history < 4096)) (λ e. IsPostRefusal (length batch.now) (length self.old.history) e) }
         ensures err { OnErr result (self.new ≡ self.old) }
     {
-        if batch.len() > MOST_UPDATES {
+        if batch.len() > MOST_BATCH_UPDATES {
             return Err(BoardError::BatchSize);
         }
         if self.calls() == MOST_CALLS {

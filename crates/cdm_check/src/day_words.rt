@@ -7,7 +7,7 @@ use crate::kinds::{FileKind, UPDATE_KINDS};
 use crate::known::{Ending, Known, KnownFlight};
 use crate::shown::shown;
 use crate::times::{ClockText, TimeText};
-use cdm_day::Airport;
+use cdm_day::{Airport, MOST_DAY_UPDATES};
 use cdm_flight::{FlightName, Place, Reach, RefusalWord, RunwayName, RunwayRow, Update};
 use cdm_time::{Bound, Minute};
 use csv::ByteRecord;
@@ -345,12 +345,9 @@ fn taxi_of(before: Before<'_>, place: Place, runway: RunwayName) -> Option<u16> 
     Some(minutes.get())
 }
 
-/// How many updates a day accepts.
-const MOST_UPDATES: usize = 20_000;
-
 // There is no more room.
 fn full(alloc: Global, before: Before<'_>, update: &Update) -> Result<String, AllocError> {
-    if before.known.accepted >= MOST_UPDATES {
+    if before.known.accepted >= MOST_DAY_UPDATES {
         return String::from_str(
             alloc,
             "20,000 updates were accepted before, which is the most of a day",

@@ -6,7 +6,7 @@ ghost use Rattle.cdm_live.specs.Live.{IsPostOf, batches, replies_of};
 ghost use Rattle.cdm_live.specs.inner.LiveSteps.{HasMerged, HasWorked, IsDeskFault};
 
 use crate::live_error::LiveError;
-use cdm_board::{Board, BoardError, Desk, History, MOST_UPDATES};
+use cdm_board::{Board, BoardError, Desk, History, MOST_BATCH_UPDATES};
 use cdm_day::{DayState, Reply};
 use cdm_flight::{Role, Update};
 use cdm_phase::{Gate, PhaseName};
@@ -37,7 +37,7 @@ fn post_all<R: Wait>(
 {
     let mut desk = desk;
     let mut replies = Vec::new(alloc);
-    for batch in updates.chunks(MOST_UPDATES) {
+    for batch in updates.chunks(MOST_BATCH_UPDATES) {
         let answered = board.post(rt, alloc, &mut desk, batch)?;
         replies.extend_from_slice(&answered)?;
     }

@@ -11,7 +11,7 @@ ghost use Rattle.cdm_live.specs.inner.LiveSteps.{HasMerged, IsBoardFault, IsMerg
 use crate::desk_text::desk_text;
 use crate::desks::{Merged, run_desks};
 use crate::live_error::LiveError;
-use cdm_board::{MOST_CALLS, MOST_UPDATES};
+use cdm_board::{MOST_BATCH_UPDATES, MOST_CALLS};
 use cdm_day::{Airport, DayState};
 use cdm_files::{
     CommonFault, Device, Input, Inputs, airport_of, read_feed, read_inputs, refusals_of,
@@ -47,7 +47,7 @@ struct LiveReport {
 fn batches_of(updates: usize) -> usize
     ensures { result ≡ batch_count updates }
 {
-    updates.div_ceil(MOST_UPDATES)
+    updates.div_ceil(MOST_BATCH_UPDATES)
 }
 
 // Whether a board takes the calls that so many updates of two feeds need: a post of each batch, and a

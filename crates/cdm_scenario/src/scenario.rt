@@ -9,8 +9,8 @@ use std::alloc::{AllocError, Global};
 use std::marker::Model;
 use thiserror::Error;
 
-/// How many updates a scenario has at most.
-pub const MOST_UPDATES: usize = 64;
+/// How many updates a scenario has at most (local profile).
+pub const MOST_SCENARIO_UPDATES: usize = 64;
 
 /// Why an update is not added to a scenario.
 #[derive(Clone, Copy, PartialEq, Eq, Hash, Debug, Error)]
@@ -64,7 +64,7 @@ impl Scenario {
         ensures { result ≡ (if nat_le (length updates.items) 64
             then Some (record { name = name; updates = updates.items }) else None) }
     {
-        if updates.len() > MOST_UPDATES {
+        if updates.len() > MOST_SCENARIO_UPDATES {
             return None;
         }
         Some(Scenario { name, updates })
@@ -89,7 +89,7 @@ impl Scenario {
         ensures full { (result ≡ Err ScenarioFault.Full) ↔ (64 ≤ length self.old.updates) }
         ensures err { OnErr result (self.new ≡ self.old) }
     {
-        if self.updates.len() >= MOST_UPDATES {
+        if self.updates.len() >= MOST_SCENARIO_UPDATES {
             return Err(ScenarioFault::Full);
         }
         self.updates.reserve(1)?;

@@ -107,14 +107,14 @@ impl Write for Sink {
 /// A writer that takes no memory.
 #[derive(Drop)]
 pub struct Page {
-    bytes: [u8; 1_000],
+    bytes: [u8; 2_000],
     len: usize,
 }
 
 impl Page {
     pub fn new() -> Page {
         Page {
-            bytes: [0; 1_000],
+            bytes: [0; 2_000],
             len: 0,
         }
     }

@@ -1,6 +1,7 @@
 //! Served days over a port that stops at each of its calls, or at the last of each kind, with each journal that such a stop
 //! may leave; and starts on a journal that is torn at each of its bytes.
 mod memory;
+mod refused;
 mod script;
 
 use super::devices::Source;

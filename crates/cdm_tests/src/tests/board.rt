@@ -1,6 +1,7 @@
 //! Desks on two threads, the limits of a board, and what-if questions over a snapshot.
 
+mod closing;
 mod days;
-mod desks;
+pub mod desks;
 mod limits;
 mod meanwhile;

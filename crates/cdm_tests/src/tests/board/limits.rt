@@ -101,10 +101,18 @@ fn updates_alone(alloc: Global, state: &mut BoardState) -> Option<usize> {
     Some(snapshot.state().journal().len())
 }
 
-// How many calls the board of one thread took, a post and a look that has the posted updates.
+// Whether the first desk's post of 257 updates is refused for its size.
+fn is_too_long(alloc: Global, state: &mut BoardState) -> bool {
+    let clock = Update::Clock { now: Minute::FIRST };
+    let batch = [(Role::AirTrafficControl, clock); 257];
+    state.post(alloc, 1, &batch).err() == Some(BoardError::BatchSize)
+}
+
+// How many calls the board of one thread took, a post and, after one that is too long, a look that has the posted updates.
 fn calls_alone(alloc: Global) -> Option<usize> {
     let mut state = BoardState::new(alloc, day_of(alloc, &["AB1"])?);
-    if posts_alone(alloc, &mut state) && updates_alone(alloc, &mut state) == Some(6) {
+    let posted = posts_alone(alloc, &mut state) && is_too_long(alloc, &mut state);
+    if posted && updates_alone(alloc, &mut state) == Some(6) {
         Some(state.calls())
     } else {
         None
@@ -128,6 +136,10 @@ fn desks_and_batches_are_counted(rt: HostRuntime) -> Result<(), Fail> {
         assert_eq!(rt; replies(&rt, alloc, &board, &mut desk, count), answer);
     }
     assert_eq!(rt; (desk.number(), desk.calls()), (1, 2));
+    let answer = replies(&rt, alloc, &board, &mut desk, 257);
+    assert_eq!(rt; answer, Err(BoardError::BatchSize));
+    assert_eq!(rt; look_refusal(&rt, alloc, &board, &mut desk), None);
+    assert_eq!(rt; desk.calls(), 3);
     Ok(())
 }
 

@@ -1,0 +1,205 @@
+//! Whole runs.
+use crate::tests::devices::{Page, Source};
+use cdm_feed::{CommonFault, Device, RunCounts, RunError, run};
+use cdm_live::{LiveCounts, LiveError, run_live};
+use cdm_phase::{OpenGate, Workers};
+use std::io;
+use std::io::Write;
+use std::process::Abort;
+use std::sync::Wait;
+use std::test::Fail;
+use std::thread::Threads;
+
+pub const AIRPORT: &str = "\
+DAY,2025-03-10
+RUNWAY,27L,10,2
+TAXI,*,27L,15
+TAXI,A1,27L,10
+";
+
+/// Three flights that want one cell.
+pub const FEED: &str = "\
+AP,FLT,AB1,5
+ATC,RWY,AB1,27L
+AO,TOBT,AB1,2025-03-10T06:00Z
+AP,FLT,AB2,5
+ATC,RWY,AB2,27L
+AO,TOBT,AB2,2025-03-10T06:00Z
+AP,FLT,AB3,5
+ATC,RWY,AB3,27L
+AO,TOBT,AB3,2025-03-10T06:00Z
+";
+
+const SCENARIOS: &str = "\
+SCENARIO,SHUT
+CLOSE,27L,2025-03-10T06:10Z,2025-03-10T06:30Z
+SCENARIO,SHUT2
+CLOSE,27L,2025-03-10T06:10Z,2025-03-10T06:30Z
+SCENARIO,BAD
+PRIO,AB3,1
+TOBT,XY9,2025-03-10T06:00Z
+SCENARIO,SAME
+";
+
+const REPORT: &str = "\
+DAY 2025-03-10 NOW 100000
+RUNWAY 27L
+AB1     100600   15 ------ 100600 100615 P    0
+AB2     100600   15 ------ 100600 100615 P    0
+AB3     100600   15 ------ 100605 100620 P    5
+TOTAL PLACED 3 DELAY 5 MAX 5 LATE 0 BLOCKED 0
+";
+
+/// Of both closures.
+const SHUT: &str = "\
+DAY 2025-03-10 NOW 100000
+RUNWAY 27L
+AB1     100600   15 ------ 100615 100630 P   15
+AB2     100600   15 ------ 100615 100630 P   15
+AB3     100600   15 ------ 100625 100640 P   25
+TOTAL PLACED 3 DELAY 55 MAX 25 LATE 1 BLOCKED 0
+DELTA PLACED +0 DELAY +50 MAX +20 LATE +1 BLOCKED +0
+";
+
+// Whether a text is made of these parts.
+fn is_made_of(text: &[u8], parts: &[&str]) -> bool {
+    let mut left = text;
+    for part in parts {
+        match left.strip_prefix(part.as_bytes()) {
+            Some(rest) => left = rest,
+            None => return false,
+        }
+    }
+    left.is_empty()
+}
+
+// What a run with so many workers answers, and what it has written.
+fn plan<R: AllocGlobal + Threads + Sync + Abort>(
+    rt: &R,
+    count: usize,
+) -> (Result<RunCounts, RunError>, Page) {
+    let mut out = Device::new(Page::new());
+    let answer = run(
+        rt,
+        rt.alloc(),
+        &mut Device::new(Source::whole(AIRPORT.as_bytes())),
+        &mut Device::new(Source::whole(FEED.as_bytes())),
+        &mut Device::new(Source::whole(SCENARIOS.as_bytes())),
+        Workers::new(count).expect(rt, "workers"),
+        &OpenGate,
+        &mut out,
+    );
+    (answer, out.into_inner())
+}
+
+/// Runs of one text with 1, 2, 7 and 64 workers: nothing for want of memory, and then the whole text.
+#[test]
+fn refused_memory_in_a_run(rt: HostRuntime) {
+    let wanted = [
+        REPORT,
+        "SCENARIO SHUT\n",
+        SHUT,
+        "SCENARIO SHUT2\n",
+        SHUT,
+        "SCENARIO BAD\nREFUSED 2 UNKNOWN\nSCENARIO SAME\n",
+        REPORT,
+        "DELTA PLACED +0 DELAY +0 MAX +0 LATE +0 BLOCKED +0\n",
+    ];
+    for count in [1, 2, 7, 64] {
+        let (mut answer, mut out) = plan(&rt, count);
+        if answer == Err(RunError::Common(CommonFault::Memory)) {
+            assert!(rt; out.text().is_empty());
+            (answer, out) = plan(&rt, count);
+        }
+        let counts = RunCounts {
+            accepted: 9,
+            refused: 0,
+            scenarios: 4,
+        };
+        assert_eq!(rt; answer, Ok(counts), "{count} workers");
+        assert!(rt; is_made_of(out.text(), &wanted), "{count} workers");
+    }
+}
+
+/// What a live run of a feed with a flight and of an empty one writes.
+const LIVE: &str = "\
+DAY 2025-03-10 NOW 100000
+RUNWAY 27L
+AB1     100600   15 ------ 100600 100615 P    0
+TOTAL PLACED 1 DELAY 0 MAX 0 LATE 0 BLOCKED 0
+DESK 1 POSTS 1 REFUSED 0
+DESK 2 POSTS 0 REFUSED 0
+";
+
+// What a live run of two feeds answers, and its writer.
+fn live<R: AllocGlobal + Threads + Wait + Sync + Abort, W: Write>(
+    rt: &R,
+    feeds: [&[u8]; 2],
+    writer: W,
+) -> (Result<LiveCounts, LiveError>, W) {
+    let [feed1, feed2] = feeds;
+    let mut out = Device::new(writer);
+    let answer = run_live(
+        rt,
+        rt.alloc(),
+        &mut Device::new(Source::whole(AIRPORT.as_bytes())),
+        &mut Device::new(Source::whole(feed1)),
+        &mut Device::new(Source::whole(feed2)),
+        &OpenGate,
+        &mut out,
+    );
+    (answer, out.into_inner())
+}
+
+/// A post and two looks are three calls.
+#[test]
+fn refused_memory_in_a_live_run(rt: HostRuntime) {
+    let feeds: [&[u8]; 2] = [FEED.get(..59).unwrap_or(FEED).as_bytes(), b""];
+    let (mut answer, mut out) = live(&rt, feeds, Page::new());
+    if answer == Err(LiveError::Common(CommonFault::Memory)) {
+        assert!(rt; out.text().is_empty());
+        (answer, out) = live(&rt, feeds, Page::new());
+    }
+    let counts = LiveCounts {
+        accepted: 3,
+        refused: 0,
+        calls: 3,
+    };
+    assert_eq!(rt; answer, Ok(counts));
+    assert_eq!(rt; out.text(), LIVE.as_bytes());
+}
+
+/// A writer that keeps nothing.
+#[derive(Drop)]
+struct Nowhere;
+
+impl Write for Nowhere {
+    fn write(&mut self, buf: &[u8]) -> io::Result<usize> {
+        Ok(buf.len())
+    }
+
+    fn flush(&mut self) -> io::Result<()> {
+        Ok(())
+    }
+}
+
+/// Two desks that post 2,047 batches of refused updates and look fill a board, and one update more doesn't fit.
+#[test]
+fn a_live_run_fills_a_board(rt: HostRuntime) -> Result<(), Fail> {
+    let mut feed = Vec::new(rt.alloc());
+    for _ in 0..524_032u32 {
+        feed.extend_from_slice(b"AO,CNL,A\n")?;
+    }
+    let (answer, _) = live(&rt, [&feed, &feed], Nowhere);
+    let counts = LiveCounts {
+        accepted: 0,
+        refused: 1_048_064,
+        calls: 4_096,
+    };
+    assert_eq!(rt; answer, Ok(counts));
+    let mut one_more = feed.to_vec(rt.alloc())?;
+    one_more.extend_from_slice(b"AO,CNL,A\n")?;
+    let (answer, _) = live(&rt, [&feed, &one_more], Nowhere);
+    assert_eq!(rt; answer, Err(LiveError::HistoryFull));
+    Ok(())
+}

@@ -1,0 +1,174 @@
+//! Runways and taxi times against plain lists.
+ghost use Rattle.std.specs.Prelude.{◌<◌};
+
+use crate::tests::memory::runway::{set_window, two_in_ten};
+use cdm_flight::{Cap, Ice, Place, RunwayName, StandName, TaxiMinutes};
+use cdm_taxi::TaxiTable;
+use cdm_time::{Bound, Minute};
+use std::test::Fail;
+
+/// How many changes are made.
+const CHANGES: usize = 500;
+
+/// Numbers without a pattern, always the same ones.
+#[derive(Drop)]
+struct Numbers {
+    last: u32,
+}
+
+impl Numbers {
+    // The next one, below a bound.
+    fn below(&mut self, bound: u16) -> u16
+        requires { 0 < bound }
+        ensures { result < bound }
+    {
+        self.last = self
+            .last
+            .wrapping_mul(1_664_525)
+            .wrapping_add(1_013_904_223);
+        (self.last / 65_536 % 65_536) as u16 % bound
+    }
+}
+
+/// What a runway allows, minute by minute.
+#[derive(Drop)]
+struct Minutes {
+    caps: [u16; 2880],
+    closed: [bool; 2880],
+}
+
+impl Minutes {
+    // Sets the minutes from one up to another.
+    fn set(&mut self, word: &str, from: u16, to: u16, cap: u16) {
+        for minute in from..to {
+            let minute = usize::from(minute);
+            match word {
+                "RATE" => {
+                    if let Some(held) = self.caps.get_mut(minute) {
+                        *held = cap;
+                    }
+                }
+                _ => {
+                    if let Some(held) = self.closed.get_mut(minute) {
+                        *held = word == "CLOSE";
+                    }
+                }
+            }
+        }
+    }
+}
+
+// A window that isn't empty, on the grid of the cells where it is that of a rate.
+fn window(numbers: &mut Numbers, word: &str) -> (u16, u16) {
+    let (from, length) = (numbers.below(2870), 1 + numbers.below(300));
+    let to = from.saturating_add(length).min(2880);
+    if word == "RATE" {
+        let first = from / 10 * 10;
+        (first, (to / 10 * 10).max(first + 10))
+    } else {
+        (from, to)
+    }
+}
+
+/// After each of 500 rates, closures and openings a runway allows at each minute what a list of minutes says.
+#[test]
+fn a_runway_agrees_with_a_list_of_minutes(rt: HostRuntime) -> Result<(), Fail> {
+    let mut runway = two_in_ten(rt.alloc()).ok_or("no runway")?;
+    let mut numbers = Numbers { last: 27 };
+    let mut minutes = Minutes {
+        caps: [2; 2880],
+        closed: [false; 2880],
+    };
+    for change in 0..CHANGES {
+        let kind = usize::from(numbers.below(3));
+        let word = ["RATE", "CLOSE", "OPEN"]
+            .get(kind)
+            .copied()
+            .unwrap_or("RATE");
+        let (from, to) = window(&mut numbers, word);
+        let cap = numbers.below(5);
+        minutes.set(word, from, to, cap);
+        let first = Minute::new(from).ok_or("no minute")?;
+        let end = Bound::new(to).ok_or("no bound")?;
+        let cap = Cap::new(cap).ok_or("no capacity")?;
+        set_window(&mut runway, word, first, end, cap).map_err(|_| "not set")?;
+        let mut all = (0..2880).filter_map(Minute::new);
+        let agree = all.all(|minute| {
+            let place = usize::from(minute.get());
+            minutes.caps.get(place) == Some(&runway.cap_at(minute).get())
+                && minutes.closed.get(place) == Some(&runway.closed(minute))
+        });
+        assert!(rt; agree, "change {change}: {word} {from} {to}");
+    }
+    Ok(())
+}
+
+// One of 40 stands, or the default.
+fn place(number: u16) -> Option<Place> {
+    if number == 40 {
+        return Some(Place::Default);
+    }
+    let digits = [
+        b'S',
+        b'0' + (number / 10 % 10) as u8,
+        b'0' + (number % 10) as u8,
+    ];
+    Some(Place::Stand(StandName::new(&digits)?))
+}
+
+// The stand, if it is one.
+fn stand_of(place: Place) -> Option<StandName> {
+    match place {
+        Place::Stand(stand) => Some(stand),
+        Place::Default => None,
+    }
+}
+
+// The last time that was set of a place and a runway.
+fn last_of(
+    rows: &[(Place, RunwayName, TaxiMinutes)],
+    place: Place,
+    runway: RunwayName,
+) -> Option<u16> {
+    let mut last = None;
+    for (other, name, minutes) in rows {
+        if *other == place && *name == runway {
+            last = Some(minutes.get());
+        }
+    }
+    last
+}
+
+// The taxi-out time by such a list: that of the stand, else that of the default.
+fn plain_exot(
+    rows: &[(Place, RunwayName, TaxiMinutes)],
+    place: Place,
+    runway: RunwayName,
+) -> Option<u16> {
+    last_of(rows, place, runway).or_else(|| last_of(rows, Place::Default, runway))
+}
+
+/// After each of 500 taxi times a table has, for each place and runway, the last one that a list of rows has.
+#[test]
+fn a_taxi_table_agrees_with_a_list_of_rows(rt: HostRuntime) -> Result<(), Fail> {
+    let mut table = TaxiTable::empty(rt.alloc());
+    let mut rows = Vec::new(rt.alloc());
+    let mut numbers = Numbers { last: 9 };
+    for change in 0..CHANGES {
+        let set = place(numbers.below(41)).ok_or("no place")?;
+        let name = [b'0', b'1' + numbers.below(3) as u8];
+        let runway = RunwayName::new(&name).ok_or("no runway")?;
+        let minutes = TaxiMinutes::new(1 + numbers.below(120)).ok_or("no minutes")?;
+        let row = (set, runway, minutes);
+        table.set(row.0, row.1, row.2).map_err(|_| "not set")?;
+        rows.push(row)?;
+        for number in 0..=40u16 {
+            let place = place(number).ok_or("no place")?;
+            let found = table.minutes(place, runway).map(TaxiMinutes::get);
+            assert_eq!(rt; found, last_of(&rows, place, runway), "change {change}");
+            let found = table.exot(stand_of(place), runway, Ice::NoIce);
+            assert_eq!(rt; found, plain_exot(&rows, place, runway), "change {change}");
+        }
+    }
+    Ok(())
+}

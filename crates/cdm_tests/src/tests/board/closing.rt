@@ -1,0 +1,86 @@
+//! Desks whose receipts aren't the calls of the history.
+use super::days::two_desks;
+use super::desks::withheld;
+use crate::tests::days::planned;
+use cdm_board::{Board, Closed, Desk};
+use std::alloc::Global;
+use std::sync::Wait;
+use std::test::Fail;
+
+// Whether the desk can post a flight's updates.
+fn posts<R: Wait>(rt: &R, alloc: Global, board: &Board, desk: &mut Desk) -> bool {
+    match planned("CD2") {
+        Some(batch) => board.post(rt, alloc, desk, &batch).is_ok(),
+        None => false,
+    }
+}
+
+// A board on the day that plans AB1, whose two desks posted in turn; desk 1 looked in between, and desk 2
+// at the end, where it is to look.
+fn worked<R: Wait>(rt: &R, alloc: Global, looks: bool) -> Option<(Board, Desk, Desk)> {
+    let (board, mut first, mut second) = two_desks(alloc, &["AB1"])?;
+    let done = posts(rt, alloc, &board, &mut first)
+        && board.look(rt, alloc, &mut first).is_ok()
+        && posts(rt, alloc, &board, &mut second)
+        && (!looks || board.look(rt, alloc, &mut second).is_ok());
+    if done {
+        Some((board, first, second))
+    } else {
+        None
+    }
+}
+
+// The list of both desks, the second first.
+fn both(alloc: Global, first: Desk, second: Desk) -> Option<Vec<Desk>> {
+    let mut desks = Vec::new(alloc);
+    desks.push(second).ok()?;
+    desks.push(first).ok()?;
+    Some(desks)
+}
+
+// The calls of the state and the desks that come back where a receipt differs, and which it is.
+fn mismatch(board: Board, desks: Vec<Desk>) -> Option<(usize, usize, usize, usize)> {
+    match Board::close(board, desks) {
+        Err(
+            Closed::Mismatch {
+                state,
+                desks,
+                desk,
+                receipt,
+            },
+        ) => { Some((state.calls(), desks.len(), desk, receipt)) }
+        _ => None,
+    }
+}
+
+// Where the desks of another board differ, which made the same calls but for the last.
+fn mismatch_at_the_end<R: Wait>(rt: &R, alloc: Global) -> Option<(usize, usize, usize, usize)> {
+    let (board, _, _) = worked(rt, alloc, true)?;
+    let (_, first, second) = worked(rt, alloc, false)?;
+    mismatch(board, both(alloc, first, second)?)
+}
+
+// Where the desks of another board differ, which made no calls.
+fn mismatch_of_others<R: Wait>(rt: &R, alloc: Global) -> Option<(usize, usize, usize, usize)> {
+    let (board, _, _) = worked(rt, alloc, true)?;
+    let (_, first, second) = two_desks(alloc, &[])?;
+    mismatch(board, both(alloc, first, second)?)
+}
+
+// Whether a board isn't closed with two desks of one number.
+fn is_missing(alloc: Global) -> Option<bool> {
+    let (board, first, _) = two_desks(alloc, &[])?;
+    let (_, again, _) = two_desks(alloc, &[])?;
+    Some(withheld(board, both(alloc, first, again)?).is_some())
+}
+
+/// The desks of another board differ in the first receipt that isn't a call of the history, and two desks
+/// of one number aren't taken.
+#[test]
+fn desks_of_another_board_are_told(rt: HostRuntime) -> Result<(), Fail> {
+    let alloc = rt.alloc();
+    assert_eq!(rt; mismatch_at_the_end(&rt, alloc), Some((4, 2, 2, 2)));
+    assert_eq!(rt; mismatch_of_others(&rt, alloc), Some((4, 2, 1, 1)));
+    assert_eq!(rt; is_missing(alloc), Some(true));
+    Ok(())
+}

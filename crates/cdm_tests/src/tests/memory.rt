@@ -1,0 +1,96 @@
+//! Calls of which one request for memory may be refused. They answer so, and what they were lent is as before; the same
+//! call then gives the answer that it would have given. `cases/refuse` refuses each request in its turn.
+use crate::tests::days::{closed, day_of, planned};
+use cdm_day::DayState;
+use cdm_flight::{Cap, Place, Role, RunwayName, StandName, TaxiMinutes, Update};
+use cdm_report::indicators;
+use cdm_sequence::Plan;
+use cdm_time::{Bound, Minute};
+use std::alloc::Global;
+
+mod airport;
+mod board;
+mod day;
+mod desk;
+mod overlay;
+mod pieces;
+pub mod runway;
+mod taxi;
+mod texts;
+
+/// The take-off minutes on the one runway, and how many flights are blocked.
+pub type Planned = (&'static [u16], u32);
+
+/// Those of the day of three flights, and those after each update of the morning. Flight CD4 comes behind the others. The
+/// closure leaves them the cells of 06:30 and 06:40, the longer taxi time those of 06:40 and 06:50, and the clock those of
+/// 07:40 and 07:50.
+pub const PLANS: [Planned; 10] = [
+    (&[375, 375, 380], 0),
+    (&[375, 375, 380], 1),
+    (&[375, 375, 380], 1),
+    (&[375, 375, 380, 380], 0),
+    (&[390, 390, 400, 400], 0),
+    (&[405, 405, 410, 410], 0),
+    (&[405, 405, 410, 410], 0),
+    (&[405, 410, 410, 420], 0),
+    (&[405, 410, 410, 420], 0),
+    (&[465, 465, 470, 470], 0),
+];
+
+/// A fourth flight in three updates, a closure, two taxi times, a rate of one flight in the cell of 06:40, its opening, and
+/// the clock at 07:00.
+pub fn morning() -> Option<[(Role, Update); 9]> {
+    let [known, on_runway, ready] = planned("CD4")?;
+    let runway = RunwayName::new(b"27L")?;
+    let (place, stand) = (Place::Default, Place::Stand(StandName::new(b"A1")?));
+    let (from, to) = (Minute::new(400)?, Bound::new(410)?);
+    let (cap, minutes, now) = (Cap::new(1)?, TaxiMinutes::new(45)?, Minute::new(420)?);
+    let by_control = |update| (Role::AirTrafficControl, update);
+    Some([
+        known,
+        on_runway,
+        ready,
+        by_control(closed()?),
+        by_control(Update::Taxi {
+            place,
+            runway,
+            minutes,
+        }),
+        by_control(Update::Taxi {
+            place: stand,
+            runway,
+            minutes,
+        }),
+        by_control(Update::Rate {
+            runway,
+            from,
+            to,
+            cap,
+        }),
+        by_control(Update::Reopen { runway, from, to }),
+        by_control(Update::Clock { now }),
+    ])
+}
+
+/// Whether the plan has these minutes and so many blocked flights.
+pub fn is_planned(plan: &Plan, wanted: Planned) -> bool {
+    let [runway] = plan.runways.as_slice() else {
+        return false;
+    };
+    let slots = runway.slots.as_slice();
+    let minutes = slots.iter().map(|slot| slot.ttot.get());
+    minutes.eq(wanted.0.iter().copied()) && indicators(plan).blocked == wanted.1
+}
+
+/// Whether the day has so many updates and such a plan.
+pub fn is_day(day: &DayState, updates: usize, wanted: Planned) -> bool {
+    day.journal().len() == updates && is_planned(day.plan(), wanted)
+}
+
+/// The day that plans these flights, made anew where memory was refused.
+pub fn made(alloc: Global, flights: &[&str]) -> Option<DayState> {
+    match day_of(alloc, flights) {
+        Some(day) => Some(day),
+        None => day_of(alloc, flights),
+    }
+}

@@ -1,0 +1,77 @@
+//! Runways.
+use cdm_flight::{Cap, CellLength, RunwayName};
+use cdm_runway::{Runway, RunwayFault};
+use cdm_time::{Bound, Minute};
+use std::alloc::{AllocError, Global};
+use std::test::Fail;
+
+/// A runway with 2 flights in each cell of 10 minutes. Nothing for want of memory.
+pub fn two_in_ten(alloc: Global) -> Option<Runway> {
+    let name = RunwayName::new(b"27L")?;
+    Runway::new(alloc, name, CellLength::new(10)?, Cap::new(2)?).ok()
+}
+
+// A window and a capacity.
+fn window_of(from: u16, to: u16, cap: u16) -> Option<(Minute, Bound, Cap)> {
+    Some((Minute::new(from)?, Bound::new(to)?, Cap::new(cap)?))
+}
+
+// The capacity of a minute's cell, and whether the minute is closed.
+fn allowed(runway: &Runway, minute: Minute) -> (u16, bool) {
+    (runway.cap_at(minute).get(), runway.closed(minute))
+}
+
+// Whether two runways are alike at each minute.
+fn agree(runway: &Runway, other: &Runway) -> bool {
+    let mut minutes = (0..2880).filter_map(Minute::new);
+    let alike = minutes.all(|minute| allowed(runway, minute) == allowed(other, minute));
+    alike && runway.name() == other.name() && runway.cell() == other.cell()
+}
+
+/// Sets a rate of so many flights, closes or opens.
+pub fn set_window(
+    runway: &mut Runway,
+    word: &str,
+    from: Minute,
+    to: Bound,
+    cap: Cap,
+) -> Result<(), RunwayFault> {
+    match word {
+        "RATE" => runway.rate(from, to, cap),
+        "CLOSE" => runway.close(from, to),
+        _ => runway.reopen(from, to),
+    }
+}
+
+/// With each change stands what the runway then allows at the first minute of its window.
+#[test]
+fn refused_memory_leaves_a_runway(rt: HostRuntime) -> Result<(), Fail> {
+    let alloc = rt.alloc();
+    let made = match two_in_ten(alloc) {
+        Some(runway) => Some(runway),
+        None => two_in_ten(alloc),
+    };
+    let mut runway = made.ok_or("no runway")?;
+    for (word, from, to, number, after) in [
+        ("CLOSE", 372, 391, 0, (2, true)),
+        ("RATE", 370, 400, 1, (1, false)),
+        ("OPEN", 375, 376, 0, (1, false)),
+        ("RATE", 380, 390, 3, (3, true)),
+        ("CLOSE", 0, 2880, 0, (2, true)),
+        ("OPEN", 360, 380, 0, (2, false)),
+        ("RATE", 0, 2880, 0, (0, true)),
+    ] {
+        let (first, end, cap) = window_of(from, to, number).ok_or("no window")?;
+        let before = again!(rt, runway.copy(alloc), AllocError, true)?;
+        assert!(rt; agree(&runway, &before), "before {word} {from} {to}");
+        again!(
+            rt,
+            set_window(&mut runway, word, first, end, cap),
+            RunwayFault::Memory,
+            agree(&runway, &before)
+        )?;
+        let found = allowed(&runway, first);
+        assert!(rt; found == after, "after {word} {from} {to}");
+    }
+    Ok(())
+}

@@ -1,0 +1,115 @@
+//! Worked values, as calls.
+use crate::tests::days::{THREE_FLIGHTS, day_of, ready};
+use crate::tests::memory::is_planned;
+use crate::tests::memory::runway::two_in_ten;
+use cdm_day::{Change, Records, Reply, judge, plan_of};
+use cdm_flight::{Cap, FlightName, Group, Priority, RefusalWord, Update};
+use cdm_runway::{Blocked, RunwayFault, RunwayLoad};
+use cdm_scenario::{Overlay, Scenario, ScenarioName};
+use cdm_time::{Bound, Minute, Tolerance, Window, ctot_window};
+use std::test::Fail;
+
+// The minutes from one up to another.
+fn window(from: u16, to: u16) -> Option<Window> {
+    Window::new(Minute::new(from)?, Bound::new(to)?)
+}
+
+/// Two flights in the cell of 06:10, a closure of its second half, and a rate off the grid.
+#[test]
+fn a_load_fills_its_cells(rt: HostRuntime) -> Result<(), Fail> {
+    let mut runway = two_in_ten(rt.alloc()).ok_or("no runway")?;
+    let mut load = RunwayLoad::empty(&runway);
+    let quarter = Minute::new(375).ok_or("no minute")?;
+    let wide = window(375, 390).ok_or("no window")?;
+    let narrow = window(375, 380).ok_or("no window")?;
+    load.take(&runway, quarter, Group::Medium);
+    load.take(&runway, quarter, Group::Medium);
+    let found = load.earliest(&runway, wide, Group::Medium).map(Minute::get);
+    assert_eq!(rt; found, Ok(380));
+    let found = load.earliest(&runway, narrow, Group::Medium);
+    assert_eq!(rt; found, Err(Blocked::Rate));
+    let (from, to) = (Minute::new(370), Bound::new(380));
+    let (from, to) = (from.ok_or("no minute")?, to.ok_or("no bound")?);
+    runway.close(from, to).map_err(|_| "not closed")?;
+    let found = load.earliest(&runway, narrow, Group::Medium);
+    assert_eq!(rt; found, Err(Blocked::Closure));
+    let off_grid = Minute::new(365).ok_or("no minute")?;
+    let cap = Cap::new(2).ok_or("no capacity")?;
+    assert!(rt; !runway.ordered_rate(off_grid, to));
+    assert_eq!(rt; runway.rate(off_grid, to, cap), Err(RunwayFault::Order));
+    Ok(())
+}
+
+/// The tolerance of a CTOT near both ends of the horizon, the usual one and a wider one.
+#[test]
+fn a_ctot_window_is_cut_to_the_horizon(rt: HostRuntime) -> Result<(), Fail> {
+    let usual = Tolerance::usual();
+    let wide = Tolerance::new(15, 30).ok_or("no tolerance")?;
+    for (ctot, tolerance, from, to) in [
+        (0, usual, 0, 11),
+        (3, usual, 0, 14),
+        (5, usual, 0, 16),
+        (6, usual, 1, 17),
+        (375, usual, 370, 386),
+        (2869, usual, 2864, 2880),
+        (2875, usual, 2870, 2880),
+        (2879, usual, 2874, 2880),
+        (0, wide, 0, 31),
+        (2879, wide, 2864, 2880),
+    ] {
+        let minute = Minute::new(ctot).ok_or("no minute")?;
+        let window = ctot_window(minute, tolerance);
+        let found = (window.from().get(), window.to().get());
+        assert_eq!(rt; found, (from, to), "CTOT {ctot}");
+    }
+    Ok(())
+}
+
+/// Over the day of three flights a TOBT of an unknown flight is refused, and a later one of AB1 is taken: then AB1 takes off
+/// at 06:30. The day itself still has it at 06:15.
+#[test]
+fn an_overlay_is_judged_and_planned(rt: HostRuntime) -> Result<(), Fail> {
+    let alloc = rt.alloc();
+    let base = day_of(alloc, &THREE_FLIGHTS).ok_or("no day")?;
+    let mut overlay = Overlay::over(alloc, &base);
+    let unknown = ready("XY9").ok_or("no update")?;
+    assert_eq!(rt; judge(&overlay, &unknown), Err(RefusalWord::Unknown));
+    let reply = overlay.apply(alloc, &unknown)?;
+    assert_eq!(rt; reply, Reply::Refused(RefusalWord::Unknown));
+    assert_eq!(rt; overlay.accepted(), 9);
+    let flight = FlightName::new(b"AB1").ok_or("no name")?;
+    let tobt = Minute::new(375).ok_or("no minute")?;
+    let later = Update::Tobt { flight, tobt };
+    assert!(rt; matches!(judge(&overlay, &later), Ok(Change::NextRecord(_))));
+    assert_eq!(rt; overlay.apply(alloc, &later)?, Reply::Accepted);
+    assert_eq!(rt; overlay.accepted(), 10);
+    let known = overlay.flight(flight).ok_or("unknown")?;
+    assert_eq!(rt; known.tobt, Some(tobt));
+    let plan = plan_of(alloc, &overlay)?;
+    assert!(rt; is_planned(&plan, (&[375, 375, 390], 0)));
+    let [runway] = plan.runways.as_slice() else {
+        return Err("no runway".into());
+    };
+    let last = runway.slots.as_slice().last().ok_or("no slot")?;
+    assert_eq!(rt; last.name.text(), "AB1");
+    assert!(rt; is_planned(base.plan(), (&[375, 375, 380], 0)));
+    Ok(())
+}
+
+/// A scenario has 64 updates at most, however it is made.
+#[test]
+fn a_scenario_has_64_updates(rt: HostRuntime) -> Result<(), Fail> {
+    let name = ScenarioName::new(b"SHUT").ok_or("no name")?;
+    let flight = FlightName::new(b"AB1").ok_or("no name")?;
+    let priority = Priority::new(1).ok_or("no priority")?;
+    for (count, is_one) in [(0, true), (64, true), (65, false)] {
+        let mut updates = Vec::new(rt.alloc());
+        for _ in 0..count {
+            updates.push(Update::Prio { flight, priority })?;
+        }
+        let scenario = Scenario::new(name, updates);
+        let found = scenario.map(|scenario| scenario.updates().len());
+        assert_eq!(rt; found, is_one.then_some(count), "{count} updates");
+    }
+    Ok(())
+}
