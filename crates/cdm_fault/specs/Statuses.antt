@@ -24,11 +24,7 @@ status_of_common common.Write = 1
 
 abbrev pub status_of_port : PortFault → ℕ
 status_of_port port.JournalTooLong = 3
-status_of_port port.CannotReadJournal = 1
-status_of_port port.CannotReadInput = 1
-status_of_port port.CannotWriteJournal = 1
-status_of_port port.CannotWrite = 1
-status_of_port port.Memory = 1
+status_of_port other = 1
 
 abbrev pub status_of_fault : Fault → ℕ
 status_of_fault (fault.CannotOpen input file) = 1

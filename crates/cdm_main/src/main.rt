@@ -5,18 +5,22 @@ ghost use Rattle.std.specs.Prelude.{◌≡◌, false};
 
 use cdm_check::FilePaths;
 pub use cdm_command::{Command, CommandFault, STANDARD_INPUT, command_of};
+use cdm_day::Airport;
 pub use cdm_fault::{
     Fault, PathText, UnopenedFile, report_command_fault, report_fault, run_status,
 };
-use cdm_feed::{Asked, DayText, Device, Input, Lent, WriteFault, run_asked, write_text};
+use cdm_feed::{
+    Asked, DayText, Device, Input, Lent, WriteFault, airport_of, read_whole, run_asked, write_text,
+};
 pub use cdm_live::{LiveCounts, LiveError, run_live};
 use cdm_phase::{OpenGate, Workers};
-use cdm_serve::serve;
-use cdm_streams::Streams;
+use cdm_port::Streams;
+use cdm_serve::{ServeError, serve};
 use either::Either;
 use std::alloc::{AllocError, Global};
 use std::fs::{File, OpenFile, OpenOptions, TryLockError};
-use std::io::{BufReader, ErrorKind, Write};
+use std::io::{BufReader, ErrorKind, Read, Write};
+use std::os::fd::{AsRawFd, RawFd};
 use std::path::Path;
 use std::process::ExitCode;
 use std::rt::{Env, Files};
@@ -24,13 +28,33 @@ use std::sync::Wait;
 use std::thread::Threads;
 use std::{env, fs, io};
 
+/// The descriptor of standard error, the last of the standard streams.
+const LAST_STANDARD: RawFd = 2;
+
 /// The bytes that Linux gives a word at most.
 const LONGEST_WORD: usize = 131_072;
 
 fn main(rt: HostRuntime) -> ExitCode {
+    let _standard = fill_standard(&rt);
     let mut out = Device::new(rt.stdout());
     let mut errors = Device::new(rt.stderr());
     ExitCode::from(status_of(&rt, &mut out, &mut errors))
+}
+
+// Opens the null device for each of the descriptors 0, 1 and 2 that is closed, so that no file that is opened later
+// takes the place of a standard stream. They stay open as long as the answer is kept.
+fn fill_standard<R: Files<File = File>>(rt: &R) -> [Option<File>; 3] {
+    let mut options = OpenOptions::new();
+    options.read(true);
+    options.write(true);
+    let mut opened = [None, None, None];
+    for place in &mut opened {
+        match options.open(rt, "/dev/null") {
+            Ok(file) if file.as_raw_fd() <= LAST_STANDARD => *place = Some(file),
+            _ => break,
+        }
+    }
+    opened
 }
 
 // Runs the command that the program's words name, and answers the exit status. Texts go to `out`,
@@ -255,14 +279,22 @@ fn serve_day<R, W: Write>(
 where
     R: AllocGlobal + Files<File = File> + io::Input + Threads + Sync,
 {
+    let alloc = rt.alloc();
     let airport = open(rt, airport, Input::Airport)?;
     let journal = open_journal(rt, journal)?;
-    let Ok(input) = BufReader::new(rt.alloc(), rt.reader()) else {
+    let Ok(input) = BufReader::new(alloc, rt.reader()) else {
         return Err(Fault::NoMemory);
     };
-    let mut port = Streams::new(input, out, journal);
-    serve(rt, rt.alloc(), &mut Device::new(airport), &mut port)?;
+    let airport = airport_read(alloc, airport)?;
+    serve(rt, alloc, airport, &mut Streams::new(input, out, journal))?;
     Ok(0)
+}
+
+// The airport of a file, which is read to its end.
+fn airport_read<A: Read + Drop>(alloc: Global, file: A) -> Result<Airport, ServeError> {
+    let bytes = read_whole(alloc, Input::Airport, &mut Device::new(file))?;
+    let airport = airport_of(alloc, &bytes)?;
+    Ok(airport)
 }
 
 // Opens the file of a journal, or makes it, for this process alone.

@@ -1,1 +1,4 @@
 pub mod Stops
+pub mod LineLemmas
+pub mod WriteLemmas
+pub mod WholeLemmas

@@ -1,7 +1,7 @@
 -- What has happened where a run stopped.
 use Rattle.std.specs.Prelude.{◌≡◌, ◌⊎◌, ℕ, List, [], ◌∷◌, ◌++◌, length, drop}
 use Rattle.cdm_port.specs.Event.{Event}
-use Rattle.cdm_port.specs.Event.Event.{Appended, Broken, Cut, End, Flushed, Line, Read, Replied, Synced}
+use Rattle.cdm_port.specs.Event.Event.{Appended, Replied}
 
 -- bytes begin with this part
 abbrev pub IsPrefix : List ℕ → List ℕ → Type 0
@@ -11,13 +11,7 @@ IsPrefix part bytes = (rest : List ℕ) × (bytes ≡ part ++ rest)
 abbrev pub IsTorn : Event → List Event → Type 0
 IsTorn (Appended bytes) done = (part : List ℕ) × IsPrefix part bytes × (done ≡ Appended part ∷ [])
 IsTorn (Replied bytes) done = (part : List ℕ) × IsPrefix part bytes × (done ≡ Replied part ∷ [])
-IsTorn (Read bytes) done = ⊥
-IsTorn (Cut kept) done = ⊥
-IsTorn (Line bytes) done = ⊥
-IsTorn Broken done = ⊥
-IsTorn End done = ⊥
-IsTorn Synced done = ⊥
-IsTorn Flushed done = ⊥
+IsTorn other done = ⊥
 
 -- done is what has happened of the whole at some moment: its first events, of which the last may be torn
 abbrev pub IsStopOf : List Event → List Event → Type 0

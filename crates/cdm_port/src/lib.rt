@@ -1,10 +1,21 @@
 //! What a served day has outside: its journal, its input and its output, by the list of all that happens to them.
 #![tactic(auto)]
 
+mod calls;
 mod fault;
+mod file;
+mod happening;
 mod heard;
+mod history;
 mod port;
+mod reason;
+mod streams;
 
 pub use fault::{JOURNAL_LIMIT, PortFault};
+pub use file::JournalFile;
+pub use happening::Happening;
 pub use heard::{Heard, LINE_LIMIT};
+pub use history::History;
 pub use port::Port;
+pub use reason::Reason;
+pub use streams::Streams;

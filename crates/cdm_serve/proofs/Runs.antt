@@ -1,13 +1,9 @@
 -- A run of a served day, from its start to its end.
-use Rattle.std.proofs.Common.{◌≡◌, ◌+◌, ◌≤◌, ◌^◌, inl, inr, ℕ, Option, None, Some, IfSome, Result, Ok, Err, IfErr, OnErr, OnOk, arith, cond, count_by, List, [], ◌∷◌, ◌++◌, length, refl, sym, ◌∙◌, ap, subst, append_assoc}
-use Rattle.std.specs.Result.{IsOkAnd}
+use Rattle.std.proofs.Common.{◌≡◌, ◌+◌, ◌≤◌, ◌^◌, inl, inr, ℕ, Option, None, Some, Result, Ok, Err, IfErr, OnErr, OnOk, arith, cond, count_by, List, [], ◌∷◌, ◌++◌, length, refl, sym, ◌∙◌, ap, subst, append_assoc}
 use Rattle.std.proofs.lemmas.List.{append-nil}
 use Rattle.std.proofs.lemmas.List.Sums.{sum_by-append}
-use Rattle.cdm_files.specs.AirportFile.{airport_in}
-use Rattle.cdm_files.specs.Readings.{IsRead, Reading}
 use Rattle.cdm_files.specs.declared.common_fault.CommonFault.TheVariants as common
 use Rattle.cdm_flight.specs.Journal.{AirportRows}
-use Rattle.cdm_flight.specs.declared.word.RefusalWord.{RefusalWord}
 use Rattle.cdm_plan.specs.Day.{DayRecord}
 use Rattle.cdm_port.specs.Event.{Event}
 use Rattle.cdm_port.specs.Event.Event.{End, Read}
@@ -15,7 +11,7 @@ use Rattle.cdm_port.specs.Stop.{IsStopOf, since}
 use Rattle.cdm_port.proofs.Stops.{front, longer, past, since_is}
 use Rattle.cdm_serve.specs.Promises.{AtEachMoment, IsKept, IsRecovered, IsWritten}
 use Rattle.cdm_serve.specs.Served.{IsServed, IsStopped, day_of, served, started}
-use Rattle.cdm_serve.specs.Faults.{IsDayFault, IsServeFault, is_line}
+use Rattle.cdm_serve.specs.Faults.{IsServeFault, is_line}
 use Rattle.cdm_serve.specs.inner.Steps.{IsLinesFault, IsStartFault, ServeStops, Serves, StartStops, Starts}
 use Rattle.cdm_serve.specs.declared.fault.ServeError.{ServeError}
 use Rattle.cdm_serve.specs.declared.fault.ServeError.TheVariants as error
@@ -96,13 +92,13 @@ finished_served g d old mid new (Err e) start serves = tt
 
 -- Faults.
 
-pub start_fault : (g : AirportRows) (old new : List Event) (e : ServeError) → IsStartFault g old new e → IsDayFault g (since old new) e
+pub start_fault : (g : AirportRows) (old new : List Event) (e : ServeError) → IsStartFault g old new e → IsServeFault g (since old new) e
 start_fault g old new (error.Common common.Memory) is = tt
 start_fault g old new (error.Journal place word) (bytes, others, was, refused) = (bytes, others, since_is old new (Read bytes ∷ []) was, refused)
 start_fault g old new error.TooMany is = absurd is
 start_fault g old new e is = is
 
-lines_fault : (g : AirportRows) (d : DayRecord) (old mid new : List Event) (e : ServeError) → Starts g old mid d → IsLinesFault 0 mid new e → IsDayFault g (since old new) e
+lines_fault : (g : AirportRows) (d : DayRecord) (old mid new : List Event) (e : ServeError) → Starts g old mid d → IsLinesFault 0 mid new e → IsServeFault g (since old new) e
 lines_fault g d old mid new (error.Common common.Memory) start is = tt
 lines_fault g d old mid new (error.Journal place word) start is = absurd is
 lines_fault g d old mid new error.TooMany start (done, was, most) =
@@ -114,26 +110,6 @@ lines_fault g d old mid new error.TooMany start (done, was, most) =
 lines_fault g d old mid new e start is = is
 
 pub finished_fault : (g : AirportRows) (d : DayRecord) (old mid new : List Event) (r : Result (Unit {0}) ServeError) → Starts g old mid d
-    → IfErr r (IsLinesFault 0 mid new) → IfErr r (IsDayFault g (since old new))
+    → IfErr r (IsLinesFault 0 mid new) → IfErr r (IsServeFault g (since old new))
 finished_fault g d old mid new (Ok x) start is = tt
 finished_fault g d old mid new (Err e) start is = lines_fault g d old mid new e start is
-
--- of the airport that a file says
-file_fault : (a : Reading) (g : AirportRows) (done : List Event) (e : ServeError) → IsRead a → IfSome a.before (λ file. airport_in file ≡ Ok g) → IsDayFault g done e
-    → IfSome a.before (λ file. IsOkAnd (airport_in file) (λ g. IsDayFault g done e))
-file_fault a g done e read says is = by a.before says
-  where
-    by : (file : Option (List ℕ)) → IfSome file (λ file. airport_in file ≡ Ok g) → IfSome file (λ file. IsOkAnd (airport_in file) (λ g. IsDayFault g done e))
-    by None says = tt
-    by (Some file) says = subst (λ (r : Result AirportRows (ℕ × RefusalWord)). IsOkAnd r (λ g. IsDayFault g done e)) (sym says) is
-
-serve_fault : (a : Reading) (g : AirportRows) (done : List Event) (e : ServeError) → IsRead a → IfSome a.before (λ file. airport_in file ≡ Ok g) → IsDayFault g done e
-    → IsServeFault a done e
-serve_fault a g done (error.Common common.Memory) read says is = read.unfailed
-serve_fault a g done (error.Common fault) read says is = absurd is
-serve_fault a g done e read says is = (read, file_fault a g done e read says is)
-
-pub served_fault : (a : Reading) (g : AirportRows) (done : List Event) (r : Result (Unit {0}) ServeError) → IsRead a → IfSome a.before (λ file. airport_in file ≡ Ok g)
-    → IfErr r (IsDayFault g done) → IfErr r (IsServeFault a done)
-served_fault a g done (Ok x) read says is = tt
-served_fault a g done (Err e) read says is = serve_fault a g done e read says is

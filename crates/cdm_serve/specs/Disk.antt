@@ -1,7 +1,7 @@
 -- What a stop may leave of the journal on the disk.
 use Rattle.std.specs.Prelude.{◌≡◌, ◌⊎◌, ℕ, List, [], ◌∷◌, ◌++◌, take}
 use Rattle.cdm_port.specs.Event.{Event}
-use Rattle.cdm_port.specs.Event.Event.{Appended, Broken, Cut, End, Flushed, Line, Read, Replied, Synced}
+use Rattle.cdm_port.specs.Event.Event.{Appended, Cut, Read, Synced}
 use Rattle.cdm_port.specs.Stop.{IsPrefix}
 
 -- the journal: as it was synced, what of it was not cut off since, and as it is cut and written
@@ -20,11 +20,7 @@ disk_with disk (Read bytes) = settled bytes
 disk_with disk (Cut kept) = record disk { uncut = take kept disk.uncut; written = take kept disk.written }
 disk_with disk (Appended bytes) = record disk { written = disk.written ++ bytes }
 disk_with disk Synced = settled disk.written
-disk_with disk (Line line) = disk
-disk_with disk Broken = disk
-disk_with disk End = disk
-disk_with disk (Replied text) = disk
-disk_with disk Flushed = disk
+disk_with disk other = disk
 
 -- the journal after some events
 abbrev pub disk_after : Disk → List Event → Disk

@@ -1,14 +1,13 @@
 -- What a served day promises at each moment.
-use Rattle.std.specs.Prelude.{◌≡◌, ◌⊎◌, ℕ, List, [], ◌∷◌, ◌++◌, map, flat_map, Option, None, Some, IfOk, IfSome}
+use Rattle.std.specs.Prelude.{◌≡◌, ◌⊎◌, ℕ, List, [], ◌∷◌, ◌++◌, map, flat_map, Option, None, Some}
 use Rattle.std.specs.Option.{option_to_list}
-use Rattle.cdm_files.specs.AirportFile.{airport_in}
 use Rattle.cdm_files.specs.FeedDay.{accepted_in, refusals_in}
 use Rattle.cdm_flight.specs.Journal.{AirportRows}
 use Rattle.cdm_flight.specs.declared.update.Update.{Update}
 use Rattle.cdm_journal.specs.Journal.{journal_line, whole_lines}
 use Rattle.cdm_plan.specs.Day.{DayRecord}
 use Rattle.cdm_port.specs.Event.{Event}
-use Rattle.cdm_port.specs.Event.Event.{Appended, Broken, Cut, End, Flushed, Line, Read, Replied, Synced}
+use Rattle.cdm_port.specs.Event.Event.{Appended, Broken, Line, Read, Replied}
 use Rattle.cdm_port.specs.Stop.{IsPrefix, IsStopOf}
 use Rattle.cdm_serve.specs.Disk.{MayBeLeft, disk_after, settled}
 use Rattle.cdm_serve.specs.Served.{day_of}
@@ -23,12 +22,7 @@ told d last [] = []
 told d last (Line line ∷ events) = told (after d (record_heard (Some line))) (taken d (record_heard (Some line))) events
 told d last (Broken ∷ events) = told (after d (record_heard None)) (taken d (record_heard None)) events
 told d last (Replied text ∷ events) = option_to_list last ++ told d None events
-told d last (Read bytes ∷ events) = told d last events
-told d last (Cut kept ∷ events) = told d last events
-told d last (End ∷ events) = told d last events
-told d last (Appended bytes ∷ events) = told d last events
-told d last (Synced ∷ events) = told d last events
-told d last (Flushed ∷ events) = told d last events
+told d last (other ∷ events) = told d last events
 
 -- the accepted record whose reply wasn't begun, where there is one
 abbrev pub untold : DayRecord → Option TakenRecord → List Event → Option TakenRecord
@@ -36,12 +30,7 @@ untold d last [] = last
 untold d last (Line line ∷ events) = untold (after d (record_heard (Some line))) (taken d (record_heard (Some line))) events
 untold d last (Broken ∷ events) = untold (after d (record_heard None)) (taken d (record_heard None)) events
 untold d last (Replied text ∷ events) = untold d None events
-untold d last (Read bytes ∷ events) = untold d last events
-untold d last (Cut kept ∷ events) = untold d last events
-untold d last (End ∷ events) = untold d last events
-untold d last (Appended bytes ∷ events) = untold d last events
-untold d last (Synced ∷ events) = untold d last events
-untold d last (Flushed ∷ events) = untold d last events
+untold d last (other ∷ events) = untold d last events
 
 -- the lines of records in the journal
 abbrev pub lines_of : List TakenRecord → List ℕ
@@ -55,14 +44,7 @@ updates_of records = map (λ one. one.update) records
 abbrev pub appended : List Event → List ℕ
 appended [] = []
 appended (Appended bytes ∷ events) = bytes ++ appended events
-appended (Read bytes ∷ events) = appended events
-appended (Cut kept ∷ events) = appended events
-appended (Line line ∷ events) = appended events
-appended (Broken ∷ events) = appended events
-appended (End ∷ events) = appended events
-appended (Synced ∷ events) = appended events
-appended (Replied text ∷ events) = appended events
-appended (Flushed ∷ events) = appended events
+appended (other ∷ events) = appended events
 
 -- Promises, of what has happened since a journal of these bytes was read.
 
@@ -90,7 +72,3 @@ IsRecovered g bytes events = refusals_in g (whole_lines bytes) ≡ [] → (left 
 -- It holds at each moment since the journal was read: of its bytes, and of what had happened then.
 abbrev pub AtEachMoment : List Event → (List ℕ → List Event → Type 0) → Type 0
 AtEachMoment done Holds = (bytes : List ℕ) (moment : List Event) → IsStopOf (Read bytes ∷ moment) done → Holds bytes moment
-
--- it holds of the airport that the bytes of its file say, where its reader tells those that it had left and they say one
-abbrev pub IfAirport : Option (List ℕ) → (AirportRows → Type 0) → Type 0
-IfAirport file Holds = IfSome file (λ bytes. IfOk (airport_in bytes) Holds)

@@ -101,12 +101,7 @@ abbrev pub IsHeard : Event → Type 0
 IsHeard End = ⊤
 IsHeard Broken = ⊤
 IsHeard (Line line) = ⊤
-IsHeard (Read bytes) = ⊥
-IsHeard (Cut kept) = ⊥
-IsHeard (Appended bytes) = ⊥
-IsHeard Synced = ⊥
-IsHeard (Replied text) = ⊥
-IsHeard Flushed = ⊥
+IsHeard other = ⊥
 
 -- a journal without a refused record is served, line after line, until this is heard
 pub record IsServed (g : AirportRows) (bytes : List ℕ) (next : Event) (whole : List Event) : Type 0 where

@@ -13,4 +13,4 @@ mod starting;
 pub use asked::Asked;
 pub use fault::ServeError;
 pub use request::Request;
-pub use serving::{serve, serve_day};
+pub use serving::serve;

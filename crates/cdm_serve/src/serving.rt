@@ -1,12 +1,9 @@
 //! A day served over a port.
-ghost use Rattle.std.specs.Prelude.{◌≡◌, ◌++◌, ℕ, List, false, IfErr, IfOk, IfSome, OnErr, OnOk};
-ghost use Rattle.std.specs.Result.{IsOkAnd};
-ghost use Rattle.cdm_files.specs.AirportFile.{airport_in};
-ghost use Rattle.cdm_files.specs.Readings.{IsRead, reading};
+ghost use Rattle.std.specs.Prelude.{◌≡◌, ◌++◌, ℕ, List, IfErr, IfOk, OnErr, OnOk};
 ghost use Rattle.cdm_port.specs.Event.Event.{End};
 ghost use Rattle.cdm_port.specs.Stop.{since};
-ghost use Rattle.cdm_serve.specs.Faults.{IsDayFault, IsServeFault};
-ghost use Rattle.cdm_serve.specs.Promises.{AtEachMoment, IfAirport, IsKept, IsRecovered, IsWritten};
+ghost use Rattle.cdm_serve.specs.Faults.{IsServeFault, fault_told};
+ghost use Rattle.cdm_serve.specs.Promises.{AtEachMoment, IsKept, IsRecovered, IsWritten};
 ghost use Rattle.cdm_serve.specs.Served.{IsServed, IsStopped};
 ghost use Rattle.cdm_serve.specs.inner.Steps.{Hears, HearsInVain, IsLinesFault, IsPortFault, Serves, ServeStops};
 
@@ -16,11 +13,9 @@ use crate::performing::perform;
 use crate::starting::start;
 use cdm_day::Airport;
 use cdm_desk::DeskDay;
-use cdm_files::{Device, Input, airport_of, read_whole};
 use cdm_journal::{LineRead, read_line};
 use cdm_port::{Heard, Port};
 use std::alloc::Global;
-use std::io::Read;
 use std::thread::Threads;
 
 // The next line of the input, as it is read.
@@ -28,6 +23,7 @@ fn hear<P: Port>(alloc: Global, port: &mut P) -> Result<Option<LineRead>, ServeE
     ensures ok { IfOk result (Hears (P.events port.old) (P.events port.new)) }
     ensures err { OnErr result (HearsInVain (P.events port.old) (P.events port.new)) }
     ensures fault { IfErr result IsPortFault }
+    ensures failed { P.fault port.new ≡ fault_told (P.fault port.old) result }
 {
     match port.line(alloc)? {
         Heard::Line(bytes) => {
@@ -44,6 +40,7 @@ fn serve_lines<P: Port>(alloc: Global, port: &mut P, mut day: ServedDay) -> Resu
     ensures ok { OnOk result (Serves day.desk day.number (P.events port.old) (P.events port.new)) }
     ensures err { OnErr result (ServeStops day.desk day.number (P.events port.old) (P.events port.new)) }
     ensures fault { IfErr result (IsLinesFault day.number (P.events port.old) (P.events port.new)) }
+    ensures failed { P.fault port.new ≡ fault_told (P.fault port.old) result }
 {
     'lines: for _ in 0..u64::MAX {
         let Some(read) = hear(alloc, port)? else {
@@ -62,7 +59,7 @@ fn serve_lines<P: Port>(alloc: Global, port: &mut P, mut day: ServedDay) -> Resu
 ///
 /// `Journal` where a record of the journal is refused, and then the journal is as it was; `TooMany` where a line's
 /// number would be greater than a `u32`; `Port` where the port fails, and `Common` for want of memory.
-pub fn serve_day<R: Threads + Sync, P: Port>(
+pub fn serve<R: Threads + Sync, P: Port>(
     rt: &R,
     alloc: Global,
     airport: Airport,
@@ -83,36 +80,12 @@ pub fn serve_day<R: Threads + Sync, P: Port>(
 
     // From what a stop at that moment leaves, a start goes on with all of them, and at most one more.
     ensures recovered { AtEachMoment (since (P.events port.old) (P.events port.new)) (IsRecovered airport) }
-    ensures fault { IfErr result (IsDayFault airport (since (P.events port.old) (P.events port.new))) }
+
+    // A fault is told where it happened, and a fault of the port exactly then.
+    ensures fault { IfErr result (IsServeFault airport (since (P.events port.old) (P.events port.new))) }
+    ensures failed { P.fault port.new ≡ fault_told (P.fault port.old) result }
 {
     let state = start(rt, alloc, airport, port)?;
     let desk = DeskDay::new(state);
     serve_lines(alloc, port, ServedDay { desk, number: 0 })
-}
-
-/// Serves a day over a port: reads the airport file, and serves the day of its airport to the end of the input, as
-/// [`serve_day`] does.
-///
-/// Faults in their order: `Common` with `Read`, `TooLong` or `Airport` of the airport file, and till then nothing of the
-/// port is asked; then those of [`serve_day`].
-pub fn serve<R: Threads + Sync, A: Read, P: Port>(
-    rt: &R,
-    alloc: Global,
-    airport: &mut Device<A>,
-    port: &mut P,
-) -> Result<(), ServeError>
-    requires { airport.old.failed ≡ false }
-    ensures log { P.events port.new ≡ P.events port.old ++ since (P.events port.old) (P.events port.new) }
-    ensures served { OnOk result (IfSome (A.remaining airport.old.inner) (λ file. IsOkAnd (airport_in file) (λ g.
-        (bytes : List ℕ) × IsServed g bytes End (since (P.events port.old) (P.events port.new))))) }
-    ensures stopped { IfAirport (A.remaining airport.old.inner) (λ g. IsStopped g (since (P.events port.old) (P.events port.new))) }
-    ensures kept { IfAirport (A.remaining airport.old.inner) (λ g. AtEachMoment (since (P.events port.old) (P.events port.new)) (IsKept g)) }
-    ensures written { IfAirport (A.remaining airport.old.inner) (λ g. AtEachMoment (since (P.events port.old) (P.events port.new)) (IsWritten g)) }
-    ensures recovered { IfAirport (A.remaining airport.old.inner) (λ g. AtEachMoment (since (P.events port.old) (P.events port.new)) (IsRecovered g)) }
-    ensures read { OnOk result (IsRead (reading Input.Airport A.remaining airport.old airport.new)) }
-    ensures fault { IfErr result (IsServeFault (reading Input.Airport A.remaining airport.old airport.new) (since (P.events port.old) (P.events port.new))) }
-{
-    let file = read_whole(alloc, Input::Airport, airport)?;
-    let airport = airport_of(alloc, &file)?;
-    serve_day(rt, alloc, airport, port)
 }

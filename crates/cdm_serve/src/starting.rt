@@ -1,7 +1,9 @@
 //! The start of a served day.
 ghost use Rattle.std.specs.Prelude.{◌≡◌, ◌∷◌, ◌++◌, [], IfErr, IfOk, OnErr, OnOk};
 ghost use Rattle.cdm_port.specs.Event.Event.{Flushed, Replied, Synced};
+ghost use Rattle.cdm_port.specs.Fault.{fault_after};
 ghost use Rattle.cdm_port.specs.Stop.{Stops};
+ghost use Rattle.cdm_serve.specs.Faults.{fault_told};
 ghost use Rattle.cdm_serve.specs.Served.{cut_to, ready_text};
 ghost use Rattle.cdm_serve.specs.inner.Steps.{IsStartFault, Starts, StartStops};
 
@@ -28,6 +30,7 @@ fn ready_text(alloc: Global, count: usize) -> Result<Vec<u8>, AllocError>
 fn cut_torn<P: Port>(port: &mut P, kept: usize, count: usize) -> Result<(), PortFault>
     ensures ok { OnOk result (P.events port.new ≡ P.events port.old ++ cut_to kept count) }
     ensures err { OnErr result (Stops (P.events port.old) (cut_to kept count) (P.events port.new)) }
+    ensures fault { P.fault port.new ≡ fault_after (P.fault port.old) result }
 {
     if kept < count { port.cut(kept) } else { Ok(()) }
 }
@@ -36,6 +39,7 @@ fn cut_torn<P: Port>(port: &mut P, kept: usize, count: usize) -> Result<(), Port
 fn begin<P: Port>(port: &mut P, kept: usize, count: usize, ready: &[u8]) -> Result<(), PortFault>
     ensures ok { OnOk result (P.events port.new ≡ P.events port.old ++ (cut_to kept count ++ Synced ∷ Replied ready.now ∷ Flushed ∷ [])) }
     ensures err { OnErr result (Stops (P.events port.old) (cut_to kept count ++ Synced ∷ Replied ready.now ∷ Flushed ∷ []) (P.events port.new)) }
+    ensures fault { P.fault port.new ≡ fault_after (P.fault port.old) result }
 {
     cut_torn(port, kept, count)?;
     port.sync()?;
@@ -55,6 +59,7 @@ pub(crate) fn start<R: Threads + Sync, P: Port>(
     ensures ok { IfOk result (Starts airport (P.events port.old) (P.events port.new)) }
     ensures err { OnErr result (StartStops airport (P.events port.old) (P.events port.new)) }
     ensures fault { IfErr result (IsStartFault airport (P.events port.old) (P.events port.new)) }
+    ensures failed { P.fault port.new ≡ fault_told (P.fault port.old) result }
 {
     let bytes = port.journal(alloc)?;
     let kept = kept_length(&bytes);

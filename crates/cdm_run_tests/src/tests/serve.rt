@@ -4,8 +4,7 @@ mod memory;
 mod refused;
 mod script;
 
-use super::devices::Source;
-use cdm_feed::Device;
+use cdm_feed::airport_of;
 use cdm_port::PortFault;
 use cdm_serve::{ServeError, serve};
 use memory::{Call, Left, Memory, Stop};
@@ -21,8 +20,8 @@ const NEVER: Stop = Stop {
 
 // What a served day over this port answers.
 fn answer_of<R: AllocGlobal + Threads + Sync>(rt: &R, port: &mut Memory) -> Result<(), ServeError> {
-    let mut airport = Device::new(Source::whole(AIRPORT.as_bytes()));
-    serve(rt, rt.alloc(), &mut airport, port)
+    let airport = airport_of(rt.alloc(), AIRPORT.as_bytes())?;
+    serve(rt, rt.alloc(), airport, port)
 }
 
 // The journal when the day has heard so many lines.
@@ -103,7 +102,7 @@ fn is_untold(port: &Memory) -> bool {
 fn is_kept<R: AllocGlobal + Threads + Sync>(rt: &R, stop: Stop) -> Option<bool> {
     let port = stopped(rt, stop)?;
     let told = replies_after(rt.alloc(), port.told)?;
-    let is_synced = port.fault? != PortFault::CannotWriteJournal || is_untold(&port);
+    let is_synced = !matches!(port.fault?, PortFault::CannotWriteJournal(_)) || is_untold(&port);
     let mut is_kept = is_synced && told.starts_with(&port.replies);
     for left in port.lefts() {
         is_kept = is_kept && goes_on(rt, &port, *left)?;

@@ -54,26 +54,21 @@ HearsInVain old new = (new ≡ old) ⊎ ((line : LineRecord) × HearsLine old ne
 -- a fault of the port, or want of memory
 abbrev pub IsPortFault : ServeError → Type 0
 IsPortFault (error.Common common.Memory) = ⊤
-IsPortFault (error.Common fault) = ⊥
-IsPortFault (error.Journal place word) = ⊥
 IsPortFault (error.Port fault) = ⊤
-IsPortFault error.TooMany = ⊥
+IsPortFault other = ⊥
 
 -- why a line has no answer, where so many records and questions were numbered before
 abbrev pub IsAnswerFault : ℕ → ServeError → Type 0
 IsAnswerFault number (error.Common common.Memory) = ⊤
-IsAnswerFault number (error.Common fault) = ⊥
-IsAnswerFault number (error.Journal place word) = ⊥
-IsAnswerFault number (error.Port fault) = ⊥
 IsAnswerFault number error.TooMany = number + 1 ≡ 2 ^ 32
+IsAnswerFault number other = ⊥
 
 -- why the lines aren't served to the end, where so many records and questions were numbered before
 abbrev pub IsLinesFault : ℕ → List Event → List Event → ServeError → Type 0
 IsLinesFault number old new (error.Common common.Memory) = ⊤
-IsLinesFault number old new (error.Common fault) = ⊥
-IsLinesFault number old new (error.Journal place word) = ⊥
 IsLinesFault number old new (error.Port fault) = ⊤
 IsLinesFault number old new error.TooMany = (done : List Event) × (new ≡ old ++ done) × (2 ^ 32 ≤ number + count_by is_line done)
+IsLinesFault number old new other = ⊥
 
 -- all lines were served to the end
 abbrev pub Serves : DayRecord → ℕ → List Event → List Event → Type 0
@@ -98,8 +93,7 @@ StartStops g old new = (bytes : List ℕ) × (Stops old (Read bytes ∷ []) new
 -- why a day isn't started
 abbrev pub IsStartFault : AirportRows → List Event → List Event → ServeError → Type 0
 IsStartFault g old new (error.Common common.Memory) = ⊤
-IsStartFault g old new (error.Common fault) = ⊥
 IsStartFault g old new (error.Journal number word) = (bytes : List ℕ) × (others : List (ℕ × RefusalWord))
     × (new ≡ old ++ Read bytes ∷ []) × (refusals_in g (whole_lines bytes) ≡ (number, word) ∷ others)
 IsStartFault g old new (error.Port fault) = ⊤
-IsStartFault g old new error.TooMany = ⊥
+IsStartFault g old new other = ⊥

@@ -1,12 +1,42 @@
-use Rattle.std.proofs.Common.{◌≡◌, IfSome, Ok, rules}
-use Rattle.cdm_files.specs.AirportFile.{airport_in}
-use Rattle.cdm_files.specs.Readings.{IsRead, reading}
-use Rattle.cdm_files.specs.declared.common_fault.Input.TheVariants as input
-use Rattle.cdm_serve.proofs.Runs.{served_fault}
+-- A day that isn't started, or is served to its end or to some moment.
+use Rattle.std.proofs.Common.{rules}
+use Rattle.cdm_port.specs.Stop.{since}
+use Rattle.cdm_serve.specs.Faults.{IsServeFault}
+use Rattle.cdm_serve.specs.inner.Steps.{IsStartFault, StartStops, Starts}
+use Rattle.cdm_serve.proofs.Runs.{finished, finished_fault, finished_served, start_fault, unstarted}
 use Rattle.cdm_serve.proofs.serving.serve.Goals as goal
 
-pub returns-clause-fault : goal.returns-clause-fault
-returns-clause-fault g c =
-    let read : IsRead (reading input.Airport g.A.Read.remaining c.args.airport.now c.read_whole.new.device) = search rules in
-    let says : IfSome (g.A.Read.remaining c.args.airport.now.inner) (λ file. airport_in file ≡ Ok c.in_ok-airport.airport) = search rules in
-    served_fault _ c.in_ok-airport.airport _ c.serve_day.result read says c.serve_day.ensures.fault
+-- it isn't started
+pub returns-in_err-state : goal.returns-in_err-state
+returns-in_err-state g c =
+    let stops : StartStops c.args.airport (g.P.Port.events c.args.port.now) (g.P.Port.events c.start.new.port) = search rules in
+    let is : IsStartFault c.args.airport (g.P.Port.events c.args.port.now) (g.P.Port.events c.start.new.port) c.in_err-state.field-0.0 = search rules in
+    let fault : IsServeFault c.args.airport (since (g.P.Port.events c.args.port.now) (g.P.Port.events c.start.new.port)) c.in_err-state.field-0.0 = start_fault _ _ _ _ is in
+    let over = unstarted _ _ _ stops in
+    record {
+      log = over.log;
+      served = search rules;
+      stopped = over.stopped;
+      kept = over.all_kept;
+      written = over.all_written;
+      recovered = over.all_recovered;
+      fault = search rules;
+      failed = search rules;
+    }
+
+-- lines are served
+pub returns : goal.returns
+returns g c =
+    let begun : Starts c.args.airport (g.P.Port.events c.args.port.now) (g.P.Port.events c.start.new.port) c.in_ok-state.state = search rules in
+    let start : Starts c.args.airport (g.P.Port.events c.args.port.now) (g.P.Port.events c.start.new.port) c.new-desk.result = rw c.new-desk.ensures begun in
+    let over = finished c.args.airport c.new-desk.result _ _ _ c.serve_lines.result start c.serve_lines.ensures.ok c.serve_lines.ensures.err in
+    record {
+      log = over.log;
+      served = finished_served c.args.airport c.new-desk.result _ _ _ c.serve_lines.result start c.serve_lines.ensures.ok;
+      stopped = over.stopped;
+      kept = over.all_kept;
+      written = over.all_written;
+      recovered = over.all_recovered;
+      fault = finished_fault c.args.airport c.new-desk.result _ _ _ c.serve_lines.result start c.serve_lines.ensures.fault;
+      failed = search rules;
+    }

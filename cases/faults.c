@@ -1,0 +1,86 @@
+// Loaded before a program (LD_PRELOAD): tells its calls on files in the file FAULTS_LOG, one a line, and has the
+// FAULTS_AT-th of them end as FAULTS_KIND says: a short write, a call that a signal interrupts, or a fault of the device or for
+// want of room. It needs no header, and at run time the C library alone.
+typedef unsigned long size;
+extern long syscall(long, ...), atol(const char *);
+extern char *getenv(const char *);
+extern int *__errno_location(void);
+
+enum { sys_write = 1, sys_open = 2, sys_close = 3, sys_fsync = 74, sys_fdatasync = 75, sys_ftruncate = 77, sys_rename = 82 };
+enum { interrupted = 4, device = 5, no_room = 28 };
+enum { append_made = 02101, all_may = 0644 };
+
+static long calls;
+
+// Puts a text at the end of the log.
+static void tell(const char *text, size length) {
+    const char *log = getenv("FAULTS_LOG");
+    long file = log ? syscall(sys_open, log, append_made, all_may) : -1;
+    if (file < 0) return;
+    syscall(sys_write, file, text, length);
+    syscall(sys_close, file);
+}
+
+static size put_word(char *line, size at, const char *word) {
+    while (*word) line[at++] = *word++;
+    return at;
+}
+
+static size put_number(char *line, size at, long number) {
+    char digits[24];
+    size count = 0;
+    if (number < 0) line[at++] = '-', number = -number;
+    do digits[count++] = (char)('0' + number % 10); while (number /= 10);
+    while (count) line[at++] = digits[--count];
+    return at;
+}
+
+// Tells a call: its name, its file, its result, and in hexadecimal the bytes that were written.
+static void told(const char *name, long file, long result, const char *bytes) {
+    static char line[20000];
+    size at = put_word(line, 0, name);
+    line[at++] = ' ';
+    at = put_number(line, at, file);
+    line[at++] = ' ';
+    at = put_number(line, at, result);
+    line[at++] = ' ';
+    for (long i = 0; bytes && i < result && i < 9000; i++) {
+        line[at++] = "0123456789abcdef"[(bytes[i] >> 4) & 15];
+        line[at++] = "0123456789abcdef"[bytes[i] & 15];
+    }
+    line[at++] = '\n';
+    tell(line, at);
+}
+
+// How this call ends: 0 as ever, -1 short, else with this error.
+static long fault(void) {
+    const char *at = getenv("FAULTS_AT"), *kind = getenv("FAULTS_KIND");
+    calls++;
+    if (!at || !kind || calls != atol(at)) return 0;
+    return kind[0] == 's' ? -1 : atol(kind);
+}
+
+static long refused(long error) {
+    *__errno_location() = (int)error;
+    return -1;
+}
+
+long write(int file, const char *bytes, size count) {
+    long how = fault();
+    if (how < 0 && count > 1) count /= 2;
+    long result = how > 0 ? refused(how) : syscall(sys_write, (long)file, bytes, count);
+    told("write", file, result, bytes);
+    return result;
+}
+
+static int plain(const char *name, long number, long first, long second, long file) {
+    long how = fault();
+    long result = how > 0 ? refused(how) : syscall(number, first, second);
+    told(name, file, result, 0);
+    return (int)result;
+}
+
+int fsync(int file) { return plain("sync", sys_fsync, file, 0, file); }
+int fdatasync(int file) { return plain("sync", sys_fdatasync, file, 0, file); }
+int ftruncate(int file, long length) { return plain("cut", sys_ftruncate, file, length, file); }
+int rename(const char *from, const char *to) { return plain("rename", sys_rename, (long)from, (long)to, 0); }

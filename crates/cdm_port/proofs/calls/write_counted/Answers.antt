@@ -1,0 +1,26 @@
+use Rattle.std.proofs.Common.{◌≡◌, ◌-◌, length, take, drop, arith, take-add}
+use Rattle.std.proofs.lemmas.Grind.{common_steps}
+use Rattle.std.proofs.KnownBytes.{Appends-trans}
+use Rattle.cdm_port.proofs.WriteLemmas.{appends_kept}
+use Rattle.cdm_port.proofs.calls.write_counted.Goals.{in-Ok, in-Err}
+use Rattle.cdm_port.proofs.calls.write_counted.Goals as goal
+
+-- the bytes written so far, and then those that this write took
+pub loop-preserved : goal.loop-preserved
+loop-preserved g c =
+    let before = g.W.Write.contents c.args.writer.now in
+    let here = g.W.Write.contents c.loop.writer in
+    let after = g.W.Write.contents c.write.new.self in
+    let bytes = c.args.bytes.now in
+    let n = c.loop.count in
+    elim c.match-write.branch [
+      | in-Ok w ↦
+          let rest : take (length bytes - n) (drop n bytes) ≡ drop n bytes = grind (arith, common_steps) in
+          let taken = rw rest at (w.in-Ok.ensures).bytes in
+          rw w.count-is (record {
+            within = grind (arith, common_steps);
+            written = rw (take-add n w.in-Ok.more bytes)
+                (Appends-trans before here after (take n bytes) (take w.in-Ok.more (drop n bytes)) c.loop.invariant.written taken);
+          })
+      | in-Err w ↦ rw w.count-is (record { within = c.loop.invariant.within; written = appends_kept before here after (take n bytes) c.loop.invariant.written (w.in-Err.ensures).bytes })
+    ]

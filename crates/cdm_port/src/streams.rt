@@ -1,0 +1,178 @@
+//! The file of a journal, an input and an output.
+ghost use Rattle.std.specs.Prelude.{◌≡◌, ◌≤◌, ℕ, List, Option, None, Some, take, [], ◌∷◌, ◌++◌, map, IfOk, IfSome, OnErr, OnOk, vec_len};
+ghost use Rattle.std.specs.Io.BufRead.{DropsThrough};
+ghost use Rattle.std.specs.Io.KnownBytes.{Appends};
+ghost use Rattle.cdm_port.specs.Event.{Event, journal_limit};
+ghost use Rattle.cdm_port.specs.Event.Event.{Read, Cut, Appended, Synced, Replied, Flushed};
+ghost use Rattle.cdm_port.specs.Fault.{fault_after};
+ghost use Rattle.cdm_port.specs.Heard.{IsHeard, event_of, heard_in};
+ghost use Rattle.cdm_port.specs.Notes.{noted};
+ghost use Rattle.cdm_port.specs.Parts.{Parts};
+ghost use Rattle.cdm_port.specs.Stop.{Stops};
+
+use crate::calls::{next_line, read_whole, write_counted};
+use crate::fault::PortFault;
+use crate::file::JournalFile;
+use crate::happening::Happening;
+use crate::heard::Heard;
+use crate::history::History;
+use crate::port::Port;
+use crate::reason::Reason;
+use std::alloc::Global;
+use std::io::{Read, Write};
+use std::marker::Model;
+
+/// The input and the output of a served day, and the file of its journal, whose writes go to its end. What is read of
+/// the input and of the journal, and what is written to the output and to the journal, is what is noted, at any reader
+/// and writer whose bytes clauses know, and so is what is cut and synced. That the output is flushed where this is noted,
+/// and that nothing else notes, is to be read here.
+#[derive(Drop)]
+pub struct Streams<I, O, J> {
+    input: I,
+    output: O,
+    journal: J,
+    history: History,
+    fault: Option<PortFault>,
+}
+
+impl<I, O, J> Model for Streams<I, O, J> {
+    ghost Value = { Parts I O J };
+
+    ghost view = { λ s. record { input = s.input; output = s.output; journal = s.journal; notes = s.history.notes; fault = s.fault } };
+}
+
+impl<I, O, J> Streams<I, O, J> {
+    /// Nothing has happened yet.
+    pub fn new(input: I, output: O, journal: J) -> Streams<I, O, J>
+        ensures notes { result.notes ≡ [] }
+        ensures unfailed { result.fault ≡ None }
+    {
+        Streams {
+            input,
+            output,
+            journal,
+            history: History::new(),
+            fault: None,
+        }
+    }
+
+    // Keeps a fault, and hands on the answer.
+    fn answer<T>(&mut self, outcome: Result<T, PortFault>) -> Result<T, PortFault>
+        ensures same { result ≡ outcome }
+        ensures kept { self.new ≡ record self.old { fault = fault_after self.old.fault outcome } }
+    {
+        if let Err(fault) = &outcome {
+            self.fault = Some(*fault);
+        }
+        outcome
+    }
+}
+
+impl<I: Read, O: Write, J: JournalFile> Port for Streams<I, O, J> {
+    ghost events = { λ streams. map noted streams.notes };
+
+    ghost fault = { λ streams. streams.fault };
+
+    fn journal(&mut self, alloc: Global) -> Result<Vec<u8>, PortFault>
+        ensures ok { IfOk result (λ bytes. map noted self.new.notes ≡ map noted self.old.notes ++ Read bytes.items ∷ []) }
+        ensures limit { IfOk result (λ bytes. vec_len bytes ≤ journal_limit) }
+        ensures err { OnErr result (map noted self.new.notes ≡ map noted self.old.notes) }
+        ensures fault { self.new.fault ≡ fault_after self.old.fault result }
+
+        // All bytes of the file were read.
+        ensures whole { IfOk result (λ bytes. IfSome (J.remaining self.old.journal) (λ all. bytes.items ≡ all)) }
+    {
+        let bytes = read_whole(alloc, &mut self.journal);
+        if let Ok(bytes) = &bytes {
+            self.history.note(&Happening::Read, bytes);
+        }
+        self.answer(bytes)
+    }
+
+    fn cut(&mut self, length: usize) -> Result<(), PortFault>
+        ensures ok { OnOk result (map noted self.new.notes ≡ map noted self.old.notes ++ Cut length ∷ []) }
+        ensures err { OnErr result (Stops (map noted self.old.notes) (Cut length ∷ []) (map noted self.new.notes)) }
+        ensures fault { self.new.fault ≡ fault_after self.old.fault result }
+
+        // The file has its first so many bytes.
+        ensures kept { OnOk result (IfSome (J.contents self.old.journal)
+            (λ bytes. J.contents self.new.journal ≡ Some (take length bytes))) }
+    {
+        if let Err(error) = self.journal.cut(length as u64) {
+            return self.answer(Err(PortFault::CannotWriteJournal(Reason::of(&error))));
+        }
+        self.history.note(&Happening::Cut(length), &[]);
+        Ok(())
+    }
+
+    fn line(&mut self, alloc: Global) -> Result<Heard, PortFault>
+        ensures ok { IfOk result (λ heard. map noted self.new.notes ≡ map noted self.old.notes ++ event_of heard ∷ []) }
+        ensures heard { IfOk result IsHeard }
+        ensures err { OnErr result (map noted self.new.notes ≡ map noted self.old.notes) }
+        ensures fault { self.new.fault ≡ fault_after self.old.fault result }
+
+        // What the input said next was heard, to the end of its line.
+        ensures line { IfOk result (λ heard. IfSome (I.remaining self.old.input) (λ bytes. event_of heard ≡ heard_in bytes)) }
+        ensures rest { OnOk result (DropsThrough (I.remaining self.old.input) (I.remaining self.new.input) 10) }
+    {
+        let heard = next_line(alloc, &mut self.input);
+        match &heard {
+            Ok(Heard::Line(bytes)) => self.history.note(&Happening::Line, bytes),
+            Ok(Heard::Broken) => self.history.note(&Happening::Broken, &[]),
+            Ok(Heard::End) => self.history.note(&Happening::End, &[]),
+            Err(_) => {}
+        }
+        self.answer(heard)
+    }
+
+    fn append(&mut self, bytes: &[u8]) -> Result<(), PortFault>
+        ensures ok { OnOk result (map noted self.new.notes ≡ map noted self.old.notes ++ Appended bytes.now ∷ []) }
+        ensures err { OnErr result (Stops (map noted self.old.notes) (Appended bytes.now ∷ []) (map noted self.new.notes)) }
+        ensures fault { self.new.fault ≡ fault_after self.old.fault result }
+
+        // What is noted was written, and nothing else.
+        ensures written { (part : List ℕ) × (map noted self.new.notes ≡ map noted self.old.notes ++ Appended part ∷ [])
+            × Appends (J.contents self.old.journal) (J.contents self.new.journal) part }
+    {
+        let (count, written) = write_counted(&mut self.journal, bytes);
+        self.history.note(&Happening::Appended, &bytes[..count]);
+        self.answer(written.map_err(PortFault::CannotWriteJournal))
+    }
+
+    fn sync(&mut self) -> Result<(), PortFault>
+        ensures ok { OnOk result (map noted self.new.notes ≡ map noted self.old.notes ++ Synced ∷ []) }
+        ensures err { OnErr result (map noted self.new.notes ≡ map noted self.old.notes) }
+        ensures fault { self.new.fault ≡ fault_after self.old.fault result }
+
+        // All that was written to the file is on the disk.
+        ensures on_disk { OnOk result (J.on_disk self.new.journal ≡ J.contents self.new.journal) }
+    {
+        if let Err(error) = self.journal.sync() {
+            return self.answer(Err(PortFault::CannotWriteJournal(Reason::of(&error))));
+        }
+        self.history.note(&Happening::Synced, &[]);
+        Ok(())
+    }
+
+    fn reply(&mut self, bytes: &[u8]) -> Result<(), PortFault>
+        ensures ok { OnOk result (map noted self.new.notes ≡ map noted self.old.notes ++ Replied bytes.now ∷ []) }
+        ensures err { OnErr result (Stops (map noted self.old.notes) (Replied bytes.now ∷ []) (map noted self.new.notes)) }
+        ensures fault { self.new.fault ≡ fault_after self.old.fault result }
+
+        // What is noted was written, and nothing else.
+        ensures written { (part : List ℕ) × (map noted self.new.notes ≡ map noted self.old.notes ++ Replied part ∷ [])
+            × Appends (O.contents self.old.output) (O.contents self.new.output) part }
+    {
+        let (count, written) = write_counted(&mut self.output, bytes);
+        self.history.note(&Happening::Replied, &bytes[..count]);
+        self.answer(written.map_err(PortFault::CannotWrite))
+    }
+
+    fn flush(&mut self) -> Result<(), PortFault> {
+        if let Err(error) = self.output.flush() {
+            return self.answer(Err(PortFault::CannotWrite(Reason::of(&error))));
+        }
+        self.history.note(&Happening::Flushed, &[]);
+        Ok(())
+    }
+}
