@@ -1,8 +1,8 @@
 -- The first fault of a run, by why its whole inputs make no text.
-use Rattle.std.proofs.Common.{◌≡◌, ◌∙◌, ℕ, List, Option, None, Some, IfSome, Result, Ok, Err, ap, sym, subst}
+use Rattle.std.proofs.Common.{◌≡◌, ◌∙◌, ℕ, List, Option, None, Some, IfSome, Result, Ok, Err, ap, refl, sym, subst}
 use Rattle.std.proofs.lemmas.Option.{IfSome_then}
 use Rattle.std.specs.Prelude.{IsOk}
-use Rattle.std.specs.Result.{IsOkAnd}
+use Rattle.std.specs.Result.{IsErrOf, IsOkAnd}
 use Rattle.cdm_flight.specs.Journal.{AirportRows}
 use Rattle.cdm_flight.specs.declared.word.RefusalWord.{RefusalWord}
 use Rattle.cdm_plan.specs.Day.{DayRecord}
@@ -99,7 +99,7 @@ report-output x y z text (counted.Day counts) made = made
 report-output x y z text (counted.Check counts) made = absurd made
 
 ok-said : {A E : Type 0} (r : Result A E) (x : A) → r ≡ Ok x → IsOk r
-ok-said r x is = subst IsOk (sym is) tt
+ok-said r x is = subst IsOk (sym is) refl
 
 -- a report is made of an airport file that is accepted, and of a scenario file too
 report-asks : (x y z text : List ℕ) (c : Counted) → IsMade (ask.Day Report) x y z text c → Asks IsOk x z
@@ -133,6 +133,14 @@ report-first a f s (error.Common common.Write) fault =
     (fault.0, of-two (Asks IsOk) a.before f.before s.before (λ x y z h. report-asks x y z h.0 h.1 h.2) fault.1)
 report-first a f s (error.Scenario number word) fault =
     (fault.0, of-two (Asks (λ said. said ≡ Err (number, word))) a.before f.before s.before (λ x y z h. h) fault.1)
-report-first a f s (error.NoFlight name) fault = absurd (never _ _ fault.1.holds)
-report-first a f s (error.NoRunway name) fault = absurd (never _ _ fault.1.holds)
-report-first a f s (error.NoScenario name) fault = absurd (never _ _ fault.1.holds)
+report-first a f s (error.NoFlight name) fault = absurd (never (airport_in fault.1.airport) (λ g. scenarios_in g.day fault.1.third) fault.1.holds)
+report-first a f s (error.NoRunway name) fault = absurd (never (airport_in fault.1.airport) (λ g. scenarios_in g.day fault.1.third) fault.1.holds)
+report-first a f s (error.NoScenario name) fault = absurd (never (airport_in fault.1.airport) (λ g. scenarios_in g.day fault.1.third) fault.1.holds)
+
+-- an error is the same, whatever would have been answered in its place
+abbrev as-error : {T U E : Type 0} → E → Result T E → Result U E
+as-error e (Ok x) = Err e
+as-error e (Err other) = Err other
+
+pub same-error : {T U E : Type 0} (e x : E) → IsErrOf {T = T} (Err e) x → IsErrOf {T = U} (Err e) x
+same-error e x is = ap (as-error e) is

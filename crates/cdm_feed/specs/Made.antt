@@ -6,10 +6,13 @@ use Rattle.cdm_sequence.specs.declared.plan.Plan.{Plan}
 use Rattle.cdm_plan.specs.Day.{DayRecord}
 use Rattle.cdm_plan.specs.DayPlan.{IsDayPlan}
 use Rattle.cdm_view.specs.Questions.{IsAnswer, IsUnanswered}
+use Rattle.cdm_view.specs.declared.fault.ViewFault.{ViewFault}
 use Rattle.cdm_view.specs.declared.fault.ViewFault.TheVariants as view
 use Rattle.cdm_view.specs.declared.question.Question.{Question}
 use Rattle.cdm_scenario.specs.Scenarios.{ScenarioRecord}
 use Rattle.cdm_table.specs.Tables.{IsTable, unknown_among}
+use Rattle.cdm_table.specs.declared.table.TableFault.{TableFault}
+use Rattle.cdm_table.specs.declared.table.TableFault.TheVariants as table
 use Rattle.cdm_picture.specs.Pictures.{IsPicture}
 use Rattle.cdm_trace.specs.Traces.{IsTrace}
 use Rattle.cdm_check.specs.Paths.{IsCheckAt, counts_at}
@@ -68,6 +71,16 @@ HaveOne (ask.Day Picture) a f s = ⊤
 HaveOne asked a f s = (x y : List ℕ) (c d : Counted) → IsMade asked a f s x c → IsMade asked a f s y d → x ≡ y
 
 -- Why nothing is made.
+
+-- a table that isn't made, and a question without an answer, as errors of a run
+abbrev pub table_error : TableFault → RunError
+table_error (table.NoScenario name) = error.NoScenario name
+table_error table.Memory = error.Common common.Memory
+
+abbrev pub view_error : ViewFault → RunError
+view_error (view.NoFlight name) = error.NoFlight name
+view_error (view.NoRunway name) = error.NoRunway name
+view_error view.Memory = error.Common common.Memory
 
 -- why this isn't told of a day and scenarios: what is asked for isn't known, or there is no memory
 abbrev pub IsUntold : DayText → DayRecord → List ScenarioRecord → RunError → Type 0

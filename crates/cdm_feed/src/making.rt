@@ -5,7 +5,7 @@ ghost use Rattle.cdm_files.specs.FeedDay.{day_in, refusals_in};
 ghost use Rattle.cdm_files.specs.Input.{input_limit};
 ghost use Rattle.cdm_table.specs.Tables.{IsTable};
 ghost use Rattle.cdm_trace.specs.Traces.{IsTrace};
-ghost use Rattle.cdm_feed.specs.Made.{IsKnown, IsMade, IsTextOf, IsUnmade, IsUntold, IsView};
+ghost use Rattle.cdm_feed.specs.Made.{IsKnown, IsMade, IsTextOf, IsUnmade, IsUntold, IsView, table_error, view_error};
 ghost use Rattle.cdm_feed.specs.Output.{IsReport};
 
 use crate::answers::push_answers;
@@ -47,6 +47,16 @@ fn report_of<R: Threads + Sync, G: Gate>(
     Ok(text)
 }
 
+// Why there is no table, as the error of a run.
+fn table_error(fault: TableFault) -> RunError
+    ensures { result ≡ table_error fault }
+{
+    match fault {
+        TableFault::NoScenario(name) => RunError::NoScenario(name),
+        TableFault::Memory => RunError::Common(CommonFault::Memory),
+    }
+}
+
 // A table of a day and its scenarios.
 fn table_of<R: Threads + Sync, G: Gate>(
     lent: &Lent<'_, R, G>,
@@ -68,8 +78,18 @@ fn table_of<R: Threads + Sync, G: Gate>(
     };
     match tabulate(lent.alloc, state, scenarios, table, &runner) {
         Ok(text) => Ok(text),
-        Err(TableFault::NoScenario(name)) => Err(RunError::NoScenario(name)),
-        Err(TableFault::Memory) => Err(RunError::Common(CommonFault::Memory)),
+        Err(fault) => Err(table_error(fault)),
+    }
+}
+
+// Why there is no answer, as the error of a run.
+fn view_error(fault: ViewFault) -> RunError
+    ensures { result ≡ view_error fault }
+{
+    match fault {
+        ViewFault::NoFlight(name) => RunError::NoFlight(name),
+        ViewFault::NoRunway(name) => RunError::NoRunway(name),
+        ViewFault::Memory => RunError::Common(CommonFault::Memory),
     }
 }
 
@@ -81,9 +101,7 @@ fn answer_of(alloc: Global, question: Question, day: &AskedDay) -> Result<Vec<u8
     let state = &day.state;
     match answer(alloc, state.airport(), state, state.plan(), question) {
         Ok(text) => Ok(text),
-        Err(ViewFault::NoFlight(name)) => Err(RunError::NoFlight(name)),
-        Err(ViewFault::NoRunway(name)) => Err(RunError::NoRunway(name)),
-        Err(ViewFault::Memory) => Err(RunError::Common(CommonFault::Memory)),
+        Err(fault) => Err(view_error(fault)),
     }
 }
 

@@ -1,10 +1,13 @@
 use Rattle.std.proofs.Common.{sym, subst}
 use Rattle.std.proofs.lemmas.Result.{err_from_is_err_and}
 use Rattle.cdm_files.proofs.RunLemmas.{of_known, of_told}
+use Rattle.cdm_files.specs.declared.common_fault.CommonFault.TheVariants as common
+use Rattle.cdm_files.specs.declared.run_error.RunError.TheVariants as error
+use Rattle.cdm_feed.specs.Counts.{day_counts}
 use Rattle.cdm_feed.specs.Output.{HaveOneText, IsOutput}
 use Rattle.cdm_feed.specs.declared.runs.RunCounts.{RunCounts}
 use Rattle.cdm_feed.proofs.OutputLemmas.{one-output}
-use Rattle.cdm_feed.proofs.RunLemmas.{report-first, report-output}
+use Rattle.cdm_feed.proofs.RunLemmas.{report-first, report-output, same-error}
 use Rattle.cdm_feed.proofs.runs.run.Goals as goal
 
 pub returns-in_err-counted-clause-fault : goal.returns-in_err-counted-clause-fault
@@ -15,8 +18,14 @@ returns-in_err-counted-clause-fault g c =
 pub returns-clause-written : goal.returns-clause-written
 returns-clause-written g c =
     of_told _ _ _ c.in_ok-counted.ensures.written (λ x y z made.
-        (made.0, subst (λ (counts : RunCounts). IsOutput x y z made.0 counts) (sym c.of_day.ensures) (report-output x y z made.0 c.in_ok-counted.counted made.1), made.2))
+    (made.0, subst (λ (counts : RunCounts). IsOutput x y z made.0 counts) (sym c.of_day.ensures) (report-output x y z made.0 c.in_ok-counted.counted made.1), made.2))
 
 pub returns-clause-one : goal.returns-clause-one
 returns-clause-one g c = of_known HaveOneText (g.A.Read.remaining c.args.airport.now.inner) (g.F.Read.remaining c.args.feed.now.inner)
     (g.S.Read.remaining c.args.scenarios.now.inner) one-output
+
+pub returns-in_err-counted-clause-prefix : goal.returns-in_err-counted-clause-prefix
+returns-in_err-counted-clause-prefix g c =
+    let p = err_from_is_err_and c.from_residual.result c.from_residual.ensures.1 in
+    rw (p.1, p.2) (λ is. of_told _ _ _ (c.in_err-counted.ensures.prefix (same-error c.in_err-counted.field-0.0 (error.Common common.Write) is)) (λ x y z made.
+    (made.0, day_counts made.1, report-output x y z made.0 made.1 made.2, made.3, made.4)))
