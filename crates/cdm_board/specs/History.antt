@@ -1,5 +1,4 @@
--- What the calls of a board are, which histories are legal, and when a history is the merge of what the
--- desks hold.
+-- Calls of a board, legal histories, and when a history is the merge of what the desks hold.
 use Rattle.std.specs.Prelude.{ℕ, ◌+◌, ◌≤◌, ◌<◌, ◌==◌, if◌then◌else◌, List, [], ◌∷◌, ◌++◌, take, ◌≡◌, ◌≢◌, count_by, All, map}
 use Rattle.std.specs.List.{slice_get, range_with_len}
 use Rattle.cdm_flight.specs.declared.role.Role.{Role}

@@ -1,5 +1,6 @@
--- The exit statuses of faults: 3 where an input is refused or doesn't know what is asked for, 1 where a file can't be
--- opened, a device fails, memory is short or the board gives a wrong answer, 2 where the words name no command.
+-- The exit status of each fault, and of a run that has written its text.
+-- 3 where an input is refused or doesn't know what is asked for, 1 where a file can't be opened, a device fails, memory
+-- is short or the board gives a wrong answer, 2 where the words name no command.
 use Rattle.std.specs.Prelude.{ℕ, ◌==◌, if◌then◌else◌}
 use Rattle.cdm_feed.specs.declared.counted.Counted.{Counted}
 use Rattle.cdm_feed.specs.declared.counted.Counted.TheVariants as counted

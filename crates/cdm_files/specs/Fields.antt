@@ -1,5 +1,5 @@
--- What the fields of a record spell: a value, or the word that refuses it. A field that hasn't its
--- form is refused by TEXT, one out of its range by RANGE.
+-- What the fields of a record spell: a value, or the word that refuses it.
+-- A field that hasn't its form is refused by TEXT, one out of its range by RANGE.
 use Rattle.std.specs.Prelude.{ℕ, Bool, ◌&&◌, ◌==◌, not, nat_le, List, [], length, codes, bytes_eq, Option, Some, None, unwrap_or, Result, Ok, Err, if◌then◌else◌}
 use Rattle.std.specs.Option.{ok_or}
 use Rattle.std.specs.Result.{result_map_both}

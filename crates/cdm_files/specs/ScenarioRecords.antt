@@ -1,5 +1,4 @@
--- What a record of the scenario file spells: a scenario's name or an update, or the first word that
--- refuses it.
+-- What a record of the scenario file spells: a scenario, an update, or the first word that refuses it.
 use Rattle.std.specs.Prelude.{ℕ, ◌-◌, List, length, codes, bytes_eq, Result, if◌then◌else◌}
 use Rattle.cdm_time.specs.declared.calendar.CalendarDate.{CalendarDate}
 use Rattle.cdm_flight.specs.declared.word.RefusalWord.{RefusalWord}

@@ -1,4 +1,4 @@
--- What every airport keeps.
+-- What every airport keeps of its runways and its taxi rows.
 use Rattle.std.specs.Prelude.{◌≡◌, ℕ, ◌≤◌, true, List, length, map, is_some}
 use Rattle.std.specs.FinMap as map_of
 use Rattle.std.specs.List.{IsDistinct}

@@ -1,4 +1,4 @@
--- What a contract sees of a scenario.
+-- A scenario as contracts see it: its name and its updates.
 use Rattle.std.specs.Prelude.{ℕ, List, []}
 use Rattle.cdm_flight.specs.declared.update.Update.{Update}
 

@@ -1,4 +1,4 @@
--- A scenario has one answer.
+-- A scenario has one answer in each table.
 use Rattle.std.proofs.Common.{◌≡◌, ◌∙◌, ℕ, List, Result, Ok, Err, sym, ap, subst}
 use Rattle.std.specs.List.{IsDistinct}
 use Rattle.cdm_flight.specs.Names.{same_name}
