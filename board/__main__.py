@@ -4,6 +4,7 @@ import asyncio
 import contextlib
 import glob
 import importlib.util
+import logging
 import os
 import resource
 import shutil
@@ -252,6 +253,8 @@ def again(options: argparse.Namespace, board: Board, sealed: ssl.SSLContext | No
 def main() -> int:
     """The exit status."""
     options = words()
+    # Of malformed requests it would tell a traceback each; faults of the server's own are told by it.
+    logging.getLogger("aiohttp").setLevel(logging.CRITICAL)
     try:
         if options.what == "token":
             print("\n".join(new_token()))

@@ -98,7 +98,7 @@ class Events:
     def since(self, text: str | None) -> int | None:
         """The position of an event's id, None where it isn't of this log, or what follows isn't kept."""
         if text is None:
-            return self._last
+            return self._replies.moment.position
         log_id, _, position = text.strip('"').rpartition("-")
         is_kept = log_id == self._log_id and position.isdecimal() and len(position) < 10 and position.isascii()
         return int(position) if is_kept and self._first <= int(position) <= self._replies.moment.position else None
@@ -129,9 +129,10 @@ class Events:
 
     async def send(self, stream: Stream, since: int | None) -> None:
         """Sends until the display goes, or the server ends. Where too much came since, or it isn't kept, it gets `reset`."""
-        stream.sent, stream.total = self._last if since is None else since, self.total
+        now = self._replies.moment.position
+        stream.sent, stream.total = now if since is None else since, self.total
         is_reset = since is None or len(self._batch(stream)) > MOST_UNSENT // 2
-        stream.sent = self._last if is_reset else stream.sent
+        stream.sent = now if is_reset else stream.sent
         first = b"id: %s-%d\n%s\n" % (self._log_id.encode(), stream.sent, b"event: reset\ndata: {}\n" * is_reset)
         self.streams.add(stream)
         try:

@@ -22,7 +22,7 @@ class Guard(web.RequestHandler):
                          auto_decompress=False)
         self.access_logger = None
         self.guards, self.address, self.unread = guards, "", 0
-        self.is_stream = False
+        self.stream: asyncio.Task[object] | None = None
         # When the first byte of a request came that isn't whole; when a request came that isn't answered.
         self.since: float | None = None
         self.began: float | None = None
@@ -39,6 +39,8 @@ class Guard(web.RequestHandler):
 
     def connection_lost(self, exc: BaseException | None) -> None:
         super().connection_lost(exc)
+        if self.stream is not None:
+            self.stream.cancel()
         self.guards.all.discard(self)
         self.guards.of_address[self.address] -= 1
         if not self.guards.of_address[self.address]:
@@ -54,6 +56,11 @@ class Guard(web.RequestHandler):
         if self.unread > MOST_UNREAD or len(self._messages) > MOST_PIPELINED:
             self.cut()
 
+    def handle_error(self, request: web.BaseRequest, status: int = 500, exc: BaseException | None = None,
+                     message: str | None = None) -> web.StreamResponse:
+        """What is wrong before a request reaches the server's own code is the request's fault."""
+        return super().handle_error(request, 400, None, "the request is malformed")
+
     def cut(self) -> None:
         """Ends the connection, whatever is on the way."""
         if isinstance(self.transport, asyncio.Transport):
@@ -64,7 +71,7 @@ class Guard(web.RequestHandler):
         is_busy = self._waiter is None
         if not is_busy and self.since is not None and now - self.since > HEADERS:
             self.cut()
-        if is_busy and not self.is_stream and self.began is not None and now - self.began > ANSWER:
+        if is_busy and self.stream is None and self.began is not None and now - self.began > ANSWER:
             self.cut()
 
 

@@ -11,6 +11,7 @@ from collections.abc import Awaitable, Callable
 from dataclasses import dataclass, field
 from datetime import datetime, timezone
 from http import HTTPStatus
+from http.cookies import CookieError
 
 import prometheus_client
 from aiohttp import web
@@ -66,6 +67,8 @@ def problem_of(fault: Exception) -> Problem:
             return Problem(fault.status, fault.reason, None, **allow)
         case WrongLine():
             return Problem(400, fault.why, fault.line)
+        case CookieError():
+            return Problem(400, "the cookies aren't well-formed")
         case Forbidden():
             return Problem(403, str(fault), fault.line)
         case Refused():
@@ -339,13 +342,17 @@ class Board:
         desk: Desk = request["desk"]
         if not self.events.may_open(desk.name, desk.role == "READ"):
             raise Problem(429, "this desk has too many displays", Retry_After="5")
-        if isinstance(request.protocol, Guard):
-            request.protocol.is_stream = True
+        guard = request.protocol
+        assert isinstance(guard, Guard)
         if request.transport is not None and (own := request.transport.get_extra_info("socket")) is not None:
             own.setsockopt(socket.SOL_SOCKET, socket.SO_SNDBUF, 1 << 18)
         response = web.StreamResponse(headers={"Content-Type": "text/event-stream", "X-Accel-Buffering": "no"})
         since = self.events.since(request.query.get("since") or request.headers.get("Last-Event-ID"))
-        await self.events.send(Stream(desk.name, desk.role == "READ", response, request), since)
+        guard.stream = asyncio.current_task()
+        try:
+            await self.events.send(Stream(desk.name, desk.role == "READ", response, request), since)
+        finally:
+            guard.stream = None
         return response
 
     # The rest
