@@ -9,6 +9,7 @@ from collections.abc import Callable, Iterable
 from concurrent.futures import ThreadPoolExecutor
 from dataclasses import dataclass, field
 from typing import NamedTuple, Protocol, TypeVar
+from urllib.parse import quote
 
 MOST_RECORDS = 60_000
 T = TypeVar("T")
@@ -228,7 +229,7 @@ def read_log(path: str, board: str) -> tuple[bytes, list[Row]]:
     try:
         if not os.path.isfile(path):
             raise LogFault(f"{path} is no log")
-        database = sqlite3.connect(f"file:{path}?mode=ro", uri=True)
+        database = sqlite3.connect(f"file:{quote(path)}?mode=ro", uri=True)
         airport, = database.execute("SELECT airport FROM cdm_log WHERE board = ?", (board,)).fetchone()
         rows = database.execute(f"SELECT {', '.join(Row._fields)} FROM cdm_record WHERE board = ? ORDER BY position", (board,))
         return airport, [Row(*row) for row in rows]

@@ -8,15 +8,12 @@ slot of its own: its TSAT is its TOBT, and nothing holds it. It is no part of th
     standin.py why AIRPORT FEED FLIGHT [--scenarios FILE --scenario NAME] [--format json]
     standin.py check AIRPORT FEED --format json
     standin.py trace AIRPORT FEED --format json
-    standin.py serve AIRPORT JOURNAL --format json
-
-STANDIN_SLEEP: seconds that each answer to a question takes."""
+    standin.py serve AIRPORT JOURNAL --format json"""
 import fcntl
 import json
 import os
 import re
 import sys
-import time
 
 TIME = r"20\d\d-[01]\d-[0-3]\dT[0-2]\d:[0-5]\dZ"
 FORMS = {"flight": r"[A-Z0-9]{1,7}", "runway": r"[A-Z0-9]{1,3}", "stand": r"[A-Z0-9]{1,5}", "priority": r"\d", "time": TIME,
@@ -168,7 +165,6 @@ def main(words):
     if command == "serve":
         serve(*rest)
         return 0
-    time.sleep(float(os.environ.get("STANDIN_SLEEP", 0)))
     day = Day(rest[0])
     if command == "trace":
         for number, fields in enumerate(records(rest[1]), 1):

@@ -114,7 +114,7 @@ def test_what_is_forwarded_is_one_line(board):
 
 def test_an_answer_is_of_one_moment(board):
     """Records come while questions wait: each answer is the day's at the position that it names."""
-    server = board(environment={"STANDIN_SLEEP": "0.3"})
+    server = board(faulty="slow:0.3")
     server.post(["FLT,AB1,5"], Cdm_Role="AP")
 
     async def talk():
@@ -133,8 +133,8 @@ def test_an_answer_is_of_one_moment(board):
     for position, body in asyncio.run(talk()):
         if body.startswith(b'{"scenario"'):
             assert len(json.loads(body)["flights"]) == position == 1
-        elif body.startswith(b"DAY") and "standin" in server.environment["CDMSEQ"]:
-            assert body.count(b"\n") == 1 + position
+        else:
+            assert b"AB1" in body and position == 1
 
 
 def test_a_sequencer_that_ended_is_not_gone_on_with(board):
@@ -202,19 +202,18 @@ def test_what_comes_on_a_connection_is_bounded(board, what):
 
 def test_a_display_that_never_reads_is_cut_off(board):
     """1 MiB unsent is enough."""
-    server = board(options=[])
-    server.post([f"FLT,AB{number},5" for number in range(80)], Cdm_Role="AP")
+    server = board()
+    for role, line in (("AP", "FLT,AB{},5"), ("ATC", "RWY,AB{},27L"), ("AO", f"TOBT,AB{{}},{moment(400)}")):
+        server.post([line.format(number) for number in range(80)], Cdm_Role=role)
     before = server.memory()
     with socket.create_connection(("127.0.0.1", server.port)) as own:
         own.setsockopt(socket.SOL_SOCKET, socket.SO_RCVBUF, 4096)
         own.sendall(b"GET /v1/events HTTP/1.1\r\nHost: localhost\r\n\r\n")
         until(lambda: server.metric("cdm_displays") == 1)
-        for number in range(150):
-            word = ("CLOSE", "OPEN")[number % 2]
-            server.post([f"{word},27L,{moment(400)},{moment(460)}" for _ in range(2)], Cdm_Role="ATC")
-            server.post([f"TOBT,AB{number % 80},{moment(300 + number)}"] * 1, Cdm_Role="AO")
-            if server.metric("cdm_displays") == 0:
-                break
+        window, number = f"27L,{moment(400)},{moment(600)}", 0
+        while server.metric("cdm_displays") == 1 and number < 150:
+            server.post([f"CLOSE,{window}", f"OPEN,{window}"], Cdm_Role="ATC")
+            number += 1
         until(lambda: server.metric("cdm_displays") == 0)
     assert server.memory() < before + 40
 

@@ -88,21 +88,27 @@ def test_a_missing_package_is_named(files):
 
 def test_an_end_answers_what_waits(board):
     """TERM: what is in the log gets its reply, displays are told, status 0, and nothing is left in memory."""
-    server = board(environment={"STANDIN_SLEEP": "0"})
+    server = board()
     server.post(["FLT,AB1,5"], Cdm_Role="AP")
+    sequencer, = server.sequencers()
     with concurrent.futures.ThreadPoolExecutor(12) as pool:
         events = pool.submit(lambda: urllib.request.urlopen(f"http://127.0.0.1:{server.port}/v1/events", timeout=20).read())
         until(lambda: server.metric("cdm_displays") == 1)
+        os.kill(sequencer, signal.SIGSTOP)
         posts = [pool.submit(server.post, [f"FLT,F{number}X{line},5" for line in range(100)], None, f"k{number}", Cdm_Role=role)
                  for number, role in enumerate(("AP", "AO", "GH", "NM", "ATC"))]
-        time.sleep(0.05)
+        time.sleep(0.5)
+        server.process.send_signal(signal.SIGTERM)
+        time.sleep(0.3)
+        assert server.post(["FLT,LATE,5"], Cdm_Role="AP").status == 503
+        os.kill(sequencer, signal.SIGCONT)
         assert server.end() == 0
         assert events.result().endswith(b"event: end\ndata: {}\n\n")
-        answers = [post.result() for post in posts if not post.exception()]
+        answers = [post.result() for post in posts]
     log = server.start().records()
     for answer in answers:
-        assert isinstance(answer, list) or answer.status == 503
-        for reply in answer if isinstance(answer, list) else ():
+        assert len(answer) == 100
+        for reply in answer:
             assert {**log[reply["position"] - 1], "changes": 0} == {**reply, "changes": 0}
     left = [name for name in os.listdir("/dev/shm") if name.startswith(f"cdmboard-{json.loads(server.get('/v1/who').body)['log']}")]
     assert len(left) == 1

@@ -5,7 +5,6 @@ import json
 import socket
 import time
 
-import pytest
 from conftest import PROGRAM, moment, objects, until
 
 DESKS = {"gh": 'role = "GH"', "ap": 'role = "AP"', "screen": 'role = "READ"'}
@@ -68,14 +67,13 @@ def test_events(board):
 
 def test_a_record_that_changes_much_is_a_reset(board):
     server = board()
-    server.post([f"FLT,AB{number},5" for number in range(101)], Cdm_Role="AP")
-    if "standin" not in PROGRAM:
-        pytest.skip("the stand-in's CLOSE changes all Rows")
+    for role, line in (("AP", "FLT,AB{},5"), ("ATC", "RWY,AB{},27L"), ("AO", f"TOBT,AB{{}},{moment(400)}")):
+        server.post([line.format(number) for number in range(101)], Cdm_Role=role)
     with concurrent.futures.ThreadPoolExecutor(1) as pool:
         waiting = pool.submit(events, server, 1)
         until(lambda: server.metric("cdm_displays") == 1)
         time.sleep(0.2)
-        reply, = server.post([f"CLOSE,27L,{moment(400)},{moment(460)}"], Cdm_Role="ATC")
+        reply, = server.post([f"CLOSE,27L,{moment(400)},{moment(600)}"], Cdm_Role="ATC")
         assert len(reply["changes"]) == 101
         assert parsed(waiting.result()) == [("reset", reply["position"], {"position": reply["position"]})]
 
@@ -127,9 +125,7 @@ def test_questions_over_a_scenario(board):
 
 
 def test_one_running_question_a_desk_and_equal_ones_once(board):
-    if "standin" not in PROGRAM:
-        pytest.skip("the stand-in can be made slow")
-    server = board(DESKS, environment={"STANDIN_SLEEP": "0.4"})
+    server = board(DESKS, faulty="slow:0.4")
     server.post([f"FLT,AB{number},5" for number in range(30)], "ap")
     running = lambda: sum("why" in words for words in server.processes().values())
     with concurrent.futures.ThreadPoolExecutor(40) as pool:
@@ -147,8 +143,6 @@ def test_one_running_question_a_desk_and_equal_ones_once(board):
 
 
 def test_a_question_that_takes_too_long_is_ended(board):
-    if "standin" not in PROGRAM:
-        pytest.skip("the stand-in can be made slow")
     server = board(start=False)
     server.environment["CDMSEQ"] = str(server.folder / "slow")
     (server.folder / "slow").write_text(f'#!/bin/sh\ncase $1 in why) exec sleep 60;; esac\nexec {PROGRAM} "$@"\n')
