@@ -248,7 +248,7 @@ def again(options: argparse.Namespace, board: Board, sealed: ssl.SSLContext | No
     board.desks = desks
     for stream in list(board.events.streams):
         if stream.desk not in desks.by_name and (stream.desk or not desks.anyone_reads):
-            stream.cut()
+            stream.transport.abort()
 
 
 def main() -> int:

@@ -1,9 +1,8 @@
-"""Events: what each display gets, written together and at most ten times a second."""
+"""Events: what each display gets, written together and at most ten times a second, the same bytes to each."""
 import asyncio
 from collections import deque
+from dataclasses import dataclass, field
 from typing import NamedTuple
-
-from aiohttp import web
 
 from board.replies import KEPT, KEPT_BYTES, Replies, Reply
 from board.words import json_bytes
@@ -20,106 +19,90 @@ class Event(NamedTuple):
     text: bytes
 
 
+@dataclass(eq=False)
 class Stream:
-    """One display: up to where it has been sent, and what of that hasn't left this machine."""
+    """One display; `since` is the record up to which it had events when it came."""
+    desk: str
+    is_display: bool
+    transport: asyncio.Transport
+    since: int = 0
+    ended: asyncio.Event = field(default_factory=asyncio.Event)
 
-    def __init__(self, desk: str, is_display: bool, response: web.StreamResponse, request: web.Request) -> None:
-        self.desk, self.is_display, self.sent = desk, is_display, 0
-        self.response, self.request = response, request
-        self.total = 0
-
-    @property
-    def unsent(self) -> int:
-        """How many bytes the system hasn't taken."""
-        transport = self.request.transport
-        return transport.get_write_buffer_size() if isinstance(transport, asyncio.Transport) else 0
-
-    def cut(self) -> None:
-        """Cuts the display off."""
-        if isinstance(self.request.transport, asyncio.Transport):
-            self.request.transport.abort()
+    def write(self, text: bytes) -> None:
+        """A chunk of the answer. Who doesn't read is cut off."""
+        if self.transport.get_write_buffer_size() > MOST_UNSENT:
+            self.transport.abort()
+        elif text and not self.transport.is_closing():
+            self.transport.write(b"%x\r\n%s\r\n" % (len(text), text))
 
 
 class Events:
     """The last events, and all displays."""
 
     def __init__(self, log_id: str, replies: Replies) -> None:
-        self._log_id, self._replies = log_id, replies
+        self._log_id, self._replies = log_id.encode(), replies
         self._kept: deque[Event] = deque()
-        self._bytes = self.total = 0
-        self._first = self._last = replies.moment.position
-        self._batches: dict[tuple[int, str | None], bytes] = {}
-        self._flushed = asyncio.Event()
+        self._bytes = 0
+        # What came behind `first` is kept; what came up to `sent` has been written to all.
+        self._first = self._sent = replies.moment.position
         self._new = asyncio.Event()
         self.streams: set[Stream] = set()
-        self._ended = False
         replies.on_reply.append(self._add)
 
+    def _text(self, position: int, name: bytes, data: bytes) -> bytes:
+        return b"id: %s-%d\nevent: %s\ndata: %s\n\n" % (self._log_id, position, name, data)
+
     def _add(self, reply: Reply) -> None:
-        position = reply.row.position
-        name, data, desk = "reply", reply.text, None
+        position, name, data, desk = reply.row.position, b"reply", reply.text, None
         if reply.changes is None:
-            name, desk = "refused", reply.row.desk
+            name, desk = b"refused", reply.row.desk
         elif reply.changes > MOST_ROWS:
-            name, data = "reset", json_bytes({"position": position})
-        text = b"id: %s-%d\nevent: %s\ndata: %s\n\n" % (self._log_id.encode(), position, name.encode(), data)
-        self._kept.append(Event(position, desk, text))
-        self._bytes += len(text)
-        if desk is None:
-            self.total += len(text)
+            name, data = b"reset", json_bytes({"position": position})
+        self._kept.append(Event(position, desk, self._text(position, name, data)))
+        self._bytes += len(self._kept[-1].text)
         while len(self._kept) > KEPT or self._bytes > KEPT_BYTES:
             gone = self._kept.popleft()
-            self._bytes -= len(gone.text)
-            self._first = gone.position
+            self._first, self._bytes = gone.position, self._bytes - len(gone.text)
         self._new.set()
 
-    async def run(self) -> None:
-        """Wakes the displays when there is something new, at most ten times a second."""
-        while True:
-            await self._new.wait()
-            self._new.clear()
-            self._batches.clear()
-            self._last = self._replies.moment.position
-            for stream in list(self.streams):
-                if self.total - stream.total > MOST_UNSENT or stream.unsent > MOST_UNSENT:
-                    stream.cut()
-            self._wake()
-            await asyncio.sleep(PAUSE)
-
-    def _wake(self) -> None:
-        self._flushed.set()
-        self._flushed = asyncio.Event()
-
-    def end(self) -> None:
-        """Tells all displays that the server ends."""
-        self._ended = True
-        self._wake()
-
-    def since(self, text: str | None) -> int | None:
-        """The position of an event's id, None where it isn't of this log, or what follows isn't kept."""
-        if text is None:
-            return self._replies.moment.position
-        log_id, _, position = text.strip('"').rpartition("-")
-        is_kept = log_id == self._log_id and position.isdecimal() and len(position) < 10 and position.isascii()
-        return int(position) if is_kept and self._first <= int(position) <= self._replies.moment.position else None
-
-    def _batch(self, stream: Stream) -> bytes:
-        """What came for a display up to the last flush. The same bytes are made once."""
-        new = [event for event in self._after(stream.sent) if event.desk in (None, stream.desk)]
-        whose = stream.desk if any(event.desk is not None for event in new) else None
-        key = (stream.sent, whose)
-        if key not in self._batches:
-            self._batches[key] = b"".join(event.text for event in new)
-        return self._batches[key]
-
-    def _after(self, position: int) -> list[Event]:
-        found: list[Event] = []
+    def _after(self, position: int, desk: str | None) -> bytes:
+        """What a desk gets of what came behind a position; None for what all get."""
+        found = []
         for event in reversed(self._kept):
             if event.position <= position:
                 break
-            if event.position <= self._last:
-                found.append(event)
-        return found[::-1]
+            if event.desk in (None, desk):
+                found.append(event.text)
+        return b"".join(reversed(found))
+
+    async def run(self) -> None:
+        """Writes what is new to all, or a comment where nothing is."""
+        while True:
+            try:
+                async with asyncio.timeout(COMMENT):
+                    await self._new.wait()
+            except TimeoutError:
+                pass
+            is_new = self._new.is_set()
+            self._new.clear()
+            self._write(is_new)
+            await asyncio.sleep(PAUSE)
+
+    def _write(self, is_new: bool) -> None:
+        now, sent, is_lost = self._replies.moment.position, self._sent, self._first > self._sent
+        shared = self._after(sent, None) if is_new else b":\n\n"
+        shared = self._text(now, b"reset", b"{}") if is_lost else shared
+        own = {event.desk for event in self._kept if event.position > sent} if is_new and not is_lost else set()
+        for stream in list(self.streams):
+            is_own = not is_lost and (stream.desk in own or stream.since > sent)
+            stream.write(self._after(max(sent, stream.since), stream.desk) if is_own else shared)
+        self._sent = now
+
+    def end(self) -> None:
+        """Tells all displays that the server ends."""
+        for stream in self.streams:
+            stream.write(b"event: end\ndata: {}\n\n")
+            stream.ended.set()
 
     def may_open(self, desk: str, is_display: bool) -> bool:
         """Whether this desk may have one stream more."""
@@ -127,30 +110,15 @@ class Events:
             return sum(stream.is_display for stream in self.streams) < MOST_DISPLAYS
         return sum(stream.desk == desk for stream in self.streams) < MOST_OF_DESK
 
-    async def send(self, stream: Stream, since: int | None) -> None:
-        """Sends until the display goes, or the server ends. Where too much came since, or it isn't kept, it gets `reset`."""
-        now = self._replies.moment.position
-        stream.sent, stream.total = now if since is None else since, self.total
-        is_reset = since is None or len(self._batch(stream)) > MOST_UNSENT // 2
-        stream.sent = now if is_reset else stream.sent
-        first = b"id: %s-%d\n%s\n" % (self._log_id.encode(), stream.sent, b"event: reset\ndata: {}\n" * is_reset)
+    def open(self, stream: Stream, since: str | None) -> None:
+        """Begins with what came since an event; with `reset` where that isn't of this log, isn't kept, or is too much."""
+        now = stream.since = self._replies.moment.position
+        log_id, _, position = (since or "").strip('"').rpartition("-")
+        if since is None:
+            stream.write(b"id: %s-%d\n\n" % (self._log_id, now))
+        elif (log_id.encode() == self._log_id and position.isascii() and position.isdecimal() and len(position) < 10
+              and self._first <= int(position) <= now and len(missed := self._after(int(position), stream.desk)) < MOST_UNSENT // 2):
+            stream.write(b"id: %s-%d\n\n" % (self._log_id, int(position)) + missed)
+        else:
+            stream.write(self._text(now, b"reset", b"{}"))
         self.streams.add(stream)
-        try:
-            await stream.response.prepare(stream.request)
-            await stream.response.write(first)
-            while not self._ended and stream.sent >= self._first:
-                flushed, text = self._flushed, self._batch(stream)
-                stream.sent, stream.total = max(stream.sent, self._last), self.total
-                if text:
-                    await stream.response.write(text)
-                    continue
-                try:
-                    async with asyncio.timeout(COMMENT):
-                        await flushed.wait()
-                except TimeoutError:
-                    await stream.response.write(b":\n\n")
-            await stream.response.write(b"event: end\ndata: {}\n\n" * self._ended)
-        except ConnectionError:
-            pass
-        finally:
-            self.streams.discard(stream)

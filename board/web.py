@@ -14,7 +14,7 @@ from http import HTTPStatus
 from http.cookies import CookieError
 
 import prometheus_client
-from aiohttp import web
+from aiohttp import HttpVersion11, web
 
 from board.answers import Answers, Busy, Question
 from board.desks import SESSION, Desk, Desks, Forbidden
@@ -342,17 +342,21 @@ class Board:
         desk: Desk = request["desk"]
         if not self.events.may_open(desk.name, desk.role == "READ"):
             raise Problem(429, "this desk has too many displays", Retry_After="5")
-        guard = request.protocol
-        assert isinstance(guard, Guard)
-        if request.transport is not None and (own := request.transport.get_extra_info("socket")) is not None:
-            own.setsockopt(socket.SOL_SOCKET, socket.SO_SNDBUF, 1 << 18)
-        response = web.StreamResponse(headers={"Content-Type": "text/event-stream", "X-Accel-Buffering": "no"})
-        since = self.events.since(request.query.get("since") or request.headers.get("Last-Event-ID"))
-        guard.stream = asyncio.current_task()
+        if request.version < HttpVersion11:
+            raise Problem(505, "events come in chunks")
+        guard, transport = request.protocol, request.transport
+        assert isinstance(guard, Guard) and isinstance(transport, asyncio.Transport)
+        transport.get_extra_info("socket").setsockopt(socket.SOL_SOCKET, socket.SO_SNDBUF, 1 << 18)
+        response = web.StreamResponse(headers={"Content-Type": "text/event-stream", "Cache-Control": "no-store", "X-Accel-Buffering": "no"})
+        response.enable_chunked_encoding()
+        await response.prepare(request)
+        stream, guard.stream = Stream(desk.name, desk.role == "READ", transport), asyncio.current_task()
         try:
-            await self.events.send(Stream(desk.name, desk.role == "READ", response, request), since)
+            self.events.open(stream, request.query.get("since") or request.headers.get("Last-Event-ID"))
+            await stream.ended.wait()
         finally:
             guard.stream = None
+            self.events.streams.discard(stream)
         return response
 
     # The rest
