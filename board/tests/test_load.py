@@ -110,6 +110,10 @@ def test_memory_after_displays_and_records(board):
     after, number, took = server.memory(), 0, count("BOARD_DAY", 2000)
     while number < took:
         answer = server.post([f"TOBT,AB{k % 200},{moment(300 + k % 900)}" for k in range(number, number + 50)], f"gh-{number // 50 % 16}")
-        number += 50 if isinstance(answer, list) else 0
+        if isinstance(answer, list):
+            number += 50
+        else:
+            assert answer.status == 429
+            time.sleep(0.05)
     figure(f"Memory: {before:.0f} MiB, {after:.0f} MiB after {come} displays came and went, {server.memory():.0f} MiB after {number} records")
     assert after < before + 30 and server.memory() < before + 60 + took / 200
