@@ -106,7 +106,7 @@ async def opened(options: argparse.Namespace) -> SqliteLog:
     if options.log.startswith("postgresql:"):
         raise Wrong("this server keeps its log in a file")
     version = (await asked("--version")).decode("ascii", "replace").strip()
-    return await SqliteLog.open(options.log, options.board, read(options.airport), version)
+    return await SqliteLog.open(os.path.realpath(options.log), options.board, read(options.airport), version)
 
 
 async def take_in(options: argparse.Namespace) -> None:
@@ -232,7 +232,6 @@ async def run(options: argparse.Namespace, board: Board, day: str, host: str, po
             task.cancel()
         await asyncio.gather(*tasks, return_exceptions=True)
         await board.answers.close()
-        await board.log.close()
         await manager.shutdown(2)
         await runner.cleanup()
 

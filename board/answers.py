@@ -86,7 +86,7 @@ class Answers:
             del self._kept[kept]
         if question.accepted == now and question.scenarios is None and question.last is None:
             self._kept[question] = answer
-        while sum(len(answer.output) for answer in self._kept.values()) > KEPT_BYTES:
+        while len(self._kept) > MOST_WAITING or sum(len(answer.output) for answer in self._kept.values()) > KEPT_BYTES:
             self._kept.popitem(last=False)
 
     async def close(self) -> None:

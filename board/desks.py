@@ -7,7 +7,7 @@ import secrets
 import stat
 import time
 import tomllib
-from collections.abc import Iterable
+from collections.abc import Callable, Iterable
 from dataclasses import dataclass, field
 from datetime import datetime, timedelta
 
@@ -17,6 +17,14 @@ DESK = re.compile(r"[A-Za-z0-9-]{1,32}")
 TOKEN = re.compile(r"sha256:[0-9a-f]{64}")
 OWN = ("clock", "import")
 SESSION = 12 * 3600
+# What stands in a desk's table, by name: what is right, and that in words.
+FORMS: dict[str, tuple[Callable[[object], bool], str]] = {
+    "role": (lambda said: said in (*ROLES, "READ"), "one of AO, GH, AP, ATC, NM, READ"),
+    "token": (lambda said: isinstance(said, list) and all(isinstance(token, str) and TOKEN.fullmatch(token) for token in said),
+              '"sha256:" and 64 of 0-9a-f, or a list of such; ./cdmboard token makes one'),
+    "records": (lambda said: type(said) is int and said >= 0, "a number"),
+    "flights": (lambda said: isinstance(said, list) and all(isinstance(name, str) and name for name in said), "a list of how names begin"),
+    "clock": (lambda said: isinstance(said, bool), "true or false")}
 AHEAD = timedelta(minutes=5)
 
 
@@ -46,7 +54,7 @@ class Desk:
     def check(self, lines: Iterable[str], kinds: Kinds, now: datetime) -> None:
         """Raises Forbidden where one of the lines isn't this desk's to send."""
         if self.role not in ROLES:
-            raise Forbidden(f"{self.name} is a display: it sends no records")
+            raise Forbidden("who only reads sends no records")
         for number, line in enumerate(lines, 1):
             if self.flights is not None:
                 flight = kinds.flight_of(line)
@@ -107,26 +115,19 @@ class Desks:
 
     @staticmethod
     def _desk(path: str, name: str, table: object) -> Desk:
-        def wrong(why: str) -> WrongDesks:
-            return WrongDesks(f"{path}: desk {name!a}: {why}")
+        told = table if isinstance(table, dict) else {}
+        tokens = told.get("token", [])
+        told["token"] = tokens if isinstance(tokens, list) else [tokens]
         if not DESK.fullmatch(name) or name in OWN:
-            raise wrong("a desk has 1 to 32 of A-Z, a-z, 0-9 and -, and isn't clock or import")
-        if not isinstance(table, dict) or not set(table) <= {"role", "token", "records", "flights", "clock"}:
-            raise wrong("it has role, token, records, flights and clock alone")
-        role, tokens = table.get("role"), table.get("token")
-        if role not in (*ROLES, "READ"):
-            raise wrong("role is one of AO, GH, AP, ATC, NM, READ")
-        tokens = tokens if isinstance(tokens, list) else [tokens]
-        if not tokens or not all(isinstance(token, str) and TOKEN.fullmatch(token) for token in tokens):
-            raise wrong('token is "sha256:" and 64 of 0-9a-f, or a list of such; ./cdmboard token makes one')
-        records = table.get("records", 20_000 if role in ("ATC", "NM") else 2000)
-        flights, clock = table.get("flights"), table.get("clock", False)
-        if type(records) is not int or records < 0 or not isinstance(clock, bool):
-            raise wrong("records is a number, clock is true or false")
-        if flights is not None and not (isinstance(flights, list) and all(isinstance(f, str) and f for f in flights)):
-            raise wrong("flights is a list of how names begin")
-        digests = tuple(bytes.fromhex(token.removeprefix("sha256:")) for token in tokens)
-        return Desk(name, role, digests, records, None if flights is None else tuple(flights), clock)
+            raise WrongDesks(f"{path}: a desk has 1 to 32 of A-Z, a-z, 0-9 and -, and isn't clock or import: {name!a}")
+        for word, (is_right, form) in FORMS.items():
+            if word in told and not is_right(told[word]) or word in ("role", "token") and not told.get(word):
+                raise WrongDesks(f"{path}: desk {name}: {word} is {form}")
+        if not set(told) <= set(FORMS):
+            raise WrongDesks(f"{path}: desk {name} has {', '.join(FORMS)} alone")
+        return Desk(name, told["role"], tuple(bytes.fromhex(token.removeprefix("sha256:")) for token in told["token"]),
+                    told.get("records", 20_000 if told["role"] in ("ATC", "NM") else 2000),
+                    tuple(told["flights"]) if "flights" in told else None, told.get("clock", False))
 
     def by_token(self, token: str) -> Desk | None:
         """The desk of a token. All are compared, in constant time."""

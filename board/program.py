@@ -23,7 +23,7 @@ async def run(words: tuple[str, ...], folder: str, seconds: float | None = SECON
     """Runs a program in a folder, at nice 10. Raises TooSlow."""
     process = await asyncio.create_subprocess_exec(
         "/usr/bin/nice", "-n", "10", *words, cwd=folder, stdin=asyncio.subprocess.DEVNULL,
-        stdout=asyncio.subprocess.PIPE, stderr=asyncio.subprocess.PIPE)
+        stdout=asyncio.subprocess.PIPE, stderr=asyncio.subprocess.PIPE, start_new_session=True)
     assert process.stdout is not None and process.stderr is not None
     try:
         async with asyncio.timeout(seconds):

@@ -67,7 +67,7 @@ class Sequencer:
         program.write(journal, self._replies.lines)
         process = await asyncio.create_subprocess_exec(
             *self._words, "serve", "airport.csv", journal, "--format", "json", cwd=self._folder,
-            stdin=asyncio.subprocess.PIPE, stdout=asyncio.subprocess.PIPE, limit=MOST_REPLY)
+            stdin=asyncio.subprocess.PIPE, stdout=asyncio.subprocess.PIPE, limit=MOST_REPLY, start_new_session=True)
         assert process.stdin is not None and process.stdout is not None
         ended, asked = asyncio.create_task(process.wait()), 0
         try:
@@ -139,7 +139,7 @@ class Sequencer:
     async def _end(self, process: asyncio.subprocess.Process, ended: "asyncio.Task[int]") -> None:
         assert process.stdin is not None
         process.stdin.close()
-        if not self._stopping.is_set() and process.returncode is None:
+        if not self._stopping.is_set() and not ended.done():
             process.kill()
         try:
             async with asyncio.timeout(SECONDS):

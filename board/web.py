@@ -281,14 +281,21 @@ class Board:
         return desk.name or self.address(request)
 
     def of_moment(self, request: web.Request, moment: Moment, kind: str, body: bytes) -> web.Response:
-        """An answer about the day at one moment."""
-        response = web.Response(body=body, content_type=kind, zlib_executor_size=1 << 14)
-        response.headers.update(self.tags(moment))
+        """An answer about the day at one moment, or that it is the one that who asks has."""
+        if self.has(request, moment):
+            return web.Response(status=304, headers=self.tags(moment))
+        response = web.Response(body=body, content_type=kind, zlib_executor_size=1 << 14, headers=self.tags(moment))
         if len(body) > 1024 and "gzip" in request.headers.get("Accept-Encoding", ""):
             response.enable_compression(web.ContentCoding.gzip)
         return response
 
+    def has(self, request: web.Request, moment: Moment) -> bool:
+        """Whether who asks has the answer of this moment already."""
+        asked = request.headers.get("If-None-Match", "").removeprefix("W/")
+        return request.method == "GET" and asked == self.tags(moment)["ETag"]
+
     def tags(self, moment: Moment) -> dict[str, str]:
+        """The headers that say which moment it is."""
         return {"Cdm-Position": str(moment.position), "ETag": f'"{self.log.id}-{moment.position}"', "Vary": "Accept, Accept-Encoding"}
 
     async def question(self, request: web.Request) -> web.StreamResponse:
@@ -303,8 +310,8 @@ class Board:
         wanted = asked[3] or next((name for name in formats if is_post and name != "text" and name in accept), formats[0])
         if wanted not in formats or (wanted == "text" and asked[3]) or (wanted == "svg" and not asked[3]):
             raise Problem(404, f"{command} has no such format")
-        if not is_post and request.headers.get("If-None-Match", "").removeprefix("W/") == self.tags(moment)["ETag"]:
-            return web.Response(status=304, headers=self.tags(moment))
+        if self.has(request, moment):
+            return self.of_moment(request, moment, TEXT, b"")
         scenarios = await self.body(request) if is_post else None
         words = self._words(request, command, (asked[2] or "").removeprefix("/"), wanted, is_post)
         moment = self.replies.moment
@@ -406,7 +413,7 @@ class Board:
             web.post("/v1/records", self.post_records), web.get("/v1/records", self.get_records),
             web.get(r"/v1/records/{position:[0-9]{1,9}}/sentence", self.sentence),
             web.post("/v1/session", self.post_session), web.delete("/v1/session", self.delete_session),
-            web.get("/v1/who", self.who), web.get("/v1/events", self.get_events), web.get("/v1/kinds", self.file),
+            web.get("/v1/who", self.who), web.get("/v1/events", self.get_events, allow_head=False), web.get("/v1/kinds", self.file),
             web.get("/v1/airport.csv", self.file), web.get("/v1/journal.csv", self.file),
             web.get(question, self.question), web.post(question, self.question),
             web.get("/health", self.health), web.get("/metrics", self.metrics),

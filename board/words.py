@@ -2,7 +2,6 @@
 import json
 import re
 from datetime import datetime, timezone
-from typing import NamedTuple
 
 MOST_LINES = 256
 MOST_BYTES = 100
@@ -62,27 +61,19 @@ def json_bytes(value: object) -> bytes:
     return json.dumps(value, separators=(",", ":")).encode("ascii")
 
 
-class Kind(NamedTuple):
-    """A kind of record, of the program's own table."""
-    kind: str
-    of: str
-    roles: tuple[str, ...]
-
-
 class Kinds:
     """The program's table of kinds, by `cdmseq kinds --format json`: one object a line with `kind`, `of` and `roles`."""
 
     def __init__(self, text: bytes) -> None:
-        self.text = text
-        rows = [json.loads(line) for line in text.splitlines()]
-        self.kinds = {row["kind"]: Kind(row["kind"], row["of"], tuple(row["roles"])) for row in rows}
+        self.text, rows = text, [json.loads(line) for line in text.splitlines()]
+        self._roles = {row["kind"]: row["roles"] for row in rows}
+        self._with_flight = {row["kind"] for row in rows if row["of"] == "flight"}
 
     def flight_of(self, line: str) -> str | None:
         """The flight of a record, which is its second field; None where its kind has none."""
         kind, _, rest = line.partition(",")
-        known = self.kinds.get(kind)
-        return rest.partition(",")[0] if known is not None and known.of == "flight" else None
+        return rest.partition(",")[0] if kind in self._with_flight else None
 
     def of_role(self, role: str) -> list[str]:
         """The kinds that a role may send."""
-        return [kind.kind for kind in self.kinds.values() if role in kind.roles]
+        return [kind for kind, roles in self._roles.items() if role in roles]
