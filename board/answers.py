@@ -9,7 +9,7 @@ from typing import NamedTuple
 from board import program
 from board.replies import Replies
 
-MOST_WAITING, MOST_OF_ONE, KEPT_BYTES = 256, 8, 32 << 20
+MOST_OF_ONE, MOST_NAMELESS, KEPT, KEPT_BYTES = 16, 64, 256, 32 << 20
 
 
 class Busy(Exception):
@@ -38,13 +38,13 @@ class Answers:
         self._numbers = itertools.count(1)
 
     async def ask(self, desk: str, question: Question) -> program.Ran:
-        """The program's answer. Raises Busy and program.TooSlow."""
+        """The program's answer. A desk whose name begins with @ is an address without a name. Raises Busy and program.TooSlow."""
         kept = self._kept.get(question)
         if kept is not None:
             return kept
         if question not in self._running:
-            if self._waiting[desk] >= MOST_OF_ONE or len(self._running) >= MOST_WAITING:
-                raise Busy("questions of this desk wait already")
+            if self._waiting[desk] >= MOST_OF_ONE or desk[0] == "@" and len(self._running) >= MOST_NAMELESS:
+                raise Busy("too many questions wait already")
             self._running[question] = asyncio.create_task(self._answer(desk, question))
         return await asyncio.shield(self._running[question])
 
@@ -86,7 +86,7 @@ class Answers:
             del self._kept[kept]
         if question.accepted == now and question.scenarios is None and question.last is None:
             self._kept[question] = answer
-        while len(self._kept) > MOST_WAITING or sum(len(answer.output) for answer in self._kept.values()) > KEPT_BYTES:
+        while len(self._kept) > KEPT or sum(len(answer.output) for answer in self._kept.values()) > KEPT_BYTES:
             self._kept.popitem(last=False)
 
     async def close(self) -> None:

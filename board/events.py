@@ -85,15 +85,17 @@ class Events:
                 pass
             is_new = self._new.is_set()
             self._new.clear()
-            self._write(is_new)
+            await self._write(is_new)
             await asyncio.sleep(PAUSE)
 
-    def _write(self, is_new: bool) -> None:
+    async def _write(self, is_new: bool) -> None:
         now, sent, is_lost = self._replies.moment.position, self._sent, self._first > self._sent
         shared = self._after(sent, None) if is_new else b":\n\n"
         shared = self._text(now, b"reset", b"{}") if is_lost else shared
         own = {event.desk for event in self._kept if event.position > sent} if is_new and not is_lost else set()
-        for stream in list(self.streams):
+        for number, stream in enumerate(list(self.streams)):
+            if number % 200 == 199:
+                await asyncio.sleep(0)
             is_own = not is_lost and (stream.desk in own or stream.since > sent)
             stream.write(self._after(max(sent, stream.since), stream.desk) if is_own else shared)
         self._sent = now

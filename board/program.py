@@ -16,7 +16,7 @@ class Ran(NamedTuple):
 
 
 class TooSlow(Exception):
-    """A run that took too long, or printed too much, and was ended."""
+    """A run that took too long, or printed too much, and so was ended."""
 
 
 async def run(words: tuple[str, ...], folder: str, seconds: float | None = SECONDS) -> Ran:
@@ -40,12 +40,11 @@ async def run(words: tuple[str, ...], folder: str, seconds: float | None = SECON
 
 
 async def _most(stream: asyncio.StreamReader, most: int) -> bytes:
-    """All of a stream, if it isn't more than that."""
+    """All of a stream. Who prints more waits until its time is over."""
     try:
-        await stream.readexactly(most)
+        return await stream.readexactly(most)
     except asyncio.IncompleteReadError as end:
         return end.partial
-    raise TooSlow("the program printed too much")
 
 
 def write(path: str, lines: list[str]) -> None:

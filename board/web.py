@@ -17,10 +17,10 @@ import prometheus_client
 from aiohttp import HttpVersion11, web
 
 from board.answers import Answers, Busy, Question
-from board.desks import SESSION, Desk, Desks, Forbidden
+from board.desks import DESK, SESSION, Desk, Desks, Forbidden
 from board.events import Events, Stream
 from board.guard import BODY, Guard, is_loopback
-from board.log import Batch, Log, LogFault, Refused, Row
+from board.log import MOST_RECORDS, Batch, Log, LogFault, Refused, Row
 from board.program import TooSlow
 from board.replies import Moment, Replies
 from board.sequencer import Sequencer
@@ -172,6 +172,8 @@ class Board:
                 return await request.read()
         except TimeoutError:
             raise Problem(408, "the body took too long") from None
+        except web.RequestPayloadError:
+            raise Problem(400, "the body is malformed") from None
 
     async def post_session(self, request: web.Request) -> web.Response:
         """A cookie for who has a token."""
@@ -179,7 +181,7 @@ class Board:
             said = await request.json() if len(await self.body(request)) else None
             name, token = said["desk"], said["token"]
             desk = self.desks.by_token(token)
-        except (ValueError, TypeError, KeyError, AttributeError, LookupError):
+        except (ValueError, TypeError, AttributeError, LookupError, RecursionError):
             raise Problem(400, 'the body is {"desk":"..","token":".."}') from None
         if desk is None or desk.name != name:
             raise Problem(401, "wrong desk or token", WWW_Authenticate="Bearer")
@@ -251,14 +253,15 @@ class Board:
     async def get_records(self, request: web.Request) -> web.Response:
         """The log, with the replies."""
         moment, flight, desk = self.replies.moment, request.query.get("flight"), request.query.get("desk")
-        if not re.fullmatch("[0-9]{1,9}", since := request.query.get("since", "0")):
-            raise Problem(400, "since is a position")
-        if flight is None:
-            rows = await self.log.rows(int(since), MOST_ROWS, desk)
+        if not re.fullmatch("[0-9]{1,9}", since := request.query.get("since", "0")) or desk is not None and not DESK.fullmatch(desk):
+            raise Problem(400, "since is a position, desk is a desk's name")
+        if flight is None or desk is not None:
+            rows = await self.log.rows(int(since), MOST_ROWS if flight is None else MOST_RECORDS, desk)
         else:
             positions = [position for position in self.replies.flights.get(flight, ()) if position > int(since)]
-            rows = [row for row in await self.log.at(positions[:MOST_ROWS]) if desk in (None, row.desk)]
-        return self.of_moment(request, moment, JSON, b"".join(self._texts([row for row in rows if row.position <= moment.position])))
+            rows = await self.log.at(positions[:MOST_ROWS])
+        told = [row for row in rows if flight in (None, self.kinds.flight_of(row.line)) and row.position <= moment.position]
+        return self.of_moment(request, moment, JSON, b"".join(self._texts(told[:MOST_ROWS])))
 
     async def sentence(self, request: web.Request) -> web.Response:
         """Why a record is refused, in words: what `check` says of it behind the records that were accepted before."""
@@ -278,7 +281,7 @@ class Board:
 
     def _asker(self, request: web.Request) -> str:
         desk: Desk = request["desk"]
-        return desk.name or self.address(request)
+        return desk.name or f"@{self.address(request)}"
 
     def of_moment(self, request: web.Request, moment: Moment, kind: str, body: bytes) -> web.Response:
         """An answer about the day at one moment, or that it is the one that who asks has."""

@@ -86,8 +86,8 @@ def test_a_cookie_is_of_one_desk_and_ends(server):
         assert server.get("/v1/who", Cookie=f"{name}={wrong}").status == 401, wrong
     for body in ('{"desk":"ap","token":"token-atc"}', '{"desk":"ap","token":"x"}'):
         assert server.request("POST", "/v1/session", body).status == 401
-    for body in ("", "[]", "{", '{"desk":"ap"}', '{"desk":1,"token":2}', "\xff"):
-        assert server.request("POST", "/v1/session", body).status == 400
+    for body in ("", "[]", "{", '{"desk":"ap"}', '{"desk":1,"token":2}', "\xff", "[" * 60_000, '{"desk":"ap","token":"\\ud800"}'):
+        assert server.request("POST", "/v1/session", body).status == 400, body
     # A new token ends what was signed by the old one.
     text = (server.folder / "desks.toml").read_text()
     server.write_desks({name: table for name, table in DESKS.items() if name != "ap"})
@@ -123,7 +123,7 @@ def test_random_bodies_and_headers(server, chance):
     names = [b"Host", b"Origin", b"Cookie", b"Content-Length", b"Transfer-Encoding", b"Idempotency-Key", b"Cdm-After", b"Cdm-Role", b"Upgrade",
              b"Content-Encoding", b"Last-Event-ID", b"If-None-Match", b"X-Forwarded-For", b"Expect", b"Connection", b"Range", b"Accept"]
     paths = [b"/v1/records", b"/v1/session", b"/v1/plan", b"/v1/what-if", b"/v1/why/DLH1?scenario=X", b"/v1/records?since=", b"/v1/records/1/sentence",
-             b"/", b"/metrics", b"/v1/who", b"/v1/compare/X", b"/v1/records?flight=DLH1&desk=ap", b"*", b"http://localhost/v1/plan"]
+             b"/", b"/metrics", b"/v1/who", b"/v1/compare/X", b"/v1/records?flight=DLH1&desk=ap", b"*", b"/v1/records?desk=\xff\xfe", b"/v1/records?desk=%ff%00", b"/v1/why/\xff", b"/\xff", b"http://localhost/v1/plan"]
     good, seen = b"FLT,DLH%d,5", {}
     for number in range(count("BOARD_RANDOM", 2000)):
         is_good = chance.random() < 0.02

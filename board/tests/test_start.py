@@ -9,7 +9,7 @@ import time
 import urllib.request
 
 import pytest
-from conftest import AIRPORT, PROGRAM, ROOT, moment, objects, until
+from conftest import AIRPORT, PROGRAM, ROOT, figure, moment, objects, until
 
 ENVIRONMENT = dict(os.environ, CDMSEQ=PROGRAM)
 DESKS = {"ap": 'role = "AP"', "screen": 'role = "READ"'}
@@ -131,6 +131,22 @@ def test_import_and_export(files, board):
         feed.write_text(text)
         ended = cdmboard("import", files / "airport.csv", files / "new.db", feed)
         assert ended.returncode == 3 and told in ended.stderr
+
+
+def test_the_last_updates_are_the_tower_s(files, board):
+    """From 18,000 accepted updates on. Such a day is ready soon."""
+    feed = files / "feed.csv"
+    feed.write_text("".join(f"AP,FLT,F{number},5\n" for number in range(2000)) + "".join(
+        f"AO,TOBT,F{number % 2000},{moment(300 + number % 1000)}\n" for number in range(15_999)))
+    server = board(start=False)
+    assert cdmboard("import", server.airport, server.log, feed).returncode == 0
+    began = time.monotonic()
+    server.start()
+    figure(f"Start: a day of 17,999 updates is ready in {time.monotonic() - began:.1f} s")
+    assert server.post([f"TOBT,F1,{moment(400)}"], Cdm_Role="AO", key="last")[0]["accepted"] == 18_000
+    assert [server.post(["TOBT,F1," + moment(400)], Cdm_Role=role).status for role in ("AO", "GH", "NM", "AP")] == [403] * 4
+    assert server.post([f"TOBT,F1,{moment(400)}"], Cdm_Role="AO", key="last")[0]["accepted"] == 18_000
+    assert server.post(["PRIO,F1,2"], Cdm_Role="ATC")[0]["accepted"] == 18_001
 
 
 def test_the_clock_is_taken(board):

@@ -5,7 +5,7 @@ import json
 import socket
 import time
 
-from conftest import PROGRAM, moment, objects, until
+from conftest import PROGRAM, ROOT, moment, objects, until
 
 DESKS = {"gh": 'role = "GH"', "ap": 'role = "AP"', "screen": 'role = "READ"'}
 
@@ -125,18 +125,18 @@ def test_questions_over_a_scenario(board):
 
 
 def test_one_running_question_a_desk_and_equal_ones_once(board):
-    server = board(DESKS, faulty="slow:0.4")
-    server.post([f"FLT,AB{number},5" for number in range(30)], "ap")
+    server = board(DESKS, faulty="slow:0.2")
+    server.post([f"FLT,AB{number},5" for number in range(40)], "ap")
     running = lambda: sum("why" in words for words in server.processes().values())
-    with concurrent.futures.ThreadPoolExecutor(40) as pool:
-        asked = [pool.submit(server.get, f"/v1/why/AB{number}", "gh") for number in range(20)]
+    with concurrent.futures.ThreadPoolExecutor(60) as pool:
+        asked = [pool.submit(server.get, f"/v1/why/AB{number}", "gh") for number in range(40)]
         same = [pool.submit(server.get, "/v1/why/AB0", "ap") for _ in range(10)]
         until(lambda: running() >= 1)
         most = max((running(), time.sleep(0.05))[0] for _ in range(8))
         statuses = [answer.result().status for answer in asked]
         began = time.monotonic()
         assert {answer.result().status for answer in same} == {200} and most <= 2
-    assert statuses.count(429) >= 1 and statuses.count(200) == 20 - statuses.count(429) >= 8
+    assert statuses.count(429) >= 1 and statuses.count(200) == 40 - statuses.count(429) >= 16
     # Asked again at the same moment it is there already.
     began = time.monotonic()
     assert server.get("/v1/why/AB0", "screen").status == 200 and time.monotonic() - began < 0.3
@@ -178,3 +178,11 @@ def test_too_much_is_429(board):
     assert len(server.post(["FOO"], "ap1")) == 1
     assert server.post(["FOO"] * 257, "ap1").status == 400
     assert server.post(b"FOO\n" * 17_000, "ap1").status == 413
+
+
+def test_the_page_s_files(board):
+    """Those of the folder page/, with the policy that lets nothing in from elsewhere."""
+    answer, page = board().get("/"), ROOT / "board" / "page" / "index.html"
+    assert answer.status == (200 if page.exists() else 404)
+    assert answer.headers["Content-Security-Policy"].startswith("default-src 'self'")
+    assert not page.exists() or answer.body == page.read_bytes()
