@@ -37,12 +37,12 @@ SEQUENCER = (os.environ.get("CDMSEQ", ""),)
 MEMORY = "/dev/shm" if os.path.isdir("/dev/shm") else None
 
 
-class Wrong(Exception):
-    """Words of the command line that can't be used together."""
+class Ending(Exception):
+    """What ends the server, and its exit status."""
 
-
-class Broken(Exception):
-    """What ended a server that had started."""
+    def __init__(self, status: int, why: object) -> None:
+        super().__init__(why)
+        self.status = status
 
 
 def tell(text: object) -> None:
@@ -104,7 +104,7 @@ def read(path: str) -> bytes:
 
 async def opened(options: argparse.Namespace) -> SqliteLog:
     if options.log.startswith("postgresql:"):
-        raise Wrong("this server keeps its log in a file")
+        raise Ending(2, "this server keeps its log in a file")
     version = (await asked("--version")).decode("ascii", "replace").strip()
     return await SqliteLog.open(os.path.realpath(options.log), options.board, read(options.airport), version)
 
@@ -129,7 +129,7 @@ async def take_in(options: argparse.Namespace) -> None:
 async def give_out(options: argparse.Namespace) -> None:
     """`export`: the accepted records, or all."""
     airport, rows = read_log(options.log, options.board)
-    with folder_of("export", airport) as folder:
+    with folder_of(f"export{os.getpid()}", airport) as folder:
         _, refused = await words_of(SEQUENCER, folder, [(row.role, row.line) for row in rows])
     for row in rows:
         word = refused.get(row.position)
@@ -141,7 +141,7 @@ async def give_out(options: argparse.Namespace) -> None:
 
 
 def listening(options: argparse.Namespace) -> tuple[str, int, ssl.SSLContext | None]:
-    """Where the server listens, if it may. Raises Wrong."""
+    """Where the server listens, if it may. Raises Ending."""
     host, _, port = options.listen.rpartition(":")
     host = host.strip("[]")
     try:
@@ -149,11 +149,11 @@ def listening(options: argparse.Namespace) -> tuple[str, int, ssl.SSLContext | N
     except ValueError:
         is_local = False
     if not port.isdecimal() or not host:
-        raise Wrong("--listen is HOST:PORT")
+        raise Ending(2, "--listen is HOST:PORT")
     if not options.desks and (options.behind_proxy or not is_local):
-        raise Wrong("without --desks it serves this machine alone, and behind no proxy")
+        raise Ending(2, "without --desks it serves this machine alone, and behind no proxy")
     if not is_local and not (options.tls or options.behind_proxy):
-        raise Wrong("another address than this machine's needs --tls or --behind-proxy")
+        raise Ending(2, "another address than this machine's needs --tls or --behind-proxy")
     if not options.tls:
         return host, int(port), None
     sealed = ssl.create_default_context(ssl.Purpose.CLIENT_AUTH)
@@ -222,7 +222,7 @@ async def run(options: argparse.Namespace, board: Board, day: str, host: str, po
         for task in done:
             task.result()
     except (Unusable, sqlite3.Error, OSError) as fault:
-        raise Broken(fault) from None
+        raise Ending(1, fault) from None
     finally:
         board.is_closing = True
         server.close()
@@ -260,16 +260,10 @@ def main() -> int:
             print("\n".join(new_token()))
         else:
             asyncio.run({"serve": serve, "import": take_in, "export": give_out}[options.what](options))
-    except Wrong as wrong:
-        tell(wrong)
-        return 2
-    except (WrongDesks, LogFault, WrongLine, Unusable) as fault:
+        return 0
+    except (Ending, WrongDesks, LogFault, WrongLine, Unusable, Refused, OSError) as fault:
         tell(fault)
-        return 3
-    except (Broken, Refused, OSError, TimeoutError) as fault:
-        tell(fault)
-        return 1
-    return 0
+        return fault.status if isinstance(fault, Ending) else 1 if isinstance(fault, OSError) else 3
 
 
 if __name__ == "__main__":

@@ -200,6 +200,25 @@ def test_what_comes_on_a_connection_is_bounded(board, what):
     assert server.get("/health").status == 200
 
 
+def test_an_address_has_so_many_connections_and_headers_so_long(board):
+    """100, and 10 seconds; the others are answered meanwhile."""
+    server, began = board(), time.monotonic()
+    idle = [socket.create_connection(("127.0.0.1", server.port), source_address=("127.0.0.7", 0)) for _ in range(101)]
+    idle[-1].settimeout(3)
+    with pytest.raises(ConnectionError):
+        raise ConnectionError if idle[-1].recv(1) == b"" else TimeoutError
+    for number, own in enumerate(idle[:-1]):
+        own.sendall(b"GET /health HTTP/1.1\r\nA: b\r\n" if number % 2 else b"")
+    assert server.get("/health").status == 200 and time.monotonic() - began < 5
+    for own in idle[:-1]:
+        own.settimeout(15)
+        try:
+            assert own.recv(1) == b""
+        except ConnectionError:
+            pass
+    assert 9 < time.monotonic() - began < 16 and server.get("/health").status == 200
+
+
 def test_a_display_that_never_reads_is_cut_off(board):
     """1 MiB unsent is enough."""
     server = board()

@@ -49,6 +49,11 @@ def test_files_that_are_refused_are_status_3(files, board):
     server.airport.write_text(AIRPORT + "RUNWAY,36,10,2\n")
     ended = cdmboard(server.airport, server.log)
     assert ended.returncode == 3 and "another airport file" in ended.stderr and "export" in ended.stderr and "import" in ended.stderr
+    server.airport.write_text(AIRPORT)
+    (files / "other").write_text(f'#!/bin/sh\n[ $1 = --version ] && echo cdmseq 0.0.0 || exec {PROGRAM} "$@"\n')
+    (files / "other").chmod(0o755)
+    ended = cdmboard(server.airport, server.log, environment=dict(ENVIRONMENT, CDMSEQ=str(files / "other")))
+    assert ended.returncode == 3 and "another program" in ended.stderr
 
 
 NONE = "0" * 64

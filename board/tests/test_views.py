@@ -2,6 +2,7 @@
 import concurrent.futures
 import gzip
 import json
+import signal
 import socket
 import time
 
@@ -11,7 +12,7 @@ DESKS = {"gh": 'role = "GH"', "ap": 'role = "AP"', "screen": 'role = "READ"'}
 
 
 class Display:
-    """Events as they come."""
+    """A display of its own connection."""
 
     def __init__(self, server, desk=None, query="", last=None):
         self.own = socket.create_connection(("127.0.0.1", server.port))
@@ -23,6 +24,17 @@ class Display:
         self.status = int(self.file.readline().split()[1])
         while self.file.readline() not in (b"\r\n", b""):
             pass
+
+    def ends(self):
+        """Whether the server ends it."""
+        try:
+            while self.file.read1(65536):
+                pass
+        except TimeoutError:
+            return False
+        except ConnectionError:
+            pass
+        return True
 
 
 def events(server, count, **words):
@@ -88,6 +100,17 @@ def test_a_desk_has_so_many_displays(board):
     displays[0].own.close()
     displays[0].file.close()
     until(lambda: Display(server, "gh").status == 200)
+
+
+def test_a_display_of_a_desk_that_is_gone_ends(board):
+    """On SIGHUP; the others stay."""
+    server = board(DESKS)
+    gone, stays = Display(server, "gh"), Display(server, "screen")
+    server.write_desks({"screen": DESKS["screen"], "ap": DESKS["ap"]})
+    server.process.send_signal(signal.SIGHUP)
+    until(lambda: server.metric("cdm_displays", "ap") == 1)
+    assert gone.ends() and server.get("/v1/plan", "gh").status == 401
+    assert stays.status == 200 and not stays.ends()
 
 
 def test_an_answer_says_its_position(board):
