@@ -196,7 +196,7 @@ async def run(options: argparse.Namespace, board: Board, day: str, host: str, po
     await runner.setup()
     manager = runner.server
     assert manager is not None
-    server = await loop.create_server(lambda: Guard(manager, guards), host, port, ssl=sealed, backlog=1024,
+    server = await loop.create_server(lambda: Guard(manager, guards), host, port, ssl=sealed, backlog=100,
                                       ssl_handshake_timeout=10 if sealed else None)
     tasks = [asyncio.create_task(part) for part in (
         board.sequencer.run(), board.log.ended(), board.events.run(), guards.run(), ending.wait(),

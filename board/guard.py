@@ -28,14 +28,16 @@ class Guard(web.RequestHandler):
         self.began: float | None = None
 
     def connection_made(self, transport: asyncio.BaseTransport) -> None:
-        super().connection_made(transport)
+        assert isinstance(transport, asyncio.Transport)
         peer = transport.get_extra_info("peername")
         self.address, self.since = peer[0] if peer else "", asyncio.get_running_loop().time()
         self.guards.all.add(self)
         self.guards.of_address[self.address] += 1
         is_proxy = self.guards.behind_proxy and is_loopback(self.address)
         if self.guards.of_address[self.address] > MOST_OF_ADDRESS and not is_proxy:
-            self.cut()
+            transport.abort()
+        else:
+            super().connection_made(transport)
 
     def connection_lost(self, exc: BaseException | None) -> None:
         super().connection_lost(exc)
