@@ -5,7 +5,9 @@ import json
 import os
 import pathlib
 import random
+import shutil
 import signal
+import sqlite3
 import subprocess
 import time
 from collections import namedtuple
@@ -196,6 +198,10 @@ def board(tmp_path):
         if server.process is not None and server.process.poll() is None:
             server.kill()
         if server.process is not None:
+            database = sqlite3.connect(server.log)
+            for left in pathlib.Path("/dev/shm").glob(f"cdmboard-{database.execute('SELECT id FROM cdm_log').fetchone()[0]}-*"):
+                shutil.rmtree(left)
+            database.close()
             assert "Traceback" not in server.told()
 
 
