@@ -1,0 +1,226 @@
+"""A board for a test: a real server, a real sequencer, a real log. CDMSEQ names the program; without it the proved one is taken
+as soon as it has the forms that the server needs, and until then the stand-in."""
+import http.client
+import json
+import os
+import pathlib
+import random
+import shutil
+import signal
+import sqlite3
+import subprocess
+import time
+from collections import namedtuple
+
+import pytest
+
+TESTS = pathlib.Path(__file__).resolve().parent
+ROOT = TESTS.parent.parent
+ROLES = ("AO", "GH", "AP", "ATC", "NM")
+Reply = namedtuple("Reply", "status headers body")
+
+
+def program():
+    """The program that the tests run."""
+    for path in (os.environ.get("CDMSEQ"), ROOT / "crates/cdm_main/out/cdm_main"):
+        if path and os.access(path, os.X_OK):
+            kinds = subprocess.run([path, "kinds", "--format", "json"], capture_output=True)
+            if kinds.returncode == 0 and kinds.stdout.startswith(b'{"kind":'):
+                return str(pathlib.Path(path).resolve())
+    return str(TESTS / "standin.py")
+
+
+PROGRAM = program()
+
+
+def pytest_report_header():
+    return f"program: {PROGRAM}"
+
+
+AIRPORT = "DAY,2025-03-10\nRUNWAY,27L,10,20\nRUNWAY,09,15,20\nTAXI,*,27L,15\nTAXI,*,09,12\n"
+
+
+def moment(minute):
+    return f"2025-03-{10 + minute // 1440}T{minute % 1440 // 60:02}:{minute % 60:02}Z"
+
+
+def of_role(chance, role, flights):
+    """A random record of a role, good or bad."""
+    name, at = chance.choice(flights), moment(chance.randrange(300, 1200))
+    lines = {"AO": [f"TOBT,{name},{at}", f"TOBT,{name},{at}", f"CNL,{name}" if chance.random() < 0.1 else f"TOBT,{name},{at}"],
+             "GH": [f"TOBT,{name},{at}", f"ICE,{name},STAND,{chance.randrange(1, 20)}"],
+             "AP": [f"FLT,{name},{chance.randrange(10)}", f"GROUP,{name},{chance.choice('LMH')}"],
+             "ATC": [f"RWY,{name},{chance.choice(['27L', '09'])}", f"PRIO,{name},{chance.randrange(10)}", f"CLOCK,{at}"],
+             "NM": [f"CTOT,{name},{at}", f"CTOT,{name},-"]}[role]
+    return chance.choice([*lines, *lines, *lines, "FOO", f"TOBT,{name},25-03-10"])
+
+
+class Server:
+    """One server process, which can be killed and started again."""
+
+    def __init__(self, folder, desks=None, options=(), environment=None, faulty=None, airport=AIRPORT):
+        self.folder, self.options, self.children = folder, list(options), []
+        self.airport, self.log = folder / "airport.csv", folder / "day.db"
+        self.airport.write_text(airport)
+        self.environment = dict(os.environ, CDMSEQ=PROGRAM, **(environment or {}))
+        if faulty:
+            wrapper = folder / "program"
+            wrapper.write_text(f'#!/bin/sh\nexec {TESTS}/faulty.py {faulty} {folder}/done {PROGRAM} "$@"\n')
+            wrapper.chmod(0o755)
+            self.environment["CDMSEQ"] = str(wrapper)
+        self.desks = {}
+        if desks is not None:
+            self.write_desks(desks)
+            self.options += ["--desks", str(folder / "desks.toml")]
+        self.port, self.process = 0, None
+
+    def write_desks(self, desks, read="desks"):
+        """desks: name to the lines of its table; its token is `token-NAME`."""
+        import hashlib
+        text = f'read = "{read}"\n'
+        for name, table in desks.items():
+            digest = hashlib.sha256(f"token-{name}".encode()).hexdigest()
+            text += f'[desk.{name}]\ntoken = "sha256:{digest}"\n{table}\n'
+        path = self.folder / "desks.toml"
+        path.write_text(text)
+        path.chmod(0o600)
+
+    def start(self, limit=""):
+        """Starts it, and waits until it is ready; on the same port as before."""
+        command = [str(ROOT / "cdmboard"), str(self.airport), str(self.log), "--listen", f"127.0.0.1:{self.port}", *self.options]
+        if limit:
+            command = ["/bin/bash", "-c", f'{limit}; exec "$0" "$@"', *command]
+        self.errors = open(self.folder / "errors.txt", "ab")
+        self.process = subprocess.Popen(command, env=self.environment, stdout=subprocess.PIPE, stderr=self.errors)
+        line = self.process.stdout.readline().decode()
+        assert line.startswith("http"), (line, self.told())
+        self.port = int(line.rstrip("/\n").rpartition(":")[2])
+        return self
+
+    def told(self):
+        return (self.folder / "errors.txt").read_text()
+
+    def request(self, method, path, body=None, desk=None, **headers):
+        """One request. desk: whose token it has. Words in headers have _ for -."""
+        connection = http.client.HTTPConnection("127.0.0.1", self.port, timeout=40)
+        try:
+            sent = {name.replace("_", "-"): value for name, value in headers.items()}
+            if desk:
+                sent["Authorization"] = f"Bearer token-{desk}"
+            connection.request(method, path, body if body is None or isinstance(body, bytes) else body.encode("latin-1"), sent)
+            answer = connection.getresponse()
+            return Reply(answer.status, answer.headers, answer.read())
+        finally:
+            connection.close()
+
+    def get(self, path, desk=None, **headers):
+        return self.request("GET", path, None, desk, **headers)
+
+    def post(self, lines, desk=None, key=None, **headers):
+        """Records; the replies, or what was answered instead."""
+        if key:
+            headers["Idempotency_Key"] = key
+        body = lines if isinstance(lines, (str, bytes)) else "\n".join(lines)
+        answer = self.request("POST", "/v1/records", body, desk, **headers)
+        return objects(answer.body) if answer.status == 200 else answer
+
+    def records(self, desk=None):
+        """The whole log."""
+        found, since = [], 0
+        while True:
+            more = objects(self.get(f"/v1/records?since={since}", desk).body)
+            if not more:
+                return found
+            found, since = found + more, more[-1]["position"]
+
+    def processes(self):
+        """The server's own processes by their words, such as its sequencer."""
+        found = {}
+        for path in pathlib.Path("/proc").glob("[0-9]*/stat"):
+            try:
+                if path.read_text().rpartition(")")[2].split()[1] == str(self.process.pid):
+                    found[int(path.parent.name)] = (path.parent / "cmdline").read_text().split("\0")
+            except OSError:
+                pass
+        return found
+
+    def sequencers(self):
+        return [number for number, words in self.processes().items() if "serve" in words]
+
+    def memory(self):
+        """The server's memory now, in MiB."""
+        status = pathlib.Path(f"/proc/{self.process.pid}/status").read_text()
+        return int(next(line for line in status.splitlines() if line.startswith("VmRSS")).split()[1]) / 1024
+
+    def metric(self, name, desk=None):
+        text = self.get("/metrics", desk).body.decode()
+        return float(next(line for line in text.splitlines() if line.startswith(name + " ")).split()[1])
+
+    def kill(self):
+        self.process.kill()
+        self.process.wait()
+        self.process.stdout.close()
+        self.errors.close()
+
+    def end(self):
+        """TERM; the status."""
+        self.process.send_signal(signal.SIGTERM)
+        status = self.process.wait(30)
+        self.process.stdout.close()
+        self.errors.close()
+        return status
+
+
+def objects(body):
+    return [json.loads(line) for line in body.splitlines()]
+
+
+def until(is_so, seconds=10):
+    """Waits until something is so."""
+    end = time.monotonic() + seconds
+    while not is_so():
+        assert time.monotonic() < end, "it never was so"
+        time.sleep(0.02)
+
+
+@pytest.fixture
+def board(tmp_path):
+    """Makes servers, and ends them."""
+    made = []
+
+    def make(*words, start=True, **more):
+        folder = tmp_path / f"board-{len(made)}"
+        folder.mkdir()
+        made.append(Server(folder, *words, **more))
+        return made[-1].start() if start else made[-1]
+    yield make
+    for server in made:
+        if server.process is not None and server.process.poll() is None:
+            server.kill()
+        if server.process is not None:
+            database = sqlite3.connect(server.log)
+            for left in pathlib.Path("/dev/shm").glob(f"cdmboard-{database.execute('SELECT id FROM cdm_log').fetchone()[0]}-*"):
+                shutil.rmtree(left)
+            database.close()
+            assert "Traceback" not in server.told()
+
+
+@pytest.fixture
+def chance(request):
+    """A seed of its own for each run, told where the test fails."""
+    seed = int(os.environ.get("BOARD_SEED", random.randrange(1 << 32)))
+    print(f"BOARD_SEED={seed}")
+    return random.Random(seed)
+
+
+def count(name, gate):
+    """A count that a script can raise above the gate's."""
+    return int(os.environ.get(name, gate))
+
+
+def figure(text):
+    """A figure for who asks for figures."""
+    if os.environ.get("BOARD_FIGURES"):
+        with open(os.environ["BOARD_FIGURES"], "a") as file:
+            file.write(text + "\n")
+    print(text)

@@ -1,0 +1,221 @@
+#!/usr/bin/python3 -SE
+"""A stand-in for the program, for the server's own tests: it speaks the program's forms, with a toy rule. Each flight has a
+slot of its own: its TSAT is its TOBT, and nothing holds it. It is no part of the product.
+
+    standin.py --version
+    standin.py kinds --format json
+    standin.py plan AIRPORT FEED [--scenarios FILE] [--format text|csv|json]
+    standin.py why AIRPORT FEED FLIGHT [--scenarios FILE --scenario NAME] [--format json]
+    standin.py check AIRPORT FEED --format json
+    standin.py trace AIRPORT FEED --format json
+    standin.py serve AIRPORT JOURNAL --format json"""
+import fcntl
+import json
+import os
+import re
+import sys
+
+TIME = r"20\d\d-[01]\d-[0-3]\dT[0-2]\d:[0-5]\dZ"
+FORMS = {"flight": r"[A-Z0-9]{1,7}", "runway": r"[A-Z0-9]{1,3}", "stand": r"[A-Z0-9]{1,5}", "priority": r"\d", "time": TIME,
+         "ctot": rf"{TIME}|-", "group": "[LMH]", "cap": r"\d{1,2}", "ice": "NONE|STAND|REMOTE", "minutes": r"\d{1,2}"}
+KINDS = {
+    "FLT": ("flight", ("AP",), ("flight", "priority")), "TOBT": ("flight", ("AO", "GH"), ("flight", "time")),
+    "STAND": ("flight", ("AP",), ("flight", "stand")), "RWY": ("flight", ("ATC",), ("flight", "runway")),
+    "CTOT": ("flight", ("NM",), ("flight", "ctot")), "ICE": ("flight", ("GH",), ("flight", "ice", "minutes")),
+    "PRIO": ("flight", ("ATC",), ("flight", "priority")), "GROUP": ("flight", ("AP",), ("flight", "group")),
+    "CNL": ("flight", ("AO",), ("flight",)), "RATE": ("runway", ("ATC",), ("runway", "time", "time", "cap")),
+    "CLOSE": ("runway", ("ATC",), ("runway", "time", "time")), "OPEN": ("runway", ("ATC",), ("runway", "time", "time")),
+    "CLOCK": ("day", ("ATC",), ("time",)), "TOL": ("day", ("NM",), ("minutes", "minutes"))}
+COLUMNS = "flight status runway stand priority group tobt exot ctot tsat ttot delay rule".split()
+
+
+class Fault(Exception):
+    """A line on standard error, and a status."""
+
+
+def out(value):
+    sys.stdout.write(json.dumps(value, separators=(",", ":")) + "\n")
+    sys.stdout.flush()
+
+
+class Day:
+    def __init__(self, airport):
+        records = [line.split(",") for line in open(airport).read().splitlines() if line]
+        if not records or records[0][0] != "DAY" or not re.fullmatch(r"\d{4}-\d\d-\d\d", records[0][-1]):
+            raise Fault("cdmseq: AIRPORT record 1: ORDER", 3)
+        self.day, self.runways = records[0][1], {record[1] for record in records if record[0] == "RUNWAY"}
+        self.now, self.rows, self.accepted = f"{self.day}T00:00Z", {}, 0
+
+    def word(self, fields, scenario=False):
+        role, kind, said = ("", fields[0], fields[1:]) if scenario else (fields[0], (fields + [""])[1], fields[2:])
+        if len(fields) < 2 or kind in KINDS and len(said) != len(KINDS[kind][2]):
+            return "FIELDS"
+        if not scenario and role not in ("AO", "GH", "AP", "ATC", "NM"):
+            return "ROLE"
+        if kind not in KINDS:
+            return "KIND"
+        if not all(re.fullmatch(FORMS[form], field) for form, field in zip(KINDS[kind][2], said)):
+            return "TEXT"
+        if not scenario and role not in KINDS[kind][1]:
+            return "AUTHORITY"
+        row = self.rows.get(said[0])
+        if KINDS[kind][0] == "flight":
+            if kind == "FLT":
+                return "EXISTS" if row else "FULL" if len(self.rows) >= 2000 or self.accepted >= 20000 else None
+            if not row:
+                return "UNKNOWN"
+            if row["status"] == "CANCELLED":
+                return "ENDED"
+        if KINDS[kind][0] == "runway" and said[0] not in self.runways:
+            return "UNKNOWN"
+        if kind == "CLOCK" and said[0] < self.now:
+            return "ORDER"
+        return "FULL" if self.accepted >= 20000 else None
+
+    def take(self, fields, scenario=False):
+        """The word, or None and the rows that changed."""
+        word = self.word(fields, scenario)
+        if word:
+            return word, []
+        kind, said = fields[0 if scenario else 1], fields[1 if scenario else 2:]
+        self.accepted += 1
+        if kind == "CLOCK":
+            self.now = said[0]
+        if KINDS[kind][0] != "flight":
+            # What is of a runway or the day moves nobody, but CLOSE, which changes every flight's Row, for large replies.
+            if kind not in ("CLOSE", "OPEN"):
+                return None, []
+            for row in self.rows.values():
+                row["rule"] = "CLOSURE" if kind == "CLOSE" else None
+            return None, [dict(row) for _, row in sorted(self.rows.items())]
+        before = dict(self.rows.get(said[0], {}))
+        row = self.rows.setdefault(said[0], dict.fromkeys(COLUMNS) | {"flight": said[0], "status": "BLOCKED", "rule": "TOBT", "group": "M"})
+        column = {"FLT": "priority", "PRIO": "priority", "STAND": "stand", "RWY": "runway", "CTOT": "ctot", "GROUP": "group",
+                  "TOBT": "tobt"}.get(kind)
+        if column:
+            row[column] = int(said[1]) if column == "priority" else None if said[1] == "-" else said[1]
+        if row["tobt"]:
+            row |= {"status": "PLANNED", "tsat": row["tobt"], "ttot": row["tobt"], "delay": 0, "rule": None}
+        if kind == "CNL":
+            row |= {"status": "CANCELLED", "tsat": None, "ttot": None, "delay": None, "rule": None}
+        return None, [dict(row)] if row != before else []
+
+    def plan(self, scenario, refused):
+        rows = [row for _, row in sorted(self.rows.items())]
+        return {"scenario": scenario, "day": self.day, "now": self.now, "placed": sum(row["status"] == "PLANNED" for row in rows),
+                "delay": 0, "max": 0, "late": 0, "blocked": sum(row["status"] == "BLOCKED" for row in rows), "rules": {},
+                "flights": rows, "refused": refused}
+
+
+def records(path):
+    return [line.split(",") for line in open(path).read().splitlines() if line]
+
+
+def feed(day, path):
+    refused = []
+    for number, fields in enumerate(records(path), 1):
+        word, _ = day.take(fields)
+        if word:
+            refused.append({"record": number, "word": word})
+    return refused
+
+
+def scenarios(path):
+    found = {}
+    for number, fields in enumerate(records(path), 1):
+        if fields[0] == "SCENARIO" and len(fields) == 2:
+            name = fields[1]
+            found[name] = []
+        elif not found or fields[0] not in KINDS:
+            raise Fault(f"cdmseq: SCENARIOS record {number}: {'ORDER' if not found else 'KIND'}", 3)
+        else:
+            found[name].append(fields)
+    return found
+
+
+def serve(airport, journal):
+    day = Day(airport)
+    lock = open(journal + ".lock", "a")
+    fcntl.lockf(lock, fcntl.LOCK_EX | fcntl.LOCK_NB)
+    for refused in feed(day, journal) if os.path.exists(journal) else ():
+        raise Fault(f"cdmseq: JOURNAL record {refused['record']}: {refused['word']}", 3)
+    with open(journal, "a") as kept:
+        out({"ready": day.accepted})
+        for number, line in enumerate(sys.stdin, 1):
+            fields = line.rstrip("\n").split(",")
+            word, changes = day.take(fields)
+            if word:
+                out({"record": number, "reply": "REFUSED", "word": word})
+                continue
+            kept.write(line)
+            kept.flush()
+            out({"record": number, "reply": "ACCEPTED", "accepted": day.accepted, "changes": changes})
+
+
+def main(words):
+    options = {name: words[words.index(name) + 1] for name in ("--format", "--scenarios", "--scenario") if name in words}
+    command, *rest = [word for word in words if word not in options and word not in options.values()]
+    if command == "--version":
+        print("cdmseq stand-in")
+        return 0
+    if command == "kinds":
+        for kind, (of, roles, fields) in KINDS.items():
+            out({"kind": kind, "of": of, "roles": roles, "fields": [{"name": name, "form": FORMS[name], "range": ""} for name in fields]})
+        return 0
+    if command == "serve":
+        serve(*rest)
+        return 0
+    day = Day(rest[0])
+    if command == "trace":
+        for number, fields in enumerate(records(rest[1]), 1):
+            word, changes = day.take(fields)
+            if word:
+                out({"record": number, "reply": "REFUSED", "word": word})
+            elif changes:
+                out({"record": number, "reply": "ACCEPTED", "accepted": day.accepted, "changes": changes})
+        return 0
+    refused = feed(day, rest[1])
+    asked = scenarios(options["--scenarios"]) if "--scenarios" in options else {}
+    if "--scenario" in options:
+        if options["--scenario"] not in asked:
+            raise Fault(f"cdmseq: no scenario {options['--scenario']}", 3)
+        for fields in asked[options["--scenario"]]:
+            day.take(fields, True)
+    if command == "check":
+        for found in refused:
+            out({"path": rest[1], "line": found["record"], "record": found["record"], "word": found["word"], "sentence": "toy sentence"})
+        out({"records": len(records(rest[1])), "refused": len(refused)})
+        return 4 if refused else 0
+    if command == "plan":
+        if options.get("--format") == "json":
+            out(day.plan(None, refused))
+            for name, updates in asked.items():
+                other = Day(rest[0])
+                feed(other, rest[1])
+                words = [other.take(fields, True)[0] for fields in updates]
+                number = next((number for number, word in enumerate(words, 1) if word), 0)
+                out({"scenario": name, "update": number, "word": words[number - 1]} if number else other.plan(name, []))
+        else:
+            print(f"DAY {day.day} NOW {day.now}")
+            for name, row in sorted(day.rows.items()):
+                print(name, row["status"], row["tsat"])
+        return 0
+    if command == "why":
+        if rest[2] not in day.rows:
+            raise Fault(f"cdmseq: no flight {rest[2]}", 3)
+        if options.get("--format") == "json":
+            out({"row": day.rows[rest[2]], "ice": {"kind": "NONE", "minutes": 0}, "now": day.now, "waits": []})
+        else:
+            print(f"FLIGHT {rest[2]} {day.rows[rest[2]]['status']}")
+        return 0
+    raise Fault(f"error: unrecognized subcommand '{command}'", 2)
+
+
+if __name__ == "__main__":
+    try:
+        sys.exit(main(sys.argv[1:]))
+    except Fault as fault:
+        print(fault.args[0], file=sys.stderr)
+        sys.exit(fault.args[1])
+    except BrokenPipeError:
+        sys.exit(1)

@@ -1,0 +1,205 @@
+"""Start and end: words, files, locks, the clock, TLS, a proxy, import and export."""
+import concurrent.futures
+import json
+import os
+import signal
+import ssl
+import subprocess
+import time
+import urllib.request
+
+import pytest
+from conftest import AIRPORT, PROGRAM, ROOT, figure, moment, objects, until
+
+ENVIRONMENT = dict(os.environ, CDMSEQ=PROGRAM)
+DESKS = {"ap": 'role = "AP"', "screen": 'role = "READ"'}
+
+
+def cdmboard(*words, environment=ENVIRONMENT):
+    return subprocess.run([str(ROOT / "cdmboard"), *map(str, words)], env=environment, capture_output=True, text=True, timeout=60)
+
+
+@pytest.fixture
+def files(tmp_path):
+    (tmp_path / "airport.csv").write_text(AIRPORT)
+    return tmp_path
+
+
+@pytest.mark.parametrize("words", [[], ["airport.csv"], ["A", "L", "--nix"], ["A", "L", "--listen", "x"], ["A", "L", "--listen", "0.0.0.0:0"],
+                                   ["A", "L", "--behind-proxy"], ["A", "L", "--listen", "0.0.0.0:0", "--tls", "c", "k"], ["A", "postgresql://x"],
+                                   ["A", "L", "--desks", "D", "--listen", "0.0.0.0:0"], ["import", "A"], ["export"]])
+def test_wrong_words_are_status_2(files, words):
+    there = {"A": files / "airport.csv", "L": files / "day.db", "D": files / "desks.toml"}
+    ended = cdmboard(*(there.get(word, word) for word in words))
+    assert ended.returncode == 2 and ended.stderr and not (files / "day.db").exists()
+
+
+def test_files_that_are_refused_are_status_3(files, board):
+    wrong = files / "wrong.csv"
+    wrong.write_text("RUNWAY,27L,10,2\n")
+    ended = cdmboard(wrong, files / "day.db")
+    assert (ended.returncode, ended.stderr) == (3, "cdmseq: AIRPORT record 1: ORDER\n")
+    assert cdmboard(files / "none.csv", files / "day.db").returncode == 3
+    assert cdmboard(files / "airport.csv", files / "nofolder" / "day.db").returncode == 3
+    (files / "text.db").write_text("no database at all, but a file of some length")
+    assert cdmboard(files / "airport.csv", files / "text.db").returncode == 3
+    server = board()
+    assert cdmboard(server.airport, server.log).stderr.endswith("day.db is served by another\n")
+    assert server.end() == 0
+    server.airport.write_text(AIRPORT + "RUNWAY,36,10,2\n")
+    ended = cdmboard(server.airport, server.log)
+    assert ended.returncode == 3 and "another airport file" in ended.stderr and "export" in ended.stderr and "import" in ended.stderr
+    server.airport.write_text(AIRPORT)
+    (files / "other").write_text(f'#!/bin/sh\n[ $1 = --version ] && echo cdmseq 0.0.0 || exec {PROGRAM} "$@"\n')
+    (files / "other").chmod(0o755)
+    ended = cdmboard(server.airport, server.log, environment=dict(ENVIRONMENT, CDMSEQ=str(files / "other")))
+    assert ended.returncode == 3 and "another program" in ended.stderr
+
+
+NONE = "0" * 64
+WRONG_DESKS = ["[desk.a]\n", f'[desk.a]\nrole = "XX"\ntoken = "sha256:{NONE}"', '[desk.a]\nrole = "AO"\ntoken = "secret"', "read = 1", "=", "x = 1",
+               f'[desk.clock]\nrole = "AO"\ntoken = "sha256:{NONE}"', f'[desk.a]\nrole = "AO"\ntoken = "sha256:{NONE}"\nflight = ["X"]',
+               f'[desk.a]\nrole = "AO"\ntoken = "sha256:{NONE}"\n[desk.b]\nrole = "AP"\ntoken = "sha256:{NONE}"']
+
+
+def test_a_wrong_desks_file_is_refused(files):
+    desks = files / "desks.toml"
+    for text, mode in [*((text, 0o600) for text in WRONG_DESKS), ('read = "anyone"', 0o644)]:
+        desks.write_text(text)
+        desks.chmod(mode)
+        ended = cdmboard(files / "airport.csv", files / "day.db", "--desks", desks)
+        assert ended.returncode == 3 and "desks.toml" in ended.stderr and ended.stderr.count("\n") == 1, text
+
+
+def test_a_token_is_new_each_time(files, board):
+    first, second = (cdmboard("token").stdout.splitlines() for _ in range(2))
+    assert first != second and len(first[0]) >= 40 and first[1].startswith('token = "sha256:')
+    server = board(DESKS, start=False)
+    desks = server.folder / "desks.toml"
+    desks.write_text(f'[desk.x]\nrole = "AP"\n{first[1]}\n')
+    server.start()
+    assert server.get("/v1/who", Authorization=f"Bearer {first[0]}").status == 200
+    assert server.get("/v1/who", Authorization=f"Bearer {second[0]}").status == 401
+
+
+def test_a_missing_package_is_named(files):
+    hidden = files / "aiohttp.py"
+    hidden.write_text("")
+    code = "import sys, runpy; sys.path_importer_cache.clear(); import importlib.util as u; f = u.find_spec; u.find_spec = lambda n, *a: " \
+           "None if n == 'aiohttp' else f(n, *a); runpy.run_module('board', run_name='__main__')"
+    ended = subprocess.run(["/usr/bin/python3", "-B", "-c", code], cwd=ROOT, capture_output=True, text=True)
+    assert ended.returncode == 1 and ended.stderr == "cdmboard: python3-aiohttp missing: sudo apt-get install python3-aiohttp\n"
+
+
+def test_an_end_answers_what_waits(board):
+    """TERM: what is in the log gets its reply, displays are told, status 0, and nothing is left in memory."""
+    server = board()
+    server.post(["FLT,AB1,5"], Cdm_Role="AP")
+    sequencer, = server.sequencers()
+    with concurrent.futures.ThreadPoolExecutor(12) as pool:
+        events = pool.submit(lambda: urllib.request.urlopen(f"http://127.0.0.1:{server.port}/v1/events", timeout=20).read())
+        until(lambda: server.metric("cdm_displays") == 1)
+        os.kill(sequencer, signal.SIGSTOP)
+        posts = [pool.submit(server.post, [f"FLT,F{number}X{line},5" for line in range(100)], None, f"k{number}", Cdm_Role=role)
+                 for number, role in enumerate(("AP", "AO", "GH", "NM", "ATC"))]
+        time.sleep(0.5)
+        server.process.send_signal(signal.SIGTERM)
+        time.sleep(0.3)
+        assert server.post(["FLT,LATE,5"], Cdm_Role="AP").status == 503
+        os.kill(sequencer, signal.SIGCONT)
+        assert server.end() == 0
+        assert events.result().endswith(b"event: end\ndata: {}\n\n")
+        answers = [post.result() for post in posts]
+    log = server.start().records()
+    for answer in answers:
+        assert len(answer) == 100
+        for reply in answer:
+            assert {**log[reply["position"] - 1], "changes": 0} == {**reply, "changes": 0}
+    left = [name for name in os.listdir("/dev/shm") if name.startswith(f"cdmboard-{json.loads(server.get('/v1/who').body)['log']}")]
+    assert len(left) == 1
+
+
+def test_import_and_export(files, board):
+    feed = files / "feed.csv"
+    feed.write_text(f"AP,FLT,AB1,5\nAO,TOBT,AB1,{moment(400)}\n")
+    server = board(start=False)
+    assert cdmboard("import", server.airport, server.log, feed).returncode == 0
+    assert cdmboard("import", server.airport, server.log, feed).returncode == 3
+    server.start()
+    assert server.post(["FOO", "FLT,AB2,5"], Cdm_Role="AP")[1]["accepted"] == 3
+    assert cdmboard("export", server.log).stdout == feed.read_text() + "AP,FLT,AB2,5\n" == server.get("/v1/journal.csv").body.decode()
+    every = objects(cdmboard("export", server.log, "--all").stdout.encode())
+    assert [(row["position"], row["desk"], row["role"], row["line"], row["reply"], row.get("word")) for row in every] == [
+        (1, "import", "AP", "FLT,AB1,5", "ACCEPTED", None), (2, "import", "AO", f"TOBT,AB1,{moment(400)}", "ACCEPTED", None),
+        (3, "AP", "AP", "FOO", "REFUSED", "KIND"), (4, "AP", "AP", "FLT,AB2,5", "ACCEPTED", None)]
+    for text, told in (("AP,FLT,AB1,5\nGH,FLT,AB2,5\n", "record 2: AUTHORITY"), ('AP,FLT,"AB1",5\n', "line 1"), ("", "no record")):
+        feed.write_text(text)
+        ended = cdmboard("import", files / "airport.csv", files / "new.db", feed)
+        assert ended.returncode == 3 and told in ended.stderr
+
+
+def test_the_last_updates_are_the_tower_s(files, board):
+    """From 18,000 accepted updates on. Such a day is ready soon."""
+    feed = files / "feed.csv"
+    feed.write_text("".join(f"AP,FLT,F{number},5\n" for number in range(2000)) + "".join(
+        f"AO,TOBT,F{number % 2000},{moment(300 + number % 1000)}\n" for number in range(15_999)))
+    server = board(start=False)
+    assert cdmboard("import", server.airport, server.log, feed).returncode == 0
+    began = time.monotonic()
+    server.start()
+    figure(f"Start: a day of 17,999 updates is ready in {time.monotonic() - began:.1f} s")
+    assert server.post([f"TOBT,F1,{moment(400)}"], Cdm_Role="AO", key="last")[0]["accepted"] == 18_000
+    assert [server.post(["TOBT,F1," + moment(400)], Cdm_Role=role).status for role in ("AO", "GH", "NM", "AP")] == [403] * 4
+    assert server.post([f"TOBT,F1,{moment(400)}"], Cdm_Role="AO", key="last")[0]["accepted"] == 18_000
+    assert server.post(["PRIO,F1,2"], Cdm_Role="ATC")[0]["accepted"] == 18_001
+
+
+def test_the_clock_is_taken(board):
+    today = time.strftime("%Y-%m-%d", time.gmtime())
+    server = board(options=["--clock"], airport=AIRPORT.replace("2025-03-10", today))
+    until(lambda: len(server.records()) >= 1)
+    record = server.records()[0]
+    assert (record["desk"], record["role"], record["reply"]) == ("clock", "ATC", "ACCEPTED") and record["line"].startswith(f"CLOCK,{today}T")
+    server.kill()
+    server.start()
+    time.sleep(0.5)
+    assert len({record["line"] for record in server.records()}) == len(server.records()) <= 2
+    other = board(options=["--clock"])
+    time.sleep(0.5)
+    assert other.records() == [] and other.told().count("outside the two days") == 1
+
+
+def test_sealed_by_tls(board):
+    server = board(DESKS, start=False)
+    for name in ("one", "two"):
+        subprocess.run(["openssl", "req", "-x509", "-newkey", "ec", "-pkeyopt", "ec_paramgen_curve:P-256", "-nodes", "-keyout", f"{name}.key", "-out",
+                        f"{name}.crt", "-days", "2", "-subj", f"/CN={name}", "-addext", "subjectAltName=IP:127.0.0.1"],
+                       cwd=server.folder, check=True, capture_output=True)
+    for kind in ("crt", "key"):
+        (server.folder / f"used.{kind}").write_bytes((server.folder / f"one.{kind}").read_bytes())
+    server.options += ["--tls", str(server.folder / "used.crt"), str(server.folder / "used.key")]
+    server.start()
+
+    def talk(name):
+        trusted = ssl.create_default_context(cafile=server.folder / f"{name}.crt")
+        body = json.dumps({"desk": "ap", "token": "token-ap"}).encode()
+        request = urllib.request.Request(f"https://127.0.0.1:{server.port}/v1/session", body)
+        with urllib.request.urlopen(request, context=trusted, timeout=10) as answer:
+            return answer.headers["Set-Cookie"]
+    assert "Secure" in talk("one")
+    for kind in ("crt", "key"):
+        (server.folder / f"used.{kind}").write_bytes((server.folder / f"two.{kind}").read_bytes())
+    server.process.send_signal(signal.SIGHUP)
+    time.sleep(0.3)
+    assert "Secure" in talk("two")
+
+
+def test_behind_a_proxy(board):
+    server = board(DESKS, options=["--behind-proxy", "--name", "cdm.example"])
+    origin = "https://cdm.example"
+    assert server.post(["FLT,AB1,5"], "ap", Host="cdm.example", Origin=origin, X_Forwarded_For="10.9.8.7")[0]["reply"] == "ACCEPTED"
+    assert server.post(["FLT,AB1,5"], "ap", Host="cdm.example", Origin="http://cdm.example").status == 403
+    session = server.request("POST", "/v1/session", '{"desk":"ap","token":"token-ap"}', Host="cdm.example")
+    assert "Secure" in session.headers["Set-Cookie"]
+    assert server.get("/v1/plan", "nobody", Host="cdm.example", X_Forwarded_For="1.2.3.4, 10.9.8.7").status == 401
+    assert " 10.9.8.7 " in server.told()
