@@ -1,21 +1,12 @@
 //! Parts of runs and whole runs, and the command line.
 
-/// The answer of a call. Where it is refused memory, what it was lent is as before, and the same call is made once more.
+/// The answer of a call, which is made once more where it is refused memory.
 macro_rules! again {
-    ($rt:expr, $call:expr, AllocError, $as_before:expr) => {
-        $call.or_else(|_| {
-            assert!($rt; $as_before);
-            $call
-        })
-    };
-    ($rt:expr, $call:expr, $memory:pat, $as_before:expr) => {
-        $call.or_else(|fault| match fault {
-            $memory => {
-                assert!($rt; $as_before);
-                $call
-            }
-            other => Err(other),
-        })
+    ($call:expr, $memory:pat) => {
+        match $call {
+            Err($memory) => $call,
+            answer => answer,
+        }
     };
 }
 

@@ -103,6 +103,9 @@ fn a_runway_agrees_with_a_list_of_minutes(rt: HostRuntime) -> Result<(), Fail> {
     Ok(())
 }
 
+/// A taxi time from a place to a runway.
+type Row = (Place, RunwayName, TaxiMinutes);
+
 // One of 40 stands, or the default.
 fn place(number: u16) -> Option<Place> {
     if number == 40 {
@@ -124,28 +127,46 @@ fn stand_of(place: Place) -> Option<StandName> {
     }
 }
 
+// A taxi time from one of the places to one of three runways.
+fn row(numbers: &mut Numbers) -> Option<Row> {
+    let place = place(numbers.below(41))?;
+    let runway = RunwayName::new(&[b'0', b'1' + numbers.below(3) as u8])?;
+    Some((place, runway, TaxiMinutes::new(1 + numbers.below(120))?))
+}
+
+// Sets it.
+fn set_row(table: &mut TaxiTable, row: &Row) -> Option<()> {
+    table.set(row.0, row.1, row.2).ok()
+}
+
 // The last time that was set of a place and a runway.
-fn last_of(
-    rows: &[(Place, RunwayName, TaxiMinutes)],
-    place: Place,
-    runway: RunwayName,
-) -> Option<u16> {
+fn last_of(rows: &[Row], place: &Place, runway: &RunwayName) -> Option<u16> {
     let mut last = None;
     for (other, name, minutes) in rows {
-        if *other == place && *name == runway {
+        if other == place && name == runway {
             last = Some(minutes.get());
         }
     }
     last
 }
 
-// The taxi-out time by such a list: that of the stand, else that of the default.
-fn plain_exot(
-    rows: &[(Place, RunwayName, TaxiMinutes)],
-    place: Place,
-    runway: RunwayName,
-) -> Option<u16> {
-    last_of(rows, place, runway).or_else(|| last_of(rows, Place::Default, runway))
+// Whether the table has the last time of the place, and EXOT is that of a stand, else that of the default.
+fn agree_on(table: &TaxiTable, rows: &[Row], place: &Place, runway: &RunwayName) -> bool {
+    let last = last_of(rows, place, runway);
+    let found = table.minutes(*place, *runway).map(TaxiMinutes::get);
+    let exot = table.exot(stand_of(*place), *runway, Ice::NoIce);
+    found == last && exot == last.or(last_of(rows, &Place::Default, runway))
+}
+
+// Whether they agree on each place and the runway of the last row.
+fn agree(table: &TaxiTable, rows: &[Row]) -> Option<bool> {
+    let (_, runway, _) = rows.last()?;
+    for number in 0..=40u16 {
+        if !agree_on(table, rows, &place(number)?, runway) {
+            return Some(false);
+        }
+    }
+    Some(true)
 }
 
 /// After each of 500 taxi times a table has, for each place and runway, the last one that a list of rows has.
@@ -155,20 +176,10 @@ fn a_taxi_table_agrees_with_a_list_of_rows(rt: HostRuntime) -> Result<(), Fail> 
     let mut rows = Vec::new(rt.alloc());
     let mut numbers = Numbers { last: 9 };
     for change in 0..CHANGES {
-        let set = place(numbers.below(41)).ok_or("no place")?;
-        let name = [b'0', b'1' + numbers.below(3) as u8];
-        let runway = RunwayName::new(&name).ok_or("no runway")?;
-        let minutes = TaxiMinutes::new(1 + numbers.below(120)).ok_or("no minutes")?;
-        let row = (set, runway, minutes);
-        table.set(row.0, row.1, row.2).map_err(|_| "not set")?;
+        let row = row(&mut numbers).ok_or("no row")?;
+        set_row(&mut table, &row).ok_or("not set")?;
         rows.push(row)?;
-        for number in 0..=40u16 {
-            let place = place(number).ok_or("no place")?;
-            let found = table.minutes(place, runway).map(TaxiMinutes::get);
-            assert_eq!(rt; found, last_of(&rows, place, runway), "change {change}");
-            let found = table.exot(stand_of(place), runway, Ice::NoIce);
-            assert_eq!(rt; found, plain_exot(&rows, place, runway), "change {change}");
-        }
+        assert_eq!(rt; agree(&table, &rows), Some(true), "change {change}");
     }
     Ok(())
 }

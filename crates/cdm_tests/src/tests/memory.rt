@@ -1,12 +1,12 @@
 //! Calls of which one request for memory may be refused. They answer so, and what they were lent is as before; the same
 //! call then gives the answer that it would have given. `cases/refuse` refuses each request in its turn.
 use crate::tests::days::{closed, day_of, planned};
-use cdm_day::DayState;
+use cdm_day::{DayState, Records, plan_of};
 use cdm_flight::{Cap, Place, Role, RunwayName, StandName, TaxiMinutes, Update};
 use cdm_report::indicators;
 use cdm_sequence::Plan;
 use cdm_time::{Bound, Minute};
-use std::alloc::Global;
+use std::alloc::{AllocError, Global};
 
 mod airport;
 mod board;
@@ -85,6 +85,19 @@ pub fn is_planned(plan: &Plan, wanted: Planned) -> bool {
 /// Whether the day has so many updates and such a plan.
 pub fn is_day(day: &DayState, updates: usize, wanted: Planned) -> bool {
     day.journal().len() == updates && is_planned(day.plan(), wanted)
+}
+
+/// The plans before and after the update at this place of the morning.
+pub fn plans_around(place: usize) -> Option<(Planned, Planned)> {
+    Some((*PLANS.get(place)?, *PLANS.get(place.checked_add(1)?)?))
+}
+
+/// Whether the plan that the records have, made anew, is such a one.
+pub fn is_planned_anew<R: Records>(alloc: Global, records: &R, wanted: Planned) -> bool {
+    match again!(plan_of(alloc, records), AllocError, true) {
+        Some(plan) => is_planned(&plan, wanted),
+        None => false,
+    }
 }
 
 /// The day that plans these flights, made anew where memory was refused.

@@ -7,6 +7,7 @@ use cdm_flight::{Cap, FlightName, Group, Priority, RefusalWord, Update};
 use cdm_runway::{Blocked, RunwayFault, RunwayLoad};
 use cdm_scenario::{Overlay, Scenario, ScenarioName};
 use cdm_time::{Bound, Minute, Tolerance, Window, ctot_window};
+use std::alloc::Global;
 use std::test::Fail;
 
 // The minutes from one up to another.
@@ -65,6 +66,37 @@ fn a_ctot_window_is_cut_to_the_horizon(rt: HostRuntime) -> Result<(), Fail> {
     Ok(())
 }
 
+// Whether a TOBT of an unknown flight is refused, which leaves nine updates accepted.
+fn refuses_unknown(alloc: Global, overlay: &mut Overlay) -> Option<bool> {
+    let unknown = ready("XY9")?;
+    let is_judged = judge(overlay, &unknown) == Err(RefusalWord::Unknown);
+    let reply = overlay.apply(alloc, &unknown).ok()?;
+    let is_refused = reply == Reply::Refused(RefusalWord::Unknown);
+    Some(is_judged && is_refused && overlay.accepted() == 9)
+}
+
+// Whether a later TOBT of AB1 is the tenth update.
+fn takes_later(alloc: Global, overlay: &mut Overlay) -> Option<bool> {
+    let (flight, tobt) = (FlightName::new(b"AB1")?, Minute::new(375)?);
+    let later = Update::Tobt { flight, tobt };
+    let is_judged = matches!(judge(overlay, &later), Ok(Change::NextRecord(_)));
+    let reply = overlay.apply(alloc, &later).ok()?;
+    Some(is_judged && reply == Reply::Accepted && overlay.accepted() == 10)
+}
+
+// The TOBT of AB1.
+fn tobt(overlay: &Overlay) -> Option<u16> {
+    let flight = FlightName::new(b"AB1")?;
+    Some(overlay.flight(flight)?.tobt?.get())
+}
+
+// Whether AB1 takes off last, at 06:30.
+fn is_last(alloc: Global, overlay: &Overlay) -> Option<bool> {
+    let plan = plan_of(alloc, overlay).ok()?;
+    let last = plan.runways.as_slice().first()?.slots.as_slice().last()?;
+    Some(last.name.text() == "AB1" && is_planned(&plan, (&[375, 375, 390], 0)))
+}
+
 /// Over the day of three flights a TOBT of an unknown flight is refused, and a later one of AB1 is taken: then AB1 takes off
 /// at 06:30. The day itself still has it at 06:15.
 #[test]
@@ -72,26 +104,10 @@ fn an_overlay_is_judged_and_planned(rt: HostRuntime) -> Result<(), Fail> {
     let alloc = rt.alloc();
     let base = day_of(alloc, &THREE_FLIGHTS).ok_or("no day")?;
     let mut overlay = Overlay::over(alloc, &base);
-    let unknown = ready("XY9").ok_or("no update")?;
-    assert_eq!(rt; judge(&overlay, &unknown), Err(RefusalWord::Unknown));
-    let reply = overlay.apply(alloc, &unknown)?;
-    assert_eq!(rt; reply, Reply::Refused(RefusalWord::Unknown));
-    assert_eq!(rt; overlay.accepted(), 9);
-    let flight = FlightName::new(b"AB1").ok_or("no name")?;
-    let tobt = Minute::new(375).ok_or("no minute")?;
-    let later = Update::Tobt { flight, tobt };
-    assert!(rt; matches!(judge(&overlay, &later), Ok(Change::NextRecord(_))));
-    assert_eq!(rt; overlay.apply(alloc, &later)?, Reply::Accepted);
-    assert_eq!(rt; overlay.accepted(), 10);
-    let known = overlay.flight(flight).ok_or("unknown")?;
-    assert_eq!(rt; known.tobt, Some(tobt));
-    let plan = plan_of(alloc, &overlay)?;
-    assert!(rt; is_planned(&plan, (&[375, 375, 390], 0)));
-    let [runway] = plan.runways.as_slice() else {
-        return Err("no runway".into());
-    };
-    let last = runway.slots.as_slice().last().ok_or("no slot")?;
-    assert_eq!(rt; last.name.text(), "AB1");
+    assert_eq!(rt; refuses_unknown(alloc, &mut overlay), Some(true));
+    assert_eq!(rt; takes_later(alloc, &mut overlay), Some(true));
+    assert_eq!(rt; tobt(&overlay), Some(375));
+    assert_eq!(rt; is_last(alloc, &overlay), Some(true));
     assert!(rt; is_planned(base.plan(), (&[375, 375, 380], 0)));
     Ok(())
 }

@@ -4,9 +4,10 @@ use cdm_day::{Airport, DayState};
 use cdm_feed::{
     Device, FileFault, InputFault, read_airport, read_feed, read_input, read_scenarios,
 };
-use cdm_flight::{RefusalWord, Role};
+use cdm_flight::RefusalWord;
 use cdm_journal::{LineRead, push_journal_line, read_journal, read_line};
 use cdm_phase::{OpenGate, Workers};
+use cdm_time::Day;
 use std::alloc::{AllocError, Global};
 use std::test::Fail;
 use std::thread::Threads;
@@ -32,11 +33,48 @@ fn input_of(alloc: Global, text: &[u8]) -> Result<Vec<u8>, InputFault> {
     read_input(alloc, &mut Device::new(Source::new(text, 7, 0)))
 }
 
-// The number of the record and the word, where a file is refused.
-fn fault_in<T>(answer: &Result<T, FileFault>) -> Option<(usize, RefusalWord)> {
-    match answer {
-        Err(FileFault::Refused(number, word)) => Some((*number, *word)),
+// Whether a reader gives the whole text.
+fn is_read(alloc: Global, text: &[u8]) -> bool {
+    match again!(input_of(alloc, text), InputFault::Memory) {
+        Ok(found) => found.as_slice() == text,
+        Err(_) => false,
+    }
+}
+
+/// The airport of a file.
+pub fn airport_of(alloc: Global, text: &[u8]) -> Result<Airport, FileFault> {
+    again!(read_airport(alloc, text), FileFault::Memory)
+}
+
+// The number of the record and the word by which an airport file is refused.
+fn airport_fault(alloc: Global, text: &[u8]) -> Option<(usize, RefusalWord)> {
+    match airport_of(alloc, text) {
+        Err(FileFault::Refused(number, word)) => Some((number, word)),
         _ => None,
+    }
+}
+
+// How many records a feed has, and whether its last is refused for its text and the others aren't.
+fn records(alloc: Global, day: &Day, text: &[u8]) -> Option<(usize, bool)> {
+    let feed = again!(read_feed(alloc, day, text), AllocError).ok()?;
+    let (last, others) = feed.split_last()?;
+    let is_last = *last == Err(RefusalWord::Text) && others.iter().all(|record| record.is_ok());
+    Some((feed.len(), is_last))
+}
+
+// How many updates the first and the last scenario of a file have, or the record and the word by which it is refused.
+fn scenarios(
+    alloc: Global,
+    day: &Day,
+    text: &[u8],
+) -> Option<Result<(usize, usize), (usize, RefusalWord)>> {
+    match again!(read_scenarios(alloc, day, text), FileFault::Memory) {
+        Ok(scenarios) => {
+            let (first, last) = (scenarios.first()?, scenarios.last()?);
+            Some(Ok((first.updates().len(), last.updates().len())))
+        }
+        Err(FileFault::Refused(number, word)) => Some(Err((number, word))),
+        Err(_) => None,
     }
 }
 
@@ -44,39 +82,30 @@ fn fault_in<T>(answer: &Result<T, FileFault>) -> Option<(usize, RefusalWord)> {
 #[test]
 fn refused_memory_in_files(rt: HostRuntime) -> Result<(), Fail> {
     let alloc = rt.alloc();
-    let text = again!(rt, input_of(alloc, AIRPORT), InputFault::Memory, true);
-    let text = text.map_err(|_| "not read")?;
-    assert_eq!(rt; text.as_slice(), AIRPORT);
-    let airport = again!(rt, read_airport(alloc, &text), FileFault::Memory, true);
-    let airport = airport.map_err(|_| "no airport")?;
+    assert!(rt; is_read(alloc, AIRPORT));
+    let airport = airport_of(alloc, AIRPORT).map_err(|_| "no airport")?;
     assert_eq!(rt; airport.runways().len(), 1);
-    let unknown = again!(rt, read_airport(alloc, UNKNOWN), FileFault::Memory, true);
-    assert_eq!(rt; fault_in(&unknown), Some((3, RefusalWord::Unknown)));
+    let fault = airport_fault(alloc, UNKNOWN);
+    assert_eq!(rt; fault, Some((3, RefusalWord::Unknown)));
     let day = airport.day();
-    let feed = again!(rt, read_feed(alloc, day, FEED), AllocError, true)?;
-    assert_eq!(rt; feed.len(), 4);
-    let roles = feed
-        .iter()
-        .filter(|record| matches!(record, Ok((Role::AircraftOperator, _))));
-    assert_eq!(rt; roles.count(), 1);
-    assert_eq!(rt; feed.last().copied(), Some(Err(RefusalWord::Text)));
-    let scenarios = again!(
-        rt,
-        read_scenarios(alloc, day, SCENARIOS),
-        FileFault::Memory,
-        true
-    );
-    let scenarios = scenarios.map_err(|_| "no scenarios")?;
-    let counts = scenarios.iter().map(|scenario| scenario.updates().len());
-    assert!(rt; counts.eq([2, 0].iter().copied()));
-    let orphan = again!(
-        rt,
-        read_scenarios(alloc, day, b"CNL,AB1\n"),
-        FileFault::Memory,
-        true
-    );
-    assert_eq!(rt; fault_in(&orphan), Some((1, RefusalWord::Order)));
+    assert_eq!(rt; records(alloc, day, FEED), Some((4, true)));
+    assert_eq!(rt; scenarios(alloc, day, SCENARIOS), Some(Ok((2, 0))));
+    let orphan = scenarios(alloc, day, b"CNL,AB1\n");
+    assert_eq!(rt; orphan, Some(Err((1, RefusalWord::Order))));
     Ok(())
+}
+
+// The line of a journal that the record of a line makes.
+fn journal_line(alloc: Global, line: &[u8]) -> Option<Vec<u8>> {
+    let LineRead::One(row) = again!(read_line(alloc, line), AllocError).ok()? else {
+        return None;
+    };
+    let mut text = Vec::new(alloc);
+    if push_journal_line(&mut text, &row).is_err() {
+        text.clear();
+        push_journal_line(&mut text, &row).ok()?;
+    }
+    Some(text)
 }
 
 // The day of a journal, whose airport goes with it.
@@ -90,41 +119,29 @@ fn day_of<R: Threads + Sync>(
     read_journal(rt, alloc, airport.copy(alloc)?, journal, workers, &OpenGate)
 }
 
+// How many updates it has, or the record and the word by which it is refused.
+fn updates<R: Threads + Sync>(
+    rt: &R,
+    alloc: Global,
+    airport: &Airport,
+    journal: &[u8],
+) -> Option<Result<usize, (usize, RefusalWord)>> {
+    match again!(day_of(rt, alloc, airport, journal), FileFault::Memory) {
+        Ok(day) => Some(Ok(day.journal().len())),
+        Err(FileFault::Refused(number, word)) => Some(Err((number, word))),
+        Err(_) => None,
+    }
+}
+
 /// A line and the line of the journal that it makes, and the day of a journal.
 #[test]
 fn refused_memory_in_a_journal(rt: HostRuntime) -> Result<(), Fail> {
     let alloc = rt.alloc();
-    let line = again!(
-        rt,
-        read_line(alloc, b"AP,\"FLT\",AB1,5\r"),
-        AllocError,
-        true
-    )?;
-    let LineRead::One(row) = line else {
-        return Err("no record".into());
-    };
-    let mut text = Vec::new(alloc);
-    if push_journal_line(&mut text, &row).is_err() {
-        text.clear();
-        push_journal_line(&mut text, &row)?;
-    }
-    assert_eq!(rt; text.as_slice(), b"AP,FLT,AB1,5\n".as_slice());
-    let airport = again!(rt, read_airport(alloc, AIRPORT), FileFault::Memory, true);
-    let airport = airport.map_err(|_| "no airport")?;
-    let day = again!(
-        rt,
-        day_of(&rt, alloc, &airport, JOURNAL),
-        FileFault::Memory,
-        true
-    );
-    let day = day.map_err(|_| "no day")?;
-    assert_eq!(rt; day.journal().len(), 3);
-    let refused = again!(
-        rt,
-        day_of(&rt, alloc, &airport, FEED),
-        FileFault::Memory,
-        true
-    );
-    assert_eq!(rt; fault_in(&refused), Some((4, RefusalWord::Text)));
+    let line = journal_line(alloc, b"AP,\"FLT\",AB1,5\r").ok_or("no line")?;
+    assert_eq!(rt; line.as_slice(), b"AP,FLT,AB1,5\n".as_slice());
+    let airport = airport_of(alloc, AIRPORT).map_err(|_| "no airport")?;
+    assert_eq!(rt; updates(&rt, alloc, &airport, JOURNAL), Some(Ok(3)));
+    let refused = updates(&rt, alloc, &airport, FEED);
+    assert_eq!(rt; refused, Some(Err((4, RefusalWord::Text))));
     Ok(())
 }

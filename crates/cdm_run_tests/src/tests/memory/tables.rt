@@ -1,11 +1,12 @@
 //! Tables of a day.
+use super::readers::airport_of;
 use super::runs::{AIRPORT, FEED};
 use cdm_day::{Airport, DayState};
-use cdm_feed::{FileFault, read_airport, read_scenarios};
+use cdm_feed::{FileFault, read_scenarios};
 use cdm_journal::read_journal;
 use cdm_phase::{OpenGate, Workers};
 use cdm_plan::Runner;
-use cdm_scenario::ScenarioName;
+use cdm_scenario::{Scenario, ScenarioName};
 use cdm_table::{Table, TableFault, tabulate};
 use std::alloc::Global;
 use std::test::Fail;
@@ -46,26 +47,39 @@ fn day_of<R: Threads + Sync>(
     read_journal(rt, alloc, airport, FEED.as_bytes(), workers, &OpenGate)
 }
 
+// The scenarios of a file.
+fn scenarios_of(alloc: Global, airport: &Airport) -> Result<Vec<Scenario>, FileFault> {
+    again!(
+        read_scenarios(alloc, airport.day(), SCENARIO),
+        FileFault::Memory
+    )
+}
+
+// The text of a table.
+fn text_of<R: Threads + Sync>(
+    rt: &R,
+    alloc: Global,
+    base: &DayState,
+    scenarios: &[Scenario],
+    table: &Table,
+    workers: &Workers,
+) -> Result<Vec<u8>, TableFault> {
+    let runner = Runner {
+        rt,
+        workers: *workers,
+        gate: &OpenGate,
+    };
+    tabulate(alloc, base, scenarios, *table, &runner)
+}
+
 /// Rows and a comparison of a day and a scenario over it, by one worker and by two.
 #[test]
 fn refused_memory_in_tables(rt: HostRuntime) -> Result<(), Fail> {
     let alloc = rt.alloc();
-    let airport = again!(
-        rt,
-        read_airport(alloc, AIRPORT.as_bytes()),
-        FileFault::Memory,
-        true
-    );
-    let airport = airport.map_err(|_| "no airport")?;
-    let base = again!(rt, day_of(&rt, alloc, &airport), FileFault::Memory, true);
+    let airport = airport_of(alloc, AIRPORT.as_bytes()).map_err(|_| "no airport")?;
+    let base = again!(day_of(&rt, alloc, &airport), FileFault::Memory);
     let base = base.map_err(|_| "no day")?;
-    let scenarios = again!(
-        rt,
-        read_scenarios(alloc, airport.day(), SCENARIO),
-        FileFault::Memory,
-        true
-    );
-    let scenarios = scenarios.map_err(|_| "no scenario")?;
+    let scenarios = scenarios_of(alloc, &airport).map_err(|_| "no scenario")?;
     let name = ScenarioName::new(b"SHUT").ok_or("no name")?;
     for (table, count, wanted) in [
         (Table::Csv, 1, ROWS),
@@ -73,19 +87,13 @@ fn refused_memory_in_tables(rt: HostRuntime) -> Result<(), Fail> {
         (Table::Comparison(Some(name)), 2, COMPARED),
     ] {
         let workers = Workers::new(count).ok_or("no workers")?;
-        let runner = Runner {
-            rt: &rt,
-            workers,
-            gate: &OpenGate,
-        };
         let text = again!(
-            rt,
-            tabulate(alloc, &base, &scenarios, table, &runner),
-            TableFault::Memory,
-            base.journal().len() == 9
+            text_of(&rt, alloc, &base, &scenarios, &table, &workers),
+            TableFault::Memory
         );
         let text = text.map_err(|_| "no table")?;
         assert_eq!(rt; text.as_slice(), wanted.as_bytes(), "{count} workers");
     }
+    assert_eq!(rt; base.journal().len(), 9);
     Ok(())
 }

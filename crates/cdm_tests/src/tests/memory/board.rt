@@ -2,38 +2,50 @@
 use super::{Planned, is_day, made};
 use crate::tests::board::desks::entries;
 use crate::tests::days::{closed, planned};
-use cdm_board::{Board, BoardError, BoardState, Desk, OpenFault, what_if};
-use cdm_day::Reply;
+use cdm_board::{Board, BoardError, BoardState, Desk, OpenFault, Snapshot, what_if};
 use cdm_phase::{OpenGate, Workers};
 use cdm_scenario::{Outcome, Scenario, ScenarioFault, ScenarioName};
 use std::alloc::{AllocError, Global};
+use std::sync::Wait;
 use std::test::Fail;
+use std::thread::Threads;
 
 /// With one flight, and with two.
 const ONE: Planned = (&[375], 0);
 
 const TWO: Planned = (&[375, 375], 0);
 
+// How many replies the first desk's post of a flight's updates has.
+fn replies_alone(alloc: Global, state: &mut BoardState) -> Option<usize> {
+    let batch = planned("CD2")?;
+    let replies = again!(
+        state.post(alloc, 1, &batch),
+        BoardError::Memory,
+        state.calls() == 0 && is_day(state.day(), 3, ONE)
+    )?;
+    Some(replies.len())
+}
+
+// Whether the last desk's look has both flights.
+fn looks_alone(alloc: Global, state: &mut BoardState) -> bool {
+    let seen = again!(
+        state.look(alloc, 16),
+        BoardError::Memory,
+        state.calls() == 1 && is_day(state.day(), 6, TWO)
+    );
+    match seen {
+        Some(snapshot) => is_day(snapshot.state(), 6, TWO),
+        None => false,
+    }
+}
+
 /// The board of one thread, with a post and a look.
 #[test]
 fn refused_memory_leaves_a_board_of_one_thread(rt: HostRuntime) -> Result<(), Fail> {
     let alloc = rt.alloc();
     let mut state = BoardState::new(alloc, made(alloc, &["AB1"]).ok_or("no day")?);
-    let batch = planned("CD2").ok_or("no batch")?;
-    let replies = again!(
-        rt,
-        state.post(alloc, 1, &batch),
-        BoardError::Memory,
-        state.calls() == 0 && is_day(state.day(), 3, ONE)
-    )?;
-    assert_eq!(rt; replies.as_slice(), [Reply::Accepted; 3].as_slice());
-    let snapshot = again!(
-        rt,
-        state.look(alloc, 16),
-        BoardError::Memory,
-        state.calls() == 1 && is_day(state.day(), 6, TWO)
-    )?;
-    assert!(rt; is_day(snapshot.state(), 6, TWO));
+    assert_eq!(rt; replies_alone(alloc, &mut state), Some(3));
+    assert!(rt; looks_alone(alloc, &mut state));
     assert_eq!(rt; state.calls(), 2);
     Ok(())
 }
@@ -53,41 +65,76 @@ fn opened(alloc: Global) -> Option<(Board, Vec<Desk>)> {
     }
 }
 
-/// A board is opened, its desks post and look, and it is closed with the answered calls alone.
+// Whether the desk's post of a flight's updates has a reply for each.
+fn posts<R: Wait>(rt: &R, alloc: Global, board: &Board, desk: &mut Desk) -> bool {
+    let Some(batch) = planned("CD2") else {
+        return false;
+    };
+    match again!(
+        board.post(rt, alloc, desk, &batch),
+        BoardError::Memory,
+        desk.calls() == 0
+    ) {
+        Some(replies) => replies.len() == 3,
+        None => false,
+    }
+}
+
+// How many updates the desk's look has.
+fn looks<R: Wait>(rt: &R, alloc: Global, board: &Board, desk: &mut Desk) -> Option<usize> {
+    let snapshot = again!(
+        board.look(rt, alloc, desk),
+        BoardError::Memory,
+        desk.calls() == 1
+    )?;
+    Some(snapshot.state().journal().len())
+}
+
+/// A board is opened, its desks post and look, and it is closed with the answered calls alone. The second post of a flight
+/// is refused in the update that makes it known.
 #[test]
 fn refused_memory_leaves_desks(rt: HostRuntime) -> Result<(), Fail> {
     let alloc = rt.alloc();
     let (board, mut desks) = opened(alloc).ok_or("not opened")?;
-    let batch = planned("CD2").ok_or("no batch")?;
+    let mut updates = [6, 8].iter();
     for desk in &mut desks {
-        let replies = again!(
-            rt,
-            board.post(&rt, alloc, desk, &batch),
-            BoardError::Memory,
-            desk.calls() == 0
-        )?;
-        assert_eq!(rt; replies.len(), 3);
-        let snapshot = again!(
-            rt,
-            board.look(&rt, alloc, desk),
-            BoardError::Memory,
-            desk.calls() == 1
-        )?;
-        assert!(rt; is_day(snapshot.state(), 8, TWO) || is_day(snapshot.state(), 6, TWO));
-        assert_eq!(rt; desk.calls(), 2);
+        assert!(rt; posts(&rt, alloc, &board, desk));
+        assert_eq!(rt; looks(&rt, alloc, &board, desk), updates.next().copied());
     }
     assert_eq!(rt; entries(board, desks), Some(4));
     Ok(())
 }
 
-// Whether both outcomes have the flight 15 minutes late, behind the closure.
-fn are_late(outcomes: &[Outcome]) -> bool {
-    match outcomes {
-        [Outcome::Planned(_, one), Outcome::Planned(_, other)] => {
-            (one.placed, one.delay) == (1, 15) && (other.placed, other.delay) == (1, 15)
-        }
-        _ => false,
+// The scenario that closes the runway.
+fn closing(alloc: Global) -> Option<Scenario> {
+    let (name, closure) = (ScenarioName::new(b"SHUT")?, closed()?);
+    let mut scenario = Scenario::empty(alloc, name);
+    again!(
+        scenario.add(closure),
+        ScenarioFault::Memory,
+        scenario.updates().is_empty()
+    )?;
+    Some(scenario)
+}
+
+// Whether the outcome has the flight 15 minutes late, behind the closure.
+fn is_late(outcome: &Outcome) -> bool {
+    match outcome {
+        Outcome::Planned(_, counts) => (counts.placed, counts.delay) == (1, 15),
+        Outcome::Refused(_, _) => false,
     }
+}
+
+// How many of the outcomes over the snapshot are late, the flight 15 minutes behind the closure.
+fn late<R: Threads + Sync>(rt: &R, alloc: Global, snapshot: &Snapshot) -> Option<usize> {
+    let scenarios = [closing(alloc)?, closing(alloc)?];
+    let workers = Workers::new(2)?;
+    let outcomes = again!(
+        what_if(rt, alloc, snapshot, &scenarios, workers, &OpenGate),
+        AllocError,
+        is_day(snapshot.state(), 3, ONE)
+    )?;
+    Some(outcomes.iter().filter(|outcome| is_late(outcome)).count())
 }
 
 /// Questions over a snapshot, which stays.
@@ -95,31 +142,9 @@ fn are_late(outcomes: &[Outcome]) -> bool {
 fn refused_memory_leaves_a_snapshot(rt: HostRuntime) -> Result<(), Fail> {
     let alloc = rt.alloc();
     let mut state = BoardState::new(alloc, made(alloc, &["AB1"]).ok_or("no day")?);
-    let snapshot = again!(
-        rt,
-        state.look(alloc, 1),
-        BoardError::Memory,
-        state.calls() == 0
-    )?;
-    let name = ScenarioName::new(b"SHUT").ok_or("no name")?;
-    let mut scenarios = [Scenario::empty(alloc, name), Scenario::empty(alloc, name)];
-    for scenario in &mut scenarios {
-        let closure = closed().ok_or("no closure")?;
-        again!(
-            rt,
-            scenario.add(closure),
-            ScenarioFault::Memory,
-            scenario.updates().is_empty()
-        )?;
-    }
-    let workers = Workers::new(2).ok_or("no workers")?;
-    let outcomes = again!(
-        rt,
-        what_if(&rt, alloc, &snapshot, &scenarios, workers, &OpenGate),
-        AllocError,
-        is_day(snapshot.state(), 3, ONE)
-    )?;
-    assert!(rt; are_late(&outcomes));
+    let seen = again!(state.look(alloc, 1), BoardError::Memory, state.calls() == 0);
+    let snapshot = seen.ok_or("no snapshot")?;
+    assert_eq!(rt; late(&rt, alloc, &snapshot), Some(2));
     assert!(rt; is_day(snapshot.state(), 3, ONE));
     Ok(())
 }

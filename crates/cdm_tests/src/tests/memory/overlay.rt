@@ -1,11 +1,24 @@
 //! Updates that are laid over a day, and scenarios.
-use super::{PLANS, is_day, is_planned, made, morning};
+use super::{PLANS, Planned, is_day, is_planned, is_planned_anew, made, morning, plans_around};
 use crate::tests::days::THREE_FLIGHTS;
-use cdm_day::{Records, Reply, plan_of};
+use cdm_day::{DayState, Records, Reply};
+use cdm_flight::Update;
 use cdm_phase::{OpenGate, Workers};
 use cdm_scenario::{Outcome, Overlay, Scenario, ScenarioFault, ScenarioName, answer, answer_all};
-use std::alloc::AllocError;
+use std::alloc::{AllocError, Global};
 use std::test::Fail;
+use std::thread::Threads;
+
+// Whether the update is accepted over a day that is planned like this.
+fn accepts(alloc: Global, overlay: &mut Overlay, update: &Update, before: Planned) -> bool {
+    let accepted = overlay.accepted();
+    let replied = again!(
+        overlay.apply(alloc, update),
+        AllocError,
+        overlay.accepted() == accepted && is_planned_anew(alloc, overlay, before)
+    );
+    replied == Some(Reply::Accepted)
+}
 
 /// Each update of a morning is laid over a day, which stays.
 #[test]
@@ -15,22 +28,32 @@ fn refused_memory_leaves_an_overlay(rt: HostRuntime) -> Result<(), Fail> {
     let mut overlay = Overlay::over(alloc, &base);
     let updates = morning().ok_or("no updates")?;
     for (place, (_, update)) in updates.iter().enumerate() {
-        let before = *PLANS.get(place).ok_or("no plan")?;
-        let after = *PLANS.get(place + 1).ok_or("no plan")?;
-        let reply = again!(
-            rt,
-            overlay.apply(alloc, update),
-            AllocError,
-            overlay.accepted() == 9 + place
-                && plan_of(alloc, &overlay).is_ok_and(|plan| is_planned(&plan, before))
-        )?;
-        assert_eq!(rt; reply, Reply::Accepted, "{update:?}");
-        let plan = again!(rt, plan_of(alloc, &overlay), AllocError, true)?;
-        assert!(rt; is_planned(&plan, after), "{update:?}");
+        let (before, after) = plans_around(place).ok_or("no plan")?;
+        assert!(rt; accepts(alloc, &mut overlay, update, before), "{place}");
+        assert!(rt; is_planned_anew(alloc, &overlay, after), "{place}");
     }
     assert_eq!(rt; overlay.accepted(), 18);
     assert!(rt; is_day(&base, 9, PLANS[0]));
     Ok(())
+}
+
+// Adds an update to a scenario.
+fn add(scenario: &mut Scenario, update: &Update) -> Option<()> {
+    let updates = scenario.updates().len();
+    again!(
+        scenario.add(*update),
+        ScenarioFault::Memory,
+        scenario.updates().len() == updates
+    )
+}
+
+// The scenario of a morning's updates.
+fn of_morning(alloc: Global) -> Option<Scenario> {
+    let mut scenario = Scenario::empty(alloc, ScenarioName::new(b"MORNING")?);
+    for (_, update) in &morning()? {
+        add(&mut scenario, update)?;
+    }
+    Some(scenario)
 }
 
 // Whether it has the morning's last plan.
@@ -41,40 +64,49 @@ fn is_answered(outcome: &Outcome) -> bool {
     }
 }
 
+// Whether the scenario is answered by the caller alone.
+fn is_answered_alone(alloc: Global, base: &DayState, scenario: &Scenario) -> bool {
+    match again!(
+        answer(alloc, base, scenario),
+        AllocError,
+        is_day(base, 9, PLANS[0])
+    ) {
+        Some(outcome) => is_answered(&outcome),
+        None => false,
+    }
+}
+
+// How many of the scenarios are answered by two workers.
+fn answered<R: Threads + Sync>(
+    rt: &R,
+    alloc: Global,
+    base: &DayState,
+    scenarios: &[Scenario],
+) -> Option<usize> {
+    let workers = Workers::new(2)?;
+    let outcomes = again!(
+        answer_all(rt, alloc, base, scenarios, workers, &OpenGate),
+        AllocError,
+        is_day(base, 9, PLANS[0])
+    )?;
+    Some(
+        outcomes
+            .iter()
+            .filter(|outcome| is_answered(outcome))
+            .count(),
+    )
+}
+
 /// A scenario takes each update of a morning, and is answered over a day, which stays.
 #[test]
 fn refused_memory_leaves_a_scenario(rt: HostRuntime) -> Result<(), Fail> {
     let alloc = rt.alloc();
     let base = made(alloc, &THREE_FLIGHTS).ok_or("no day")?;
-    let name = ScenarioName::new(b"MORNING").ok_or("no name")?;
-    let mut scenarios = [Scenario::empty(alloc, name), Scenario::empty(alloc, name)];
-    for scenario in &mut scenarios {
-        for (place, (_, update)) in morning().ok_or("no updates")?.iter().enumerate() {
-            again!(
-                rt,
-                scenario.add(*update),
-                ScenarioFault::Memory,
-                scenario.updates().len() == place
-            )?;
-            assert_eq!(rt; scenario.updates().len(), place + 1);
-        }
-    }
-    let outcome = again!(
-        rt,
-        answer(alloc, &base, &scenarios[0]),
-        AllocError,
-        is_day(&base, 9, PLANS[0])
-    )?;
-    assert!(rt; is_answered(&outcome));
-    let workers = Workers::new(2).ok_or("no workers")?;
-    let outcomes = again!(
-        rt,
-        answer_all(&rt, alloc, &base, &scenarios, workers, &OpenGate),
-        AllocError,
-        is_day(&base, 9, PLANS[0])
-    )?;
-    assert_eq!(rt; outcomes.len(), 2);
-    assert!(rt; outcomes.iter().all(is_answered));
+    let first = of_morning(alloc).ok_or("no scenario")?;
+    let second = of_morning(alloc).ok_or("no scenario")?;
+    assert!(rt; is_answered_alone(alloc, &base, &first));
+    let scenarios = [first, second];
+    assert_eq!(rt; answered(&rt, alloc, &base, &scenarios), Some(2));
     assert!(rt; is_day(&base, 9, PLANS[0]));
     Ok(())
 }

@@ -5,7 +5,9 @@ ghost use Rattle.cdm_phase.specs.declared.job.PhaseName.TheVariants.{Targets};
 
 use cdm_phase::{Job, OpenGate, PhaseName, Piece, Workers, assemble, run_here, run_phase};
 use std::alloc::{AllocError, Global};
-use std::test::Fail;
+use std::thread::Threads;
+
+const ITEMS: [u32; 3] = [10, 20, 30];
 
 /// One more than the item.
 struct AddOne;
@@ -44,28 +46,33 @@ fn double_and_gap(alloc: Global) -> Result<Vec<u64>, AllocError> {
     pieces.push(piece_of_one(alloc, 2, 31)?)?;
     pieces.push(piece_of_one(alloc, 0, 11)?)?;
     pieces.push(piece_of_one(alloc, 0, 11)?)?;
-    assemble(alloc, &AddOne, &[10, 20, 30], 1, pieces)
+    assemble(alloc, &AddOne, &ITEMS, 1, pieces)
+}
+
+// What many workers make.
+fn by_workers<R: Threads + Sync>(rt: &R, alloc: Global, count: usize) -> Option<Vec<u64>> {
+    let workers = Workers::new(count)?;
+    again!(
+        run_phase(rt, alloc, workers, 1, &AddOne, &ITEMS, &OpenGate),
+        AllocError,
+        true
+    )
 }
 
 /// A double and a gap make the list, and so do a phase of many workers and the caller alone.
 #[test]
-fn refused_memory_in_pieces(rt: HostRuntime) -> Result<(), Fail> {
+fn refused_memory_in_pieces(rt: HostRuntime) {
     let alloc = rt.alloc();
-    let wanted = [11u64, 21, 31];
-    let outs = again!(rt, double_and_gap(alloc), AllocError, true)?;
-    assert_eq!(rt; outs.as_slice(), wanted.as_slice());
-    let items = [10, 20, 30];
-    let outs = again!(rt, run_here(alloc, &AddOne, &items), AllocError, true)?;
-    assert_eq!(rt; outs.as_slice(), wanted.as_slice());
+    let wanted = Some([11u64, 21, 31].as_slice());
+    let outs = again!(double_and_gap(alloc), AllocError, true);
+    assert_eq!(rt; outs.as_deref(), wanted);
+    let outs = again!(run_here(alloc, &AddOne, &ITEMS), AllocError, true);
+    assert_eq!(rt; outs.as_deref(), wanted);
     for count in [1, 2, 7] {
-        let workers = Workers::new(count).ok_or("no workers")?;
-        let outs = again!(
-            rt,
-            run_phase(&rt, alloc, workers, 1, &AddOne, &items, &OpenGate),
-            AllocError,
-            true
-        )?;
-        assert_eq!(rt; outs.as_slice(), wanted.as_slice(), "{count} workers");
+        assert_eq!(rt;
+            by_workers(&rt, alloc, count).as_deref(),
+            wanted,
+            "{count} workers"
+        );
     }
-    Ok(())
 }

@@ -43,6 +43,30 @@ pub fn set_window(
     }
 }
 
+// A copy that is alike.
+fn copied(alloc: Global, runway: &Runway) -> Option<Runway> {
+    let copied = again!(runway.copy(alloc), AllocError, true)?;
+    agree(runway, &copied).then_some(copied)
+}
+
+// What the runway allows at the first minute of a changed window.
+fn changed(
+    alloc: Global,
+    runway: &mut Runway,
+    word: &str,
+    window: (u16, u16),
+    number: u16,
+) -> Option<(u16, bool)> {
+    let before = copied(alloc, runway)?;
+    let (from, to, cap) = window_of(window.0, window.1, number)?;
+    again!(
+        set_window(runway, word, from, to, cap),
+        RunwayFault::Memory,
+        agree(runway, &before)
+    )?;
+    Some(allowed(runway, from))
+}
+
 /// With each change stands what the runway then allows at the first minute of its window.
 #[test]
 fn refused_memory_leaves_a_runway(rt: HostRuntime) -> Result<(), Fail> {
@@ -61,17 +85,8 @@ fn refused_memory_leaves_a_runway(rt: HostRuntime) -> Result<(), Fail> {
         ("OPEN", 360, 380, 0, (2, false)),
         ("RATE", 0, 2880, 0, (0, true)),
     ] {
-        let (first, end, cap) = window_of(from, to, number).ok_or("no window")?;
-        let before = again!(rt, runway.copy(alloc), AllocError, true)?;
-        assert!(rt; agree(&runway, &before), "before {word} {from} {to}");
-        again!(
-            rt,
-            set_window(&mut runway, word, first, end, cap),
-            RunwayFault::Memory,
-            agree(&runway, &before)
-        )?;
-        let found = allowed(&runway, first);
-        assert!(rt; found == after, "after {word} {from} {to}");
+        let found = changed(alloc, &mut runway, word, (from, to), number);
+        assert_eq!(rt; found, Some(after), "{word} {from} {to}");
     }
     Ok(())
 }

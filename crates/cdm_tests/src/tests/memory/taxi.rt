@@ -1,7 +1,7 @@
 //! Taxi times.
 use cdm_flight::{Ice, IceMinutes, Place, RunwayName, StandName, TaxiMinutes};
 use cdm_taxi::{TaxiFault, TaxiTable};
-use std::alloc::AllocError;
+use std::alloc::{AllocError, Global};
 use std::test::Fail;
 
 // One of a thousand stands, and minutes of its own.
@@ -12,17 +12,51 @@ fn row(number: u16) -> Option<(Place, TaxiMinutes)> {
     Some((Place::Stand(stand), TaxiMinutes::new(1 + number % 100)?))
 }
 
-// Whether the table has the rows of so many stands, and room for one more.
+// The minutes from a place to a runway.
+fn minutes_from(table: &TaxiTable, place: &Place, runway: RunwayName) -> Option<u16> {
+    Some(table.minutes(*place, runway)?.get())
+}
+
+// Whether the table has the rows of so many stands.
 fn has_rows(table: &TaxiTable, runway: RunwayName, stands: u16) -> bool {
-    let mut has = true;
     for number in 0..=stands {
-        if let Some((place, minutes)) = row(number) {
-            let wanted = (number < stands).then_some(minutes);
-            let (found, fits) = (table.minutes(place, runway), table.fits(place));
-            has = has && found == wanted && fits;
+        let found = row(number).and_then(|(place, _)| minutes_from(table, &place, runway));
+        if found != (number < stands).then_some(1 + number % 100) {
+            return false;
         }
     }
-    has
+    true
+}
+
+// Sets the time of a place.
+fn set_row(
+    table: &mut TaxiTable,
+    place: &Place,
+    runway: RunwayName,
+    minutes: TaxiMinutes,
+) -> Result<(), TaxiFault> {
+    table.set(*place, runway, minutes)
+}
+
+// The answer to the row of a stand, behind those of the stands before it.
+fn answer(table: &mut TaxiTable, runway: RunwayName, number: u16) -> Option<Result<(), TaxiFault>> {
+    let (place, minutes) = row(number)?;
+    let first = set_row(table, &place, runway, minutes);
+    if first == Err(TaxiFault::Memory) && has_rows(table, runway, number) {
+        return Some(set_row(table, &place, runway, minutes));
+    }
+    Some(first)
+}
+
+// Sets the time of a place for another than it has.
+fn set(table: &mut TaxiTable, place: &Place, runway: RunwayName, number: u16) -> Option<()> {
+    let minutes = TaxiMinutes::new(number)?;
+    let before = minutes_from(table, place, runway);
+    again!(
+        set_row(table, place, runway, minutes),
+        TaxiFault::Memory,
+        minutes_from(table, place, runway) == before
+    )
 }
 
 /// With rows of 400 stands the table is full for another stand, but not for one of them, nor for the default.
@@ -31,29 +65,23 @@ fn refused_memory_leaves_taxi_times(rt: HostRuntime) -> Result<(), Fail> {
     let runway = RunwayName::new(b"27L").ok_or("no runway")?;
     let mut table = TaxiTable::empty(rt.alloc());
     for number in 0..401u16 {
-        let (place, minutes) = row(number).ok_or("no row")?;
-        let set = again!(
-            rt,
-            table.set(place, runway, minutes),
-            TaxiFault::Memory,
-            has_rows(&table, runway, number)
+        let wanted = if number == 400 {
+            Err(TaxiFault::Full)
+        } else {
+            Ok(())
+        };
+        assert_eq!(rt;
+            answer(&mut table, runway, number),
+            Some(wanted),
+            "{number}"
         );
-        let fault = (number == 400).then_some(TaxiFault::Full);
-        assert_eq!(rt; set.err(), fault, "{number}");
     }
-    let (stand, _) = row(7).ok_or("no row")?;
-    let minutes = TaxiMinutes::new(120).ok_or("no minutes")?;
-    let mut copied = again!(rt, table.copy(), AllocError, true)?;
+    let mut copied = again!(table.copy(), AllocError, true).ok_or("not copied")?;
     assert!(rt; copied.is_same(&table));
+    let (stand, _) = row(7).ok_or("no row")?;
     for place in [stand, Place::Default] {
-        let set = again!(
-            rt,
-            copied.set(place, runway, minutes),
-            TaxiFault::Memory,
-            copied.minutes(place, runway) == table.minutes(place, runway)
-        );
-        assert!(rt; set.is_ok());
-        assert_eq!(rt; copied.minutes(place, runway), Some(minutes));
+        assert_eq!(rt; set(&mut copied, &place, runway, 120), Some(()));
+        assert_eq!(rt; minutes_from(&copied, &place, runway), Some(120));
     }
     assert!(rt; !copied.is_same(&table));
     Ok(())
@@ -66,28 +94,25 @@ fn exot(table: &TaxiTable, stand: &str, runway: &str, ice: u16) -> Option<u16> {
     table.exot(Some(stand), RunwayName::new(runway.as_bytes())?, ice)
 }
 
+// The table of a stand and the default.
+fn two_rows(alloc: Global) -> Option<TaxiTable> {
+    let (runway, stand) = (RunwayName::new(b"27L")?, StandName::new(b"A1")?);
+    let mut table = TaxiTable::empty(alloc);
+    set(&mut table, &Place::Default, runway, 15)?;
+    set(&mut table, &Place::Stand(stand), runway, 10)?;
+    Some(table)
+}
+
 /// A stand's own time, that of the default, de-icing on top, and a runway without times.
 #[test]
 fn refused_memory_in_two_rows(rt: HostRuntime) -> Result<(), Fail> {
-    let runway = RunwayName::new(b"27L").ok_or("no runway")?;
-    let stand = StandName::new(b"A1").ok_or("no stand")?;
-    let mut table = TaxiTable::empty(rt.alloc());
-    for (place, number) in [(Place::Default, 15), (Place::Stand(stand), 10)] {
-        let minutes = TaxiMinutes::new(number).ok_or("no minutes")?;
-        again!(
-            rt,
-            table.set(place, runway, minutes),
-            TaxiFault::Memory,
-            table.minutes(place, runway) == None
-        )?;
-    }
-    let rows = [
+    let table = two_rows(rt.alloc()).ok_or("not set")?;
+    for (stand, runway, ice, wanted) in [
         ("A1", "27L", 0, Some(10)),
         ("A1", "27L", 12, Some(22)),
         ("A2", "27L", 0, Some(15)),
         ("A1", "09", 0, None),
-    ];
-    for (stand, runway, ice, wanted) in rows {
+    ] {
         assert_eq!(rt; exot(&table, stand, runway, ice), wanted, "{stand} {ice}");
     }
     Ok(())

@@ -1,10 +1,11 @@
 //! Texts of a day.
 use super::{PLANS, is_day, made};
 use crate::tests::days::THREE_FLIGHTS;
+use cdm_day::DayState;
 use cdm_flight::{FlightName, RefusalWord};
 use cdm_report::{delta_text, indicators, refused_text, report_text};
 use cdm_view::{Question, Standings, ViewFault, answer};
-use std::alloc::AllocError;
+use std::alloc::{AllocError, Global};
 use std::test::Fail;
 
 const REPORT: &str = "\
@@ -36,50 +37,63 @@ RUNWAY 27L CELL 10
 100620  1/2  CLOSED  0 AB3
 ";
 
+// Whether it is this text.
+fn is_text(found: Option<Vec<u8>>, wanted: &str) -> bool {
+    match found {
+        Some(text) => text.as_slice() == wanted.as_bytes(),
+        None => false,
+    }
+}
+
+// The report of a day.
+fn report(alloc: Global, state: &DayState) -> Option<Vec<u8>> {
+    let refused = [(7, RefusalWord::Exists), (1000, RefusalWord::Full)];
+    let (day, plan) = (state.day(), state.plan());
+    again!(report_text(alloc, day, plan, &refused), AllocError, true)
+}
+
+// The growth from a day without flights.
+fn growth(alloc: Global, state: &DayState) -> Option<Vec<u8>> {
+    let empty = made(alloc, &[])?;
+    let (base, counts) = (indicators(empty.plan()), indicators(state.plan()));
+    again!(delta_text(alloc, &base, &counts), AllocError, true)
+}
+
+// What a question is answered.
+fn answered(alloc: Global, state: &DayState, question: &Question) -> Option<Vec<u8>> {
+    let (airport, plan) = (state.airport(), state.plan());
+    again!(
+        answer(alloc, airport, state, plan, *question),
+        ViewFault::Memory,
+        true
+    )
+}
+
+// How many standings the day has, and how many of them stand otherwise before.
+fn standings(alloc: Global, state: &DayState) -> Option<(usize, usize)> {
+    let (day, plan) = (state.day(), state.plan());
+    let all = again!(Standings::of(alloc, state, plan), AllocError, true)?;
+    let none = again!(all.changes(alloc, day, &all), AllocError, true)?;
+    Some((all.as_slice().len(), none.len()))
+}
+
 /// The report of a day, a growth, the line of a refused record, and what holds a flight.
 #[test]
 fn refused_memory_in_texts(rt: HostRuntime) -> Result<(), Fail> {
     let alloc = rt.alloc();
     let state = made(alloc, &THREE_FLIGHTS).ok_or("no day")?;
-    let (day, plan) = (state.day(), state.plan());
-    let refused = [(7, RefusalWord::Exists), (1000, RefusalWord::Full)];
-    let text = again!(
-        rt,
-        report_text(alloc, day, plan, &refused),
-        AllocError,
-        true
-    )?;
-    assert_eq!(rt; text.as_slice(), REPORT.as_bytes());
-    let empty = made(alloc, &[]).ok_or("no day")?;
-    let (base, counts) = (indicators(empty.plan()), indicators(plan));
-    let text = again!(rt, delta_text(alloc, &base, &counts), AllocError, true)?;
-    assert_eq!(rt; text.as_slice(), DELTA.as_bytes());
-    let text = again!(
-        rt,
+    let flight = FlightName::new(b"AB3").ok_or("no name")?;
+    let line = again!(
         refused_text(alloc, 7, RefusalWord::Exists),
         AllocError,
         true
-    )?;
-    assert_eq!(rt; text.as_slice(), b"REFUSED 7 EXISTS\n".as_slice());
-    let flight = FlightName::new(b"AB3").ok_or("no name")?;
-    for (question, wanted) in [(Question::Why(flight), WHY), (Question::Load(None), LOAD)] {
-        let text = again!(
-            rt,
-            answer(alloc, state.airport(), &state, plan, question),
-            ViewFault::Memory,
-            true
-        );
-        let text = text.map_err(|_| "no text")?;
-        assert_eq!(rt; text.as_slice(), wanted.as_bytes());
-    }
-    let standings = again!(rt, Standings::of(alloc, &state, plan), AllocError, true)?;
-    let none = again!(
-        rt,
-        standings.changes(alloc, day, &standings),
-        AllocError,
-        true
-    )?;
-    assert_eq!(rt; (standings.as_slice().len(), none.len()), (3, 0));
+    );
+    assert!(rt; is_text(line, "REFUSED 7 EXISTS\n"));
+    assert!(rt; is_text(report(alloc, &state), REPORT));
+    assert!(rt; is_text(growth(alloc, &state), DELTA));
+    assert!(rt; is_text(answered(alloc, &state, &Question::Why(flight)), WHY));
+    assert!(rt; is_text(answered(alloc, &state, &Question::Load(None)), LOAD));
+    assert_eq!(rt; standings(alloc, &state), Some((3, 0)));
     assert!(rt; is_day(&state, 9, PLANS[0]));
     Ok(())
 }
