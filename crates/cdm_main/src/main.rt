@@ -260,10 +260,11 @@ fn check<R: AllocGlobal + Files + io::Input + Threads + Sync, W: Write>(
     let airport = shown_path(alloc, files.airport)?;
     let feed = shown_path(alloc, files.feed)?;
     let scenarios = shown_path(alloc, files.scenarios.unwrap_or_default())?;
+    let scenarios = files.scenarios.map(|_| scenarios.as_str());
     let paths = FilePaths {
         airport: &airport,
         feed: &feed,
-        scenarios: files.scenarios.map(|_| scenarios.as_str()),
+        scenarios,
     };
     make(rt, files, &Asked::Check(paths), workers, out)
 }

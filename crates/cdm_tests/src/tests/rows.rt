@@ -1,9 +1,9 @@
 //! Worked values, as calls.
-use crate::tests::days::{THREE_FLIGHTS, day_of, ready};
+use crate::tests::days::{THREE_FLIGHTS, day_of};
 use crate::tests::memory::is_planned;
 use crate::tests::memory::runway::two_in_ten;
 use cdm_day::{Change, Records, Reply, judge, plan_of};
-use cdm_flight::{Cap, FlightName, Group, Priority, RefusalWord, Update};
+use cdm_flight::{Cap, FlightName, Group, RefusalWord, Update};
 use cdm_runway::{Blocked, RunwayFault, RunwayLoad};
 use cdm_scenario::{Overlay, Scenario, ScenarioName};
 use cdm_time::{Bound, Minute, Tolerance, Window, ctot_window};
@@ -68,8 +68,9 @@ fn a_ctot_window_is_cut_to_the_horizon(rt: HostRuntime) -> Result<(), Fail> {
 
 // Whether a TOBT of an unknown flight is refused, which leaves nine updates accepted.
 fn refuses_unknown(alloc: Global, overlay: &mut Overlay) -> Option<bool> {
-    let unknown = ready("XY9")?;
-    let is_judged = judge(overlay, &unknown) == Err(RefusalWord::Unknown);
+    let (flight, tobt) = (FlightName::new(b"XY9")?, Minute::new(360)?);
+    let unknown = Update::Tobt { flight, tobt };
+    let is_judged = matches!(judge(overlay, &unknown), Err(RefusalWord::Unknown));
     let reply = overlay.apply(alloc, &unknown).ok()?;
     let is_refused = reply == Reply::Refused(RefusalWord::Unknown);
     Some(is_judged && is_refused && overlay.accepted() == 9)
@@ -112,20 +113,26 @@ fn an_overlay_is_judged_and_planned(rt: HostRuntime) -> Result<(), Fail> {
     Ok(())
 }
 
+// How many updates a scenario of so many has, if there is one.
+fn scenario_of(alloc: Global, count: usize) -> Option<Option<usize>> {
+    let name = ScenarioName::new(b"SHUT")?;
+    let (flight, tobt) = (FlightName::new(b"AB1")?, Minute::new(360)?);
+    let mut updates = Vec::new(alloc);
+    for _ in 0..count {
+        updates.push(Update::Tobt { flight, tobt }).ok()?;
+    }
+    match Scenario::new(name, updates) {
+        Some(scenario) => Some(Some(scenario.updates().len())),
+        None => Some(None),
+    }
+}
+
 /// A scenario has 64 updates at most, however it is made.
 #[test]
 fn a_scenario_has_64_updates(rt: HostRuntime) -> Result<(), Fail> {
-    let name = ScenarioName::new(b"SHUT").ok_or("no name")?;
-    let flight = FlightName::new(b"AB1").ok_or("no name")?;
-    let priority = Priority::new(1).ok_or("no priority")?;
     for (count, is_one) in [(0, true), (64, true), (65, false)] {
-        let mut updates = Vec::new(rt.alloc());
-        for _ in 0..count {
-            updates.push(Update::Prio { flight, priority })?;
-        }
-        let scenario = Scenario::new(name, updates);
-        let found = scenario.map(|scenario| scenario.updates().len());
-        assert_eq!(rt; found, is_one.then_some(count), "{count} updates");
+        let found = scenario_of(rt.alloc(), count);
+        assert_eq!(rt; found, Some(is_one.then_some(count)), "{count} updates");
     }
     Ok(())
 }
