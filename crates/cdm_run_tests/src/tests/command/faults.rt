@@ -4,7 +4,7 @@ use cdm_fault::{Fault, UnopenedFile, report_fault};
 use cdm_feed::{CommonFault, Device, RunError};
 use cdm_flight::RefusalWord;
 use cdm_live::LiveError;
-use cdm_port::PortFault;
+use cdm_port::{PortFault, Reason};
 use cdm_serve::ServeError;
 use std::io::ErrorKind;
 use std::process::Abort;
@@ -58,15 +58,28 @@ fn faults_have_lines(rt: HostRuntime) {
     for (fault, line) in cases {
         check_line(&rt, fault, line);
     }
+    let (denied, full) = (ErrorKind::PermissionDenied, ErrorKind::StorageFull);
     let ports = [
-        (PortFault::CannotReadJournal, "cannot read JOURNAL"),
+        (
+            PortFault::CannotReadJournal(Reason(denied)),
+            "cannot read JOURNAL (permission denied)",
+        ),
         (
             PortFault::JournalTooLong,
             "JOURNAL is longer than 8388608 bytes",
         ),
-        (PortFault::CannotReadInput, "cannot read standard input"),
-        (PortFault::CannotWriteJournal, "cannot write JOURNAL"),
-        (PortFault::CannotWrite, "cannot write"),
+        (
+            PortFault::CannotReadInput(Reason(ErrorKind::Other)),
+            "cannot read standard input",
+        ),
+        (
+            PortFault::CannotWriteJournal(Reason(full)),
+            "cannot write JOURNAL (no space left on device)",
+        ),
+        (
+            PortFault::CannotWrite(Reason(ErrorKind::Uncategorized)),
+            "cannot write",
+        ),
         (PortFault::Memory, "out of memory"),
     ];
     for (fault, line) in ports {
