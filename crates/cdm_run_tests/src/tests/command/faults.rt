@@ -58,6 +58,10 @@ fn faults_have_lines(rt: HostRuntime) {
     for (fault, line) in cases {
         check_line(&rt, fault, line);
     }
+}
+
+#[test]
+fn faults_of_a_port_have_lines(rt: HostRuntime) {
     let (denied, full) = (ErrorKind::PermissionDenied, ErrorKind::StorageFull);
     let ports = [
         (
