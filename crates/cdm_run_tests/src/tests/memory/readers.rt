@@ -108,6 +108,9 @@ fn journal_line(alloc: Global, line: &[u8]) -> Option<Vec<u8>> {
     Some(text)
 }
 
+/// The bytes of the longest journal of a test.
+const LONGEST_JOURNAL: usize = 1_000;
+
 // The day of a journal, whose airport goes with it.
 fn day_of<R: Threads + Sync>(
     rt: &R,
@@ -116,7 +119,11 @@ fn day_of<R: Threads + Sync>(
     journal: &[u8],
 ) -> Result<DayState, FileFault> {
     let workers = Workers::new(1).unwrap();
-    read_journal(rt, alloc, airport.copy(alloc)?, journal, workers, &OpenGate)
+    let airport = airport.copy(alloc)?;
+    if journal.len() > LONGEST_JOURNAL {
+        return Err(FileFault::Memory);
+    }
+    read_journal(rt, alloc, airport, journal, workers, &OpenGate)
 }
 
 // How many updates it has, or the record and the word by which it is refused.
