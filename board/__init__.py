@@ -1,1 +1,7 @@
 """The board server: one day of `cdmseq serve`, reached over HTTP. It knows no rule of the sequence."""
+import importlib.util
+import sys
+
+PACKAGES = {"aiohttp": "python3-aiohttp", "prometheus_client": "python3-prometheus-client"}
+if missing := [package for module, package in PACKAGES.items() if importlib.util.find_spec(module) is None]:
+    sys.exit(f"cdmboard: {' and '.join(missing)} missing: sudo apt-get install {' '.join(missing)}")

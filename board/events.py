@@ -1,104 +1,81 @@
-"""Events: what each display gets, written together and at most ten times a second, the same bytes to each."""
+"""Events: what each display gets, written together at most ten times a second, the same bytes to each."""
 import asyncio
-from collections import deque
-from dataclasses import dataclass, field
-from typing import NamedTuple
+import re
+from collections.abc import Iterable
+from dataclasses import dataclass
 
-from board.replies import KEPT, KEPT_BYTES, Replies, Reply
-from board.words import json_bytes
+from board.day import Day
+from board.desks import Desk
+from board.log import Record
+from board.words import Problem
 
 PAUSE, COMMENT = 0.1, 15.0
-MOST_ROWS, MOST_UNSENT = 100, 1 << 20
-MOST_OF_DESK, MOST_DISPLAYS = 20, 5000
-
-
-class Event(NamedTuple):
-    """An event; `desk` is the only one that gets it, None for all."""
-    position: int
-    desk: str | None
-    text: bytes
+MOST_ROWS, MOST_UNSENT, MOST_OF_DESK, MOST_DISPLAYS = 100, 1 << 20, 20, 5000
 
 
 @dataclass(eq=False)
 class Stream:
     """One display; `since` is the record up to which it had events when it came."""
-    desk: str
-    is_display: bool
+    desk: Desk
     transport: asyncio.Transport
+    ended: asyncio.Event
     since: int = 0
-    ended: asyncio.Event = field(default_factory=asyncio.Event)
 
     def write(self, text: bytes) -> None:
         """A chunk of the answer. Who doesn't read is cut off."""
         if self.transport.get_write_buffer_size() > MOST_UNSENT:
             self.transport.abort()
-        elif text and not self.transport.is_closing():
+        elif not self.transport.is_closing():
             self.transport.write(b"%x\r\n%s\r\n" % (len(text), text))
 
 
 class Events:
-    """The last events, and all displays."""
+    """All displays, and up to which record they have had events."""
 
-    def __init__(self, log_id: str, replies: Replies) -> None:
-        self._log_id, self._replies = log_id.encode(), replies
-        self._kept: deque[Event] = deque()
-        self._bytes = 0
-        # What came behind `first` is kept; what came up to `sent` has been written to all.
-        self._first = self._sent = replies.moment.position
-        self._new = asyncio.Event()
-        self.streams: set[Stream] = set()
-        replies.on_reply.append(self._add)
+    def __init__(self, log_id: str, day: Day) -> None:
+        self._log_id, self._day, self._sent = log_id, day, len(day.records)
+        self._new, self.streams = asyncio.Event(), set[Stream]()
+        day.on_reply.append(lambda record: self._new.set())
 
-    def _text(self, position: int, name: bytes, data: bytes) -> bytes:
-        return b"id: %s-%d\nevent: %s\ndata: %s\n\n" % (self._log_id, position, name, data)
+    def _event(self, position: int, name: str, data: bytes) -> bytes:
+        return b"id: %s-%d\nevent: %s\ndata: %s\n\n" % (self._log_id.encode(), position, name.encode(), data)
 
-    def _add(self, reply: Reply) -> None:
-        position, name, data, desk = reply.row.position, b"reply", reply.text, None
-        if reply.changes is None:
-            name, desk = b"refused", reply.row.desk
-        elif reply.changes > MOST_ROWS:
-            name, data = b"reset", json_bytes({"position": position})
-        self._kept.append(Event(position, desk, self._text(position, name, data)))
-        self._bytes += len(self._kept[-1].text)
-        while len(self._kept) > KEPT or self._bytes > KEPT_BYTES:
-            gone = self._kept.popleft()
-            self._first, self._bytes = gone.position, self._bytes - len(gone.text)
-        self._new.set()
-
-    def _after(self, position: int, desk: str | None) -> bytes:
-        """What a desk gets of what came behind a position; None for what all get."""
-        found = []
-        for event in reversed(self._kept):
-            if event.position <= position:
-                break
-            if event.desk in (None, desk):
-                found.append(event.text)
-        return b"".join(reversed(found))
+    def _events(self, records: Iterable[Record], desk: str) -> bytes:
+        """What a desk gets of these records."""
+        texts = [b":\n\n"]
+        for record in records:
+            if record.changes > MOST_ROWS:
+                texts.append(self._event(record.position, "reset", b'{"position":%d}' % record.position))
+            elif record.word is None or record.desk == desk:
+                name = "reply" if record.word is None else "refused"
+                texts.append(self._event(record.position, name, self._day.text(record)))
+        return b"".join(texts)
 
     async def run(self) -> None:
-        """Writes what is new to all, or a comment where nothing is."""
+        """Writes what is new to all, or a comment where nothing is. Returns never."""
         while True:
             try:
-                async with asyncio.timeout(COMMENT):
-                    await self._new.wait()
+                await asyncio.wait_for(self._new.wait(), COMMENT)
             except TimeoutError:
                 pass
-            is_new = self._new.is_set()
             self._new.clear()
-            await self._write(is_new)
+            await self._write()
             await asyncio.sleep(PAUSE)
 
-    async def _write(self, is_new: bool) -> None:
-        now, sent, is_lost = self._replies.moment.position, self._sent, self._first > self._sent
-        shared = self._after(sent, None) if is_new else b":\n\n"
-        shared = self._text(now, b"reset", b"{}") if is_lost else shared
-        own = {event.desk for event in self._kept if event.position > sent} if is_new and not is_lost else set()
-        for number, stream in enumerate(list(self.streams)):
-            if number % 200 == 199:
+    async def _write(self) -> None:
+        sent, self._sent = self._sent, len(self._day.records)
+        kept = self._day.kept_behind(sent)
+        new, reset = kept or [], self._event(self._sent, "reset", b"{}")
+        shared = reset if kept is None else self._events(new, "")
+        own = {record.desk for record in new if record.word is not None}
+        for number, stream in enumerate(list(self.streams), 1):
+            if new and (stream.desk.name in own or stream.since > sent):
+                mine = (record for record in new if record.position > stream.since)
+                stream.write(self._events(mine, stream.desk.name))
+            else:
+                stream.write(shared)
+            if number % 200 == 0:
                 await asyncio.sleep(0)
-            is_own = not is_lost and (stream.desk in own or stream.since > sent)
-            stream.write(self._after(max(sent, stream.since), stream.desk) if is_own else shared)
-        self._sent = now
 
     def end(self) -> None:
         """Tells all displays that the server ends."""
@@ -106,21 +83,25 @@ class Events:
             stream.write(b"event: end\ndata: {}\n\n")
             stream.ended.set()
 
-    def may_open(self, desk: str, is_display: bool) -> bool:
-        """Whether this desk may have one stream more."""
-        if is_display:
-            return sum(stream.is_display for stream in self.streams) < MOST_DISPLAYS
-        return sum(stream.desk == desk for stream in self.streams) < MOST_OF_DESK
-
-    def open(self, stream: Stream, since: str | None) -> None:
-        """Begins with what came since an event; with `reset` where that isn't of this log, isn't kept, or is too much."""
-        now = stream.since = self._replies.moment.position
-        log_id, _, position = (since or "").strip('"').rpartition("-")
-        if since is None:
-            stream.write(b"id: %s-%d\n\n" % (self._log_id, now))
-        elif (log_id.encode() == self._log_id and position.isascii() and position.isdecimal() and len(position) < 10
-              and self._first <= int(position) <= now and len(missed := self._after(int(position), stream.desk)) < MOST_UNSENT // 2):
-            stream.write(b"id: %s-%d\n\n" % (self._log_id, int(position)) + missed)
+    def check(self, desk: Desk) -> None:
+        """Raises Problem where this desk has too many streams; those that only read share theirs."""
+        if desk.role == "READ":
+            is_full = sum(stream.desk.role == "READ" for stream in self.streams) >= MOST_DISPLAYS
         else:
-            stream.write(self._text(now, b"reset", b"{}"))
+            is_full = sum(stream.desk.name == desk.name for stream in self.streams) >= MOST_OF_DESK
+        if is_full:
+            raise Problem(429, "this desk has too many displays", Retry_After="5")
+
+    def open(self, stream: Stream, said: str) -> None:
+        """Begins with what came since an event; with `reset` where that isn't kept, or is too much."""
+        log_id, _, position = said.strip('"').rpartition("-")
+        now = stream.since = len(self._day.records)
+        is_known = log_id == self._log_id and re.fullmatch("[0-9]{1,9}", position) is not None
+        since = int(position) if is_known else now
+        missed = self._day.kept_behind(since) if since <= now and (is_known or not said) else None
+        text = b"" if missed is None else self._events(missed, stream.desk.name)
+        if missed is None or len(text) > MOST_UNSENT // 2:
+            stream.write(self._event(now, "reset", b"{}"))
+        else:
+            stream.write(b"id: %s-%d\n\n" % (self._log_id.encode(), since) + text)
         self.streams.add(stream)

@@ -1,149 +1,107 @@
-"""The sequencer: one process of `cdmseq serve`, which gets the log's records in their order, and its restarts."""
+"""The sequencer: one process of `cdmseq serve`, which gets the log's records in order, and its restarts."""
 import asyncio
-import collections
 import contextlib
 import json
-import os
-import sys
+import tempfile
 import time
+from asyncio.subprocess import PIPE, Process
+from collections import deque
+from pathlib import Path
 
-from board import program
-from board.log import Log, Row
-from board.replies import Replies
+from board.day import Day
+from board.log import Log, Record
+from board.words import Fault, tell
 
-MOST_REPLY = 8 << 20
-MOST_AHEAD = 256
-SECONDS = 10.0
+MOST_REPLY, MOST_AHEAD, SECONDS, START = 8 << 20, 256, 10.0, 60.0
 
 
 class Ended(Exception):
     """A sequencer that ended, or said what it mustn't say, and is not asked again."""
 
 
-class Unusable(Exception):
-    """A program that refuses its files, or a sequencer that ends again and again."""
-
-
-async def words_of(words: tuple[str, ...], folder: str, records: list[tuple[str, str]]) -> tuple[str, dict[int, str]]:
-    """The airport's day, and the word of each record that is refused, by its number."""
-    program.write(os.path.join(folder, "log.csv"), [f"{role},{line}" for role, line in records])
-    ran = await program.run((*words, "plan", "airport.csv", "log.csv", "--format", "json"), folder, 60)
-    if ran.status != 0:
-        raise Unusable(ran.told or f"plan ended with {ran.status}")
-    plan = json.loads(ran.output.splitlines()[0])
-    return plan["day"], {refused["record"]: refused["word"] for refused in plan["refused"]}
-
-
 class Sequencer:
-    """Hands the log's records on, and keeps the replies."""
+    """Hands the log's records on, and gives the replies to the day."""
 
-    def __init__(self, words: tuple[str, ...], folder: str, log: Log, replies: Replies) -> None:
-        self._words, self._folder, self._log, self._replies = words, folder, log, replies
-        self._stopping = asyncio.Event()
-        self.is_ready = asyncio.Event()
-        self.starts = 0
-
-    def stop(self) -> None:
-        """No more records come: those in the log get their replies, and then `run` returns."""
-        self._stopping.set()
+    def __init__(self, program: str, folder: str, log: Log, day: Day) -> None:
+        self._program, self._folder, self._log, self._day = program, folder, log, day
+        self.is_ready, self.starts = asyncio.Event(), 0
 
     async def run(self) -> None:
-        """Raises Unusable where the sequencer ends three times within a minute."""
-        ends: collections.deque[float] = collections.deque(maxlen=3)
+        """Returns never. Raises Fault where the sequencer ends three times within a minute."""
+        ends: deque[float] = deque([float("-inf")] * 3, maxlen=3)
         while True:
             self.starts += 1
             try:
-                return await self._serve()
+                with tempfile.TemporaryDirectory(dir=self._folder) as folder:
+                    await self._serve(folder)
             except (Ended, OSError) as end:
-                print(f"cdmboard: the sequencer: {end}", file=sys.stderr, flush=True)
+                tell(f"cdmboard: the sequencer: {end}")
                 ends.append(time.monotonic())
-                if len(ends) == 3 and ends[2] - ends[0] < 60:
-                    raise Unusable("the sequencer ended three times within a minute") from None
+                if ends[2] - ends[0] < 60:
+                    raise Fault("the sequencer ended three times within a minute", 1) from None
 
-    async def _serve(self) -> None:
-        """One process, until it ends or nothing more is to be handed on. What it was handed without a reply is
-        handed to the next one again."""
-        journal = os.path.join(self._folder, f"journal-{self.starts}.csv")
-        program.write(journal, self._replies.lines)
+    async def _serve(self, folder: str) -> None:
+        """One process, on the day as it is, until it ends. The next one gets the rest."""
+        Path(folder, "journal.csv").write_text(self._day.feed(), "ascii")
         process = await asyncio.create_subprocess_exec(
-            *self._words, "serve", "airport.csv", journal, "--format", "json", cwd=self._folder,
-            stdin=asyncio.subprocess.PIPE, stdout=asyncio.subprocess.PIPE, limit=MOST_REPLY, start_new_session=True)
-        assert process.stdin is not None and process.stdout is not None
-        ended, asked = asyncio.create_task(process.wait()), 0
+            self._program, "serve", "../airport.csv", "journal.csv", "--format", "json", cwd=folder,
+            stdin=PIPE, stdout=PIPE, limit=MOST_REPLY, start_new_session=True)
+        assert process.stdin is not None
+        ended, patience = asyncio.create_task(process.wait()), SECONDS
+        ended.add_done_callback(lambda _: self._log.wake())
         try:
-            if await self._line(process.stdout, 60) != {"ready": len(self._replies.lines)}:
-                raise Ended("it is ready with another day")
-            self.is_ready.set()
-            while True:
-                is_last = self._stopping.is_set()
-                rows = await self._log.rows(self._replies.moment.position, MOST_AHEAD)
-                if not rows and is_last:
-                    return
-                if not rows:
-                    await self._idle(ended)
-                process.stdin.write("".join(f"{row.role},{row.line}\n" for row in rows).encode("ascii"))
-                for row in rows:
-                    asked += 1
-                    self._take(row, asked, await self._line(process.stdout))
+            await self._hand_on(process)
+        except (Ended, OSError):
+            patience = 0
+            raise
         finally:
             self.is_ready.clear()
-            await self._end(process, ended)
-            for path in (journal, journal + ".lock"):
-                with contextlib.suppress(FileNotFoundError):
-                    os.unlink(path)
+            process.stdin.close()
+            await asyncio.wait([ended], timeout=patience)
+            with contextlib.suppress(ProcessLookupError):
+                process.kill()
+            await ended
+            with contextlib.suppress(OSError):
+                await asyncio.wait_for(process.stdin.wait_closed(), 1)
 
-    @staticmethod
-    async def _line(stream: asyncio.StreamReader, seconds: float = SECONDS) -> dict[str, object]:
-        try:
-            async with asyncio.timeout(seconds):
-                line = await stream.readline()
-        except ValueError:
-            raise Ended("a reply is too long") from None
-        except TimeoutError:
-            raise Ended(f"no reply within {seconds} seconds") from None
-        if not line.endswith(b"\n"):
-            raise Ended("it ended")
-        try:
-            reply = json.loads(line)
-        except ValueError:
-            reply = None
-        if not isinstance(reply, dict):
-            raise Ended("a reply is no object")
-        return reply
+    async def _hand_on(self, process: Process) -> None:
+        """One line in, one line out. Raises Ended."""
+        lines, replies = process.stdin, process.stdout
+        assert lines is not None and replies is not None
+        if await _reply(replies, START) != {"ready": len(self._day.lines)}:
+            raise Ended("it is ready with another day")
+        self.is_ready.set()
+        asked = 0
+        while True:
+            if process.returncode is not None:
+                raise Ended(f"it ended with {process.returncode}")
+            records = await self._log.rows(len(self._day.records), MOST_AHEAD)
+            if not records:
+                await self._log.grown()
+            lines.write("".join(f"{record.role},{record.line}\n" for record in records).encode("ascii"))
+            for asked, record in enumerate(records, asked + 1):
+                self._take(record, asked, await _reply(replies, SECONDS))
 
-    def _take(self, row: Row, asked: int, reply: dict[str, object]) -> None:
+    def _take(self, record: Record, asked: int, reply: dict[str, object]) -> None:
         """Keeps a reply, if it is the one to this record."""
         if reply.get("record") != asked:
             raise Ended(f"a reply to record {reply.get('record')} instead of {asked}")
-        word, changes = reply.get("word"), reply.get("changes")
-        if reply.get("reply") == "REFUSED" and isinstance(word, str):
-            self._replies.add(row, word, None)
-        elif (reply.get("reply") == "ACCEPTED" and isinstance(changes, list)
-              and reply.get("accepted") == len(self._replies.lines) + 1):
-            self._replies.add(row, None, changes)
+        said, word, changes = reply.get("reply"), reply.get("word"), reply.get("changes")
+        is_next = reply.get("accepted") == len(self._day.lines) + 1
+        if said == "REFUSED" and isinstance(word, str):
+            self._day.add(record, word, [])
+        elif said == "ACCEPTED" and isinstance(changes, list) and is_next:
+            self._day.add(record, None, changes)
         else:
             raise Ended("a reply that no record has")
 
-    async def _idle(self, ended: "asyncio.Task[int]") -> None:
-        """Until there may be records, or none will come."""
-        waiting = [asyncio.create_task(self._log.grown()), asyncio.create_task(self._stopping.wait())]
-        try:
-            await asyncio.wait([ended, *waiting], return_when=asyncio.FIRST_COMPLETED)
-        finally:
-            for task in waiting:
-                task.cancel()
-            await asyncio.gather(*waiting, return_exceptions=True)
-        if ended.done():
-            raise Ended(f"it ended with {ended.result()}")
 
-    async def _end(self, process: asyncio.subprocess.Process, ended: "asyncio.Task[int]") -> None:
-        assert process.stdin is not None
-        process.stdin.close()
-        if not self._stopping.is_set() and not ended.done():
-            process.kill()
-        try:
-            async with asyncio.timeout(SECONDS):
-                await asyncio.shield(ended)
-        except TimeoutError:
-            process.kill()
-            await ended
+async def _reply(replies: asyncio.StreamReader, seconds: float) -> dict[str, object]:
+    try:
+        async with asyncio.timeout(seconds):
+            reply = json.loads(await replies.readuntil())
+    except TimeoutError:
+        raise Ended(f"no reply within {seconds:.0f} seconds") from None
+    except (asyncio.IncompleteReadError, asyncio.LimitOverrunError, ValueError):
+        raise Ended("it ended, or its reply is no line of JSON") from None
+    return reply if isinstance(reply, dict) else {}

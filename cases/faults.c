@@ -7,6 +7,7 @@ extern char *getenv(const char *);
 extern int *__errno_location(void);
 
 enum { sys_write = 1, sys_open = 2, sys_close = 3, sys_fsync = 74, sys_fdatasync = 75, sys_ftruncate = 77, sys_rename = 82 };
+enum { sys_readlink = 89 };
 enum { interrupted = 4, device = 5, no_room = 28 };
 enum { append_made = 02101, all_may = 0644 };
 
@@ -35,12 +36,31 @@ static size put_number(char *line, size at, long number) {
     return at;
 }
 
+// The last part of a path.
+static const char *last_part(const char *path) {
+    const char *last = path;
+    for (; *path; path++)
+        if (*path == '/') last = path + 1;
+    return last;
+}
+
+// The name of an open file: a number for a standard stream, and else the last part of its path.
+static size put_file(char *line, size at, long file) {
+    char link[40], path[4100];
+    if (file <= 2) return put_number(line, at, file);
+    size end = put_number(link, put_word(link, 0, "/proc/self/fd/"), file);
+    link[end] = 0;
+    long length = syscall(sys_readlink, link, path, sizeof path - 1);
+    path[length < 0 ? 0 : length] = 0;
+    return put_word(line, at, last_part(path));
+}
+
 // Tells a call: its name, its file, its result, and in hexadecimal the bytes that were written.
-static void told(const char *name, long file, long result, const char *bytes) {
-    static char line[20000];
+static void told(const char *name, long file, const char *path, long result, const char *bytes) {
+    static char line[30000];
     size at = put_word(line, 0, name);
     line[at++] = ' ';
-    at = put_number(line, at, file);
+    at = path ? put_word(line, at, last_part(path)) : put_file(line, at, file);
     line[at++] = ' ';
     at = put_number(line, at, result);
     line[at++] = ' ';
@@ -69,18 +89,18 @@ long write(int file, const char *bytes, size count) {
     long how = fault();
     if (how < 0 && count > 1) count /= 2;
     long result = how > 0 ? refused(how) : syscall(sys_write, (long)file, bytes, count);
-    told("write", file, result, bytes);
+    told("write", file, 0, result, bytes);
     return result;
 }
 
-static int plain(const char *name, long number, long first, long second, long file) {
+static int plain(const char *name, long number, long first, long second, const char *path) {
     long how = fault();
     long result = how > 0 ? refused(how) : syscall(number, first, second);
-    told(name, file, result, 0);
+    told(name, first, path, result, 0);
     return (int)result;
 }
 
-int fsync(int file) { return plain("sync", sys_fsync, file, 0, file); }
-int fdatasync(int file) { return plain("sync", sys_fdatasync, file, 0, file); }
-int ftruncate(int file, long length) { return plain("cut", sys_ftruncate, file, length, file); }
-int rename(const char *from, const char *to) { return plain("rename", sys_rename, (long)from, (long)to, 0); }
+int fsync(int file) { return plain("sync", sys_fsync, file, 0, 0); }
+int fdatasync(int file) { return plain("sync", sys_fdatasync, file, 0, 0); }
+int ftruncate(int file, long length) { return plain("cut", sys_ftruncate, file, length, 0); }
+int rename(const char *from, const char *to) { return plain("rename", sys_rename, (long)from, (long)to, to); }

@@ -9,9 +9,9 @@ from conftest import ROOT
 CODE = [str(path) for path in sorted((ROOT / "board").glob("*.py"))]
 
 
-@pytest.mark.parametrize("words", [("mypy", "--cache-dir", os.devnull), ("pyflakes3",)])
+@pytest.mark.parametrize("words", [("mypy", "--strict", "--cache-dir", os.devnull), ("pyflakes3",)])
 def test_the_code_is_clean(words):
     if not pathlib.Path("/usr/bin", words[0]).exists():
-        pytest.skip(f"{words[0]} is missing")
+        pytest.skip(f"test_the_code_is_clean: {words[0]} is missing")
     ended = subprocess.run([*words, *CODE], cwd=ROOT, capture_output=True, text=True)
     assert ended.returncode == 0, ended.stdout

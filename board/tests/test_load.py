@@ -34,11 +34,12 @@ class Display(asyncio.Protocol):
         self.ended.set()
 
 
-async def displays(port, number):
+async def displays(port, number, token="screen", address=0):
     """That many, from addresses of which none has too many."""
     made = []
     for k in range(number):
-        _, display = await asyncio.get_running_loop().create_connection(Display, "127.0.0.1", port, local_addr=(f"127.0.0.{3 + k // 90}", 0))
+        _, display = await asyncio.get_running_loop().create_connection(
+            lambda: Display(token), "127.0.0.1", port, local_addr=(f"127.0.{address}.{3 + k // 90}", 0))
         made.append(display)
     for display in made:
         await asyncio.wait_for(display.opened.wait(), 30)
@@ -91,6 +92,25 @@ def test_all_displays_see_all(board):
            f"{middle(times, 0.99)} for 99 of 100; an event at all displays {middle(last)} after its reply at the median, {middle(last, 0.99)} for "
            f"99 of 100; memory {before:.0f} MiB before, {memory:.0f} MiB after")
     assert len(times) > SECONDS * 20 and memory < before + 50 + DISPLAYS / 5
+
+
+def test_each_event_once_among_many_displays(board):
+    """A desk's own streams among hundreds of displays, while it is refused and accepted."""
+    server = board({"ap": 'role = "AP"\nrecords = 20000', "screen": 'role = "READ"'})
+
+    async def talk():
+        shown = await displays(server.port, 400) + await displays(server.port, 20, "ap", 9)
+        async with aiohttp.ClientSession(f"http://127.0.0.1:{server.port}") as session:
+            async def post(k):
+                await asyncio.sleep(k / 40)
+                body, token = f"FOO\nFLT,AB{k},5", {"Authorization": "Bearer token-ap"}
+                async with session.post("/v1/records", data=body, headers=token) as answer:
+                    return objects(await answer.read())[1]["position"]
+            positions = sorted(await asyncio.gather(*(post(k) for k in range(120))))
+        await asyncio.sleep(1)
+        return positions, [[position for position, _ in display.seen] for display in shown]
+    positions, seen = asyncio.run(talk())
+    assert all(mine == positions for mine in seen)
 
 
 def test_memory_after_displays_and_records(board):

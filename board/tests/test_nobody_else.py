@@ -117,6 +117,18 @@ def test_a_path_leads_nowhere_else(server):
         assert b"root:" not in answer and b"token" not in answer
 
 
+def test_an_address_that_cannot_be_read_ends_the_connection(server):
+    """Nothing is told of it, and nothing waits for its next request."""
+    with socket.create_connection(("127.0.0.1", server.port)) as own:
+        own.settimeout(5)
+        own.sendall(b"CONNECT /\xff HTTP/1.1\r\nHost: localhost\r\n\r\n")
+        try:
+            assert own.recv(65536) == b""
+        except ConnectionError:
+            pass
+    assert server.get("/health").status == 200 and "CONNECT" not in server.told()
+
+
 def test_random_bodies_and_headers(server, chance):
     """Never a 500, never a record that wasn't meant."""
     meant, pieces = 2, [b"FLT,", b"DLH9", b",5", b"\n", b"\r\n", b"\0", b'"', b"\xff", b"GH,", b" ", b"A" * 101, b"TOBT", b"\x1f"]

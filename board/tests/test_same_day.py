@@ -41,5 +41,5 @@ def test_a_day_is_its_log(board, chance, day):
     server.start()
     assert server.get("/v1/plan.json", "desk-0").body == plan.body
     assert server.get("/v1/journal.csv", "desk-0").body == journal.body
-    assert {**server.get("/v1/plan.json", "desk-0").headers}["ETag"] == plan.headers["ETag"]
+    assert server.get("/v1/plan.json", "desk-0").headers["ETag"] == plan.headers["ETag"]
     assert [record["reply"] for record in server.records("desk-0")] == [reply["reply"] for reply in replies]

@@ -3,6 +3,8 @@ import concurrent.futures
 import json
 import os
 import signal
+import socket
+import sqlite3
 import ssl
 import subprocess
 import time
@@ -138,6 +140,22 @@ def test_import_and_export(files, board):
         assert ended.returncode == 3 and told in ended.stderr
 
 
+def test_a_backup_is_a_log(board):
+    """It is made and served while the day is served, and neither disturbs the other."""
+    server, copy = board(), board(start=False)
+    server.post(["FLT,AB1,5", "FOO"], Cdm_Role="AP")
+    database = sqlite3.connect(server.log)
+    database.execute(f"VACUUM INTO '{copy.log}'")
+    database.close()
+    copy.start()
+    assert copy.records() == [record | ({"changes": None} if "changes" in record else {}) for record in server.records()]
+    os.kill(server.sequencers()[0], signal.SIGKILL)
+    until(lambda: server.metric("cdm_restarts") == 1 and server.get("/health").status == 200)
+    assert server.get("/v1/why/AB1").status == copy.get("/v1/why/AB1").status == 200
+    assert server.post(["FLT,AB2,5"], Cdm_Role="AP")[0]["position"] == 3 and len(copy.records()) == 2
+    assert server.end() == copy.end() == 0
+
+
 def test_the_last_updates_are_the_tower_s(files, board):
     """From 18,000 accepted updates on. Such a day is ready soon."""
     feed = files / "feed.csv"
@@ -179,6 +197,7 @@ def test_sealed_by_tls(board):
         (server.folder / f"used.{kind}").write_bytes((server.folder / f"one.{kind}").read_bytes())
     server.options += ["--tls", str(server.folder / "used.crt"), str(server.folder / "used.key")]
     server.start()
+    silent, began = socket.create_connection(("127.0.0.1", server.port)), time.monotonic()
 
     def talk(name):
         trusted = ssl.create_default_context(cafile=server.folder / f"{name}.crt")
@@ -192,6 +211,13 @@ def test_sealed_by_tls(board):
     server.process.send_signal(signal.SIGHUP)
     time.sleep(0.3)
     assert "Secure" in talk("two")
+    silent.settimeout(15)
+    try:
+        assert silent.recv(1) == b""
+    except ConnectionError:
+        pass
+    assert 9 < time.monotonic() - began < 14
+    silent.close()
 
 
 def test_behind_a_proxy(board):

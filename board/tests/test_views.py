@@ -70,6 +70,8 @@ def test_events(board):
     accepted = [("reply", reply["position"], reply) for reply in replies if reply["reply"] == "ACCEPTED"]
     assert own == [accepted[0], ("refused", 3, replies[1]), accepted[1]]
     assert other == since == accepted and all_of_it[1:] == accepted and all_of_it[0][1] == 1
+    # A browser that comes back sends the address of its first time, and where it is now.
+    assert parsed(events(server, 1, desk="screen", query=f"?since={log}-1", last=f"{log}-2")) == [accepted[1]]
     for wrong in (f"{log}-9", "nix", "0123456789abcdef-1", f"{log}-", f"{log}--1"):
         assert parsed(events(server, 1, desk="screen", query=f"?since={wrong}")) == [("reset", 4, {})]
     server.kill()
@@ -140,6 +142,8 @@ def test_questions_over_a_scenario(board):
     why = server.request("POST", "/v1/why/AB1.json?scenario=LATE", scenario, "screen")
     assert json.loads(why.body)["row"]["tobt"] == moment(420)
     assert server.request("POST", "/v1/why/AB1?scenario=NIX", scenario, "gh").status == 404
+    named = server.request("POST", "/v1/why/AB1.json?scenario=SCENARIOS", scenario.replace("LATE", "SCENARIOS"), "gh")
+    assert json.loads(named.body)["row"]["tobt"] == moment(420)
     assert server.request("POST", "/v1/what-if", "FOO\n", "gh").status == 422
     assert server.request("POST", "/v1/what-if", b"A" * 65537, "gh").status == 413
     assert server.get("/v1/what-if", "gh").status == 405

@@ -3,12 +3,13 @@
 ghost use Rattle.std.specs.Prelude.{◌<◌, IfSome};
 
 use crate::fields::{field_at, kind_of};
-use crate::kinds::{FileKind, UPDATE_KINDS};
+use crate::kinds::{FileKind, kinds_by_word};
 use crate::known::{Ending, Known, KnownFlight};
 use crate::shown::shown;
 use crate::times::{ClockText, TimeText};
 use cdm_day::{Airport, MOST_DAY_UPDATES};
-use cdm_flight::{FlightName, Place, Reach, RefusalWord, RunwayName, RunwayRow, Update};
+use cdm_flight::{FlightName, Place, Reach, RefusalWord, Role, RunwayName, RunwayRow, Update};
+use cdm_kinds::role_name;
 use cdm_time::{Bound, Minute};
 use csv::ByteRecord;
 use std::alloc::{AllocError, Global};
@@ -76,40 +77,45 @@ fn article_of(word: &str) -> &'static str {
 fn authority(alloc: Global, row: &ByteRecord) -> Result<String, AllocError> {
     let mut text = String::new(alloc);
     if let Some(kind) = kind_of(FileKind::Feed, row) {
-        let (article, word) = (article_of(kind.word), kind.word);
+        let word = kind.word();
+        let article = article_of(word);
         write!(text, "{article} {word} is set by ")?;
-        push_all(&mut text, kind.roles, " or ")?;
+        push_roles(&mut text, kind.roles())?;
     }
     let role = field_at(row, 0);
     text.push_str("; ")?;
     text.push_str(str::from_utf8(role).unwrap_or_default())?;
     text.push_str(" may set ")?;
-    push_kinds_of(&mut text, role)?;
+    push_kinds_of(alloc, &mut text, role)?;
     Ok(text)
 }
 
-// Puts the words behind the text, with `between` between them.
-fn push_all(text: &mut String, words: &[&str], between: &str) -> Result<(), AllocError> {
+// Puts the words of roles behind the text.
+fn push_roles(text: &mut String, roles: &[Role]) -> Result<(), AllocError> {
     let mut first = true;
-    for word in words {
+    for role in roles {
         if !first {
-            text.push_str(between)?;
+            text.push_str(" or ")?;
         }
-        text.push_str(word)?;
+        text.push_str(role_name(*role))?;
         first = false;
     }
     Ok(())
 }
 
 // Puts the kinds of updates that a role may make behind the text.
-fn push_kinds_of(text: &mut String, role: &[u8]) -> Result<(), AllocError> {
+fn push_kinds_of(alloc: Global, text: &mut String, role: &[u8]) -> Result<(), AllocError> {
     let mut first = true;
-    for kind in UPDATE_KINDS {
-        if kind.roles.iter().any(|word| word.as_bytes() == role) {
+    for kind in &kinds_by_word(alloc)? {
+        let has_role = kind
+            .roles()
+            .iter()
+            .any(|other| role_name(*other).as_bytes() == role);
+        if has_role {
             if !first {
                 text.push_str(", ")?;
             }
-            text.push_str(kind.word)?;
+            text.push_str(kind.name())?;
             first = false;
         }
     }

@@ -1,14 +1,16 @@
 //! The fields of a record, and what each of them should hold.
 
 use crate::forms::Form;
-use crate::kinds::{FileKind, Kind};
+use crate::kinds::{FileKind, RecordKind};
+pub(crate) use cdm_files::field_at;
 use cdm_flight::RefusalWord;
+use cdm_kinds::Field;
 use cdm_time::Day;
 use csv::ByteRecord;
 
 /// A field of a record.
 #[derive(Clone, Copy, Debug)]
-pub(crate) struct Field<'a> {
+pub(crate) struct FieldOf<'a> {
     /// Its number in the record, from 1.
     pub number: usize,
     /// What it should hold.
@@ -17,19 +19,14 @@ pub(crate) struct Field<'a> {
     pub text: &'a [u8],
 }
 
-/// The field at a place, counted from 0, which is empty where the record has no such field.
-pub(crate) fn field_at(row: &ByteRecord, place: usize) -> &[u8] {
-    row.get(place).unwrap_or(b"")
-}
-
 /// The kind of a record of the file, if it has one.
-pub(crate) fn kind_of(file: FileKind, row: &ByteRecord) -> Option<Kind> {
+pub(crate) fn kind_of(file: FileKind, row: &ByteRecord) -> Option<RecordKind> {
     file.kind_of(field_at(row, file.kind_place()))
 }
 
 // What the field behind this one should hold, where a kind asks for this form. NONE has no minutes.
 fn form_behind(form: Form, before: &[u8]) -> Form {
-    if matches!(form, Form::IceMinutes) && before == b"NONE".as_slice() {
+    if matches!(form, Form::Of(Field::IceMinutes)) && before == b"NONE".as_slice() {
         Form::NoMinutes
     } else {
         form
@@ -39,20 +36,23 @@ fn form_behind(form: Form, before: &[u8]) -> Form {
 /// The first field of a record of this kind that is refused by the word, Text or Range.
 pub(crate) fn faulty_field(
     file: FileKind,
-    kind: Kind,
+    kind: RecordKind,
     day: Day,
     row: &ByteRecord,
     word: RefusalWord,
-) -> Option<Field<'_>> {
+) -> Option<FieldOf<'_>> {
     let mut place = file.kind_place();
-    for form in kind.forms {
+    for behind in 0..kind.count() {
+        let Some((_, form)) = kind.field(behind) else {
+            return None;
+        };
         let before = field_at(row, place);
         place = place.saturating_add(1);
         let text = field_at(row, place);
-        let form = form_behind(*form, before);
+        let form = form_behind(form, before);
         if form.fault(day, text) == Some(word) {
             let number = place.saturating_add(1);
-            return Some(Field { number, form, text });
+            return Some(FieldOf { number, form, text });
         }
     }
     None

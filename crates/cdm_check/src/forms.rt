@@ -2,8 +2,12 @@
 
 use crate::kinds::FileKind;
 use crate::times::DateText;
-use cdm_files::{ctot_field, number_field, place_field, role_of};
-use cdm_flight::{CellLength, FlightName, Group, RefusalWord, RunwayName, StandName};
+use cdm_files::{
+    cap_field, cell_field, ctot_field, ice_field, occupancy_field, place_field, priority_field,
+    role_of, taxi_field, tolerance_fields,
+};
+use cdm_flight::{FlightName, Group, RefusalWord, RunwayName, StandName};
+use cdm_kinds::Field;
 use cdm_scenario::ScenarioName;
 use cdm_time::{Day, TimeFault};
 use std::alloc::{AllocError, Global};
@@ -15,36 +19,16 @@ pub(crate) enum Form {
     Role,
     /// The kind of a record of this file.
     Kind(FileKind),
-    Flight,
-    Runway,
-    Stand,
-    /// A stand, or `*` for those without a row.
-    Place,
-    Time,
-    /// The end of a window.
-    Bound,
-    /// A time, or `-` for none.
-    Ctot,
-    /// A number that has a range.
-    Number(Range),
-    Cell,
-    IceKind,
-    /// The minutes of a de-icing.
-    IceMinutes,
+    /// A field of an update, or one that is read as such.
+    Of(Field),
     /// The minutes of no de-icing.
     NoMinutes,
-    Group,
+    /// The length of a runway's cells.
+    Cell,
+    /// For how long a flight occupies a runway.
+    Occupancy,
     Day,
     ScenarioName,
-}
-
-/// The range of a number.
-#[derive(Clone, Copy, Debug)]
-pub(crate) struct Range {
-    pub least: u16,
-    pub most: u16,
-    /// The sentence that tells it.
-    pub told: &'static str,
 }
 
 // The fault of a field that has a form and no range.
@@ -64,21 +48,59 @@ fn word_of(fault: TimeFault) -> RefusalWord {
     }
 }
 
-// The fault of a number that has a range.
-fn number_fault(text: &[u8], least: u16, most: u16) -> Option<RefusalWord> {
-    match number_field(text) {
-        Ok(number) if number < least || number > most => Some(RefusalWord::Range),
-        Ok(_) => None,
-        Err(word) => Some(word),
+// The fault of the kind of a de-icing, which has some minutes.
+fn ice_kind_fault(text: &[u8]) -> Option<RefusalWord> {
+    match ice_field(text, b"1") {
+        Err(RefusalWord::Text) => Some(RefusalWord::Text),
+        _ => None,
     }
 }
 
-// The fault of the length of a cell.
-fn cell_fault(text: &[u8]) -> Option<RefusalWord> {
-    match number_field(text) {
-        Ok(number) if CellLength::new(number).is_none() => Some(RefusalWord::Range),
-        Ok(_) => None,
-        Err(word) => Some(word),
+// The word that refuses a field of an update, if one does, by the readers of fields.
+fn field_fault(field: Field, day: Day, text: &[u8]) -> Option<RefusalWord> {
+    match field {
+        Field::Flight => unless_text(FlightName::new(text).is_some()),
+        Field::Runway => unless_text(RunwayName::new(text).is_some()),
+        Field::Stand => unless_text(StandName::new(text).is_some()),
+        Field::Place => place_field(text).err(),
+        Field::Group => unless_text(Group::new(text).is_some()),
+        Field::Priority => priority_field(text).err(),
+        Field::Cap => cap_field(text).err(),
+        Field::TaxiMinutes => taxi_field(text).err(),
+        Field::Time | Field::From => day.minute_of(text).err().map(word_of),
+        Field::To => day.bound_of(text).err().map(word_of),
+        Field::Ctot => ctot_field(day, text).err(),
+        Field::IceKind => ice_kind_fault(text),
+        Field::IceMinutes => ice_field(b"STAND", text).err(),
+        Field::Before => tolerance_fields(text, b"0").err(),
+        Field::After => tolerance_fields(b"0", text).err(),
+    }
+}
+
+// How a field of an update is written that is no time.
+fn field_words(alloc: Global, field: Field) -> Result<String, AllocError> {
+    let (form, range) = (field.form(), field.range());
+    match field {
+        Field::Flight => format!(in alloc; "a flight has {form}"),
+        Field::Runway => format!(in alloc; "a runway has {form}"),
+        Field::Stand => format!(in alloc; "a stand has {form}"),
+        Field::Place => {
+            let stand = Field::Stand.form();
+            format!(in alloc; "a stand has {stand}, or is * for all others")
+        }
+        Field::Group => format!(in alloc; "a group is {form}"),
+        Field::Priority => format!(in alloc; "a priority is a number from {range}"),
+        Field::Cap => format!(in alloc; "a cap is a number from {range}"),
+        Field::TaxiMinutes => format!(in alloc; "taxi minutes are a number from {range}"),
+        Field::IceKind => format!(in alloc; "a de-icing is {form}"),
+        Field::IceMinutes => {
+            String::from_str(alloc, "minutes of de-icing are a number from 1 to 60")
+        }
+        Field::Before => format!(in alloc; "a tolerance has {range} minutes before a CTOT"),
+        Field::After => format!(in alloc; "a tolerance has {range} minutes after a CTOT"),
+        Field::Time | Field::From | Field::To | Field::Ctot => {
+            String::from_str(alloc, "there is no such time")
+        }
     }
 }
 
@@ -88,57 +110,49 @@ impl Form {
         match self {
             Form::Role => unless_text(role_of(text).is_some()),
             Form::Kind(file) => unless_text(file.kind_of(text).is_some()),
-            Form::Flight => unless_text(FlightName::new(text).is_some()),
-            Form::Runway => unless_text(RunwayName::new(text).is_some()),
-            Form::Stand => unless_text(StandName::new(text).is_some()),
-            Form::Place => place_field(text).err(),
-            Form::Time => day.minute_of(text).err().map(word_of),
-            Form::Bound => day.bound_of(text).err().map(word_of),
-            Form::Ctot => ctot_field(day, text).err(),
-            Form::IceKind => unless_text(matches!(text, b"NONE" | b"STAND" | b"REMOTE")),
-            Form::Group => unless_text(Group::new(text).is_some()),
+            Form::Of(field) => field_fault(field, day, text),
+            Form::NoMinutes => ice_field(b"NONE", text).err(),
+            Form::Cell => cell_field(text).err(),
+            Form::Occupancy => occupancy_field(text).err(),
             Form::Day => Day::of_text(text).err().map(word_of),
             Form::ScenarioName => unless_text(ScenarioName::new(text).is_some()),
-            Form::Cell => cell_fault(text),
-            Form::Number(range) => number_fault(text, range.least, range.most),
-            Form::IceMinutes => number_fault(text, 1, 60),
-            Form::NoMinutes => number_fault(text, 0, 0),
         }
     }
 
     // Whether it is a day or a time.
     fn is_time(self) -> bool {
-        matches!(self, Form::Day | Form::Time | Form::Bound | Form::Ctot)
+        matches!(
+            self,
+            Form::Day | Form::Of(Field::Time | Field::From | Field::To | Field::Ctot)
+        )
     }
 
     /// How a field of this form is written.
     pub fn wanted(self, alloc: Global, day: Day) -> Result<String, AllocError> {
         let date = DateText(day);
         match self {
-            Form::Time | Form::Bound => format!(in alloc; "a time is written {date}T06:00Z"),
-            Form::Ctot => format!(in alloc; "a time is written {date}T06:00Z, and - takes it away"),
+            Form::Of(Field::Time | Field::From | Field::To) => {
+                format!(in alloc; "a time is written {date}T06:00Z")
+            }
+            Form::Of(Field::Ctot) => {
+                format!(in alloc; "a time is written {date}T06:00Z, and - takes it away")
+            }
+            Form::Of(field) => field_words(alloc, field),
             Form::Day => format!(in alloc; "a day is written {date}"),
             _ => String::from_str(alloc, self.words()),
         }
     }
 
-    // How a field is written that is no day or time.
+    // How a field is written that is no day and no field of an update.
     fn words(self) -> &'static str {
         match self {
             Form::Role => "a record begins with its role: AO, GH, AP, ATC or NM",
             Form::Kind(file) => file.beginning(),
-            Form::Flight => "a flight has 1 to 7 of A-Z and 0-9",
-            Form::Runway => "a runway has 1 to 3 of A-Z and 0-9",
-            Form::Stand => "a stand has 1 to 5 of A-Z and 0-9",
-            Form::Place => "a stand has 1 to 5 of A-Z and 0-9, or is * for all others",
-            Form::Number(range) => range.told,
-            Form::Cell => "a cell has 1, 2, 3, 4, 5, 6, 10, 12, 15, 20, 30 or 60 minutes",
-            Form::IceKind => "a de-icing is NONE, STAND or REMOTE",
-            Form::IceMinutes => "minutes of de-icing are a number from 1 to 60",
             Form::NoMinutes => "NONE has 0 minutes",
-            Form::Group => "a group is L, M or H",
+            Form::Cell => "a cell has 1, 2, 3, 4, 5, 6, 10, 12, 15, 20, 30 or 60 minutes",
+            Form::Occupancy => "a flight occupies a runway for 0 to 5 minutes",
             Form::ScenarioName => "a scenario has 1 to 16 of A-Z, 0-9 and -",
-            Form::Day | Form::Time | Form::Bound | Form::Ctot => "there is no such time",
+            Form::Of(_) | Form::Day => "there is no such time",
         }
     }
 
@@ -147,14 +161,15 @@ impl Form {
         let date = DateText(day);
         match self {
             Form::Day => String::from_str(alloc, "a day is one of the years 2000 to 2099"),
-            Form::Bound => {
+            Form::Of(Field::To) => {
                 format!(in alloc;
                     "the two days begin at {date}T00:00Z; a window ends with them at the latest"
                 )
             }
-            Form::Time | Form::Ctot => {
+            Form::Of(Field::Time | Field::From | Field::Ctot) => {
                 format!(in alloc; "a time is one of the two days from {date}T00:00Z on")
             }
+            Form::Of(field) => field_words(alloc, field),
             _ => String::from_str(alloc, self.words()),
         }
     }

@@ -1,7 +1,10 @@
 //! The kinds of records of each file.
 ghost use Rattle.std.specs.Prelude.{◌≤◌};
 
-use crate::forms::{Form, Range};
+use crate::forms::Form;
+use cdm_flight::Role;
+use cdm_kinds::{Field, Kind};
+use std::alloc::{AllocError, Global};
 
 /// The files of a check.
 #[derive(Clone, Copy, PartialEq, Eq, Debug)]
@@ -16,195 +19,59 @@ pub(crate) enum FileKind {
 
 /// A kind of records.
 #[derive(Clone, Copy, Debug)]
-pub(crate) struct Kind {
-    /// The word of the kind.
-    pub word: &'static str,
-    /// The names of the fields that follow it.
-    pub names: &'static str,
-    /// What these fields hold.
-    pub forms: &'static [Form],
-    /// The words of the roles that may make it; there are none in an airport file.
-    pub roles: &'static [&'static str],
+pub(crate) enum RecordKind {
+    /// An update, in a feed and in a scenario.
+    Update(Kind),
+    /// A kind of an airport file, or the one that begins a scenario.
+    Other(&'static OtherKind),
 }
 
-// Numbers that records hold.
-const PRIORITY: Form = Form::Number(Range {
-    least: 0,
-    most: 9,
-    told: "a priority is a number from 0 to 9",
-});
-
-const CAP: Form = Form::Number(Range {
-    least: 0,
-    most: 60,
-    told: "a cap is a number from 0 to 60",
-});
-
-const TAXI_MINUTES: Form = Form::Number(Range {
-    least: 1,
-    most: 120,
-    told: "taxi minutes are a number from 1 to 120",
-});
-
-const OCCUPANCY: Form = Form::Number(Range {
-    least: 0,
-    most: 5,
-    told: "a flight occupies a runway for 0 to 5 minutes",
-});
-
-const MINUTES_BEFORE: Form = Form::Number(Range {
-    least: 0,
-    most: 15,
-    told: "a tolerance has 0 to 15 minutes before a CTOT",
-});
-
-const MINUTES_AFTER: Form = Form::Number(Range {
-    least: 0,
-    most: 30,
-    told: "a tolerance has 0 to 30 minutes after a CTOT",
-});
+/// A kind of records that make no update.
+#[derive(Clone, Copy, Debug)]
+pub(crate) struct OtherKind {
+    // The word of the kind.
+    word: &'static str,
+    // The names of the fields that follow it, and what they hold.
+    fields: &'static [(&'static str, Form)],
+}
 
 /// The kinds of an airport file.
-const AIRPORT_KINDS: &[Kind] = &[
-    Kind {
+const AIRPORT_KINDS: &[OtherKind] = &[
+    OtherKind {
         word: "DAY",
-        names: "day",
-        forms: &[Form::Day],
-        roles: &[],
+        fields: &[("day", Form::Day)],
     },
-    Kind {
+    OtherKind {
         word: "RUNWAY",
-        names: "runway, cell, cap",
-        forms: &[Form::Runway, Form::Cell, CAP],
-        roles: &[],
+        fields: &[
+            ("runway", Form::Of(Field::Runway)),
+            ("cell", Form::Cell),
+            ("cap", Form::Of(Field::Cap)),
+        ],
     },
-    Kind {
+    OtherKind {
         word: "SPACE",
-        names: "runway, group, minutes",
-        forms: &[Form::Runway, Form::Group, OCCUPANCY],
-        roles: &[],
+        fields: &[
+            ("runway", Form::Of(Field::Runway)),
+            ("group", Form::Of(Field::Group)),
+            ("minutes", Form::Occupancy),
+        ],
     },
-    Kind {
+    OtherKind {
         word: "TAXI",
-        names: "stand, runway, minutes",
-        forms: &[Form::Place, Form::Runway, TAXI_MINUTES],
-        roles: &[],
+        fields: &[
+            ("stand", Form::Of(Field::Place)),
+            ("runway", Form::Of(Field::Runway)),
+            ("minutes", Form::Of(Field::TaxiMinutes)),
+        ],
     },
 ];
 
 /// The kind of a scenario file that begins a scenario.
-const SCENARIO: Kind = Kind {
+const SCENARIO_KINDS: &[OtherKind] = &[OtherKind {
     word: "SCENARIO",
-    names: "name",
-    forms: &[Form::ScenarioName],
-    roles: &[],
-};
-
-/// The kinds of updates, in a feed and in a scenario.
-pub(crate) const UPDATE_KINDS: &[Kind] = &[
-    Kind {
-        word: "AIR",
-        names: "flight, time",
-        forms: &[Form::Flight, Form::Time],
-        roles: &["ATC"],
-    },
-    Kind {
-        word: "CLOCK",
-        names: "time",
-        forms: &[Form::Time],
-        roles: &["ATC"],
-    },
-    Kind {
-        word: "CLOSE",
-        names: "runway, from, to",
-        forms: &[Form::Runway, Form::Time, Form::Bound],
-        roles: &["ATC"],
-    },
-    Kind {
-        word: "CNL",
-        names: "flight",
-        forms: &[Form::Flight],
-        roles: &["AO"],
-    },
-    Kind {
-        word: "CTOT",
-        names: "flight, time",
-        forms: &[Form::Flight, Form::Ctot],
-        roles: &["NM"],
-    },
-    Kind {
-        word: "FLT",
-        names: "flight, priority",
-        forms: &[Form::Flight, PRIORITY],
-        roles: &["AP"],
-    },
-    Kind {
-        word: "GROUP",
-        names: "flight, group",
-        forms: &[Form::Flight, Form::Group],
-        roles: &["AP"],
-    },
-    Kind {
-        word: "ICE",
-        names: "flight, kind, minutes",
-        forms: &[Form::Flight, Form::IceKind, Form::IceMinutes],
-        roles: &["GH"],
-    },
-    Kind {
-        word: "OFF",
-        names: "flight, time",
-        forms: &[Form::Flight, Form::Time],
-        roles: &["ATC"],
-    },
-    Kind {
-        word: "OPEN",
-        names: "runway, from, to",
-        forms: &[Form::Runway, Form::Time, Form::Bound],
-        roles: &["ATC"],
-    },
-    Kind {
-        word: "PRIO",
-        names: "flight, priority",
-        forms: &[Form::Flight, PRIORITY],
-        roles: &["ATC"],
-    },
-    Kind {
-        word: "RATE",
-        names: "runway, from, to, cap",
-        forms: &[Form::Runway, Form::Time, Form::Bound, CAP],
-        roles: &["ATC"],
-    },
-    Kind {
-        word: "RWY",
-        names: "flight, runway",
-        forms: &[Form::Flight, Form::Runway],
-        roles: &["ATC"],
-    },
-    Kind {
-        word: "STAND",
-        names: "flight, stand",
-        forms: &[Form::Flight, Form::Stand],
-        roles: &["AP"],
-    },
-    Kind {
-        word: "TAXI",
-        names: "stand, runway, minutes",
-        forms: &[Form::Place, Form::Runway, TAXI_MINUTES],
-        roles: &["ATC"],
-    },
-    Kind {
-        word: "TOBT",
-        names: "flight, time",
-        forms: &[Form::Flight, Form::Time],
-        roles: &["AO", "GH"],
-    },
-    Kind {
-        word: "TOL",
-        names: "before, after",
-        forms: &[MINUTES_BEFORE, MINUTES_AFTER],
-        roles: &["NM"],
-    },
-];
+    fields: &[("name", Form::ScenarioName)],
+}];
 
 impl FileKind {
     /// The place of the kind in a record, counted from 0: behind the role, where there is one.
@@ -226,16 +93,60 @@ impl FileKind {
     }
 
     /// The kind of records of the file that a field names.
-    pub fn kind_of(self, text: &[u8]) -> Option<Kind> {
-        let kinds = match self {
+    pub fn kind_of(self, text: &[u8]) -> Option<RecordKind> {
+        let others: &'static [OtherKind] = match self {
             FileKind::Airport => AIRPORT_KINDS,
-            FileKind::Feed => UPDATE_KINDS,
-            FileKind::Scenarios if text == SCENARIO.word.as_bytes() => return Some(SCENARIO),
-            FileKind::Scenarios => UPDATE_KINDS,
+            FileKind::Scenarios => SCENARIO_KINDS,
+            FileKind::Feed => &[],
         };
-        kinds
-            .iter()
-            .find(|kind| kind.word.as_bytes() == text)
-            .copied()
+        match others.iter().find(|kind| kind.word.as_bytes() == text) {
+            Some(kind) => Some(RecordKind::Other(kind)),
+            None if self == FileKind::Airport => None,
+            None => Kind::named(text).map(RecordKind::Update),
+        }
     }
+}
+
+impl RecordKind {
+    /// The word of the kind.
+    pub fn word(self) -> &'static str {
+        match self {
+            RecordKind::Update(kind) => kind.name(),
+            RecordKind::Other(kind) => kind.word,
+        }
+    }
+
+    /// How many fields follow it.
+    pub fn count(self) -> usize {
+        match self {
+            RecordKind::Update(kind) => kind.fields().len(),
+            RecordKind::Other(kind) => kind.fields.len(),
+        }
+    }
+
+    /// The name of the field at a place behind the word, counted from 0, and what it holds, if there is one.
+    pub fn field(self, place: usize) -> Option<(&'static str, Form)> {
+        match self {
+            RecordKind::Update(kind) => kind
+                .fields()
+                .get(place)
+                .map(|field| (field.name(), Form::Of(*field))),
+            RecordKind::Other(kind) => kind.fields.get(place).copied(),
+        }
+    }
+
+    /// The roles that may make it; there are none in an airport file.
+    pub fn roles(self) -> &'static [Role] {
+        match self {
+            RecordKind::Update(kind) => kind.roles(),
+            RecordKind::Other(_) => &[],
+        }
+    }
+}
+
+/// All kinds of updates, by their words.
+pub(crate) fn kinds_by_word(alloc: Global) -> Result<Vec<Kind>, AllocError> {
+    let mut kinds = Vec::from_slice(alloc, Kind::all())?;
+    kinds.sort_by_key(|kind| kind.name())?;
+    Ok(kinds)
 }

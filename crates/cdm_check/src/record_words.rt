@@ -1,8 +1,8 @@
 //! Why a record is refused that is wrong in itself: by Fields, Role, Kind, Text or Range.
 
-use crate::fields::{Field, faulty_field, field_at, kind_of};
+use crate::fields::{FieldOf, faulty_field, field_at, kind_of};
 use crate::forms::Form;
-use crate::kinds::{FileKind, Kind, UPDATE_KINDS};
+use crate::kinds::{FileKind, RecordKind, kinds_by_word};
 use crate::shown::{shown, trimmed, where_spaces_are};
 use cdm_files::role_of;
 use cdm_flight::RefusalWord;
@@ -48,21 +48,20 @@ fn too_few(alloc: Global, row: &ByteRecord) -> Result<String, AllocError> {
 fn wrong_count(
     alloc: Global,
     file: FileKind,
-    kind: Kind,
+    kind: RecordKind,
     row: &ByteRecord,
 ) -> Result<String, AllocError> {
-    let (word, names) = (kind.word, kind.names);
+    let word = kind.word();
     let role = if file == FileKind::Feed { "role, " } else { "" };
     let here = row.len();
     let are = if here == 1 { "is" } else { "are" };
     let wanted = kind
-        .forms
-        .len()
+        .count()
         .saturating_add(file.kind_place())
         .saturating_add(1);
-    let mut text = format!(in alloc;
-        "{word} has {wanted} fields: {role}{word}, {names}; here {are} {here}"
-    )?;
+    let mut text = format!(in alloc; "{word} has {wanted} fields: {role}{word}")?;
+    push_names(&mut text, kind)?;
+    write!(text, "; here {are} {here}")?;
     let last = here.saturating_sub(1);
     if here > wanted && field_at(row, last).is_empty() {
         text.push_str(", the last one empty: remove the comma at the end")?;
@@ -70,8 +69,18 @@ fn wrong_count(
     Ok(text)
 }
 
+// Puts the names of the kind's fields behind the text.
+fn push_names(text: &mut String, kind: RecordKind) -> Result<(), AllocError> {
+    for place in 0..kind.count() {
+        if let Some((name, _)) = kind.field(place) {
+            write!(text, ", {name}")?;
+        }
+    }
+    Ok(())
+}
+
 // A field that has another form as it should be written, if spaces or small letters are what is wrong with it.
-fn mended(alloc: Global, day: Day, field: Field<'_>) -> Result<Option<String>, AllocError> {
+fn mended(alloc: Global, day: Day, field: FieldOf<'_>) -> Result<Option<String>, AllocError> {
     let bare = trimmed(field.text);
     let spaces = where_spaces_are(field.text);
     if bare.len() < field.text.len() && has_form(day, field.form, bare) {
@@ -96,7 +105,7 @@ fn has_form(day: Day, form: Form, text: &[u8]) -> bool {
 }
 
 // A field that hasn't its form.
-fn wrong_text(alloc: Global, day: Day, field: Field<'_>) -> Result<String, AllocError> {
+fn wrong_text(alloc: Global, day: Day, field: FieldOf<'_>) -> Result<String, AllocError> {
     let number = field.number;
     let here = shown(alloc, field.text)?;
     if let Some(mended) = mended(alloc, day, field)? {
@@ -112,7 +121,7 @@ fn wrong_text(alloc: Global, day: Day, field: Field<'_>) -> Result<String, Alloc
 }
 
 // A field that is out of its range.
-fn wrong_range(alloc: Global, day: Day, field: Field<'_>) -> Result<String, AllocError> {
+fn wrong_range(alloc: Global, day: Day, field: FieldOf<'_>) -> Result<String, AllocError> {
     let number = field.number;
     let here = shown(alloc, field.text)?;
     let range = field.form.range(alloc, day)?;
@@ -132,7 +141,7 @@ fn wrong_role(alloc: Global, day: Day, row: &ByteRecord) -> Result<String, Alloc
     wrong_text(
         alloc,
         day,
-        Field {
+        FieldOf {
             number: 1,
             form,
             text,
@@ -151,7 +160,7 @@ fn wrong_kind(
     let text = field_at(row, place);
     let number = place + 1;
     let form = Form::Kind(file);
-    let field = Field { number, form, text };
+    let field = FieldOf { number, form, text };
     let here = shown(alloc, text)?;
     if file == FileKind::Airport {
         return wrong_text(alloc, day, field);
@@ -170,8 +179,8 @@ fn wrong_kind(
         ""
     };
     let mut sentence = format!(in alloc; "field {number} {here} is none of{first}")?;
-    for kind in UPDATE_KINDS {
-        let word = kind.word;
+    for kind in &kinds_by_word(alloc)? {
+        let word = kind.name();
         write!(sentence, " {word}")?;
     }
     Ok(sentence)

@@ -2,9 +2,10 @@
 ghost use Rattle.std.specs.Prelude.{◌≡◌};
 ghost use Rattle.cdm_command.specs.declared.command.CommandFault.TheVariants as command;
 
-use crate::manual::MANUAL;
+use crate::manual::manual;
 use crate::parsers::parser;
 use cdm_flight::{FlightName, RunwayName};
+use cdm_kinds::Format;
 use cdm_phase::Workers;
 use cdm_scenario::ScenarioName;
 use cdm_table::Table;
@@ -17,6 +18,15 @@ use thiserror::Error;
 
 /// The name of a file that is standard input.
 pub const STANDARD_INPUT: &str = "-";
+
+/// A scenario of a file.
+#[derive(Clone, Copy, PartialEq, Eq, Debug)]
+pub struct WhatIf<'a> {
+    /// The path of the file.
+    pub scenarios: &'a str,
+    /// The name of the scenario.
+    pub name: ScenarioName,
+}
 
 /// What the words ask for. Files are named by their paths, one at most as [`STANDARD_INPUT`].
 #[derive(PartialEq, Eq, Debug, Drop)]
@@ -49,10 +59,11 @@ pub enum Command<'a> {
         scenarios: Option<&'a str>,
         workers: Workers,
     },
-    /// Answer a question of the day that a feed makes at an airport.
+    /// Answer a question of the day that a feed makes at an airport, or of that day with a scenario.
     Ask {
         airport: &'a str,
         feed: &'a str,
+        what_if: Option<WhatIf<'a>>,
         question: Question,
     },
     /// Trace which record of a feed moved whose start-up at an airport, or that of one flight.
@@ -72,6 +83,8 @@ pub enum Command<'a> {
         feed: &'a str,
         scenarios: Option<&'a str>,
     },
+    /// Print the table of the kinds of updates.
+    Kinds(Format),
     /// Print this text: the manual, a help or the version.
     Print(String),
 }
@@ -108,10 +121,16 @@ impl Command<'_> {
                 feed1,
                 feed2,
             } => [Some(*airport), Some(*feed1), Some(*feed2)],
+            Command::Ask {
+                airport,
+                feed,
+                what_if: Some(WhatIf { scenarios, .. }),
+                ..
+            } => [Some(*airport), Some(*feed), Some(*scenarios)],
             Command::Ask { airport, feed, .. } | Command::Trace { airport, feed, .. } => {
                 [Some(*airport), Some(*feed), None]
             }
-            Command::Serve { .. } | Command::Print(_) => [None; 3],
+            Command::Serve { .. } | Command::Kinds(_) | Command::Print(_) => [None; 3],
         };
         files
             .iter()
@@ -162,6 +181,7 @@ pub fn command_of<'a, S: AsStr>(
         Some(("check", check)) => check_of(check),
         Some(("why", why)) => why_of(alloc, why)?,
         Some(("load", load)) => load_of(alloc, load)?,
+        Some(("kinds", kinds)) => kinds_of(kinds),
         Some((_, help)) => Some(help_of(alloc, help.get_str("COMMAND"))?),
         None => None,
     };
@@ -189,8 +209,9 @@ fn told<'a>(alloc: Global, error: &ParseError) -> Result<Command<'a>, CommandFau
 // The help of the command of this name, which is the one of its `--help`, or else the manual.
 fn help_of<'a>(alloc: Global, name: Option<&str>) -> Result<Command<'a>, CommandFault> {
     let Some(name) = name else {
-        let manual = parser(alloc)?.after_help(MANUAL).render_help()?;
-        return Ok(Command::Print(manual));
+        let manual = manual(alloc)?;
+        let help = parser(alloc)?.after_help(&manual).render_help()?;
+        return Ok(Command::Print(help));
     };
     match parser(alloc)?.try_get_matches_from(&[name, "--help"]) {
         Err(error) => told(alloc, &error),
@@ -255,7 +276,7 @@ fn compare_of<'a>(
         return Ok(None);
     };
     let name = match compare.get_str("NAME") {
-        Some(word) => Some(scenario_in(alloc, word)?),
+        Some(word) => Some(scenario_in(alloc, word, "[NAME]")?),
         None => None,
     };
     Ok(Some(Command::Tabulate {
@@ -268,15 +289,31 @@ fn compare_of<'a>(
 }
 
 // The scenario that a word names.
-fn scenario_in(alloc: Global, word: &str) -> Result<ScenarioName, CommandFault> {
+fn scenario_in(alloc: Global, word: &str, argument: &str) -> Result<ScenarioName, CommandFault> {
     match ScenarioName::new(word.as_bytes()) {
         Some(name) => Ok(name),
         None => Err(wrong_value(
             alloc,
             word,
-            "[NAME]",
+            argument,
             "a scenario has 1 to 16 of A-Z, 0-9 and -",
         )?),
+    }
+}
+
+// The scenario that a question is asked of, if one is named. Its file and its name are named together.
+fn what_if_of<'a>(
+    alloc: Global,
+    words: &ArgMatches<'a>,
+) -> Result<Option<WhatIf<'a>>, CommandFault> {
+    match (words.get_str("scenarios"), words.get_str("scenario")) {
+        (Some(scenarios), Some(word)) => {
+            let name = scenario_in(alloc, word, "--scenario <NAME>")?;
+            Ok(Some(WhatIf { scenarios, name }))
+        }
+        (None, None) => Ok(None),
+        (Some(_), None) => Err(missing(alloc, "--scenario <NAME>")?),
+        (None, Some(_)) => Err(missing(alloc, "--scenarios <FILE>")?),
     }
 }
 
@@ -287,6 +324,14 @@ fn live_of<'a>(live: &ArgMatches<'a>) -> Option<Command<'a>> {
         feed1: live.get_str("FEED1")?,
         feed2: live.get_str("FEED2")?,
     })
+}
+
+// The words of `kinds`, all of which the parser has seen to.
+fn kinds_of<'a>(kinds: &ArgMatches<'a>) -> Option<Command<'a>> {
+    match kinds.get_str("format")? {
+        "json" => Some(Command::Kinds(Format::Json)),
+        _ => Some(Command::Kinds(Format::Text)),
+    }
 }
 
 // The words of `check`, all of which the parser has seen to.
@@ -308,9 +353,11 @@ fn why_of<'a>(alloc: Global, why: &ArgMatches<'a>) -> Result<Option<Command<'a>>
         return Ok(None);
     };
     let question = Question::Why(flight_in(alloc, word, "<FLIGHT>")?);
+    let what_if = what_if_of(alloc, why)?;
     Ok(Some(Command::Ask {
         airport,
         feed,
+        what_if,
         question,
     }))
 }
@@ -369,9 +416,11 @@ fn load_of<'a>(alloc: Global, load: &ArgMatches<'a>) -> Result<Option<Command<'a
         None => None,
     };
     let question = Question::Load(runway);
+    let what_if = what_if_of(alloc, load)?;
     Ok(Some(Command::Ask {
         airport,
         feed,
+        what_if,
         question,
     }))
 }
@@ -398,6 +447,14 @@ fn wrong_value(
 ) -> Result<CommandFault, AllocError> {
     let text = format!(in alloc;
         "error: invalid value '{word}' for '{argument}': {form}\n\nFor more information, try '--help'.\n"
+    )?;
+    Ok(CommandFault::Usage(text))
+}
+
+// What is told where this argument is missing.
+fn missing(alloc: Global, argument: &str) -> Result<CommandFault, AllocError> {
+    let text = format!(in alloc;
+        "error: the following required arguments were not provided:\n  {argument}\n\nFor more information, try '--help'.\n"
     )?;
     Ok(CommandFault::Usage(text))
 }

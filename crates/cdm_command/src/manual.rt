@@ -1,5 +1,9 @@
 //! What the program tells of itself, its files and its output.
 
+use cdm_kinds::{Kind, role_name};
+use std::alloc::{AllocError, Global};
+use std::fmt::Write;
+
 /// The program's version.
 pub const VERSION: &str = "0.1.0";
 
@@ -34,6 +38,9 @@ pub const SERVE_ABOUT: &str = "Take records as they come, reply to each, and kee
 /// What `check` does.
 pub const CHECK_ABOUT: &str = "Tell what is wrong with the files, and where";
 
+/// What `kinds` does.
+pub const KINDS_ABOUT: &str = "Print the table of the kinds of updates, with their fields";
+
 /// What `help` does.
 pub const HELP_ABOUT: &str = "Print the manual, or the help of one command";
 
@@ -41,7 +48,6 @@ pub const HELP_ABOUT: &str = "Print the manual, or the help of one command";
 pub const EXAMPLES: &str = "\
 For example:
   cdmseq plan airport.csv feed.csv
-The options of one command: cdmseq help plan
 The whole manual: cdmseq help | less";
 
 /// The end of the help of `plan`.
@@ -65,6 +71,7 @@ The whole manual: cdmseq help | less";
 pub const WHY_EXAMPLE: &str = "\
 For example:
   cdmseq why airport.csv feed.csv AB1
+  cdmseq why airport.csv feed.csv AB1 --scenarios what_if.csv --scenario SHUT
 One of the files can be -, which is standard input.
 The whole manual: cdmseq help | less";
 
@@ -72,6 +79,7 @@ The whole manual: cdmseq help | less";
 pub const LOAD_EXAMPLE: &str = "\
 For example:
   cdmseq load airport.csv feed.csv 27L
+  cdmseq load airport.csv feed.csv --scenarios what_if.csv --scenario SHUT
 One of the files can be -, which is standard input.
 The whole manual: cdmseq help | less";
 
@@ -113,14 +121,21 @@ For example:
 One of the files can be -, which is standard input.
 The whole manual: cdmseq help | less";
 
+/// The end of the help of `kinds`.
+pub const KINDS_EXAMPLE: &str = "\
+For example:
+  cdmseq kinds
+  cdmseq kinds --format json
+The whole manual: cdmseq help | less";
+
 /// The end of the help of `help`.
 pub const HELP_EXAMPLE: &str = "\
 For example:
   cdmseq help plan
 The whole manual: cdmseq help | less";
 
-/// What the files hold and what the output says, for a reader who has no other paper.
-pub const MANUAL: &str = "\
+/// What the files hold and what the output says, for a reader who has no other paper: up to the kinds of updates.
+const BEFORE_KINDS: &str = "\
 WHAT IT DOES
   All times are UTC, in whole minutes. A plan spans two days from 00:00 of the
   airport file's day.
@@ -195,30 +210,10 @@ AO,CTOT,AB1,2025-03-10T06:40Z
   The first field is who makes the update: AO operator, GH ground handler, AP
   airport operator, ATC air traffic control, NM Network Manager. The kinds of
   update, with those who may make them:
-    AP,FLT,flight,priority         a new flight, priority 0 to 9
-    AO,TOBT,flight,time            its TOBT (AO or GH)
-    AP,STAND,flight,stand          its stand
-    ATC,RWY,flight,runway          its runway
-    NM,CTOT,flight,time            its CTOT; - for the time takes it away
-    GH,ICE,flight,kind,minutes     de-icing: NONE with 0 minutes, or with 1 to
-                                   60 STAND (on the stand, before it is ready)
-                                   or REMOTE (on the way, part of EXOT)
-    ATC,PRIO,flight,priority       its priority, 0 to 9
-    AP,GROUP,flight,group          how heavy it is: L, M or H, at first M
-    ATC,OFF,flight,time            it went off-block at this AOBT, which fixes
-                                   its EXOT
-    ATC,AIR,flight,time            it took off at this ATOT
-    AO,CNL,flight                  it is cancelled
-    ATC,RATE,runway,from,to,cap    cap (0 to 60) of the cells of a window, whose
-                                   ends are whole numbers of cells from 00:00
-    ATC,CLOSE,runway,from,to       no take-off in the window
-    ATC,OPEN,runway,from,to        take-offs again in the window
-    ATC,TAXI,stand,runway,minutes  taxi minutes (1 to 120) from a stand, * for
-                                   the stands without a row
-    ATC,CLOCK,time                 it is this time now; at first it is 00:00 of
-                                   the first day
-    NM,TOL,before,after            the tolerance of every CTOT: 0 to 15 minutes
-                                   before and 0 to 30 after, at first 5 and 10
+";
+
+/// The rest of the manual, behind the kinds of updates.
+const AFTER_KINDS: &str = "\
   Of several updates of one item the last counts.
 
   SCENARIOS, a file that --scenarios names, or the third of compare, asks what
@@ -388,6 +383,10 @@ THE OUTPUT
            many flights of how many it has, how many of its minutes are closed,
            and its flights by TTOT and name
 
+  With --scenarios what_if.csv --scenario SHUT both answer for the day with all
+  updates of SHUT, as its plan is. If one of them can't be accepted, there is
+  no answer, and the status is 3.
+
   trace tells which record moved whose start-up. Of the example files AIRPORT
   and FEED cdmseq trace airport.csv feed.csv prints
 
@@ -462,16 +461,94 @@ THE OUTPUT
   as: fields are separated by semicolons, not commas. The last line counts the
   records of all files, and those that are refused.
 
+  kinds prints the table of the kinds of update: a line for each field, with the
+  kind, what it is of, the roles that may send it, and the field's name, form
+  and range. With --format json each kind is an object on a line of its own.
+
 STATUS
   0  done: standard output has the whole text, also where records were refused
   1  a file can't be read or written, the text can't be written, memory is
      short, JOURNAL is in use, or the board gave a wrong answer
   2  the words are wrong
   3  a file has more than 8388608 bytes, AIRPORT, SCENARIOS or a record of
-     JOURNAL is refused, FEED1 and FEED2 need more than 4096 calls, or the
-     flight, runway or scenario that is asked for isn't known
+     JOURNAL is refused, FEED1 and FEED2 need more than 4096 calls, the flight,
+     runway or scenario that is asked for isn't known, or an update of that
+     scenario is refused
   4  check has found a refused record
   For 1 and 3 one line on standard error names the cause, as
   cdmseq: cannot read FEED (feed.csv: no such file). A text there says what is
   wrong with the words of status 2.
 ";
+
+// What a kind of updates says, in lines of 45 characters.
+fn words_of(kind: Kind) -> &'static str {
+    match kind {
+        Kind::Flt => "a new flight, priority 0 to 9",
+        Kind::Tobt => "its TOBT",
+        Kind::Stand => "its stand",
+        Kind::Rwy => "its runway",
+        Kind::Ctot => "its CTOT; - for the time takes it away",
+        Kind::Ice => {
+            "de-icing: NONE with 0 minutes, or with 1 to\n60 STAND (on the stand, before it is ready)\nor REMOTE (on the way, part of EXOT)"
+        }
+        Kind::Prio => "its priority, 0 to 9",
+        Kind::Group => "how heavy it is: L, M or H, at first M",
+        Kind::Off => { "it went off-block at this AOBT, which fixes\nits EXOT" }
+        Kind::Air => "it took off at this ATOT",
+        Kind::Cnl => "it is cancelled",
+        Kind::Rate => {
+            "cap (0 to 60) of the cells of a window, whose\nends are whole numbers of cells from 00:00"
+        }
+        Kind::Close => "no take-off in the window",
+        Kind::Reopen => "take-offs again in the window",
+        Kind::Taxi => { "taxi minutes (1 to 120) from a stand, * for\nthe stands without a row" }
+        Kind::Clock => { "it is this time now; at first it is 00:00 of\nthe first day" }
+        Kind::Tol => {
+            "the tolerance of every CTOT: 0 to 15 minutes\nbefore and 0 to 30 after, at first 5 and 10"
+        }
+    }
+}
+
+// Puts the roles behind the text, if there is more than one.
+fn push_roles(text: &mut String, kind: Kind) -> Result<(), AllocError> {
+    let roles = kind.roles();
+    if roles.len() < 2 {
+        return Ok(());
+    }
+    let mut before = " (";
+    for role in roles {
+        text.push_str(before)?;
+        text.push_str(role_name(*role))?;
+        before = " or ";
+    }
+    text.push_str(")")
+}
+
+// Puts the lines of a kind behind the text: the record with a role that may send it, and what it says.
+fn push_kind(alloc: Global, text: &mut String, kind: Kind) -> Result<(), AllocError> {
+    let role = kind.roles().first().map_or("", |role| role_name(*role));
+    let word = kind.name();
+    let mut record = format!(in alloc; "    {role},{word}")?;
+    for field in kind.fields() {
+        let name = field.name();
+        write!(record, ",{name}")?;
+    }
+    let mut words = String::from_str(alloc, words_of(kind))?;
+    push_roles(&mut words, kind)?;
+    for line in words.lines() {
+        writeln!(text, "{record:<35}{line}")?;
+        record.clear();
+    }
+    Ok(())
+}
+
+/// What the files hold and what the output says, for a reader who has no other paper. The kinds of updates are those of
+/// their table.
+pub(crate) fn manual(alloc: Global) -> Result<String, AllocError> {
+    let mut text = String::from_str(alloc, BEFORE_KINDS)?;
+    for kind in Kind::all() {
+        push_kind(alloc, &mut text, *kind)?;
+    }
+    text.push_str(AFTER_KINDS)?;
+    Ok(text)
+}

@@ -2,15 +2,18 @@
 
 use crate::manual::{
     ABOUT, CHECK_ABOUT, CHECK_EXAMPLE, COMPARE_ABOUT, COMPARE_EXAMPLE, EXAMPLES, HELP_ABOUT,
-    HELP_EXAMPLE, LIVE_ABOUT, LIVE_EXAMPLE, LOAD_ABOUT, LOAD_EXAMPLE, PICTURE_ABOUT,
-    PICTURE_EXAMPLE, PLAN_ABOUT, PLAN_EXAMPLE, SERVE_ABOUT, SERVE_EXAMPLE, TRACE_ABOUT,
-    TRACE_EXAMPLE, VERSION, WHY_ABOUT, WHY_EXAMPLE,
+    HELP_EXAMPLE, KINDS_ABOUT, KINDS_EXAMPLE, LIVE_ABOUT, LIVE_EXAMPLE, LOAD_ABOUT, LOAD_EXAMPLE,
+    PICTURE_ABOUT, PICTURE_EXAMPLE, PLAN_ABOUT, PLAN_EXAMPLE, SERVE_ABOUT, SERVE_EXAMPLE,
+    TRACE_ABOUT, TRACE_EXAMPLE, VERSION, WHY_ABOUT, WHY_EXAMPLE,
 };
 use clap::{Arg, Command as Parser, value_parser};
 use std::alloc::{AllocError, Global};
 
 /// How a plan can be printed.
 const FORMATS: &[&str] = &["text", "csv"];
+
+/// How the table of kinds can be printed.
+const KINDS_FORMATS: &[&str] = &["text", "json"];
 
 /// What scenarios are, where they are answered.
 const OVER_THE_FEED: &str = "What-if scenarios, each answered over the feed";
@@ -21,6 +24,14 @@ fn scenarios_arg<'a>(alloc: Global, help: &'a str) -> Arg<'a> {
         .long("scenarios")
         .value_name("FILE")
         .help(help)
+}
+
+// The scenario that a question is asked of.
+fn scenario_arg<'a>(alloc: Global) -> Arg<'a> {
+    Arg::new(alloc, "scenario")
+        .long("scenario")
+        .value_name("NAME")
+        .help("The one of them that the answer is over")
 }
 
 // The words that `check` takes.
@@ -119,13 +130,19 @@ fn why_parser<'a>(alloc: Global) -> Result<Parser<'a>, AllocError> {
     let flight = Arg::new(alloc, "FLIGHT")
         .required(true)
         .help("The flight that is asked for");
-    day_parser(alloc, "why", WHY_ABOUT, WHY_EXAMPLE)?.arg(flight)
+    day_parser(alloc, "why", WHY_ABOUT, WHY_EXAMPLE)?
+        .arg(flight)?
+        .arg(scenarios_arg(alloc, OVER_THE_FEED))?
+        .arg(scenario_arg(alloc))
 }
 
 // The words that `load` takes.
 fn load_parser<'a>(alloc: Global) -> Result<Parser<'a>, AllocError> {
     let runway = Arg::new(alloc, "RUNWAY").help("One runway alone");
-    day_parser(alloc, "load", LOAD_ABOUT, LOAD_EXAMPLE)?.arg(runway)
+    day_parser(alloc, "load", LOAD_ABOUT, LOAD_EXAMPLE)?
+        .arg(runway)?
+        .arg(scenarios_arg(alloc, OVER_THE_FEED))?
+        .arg(scenario_arg(alloc))
 }
 
 // The words that `trace` takes.
@@ -147,6 +164,21 @@ fn serve_parser<'a>(alloc: Global) -> Result<Parser<'a>, AllocError> {
         .after_help(SERVE_EXAMPLE)
         .arg(airport)?
         .arg(journal)
+}
+
+// The words that `kinds` takes.
+fn kinds_parser<'a>(alloc: Global) -> Result<Parser<'a>, AllocError> {
+    let format = Arg::new(alloc, "format")
+        .long("format")
+        .value_name("FORMAT")
+        .value_parser(KINDS_FORMATS)
+        .default_value("text")
+        .hide_possible_values(true)
+        .help("text, or json: an object for each kind");
+    Parser::new(alloc, "kinds")
+        .about(KINDS_ABOUT)
+        .after_help(KINDS_EXAMPLE)
+        .arg(format)
 }
 
 // The words that `help` takes.
@@ -179,5 +211,6 @@ pub(crate) fn parser<'a>(alloc: Global) -> Result<Parser<'a>, AllocError> {
         .subcommand(live_parser(alloc)?)?
         .subcommand(serve_parser(alloc)?)?
         .subcommand(check_parser(alloc)?)?
+        .subcommand(kinds_parser(alloc)?)?
         .subcommand(help_parser(alloc)?)
 }

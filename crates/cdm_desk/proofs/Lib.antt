@@ -1,1 +1,2 @@
 mod PostLemmas
+pub mod RowReplyLemmas

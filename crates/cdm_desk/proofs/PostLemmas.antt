@@ -9,8 +9,10 @@ use Rattle.cdm_flight.specs.declared.update.Update.{Update}
 use Rattle.cdm_flight.specs.declared.word.RefusalWord.{RefusalWord}
 use Rattle.cdm_plan.specs.Day.{DayRecord}
 use Rattle.cdm_view.specs.declared.standing.Standing.{Standing}
-use Rattle.cdm_desk.specs.Replies.{IsChangedTo, IsReplyBy}
+use Rattle.cdm_row.specs.declared.row.Row.{Row}
+use Rattle.cdm_desk.specs.Replies.{AreChangedRows, IsChangedTo, IsReplyBy, IsRowReplyBy}
 use Rattle.cdm_desk.specs.declared.reply.DeskReply.TheVariants.{Accepted, Refused}
+use Rattle.cdm_desk.specs.declared.reply.RowReply.TheVariants as row_reply
 
 module _ (d : DayRecord) (u : Role × Update) where
   abbrev pub said : Option RefusalWord
@@ -44,3 +46,17 @@ module _ (d : DayRecord) (u : Role × Update) where
   accepted_reply next changed told none same e is =
       subst (λ o. IsReplyBy o d with_it (Accepted told)) (sym none)
       (subst (λ (l : List Standing). IsChangedTo d with_it l) (sym e) (subst (λ (n : DayRecord). IsChangedTo d n changed) same is))
+
+  -- the day with it, by the journal with it
+  pub day_taken : (copy next : DayRecord) → copy ≡ d → next ≡ record copy { journal = accepted copy.airport copy.journal (u ∷ []) }
+      → next ≡ record d { journal = accepted d.airport d.journal (u ∷ []) }
+  day_taken copy next same is = is ∙ (λ i. record (same i) { journal = accepted (same i).airport (same i).journal (u ∷ []) })
+
+  pub refused_rows : (word : RefusalWord) → said ≡ Some word → IsRowReplyBy said d with_it (row_reply.Refused word)
+  refused_rows word is = subst (λ o. IsRowReplyBy o d with_it (row_reply.Refused word)) (sym is) refl
+
+  pub accepted_rows : (next : DayRecord) (changed told : List Row) → said ≡ None → next ≡ with_it → told ≡ changed → AreChangedRows d next changed
+      → IsRowReplyBy said d with_it (row_reply.Accepted told)
+  accepted_rows next changed told none same e is =
+      subst (λ o. IsRowReplyBy o d with_it (row_reply.Accepted told)) (sym none)
+      (subst (λ (l : List Row). AreChangedRows d with_it l) (sym e) (subst (λ (n : DayRecord). AreChangedRows d n changed) same is))

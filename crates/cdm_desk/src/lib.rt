@@ -2,8 +2,10 @@
 #![tactic(auto)]
 
 mod desk_day;
+mod laws;
 mod posting;
 mod reply;
 
 pub use desk_day::DeskDay;
-pub use reply::{DeskReply, push_reply};
+pub use laws::replies_suffice;
+pub use reply::{DeskReply, RowReply, push_reply};

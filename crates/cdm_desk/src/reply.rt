@@ -4,6 +4,7 @@ ghost use Rattle.std.specs.String.{string_bytes};
 ghost use Rattle.cdm_desk.specs.Replies.{changed_line, reply_text};
 
 use cdm_flight::{Listed, RefusalWord};
+use cdm_row::Row;
 use cdm_time::Day;
 use cdm_view::{Standing, push_standing};
 use std::alloc::AllocError;
@@ -16,6 +17,15 @@ pub enum DeskReply {
     Refused(RefusalWord),
     /// It is accepted, and these flights, by name, stand otherwise since, or are known since.
     Accepted(Listed<Standing>),
+}
+
+/// The reply to a record, told by Rows (local profile).
+#[derive(Debug, Drop)]
+pub enum RowReply {
+    /// It changed nothing, for this reason.
+    Refused(RefusalWord),
+    /// It is accepted, and these flights, by name, have another Row since, or are known since.
+    Accepted(Listed<Row>),
 }
 
 // The lines of standings.

@@ -3,7 +3,7 @@ ghost use Rattle.std.specs.Prelude.{◌≡◌};
 ghost use Rattle.cdm_fault.specs.Statuses.{status_of_command_fault, status_of_common, status_of_fault, status_of_run};
 ghost use Rattle.cdm_fault.specs.declared.fault.Fault.TheVariants as fault;
 
-use crate::unopened::UnopenedFile;
+use crate::unopened::{ShownPath, UnopenedFile};
 use cdm_command::CommandFault;
 use cdm_feed::{CommonFault, Counted, Device, Input, RunError};
 use cdm_live::LiveError;
@@ -31,9 +31,15 @@ pub enum Fault {
     /// The live run has not written its whole text.
     #[error(transparent)]
     Live(#[from] LiveError),
-    /// The journal's file can't be opened.
+    /// The journal's file or its lock can't be opened.
     #[error("cannot open JOURNAL ({0})")]
     CannotOpenJournal(UnopenedFile),
+    /// The journal is a FIFO, a device or a socket.
+    #[error("cannot open JOURNAL ({0}: is no regular file)")]
+    JournalNoFile(ShownPath),
+    /// The journal was served before, and isn't there.
+    #[error("JOURNAL is missing, and was served before")]
+    JournalMissing,
     /// Another process has the journal.
     #[error("JOURNAL is in use")]
     JournalInUse,
@@ -51,7 +57,7 @@ impl From<AllocError> for Fault {
 }
 
 impl Fault {
-    /// The exit status: 3 where an input is refused or doesn't know what is asked for, and 1 where a file
+    /// The exit status: 3 where an input is refused, is missing though it was served, or doesn't know what is asked for, and 1 where a file
     /// can't be opened, a device fails, memory is short or the board gives a wrong answer.
     pub fn status(&self) -> u8
         ensures { result ≡ status_of_fault self.now }
@@ -64,12 +70,15 @@ impl Fault {
                 RunError::Scenario(..)
                 | RunError::NoFlight(_)
                 | RunError::NoRunway(_)
-                | RunError::NoScenario(_),
+                | RunError::NoScenario(_)
+                | RunError::Update(..),
             )
             | Fault::Serve(ServeError::Journal(..) | ServeError::Port(PortFault::JournalTooLong))
+            | Fault::JournalMissing
             | Fault::Live(LiveError::HistoryFull) => 3,
             Fault::CannotOpen(..)
             | Fault::CannotOpenJournal(_)
+            | Fault::JournalNoFile(_)
             | Fault::JournalInUse
             | Fault::NoMemory
             | Fault::Serve(ServeError::Port(_) | ServeError::TooMany)

@@ -5,4 +5,4 @@ mod fault;
 mod unopened;
 
 pub use fault::{Fault, report_command_fault, report_fault, run_status};
-pub use unopened::{PathText, UnopenedFile};
+pub use unopened::{PathText, ShownPath, UnopenedFile};

@@ -23,6 +23,16 @@ impl Display for UnopenedFile {
     }
 }
 
+/// A path of its own, as [`PathText`] shows it.
+#[derive(PartialEq, Eq, Debug, Drop)]
+pub struct ShownPath(pub String);
+
+impl Display for ShownPath {
+    fn fmt<W: Write>(&self, f: &mut Formatter<W>) -> fmt::Result {
+        write_path(&self.0, f)
+    }
+}
+
 /// A path as lines show it, with `\xHH` in place of each byte of a control character.
 #[derive(Clone, Copy, Debug)]
 pub struct PathText<'a>(pub &'a str);

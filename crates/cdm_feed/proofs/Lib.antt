@@ -1,2 +1,3 @@
 pub mod OutputLemmas
 pub mod RunLemmas
+pub mod AskedLemmas

@@ -1,15 +1,18 @@
 -- A run has one text.
-use Rattle.std.proofs.Common.{◌≡◌, ◌++◌, ◌∙◌, ℕ, List, Ok, sym, subst, subst₂}
+use Rattle.std.proofs.Common.{◌≡◌, ◌++◌, ◌∙◌, ℕ, List, Option, None, Some, Result, Ok, sym, subst, subst₂}
+use Rattle.std.specs.Option.{IsSomeAnd}
 use Rattle.std.specs.List.{AllZip, IsDistinct, concat}
 use Rattle.cdm_flight.specs.Journal.{AirportRows}
 use Rattle.cdm_flight.specs.Names.{same_name}
+use Rattle.cdm_flight.specs.declared.update.Update.{Update}
 use Rattle.cdm_flight.specs.declared.word.RefusalWord.{RefusalWord}
 use Rattle.cdm_plan.specs.Airport.{IsAirport, runway_names}
 use Rattle.cdm_plan.specs.Day.{DayRecord, flights_in}
 use Rattle.cdm_plan.specs.DayPlan.{IsDayPlan}
 use Rattle.cdm_plan.proofs.OnePlanLemmas.{one_day_plan}
-use Rattle.cdm_scenario.specs.inner.OneOutcome.{one_each}
-use Rattle.cdm_scenario.specs.Scenarios.{ScenarioRecord}
+use Rattle.cdm_scenario.specs.inner.OneOutcome.{names_with_all, one_each}
+use Rattle.cdm_scenario.specs.Outcome.{IsLaid}
+use Rattle.cdm_scenario.specs.Scenarios.{ScenarioRecord, scenario_named}
 use Rattle.cdm_report.specs.Counts.{counts_of}
 use Rattle.cdm_report.specs.Report.{report_bytes}
 use Rattle.cdm_sequence.specs.declared.plan.Plan.{Plan}
@@ -21,7 +24,7 @@ use Rattle.cdm_view.proofs.AnswerLemmas.{answer_one}
 use Rattle.cdm_files.specs.FeedDay.{day_in}
 use Rattle.cdm_files.proofs.FeedDayLemmas.{own_airport, own_journal}
 use Rattle.cdm_feed.specs.Answers.{IsAnswer}
-use Rattle.cdm_feed.specs.Made.{HaveOne, IsMade, IsTextOf, IsView}
+use Rattle.cdm_feed.specs.Made.{HaveOne, IsAskedOf, IsMade, IsTextOf, IsView}
 use Rattle.cdm_feed.specs.Output.{HaveOneText, IsMadeBy, IsReport}
 use Rattle.cdm_feed.specs.inner.OneAnswer.{one_answer}
 use Rattle.cdm_feed.specs.declared.asked.DayText.{DayText}
@@ -45,10 +48,46 @@ one-report d refused questions own x y a b =
     (subst (λ (p : Plan). AllZip (IsAnswer d (counts_of p)) questions b.answers) plans b.of_scenarios) in
     a.bytes ∙ (λ i. report_bytes d.airport.day (sym plans i) refused ++ concat (answers i)) ∙ sym b.bytes
 
-one-view : (question : Question) (d : DayRecord) → IsAirport d.airport → Own d → (x y : List ℕ) → IsView question d x → IsView question d y → x ≡ y
-one-view question d kept own x y a b =
-    let plans : b.plan ≡ a.plan = one_day_plan d b.plan a.plan own.0 own.1 b.of_day a.of_day in
-    answer_one question d a.plan x y kept a.answer (subst (λ (p : Plan). IsAnswerTo question d p y) plans b.answer)
+-- a day has one answer
+one-answer : (question : Question) (d : DayRecord) → IsAirport d.airport → Own d → (x y : List ℕ) (p q : Plan) → IsDayPlan d p → IsDayPlan d q
+    → IsAnswerTo question d p x → IsAnswerTo question d q y → x ≡ y
+one-answer question d kept own x y p q of_p of_q a b =
+    let plans : q ≡ p = one_day_plan d q p own.0 own.1 of_q of_p in
+    answer_one question d p x y kept a (subst (λ (r : Plan). IsAnswerTo question d r y) plans b)
+
+-- and so has what is said to be one day, whose runways and flights have names of their own
+one-view : (question : Question) (IsDay : Result DayRecord (ℕ × RefusalWord) → Type 0) (x y : List ℕ)
+    → ((d e : DayRecord) → IsDay (Ok d) → IsDay (Ok e) → e ≡ d) → ((d : DayRecord) → IsDay (Ok d) → IsAirport d.airport × Own d)
+    → IsView question IsDay x → IsView question IsDay y → x ≡ y
+one-view question IsDay x y alone kept a b =
+    let same : b.day ≡ a.day = alone a.day b.day a.is_day b.is_day in
+    let own = kept a.day a.is_day in
+    one-answer question a.day own.0 own.1 x y a.plan b.plan a.of_day (subst (λ (d : DayRecord). IsDayPlan d b.plan) same b.of_day)
+    a.answer (subst (λ (d : DayRecord). IsAnswerTo question d b.plan y) same b.answer)
+
+module _ (d : DayRecord) (kept : IsAirport d.airport) (own : Own d) where
+  one-laid : (us : List Update) (x y : DayRecord) → IsLaid d us (Ok x) → IsLaid d us (Ok y) → y ≡ x
+  one-laid us x y a b = b.1 ∙ sym a.1
+
+  own-laid : (us : List Update) (x : DayRecord) → IsLaid d us (Ok x) → IsAirport x.airport × Own x
+  own-laid us x is = subst (λ (e : DayRecord). IsAirport e.airport × Own e) (sym is.1) (kept, (own.0, names_with_all d us own.1 is.0))
+
+  one-asked : (found : Option ScenarioRecord) (x y : DayRecord) → IsSomeAnd found (λ s. IsLaid d s.updates (Ok x))
+      → IsSomeAnd found (λ s. IsLaid d s.updates (Ok y)) → y ≡ x
+  one-asked (Some s) x y a b = one-laid s.updates x y a b
+  one-asked None x y a b = absurd a
+
+  own-asked : (found : Option ScenarioRecord) (x : DayRecord) → IsSomeAnd found (λ s. IsLaid d s.updates (Ok x)) → IsAirport x.airport × Own x
+  own-asked (Some s) x is = own-laid s.updates x is
+  own-asked None x is = absurd is
+
+  -- whatever scenario is asked about
+  one-of : (question : Question) (scenario : Option (List ℕ)) (questions : List ScenarioRecord) (x y : List ℕ)
+      → IsView question (IsAskedOf scenario d questions) x → IsView question (IsAskedOf scenario d questions) y → x ≡ y
+  one-of question None questions x y =
+      one-view question (IsAskedOf None d questions) x y (λ a b is so. cc) (λ a is. let same : d ≡ a = cc in subst (λ (e : DayRecord). IsAirport e.airport × Own e) same (kept, own))
+  one-of question (Some name) questions x y =
+      one-view question (IsAskedOf (Some name) d questions) x y (one-asked (scenario_named questions name)) (own-asked (scenario_named questions name))
 
 -- where an airport, a feed and scenarios have one text, three files have one
 one-by : (IsText : AirportRows → List ℕ → List ScenarioRecord → List ℕ → Type 0) (airport feed scenarios : List ℕ)
@@ -81,7 +120,7 @@ one-each (ask.Day Report) airport feed scenarios =
     one-counted Report airport feed scenarios (λ g questions kept. one-report (day_in g feed) _ questions (own-day g feed kept))
 one-each (ask.Day (Table table)) airport feed scenarios =
     one-counted (Table table) airport feed scenarios (λ g questions kept. one_table (day_in g feed) kept.names (own_journal g feed) table questions)
-one-each (ask.Day (Answer question)) airport feed scenarios =
-    one-counted (Answer question) airport feed scenarios (λ g questions kept. one-view question (day_in g feed) kept (own-day g feed kept))
+one-each (ask.Day (Answer question scenario)) airport feed scenarios =
+    one-counted (Answer question scenario) airport feed scenarios (λ g questions kept. one-of (day_in g feed) kept (own-day g feed kept) question scenario questions)
 one-each (ask.Day (Trace flight)) airport feed scenarios =
     one-counted (Trace flight) airport feed scenarios (λ g questions kept x y a b. one flight g feed kept x y a.1 b.1)

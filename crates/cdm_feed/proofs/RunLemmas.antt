@@ -1,5 +1,5 @@
 -- The first fault of a run, by why its whole inputs make no text.
-use Rattle.std.proofs.Common.{◌≡◌, ◌∙◌, ℕ, List, Option, None, Some, IfSome, Result, Ok, Err, ap, refl, sym, subst}
+use Rattle.std.proofs.Common.{◌≡◌, ℕ, List, Option, IfSome, Result, Ok, Err, ap, refl, sym, subst}
 use Rattle.std.proofs.lemmas.Option.{IfSome_then}
 use Rattle.std.specs.Prelude.{IsOk}
 use Rattle.std.specs.Result.{IsErrOf, IsOkAnd}
@@ -54,6 +54,7 @@ unmade-first (ask.Day asked) a f s x y z (error.Scenario number word) read first
 unmade-first (ask.Day asked) a f s x y z (error.NoFlight name) read first second third fault = (read, of-read x y z first second third fault)
 unmade-first (ask.Day asked) a f s x y z (error.NoRunway name) read first second third fault = (read, of-read x y z first second third fault)
 unmade-first (ask.Day asked) a f s x y z (error.NoScenario name) read first second third fault = (read, of-read x y z first second third fault)
+unmade-first (ask.Day asked) a f s x y z (error.Update name number word) read first second third fault = (read, of-read x y z first second third fault)
 
 -- a faulty record is why they make none
 pub record-unmade : (asked : DayText) (a f s : List ℕ) (e : RunError) → IsRecordFault a s e → IsUnmade (ask.Day asked) a f s e
@@ -62,6 +63,7 @@ record-unmade asked a f s (error.Scenario number word) fault = fault
 record-unmade asked a f s (error.NoFlight name) fault = absurd fault
 record-unmade asked a f s (error.NoRunway name) fault = absurd fault
 record-unmade asked a f s (error.NoScenario name) fault = absurd fault
+record-unmade asked a f s (error.Update name number word) fault = absurd fault
 
 -- and what their day doesn't know
 unknown-unmade : (asked : DayText) (a f s : List ℕ) (d : DayRecord) (questions : List ScenarioRecord) (e : RunError)
@@ -85,6 +87,7 @@ untold-unmade asked a f s d questions (error.Scenario number word) airport is sa
 untold-unmade asked a f s d questions (error.NoFlight name) airport is said fault = unknown-unmade asked a f s d questions (error.NoFlight name) airport is said fault
 untold-unmade asked a f s d questions (error.NoRunway name) airport is said fault = unknown-unmade asked a f s d questions (error.NoRunway name) airport is said fault
 untold-unmade asked a f s d questions (error.NoScenario name) airport is said fault = unknown-unmade asked a f s d questions (error.NoScenario name) airport is said fault
+untold-unmade asked a f s d questions (error.Update name number word) airport is said fault = unknown-unmade asked a f s d questions (error.Update name number word) airport is said fault
 
 -- and so is a failed write of a text that they make
 pub write-first : (asked : Asked) (a f s : Reading) → AreRead a f s → OfBytes a.before f.before s.before (HaveText asked) → IsFirstOf asked a f s (error.Common common.Write)
@@ -136,6 +139,7 @@ report-first a f s (error.Scenario number word) fault =
 report-first a f s (error.NoFlight name) fault = absurd (never (airport_in fault.1.airport) (λ g. scenarios_in g.day fault.1.third) fault.1.holds)
 report-first a f s (error.NoRunway name) fault = absurd (never (airport_in fault.1.airport) (λ g. scenarios_in g.day fault.1.third) fault.1.holds)
 report-first a f s (error.NoScenario name) fault = absurd (never (airport_in fault.1.airport) (λ g. scenarios_in g.day fault.1.third) fault.1.holds)
+report-first a f s (error.Update name number word) fault = absurd (never (airport_in fault.1.airport) (λ g. scenarios_in g.day fault.1.third) fault.1.holds)
 
 -- an error is the same, whatever would have been answered in its place
 abbrev as-error : {T U E : Type 0} → E → Result T E → Result U E

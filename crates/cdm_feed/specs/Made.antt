@@ -1,7 +1,9 @@
 -- What runs make of an airport file, a feed and a scenario file, and why they make nothing.
-use Rattle.std.specs.Prelude.{◌≡◌, ⊤, ℕ, List, Option, None, Some, IsSome, Err}
+use Rattle.std.specs.Prelude.{◌≡◌, ⊤, ℕ, List, Option, None, Some, IsSome, Result, Ok, Err}
+use Rattle.std.specs.Option.{IsSomeAnd}
 use Rattle.std.specs.Result.{IsOkAnd}
 use Rattle.cdm_flight.specs.Journal.{AirportRows, flight_of}
+use Rattle.cdm_flight.specs.declared.word.RefusalWord.{RefusalWord}
 use Rattle.cdm_sequence.specs.declared.plan.Plan.{Plan}
 use Rattle.cdm_plan.specs.Day.{DayRecord}
 use Rattle.cdm_plan.specs.DayPlan.{IsDayPlan}
@@ -9,7 +11,8 @@ use Rattle.cdm_view.specs.Questions.{IsAnswer, IsUnanswered}
 use Rattle.cdm_view.specs.declared.fault.ViewFault.{ViewFault}
 use Rattle.cdm_view.specs.declared.fault.ViewFault.TheVariants as view
 use Rattle.cdm_view.specs.declared.question.Question.{Question}
-use Rattle.cdm_scenario.specs.Scenarios.{ScenarioRecord}
+use Rattle.cdm_scenario.specs.Outcome.{IsLaid}
+use Rattle.cdm_scenario.specs.Scenarios.{ScenarioRecord, scenario_named}
 use Rattle.cdm_table.specs.Tables.{IsTable, unknown_among}
 use Rattle.cdm_table.specs.declared.table.TableFault.{TableFault}
 use Rattle.cdm_table.specs.declared.table.TableFault.TheVariants as table
@@ -35,11 +38,23 @@ use Rattle.cdm_feed.specs.declared.counted.Counted.TheVariants as counted
 
 -- What is made.
 
--- the text answers a question of the day
-pub record IsView (question : Question) (d : DayRecord) (text : List ℕ) : Type 0 where
+-- what is asked about: this day, or what becomes of it by the scenario of a name, which is the day with all updates of the
+-- scenario, unless a word refuses one of them
+abbrev pub IsAskedOf : Option (List ℕ) → DayRecord → List ScenarioRecord → Result DayRecord (ℕ × RefusalWord) → Type 0
+IsAskedOf None d scenarios = λ by. by ≡ Ok d
+IsAskedOf (Some name) d scenarios = λ by. IsSomeAnd (scenario_named scenarios name) (λ s. IsLaid d s.updates by)
+
+-- the text answers a question of a day of which this is said
+pub record IsView (question : Question) (IsDay : Result DayRecord (ℕ × RefusalWord) → Type 0) (text : List ℕ) : Type 0 where
+  pub day : DayRecord
+  pub is_day : IsDay (Ok day)
   pub plan : Plan
-  pub of_day : IsDayPlan d plan
-  pub answer : IsAnswer question d plan text
+  pub of_day : IsDayPlan day plan
+  pub answer : IsAnswer question day plan text
+
+-- the day of which this is said has no answer to the question
+abbrev pub HasNoView : Question → (Result DayRecord (ℕ × RefusalWord) → Type 0) → ViewFault → Type 0
+HasNoView question IsDay fault = (day : DayRecord) × IsDay (Ok day) × IsUnanswered question day fault
 
 -- the day knows the flight that is asked for, if one is
 abbrev pub IsKnown : Option (List ℕ) → DayRecord → Type 0
@@ -51,7 +66,7 @@ abbrev pub IsTextOf : DayText → AirportRows → List ℕ → List ScenarioReco
 IsTextOf Report g feed = IsReport (day_in g feed) (refusals_in g feed)
 IsTextOf (Table table) g feed = IsTable table (day_in g feed)
 IsTextOf Picture g feed = IsPicture (day_in g feed)
-IsTextOf (Answer question) g feed = λ questions. IsView question (day_in g feed)
+IsTextOf (Answer question scenario) g feed = λ questions. IsView question (IsAskedOf scenario (day_in g feed) questions)
 IsTextOf (Trace flight) g feed = λ questions text. IsKnown flight (day_in g feed) × IsTrace flight g feed text
 
 -- the text that is made of the bytes of an airport file, of a feed and of a scenario file, and what is counted
@@ -82,11 +97,14 @@ view_error (view.NoFlight name) = error.NoFlight name
 view_error (view.NoRunway name) = error.NoRunway name
 view_error view.Memory = error.Common common.Memory
 
--- why this isn't told of a day and scenarios: what is asked for isn't known, or there is no memory
+-- why this isn't told of a day and scenarios: what is asked for isn't known, an update of the scenario is refused, or there
+-- is no memory
 abbrev pub IsUntold : DayText → DayRecord → List ScenarioRecord → RunError → Type 0
 IsUntold asked d questions (error.Common common.Memory) = ⊤
-IsUntold (Answer question) d questions (error.NoFlight name) = IsUnanswered question d (view.NoFlight name)
-IsUntold (Answer question) d questions (error.NoRunway name) = IsUnanswered question d (view.NoRunway name)
+IsUntold (Answer question scenario) d questions (error.NoFlight name) = HasNoView question (IsAskedOf scenario d questions) (view.NoFlight name)
+IsUntold (Answer question scenario) d questions (error.NoRunway name) = HasNoView question (IsAskedOf scenario d questions) (view.NoRunway name)
+IsUntold (Answer question scenario) d questions (error.NoScenario name) = (scenario ≡ Some name) × (scenario_named questions name ≡ None)
+IsUntold (Answer question scenario) d questions (error.Update name number word) = (scenario ≡ Some name) × IsAskedOf scenario d questions (Err (number, word))
 IsUntold (Trace flight) d questions (error.NoFlight name) = (flight ≡ Some name) × (flight_of d.airport d.journal name ≡ None)
 IsUntold (Table table) d questions (error.NoScenario name) = unknown_among questions table ≡ Some name
 IsUntold asked d questions fault = ⊥

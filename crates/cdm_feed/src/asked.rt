@@ -1,6 +1,7 @@
 //! What is asked of a run.
 use cdm_check::FilePaths;
 use cdm_flight::FlightName;
+use cdm_scenario::ScenarioName;
 use cdm_table::Table;
 use cdm_view::Question;
 
@@ -13,8 +14,8 @@ pub enum DayText {
     Table(Table),
     /// The picture of the day, and of each scenario beneath it.
     Picture,
-    /// The answer to a question of the day.
-    Answer(Question),
+    /// The answer to a question of the day, or of the day with all updates of the scenario of this name.
+    Answer(Question, Option<ScenarioName>),
     /// Which records of the feed moved whose start-up, or that of one flight.
     Trace(Option<FlightName>),
 }

@@ -5,21 +5,24 @@ ghost use Rattle.cdm_files.specs.FeedDay.{day_in, refusals_in};
 ghost use Rattle.cdm_files.specs.Input.{input_limit};
 ghost use Rattle.cdm_table.specs.Tables.{IsTable};
 ghost use Rattle.cdm_trace.specs.Traces.{IsTrace};
-ghost use Rattle.cdm_feed.specs.Made.{IsKnown, IsMade, IsTextOf, IsUnmade, IsUntold, IsView, table_error, view_error};
+ghost use Rattle.cdm_scenario.specs.Outcome.{IsLaid};
+ghost use Rattle.cdm_feed.specs.Made.{IsAskedOf, IsKnown, IsMade, IsTextOf, IsUnmade, IsUntold, IsView, table_error, view_error};
 ghost use Rattle.cdm_feed.specs.Output.{IsReport};
+ghost use Rattle.cdm_feed.specs.inner.Over.{IsUntoldOver};
 
 use crate::answers::push_answers;
 use crate::asked::{Asked, DayText};
 use crate::counted::Counted;
 use crate::runs::RunCounts;
 use cdm_check::{Checked, check_of};
-use cdm_day::{DayState, Records};
+use cdm_day::{DayState, Records, plan_of};
 use cdm_files::{AskedDay, CommonFault, Inputs, Lent, RunError, asked_day};
 use cdm_flight::FlightName;
 use cdm_phase::Gate;
 use cdm_picture::picture;
 use cdm_plan::Runner;
 use cdm_report::{indicators, report_text};
+use cdm_scenario::{Overlay, Scenario, ScenarioName, scenario_named};
 use cdm_table::{Table, TableFault, tabulate};
 use cdm_trace::trace_of;
 use cdm_view::{Question, ViewFault, answer};
@@ -94,14 +97,70 @@ fn view_error(fault: ViewFault) -> RunError
 }
 
 // The answer to a question of a day.
-fn answer_of(alloc: Global, question: Question, day: &AskedDay) -> Result<Vec<u8>, RunError>
-    ensures made { IfOk result (λ text. IsView question day.now.state text.items) }
-    ensures fault { IfErr result (IsUntold (DayText.Answer question) day.now.state day.now.scenarios.items) }
+fn answer_of_base(alloc: Global, question: Question, day: &AskedDay) -> Result<Vec<u8>, RunError>
+    ensures made { IfOk result (λ text. IsView question (IsAskedOf None day.now.state day.now.scenarios.items) text.items) }
+    ensures fault { IfErr result (IsUntold (DayText.Answer question None) day.now.state day.now.scenarios.items) }
 {
     let state = &day.state;
     match answer(alloc, state.airport(), state, state.plan(), question) {
         Ok(text) => Ok(text),
         Err(fault) => Err(view_error(fault)),
+    }
+}
+
+// The answer to a question of a day with all updates of the scenario that was asked for by this name.
+fn answer_over(
+    alloc: Global,
+    question: Question,
+    base: &DayState,
+    name: ScenarioName,
+    scenario: &Scenario,
+) -> Result<Vec<u8>, RunError>
+    ensures made { IfOk result (λ text. IsView question (IsLaid base.now scenario.now.updates) text.items) }
+    ensures fault { IfErr result (IsUntoldOver question base.now name scenario.now) }
+{
+    match Overlay::after(alloc, base, scenario.updates())? {
+        Ok(day) => {
+            let plan = plan_of(alloc, &day)?;
+            match answer(alloc, base.airport(), &day, &plan, question) {
+                Ok(text) => Ok(text),
+                Err(fault) => Err(view_error(fault)),
+            }
+        }
+        Err((number, word)) => Err(RunError::Update(name, number, word)),
+    }
+}
+
+// The answer to a question of a day with all updates of the scenario of this name, if there is one.
+fn answer_by(
+    alloc: Global,
+    question: Question,
+    base: &DayState,
+    scenarios: &[Scenario],
+    name: ScenarioName,
+) -> Result<Vec<u8>, RunError>
+    ensures made { IfOk result (λ text. IsView question (IsAskedOf (Some name) base.now scenarios.now) text.items) }
+    ensures fault { IfErr result (IsUntold (DayText.Answer question (Some name)) base.now scenarios.now) }
+{
+    match scenario_named(scenarios, name) {
+        Some(scenario) => answer_over(alloc, question, base, name, scenario),
+        None => Err(RunError::NoScenario(name)),
+    }
+}
+
+// The answer to a question of a day, or of the day with all updates of the scenario of this name.
+fn answer_of(
+    alloc: Global,
+    question: Question,
+    scenario: Option<ScenarioName>,
+    day: &AskedDay,
+) -> Result<Vec<u8>, RunError>
+    ensures made { IfOk result (λ text. IsView question (IsAskedOf scenario day.now.state day.now.scenarios.items) text.items) }
+    ensures fault { IfErr result (IsUntold (DayText.Answer question scenario) day.now.state day.now.scenarios.items) }
+{
+    match scenario {
+        None => answer_of_base(alloc, question, day),
+        Some(name) => answer_by(alloc, question, &day.state, &day.scenarios, name),
     }
 }
 
@@ -162,7 +221,7 @@ fn text_of_day<R: Threads + Sync, G: Gate>(
             lent.workers,
             lent.gate,
         )?),
-        DayText::Answer(question) => answer_of(lent.alloc, question, day),
+        DayText::Answer(question, scenario) => answer_of(lent.alloc, question, scenario, day),
         DayText::Trace(flight) => trace_in(lent.alloc, flight, day, feed),
     }
 }

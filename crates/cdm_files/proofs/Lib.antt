@@ -7,3 +7,4 @@ pub mod FeedDayLemmas
 pub mod ScenarioLemmas
 pub mod StretchLemmas
 pub mod RowLemmas
+mod KindLemmas

@@ -10,7 +10,7 @@ ghost use Rattle.cdm_files.specs.inner.RecordFaults.{IsRecordFaultOf, row_fault}
 
 use crate::common_fault::CommonFault;
 use crate::field::{
-    all_three, cap_field, day_field, field, group_field, name_field, number_field, place_field,
+    all_three, cap_field, day_field, field_at, group_field, name_field, number_field, place_field,
     taxi_field,
 };
 use crate::file_fault::{FileFault, RecordFault};
@@ -46,17 +46,17 @@ pub(crate) enum AirportRecord {
     },
 }
 
-// The length of a runway's cells, a divisor of the hour.
+/// The length of a runway's cells, a divisor of the hour.
 #[tactic(auto, unfolding(crate::specs::Fields::number_field))]
-fn cell_field(text: &[u8]) -> Result<CellLength, RefusalWord>
+pub fn cell_field(text: &[u8]) -> Result<CellLength, RefusalWord>
     ensures { result ≡ number_field is_cell_length text.now }
 {
     CellLength::new(number_field(text)?).ok_or(RefusalWord::Range)
 }
 
-// For how long a departure occupies a runway, 0 to 5 minutes.
+/// For how long a departure occupies a runway, 0 to 5 minutes.
 #[tactic(auto, unfolding(crate::specs::Fields::number_field))]
-fn occupancy_field(text: &[u8]) -> Result<Occupancy, RefusalWord>
+pub fn occupancy_field(text: &[u8]) -> Result<Occupancy, RefusalWord>
     ensures { result ≡ number_field (from_to 0 5) text.now }
 {
     Occupancy::new(number_field(text)?).ok_or(RefusalWord::Range)
@@ -68,8 +68,8 @@ fn occupancy_field(text: &[u8]) -> Result<Occupancy, RefusalWord>
 fn airport_record(row: &ByteRecord) -> Result<AirportRecord, RefusalWord>
     ensures { result ≡ airport_record_of (fields_of row.now) }
 {
-    let kind = field(row, 0);
-    let (first, second, third) = (field(row, 1), field(row, 2), field(row, 3));
+    let kind = field_at(row, 0);
+    let (first, second, third) = (field_at(row, 1), field_at(row, 2), field_at(row, 3));
     if kind == b"DAY".as_slice() {
         if row.len() != 2 {
             return Err(RefusalWord::Fields);

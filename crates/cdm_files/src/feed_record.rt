@@ -2,15 +2,16 @@
 ghost use Rattle.std.specs.Prelude.{◌≡◌};
 ghost use Rattle.csv.specs.Records.{fields_of};
 ghost use Rattle.cdm_files.specs.Fields.{both, ctot_field, from_to, ice_field, number_field, tolerance_fields};
-ghost use Rattle.cdm_files.specs.Kinds.{update_of};
+ghost use Rattle.cdm_files.specs.Kinds.{update_by, update_of};
 ghost use Rattle.cdm_files.specs.Parsing.{parse_of};
 
 use crate::field::{
-    all_four, all_three, both, bound_field, cap_field, counted, field, group_field, name_field,
+    all_four, all_three, both, bound_field, cap_field, field_at, group_field, name_field,
     number_field, place_field, priority_field, taxi_field, time_field,
 };
 use crate::role::role_of;
 use cdm_flight::{Ice, IceMinutes, RefusalWord, Role, Update};
+use cdm_kinds::Kind;
 use cdm_time::{Day, Minute, Tolerance};
 use csv::ByteRecord;
 
@@ -33,9 +34,9 @@ fn ice_minutes(text: &[u8]) -> Result<IceMinutes, RefusalWord>
     IceMinutes::new(number_field(text)?).ok_or(RefusalWord::Range)
 }
 
-// A de-icing: NONE with 0 minutes, STAND or REMOTE with 1 to 60.
+/// A de-icing: NONE with 0 minutes, STAND or REMOTE with 1 to 60.
 #[tactic(auto, unfolding(crate::specs::Fields::number_field, crate::specs::Fields::ice_field))]
-fn ice_field(kind: &[u8], minutes: &[u8]) -> Result<Ice, RefusalWord>
+pub fn ice_field(kind: &[u8], minutes: &[u8]) -> Result<Ice, RefusalWord>
     ensures { result ≡ ice_field kind.now minutes.now }
 {
     if kind == b"NONE".as_slice() {
@@ -53,33 +54,68 @@ fn ice_field(kind: &[u8], minutes: &[u8]) -> Result<Ice, RefusalWord>
     }
 }
 
-// A tolerance: 0 to 15 minutes before a CTOT, and 0 to 30 after it.
+/// A tolerance: 0 to 15 minutes before a CTOT, and 0 to 30 after it.
 #[tactic(auto, unfolding(crate::specs::Fields::both, crate::specs::Fields::number_field, crate::specs::Fields::tolerance_fields))]
-fn tolerance_fields(before: &[u8], after: &[u8]) -> Result<Tolerance, RefusalWord>
+pub fn tolerance_fields(before: &[u8], after: &[u8]) -> Result<Tolerance, RefusalWord>
     ensures { result ≡ tolerance_fields before.now after.now }
 {
     let (before, after) = both(number_field(before), number_field(after))?;
     Tolerance::new(before, after).ok_or(RefusalWord::Range)
 }
 
-// The update that so many fields make, or the first word that refuses one of them.
+// The update that fields make, or the first word that refuses one of them.
 macro_rules! update {
-    ($count:ident == $wanted:expr, $kind:ident, $one:ident: $first:expr) => {
-        counted($wanted, $count, $first.map(|$one| Update::$kind { $one }))
+    ($kind:ident, $one:ident: $first:expr) => {
+        $first.map(|$one| Update::$kind { $one })
     };
-    ($count:ident == $wanted:expr, $kind:ident, $one:ident: $first:expr, $two:ident: $second:expr) => {
-        counted($wanted, $count, both($first, $second).map(|($one, $two)| Update::$kind { $one, $two }))
+    ($kind:ident, $one:ident: $first:expr, $two:ident: $second:expr) => {
+        both($first, $second).map(|($one, $two)| Update::$kind { $one, $two })
     };
-    ($count:ident == $wanted:expr, $kind:ident, $one:ident: $first:expr, $two:ident: $second:expr,
-        $three:ident: $third:expr) => {
-        counted($wanted, $count, all_three($first, $second, $third)
-            .map(|($one, $two, $three)| Update::$kind { $one, $two, $three }))
+    ($kind:ident, $one:ident: $first:expr, $two:ident: $second:expr, $three:ident: $third:expr) => {
+        all_three($first, $second, $third)
+            .map(|($one, $two, $three)| Update::$kind { $one, $two, $three })
     };
-    ($count:ident == $wanted:expr, $kind:ident, $one:ident: $first:expr, $two:ident: $second:expr,
-        $three:ident: $third:expr, $four:ident: $fourth:expr) => {
-        counted($wanted, $count, all_four($first, $second, $third, $fourth)
-            .map(|($one, $two, $three, $four)| Update::$kind { $one, $two, $three, $four }))
+    ($kind:ident, $one:ident: $first:expr, $two:ident: $second:expr, $three:ident: $third:expr,
+        $four:ident: $fourth:expr) => {
+        all_four($first, $second, $third, $fourth)
+            .map(|($one, $two, $three, $four)| Update::$kind { $one, $two, $three, $four })
     };
+}
+
+// The update of a kind that these fields make. A kind looks at as many of them as it has.
+fn update_by(
+    day: Day,
+    kind: Kind,
+    first: &[u8],
+    second: &[u8],
+    third: &[u8],
+    fourth: &[u8],
+) -> Result<Update, RefusalWord>
+    ensures { result ≡ update_by day kind first.now second.now third.now fourth.now }
+{
+    match kind {
+        Kind::Flt => update!(Flt, flight: name_field(first), priority: priority_field(second)),
+        Kind::Tobt => update!(Tobt, flight: name_field(first), tobt: time_field(day, second)),
+        Kind::Stand => update!(Stand, flight: name_field(first), stand: name_field(second)),
+        Kind::Rwy => update!(Rwy, flight: name_field(first), runway: name_field(second)),
+        Kind::Ctot => update!(Ctot, flight: name_field(first), ctot: ctot_field(day, second)),
+        Kind::Ice => update!(Ice, flight: name_field(first), ice: ice_field(second, third)),
+        Kind::Prio => update!(Prio, flight: name_field(first), priority: priority_field(second)),
+        Kind::Group => update!(Group, flight: name_field(first), group: group_field(second)),
+        Kind::Off => update!(Off, flight: name_field(first), aobt: time_field(day, second)),
+        Kind::Air => update!(Air, flight: name_field(first), atot: time_field(day, second)),
+        Kind::Cnl => update!(Cnl, flight: name_field(first)),
+        Kind::Rate => update!(Rate, runway: name_field(first), from: time_field(day, second),
+            to: bound_field(day, third), cap: cap_field(fourth)),
+        Kind::Close => update!(Close, runway: name_field(first), from: time_field(day, second),
+            to: bound_field(day, third)),
+        Kind::Reopen => update!(Reopen, runway: name_field(first), from: time_field(day, second),
+            to: bound_field(day, third)),
+        Kind::Taxi => update!(Taxi, place: place_field(first), runway: name_field(second),
+            minutes: taxi_field(third)),
+        Kind::Clock => update!(Clock, now: time_field(day, first)),
+        Kind::Tol => update!(Tol, tolerance: tolerance_fields(first, second)),
+    }
 }
 
 /// The update of the kind that a field names. `count` fields follow the kind, the first four of them
@@ -96,47 +132,13 @@ pub(crate) fn update_of(
 ) -> Result<Update, RefusalWord>
     ensures { result ≡ update_of day kind.now count first.now second.now third.now fourth.now }
 {
-    if kind == b"FLT".as_slice() {
-        update!(count == 2, Flt, flight: name_field(first), priority: priority_field(second))
-    } else if kind == b"TOBT".as_slice() {
-        update!(count == 2, Tobt, flight: name_field(first), tobt: time_field(day, second))
-    } else if kind == b"STAND".as_slice() {
-        update!(count == 2, Stand, flight: name_field(first), stand: name_field(second))
-    } else if kind == b"RWY".as_slice() {
-        update!(count == 2, Rwy, flight: name_field(first), runway: name_field(second))
-    } else if kind == b"CTOT".as_slice() {
-        update!(count == 2, Ctot, flight: name_field(first), ctot: ctot_field(day, second))
-    } else if kind == b"ICE".as_slice() {
-        update!(count == 3, Ice, flight: name_field(first), ice: ice_field(second, third))
-    } else if kind == b"PRIO".as_slice() {
-        update!(count == 2, Prio, flight: name_field(first), priority: priority_field(second))
-    } else if kind == b"GROUP".as_slice() {
-        update!(count == 2, Group, flight: name_field(first), group: group_field(second))
-    } else if kind == b"OFF".as_slice() {
-        update!(count == 2, Off, flight: name_field(first), aobt: time_field(day, second))
-    } else if kind == b"AIR".as_slice() {
-        update!(count == 2, Air, flight: name_field(first), atot: time_field(day, second))
-    } else if kind == b"CNL".as_slice() {
-        update!(count == 1, Cnl, flight: name_field(first))
-    } else if kind == b"RATE".as_slice() {
-        update!(count == 4, Rate, runway: name_field(first), from: time_field(day, second),
-            to: bound_field(day, third), cap: cap_field(fourth))
-    } else if kind == b"CLOSE".as_slice() {
-        update!(count == 3, Close, runway: name_field(first), from: time_field(day, second),
-            to: bound_field(day, third))
-    } else if kind == b"OPEN".as_slice() {
-        update!(count == 3, Reopen, runway: name_field(first), from: time_field(day, second),
-            to: bound_field(day, third))
-    } else if kind == b"TAXI".as_slice() {
-        update!(count == 3, Taxi, place: place_field(first), runway: name_field(second),
-            minutes: taxi_field(third))
-    } else if kind == b"CLOCK".as_slice() {
-        update!(count == 1, Clock, now: time_field(day, first))
-    } else if kind == b"TOL".as_slice() {
-        update!(count == 2, Tol, tolerance: tolerance_fields(first, second))
-    } else {
-        Err(RefusalWord::Kind)
+    let Some(kind) = Kind::named(kind) else {
+        return Err(RefusalWord::Kind);
+    };
+    if count != kind.fields().len() {
+        return Err(RefusalWord::Fields);
     }
+    update_by(day, kind, first, second, third, fourth)
 }
 
 /// What a record of the feed spells, the role and the update, or the first word that refuses it: the
@@ -148,18 +150,18 @@ pub fn parse_record(day: Day, row: &ByteRecord) -> Result<(Role, Update), Refusa
     if row.len() < 2 {
         return Err(RefusalWord::Fields);
     }
-    let (first, second) = (field(row, 2), field(row, 3));
-    let (third, fourth) = (field(row, 4), field(row, 5));
+    let (first, second) = (field_at(row, 2), field_at(row, 3));
+    let (third, fourth) = (field_at(row, 4), field_at(row, 5));
     let update = update_of(
         day,
-        field(row, 1),
+        field_at(row, 1),
         row.len() - 2,
         first,
         second,
         third,
         fourth,
     );
-    match (role_of(field(row, 0)), update) {
+    match (role_of(field_at(row, 0)), update) {
         (Some(role), Ok(update)) => Ok((role, update)),
         (Some(_), Err(word)) => Err(word),
         (None, Err(RefusalWord::Fields)) => Err(RefusalWord::Fields),

@@ -6,14 +6,14 @@ ghost use Rattle.cdm_time.specs.Digits.{are_digits, number_in};
 ghost use Rattle.cdm_time.specs.Times.{day_of};
 ghost use Rattle.cdm_flight.specs.Names.{is_name};
 ghost use Rattle.cdm_flight.specs.declared.word.RefusalWord.TheVariants as word;
-ghost use Rattle.cdm_files.specs.Fields.{all_four, all_three, both, bound_field, counted, field, from_to, group_field, name_field, number_field, place_field, refused_by_word, time_field, word_of};
+ghost use Rattle.cdm_files.specs.Fields.{all_four, all_three, both, bound_field, field, from_to, group_field, name_field, number_field, place_field, refused_by_word, time_field, word_of};
 
 use cdm_flight::{Cap, Group, Name, Place, Priority, RefusalWord, TaxiMinutes};
 use cdm_time::{Bound, Day, Minute, TimeFault, number_of};
 use csv::ByteRecord;
 
 /// The field at a place, counted from 0. A field that the record hasn't is empty.
-pub(crate) fn field(row: &ByteRecord, place: usize) -> &[u8]
+pub fn field_at(row: &ByteRecord, place: usize) -> &[u8]
     ensures { result.now ≡ field (fields_of row.now) place }
 {
     row.get(place).unwrap_or(b"")
@@ -58,7 +58,7 @@ pub fn number_field(text: &[u8]) -> Result<u16, RefusalWord>
 
 /// A priority, 0 to 9.
 #[tactic(auto, unfolding(crate::specs::Fields::number_field))]
-pub(crate) fn priority_field(text: &[u8]) -> Result<Priority, RefusalWord>
+pub fn priority_field(text: &[u8]) -> Result<Priority, RefusalWord>
     ensures { result ≡ number_field (from_to 0 9) text.now }
 {
     Priority::new(number_field(text)?).ok_or(RefusalWord::Range)
@@ -66,7 +66,7 @@ pub(crate) fn priority_field(text: &[u8]) -> Result<Priority, RefusalWord>
 
 /// A capacity, 0 to 60.
 #[tactic(auto, unfolding(crate::specs::Fields::number_field))]
-pub(crate) fn cap_field(text: &[u8]) -> Result<Cap, RefusalWord>
+pub fn cap_field(text: &[u8]) -> Result<Cap, RefusalWord>
     ensures { result ≡ number_field (from_to 0 60) text.now }
 {
     Cap::new(number_field(text)?).ok_or(RefusalWord::Range)
@@ -74,7 +74,7 @@ pub(crate) fn cap_field(text: &[u8]) -> Result<Cap, RefusalWord>
 
 /// A taxi time, 1 to 120 minutes.
 #[tactic(auto, unfolding(crate::specs::Fields::number_field))]
-pub(crate) fn taxi_field(text: &[u8]) -> Result<TaxiMinutes, RefusalWord>
+pub fn taxi_field(text: &[u8]) -> Result<TaxiMinutes, RefusalWord>
     ensures { result ≡ number_field (from_to 1 120) text.now }
 {
     TaxiMinutes::new(number_field(text)?).ok_or(RefusalWord::Range)
@@ -152,19 +152,4 @@ pub(crate) fn all_four<A: Drop, B: Drop, C: Drop, D: Drop>(
 {
     let (one, (two, three, four)) = both(one, all_three(two, three, four))?;
     Ok((one, two, three, four))
-}
-
-/// What so many fields spell; another number of them is refused by Fields.
-pub(crate) fn counted<T: Drop>(
-    wanted: usize,
-    count: usize,
-    spelled: Result<T, RefusalWord>,
-) -> Result<T, RefusalWord>
-    ensures { result ≡ counted wanted count spelled }
-{
-    if count == wanted {
-        spelled
-    } else {
-        Err(RefusalWord::Fields)
-    }
 }

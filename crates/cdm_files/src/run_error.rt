@@ -28,6 +28,9 @@ pub enum RunError {
     /// The scenario file has no scenario of this name.
     #[error("no scenario {}", .0.text())]
     NoScenario(ScenarioName),
+    /// The first update of this scenario that is refused, by its number in the scenario from 1, and the word that refuses it.
+    #[error("SCENARIOS scenario {}: update {}: {}", .0.text(), .1, .2)]
+    Update(ScenarioName, usize, RefusalWord),
 }
 
 impl From<CommonFault> for RunError {

@@ -4,7 +4,7 @@ ghost use Rattle.csv.specs.Records.{fields_of};
 ghost use Rattle.cdm_files.specs.ScenarioRecords.{scenario_line_of};
 
 use crate::feed_record::update_of;
-use crate::field::field;
+use crate::field::field_at;
 use cdm_flight::{RefusalWord, Update};
 use cdm_scenario::ScenarioName;
 use cdm_time::Day;
@@ -26,8 +26,8 @@ pub(crate) enum ScenarioLine {
 pub(crate) fn scenario_line(day: Day, row: &ByteRecord) -> Result<ScenarioLine, RefusalWord>
     ensures { result ≡ scenario_line_of day (fields_of row.now) }
 {
-    let (word, first, second) = (field(row, 0), field(row, 1), field(row, 2));
-    let (third, fourth) = (field(row, 3), field(row, 4));
+    let (word, first, second) = (field_at(row, 0), field_at(row, 1), field_at(row, 2));
+    let (third, fourth) = (field_at(row, 3), field_at(row, 4));
     if word == b"SCENARIO".as_slice() {
         if row.len() != 2 {
             return Err(RefusalWord::Fields);

@@ -1,5 +1,5 @@
 pub mod TextLemmas
+pub mod LineLemmas
 pub mod WholeLemmas
-pub mod PlainLemmas
-pub mod MachineLemmas
-pub mod RecoveryLemmas
+pub mod ReadLemmas
+pub mod LengthLemmas

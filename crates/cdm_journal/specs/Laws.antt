@@ -1,50 +1,63 @@
 -- Laws of a journal, which a served day keeps.
-use Rattle.std.specs.Prelude.{◌≡◌, ◌≢◌, ℕ, List, [], ◌∷◌, ◌++◌, IsOk, IsTrue, None, Ok}
-use Rattle.std.specs.List.{All}
-use Rattle.cdm_time.specs.declared.calendar.CalendarDate.{CalendarDate}
-use Rattle.cdm_flight.specs.Accepted.{refusal}
+use Rattle.std.specs.Prelude.{◌≡◌, ◌≢◌, ◌<◌, ℕ, List, [], ◌∷◌, ◌++◌, length, map, false, None, Ok}
+use Rattle.cdm_flight.specs.Accepted.{accepted, refusal}
 use Rattle.cdm_flight.specs.Journal.{AirportRows}
 use Rattle.cdm_flight.specs.declared.role.Role.{Role}
 use Rattle.cdm_flight.specs.declared.update.Update.{Update}
 use Rattle.cdm_files.specs.FeedDay.{accepted_in, refusals_in}
 use Rattle.cdm_files.specs.Parsing.{parse_of}
 use Rattle.cdm_files.specs.Records.{records_of}
-use Rattle.cdm_journal.specs.Journal.{IsWhole, is_plain, journal_line, whole_lines}
+use Rattle.cdm_files.specs.Refused.{refused_in, updates_in}
+use Rattle.cdm_journal.specs.Journal.{has_line_feed, journal_line, journal_text, whole_lines}
+use Rattle.cdm_journal.specs.Lines.{line_record}
+use Rattle.cdm_journal.specs.Lines.LineRecord.{One}
 
--- a record that spells an update can stand in a journal as it is
-abbrev pub ArePlain : Type 0
-ArePlain = (day : CalendarDate) (fields : List (List ℕ)) → IsOk (parse_of day fields) → IsTrue (is_plain fields)
+-- none of these records is refused in its turn, and they make these updates
+pub record Make (g : AirportRows) (records : List (List (List ℕ))) (updates : List Update) : Type 0 where
+  pub none_refused : refused_in g [] 1 (map (parse_of g.day) records) ≡ []
+  pub accepts : accepted g [] (updates_in (map (parse_of g.day) records)) ≡ updates
 
--- a line more is a record more, behind any whole text whose records all spell updates
-abbrev pub GoesOn : Type 0
-GoesOn = (day : CalendarDate) (text : List ℕ) (fields : List (List ℕ)) → IsWhole text
-    → All (λ row. IsOk (parse_of day row)) (records_of text) → IsOk (parse_of day fields)
-    → records_of (text ++ journal_line fields) ≡ records_of text ++ fields ∷ []
+-- the day takes the update that a record spells, behind these updates
+abbrev pub IsTaken : AirportRows → List Update → List (List ℕ) → Update → Type 0
+IsTaken g updates fields update = (role : Role) × (parse_of g.day fields ≡ Ok (role, update)) × (refusal g updates role update ≡ None)
 
--- what a start keeps is whole
-abbrev pub StartIsWhole : Type 0
-StartIsWhole = (bytes : List ℕ) → IsWhole (whole_lines bytes)
+-- Read back.
 
--- the first part of a line, short of its line feed, is cut off
-abbrev pub CutsTorn : Type 0
-CutsTorn = (text part rest : List ℕ) (fields : List (List ℕ)) → IsWhole text → IsTrue (is_plain fields)
-    → part ++ rest ≡ journal_line fields → rest ≢ [] → whole_lines (text ++ part) ≡ text
+-- the records of a feed of which none is refused make the feed's updates
+abbrev pub FeedMakes : Type 0
+FeedMakes = (g : AirportRows) (feed : List ℕ) → refusals_in g feed ≡ [] → Make g (records_of feed) (accepted_in g feed)
 
--- a whole line is kept
-abbrev pub KeepsWhole : Type 0
-KeepsWhole = (text : List ℕ) (fields : List (List ℕ)) → IsWhole text → IsWhole (text ++ journal_line fields)
+-- a journal of records of which none is refused reads as these records
+abbrev pub ReadsBack : Type 0
+ReadsBack = (g : AirportRows) (records : List (List (List ℕ))) (updates : List Update) → Make g records updates → records_of (journal_text records) ≡ records
 
--- where no record of a journal is refused, and a further record spells an update that its day takes
-abbrev pub TakesUpdate : AirportRows → List ℕ → List (List ℕ) → Role × Update → Type 0
-TakesUpdate g text fields update = IsWhole text × (refusals_in g text ≡ [])
-    × (parse_of g.day fields ≡ Ok update) × (refusal g (accepted_in g text) update.0 update.1 ≡ None)
+-- so none is refused there, and it has their updates
+abbrev pub HasUpdates : Type 0
+HasUpdates = (g : AirportRows) (records : List (List (List ℕ))) (updates : List Update) → Make g records updates
+    → (refusals_in g (journal_text records) ≡ []) × (accepted_in g (journal_text records) ≡ updates)
 
--- then the journal with that record's line has that update more
-abbrev pub GivesUpdate : Type 0
-GivesUpdate = (g : AirportRows) (text : List ℕ) (fields : List (List ℕ)) (update : Role × Update) → TakesUpdate g text fields update
-    → accepted_in g (text ++ journal_line fields) ≡ accepted_in g text ++ update.1 ∷ []
+-- and it has less than 2 MiB, since FULL refuses the update behind the 20,000th
+abbrev pub IsShort : Type 0
+IsShort = (g : AirportRows) (records : List (List (List ℕ))) (updates : List Update) → Make g records updates → length (journal_text records) < 2097152
 
--- and no refused record
-abbrev pub RefusesNone : Type 0
-RefusesNone = (g : AirportRows) (text : List ℕ) (fields : List (List ℕ)) (update : Role × Update) → TakesUpdate g text fields update
-    → refusals_in g (text ++ journal_line fields) ≡ []
+-- One more record.
+
+-- its line stands behind the others
+abbrev pub AddsLine : Type 0
+AddsLine = (records : List (List (List ℕ))) (fields : List (List ℕ)) → journal_text (records ++ fields ∷ []) ≡ journal_text records ++ journal_line fields
+
+-- and with it the records make one update more
+abbrev pub AddsUpdate : Type 0
+AddsUpdate = (g : AirportRows) (records : List (List (List ℕ))) (updates : List Update) (fields : List (List ℕ)) (update : Update)
+    → Make g records updates → IsTaken g updates fields update → Make g (records ++ fields ∷ []) (updates ++ update ∷ [])
+
+-- Whole lines.
+
+-- all lines of a journal are whole
+abbrev pub IsWhole : Type 0
+IsWhole = (records : List (List (List ℕ))) → whole_lines (journal_text records) ≡ journal_text records
+
+-- of the line of a record that was read from a line, a first part short of its line feed is left out
+abbrev pub LeavesTorn : Type 0
+LeavesTorn = (records : List (List (List ℕ))) (line : List ℕ) (fields : List (List ℕ)) (part rest : List ℕ) → has_line_feed line ≡ false → line_record line ≡ One fields
+    → part ++ rest ≡ journal_line fields → rest ≢ [] → whole_lines (journal_text records ++ part) ≡ journal_text records

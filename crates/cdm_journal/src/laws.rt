@@ -1,29 +1,28 @@
 //! Laws of a journal.
-ghost use Rattle.cdm_journal.specs.Laws.{ArePlain, CutsTorn, GivesUpdate, GoesOn, KeepsWhole, RefusesNone, StartIsWhole};
+ghost use Rattle.cdm_journal.specs.Laws.{AddsLine, AddsUpdate, FeedMakes, HasUpdates, IsShort, IsWhole, LeavesTorn, ReadsBack};
 
-/// A record that spells an update can stand in a journal as it is: no field of it has a comma, a quote, a carriage
-/// return or a line feed.
-pub fn accepted_records_are_plain()
-    ensures { ArePlain }
+/// A journal is read back: where none of its records is refused it reads as these records, and so it has their updates
+/// and no refused record. The records of any feed of which none is refused make the feed's updates, so a start may
+/// write them as a journal's own lines in the feed's place.
+pub fn journal_is_read_back()
+    ensures feed { FeedMakes }
+    ensures records { ReadsBack }
+    ensures updates { HasUpdates }
 {}
 
-/// A journal goes on: behind a text of whole lines, each of whose records spells an update, the line of a further
-/// record that spells one is that record. The text may be any such feed, as a person writes it: with quotes, blank
-/// lines, carriage returns or a byte order mark.
+/// A journal goes on: the line of a record that its day takes, behind it, is one record more, and one update more.
 pub fn journal_goes_on()
-    ensures { GoesOn }
+    ensures line { AddsLine }
+    ensures update { AddsUpdate }
 {}
 
-/// What a start keeps of a journal are whole lines: a line that a stop has torn is cut off, and a whole line is kept.
-pub fn torn_line_is_cut()
-    ensures start { StartIsWhole }
-    ensures torn { CutsTorn }
-    ensures whole { KeepsWhole }
+/// The lines of a journal are whole, and a line that a stop has torn, short of its line feed, is left out.
+pub fn torn_line_is_left_out()
+    ensures whole { IsWhole }
+    ensures torn { LeavesTorn }
 {}
 
-/// A journal is recovered: where none of its records is refused, and a further one spells an update that its day
-/// takes, then the journal with that record's line has that update more and still no refused record.
-pub fn journal_is_recovered()
-    ensures journal { GivesUpdate }
-    ensures none_refused { RefusesNone }
+/// A journal can always be started again: with its own lines alone it has less than 2 MiB, of the 8 that may be read.
+pub fn journal_stays_short()
+    ensures { IsShort }
 {}

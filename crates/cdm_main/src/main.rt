@@ -3,25 +3,28 @@
 
 ghost use Rattle.std.specs.Prelude.{◌≡◌, false};
 
+mod ending;
+
+use crate::ending::Ending;
 use cdm_check::FilePaths;
-pub use cdm_command::{Command, CommandFault, STANDARD_INPUT, command_of};
+pub use cdm_command::{Command, CommandFault, STANDARD_INPUT, WhatIf, command_of};
 use cdm_day::Airport;
 pub use cdm_fault::{
-    Fault, PathText, UnopenedFile, report_command_fault, report_fault, run_status,
+    Fault, PathText, ShownPath, UnopenedFile, report_command_fault, report_fault, run_status,
 };
 use cdm_feed::{
     Asked, DayText, Device, Input, Lent, WriteFault, airport_of, read_whole, run_asked, write_text,
 };
+use cdm_kinds::kinds_text;
 pub use cdm_live::{LiveCounts, LiveError, run_live};
 use cdm_phase::{OpenGate, Workers};
-use cdm_port::Streams;
+use cdm_port::{OpenFault, OpenJournal, Streams};
 use cdm_serve::{ServeError, serve};
 use either::Either;
 use std::alloc::{AllocError, Global};
-use std::fs::{File, OpenFile, OpenOptions, TryLockError};
+use std::fs::{File, OpenOptions};
 use std::io::{BufReader, ErrorKind, Read, Write};
 use std::os::fd::{AsRawFd, RawFd};
-use std::path::Path;
 use std::process::ExitCode;
 use std::rt::{Env, Files};
 use std::sync::Wait;
@@ -72,7 +75,7 @@ where
         Ok(command) => command,
         Err(fault) => return report_command_fault(&fault, errors),
     };
-    match run_command(rt, &command, out) {
+    match run_command(rt, &command, out, errors) {
         Ok(status) => status,
         Err(fault) => report_fault(&fault, errors),
     }
@@ -107,8 +110,13 @@ fn place_not_utf8<R: AllocGlobal + Env>(rt: &R) -> Result<usize, AllocError> {
     Ok(0)
 }
 
-// Runs the command, whose text goes to `out`, and answers the exit status.
-fn run_command<R, W: Write>(rt: &R, command: &Command<'_>, out: &mut Device<W>) -> Result<u8, Fault>
+// Runs the command, whose text goes to `out` and what it tells besides to `errors`, and answers the exit status.
+fn run_command<R, W: Write, E: Write>(
+    rt: &R,
+    command: &Command<'_>,
+    out: &mut Device<W>,
+    errors: &mut Device<E>,
+) -> Result<u8, Fault>
 where
     R: AllocGlobal + Files<File = File> + io::Input + Threads + Wait + Sync,
     requires { out.old.failed ≡ false }
@@ -141,8 +149,23 @@ where
         Command::Ask {
             airport,
             feed,
+            what_if: Some(WhatIf { scenarios, name }),
             question,
-        } => (files(airport, feed, None), DayText::Answer(*question), one),
+        } => (
+            files(airport, feed, Some(*scenarios)),
+            DayText::Answer(*question, Some(*name)),
+            one,
+        ),
+        Command::Ask {
+            airport,
+            feed,
+            what_if: None,
+            question,
+        } => (
+            files(airport, feed, None),
+            DayText::Answer(*question, None),
+            one,
+        ),
         Command::Trace {
             airport,
             feed,
@@ -152,16 +175,17 @@ where
             airport,
             feed,
             scenarios,
-        } => return check(rt, files(airport, feed, *scenarios), one, out),
+        } => return check(rt, files(airport, feed, *scenarios), one, out, errors),
         Command::Live {
             airport,
             feed1,
             feed2,
-        } => return live(rt, airport, feed1, feed2, out),
-        Command::Serve { airport, journal } => return serve_day(rt, airport, journal, out),
-        Command::Print(text) => return print(text, out),
+        } => return live(rt, airport, feed1, feed2, out, errors),
+        Command::Serve { airport, journal } => return serve_day(rt, airport, journal, out, errors),
+        Command::Kinds(format) => return print(&kinds_text(rt.alloc(), *format)?, out),
+        Command::Print(text) => return print(text.as_bytes(), out),
     };
-    make(rt, files, &Asked::Day(text), workers, out)
+    make(rt, files, &Asked::Day(text), workers, out, errors)
 }
 
 // The paths of the files of a day, and of its scenarios, if there are some.
@@ -182,10 +206,10 @@ fn files<'a>(airport: &'a str, feed: &'a str, scenarios: Option<&'a str>) -> Day
 }
 
 // Writes a text, and answers the exit status.
-fn print<W: Write>(text: &str, out: &mut Device<W>) -> Result<u8, Fault>
+fn print<W: Write>(text: &[u8], out: &mut Device<W>) -> Result<u8, Fault>
     requires { out.old.failed ≡ false }
 {
-    write_text(out, text.as_bytes()).map_err(|fault: WriteFault| Fault::Run(fault.into()))?;
+    write_text(out, text).map_err(|fault: WriteFault| Fault::Run(fault.into()))?;
     Ok(0)
 }
 
@@ -224,18 +248,20 @@ fn open_scenarios<R: AllocGlobal + Files + io::Input>(
     }
 }
 
-// Writes what is asked of a day and its scenarios, and answers the exit status.
-fn make<R: AllocGlobal + Files + io::Input + Threads + Sync, W: Write>(
+// Writes what is asked of a day and its scenarios, and answers the exit status. A feed whose last line has no end is told,
+// where a check doesn't tell it.
+fn make<R: AllocGlobal + Files + io::Input + Threads + Sync, W: Write, E: Write>(
     rt: &R,
     files: DayFiles<'_>,
     asked: &Asked<'_>,
     workers: Workers,
     out: &mut Device<W>,
+    errors: &mut Device<E>,
 ) -> Result<u8, Fault>
     requires { out.old.failed ≡ false }
 {
     let airport = &mut Device::new(open(rt, files.airport, Input::Airport)?);
-    let feed = &mut Device::new(open(rt, files.feed, Input::Feed)?);
+    let mut ending = Ending::new(open(rt, files.feed, Input::Feed)?);
     let scenarios = &mut Device::new(open_scenarios(rt, files.scenarios)?);
     let lent = Lent {
         rt,
@@ -243,16 +269,28 @@ fn make<R: AllocGlobal + Files + io::Input + Threads + Sync, W: Write>(
         workers,
         gate: &OpenGate,
     };
-    let counted = run_asked(&lent, asked, airport, feed, scenarios, out)?;
-    Ok(run_status(&counted))
+    let feed = &mut Device::new(&mut ending);
+    let counted = run_asked(&lent, asked, airport, feed, scenarios, out);
+    if let Asked::Day(_) = asked {
+        tell_unended(&ending, Input::Feed, errors);
+    }
+    Ok(run_status(&counted?))
+}
+
+// Tells that the last line of a feed has no end, where that is so: it may be the first part of another record.
+fn tell_unended<F, E: Write>(feed: &Ending<F>, input: Input, errors: &mut Device<E>) {
+    if feed.lacks_end() {
+        let _ = writeln!(errors, "cdmseq: {input}: its last line has no end");
+    }
 }
 
 // Writes what is wrong with the files, and answers the exit status.
-fn check<R: AllocGlobal + Files + io::Input + Threads + Sync, W: Write>(
+fn check<R: AllocGlobal + Files + io::Input + Threads + Sync, W: Write, E: Write>(
     rt: &R,
     files: DayFiles<'_>,
     workers: Workers,
     out: &mut Device<W>,
+    errors: &mut Device<E>,
 ) -> Result<u8, Fault>
     requires { out.old.failed ≡ false }
 {
@@ -266,28 +304,34 @@ fn check<R: AllocGlobal + Files + io::Input + Threads + Sync, W: Write>(
         feed: &feed,
         scenarios,
     };
-    make(rt, files, &Asked::Check(paths), workers, out)
+    make(rt, files, &Asked::Check(paths), workers, out, errors)
 }
 
 // Serves the day of an airport: records come from standard input, and replies go to `out`. Answers
-// the exit status.
-fn serve_day<R, W: Write>(
+// the exit status. The airport file is found good before anything is made beside the journal.
+fn serve_day<R, W: Write, E: Write>(
     rt: &R,
     airport: &str,
     journal: &str,
     out: &mut Device<W>,
+    errors: &mut Device<E>,
 ) -> Result<u8, Fault>
 where
     R: AllocGlobal + Files<File = File> + io::Input + Threads + Sync,
 {
     let alloc = rt.alloc();
-    let airport = open(rt, airport, Input::Airport)?;
-    let journal = open_journal(rt, journal)?;
+    let airport = airport_read(alloc, open(rt, airport, Input::Airport)?)?;
     let Ok(input) = BufReader::new(alloc, rt.reader()) else {
         return Err(Fault::NoMemory);
     };
-    let airport = airport_read(alloc, airport)?;
-    serve(rt, alloc, airport, &mut Streams::new(input, out, journal))?;
+    let journal = open_journal(rt, journal)?;
+    let mut streams = Streams::new(input, &mut *out, &mut *errors, journal);
+    let served = serve(rt, alloc, airport, &mut streams);
+    let mut journal = streams.into_journal();
+    if served.is_err() {
+        journal.give_up();
+    }
+    served?;
     Ok(0)
 }
 
@@ -298,69 +342,55 @@ fn airport_read<A: Read + Drop>(alloc: Global, file: A) -> Result<Airport, Serve
     Ok(airport)
 }
 
-// Opens the file of a journal, or makes it, for this process alone.
-fn open_journal<R: AllocGlobal + Files<File = File>>(rt: &R, path: &str) -> Result<File, Fault> {
-    let mut options = OpenOptions::new();
-    options.read(true);
-    options.append(true);
-    options.create(true);
-    let opened = options.open(rt, path).map_err(|error| error.kind());
-    let locked = opened.and_then(|file| locked(file));
-    match locked {
-        Ok(Some(file)) => {
-            sync_folder_of(rt, path);
-            Ok(file)
-        }
-        Ok(None) => Err(Fault::JournalInUse),
-        Err(kind) => {
-            let file = unopened(rt.alloc(), path, kind)?;
-            Err(Fault::CannotOpenJournal(file))
-        }
-    }
-}
-
-// The file with its lock, which is advisory, or none where another process has that.
-fn locked(file: File) -> Result<Option<File>, ErrorKind> {
-    match file.try_lock() {
-        Ok(()) => Ok(Some(file)),
-        Err(TryLockError::WouldBlock) => Ok(None),
-        Err(TryLockError::Error(error)) => Err(error.kind()),
-    }
-}
-
-// Puts the name of a file that was made on the disk, where the system can.
-fn sync_folder_of<R: Files>(rt: &R, path: &str) {
-    let folder = match Path::new(path).parent() {
-        Some(folder) if folder.as_str() != "" => folder.as_str(),
-        _ => ".",
+// Opens the journal at a path, for this process alone.
+fn open_journal<'a, R>(rt: &'a R, path: &str) -> Result<OpenJournal<'a, R>, Fault>
+where
+    R: AllocGlobal + Files<File = File>,
+{
+    let alloc = rt.alloc();
+    let fault = match OpenJournal::open(rt, alloc, path) {
+        Ok(journal) => return Ok(journal),
+        Err(fault) => fault,
     };
-    if let Ok(folder) = fs::open(rt, folder) {
-        let _ = folder.sync_all();
-    }
+    Err(match fault {
+        OpenFault::Journal(kind) => Fault::CannotOpenJournal(unopened(alloc, path, kind)?),
+        OpenFault::Lock(kind) => {
+            let path = format!(in alloc; "{path}.lock")?;
+            Fault::CannotOpenJournal(UnopenedFile { path, kind })
+        }
+        OpenFault::NoFile => Fault::JournalNoFile(ShownPath(String::from_str(alloc, path)?)),
+        OpenFault::Missing => Fault::JournalMissing,
+        OpenFault::InUse => Fault::JournalInUse,
+        OpenFault::Memory => Fault::NoMemory,
+    })
 }
 
 // Writes the day that two desks make, and answers the exit status.
-fn live<R: AllocGlobal + Files + io::Input + Threads + Wait + Sync, W: Write>(
+fn live<R: AllocGlobal + Files + io::Input + Threads + Wait + Sync, W: Write, E: Write>(
     rt: &R,
     airport: &str,
     feed1: &str,
     feed2: &str,
     out: &mut Device<W>,
+    errors: &mut Device<E>,
 ) -> Result<u8, Fault>
     requires { out.old.failed ≡ false }
 {
     let airport = open(rt, airport, Input::Airport)?;
-    let feed1 = open(rt, feed1, Input::Feed1)?;
-    let feed2 = open(rt, feed2, Input::Feed2)?;
-    run_live(
+    let mut feed1 = Ending::new(open(rt, feed1, Input::Feed1)?);
+    let mut feed2 = Ending::new(open(rt, feed2, Input::Feed2)?);
+    let done = run_live(
         rt,
         rt.alloc(),
         &mut Device::new(airport),
-        &mut Device::new(feed1),
-        &mut Device::new(feed2),
+        &mut Device::new(&mut feed1),
+        &mut Device::new(&mut feed2),
         &OpenGate,
         out,
-    )?;
+    );
+    tell_unended(&feed1, Input::Feed1, errors);
+    tell_unended(&feed2, Input::Feed2, errors);
+    done?;
     Ok(0)
 }
 

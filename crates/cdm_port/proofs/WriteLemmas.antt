@@ -3,7 +3,7 @@ use Rattle.std.proofs.Common.{◌≡◌, ℕ, List, [], ◌∷◌, ◌++◌, ◌
 use Rattle.std.specs.Io.KnownBytes.{Appends, Keeps}
 use Rattle.std.proofs.lemmas.List.{map-append, take-append-drop}
 use Rattle.cdm_port.specs.Event.{Event}
-use Rattle.cdm_port.specs.Event.Event.{Appended, Replied}
+use Rattle.cdm_port.specs.Event.Event.{Appended, Renamed, Replied, Synced}
 use Rattle.cdm_port.specs.Notes.{noted}
 use Rattle.cdm_port.specs.Stop.{Stops}
 use Rattle.cdm_port.specs.declared.happening.Happening.{Happening}
@@ -26,6 +26,11 @@ pub reply_torn : (n : ℕ) (bytes : List ℕ) (before after : Notes) → after �
     → Stops (map noted before) (Replied bytes ∷ []) (map noted after)
 reply_torn n bytes before after is =
     (Replied (take n bytes) ∷ [], inr (inl (take n bytes, (drop n bytes, sym (take-append-drop n bytes)), refl)), one_more before after (happening.Replied, take n bytes) is)
+
+-- a new file was renamed over the journal, and no more
+pub renamed_alone : (bytes : List ℕ) (before after : Notes) → after ≡ before ++ (happening.Renamed, bytes) ∷ []
+    → Stops (map noted before) (Renamed bytes ∷ Synced ∷ []) (map noted after)
+renamed_alone bytes before after is = (Renamed bytes ∷ [], inr (inr ([], refl, inl refl)), one_more before after (happening.Renamed, bytes) is)
 
 -- what was written stays
 pub appends_kept : (before here after : Option (List ℕ)) (bytes : List ℕ) → Appends before here bytes → Keeps here after → Appends before after bytes

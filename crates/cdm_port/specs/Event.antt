@@ -4,8 +4,12 @@ use Rattle.std.specs.Prelude.{ℕ, List}
 pub data Event : Type 0 where
   -- the journal was read, whole
   Read : List ℕ → Event
-  -- the journal was cut to its first so many bytes
-  Cut : ℕ → Event
+  -- a new file of these bytes, which are on the disk, was renamed over the journal
+  Renamed : List ℕ → Event
+  -- the journal was marked as served, and the mark is on the disk
+  Marked : Event
+  -- a last line without its end was left out, and told
+  LeftOut : List ℕ → Event
   -- a line of the input was read, without its LF
   Line : List ℕ → Event
   -- a line of the input was passed over to its end, since it is too long or no LF ends it
@@ -14,7 +18,7 @@ pub data Event : Type 0 where
   End : Event
   -- bytes were written at the journal's end
   Appended : List ℕ → Event
-  -- the journal is on the disk as it was cut and written
+  -- the journal is on the disk as it was renamed and written
   Synced : Event
   -- bytes were written to the output
   Replied : List ℕ → Event

@@ -1,14 +1,16 @@
 -- What a note of the history says.
 use Rattle.std.specs.Prelude.{ℕ, List}
 use Rattle.cdm_port.specs.Event.{Event}
-use Rattle.cdm_port.specs.Event.Event.{Read, Cut, Line, Broken, End, Appended, Synced, Replied, Flushed}
+use Rattle.cdm_port.specs.Event.Event.{Read, Renamed, Marked, LeftOut, Line, Broken, End, Appended, Synced, Replied, Flushed}
 use Rattle.cdm_port.specs.declared.happening.Happening.{Happening}
 use Rattle.cdm_port.specs.declared.happening.Happening.TheVariants as happening
 
 -- what happened, with the bytes that were read or written
 abbrev pub event_with : Happening → List ℕ → Event
 event_with happening.Read bytes = Read bytes
-event_with (happening.Cut kept) bytes = Cut kept
+event_with happening.Renamed bytes = Renamed bytes
+event_with happening.Marked bytes = Marked
+event_with happening.LeftOut bytes = LeftOut bytes
 event_with happening.Line bytes = Line bytes
 event_with happening.Broken bytes = Broken
 event_with happening.End bytes = End

@@ -8,6 +8,7 @@ ghost use Rattle.cdm_port.specs.inner.Reading.{line_with};
 ghost use Rattle.cdm_port.specs.declared.fault.PortFault.TheVariants as fault;
 
 use crate::fault::{JOURNAL_LIMIT, PortFault};
+use crate::file::JournalFile;
 use crate::heard::{Heard, LINE_LIMIT};
 use crate::reason::Reason;
 use std::alloc::{AllocError, Global};
@@ -100,4 +101,23 @@ pub(crate) fn write_counted<W: Write>(writer: &mut W, bytes: &[u8]) -> (usize, R
         }
     }
     (count, Err(Reason(ErrorKind::Interrupted)))
+}
+
+/// Writes bytes at a journal's end, and answers how many of them were written, and why not all.
+///
+/// `JournalChanged` where the journal isn't the file that was opened, as long as what was written, and then nothing is written; and
+/// `CannotWriteJournal`.
+pub(crate) fn append_counted<J: JournalFile>(
+    journal: &mut J,
+    bytes: &[u8],
+) -> (usize, Result<(), PortFault>)
+    ensures count { result.0 ≤ length bytes.now }
+    ensures all { OnOk result.1 (result.0 ≡ length bytes.now) }
+    ensures written { Appends (J.contents journal.old) (J.contents journal.new) (take result.0 bytes.now) }
+{
+    if !journal.is_own() {
+        return (0, Err(PortFault::JournalChanged));
+    }
+    let (count, written) = write_counted(journal, bytes);
+    (count, written.map_err(PortFault::CannotWriteJournal))
 }

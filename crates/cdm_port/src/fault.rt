@@ -22,9 +22,12 @@ pub enum PortFault {
     /// The input can't be read.
     #[error("cannot read standard input{0}")]
     CannotReadInput(Reason),
-    /// The journal can't be cut, written or synced.
+    /// The journal can't be written, renamed, marked or synced.
     #[error("cannot write JOURNAL{0}")]
     CannotWriteJournal(Reason),
+    /// The journal isn't the file that was opened any more, or has another length than what was written to it.
+    #[error("JOURNAL was changed by another")]
+    JournalChanged,
     /// The output can't be written or flushed.
     #[error("cannot write{0}")]
     CannotWrite(Reason),

@@ -1,35 +1,43 @@
 //! The file of a journal.
-ghost use Rattle.std.specs.Prelude.{◌≡◌, ℕ, List, Option, None, Some, IfSome, OnOk, take};
+ghost use Rattle.std.specs.Prelude.{◌≡◌, ℕ, List, Bool, true, Option, Some, IfSome, OnOk};
 ghost use Rattle.std.specs.Io.KnownBytes.{Keeps};
 
-use std::fs::File;
 use std::io;
 use std::io::{Read, Write};
 
-/// The file of a journal: what is written to it, and what of this is on the disk.
+/// The file of a journal: what is written to it, what of this is on the disk, and whether a mark says that it was served.
 pub trait JournalFile: Read + Write {
-    /// The bytes that are on the disk, where they are known.
+    /// The bytes that are on the disk under the journal's name, where they are known.
     ghost on_disk: { Self → Option (List ℕ) };
 
-    /// Cuts the file to its first so many bytes.
-    fn cut(&mut self, length: u64) -> io::Result<()>
-        ensures bytes { OnOk result (IfSome (Self.Write.contents self.old) (λ bytes. Self.Write.contents self.new ≡ Some (take length bytes))) };
+    /// Whether the journal is marked as served.
+    ghost marked: { Self → Bool };
 
-    /// Puts on the disk what was written and cut.
+    /// Whether the journal is marked as served.
+    fn is_marked(&self) -> bool
+        ensures { result ≡ marked self.now };
+
+    /// Whether the journal's name still has the file that was opened or renamed, as long as what was written.
+    fn is_own(&self) -> bool;
+
+    /// Renames a new file of these bytes, which are on the disk, over the journal. Writes go to its end from then on. At
+    /// an `Err` the journal is as it was.
+    fn rename(&mut self, bytes: &[u8]) -> io::Result<()>
+        ensures { OnOk result (IfSome (Self.Write.contents self.old) (λ _. Self.Write.contents self.new ≡ Some bytes.now)) };
+
+    /// Puts the journal's name on the disk, as it was renamed.
+    fn sync_name(&mut self) -> io::Result<()>
+        ensures bytes { Keeps (Self.Write.contents self.old) (Self.Write.contents self.new) }
+        ensures on_disk { OnOk result (on_disk self.new ≡ Self.Write.contents self.new) };
+
+    /// Puts on the disk what was written.
     fn sync(&mut self) -> io::Result<()>
         ensures bytes { Keeps (Self.Write.contents self.old) (Self.Write.contents self.new) }
         ensures on_disk { OnOk result (on_disk self.new ≡ Self.Write.contents self.new) };
-}
 
-/// Of a file of the system no clause knows the bytes: that it is cut and synced is to be read here.
-impl JournalFile for File {
-    ghost on_disk = { λ _. None };
-
-    fn cut(&mut self, length: u64) -> io::Result<()> {
-        self.set_len(length)
-    }
-
-    fn sync(&mut self) -> io::Result<()> {
-        self.sync_data()
-    }
+    /// Marks the journal as served, and puts the mark on the disk.
+    fn mark(&mut self) -> io::Result<()>
+        ensures bytes { Keeps (Self.Write.contents self.old) (Self.Write.contents self.new) }
+        ensures on_disk { Keeps (on_disk self.old) (on_disk self.new) }
+        ensures mark { OnOk result (marked self.new ≡ true) };
 }

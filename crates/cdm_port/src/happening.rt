@@ -5,8 +5,12 @@
 pub enum Happening {
     /// The journal was read, whole.
     Read,
-    /// The journal was cut to its first so many bytes.
-    Cut(usize),
+    /// A new file was renamed over the journal.
+    Renamed,
+    /// The journal was marked as served.
+    Marked,
+    /// A last line without its end was left out, and told.
+    LeftOut,
     /// A line of the input was read.
     Line,
     /// A line of the input was passed over.

@@ -19,7 +19,7 @@ impl Model for History {
 
 impl History {
     /// Nothing has happened.
-    pub(crate) fn new() -> History
+    pub fn new() -> History
         ensures { result.notes ≡ [] }
     {
         History {
@@ -28,7 +28,7 @@ impl History {
     }
 
     /// This has happened, with these bytes.
-    pub(crate) fn note(&mut self, _happening: &Happening, _bytes: &[u8])
+    pub fn note(&mut self, _happening: &Happening, _bytes: &[u8])
         ensures { self.new.notes ≡ self.old.notes ++ (_happening.now, _bytes.now) ∷ [] }
     {}
 }

@@ -1,16 +1,16 @@
 //! The file of a journal, an input and an output.
-ghost use Rattle.std.specs.Prelude.{◌≡◌, ◌≤◌, ℕ, List, Option, None, Some, take, [], ◌∷◌, ◌++◌, map, IfOk, IfSome, OnErr, OnOk, vec_len};
+ghost use Rattle.std.specs.Prelude.{◌≡◌, ◌≤◌, ◌⊎◌, ℕ, List, Bool, true, Option, None, Some, [], ◌∷◌, ◌++◌, map, IfOk, IfSome, OnErr, OnOk, vec_len};
 ghost use Rattle.std.specs.Io.BufRead.{DropsThrough};
 ghost use Rattle.std.specs.Io.KnownBytes.{Appends};
 ghost use Rattle.cdm_port.specs.Event.{Event, journal_limit};
-ghost use Rattle.cdm_port.specs.Event.Event.{Read, Cut, Appended, Synced, Replied, Flushed};
+ghost use Rattle.cdm_port.specs.Event.Event.{Read, Renamed, Marked, LeftOut, Appended, Synced, Replied, Flushed};
 ghost use Rattle.cdm_port.specs.Fault.{fault_after};
 ghost use Rattle.cdm_port.specs.Heard.{IsHeard, event_of, heard_in};
 ghost use Rattle.cdm_port.specs.Notes.{noted};
 ghost use Rattle.cdm_port.specs.Parts.{Parts};
 ghost use Rattle.cdm_port.specs.Stop.{Stops};
 
-use crate::calls::{next_line, read_whole, write_counted};
+use crate::calls::{append_counted, next_line, read_whole, write_counted};
 use crate::fault::PortFault;
 use crate::file::JournalFile;
 use crate::happening::Happening;
@@ -18,44 +18,62 @@ use crate::heard::Heard;
 use crate::history::History;
 use crate::port::Port;
 use crate::reason::Reason;
+use crate::torn::TornText;
 use std::alloc::Global;
 use std::io::{Read, Write};
 use std::marker::Model;
 
-/// The input and the output of a served day, and the file of its journal, whose writes go to its end. What is read of
-/// the input and of the journal, and what is written to the output and to the journal, is what is noted, at any reader
-/// and writer whose bytes clauses know, and so is what is cut and synced. That the output is flushed where this is noted,
+/// The input and the output of a served day, where a torn line is told, and the file of its journal. What is read of the
+/// input and of the journal, and what is written to the output and to the journal, is what is noted, at any reader and writer whose
+/// bytes clauses know, and so is what is renamed and synced. That the output is flushed where this is noted, that a torn line is told,
 /// and that nothing else notes, is to be read here.
 #[derive(Drop)]
-pub struct Streams<I, O, J> {
+pub struct Streams<I, O, E, J> {
     input: I,
     output: O,
+    errors: E,
     journal: J,
+    marked: bool,
     history: History,
     fault: Option<PortFault>,
 }
 
-impl<I, O, J> Model for Streams<I, O, J> {
-    ghost Value = { Parts I O J };
+impl<I, O, E, J> Model for Streams<I, O, E, J> {
+    ghost Value = { Parts I O E J };
 
-    ghost view = { λ s. record { input = s.input; output = s.output; journal = s.journal; notes = s.history.notes; fault = s.fault } };
+    ghost view = { λ s. record { input = s.input; output = s.output; errors = s.errors; journal = s.journal; marked = s.marked; notes = s.history.notes; fault = s.fault } };
 }
 
-impl<I, O, J> Streams<I, O, J> {
+impl<I, O, E, J: JournalFile> Streams<I, O, E, J> {
     /// Nothing has happened yet.
-    pub fn new(input: I, output: O, journal: J) -> Streams<I, O, J>
+    pub fn new(input: I, output: O, errors: E, journal: J) -> Streams<I, O, E, J>
         ensures notes { result.notes ≡ [] }
         ensures unfailed { result.fault ≡ None }
+        ensures marked { result.marked ≡ J.marked journal }
     {
+        let marked = journal.is_marked();
         Streams {
             input,
             output,
+            errors,
             journal,
+            marked,
             history: History::new(),
             fault: None,
         }
     }
+}
 
+impl<I: Drop, O: Drop, E: Drop, J> Streams<I, O, E, J> {
+    /// The file of the journal, as it was left.
+    pub fn into_journal(self) -> J
+        ensures { result ≡ self.journal }
+    {
+        self.journal
+    }
+}
+
+impl<I, O, E, J> Streams<I, O, E, J> {
     // Keeps a fault, and hands on the answer.
     fn answer<T>(&mut self, outcome: Result<T, PortFault>) -> Result<T, PortFault>
         ensures same { result ≡ outcome }
@@ -68,16 +86,23 @@ impl<I, O, J> Streams<I, O, J> {
     }
 }
 
-impl<I: Read, O: Write, J: JournalFile> Port for Streams<I, O, J> {
+impl<I: Read, O: Write, E: Write, J: JournalFile> Port for Streams<I, O, E, J> {
     ghost events = { λ streams. map noted streams.notes };
 
     ghost fault = { λ streams. streams.fault };
+
+    ghost marked = { λ streams. streams.marked };
+
+    fn is_marked(&self) -> bool {
+        self.marked
+    }
 
     fn journal(&mut self, alloc: Global) -> Result<Vec<u8>, PortFault>
         ensures ok { IfOk result (λ bytes. map noted self.new.notes ≡ map noted self.old.notes ++ Read bytes.items ∷ []) }
         ensures limit { IfOk result (λ bytes. vec_len bytes ≤ journal_limit) }
         ensures err { OnErr result (map noted self.new.notes ≡ map noted self.old.notes) }
         ensures fault { self.new.fault ≡ fault_after self.old.fault result }
+        ensures mark { self.new.marked ≡ self.old.marked }
 
         // All bytes of the file were read.
         ensures whole { IfOk result (λ bytes. IfSome (J.remaining self.old.journal) (λ all. bytes.items ≡ all)) }
@@ -89,20 +114,60 @@ impl<I: Read, O: Write, J: JournalFile> Port for Streams<I, O, J> {
         self.answer(bytes)
     }
 
-    fn cut(&mut self, length: usize) -> Result<(), PortFault>
-        ensures ok { OnOk result (map noted self.new.notes ≡ map noted self.old.notes ++ Cut length ∷ []) }
-        ensures err { OnErr result (Stops (map noted self.old.notes) (Cut length ∷ []) (map noted self.new.notes)) }
+    fn replace(&mut self, bytes: &[u8]) -> Result<(), PortFault>
+        ensures ok { OnOk result (map noted self.new.notes ≡ map noted self.old.notes ++ Renamed bytes.now ∷ Synced ∷ []) }
+        ensures err { OnErr result (Stops (map noted self.old.notes) (Renamed bytes.now ∷ Synced ∷ []) (map noted self.new.notes)) }
         ensures fault { self.new.fault ≡ fault_after self.old.fault result }
+        ensures mark { self.new.marked ≡ self.old.marked }
 
-        // The file has its first so many bytes.
-        ensures kept { OnOk result (IfSome (J.contents self.old.journal)
-            (λ bytes. J.contents self.new.journal ≡ Some (take length bytes))) }
+        // The file has these bytes, and they are on the disk.
+        ensures kept { OnOk result (IfSome (J.contents self.old.journal) (λ _. J.contents self.new.journal ≡ Some bytes.now)) }
+        ensures on_disk { OnOk result (J.on_disk self.new.journal ≡ J.contents self.new.journal) }
+
+        // At an error that they are on the disk isn't noted.
+        ensures unsynced { OnErr result ((map noted self.new.notes ≡ map noted self.old.notes)
+            ⊎ (map noted self.new.notes ≡ map noted self.old.notes ++ Renamed bytes.now ∷ [])) }
     {
-        if let Err(error) = self.journal.cut(length as u64) {
+        if let Err(error) = self.journal.rename(bytes) {
             return self.answer(Err(PortFault::CannotWriteJournal(Reason::of(&error))));
         }
-        self.history.note(&Happening::Cut(length), &[]);
+        self.history.note(&Happening::Renamed, bytes);
+        let named = self.journal.sync_name();
+        if let Err(error) = named {
+            return self.answer(Err(PortFault::CannotWriteJournal(Reason::of(&error))));
+        }
+        self.history.note(&Happening::Synced, &[]);
         Ok(())
+    }
+
+    fn mark(&mut self) -> Result<(), PortFault>
+        ensures ok { OnOk result (map noted self.new.notes ≡ map noted self.old.notes ++ Marked ∷ []) }
+        ensures err { OnErr result (Stops (map noted self.old.notes) (Marked ∷ []) (map noted self.new.notes)) }
+        ensures fault { self.new.fault ≡ fault_after self.old.fault result }
+        ensures mark { OnOk result (self.new.marked ≡ true) }
+
+        // The file has the mark.
+        ensures kept { OnOk result (J.marked self.new.journal ≡ true) }
+    {
+        if let Err(error) = self.journal.mark() {
+            return self.answer(Err(PortFault::CannotWriteJournal(Reason::of(&error))));
+        }
+        self.marked = true;
+        self.history.note(&Happening::Marked, &[]);
+        Ok(())
+    }
+
+    fn left_out(&mut self, bytes: &[u8])
+        ensures told { map noted self.new.notes ≡ map noted self.old.notes ++ LeftOut bytes.now ∷ [] }
+        ensures fault { self.new.fault ≡ self.old.fault }
+        ensures mark { self.new.marked ≡ self.old.marked }
+    {
+        let text = TornText(bytes);
+        let _ = writeln!(
+            self.errors,
+            "cdmseq: JOURNAL: its last line has no end, and is left out: {text}"
+        );
+        self.history.note(&Happening::LeftOut, bytes);
     }
 
     fn line(&mut self, alloc: Global) -> Result<Heard, PortFault>
@@ -110,6 +175,7 @@ impl<I: Read, O: Write, J: JournalFile> Port for Streams<I, O, J> {
         ensures heard { IfOk result IsHeard }
         ensures err { OnErr result (map noted self.new.notes ≡ map noted self.old.notes) }
         ensures fault { self.new.fault ≡ fault_after self.old.fault result }
+        ensures mark { self.new.marked ≡ self.old.marked }
 
         // What the input said next was heard, to the end of its line.
         ensures line { IfOk result (λ heard. IfSome (I.remaining self.old.input) (λ bytes. event_of heard ≡ heard_in bytes)) }
@@ -129,26 +195,31 @@ impl<I: Read, O: Write, J: JournalFile> Port for Streams<I, O, J> {
         ensures ok { OnOk result (map noted self.new.notes ≡ map noted self.old.notes ++ Appended bytes.now ∷ []) }
         ensures err { OnErr result (Stops (map noted self.old.notes) (Appended bytes.now ∷ []) (map noted self.new.notes)) }
         ensures fault { self.new.fault ≡ fault_after self.old.fault result }
+        ensures mark { self.new.marked ≡ self.old.marked }
 
         // What is noted was written, and nothing else.
         ensures written { (part : List ℕ) × (map noted self.new.notes ≡ map noted self.old.notes ++ Appended part ∷ [])
             × Appends (J.contents self.old.journal) (J.contents self.new.journal) part }
     {
-        let (count, written) = write_counted(&mut self.journal, bytes);
+        let (count, written) = append_counted(&mut self.journal, bytes);
         self.history.note(&Happening::Appended, &bytes[..count]);
-        self.answer(written.map_err(PortFault::CannotWriteJournal))
+        self.answer(written)
     }
 
     fn sync(&mut self) -> Result<(), PortFault>
         ensures ok { OnOk result (map noted self.new.notes ≡ map noted self.old.notes ++ Synced ∷ []) }
         ensures err { OnErr result (map noted self.new.notes ≡ map noted self.old.notes) }
         ensures fault { self.new.fault ≡ fault_after self.old.fault result }
+        ensures mark { self.new.marked ≡ self.old.marked }
 
         // All that was written to the file is on the disk.
         ensures on_disk { OnOk result (J.on_disk self.new.journal ≡ J.contents self.new.journal) }
     {
         if let Err(error) = self.journal.sync() {
             return self.answer(Err(PortFault::CannotWriteJournal(Reason::of(&error))));
+        }
+        if !self.journal.is_own() {
+            return self.answer(Err(PortFault::JournalChanged));
         }
         self.history.note(&Happening::Synced, &[]);
         Ok(())
@@ -158,6 +229,7 @@ impl<I: Read, O: Write, J: JournalFile> Port for Streams<I, O, J> {
         ensures ok { OnOk result (map noted self.new.notes ≡ map noted self.old.notes ++ Replied bytes.now ∷ []) }
         ensures err { OnErr result (Stops (map noted self.old.notes) (Replied bytes.now ∷ []) (map noted self.new.notes)) }
         ensures fault { self.new.fault ≡ fault_after self.old.fault result }
+        ensures mark { self.new.marked ≡ self.old.marked }
 
         // What is noted was written, and nothing else.
         ensures written { (part : List ℕ) × (map noted self.new.notes ≡ map noted self.old.notes ++ Replied part ∷ [])

@@ -1,3 +1,4 @@
 pub mod Widths
 pub mod Lengths
 pub mod CountLemmas
+pub mod Pairs

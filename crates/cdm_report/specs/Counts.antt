@@ -18,7 +18,7 @@ abbrev pub blocked_by : Rule → List BlockedFlight → ℕ
 blocked_by rule blocked = count_by (λ flight. same_variant rule_type flight.rule rule) blocked
 
 -- the indicators: how many delays there are, their sum, the greatest, those of more than 15 minutes, the blocked
--- flights, and how many each rule blocks
+-- flights, and how many each rule blocks, in the order of the rules
 unfoldable pub counts_of : Plan → Counts
 counts_of plan = record {
   placed = length (delays_of plan);
@@ -26,5 +26,5 @@ counts_of plan = record {
   greatest = fold max 0 (delays_of plan);
   late = count_by (λ delay. nat_lt 15 delay) (delays_of plan);
   blocked = length plan.blocked;
-  by_rule = map (λ rule. (rule, blocked_by rule plan.blocked)) all_rules;
+  by_rule = map (λ rule. blocked_by rule plan.blocked) all_rules;
 }

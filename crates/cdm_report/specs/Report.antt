@@ -1,5 +1,5 @@
 -- The text of a report, line by line.
-use Rattle.std.specs.Prelude.{ℕ, List, [], ◌∷◌, ◌++◌, ◌==◌, codes, flat_map, if◌then◌else◌}
+use Rattle.std.specs.Prelude.{ℕ, List, [], ◌∷◌, ◌++◌, ◌==◌, codes, flat_map, zip, if◌then◌else◌}
 use Rattle.std.specs.Fmt.{decimal}
 use Rattle.std.specs.List.{concat}
 use Rattle.cdm_time.specs.declared.calendar.CalendarDate.{CalendarDate}
@@ -10,7 +10,7 @@ use Rattle.cdm_sequence.specs.declared.rule.Rule.{Rule}
 use Rattle.cdm_sequence.specs.declared.slot.BlockedFlight.{BlockedFlight}
 use Rattle.cdm_sequence.specs.declared.plan.Plan.{Plan}
 use Rattle.cdm_sequence.specs.declared.plan.RunwayPlan.{RunwayPlan}
-use Rattle.cdm_sequence.specs.Words.{rule_text}
+use Rattle.cdm_sequence.specs.Words.{all_rules, rule_text}
 use Rattle.cdm_report.specs.declared.counts.Counts.{Counts}
 use Rattle.cdm_report.specs.Columns.{left_in, flight_line}
 use Rattle.cdm_report.specs.Counts.{counts_of}
@@ -50,7 +50,7 @@ indicators_told title told = concat (
 
 -- the indicators, with each rule that blocks a flight
 unfoldable pub total_line : Counts → List ℕ
-total_line counts = indicators_told (codes "TOTAL") (λ of. decimal (of counts)) ++ flat_map rule_count counts.by_rule ++ line_end
+total_line counts = indicators_told (codes "TOTAL") (λ of. decimal (of counts)) ++ flat_map rule_count (zip all_rules counts.by_rule) ++ line_end
 
 -- a refused record, by its number, and why it was refused
 unfoldable pub refused_line : (ℕ × RefusalWord) → List ℕ

@@ -22,8 +22,8 @@ pub struct Counts {
     pub late: u32,
     /// The planned flights that get no take-off minute.
     pub blocked: u32,
-    /// Each rule with how many of those it blocks, in the order of the rules.
-    pub by_rule: [(Rule, u32); 8],
+    /// How many of those each rule blocks, in the order of [`Rule::all`](cdm_sequence::Rule::all).
+    pub by_rule: [u32; 8],
 }
 
 impl Counts {
@@ -64,13 +64,12 @@ impl Counts {
     }
 }
 
-// The rule with how many of the flights it blocks.
-fn count_blocked(rule: Rule, flights: &[BlockedFlight]) -> (Rule, u32)
+// How many of the flights the rule blocks.
+fn count_blocked(rule: Rule, flights: &[BlockedFlight]) -> u32
     requires { length flights.now ≤ 2000 }
-    ensures { result ≡ (rule, blocked_by rule flights.now) }
+    ensures { result ≡ blocked_by rule flights.now }
 {
-    let count = flights.iter().filter(|flight| flight.rule == rule).count();
-    (rule, count as u32)
+    flights.iter().filter(|flight| flight.rule == rule).count() as u32
 }
 
 // The indicators where these flights are blocked and no other is planned.

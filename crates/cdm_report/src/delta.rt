@@ -1,6 +1,7 @@
 //! What a scenario changes in the indicators.
-ghost use Rattle.std.specs.Prelude.{◌≡◌, ◌++◌, IfOk, OnOk, Some, flat_map, length, zip};
+ghost use Rattle.std.specs.Prelude.{◌≡◌, ◌++◌, IfOk, OnOk, Some, flat_map, zip};
 ghost use Rattle.std.specs.String.{string_bytes};
+ghost use Rattle.cdm_sequence.specs.Words.{all_rules};
 ghost use Rattle.cdm_report.specs.Delta.{change, delta_line, rule_change};
 
 use crate::counts::Counts;
@@ -68,29 +69,23 @@ pub fn delta_text(alloc: Global, base: &Counts, scenario: &Counts) -> Result<Vec
 
 fn push_rule_changes(
     text: &mut String,
-    base: &[(Rule, u32)],
-    scenario: &[(Rule, u32)],
+    base: &[u32; 8],
+    scenario: &[u32; 8],
 ) -> Result<(), AllocError>
-    requires { length scenario.now ≡ length base.now }
-    ensures { OnOk result (string_bytes text.new ≡ string_bytes text.old ++ flat_map rule_change (zip base.now scenario.now)) }
+    ensures { OnOk result (string_bytes text.new ≡ string_bytes text.old ++ flat_map rule_change (zip all_rules (zip base.now scenario.now))) }
 {
-    for place in 0..base.len() {
-        push_rule_change(text, base[place], scenario[place])?;
+    let rules = Rule::all();
+    for place in 0..rules.len() {
+        push_rule_change(text, rules[place], base[place], scenario[place])?;
     }
     Ok(())
 }
 
 // A rule and by how much its count grew, where it changed.
 #[tactic(auto, unfolding(crate::specs::Delta::rule_change))]
-fn push_rule_change(
-    text: &mut String,
-    base: (Rule, u32),
-    scenario: (Rule, u32),
-) -> Result<(), AllocError>
-    ensures { OnOk result (string_bytes text.new ≡ string_bytes text.old ++ rule_change (base, scenario)) }
+fn push_rule_change(text: &mut String, rule: Rule, from: u32, to: u32) -> Result<(), AllocError>
+    ensures { OnOk result (string_bytes text.new ≡ string_bytes text.old ++ rule_change (rule, (from, to))) }
 {
-    let (rule, from) = base;
-    let (_, to) = scenario;
     if from == to {
         return Ok(());
     }

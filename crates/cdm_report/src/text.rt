@@ -1,7 +1,8 @@
 //! The text of a report.
-ghost use Rattle.std.specs.Prelude.{◌≡◌, ◌++◌, codes, IfOk, OnOk, flat_map};
+ghost use Rattle.std.specs.Prelude.{◌≡◌, ◌++◌, codes, IfOk, OnOk, flat_map, zip};
 ghost use Rattle.std.specs.Fmt.{decimal};
 ghost use Rattle.std.specs.String.{string_bytes};
+ghost use Rattle.cdm_sequence.specs.Words.{all_rules};
 ghost use Rattle.cdm_report.specs.Report.{blocked_line, day_line, indicators_told, refused_line, report_bytes, rule_count, runway_lines, total_line};
 
 use crate::counts::{Counts, indicators};
@@ -121,12 +122,12 @@ fn push_total_head(text: &mut String, counts: &Counts) -> Result<(), AllocError>
     )
 }
 
-fn push_rule_counts(text: &mut String, by_rule: &[(Rule, u32)]) -> Result<(), AllocError>
-    ensures { OnOk result (string_bytes text.new ≡ string_bytes text.old ++ flat_map rule_count by_rule.now) }
+fn push_rule_counts(text: &mut String, by_rule: &[u32; 8]) -> Result<(), AllocError>
+    ensures { OnOk result (string_bytes text.new ≡ string_bytes text.old ++ flat_map rule_count (zip all_rules by_rule.now)) }
 {
-    for counted in by_rule {
-        let (rule, count) = *counted;
-        push_rule_count(text, rule, count)?;
+    let rules = Rule::all();
+    for place in 0..rules.len() {
+        push_rule_count(text, rules[place], by_rule[place])?;
     }
     Ok(())
 }

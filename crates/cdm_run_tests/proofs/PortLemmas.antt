@@ -5,7 +5,6 @@ use Rattle.std.specs.Prelude.{OnErr, Result, Ok, Err}
 use Rattle.std.specs.List.{AllByRecursion, list_any}
 use Rattle.std.proofs.lemmas.Bool.Decides.{nat_tests}
 use Rattle.cdm_port.specs.Event.{Event}
-use Rattle.cdm_port.specs.Event.Event.{Appended, Replied}
 use Rattle.cdm_port.specs.Heard.{IsLine}
 use Rattle.cdm_port.specs.Stop.{Stops}
 
@@ -16,14 +15,6 @@ on_err (Err y) p = p
 -- nothing has happened
 pub not_done : (event : Event) (old new : List Event) → new ≡ old → Stops old (event ∷ []) new
 not_done event old new same = ([], inl refl, same ∙ sym (append-nil old))
-
--- the first part of an append has happened
-pub append_torn : (n : ℕ) (bytes : List ℕ) (old new : List Event) → new ≡ old ++ Appended (take n bytes) ∷ [] → Stops old (Appended bytes ∷ []) new
-append_torn n bytes old new is = (Appended (take n bytes) ∷ [], inr (inl (take n bytes, (drop n bytes, sym (take-append-drop n bytes)), refl)), is)
-
--- and that of a reply
-pub reply_torn : (n : ℕ) (bytes : List ℕ) (old new : List Event) → new ≡ old ++ Replied (take n bytes) ∷ [] → Stops old (Replied bytes ∷ []) new
-reply_torn n bytes old new is = (Replied (take n bytes) ∷ [], inr (inl (take n bytes, (drop n bytes, sym (take-append-drop n bytes)), refl)), is)
 
 first_differs : (x : ℕ) (more : Bool) → ((x == 10) || more) ≡ false → x ≢ 10
 first_differs x more none = λ is. grind (arith, nat_tests, is, none)

@@ -12,4 +12,4 @@ pub use answers::{answer, answer_all};
 pub use name::ScenarioName;
 pub use outcome::Outcome;
 pub use overlay::Overlay;
-pub use scenario::{MOST_SCENARIO_UPDATES, Scenario, ScenarioFault};
+pub use scenario::{MOST_SCENARIO_UPDATES, Scenario, ScenarioFault, scenario_named};

@@ -1,6 +1,7 @@
 //! Scenarios.
 ghost use Rattle.std.specs.Prelude.{◌≡◌, ◌≤◌, ◌<◌, ◌↔◌, ◌++◌, [], ◌∷◌, Some, None, Err, OnOk, OnErr, if◌then◌else◌, nat_le, length, vec_len, vec_capacity};
-ghost use Rattle.cdm_scenario.specs.Scenarios.{empty_scenario};
+ghost use Rattle.std.specs.Option.{option_copied};
+ghost use Rattle.cdm_scenario.specs.Scenarios.{empty_scenario, scenario_named};
 ghost use Rattle.cdm_scenario.specs.declared.scenario.ScenarioFault.TheVariants as ScenarioFault;
 
 use crate::ScenarioName;
@@ -111,4 +112,11 @@ impl Scenario {
     {
         &self.updates
     }
+}
+
+/// The first of the scenarios that has this name.
+pub fn scenario_named(scenarios: &[Scenario], name: ScenarioName) -> Option<&Scenario>
+    ensures { option_copied result ≡ scenario_named scenarios.now name }
+{
+    scenarios.iter().find(|scenario| *scenario.name() == name)
 }

@@ -2,7 +2,6 @@
 use Rattle.std.specs.Prelude.{◌≡◌, ℕ, ◌+◌, ◌<◌, ◌≤◌, max, Bool, true, false, ◌&&◌, nat_le, nat_lt, List, Option, Some, None, IsSome}
 use Rattle.std.specs.Option.{IsSomeAnd, option_map_or}
 use Rattle.cdm_time.specs.Windows.{is_in_tolerance, window_has}
-use Rattle.cdm_time.specs.declared.bound.TheConstants.{HORIZON_MINUTES}
 use Rattle.cdm_time.specs.declared.tolerance.Tolerance.{Tolerance}
 use Rattle.cdm_flight.specs.declared.place.Place.{Place}
 use Rattle.cdm_flight.specs.declared.values.DayValues.{DayValues}
@@ -28,7 +27,7 @@ exot_to times f runway = taxi_out (λ place. times place runway) f.stand f.ice
 
 -- a minute of the horizon from the earliest on, within the tolerance of the CTOT, if there is one
 abbrev pub is_candidate : Tolerance → ℕ → Option ℕ → ℕ → Bool
-is_candidate tolerance earliest ctot m = nat_le earliest m && nat_lt m HORIZON_MINUTES && option_map_or (λ c. is_in_tolerance tolerance c m) ctot true
+is_candidate tolerance earliest ctot m = nat_le earliest m && nat_lt m 2880 && option_map_or (λ c. is_in_tolerance tolerance c m) ctot true
 
 -- the target is that of the flight, and the minutes of its window are the candidates
 pub record IsTarget (f : Flight) (times : TaxiTimes) (values : DayValues) (t : Target) : Type 0 where
@@ -54,6 +53,6 @@ IsAim f times values (Ready t) = IsTarget f times values t
 IsAim f times values (Early Tobt) = f.tobt ≡ None
 IsAim f times values (Early Runway) = IsSome f.tobt × (f.runway ≡ None)
 IsAim f times values (Early Exot) = IsSome f.tobt × ((runway : List ℕ) × (f.runway ≡ Some runway) × (exot_to times f runway ≡ None))
-IsAim f times values (Early Horizon) = ReachesAt f times values (λ m. HORIZON_MINUTES ≤ m)
-IsAim f times values (Early Ctot) = ReachesAt f times values (λ m. (m < HORIZON_MINUTES) × ((k : ℕ) → is_candidate values.tolerance m f.ctot k ≡ false))
+IsAim f times values (Early Horizon) = ReachesAt f times values (λ m. 2880 ≤ m)
+IsAim f times values (Early Ctot) = ReachesAt f times values (λ m. (m < 2880) × ((k : ℕ) → is_candidate values.tolerance m f.ctot k ≡ false))
 IsAim f times values (Early rule) = ⊥

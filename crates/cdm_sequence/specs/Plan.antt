@@ -2,9 +2,10 @@
 use Rattle.std.specs.Prelude.{◌≡◌, ℕ, ◌<◌, ◌≤◌, ◌++◌, true, false, List, Option, Some, None, IfSome, All, Contains, filter}
 use Rattle.std.specs.List.{filter_map}
 use Rattle.std.specs.Option.{option_map}
+use Rattle.cdm_flight.specs.Names.{same_name}
 use Rattle.cdm_flight.specs.Order.{is_before}
 use Rattle.cdm_runway.specs.Rules.{RunwayRules}
-use Rattle.cdm_runway.specs.Room.{cap_at, held_in_cell, is_closed, taken_by, IsEarliest, IsFree, IsSpaced}
+use Rattle.cdm_runway.specs.Room.{cap_at, held_in_cell, is_closed, meets, taken_by, IsEarliest, IsFree, IsSpaced}
 use Rattle.cdm_runway.specs.declared.load.Taken.{Taken}
 use Rattle.cdm_sequence.specs.declared.target.Target.{Target}
 
@@ -44,6 +45,16 @@ pub record MayHave (r : RunwayRules) (earlier all : List Taken) (f : Target) (m 
 abbrev pub IsAllowed : RunwayRules → List Taken → List Target → Placing → Type 0
 IsAllowed r fixed targets placing =
     All (λ f. IfSome (placing f) (MayHave r (taken_before r fixed targets placing f) (fixed ++ filter_map (taken_of r placing) targets) f)) targets
+
+-- each flight that has a minute meets neither a fixed flight nor one before it in the order
+abbrev pub IsSpacedInOrder : RunwayRules → List Taken → List Target → Placing → Type 0
+IsSpacedInOrder r fixed targets placing = All (λ f. IfSome (placing f) (IsSpaced r (taken_before r fixed targets placing f) f.group)) targets
+
+-- no flight that has a minute meets a fixed flight, or another one that has a minute
+pub record IsSpacedInPairs (r : RunwayRules) (fixed : List Taken) (targets : List Target) (placing : Placing) : Type 0 where
+  pub from_fixed : All (λ f. IfSome (placing f) (IsSpaced r fixed f.group)) targets
+  pub from_others : (f g : Target) (m k : ℕ) → Contains targets f → Contains targets g → same_name f.key.name g.key.name ≡ false
+      → placing f ≡ Some m → placing g ≡ Some k → meets (taken_by r f.group m) (taken_by r g.group k) ≡ false
 
 -- a smaller minute, or a minute against none
 abbrev pub IsSooner : Option ℕ → Option ℕ → Type 0

@@ -7,7 +7,7 @@ ghost use Rattle.cdm_flight.specs.declared.flight.Flight.{Flight};
 ghost use Rattle.cdm_runway.specs.Rules.{RunwayRules};
 ghost use Rattle.cdm_runway.specs.declared.load.Taken.{Taken};
 ghost use Rattle.cdm_sequence.specs.Aims.{TaxiTimes, IsAim};
-ghost use Rattle.cdm_sequence.specs.Plan.{Placing, IsPlan, IsEarlier, IsFirst};
+ghost use Rattle.cdm_sequence.specs.Plan.{Placing, IsPlan, IsEarlier, IsFirst, IsSpacedInOrder, IsSpacedInPairs};
 ghost use Rattle.cdm_sequence.specs.Sequence.{IsSequence, flight_names};
 ghost use Rattle.cdm_sequence.specs.declared.plan.RunwayPlan.{RunwayPlan};
 ghost use Rattle.cdm_sequence.specs.declared.slot.Slot.{Slot};
@@ -54,6 +54,15 @@ pub fn one_is_first()
 pub fn one_is_earlier()
     ensures { (targets : List Target) (p q : Placing) →
         ((f : Target) → Contains targets f → p f ≡ q f) ⊎ (IsEarlier targets p q ⊎ IsEarlier targets q p) }
+{}
+
+/// Where each flight is asked against those before it alone, all pairs of flights have been asked; names are their own.
+pub fn spaced_in_order_is_spaced()
+    ensures in_pairs { (r : RunwayRules) (fixed : List Taken) (targets : List Target) (p : Placing) →
+        IsSpacedInOrder r fixed targets p → IsSpacedInPairs r fixed targets p }
+    ensures in_order { (r : RunwayRules) (fixed : List Taken) (targets : List Target) (p : Placing) →
+        IsDistinct same_name (map (λ f. f.key.name) targets) →
+        IsSpacedInPairs r fixed targets p → IsSpacedInOrder r fixed targets p }
 {}
 
 /// A runway has one sequence, in whatever order its flights are given.

@@ -17,7 +17,7 @@ pub use aims::{AimResult, aim};
 pub use fixed::fixed_of;
 pub use laws::{
     any_order, one_aim, one_is_earlier, one_is_first, one_plan, one_sequence, plans_are_first,
-    some_aim,
+    some_aim, spaced_in_order_is_spaced,
 };
 pub use plan::{Plan, RunwayPlan};
 pub use rule::Rule;

@@ -1,6 +1,6 @@
 //! Why a flight gets no minute.
 ghost use Rattle.std.specs.Prelude.{◌≡◌, Some};
-ghost use Rattle.cdm_sequence.specs.Words.{rule_text, rule_for};
+ghost use Rattle.cdm_sequence.specs.Words.{all_rules, rule_for, rule_text};
 
 use cdm_runway::Blocked;
 use std::fmt;
@@ -28,6 +28,22 @@ pub enum Rule {
 }
 
 impl Rule {
+    /// The rules in the order in which they are tested.
+    pub fn all() -> [Rule; 8]
+        ensures { result ≡ all_rules }
+    {
+        [
+            Rule::Tobt,
+            Rule::Runway,
+            Rule::Exot,
+            Rule::Horizon,
+            Rule::Ctot,
+            Rule::Closure,
+            Rule::Spacing,
+            Rule::Rate,
+        ]
+    }
+
     /// The rule as the report prints it.
     pub fn text(self) -> &'static str
         ensures { result.now ≡ rule_text self }

@@ -1,108 +1,101 @@
 -- The journal from the start of a served day on.
-use Rattle.std.proofs.Common.{◌≡◌, ◌⊎◌, inl, inr, ℕ, ◌≤◌, Bool, true, false, nat_lt, Option, None, List, [], ◌∷◌, ◌++◌, length, take, refl, sym, ◌∙◌, ap, subst, append_assoc, take_at}
-use Rattle.std.specs.Prelude.{if◌then◌else◌}
-use Rattle.std.proofs.lemmas.Bool.{ltb-false}
-use Rattle.std.proofs.lemmas.List.{append-nil, drop_all}
-use Rattle.std.proofs.lemmas.List.Prefix.{front_fits, front_rest}
+use Rattle.std.proofs.Common.{◌≡◌, ◌⊎◌, inl, inr, ℕ, Bool, true, false, Option, None, Some, List, [], ◌∷◌, ◌++◌, length, drop, refl, sym, ◌∙◌, ap, subst, append_assoc}
+use Rattle.std.proofs.lemmas.List.{append-nil}
+use Rattle.cdm_files.specs.FeedDay.{accepted_in, refusals_in}
+use Rattle.cdm_files.specs.Records.{records_of}
 use Rattle.cdm_flight.specs.Journal.{AirportRows}
-use Rattle.cdm_journal.specs.Journal.{has_line_feed, whole_lines}
-use Rattle.cdm_journal.proofs.WholeLemmas.{kept-whole}
+use Rattle.cdm_journal.specs.Journal.{journal_text}
+use Rattle.cdm_journal.specs.Laws.{Make}
+use Rattle.cdm_journal.proofs.ReadLemmas.{feed-makes}
 use Rattle.cdm_plan.specs.Day.{DayRecord}
 use Rattle.cdm_port.specs.Event.{Event}
-use Rattle.cdm_port.specs.Event.Event.{Cut, Flushed, Read, Replied, Synced}
-use Rattle.cdm_port.specs.Stop.{IsPrefix, IsStopOf}
+use Rattle.cdm_port.specs.Event.Event.{Flushed, LeftOut, Marked, Read, Renamed, Replied, Synced}
+use Rattle.cdm_port.specs.Stop.{IsStopOf}
 use Rattle.cdm_port.proofs.Stops.{earlier}
-use Rattle.cdm_serve.specs.Disk.{Disk, MayBeLeft, disk_after, settled}
-use Rattle.cdm_serve.specs.Promises.{appended, told, untold}
-use Rattle.cdm_serve.specs.Served.{IsStopped, cut_of, day_of, ready_text, served, started}
+use Rattle.cdm_serve.specs.Disk.{Disk, IsAmong, MayBeLeft, disk_after, disk_with, found}
+use Rattle.cdm_serve.specs.Promises.{HasAll, IsKept, IsReadAs, rows_of, told, untold, updates_of}
+use Rattle.cdm_serve.specs.Served.{IsStopped, begun, day_of, left_out, reading, ready_text, served, start_text, started}
 use Rattle.cdm_serve.specs.Taken.{TakenRecord}
-use Rattle.cdm_serve.proofs.Kept.{AlwaysKeeps, Keeps, always_keeps, by_moments, on_other}
+use Rattle.cdm_serve.proofs.Kept.{AlwaysKeeps, always_keeps, by_moments, on_other, only_text, reads_own, same_text}
 
--- Whole lines.
+module _ (g : AirportRows) (marked : Bool) (disk : Disk) (bytes : List ℕ) where
+  abbrev day : DayRecord
+  day = day_of g marked bytes
 
--- they begin the text
-begins : (has : Bool) (byte : ℕ) (bytes : List ℕ) → IsPrefix (whole_lines bytes) bytes → IsPrefix (if has then byte ∷ whole_lines bytes else []) (byte ∷ bytes)
-begins true byte bytes is = (is.0, ap (λ (l : List ℕ). byte ∷ l) is.1)
-begins false byte bytes is = (byte ∷ bytes, refl)
+  abbrev rows : List (List (List ℕ))
+  rows = records_of (start_text marked bytes)
 
-pub whole_lines-front : (bytes : List ℕ) → IsPrefix (whole_lines bytes) bytes
-unfolding whole_lines
-whole_lines-front [] = ([], refl)
-whole_lines-front (byte ∷ bytes) = begins (has_line_feed (byte ∷ bytes)) byte bytes (whole_lines-front bytes)
+  -- Nothing was told and what may be left could be left before the start too, or a start reads all that was told.
+  abbrev pub IsGood : List TakenRecord → Option TakenRecord → Bool → List ℕ → Type 0
+  IsGood records last later left = ((records ≡ []) × (last ≡ None) × MayBeLeft disk later left)
+      ⊎ HasAll g later left (rows ++ rows_of records) (day.journal ++ updates_of records) last
 
--- a front that is no shorter is all
-no_rest : (all front rest : List ℕ) → all ≡ front ++ rest → length all ≤ length front → all ≡ front
-no_rest all front rest is short =
-    let none : rest ≡ [] = sym (front_rest all front rest is) ∙ drop_all (length front) all short in
-    is ∙ ap (λ (l : List ℕ). front ++ l) none ∙ append-nil front
+  -- behind a moment, from this disk on
+  abbrev GoodFrom : Disk → List Event → Type 0
+  GoodFrom now moment = (later : Bool) (left : List ℕ) → MayBeLeft (disk_after now moment) later left → IsGood (told day None moment) (untold day None moment) later left
 
--- two texts that begin one another are the same
-same_text : (one other : List ℕ) → IsPrefix one other → IsPrefix other one → other ≡ one
-same_text one other is also = no_rest other one is.0 is.1 (front_fits one other also.0 also.1)
+  -- at a moment since the journal was read
+  abbrev pub AreGood : List Event → Type 0
+  AreGood = GoodFrom (disk_with disk (Read bytes))
 
-module _ (bytes : List ℕ) where
-  abbrev front_lines : List ℕ
-  front_lines = whole_lines bytes
+  module _ (finds : MayBeLeft disk marked bytes) where
+    read_now : AreGood []
+    read_now = λ later left may. inl (
+      refl,
+      refl,
+      (
+        may.0,
+        elim may.1 [
+          | inl between ↦ subst (IsAmong disk.texts) (sym (same_text bytes left between.0 between.1)) finds.1
+          | inr before ↦ before
+        ],
+      ),
+    )
 
-  kept_of_cut : take (length front_lines) bytes ≡ front_lines
-  kept_of_cut = let front : IsPrefix front_lines bytes = whole_lines-front bytes in ap (take (length front_lines)) front.1 ∙ take_at front_lines front.0 (length front_lines) refl
+    -- what is left out is told
+    past_left_out : (rest : List ℕ) (run : List Event) → ((moment : List Event) → IsStopOf moment run → AreGood moment)
+        → (moment : List Event) → IsStopOf moment (left_out rest ++ run) → AreGood moment
+    past_left_out [] run later = later
+    past_left_out (byte ∷ rest) run later = by_moments AreGood (LeftOut (byte ∷ rest)) run read_now (λ m torn. absurd torn) later
 
-  uncut_is_whole : nat_lt (length front_lines) (length bytes) ≡ false → bytes ≡ front_lines
-  uncut_is_whole not_less = let front : IsPrefix front_lines bytes = whole_lines-front bytes in no_rest bytes front_lines front.0 front.1 (ltb-false _ _ not_less)
+    only_read : (moment : List Event) → IsStopOf moment (left_out (drop (length (start_text marked bytes)) bytes)) → AreGood moment
+    only_read moment stop =
+        past_left_out (drop (length (start_text marked bytes)) bytes) [] (λ m none. rw none read_now) moment
+        (subst (IsStopOf moment) (sym (append-nil (left_out (drop (length (start_text marked bytes)) bytes)))) stop)
 
--- Early, before the first sync, nothing was told or written, and the disk has the whole lines that it had.
-abbrev pub IsEarly : List ℕ → List TakenRecord → Option TakenRecord → Disk → List ℕ → Type 0
-IsEarly bytes records last disk more = (records ≡ []) × (last ≡ None) × (more ≡ []) × (disk.synced ≡ bytes)
-    × ((left : List ℕ) → MayBeLeft disk left → whole_lines left ≡ whole_lines bytes)
+    module _ (accepted : refusals_in g (start_text marked bytes) ≡ []) (ready : List ℕ) (rest : List Event) (later : AlwaysKeeps day rest) where
+      make : Make g rows day.journal
+      make = feed-makes g (start_text marked bytes) accepted
 
--- at a moment since the journal was read
-abbrev pub Begins : DayRecord → List ℕ → List Event → Type 0
-Begins d bytes moment = IsEarly bytes (told d None moment) (untold d None moment) (disk_after (settled bytes) moment) (appended moment)
-    ⊎ Keeps d (whole_lines bytes) (told d None moment) (untold d None moment) (disk_after (settled bytes) moment) (appended moment)
+      abbrev lines : List ℕ
+      lines = journal_text rows
 
-pub early : (d : DayRecord) (bytes : List ℕ) → IsEarly bytes [] None (settled bytes) []
-early d bytes =
-    let kept : (left : List ℕ) → MayBeLeft (settled bytes) left → whole_lines left ≡ whole_lines bytes = λ left may. elim may [
-      | inl same ↦ ap whole_lines same
-      | inr between ↦ ap whole_lines (same_text bytes left between.0 between.1)
-    ] in
-    (refl, refl, refl, refl, kept)
+      own_left : (later : Bool) (left : List ℕ) → left ≡ lines → IsGood [] None later left
+      own_left later left same = inr (rw (append-nil, append-nil) (reads_own g rows day.journal make later left same))
 
-module _ (d : DayRecord) (bytes : List ℕ) (ready : List ℕ) (rest : List Event) (later : AlwaysKeeps d rest) where
-  abbrev Late : Disk → List Event → Type 0
-  Late disk m = IsEarly bytes (told d None m) (untold d None m) (disk_after disk m) (appended m)
-      ⊎ Keeps d (whole_lines bytes) (told d None m) (untold d None m) (disk_after disk m) (appended m)
+      abbrev renamed : Disk
+      renamed = disk_with (disk_with disk (Read bytes)) (Renamed lines)
 
-  -- the journal is as it is to be, and isn't known to be on the disk
-  synced_first : (disk : Disk) → disk.written ≡ whole_lines bytes → IsEarly bytes [] None disk [] → (moment : List Event)
-      → IsStopOf moment (Synced ∷ Replied ready ∷ Flushed ∷ rest) → Late disk moment
-  synced_first disk is is_early =
-      by_moments (Late disk) Synced (Replied ready ∷ Flushed ∷ rest) (inl is_early) (λ m torn. absurd torn) (λ m stop. rw is
-      (inr (on_other d ready rest later (whole_lines bytes) m stop)))
+      renamed_now : GoodFrom renamed []
+      renamed_now = λ later left may. elim may.1 [
+        | inl between ↦ own_left later left (same_text lines left between.0 between.1)
+        | inr before ↦ read_now later left (may.0, before)
+      ]
 
-  abbrev cut : Disk
-  cut = record { synced = bytes; uncut = take (length (whole_lines bytes)) bytes; written = take (length (whole_lines bytes)) bytes }
+      synced_now : GoodFrom (disk_with renamed Synced) []
+      synced_now = λ later left may. own_left later left (only_text lines left may.1)
 
-  cut_is_early : IsEarly bytes [] None cut []
-  cut_is_early =
-      let kept : (left : List ℕ) → MayBeLeft cut left → whole_lines left ≡ whole_lines bytes = λ left may. elim may [
-        | inl same ↦ ap whole_lines same
-        | inr between ↦ ap whole_lines (same_text _ left between.0 between.1 ∙ kept_of_cut bytes) ∙ kept-whole bytes
-      ] in
-      (refl, refl, refl, refl, kept)
+      begun_at : (moment : List Event) → IsStopOf moment (begun lines ready ++ rest) → AreGood moment
+      begun_at =
+          by_moments AreGood (Renamed lines) (Synced ∷ Marked ∷ Replied ready ∷ Flushed ∷ rest) read_now (λ m torn. absurd torn)
+          (by_moments (GoodFrom renamed) Synced (Marked ∷ Replied ready ∷ Flushed ∷ rest) renamed_now (λ m torn. absurd torn)
+          (by_moments (GoodFrom (disk_with renamed Synced)) Marked (Replied ready ∷ Flushed ∷ rest) synced_now (λ m torn. absurd torn)
+          (λ m stop later_mark left may. inr (on_other day ready rest later rows make m stop later_mark left may))))
 
-  cut_first : (moment : List Event) → IsStopOf moment (Cut (length (whole_lines bytes)) ∷ Synced ∷ Replied ready ∷ Flushed ∷ rest) → Late (settled bytes) moment
-  cut_first =
-      by_moments (Late (settled bytes)) (Cut (length (whole_lines bytes))) (Synced ∷ Replied ready ∷ Flushed ∷ rest)
-      (inl (early d bytes)) (λ m torn. absurd torn) (synced_first cut (kept_of_cut bytes) cut_is_early)
-
-  by_cut : (b : Bool) → nat_lt (length (whole_lines bytes)) (length bytes) ≡ b → (moment : List Event)
-      → IsStopOf moment ((if b then Cut (length (whole_lines bytes)) ∷ [] else []) ++ Synced ∷ Replied ready ∷ Flushed ∷ rest) → Late (settled bytes) moment
-  by_cut true is = cut_first
-  by_cut false is = synced_first (settled bytes) (uncut_is_whole bytes is) (early d bytes)
-
-  pub begun : (moment : List Event) → IsStopOf moment (cut_of bytes ++ Synced ∷ Replied ready ∷ Flushed ∷ rest) → Begins d bytes moment
-  begun = by_cut (nat_lt (length (whole_lines bytes)) (length bytes)) refl
+      started_at : (moment : List Event) → IsStopOf moment ((left_out (drop (length (start_text marked bytes)) bytes) ++ begun lines ready) ++ rest) → AreGood moment
+      started_at moment stop =
+          past_left_out (drop (length (start_text marked bytes)) bytes) (begun lines ready ++ rest) begun_at moment
+          (subst (IsStopOf moment) (append_assoc (left_out (drop (length (start_text marked bytes)) bytes)) (begun lines ready) rest) stop)
 
 -- a moment since the journal was read is one since that start
 since_read : (bytes start : List ℕ) (moment whole : List Event) → IsStopOf (Read bytes ∷ moment) (Read start ∷ whole) → (bytes ≡ start) × IsStopOf moment whole
@@ -113,17 +106,32 @@ since_read bytes start moment whole (inr (inr (rest, same, stop))) =
     let later : moment ≡ rest = cc in
     (at, rw later stop)
 
-module _ (g : AirportRows) where
-  pub always_begins : (done : List Event) → IsStopped g done → (bytes : List ℕ) (moment : List Event) → IsStopOf (Read bytes ∷ moment) done → Begins (day_of g bytes) bytes moment
-  always_begins done (inl (start, stop)) bytes moment now =
-      let at : (bytes ≡ start) × IsStopOf moment [] = since_read bytes start moment [] (earlier (Read bytes ∷ moment) done (Read start ∷ []) now stop) in
-      subst (Begins (day_of g bytes) bytes) (sym at.1) (inl (early (day_of g bytes) bytes))
-  always_begins done (inr (start, next, whole, heard, is, stop)) bytes moment now =
-      let d : DayRecord = day_of g start in
+module _ (g : AirportRows) (marked : Bool) (disk : Disk) where
+  pub always_good : (done : List Event) → IsStopped g marked done → (bytes : List ℕ) (moment : List Event) → IsStopOf (Read bytes ∷ moment) done
+      → MayBeLeft disk marked bytes → AreGood g marked disk bytes moment
+  always_good done (inl (start, stop)) bytes moment now finds =
+      let at = since_read bytes start moment _ (earlier (Read bytes ∷ moment) done (reading marked start) now stop) in
+      only_read g marked disk bytes finds moment (rw at.0 at.1)
+  always_good done (inr (start, next, whole, heard, is, stop)) bytes moment now finds =
+      let d = day_of g marked start in
       let rest : List Event = served d is.exchanges ++ next ∷ [] in
-      let ready : List ℕ = ready_text (length d.journal) in
-      let all : IsStopOf (Read bytes ∷ moment) (started start (length d.journal) ++ rest) = rw is.events at (earlier (Read bytes ∷ moment) done whole now stop) in
-      let at : (bytes ≡ start) × IsStopOf moment (cut_of start ++ Synced ∷ Replied ready ∷ Flushed ∷ rest) =
-      since_read bytes start moment _ (subst (λ (w : List Event). IsStopOf (Read bytes ∷ moment) (Read start ∷ w))
-      (append_assoc (cut_of start) (Synced ∷ Replied ready ∷ Flushed ∷ []) rest) all) in
-      rw at.0 (begun d start ready rest (always_keeps d is.exchanges next heard) moment at.1)
+      let all : IsStopOf (Read bytes ∷ moment) (started g marked start ++ rest) = rw is.events at (earlier (Read bytes ∷ moment) done whole now stop) in
+      let at = since_read bytes start moment _ all in
+      let finds_start : MayBeLeft disk marked start = rw at.0 at finds in
+      subst (λ (b : List ℕ). AreGood g marked disk b moment) (sym at.0)
+      (started_at g marked disk start finds_start is.accepted (ready_text (length d.journal)) rest (always_keeps d 0 is.exchanges next is.replies heard) moment at.1)
+
+-- Where the journal was on the disk.
+
+found_left : (marked : Bool) (bytes : List ℕ) (later : Bool) (left : List ℕ) → MayBeLeft (found marked bytes) later left → (later ≡ marked) × (left ≡ bytes)
+found_left marked bytes later left may = (may.0, only_text bytes left may.1)
+
+pub is_kept : (g : AirportRows) (marked : Bool) (bytes : List ℕ) (moment : List Event) → AreGood g marked (found marked bytes) bytes moment → IsKept g marked bytes moment
+is_kept g marked bytes moment good accepted later left may = elim (good later left may) [
+  | inl (records, last, before) ↦
+      let was = found_left marked bytes later left before in
+      let as_found : IsReadAs g marked bytes (records_of (start_text marked bytes)) (accepted_in g (start_text marked bytes)) =
+      record { none_refused = accepted; has_records = refl; has_updates = refl } in
+      rw (records, last, append-nil, append-nil, was.0, was.1) as_found
+  | inr all ↦ all
+]

@@ -1,7 +1,7 @@
 pub mod Ran
 pub mod Kept
 pub mod Begun
-pub mod Recovered
+pub mod Lives
 pub mod AnswerLemmas
 pub mod Runs
 pub mod StartLemmas

@@ -4,5 +4,6 @@ pub mod Taken
 pub mod Served
 pub mod Disk
 pub mod Promises
+pub mod Life
 pub mod Faults
 pub mod inner

@@ -1,16 +1,16 @@
 -- What a served day promises at each moment.
-use Rattle.std.specs.Prelude.{◌≡◌, ◌⊎◌, ℕ, List, [], ◌∷◌, ◌++◌, map, flat_map, Option, None, Some}
+use Rattle.std.specs.Prelude.{◌≡◌, ◌⊎◌, ℕ, Bool, List, [], ◌∷◌, ◌++◌, map, Option, None, Some}
 use Rattle.std.specs.Option.{option_to_list}
 use Rattle.cdm_files.specs.FeedDay.{accepted_in, refusals_in}
+use Rattle.cdm_files.specs.Records.{records_of}
 use Rattle.cdm_flight.specs.Journal.{AirportRows}
 use Rattle.cdm_flight.specs.declared.update.Update.{Update}
-use Rattle.cdm_journal.specs.Journal.{journal_line, whole_lines}
 use Rattle.cdm_plan.specs.Day.{DayRecord}
 use Rattle.cdm_port.specs.Event.{Event}
-use Rattle.cdm_port.specs.Event.Event.{Appended, Broken, Line, Read, Replied}
-use Rattle.cdm_port.specs.Stop.{IsPrefix, IsStopOf}
-use Rattle.cdm_serve.specs.Disk.{MayBeLeft, disk_after, settled}
-use Rattle.cdm_serve.specs.Served.{day_of}
+use Rattle.cdm_port.specs.Event.Event.{Broken, Line, Read, Replied}
+use Rattle.cdm_port.specs.Stop.{IsStopOf}
+use Rattle.cdm_serve.specs.Disk.{MayBeLeft, disk_after, found}
+use Rattle.cdm_serve.specs.Served.{day_of, start_text}
 use Rattle.cdm_serve.specs.Taken.{TakenRecord, after, record_heard, taken}
 
 -- Records.
@@ -32,42 +32,37 @@ untold d last (Broken ∷ events) = untold (after d (record_heard None)) (taken 
 untold d last (Replied text ∷ events) = untold d None events
 untold d last (other ∷ events) = untold d last events
 
--- the lines of records in the journal
-abbrev pub lines_of : List TakenRecord → List ℕ
-lines_of records = flat_map (λ one. journal_line one.fields) records
+-- their fields
+abbrev pub rows_of : List TakenRecord → List (List (List ℕ))
+rows_of records = map (λ one. one.fields) records
 
 -- their updates
 abbrev pub updates_of : List TakenRecord → List Update
 updates_of records = map (λ one. one.update) records
 
--- what was written behind the journal
-abbrev pub appended : List Event → List ℕ
-appended [] = []
-appended (Appended bytes ∷ events) = bytes ++ appended events
-appended (other ∷ events) = appended events
+-- What a start reads.
 
--- Promises, of what has happened since a journal of these bytes was read.
+-- a start refuses nothing of this journal: it reads these records, which make these updates
+pub record IsReadAs (g : AirportRows) (marked : Bool) (left : List ℕ) (records : List (List (List ℕ))) (updates : List Update) : Type 0 where
+  pub none_refused : refusals_in g (start_text marked left) ≡ []
+  pub has_records : records_of (start_text marked left) ≡ records
+  pub has_updates : accepted_in g (start_text marked left) ≡ updates
 
--- Every accepted record whose reply was begun stands in the synced part of the journal, behind the whole lines that it had.
-abbrev pub IsKept : AirportRows → List ℕ → List Event → Type 0
-IsKept g bytes events = IsPrefix (whole_lines bytes ++ lines_of (told (day_of g bytes) None events)) (disk_after (settled bytes) events).synced
+-- it reads all of these records, and at most this one more
+abbrev pub HasAll : AirportRows → Bool → List ℕ → List (List (List ℕ)) → List Update → Option TakenRecord → Type 0
+HasAll g marked left records updates None = IsReadAs g marked left records updates
+HasAll g marked left records updates (Some one) =
+    IsReadAs g marked left records updates ⊎ IsReadAs g marked left (records ++ one.fields ∷ []) (updates ++ one.update ∷ [])
 
--- Written behind it were the accepted records in order, the last of which may not have its reply yet, nor all its bytes.
-abbrev pub IsWritten : AirportRows → List ℕ → List Event → Type 0
-IsWritten g bytes events =
-    IsPrefix (lines_of (told (day_of g bytes) None events)) (appended events)
-    × IsPrefix (appended events) (lines_of (told (day_of g bytes) None events ++ option_to_list (untold (day_of g bytes) None events)))
+-- Promises, of what has happened since a journal of these bytes, which was on the disk, was read.
 
--- these updates, and at most one more
-abbrev pub IsAllOrOneMore : List Update → Option TakenRecord → List Update → Type 0
-IsAllOrOneMore all last updates = (updates ≡ all) ⊎ (updates ≡ all ++ updates_of (option_to_list last))
-
--- From what a stop leaves, a start refuses no record, where none of the journal was refused. It has the updates of the journal as it was
--- read, those of all accepted records that were replied to, in order, and at most one more, of the line that was heard last.
-abbrev pub IsRecovered : AirportRows → List ℕ → List Event → Type 0
-IsRecovered g bytes events = refusals_in g (whole_lines bytes) ≡ [] → (left : List ℕ) → MayBeLeft (disk_after (settled bytes) events) left
-    → (refusals_in g (whole_lines left) ≡ [])
-    × IsAllOrOneMore (accepted_in g (whole_lines bytes) ++ updates_of (told (day_of g bytes) None events)) (untold (day_of g bytes) None events) (accepted_in g (whole_lines left))
+-- Where none of its records was refused: whatever a stop may leave, the journal as it is written too, has the records that it
+-- had, then all accepted records whose reply was begun, in order, and at most one more, of the line that was heard last. A start
+-- refuses none of them.
+abbrev pub IsKept : AirportRows → Bool → List ℕ → List Event → Type 0
+IsKept g marked bytes events = refusals_in g (start_text marked bytes) ≡ [] → (later : Bool) (left : List ℕ) → MayBeLeft (disk_after (found marked bytes) (Read bytes ∷ events)) later left
+    → HasAll g later left (records_of (start_text marked bytes) ++ rows_of (told (day_of g marked bytes) None events))
+    (accepted_in g (start_text marked bytes) ++ updates_of (told (day_of g marked bytes) None events)) (untold (day_of g marked bytes) None events)
 
 -- It holds at each moment since the journal was read: of its bytes, and of what had happened then.
 abbrev pub AtEachMoment : List Event → (List ℕ → List Event → Type 0) → Type 0

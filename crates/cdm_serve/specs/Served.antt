@@ -1,17 +1,19 @@
 -- What happens while a day is served.
-use Rattle.std.specs.Prelude.{◌≡◌, ◌⊎◌, ⊤, ℕ, ◌+◌, nat_lt, List, [], ◌∷◌, ◌++◌, codes, length, Option, None, Some, if◌then◌else◌}
+use Rattle.std.specs.Prelude.{◌≡◌, ◌⊎◌, ⊤, ℕ, ◌+◌, Bool, true, false, List, [], ◌∷◌, ◌++◌, codes, drop, length, Option, None, Some}
 use Rattle.std.specs.Fmt.{decimal}
 use Rattle.std.specs.List.{concat}
 use Rattle.cdm_desk.specs.Replies.{IsReply, reply_text}
 use Rattle.cdm_desk.specs.declared.reply.DeskReply.{DeskReply}
 use Rattle.cdm_files.specs.FeedDay.{day_in, refusals_in}
+use Rattle.cdm_files.specs.Records.{records_of}
 use Rattle.cdm_flight.specs.Journal.{AirportRows}
-use Rattle.cdm_journal.specs.Journal.{journal_line, whole_lines}
+use Rattle.cdm_journal.specs.Journal.{journal_line, journal_text, whole_lines}
 use Rattle.cdm_journal.specs.Lines.{LineRecord}
 use Rattle.cdm_journal.specs.Lines.LineRecord.{Blank, One, Several}
 use Rattle.cdm_plan.specs.Day.{DayRecord}
 use Rattle.cdm_port.specs.Event.{Event}
-use Rattle.cdm_port.specs.Event.Event.{Appended, Broken, Cut, End, Flushed, Line, Read, Replied, Synced}
+use Rattle.cdm_port.specs.Event.Event.{Appended, Broken, End, Flushed, LeftOut, Line, Marked, Read, Renamed, Replied, Synced}
+use Rattle.cdm_port.specs.Heard.{IsLine}
 use Rattle.cdm_port.specs.Stop.{IsStopOf}
 use Rattle.cdm_report.specs.Report.{line_end}
 use Rattle.cdm_serve.specs.Asked.{IsAnswerText}
@@ -50,6 +52,13 @@ numbered number Blank = number
 numbered number (One fields) = number + 1
 numbered number Several = number + 1
 
+-- what the input says next: a line, which has no line feed and isn't too long, or none that can be read, or the end
+abbrev pub IsHeard : Event → Type 0
+IsHeard End = ⊤
+IsHeard Broken = ⊤
+IsHeard (Line line) = IsLine line
+IsHeard other = ⊥
+
 -- Many lines.
 
 -- a line of the input that was heard, and the text that replies to it
@@ -61,11 +70,14 @@ pub record Exchange : Type 0 where
 abbrev pub line_of : Exchange → LineRecord
 line_of x = record_heard x.heard
 
--- the replies are those of the day, line after line, where so many records and questions were numbered before
+-- a line is replied to, where so many records and questions were numbered before
+abbrev pub IsExchange : DayRecord → ℕ → Exchange → Type 0
+IsExchange d number x = IsHeard (said x.heard) × IsReplyTo d (numbered number (line_of x)) (request_of d.airport.day (line_of x)) x.reply
+
+-- the replies are those of the day, line after line
 abbrev pub AreReplies : DayRecord → ℕ → List Exchange → Type 0
 AreReplies d number [] = ⊤
-AreReplies d number (x ∷ later) = IsReplyTo d (numbered number (line_of x)) (request_of d.airport.day (line_of x)) x.reply
-    × AreReplies (after d (line_of x)) (numbered number (line_of x)) later
+AreReplies d number (x ∷ later) = IsExchange d number x × AreReplies (after d (line_of x)) (numbered number (line_of x)) later
 
 -- what happens for these lines
 abbrev pub served : DayRecord → List Exchange → List Event
@@ -74,43 +86,46 @@ served d (x ∷ later) = said x.heard ∷ (answered d (line_of x) x.reply ++ ser
 
 -- The start.
 
--- of so many bytes these are kept
-abbrev pub cut_to : ℕ → ℕ → List Event
-cut_to kept count = if nat_lt kept count then Cut kept ∷ [] else []
+-- what a start takes of a journal: its whole lines where it was served before, since a stop may have torn its last line, and else all
+abbrev pub start_text : Bool → List ℕ → List ℕ
+start_text true bytes = whole_lines bytes
+start_text false bytes = bytes
 
--- a last line that a stop has torn is cut off
-abbrev pub cut_of : List ℕ → List Event
-cut_of bytes = cut_to (length (whole_lines bytes)) (length bytes)
+-- a last line that is left out is told
+abbrev pub left_out : List ℕ → List Event
+left_out [] = []
+left_out (byte ∷ bytes) = LeftOut (byte ∷ bytes) ∷ []
+
+-- the journal was read, and what of it isn't taken was told
+abbrev pub reading : Bool → List ℕ → List Event
+reading marked bytes = Read bytes ∷ left_out (drop (length (start_text marked bytes)) bytes)
 
 -- how many updates the day has at the start
 abbrev pub ready_text : ℕ → List ℕ
 ready_text count = concat (codes "READY " ∷ decimal count ∷ line_end ∷ [])
 
--- what happens at the start, by the bytes of the journal, where so many updates are in its whole lines
-abbrev pub started : List ℕ → ℕ → List Event
-started bytes count = Read bytes ∷ (cut_of bytes ++ Synced ∷ Replied (ready_text count) ∷ Flushed ∷ [])
+-- the journal's own lines are on the disk in its place, and it is marked, before the day is told to be ready
+abbrev pub begun : List ℕ → List ℕ → List Event
+begun lines ready = Renamed lines ∷ Synced ∷ Marked ∷ Replied ready ∷ Flushed ∷ []
 
--- the day that the airport and the whole lines of a journal make
-abbrev pub day_of : AirportRows → List ℕ → DayRecord
-day_of g bytes = day_in g (whole_lines bytes)
+-- the day that the airport and a journal make
+abbrev pub day_of : AirportRows → Bool → List ℕ → DayRecord
+day_of g marked bytes = day_in g (start_text marked bytes)
+
+-- what happens at the start, by the mark and the bytes of the journal
+abbrev pub started : AirportRows → Bool → List ℕ → List Event
+started g marked bytes = reading marked bytes ++ begun (journal_text (records_of (start_text marked bytes))) (ready_text (length (day_of g marked bytes).journal))
 
 -- A run.
 
--- the next that is heard: a line, or the input's end
-abbrev pub IsHeard : Event → Type 0
-IsHeard End = ⊤
-IsHeard Broken = ⊤
-IsHeard (Line line) = ⊤
-IsHeard other = ⊥
-
 -- a journal without a refused record is served, line after line, until this is heard
-pub record IsServed (g : AirportRows) (bytes : List ℕ) (next : Event) (whole : List Event) : Type 0 where
-  pub accepted : refusals_in g (whole_lines bytes) ≡ []
+pub record IsServed (g : AirportRows) (marked : Bool) (bytes : List ℕ) (next : Event) (whole : List Event) : Type 0 where
+  pub accepted : refusals_in g (start_text marked bytes) ≡ []
   pub exchanges : List Exchange
-  pub replies : AreReplies (day_of g bytes) 0 exchanges
-  pub events : whole ≡ started bytes (length (day_of g bytes).journal) ++ (served (day_of g bytes) exchanges ++ next ∷ [])
+  pub replies : AreReplies (day_of g marked bytes) 0 exchanges
+  pub events : whole ≡ started g marked bytes ++ (served (day_of g marked bytes) exchanges ++ next ∷ [])
 
 -- what has happened is a part of what is to happen: of reading a journal, or of serving it until something is heard
-abbrev pub IsStopped : AirportRows → List Event → Type 0
-IsStopped g done = ((bytes : List ℕ) × IsStopOf done (Read bytes ∷ []))
-    ⊎ ((bytes : List ℕ) × (next : Event) × (whole : List Event) × IsHeard next × IsServed g bytes next whole × IsStopOf done whole)
+abbrev pub IsStopped : AirportRows → Bool → List Event → Type 0
+IsStopped g marked done = ((bytes : List ℕ) × IsStopOf done (reading marked bytes))
+    ⊎ ((bytes : List ℕ) × (next : Event) × (whole : List Event) × IsHeard next × IsServed g marked bytes next whole × IsStopOf done whole)

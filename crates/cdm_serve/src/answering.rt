@@ -12,7 +12,8 @@ use crate::fault::ServeError;
 use crate::request::{Request, request_of};
 use cdm_desk::{DeskDay, DeskReply};
 use cdm_flight::{RefusalWord, Role, Update};
-use cdm_journal::{LineRead, push_journal_line};
+use cdm_journal::{LineRead, journal_line};
+use csv::ByteRecord;
 use std::alloc::{AllocError, Global};
 
 /// What is to be done for a line of the input.
@@ -34,16 +35,13 @@ pub(crate) struct ServedDay {
 }
 
 // The journal's line of a record. What is no record has no fields.
-#[tactic(auto, unfolding(cdm_journal::specs::Journal::journal_line, cdm_journal::specs::Journal::record_text))]
 fn line_of(alloc: Global, read: &LineRead) -> Result<Vec<u8>, AllocError>
     ensures { IfOk result (λ line. line.items ≡ journal_line (fields_in (read_as read.now))) }
 {
-    let mut line = Vec::new(alloc);
     match read {
-        LineRead::One(row) => push_journal_line(&mut line, row)?,
-        LineRead::Blank | LineRead::Several => line.push(b'\n')?,
+        LineRead::One(row) => journal_line(alloc, row),
+        LineRead::Blank | LineRead::Several => journal_line(alloc, &ByteRecord::new(alloc)),
     }
-    Ok(line)
 }
 
 // Posts what a line spells, and says what is to be done then.

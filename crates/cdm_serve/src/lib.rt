@@ -5,6 +5,7 @@
 mod answering;
 mod asked;
 mod fault;
+mod laws;
 mod performing;
 mod request;
 mod serving;
@@ -12,5 +13,6 @@ mod starting;
 
 pub use asked::Asked;
 pub use fault::ServeError;
+pub use laws::served_journal_is_kept;
 pub use request::Request;
 pub use serving::serve;

@@ -6,9 +6,9 @@ ghost use Rattle.cdm_journal.specs.Lines.{read_as};
 ghost use Rattle.cdm_serve.specs.Requests.{asked_by, flight_asked, request_in, request_of, runway_asked};
 
 use crate::asked::Asked;
-use cdm_files::parse_record;
+use cdm_files::{field_at, parse_record};
 use cdm_flight::{FlightName, RefusalWord, Role, RunwayName, Update};
-use cdm_journal::{LineRead, field};
+use cdm_journal::LineRead;
 use cdm_time::Day;
 use cdm_view::Question;
 use csv::ByteRecord;
@@ -60,7 +60,7 @@ fn ask(wanted: usize, count: usize, asked: Result<Asked, RefusalWord>) -> Reques
 fn request_in(day: Day, row: &ByteRecord) -> Request
     ensures { result ≡ request_in day (fields_of row.now) }
 {
-    let (word, name) = (field(row, 0), field(row, 1));
+    let (word, name) = (field_at(row, 0), field_at(row, 1));
     if word == b"PLAN".as_slice() {
         ask(1, row.len(), Ok(Asked::Plan))
     } else if word == b"WHY".as_slice() {

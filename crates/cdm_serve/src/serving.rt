@@ -3,7 +3,7 @@ ghost use Rattle.std.specs.Prelude.{◌≡◌, ◌++◌, ℕ, List, IfErr, IfOk,
 ghost use Rattle.cdm_port.specs.Event.Event.{End};
 ghost use Rattle.cdm_port.specs.Stop.{since};
 ghost use Rattle.cdm_serve.specs.Faults.{IsServeFault, fault_told};
-ghost use Rattle.cdm_serve.specs.Promises.{AtEachMoment, IsKept, IsRecovered, IsWritten};
+ghost use Rattle.cdm_serve.specs.Promises.{AtEachMoment, IsKept};
 ghost use Rattle.cdm_serve.specs.Served.{IsServed, IsStopped};
 ghost use Rattle.cdm_serve.specs.inner.Steps.{Hears, HearsInVain, IsLinesFault, IsPortFault, Serves, ServeStops};
 
@@ -52,10 +52,11 @@ fn serve_lines<P: Port>(alloc: Global, port: &mut P, mut day: ServedDay) -> Resu
     Err(ServeError::TooMany)
 }
 
-/// Serves the day of an airport over a port. The journal is read, and its whole lines are judged: the day is that of the
-/// airport and the journal. A last line that a stop has torn is cut off, and the day is told to be ready. Then each line
-/// of the input is answered in its turn: a record that is accepted is appended to the journal and synced before its
-/// reply is begun, and each reply is flushed before the next line is read. `Ok` comes at the input's end.
+/// Serves the day of an airport over a port. The journal is read: where it was served before, a last line that a stop
+/// has torn is left out, and told. The day is that of the airport and the journal's records. These are written in its
+/// place as its own lines, the journal is marked as served, and the day is told to be ready. Then each line of the input
+/// is answered in its turn: a record that is accepted is appended to the journal and synced before its reply is begun, and
+/// each reply is flushed before the next line is read. `Ok` comes at the input's end.
 ///
 /// `Journal` where a record of the journal is refused, and then the journal is as it was; `TooMany` where a line's
 /// number would be greater than a `u32`; `Port` where the port fails, and `Common` for want of memory.
@@ -69,20 +70,17 @@ pub fn serve<R: Threads + Sync, P: Port>(
     ensures log { P.events port.new ≡ P.events port.old ++ since (P.events port.old) (P.events port.new) }
 
     // The replies are those of the lines in their order, each accepted record on the disk first.
-    ensures served { OnOk result ((bytes : List ℕ) × IsServed airport bytes End (since (P.events port.old) (P.events port.new))) }
+    ensures served { OnOk result ((bytes : List ℕ) × IsServed airport (P.marked port.old) bytes End (since (P.events port.old) (P.events port.new))) }
 
     // Where it stopped, it had done the first part of that.
-    ensures stopped { IsStopped airport (since (P.events port.old) (P.events port.new)) }
+    ensures stopped { IsStopped airport (P.marked port.old) (since (P.events port.old) (P.events port.new)) }
 
-    // At each moment the journal has the accepted records, and on the disk all those whose reply was begun.
-    ensures kept { AtEachMoment (since (P.events port.old) (P.events port.new)) (IsKept airport) }
-    ensures written { AtEachMoment (since (P.events port.old) (P.events port.new)) (IsWritten airport) }
-
-    // From what a stop at that moment leaves, a start goes on with all of them, and at most one more.
-    ensures recovered { AtEachMoment (since (P.events port.old) (P.events port.new)) (IsRecovered airport) }
+    // From what a stop at any moment leaves, a start goes on with all accepted records whose reply was begun, and at most
+    // one more.
+    ensures kept { AtEachMoment (since (P.events port.old) (P.events port.new)) (IsKept airport (P.marked port.old)) }
 
     // A fault is told where it happened, and a fault of the port exactly then.
-    ensures fault { IfErr result (IsServeFault airport (since (P.events port.old) (P.events port.new))) }
+    ensures fault { IfErr result (IsServeFault airport (P.marked port.old) (since (P.events port.old) (P.events port.new))) }
     ensures failed { P.fault port.new ≡ fault_told (P.fault port.old) result }
 {
     let state = start(rt, alloc, airport, port)?;

@@ -1,5 +1,4 @@
 pub mod TableLemmas
-mod RowLemmas
 mod LineLemmas
 mod NameColumn
 mod OwnLemmas

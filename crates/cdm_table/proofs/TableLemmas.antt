@@ -1,5 +1,5 @@
 -- A day and its scenarios have one table.
-use Rattle.std.proofs.Common.{◌≡◌, ◌∙◌, ◌++◌, ◌+◌, ◌≤◌, ◌<◌, ℕ, List, [], ◌∷◌, Option, None, Some, inl, inr, sym, ap, subst, arith}
+use Rattle.std.proofs.Common.{◌≡◌, ◌∙◌, ◌++◌, ◌+◌, ◌≤◌, ◌<◌, ℕ, List, [], ◌∷◌, Option, None, Some, inl, inr, sym, ap, subst, arith, map}
 use Rattle.std.specs.Prelude.{Contains, flat_map}
 use Rattle.std.specs.Cmp.{IsTotalOrder, bool_cmp_total}
 use Rattle.std.specs.List.{AllZip, IsDistinct, concat}
@@ -22,7 +22,7 @@ use Rattle.cdm_view.specs.declared.standing.Standing.{Standing}
 use Rattle.cdm_view.proofs.StandingLemmas.{one_standings}
 use Rattle.cdm_scenario.specs.Scenarios.{ScenarioRecord}
 use Rattle.cdm_scenario.specs.inner.OneOutcome.{one_each}
-use Rattle.cdm_table.specs.Comparison.{IsComparison, IsRanking, IsSummary, IsToldIf, all_lines, blocked_in, delay_in, heading, is_refused, line_cmp, line_text, lines_from}
+use Rattle.cdm_table.specs.Comparison.{AreRanked, IsComparison, IsComparisonCsv, IsRanking, IsSummary, IsToldIf, all_lines, blocked_in, delay_in, heading, is_refused, line_cmp, line_columns, line_fields, line_text, lines_from}
 use Rattle.cdm_table.specs.Rows as rows
 use Rattle.cdm_table.specs.Rows.{AreFlightRows, AreScenarioRows, IsCsv, csv_text}
 use Rattle.cdm_table.specs.Tables.{IsTable}
@@ -31,7 +31,7 @@ use Rattle.cdm_table.specs.declared.line.Line.{Line}
 use Rattle.cdm_table.specs.declared.line.Summary.{Summary}
 use Rattle.cdm_table.specs.declared.line.Summary.TheVariants.{Planned}
 use Rattle.cdm_table.specs.declared.table.Table.{Table}
-use Rattle.cdm_table.specs.declared.table.Table.TheVariants.{Csv, Comparison}
+use Rattle.cdm_table.specs.declared.table.Table.TheVariants.{Csv, Comparison, ComparisonCsv}
 
 -- No two lines have one place.
 
@@ -115,23 +115,37 @@ module _ (d : DayRecord) (runways : IsDistinct same_name (runway_names d.airport
   one_told_if before None x y a b = a ∙ sym b
   one_told_if before (Some s) x y a b = one_told d runways flights before s x y a b
 
+  -- the day's standings and the lines
+  one_ranked : (scenarios : List ScenarioRecord) (before then : List Standing) (x y : List Line) → AreRanked d scenarios before x → AreRanked d scenarios then y
+      → (before ≡ then) × (x ≡ y)
+  one_ranked scenarios before then x y a b =
+      let plans : a.plan ≡ b.plan = one_day_plan d a.plan b.plan runways flights a.of_day b.of_day in
+      let stand : AreStandings d a.plan then = subst (λ (p : Plan). AreStandings d p then) (sym plans) b.stand in
+      let same : before ≡ then = one_standings d a.plan runways flights a.of_day before then a.stand stand in
+      let of_scenarios : AllZip (IsSummary d before) scenarios b.summaries =
+      subst (λ (l : List Standing). AllZip (IsSummary d l) scenarios b.summaries) (sym same) b.of_scenarios in
+      let summaries : a.summaries ≡ b.summaries =
+      one_each (IsSummary d before) (one_summary d runways flights before) scenarios a.summaries b.summaries a.of_scenarios of_scenarios in
+      let ranking : IsRanking (all_lines (counts_of a.plan) scenarios a.summaries) y =
+      rw (plans, summaries) b.ranking in
+      (same, one_ranking (counts_of a.plan) scenarios a.summaries x y a.ranking ranking)
+
   one_comparison : (scenarios : List ScenarioRecord) (asked : Option ScenarioRecord) (x y : List ℕ) → IsComparison d scenarios asked x
       → IsComparison d scenarios asked y → x ≡ y
   one_comparison scenarios asked x y a b =
-      let plans : a.plan ≡ b.plan = one_day_plan d a.plan b.plan runways flights a.of_day b.of_day in
-      let stand : AreStandings d a.plan b.before = subst (λ (p : Plan). AreStandings d p b.before) (sym plans) b.stand in
-      let before : a.before ≡ b.before = one_standings d a.plan runways flights a.of_day a.before b.before a.stand stand in
-      let of_scenarios : AllZip (IsSummary d a.before) scenarios b.summaries =
-      subst (λ (l : List Standing). AllZip (IsSummary d l) scenarios b.summaries) (sym before) b.of_scenarios in
-      let summaries : a.summaries ≡ b.summaries =
-      one_each (IsSummary d a.before) (one_summary d runways flights a.before) scenarios a.summaries b.summaries a.of_scenarios of_scenarios in
-      let ranking : IsRanking (all_lines (counts_of a.plan) scenarios a.summaries) b.ranked =
-      rw (plans, summaries) b.ranking in
-      let ranked : a.ranked ≡ b.ranked = one_ranking (counts_of a.plan) scenarios a.summaries a.ranked b.ranked a.ranking ranking in
+      let same = one_ranked scenarios a.before b.before a.ranked b.ranked a.lines b.lines in
+      let before = same.0 in
+      let ranked = same.1 in
       let asked_for : IsToldIf d a.before asked b.told = subst (λ (l : List Standing). IsToldIf d l asked b.told) (sym before) b.of_asked in
       let told : a.told ≡ b.told = one_told_if a.before asked a.told b.told a.of_asked asked_for in
       a.bytes ∙ ((λ i. heading ++ flat_map line_text (ranked i) ++ told i) ∙ sym b.bytes)
 
+  one_comparison_csv : (scenarios : List ScenarioRecord) (x y : List ℕ) → IsComparisonCsv d scenarios x → IsComparisonCsv d scenarios y → x ≡ y
+  one_comparison_csv scenarios x y a b =
+      let same = one_ranked scenarios a.before b.before a.ranked b.ranked a.lines b.lines in
+      a.bytes ∙ (ap (λ lines. csv_text (line_columns ∷ map line_fields lines)) same.1 ∙ sym b.bytes)
+
   pub one_table : (table : Table) (scenarios : List ScenarioRecord) (x y : List ℕ) → IsTable table d scenarios x → IsTable table d scenarios y → x ≡ y
   one_table Csv scenarios x y a b = one_csv scenarios x y a b
   one_table (Comparison asked) scenarios x y a b = one_comparison scenarios _ x y a.1 b.1
+  one_table ComparisonCsv scenarios x y a b = one_comparison_csv scenarios x y a b

@@ -1,5 +1,5 @@
 -- A day and its scenarios side by side.
-use Rattle.std.specs.Prelude.{◌≡◌, ℕ, ◌+◌, Bool, true, false, List, [], ◌∷◌, ◌++◌, IsPermutation, IsSorted, codes, flat_map, length, Option, None, Some, Result, Ok, Err, unwrap_or}
+use Rattle.std.specs.Prelude.{◌≡◌, ℕ, ◌+◌, Bool, true, false, List, [], ◌∷◌, ◌++◌, IsPermutation, IsSorted, codes, flat_map, length, map, Option, None, Some, Result, Ok, Err, unwrap_or}
 use Rattle.std.specs.declared.cmp.Ordering.{Ordering}
 use Rattle.std.specs.Fmt.{decimal}
 use Rattle.std.specs.List.{AllZip, concat, find, join_with_byte}
@@ -22,6 +22,7 @@ use Rattle.cdm_scenario.specs.Outcome.{IsOutcome}
 use Rattle.cdm_scenario.specs.Overlay.{with_updates}
 use Rattle.cdm_scenario.specs.Scenarios.{ScenarioRecord}
 use Rattle.cdm_scenario.specs.declared.outcome.Outcome.TheVariants.{Planned, Refused}
+use Rattle.cdm_table.specs.Rows.{csv_text}
 use Rattle.cdm_table.specs.declared.line.Line.{Line}
 use Rattle.cdm_table.specs.declared.line.Summary.{Summary}
 use Rattle.cdm_table.specs.declared.line.Summary.TheVariants as summary
@@ -122,20 +123,50 @@ abbrev pub IsToldIf : DayRecord → List Standing → Option ScenarioRecord → 
 IsToldIf d before None text = text ≡ []
 IsToldIf d before (Some s) text = AreTold d before s text
 
--- the scenario of a name
-abbrev pub scenario_named : List ScenarioRecord → List ℕ → Option ScenarioRecord
-scenario_named scenarios name = find (λ s. same_name s.name name) scenarios
-
--- a line for the day and one for each scenario, the best first, and then what is told of the one asked for
-pub record IsComparison (d : DayRecord) (scenarios : List ScenarioRecord) (asked : Option ScenarioRecord) (text : List ℕ) : Type 0 where
+-- the lines of the day, on which flights stand so, and of its scenarios, the best first
+pub record AreRanked (d : DayRecord) (scenarios : List ScenarioRecord) (before : List Standing) (ranked : List Line) : Type 0 where
   pub plan : Plan
   pub of_day : IsDayPlan d plan
-  pub before : List Standing
   pub stand : AreStandings d plan before
   pub summaries : List Summary
   pub of_scenarios : AllZip (IsSummary d before) scenarios summaries
-  pub ranked : List Line
   pub ranking : IsRanking (all_lines (counts_of plan) scenarios summaries) ranked
+
+-- a line for the day and one for each scenario, the best first, and then what is told of the one asked for
+pub record IsComparison (d : DayRecord) (scenarios : List ScenarioRecord) (asked : Option ScenarioRecord) (text : List ℕ) : Type 0 where
+  pub before : List Standing
+  pub ranked : List Line
+  pub lines : AreRanked d scenarios before ranked
   pub told : List ℕ
   pub of_asked : IsToldIf d before asked told
   pub bytes : text ≡ heading ++ flat_map line_text ranked ++ told
+
+-- As CSV.
+
+-- the columns
+unfoldable pub line_columns : List (List ℕ)
+line_columns =
+    codes "scenario" ∷ codes "placed" ∷ codes "delay" ∷ codes "max" ∷ codes "late" ∷ codes "blocked" ∷ codes "moved" ∷ []
+
+-- the numbers of a plan
+unfoldable pub count_fields : Counts → ℕ → List (List ℕ)
+count_fields c moved = decimal c.placed ∷ decimal c.delay ∷ decimal c.greatest ∷ decimal c.late ∷ decimal c.blocked ∷ decimal moved ∷ []
+
+-- a scenario that is refused has none
+unfoldable pub no_counts : List (List ℕ)
+no_counts = [] ∷ [] ∷ [] ∷ [] ∷ [] ∷ [] ∷ []
+
+abbrev pub summary_fields : Summary → List (List ℕ)
+summary_fields (summary.Planned counts moved) = count_fields counts moved
+summary_fields (summary.Refused number word) = no_counts
+
+-- a line under its scenario's name, or under none for the day itself
+abbrev pub line_fields : Line → List (List ℕ)
+line_fields line = unwrap_or line.name [] ∷ summary_fields line.summary
+
+-- the names of the columns, and then the lines, the best first
+pub record IsComparisonCsv (d : DayRecord) (scenarios : List ScenarioRecord) (text : List ℕ) : Type 0 where
+  pub before : List Standing
+  pub ranked : List Line
+  pub lines : AreRanked d scenarios before ranked
+  pub bytes : text ≡ csv_text (line_columns ∷ map line_fields ranked)

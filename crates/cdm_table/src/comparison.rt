@@ -2,16 +2,15 @@
 ghost use Rattle.std.specs.Prelude.{◌≡◌, ◌++◌, ◌<◌, ◌≤◌, ℕ, [], IfOk, OnOk, Some, codes, flat_map, length, slice_index, unwrap_or};
 ghost use Rattle.std.specs.Option.{option_copied, option_map_or};
 ghost use Rattle.std.specs.String.{string_bytes};
-ghost use Rattle.cdm_flight.specs.Names.{same_name};
-ghost use Rattle.cdm_table.specs.Comparison.{IsComparison, IsToldIf, change_lines, heading, line_text, marked_line, scenario_named, summary_text, told_of};
+ghost use Rattle.cdm_table.specs.Comparison.{IsComparison, IsToldIf, change_lines, heading, line_text, marked_line, summary_text, told_of};
 
 use crate::changing::{Changed, changed_by};
-use crate::comparing::{lines_of, summaries};
-use crate::line::{Line, Summary, ranked};
+use crate::line::{Line, Summary};
+use crate::ranking::{Ranking, ranked_lines};
 use cdm_day::DayState;
 use cdm_phase::Gate;
 use cdm_plan::Runner;
-use cdm_report::{indicators, refused_text};
+use cdm_report::refused_text;
 use cdm_scenario::{Scenario, ScenarioName};
 use cdm_time::Day;
 use cdm_view::{Standing, Standings, push_standing};
@@ -159,13 +158,6 @@ fn told_of(
     }
 }
 
-/// The scenario of a name.
-pub(crate) fn scenario_named(scenarios: &[Scenario], name: ScenarioName) -> Option<&Scenario>
-    ensures { option_copied result ≡ scenario_named scenarios.now name }
-{
-    scenarios.iter().find(|scenario| *scenario.name() == name)
-}
-
 // What is told of the scenario, if one is asked for.
 fn told(
     alloc: Global,
@@ -196,10 +188,8 @@ pub(crate) fn comparison<R: Threads + Sync, G: Gate>(
 ) -> Result<Vec<u8>, AllocError>
     ensures { IfOk result (λ text. IsComparison base.now scenarios.now (option_copied asked.entry) text.items) }
 {
-    let before = Standings::of(alloc, base, base.plan())?;
-    let summaries = summaries(alloc, base, &before, scenarios, runner)?;
-    let lines = lines_of(alloc, indicators(base.plan()), scenarios, &summaries)?;
-    let mut text = lines_text(alloc, &ranked(lines))?;
+    let Ranking { before, lines } = ranked_lines(alloc, base, scenarios, runner)?;
+    let mut text = lines_text(alloc, &lines)?;
     text.extend_from_slice(&told(alloc, base, &before, asked)?)?;
     Ok(text)
 }

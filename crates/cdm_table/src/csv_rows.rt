@@ -1,25 +1,23 @@
 //! The rows of a day and of its scenarios.
-ghost use Rattle.std.specs.Prelude.{◌≡◌, ◌++◌, ◌∷◌, [], All, IfOk, IfSome, OnOk, flat_map};
-ghost use Rattle.std.specs.List.{concat, cons_option};
+ghost use Rattle.std.specs.Prelude.{◌≡◌, ◌++◌, ◌∷◌, [], All, IfOk, IfSome, OnOk};
+ghost use Rattle.std.specs.List.{concat};
 ghost use Rattle.cdm_phase.specs.declared.job.PhaseName.TheVariants.{Scenarios};
-ghost use Rattle.cdm_plan.specs.DayPlan.{IsDayPlan};
 ghost use Rattle.cdm_plan.specs.Sound.{IsSound};
 ghost use Rattle.csv.specs.Writing.{default_writer, row_text};
-ghost use Rattle.cdm_table.specs.Rows.{AreFlightRows, AreScenarioRows, IsCsv, column_names, csv_text, flight_row, refused_row, standing_row};
+ghost use Rattle.cdm_table.specs.Rows.{AreScenarioRows, IsCsv, column_names, csv_text, flight_row, flights_text, refused_row};
 ghost use Rattle.cdm_table.specs.inner.OwnRows.{IsOwnRow, own_text};
 ghost use Rattle.cdm_table.specs.inner.OneTable.{one_scenario_rows};
 
-use crate::own_row::{OwnRow, facts_of, first_of, from_flight, own_rows};
-use crate::row::{FlightFacts, FlightWriter, column_names, refused_row};
-use crate::row_text::{Row, RowWriter};
+use crate::own_row::{OwnRow, first_of, from_flight, own_rows};
+use crate::row::{FlightWriter, column_names, refused_row};
+use crate::row_text::{Fields, RowWriter};
 use cdm_day::{DayState, Records, plan_of};
 use cdm_flight::{Listed, RefusalWord};
 use cdm_phase::{Gate, Job, PhaseName, run_phase};
 use cdm_plan::Runner;
+use cdm_row::{Row, Rows};
 use cdm_scenario::{Overlay, Scenario, ScenarioName};
-use cdm_sequence::Plan;
 use cdm_time::Day;
-use cdm_view::{Standing, Standings};
 use std::alloc::{AllocError, Global};
 use std::thread::Threads;
 
@@ -39,84 +37,50 @@ fn push_flight(
     text: &mut Vec<u8>,
     writer: &mut FlightWriter,
     sheet: &Sheet<'_>,
-    facts: &FlightFacts,
+    row: &Row,
     own: Option<&OwnRow>,
 ) -> Result<(), AllocError>
     requires { IfSome own (λ own. IsOwnRow sheet.now.day own.now) }
-    ensures { OnOk result (text.new.items ≡ text.old.items ++ row_text default_writer
-        (flight_row sheet.now.day sheet.now.scenario.now facts.now.flight facts.now.exot facts.now.standing)) }
+    ensures { OnOk result (text.new.items ≡ text.old.items
+        ++ row_text default_writer (flight_row sheet.now.day sheet.now.scenario.now row.now)) }
 {
     if let Some(own) = own {
-        if own.facts() == facts {
+        if own.row() == row {
             text.extend_from_slice(sheet.scenario.bytes())?;
             text.extend_from_slice(own.text())?;
             return Ok(());
         }
     }
-    writer.push(text, sheet.day, sheet.scenario.bytes(), facts)
+    writer.push(text, sheet.day, sheet.scenario.bytes(), row)
 }
 
-// The row of a standing behind the others, if its flight is known.
-fn push_standing<R: Records>(
-    text: &mut Vec<u8>,
-    writer: &mut FlightWriter,
-    sheet: &Sheet<'_>,
-    records: &R,
-    standing: &Standing,
-    own: Option<&OwnRow>,
-) -> Result<(), AllocError>
-    requires day { sheet.now.day ≡ (R.day records.now).airport.day }
-    requires own { IfSome own (λ own. IsOwnRow sheet.now.day own.now) }
-    ensures { OnOk result (text.new.items ≡ text.old.items
-        ++ flat_map (row_text default_writer) (cons_option (standing_row (R.day records.now) sheet.now.scenario.now standing.now) [])) }
-{
-    match records.flight(standing.flight()) {
-        Some(flight) => {
-            let facts = facts_of(records, flight, standing);
-            push_flight(text, writer, sheet, &facts, own)
-        }
-        None => Ok(()),
-    }
-}
-
-// The rows of a day's flights under a scenario's name, of which the day without it has these. Both are by name, so each
-// is gone through once.
-fn flight_rows<R: Records>(
+// Rows of flights under a scenario's name, of which the day without it has these. Both are by name, so each is gone
+// through once.
+fn flight_rows(
     alloc: Global,
     sheet: &Sheet<'_>,
-    records: &R,
-    plan: &Plan,
+    rows: &Rows,
     own: &[OwnRow],
 ) -> Result<Vec<u8>, AllocError>
-    requires day { sheet.now.day ≡ (R.day records.now).airport.day }
-    requires of_day { IsDayPlan (R.day records.now) plan.now }
-    requires own { All (IsOwnRow sheet.now.day) own.now }
-    ensures { IfOk result (λ text. AreFlightRows (R.day records.now) plan.entry.now sheet.now.scenario.now text.items) }
+    requires { All (IsOwnRow sheet.now.day) own.now }
+    ensures { IfOk result (λ text. text.items ≡ flights_text sheet.now.day sheet.now.scenario.now rows.now) }
 {
-    let standings = Standings::of(alloc, records, plan)?;
     let mut writer = FlightWriter::new(alloc)?;
     let mut text = Vec::with_capacity(alloc, own.len().saturating_mul(ROOM))?;
     let mut left = own;
-    for standing in standings.as_slice() {
-        left = from_flight(left, standing.flight());
-        push_standing(
-            &mut text,
-            &mut writer,
-            sheet,
-            records,
-            standing,
-            first_of(left),
-        )?;
+    for row in rows.as_slice() {
+        left = from_flight(left, row.flight);
+        push_flight(&mut text, &mut writer, sheet, row, first_of(left))?;
     }
     Ok(text)
 }
 
 // The text of one row.
-fn text_of(alloc: Global, row: &Row) -> Result<Vec<u8>, AllocError>
-    ensures { IfOk result (λ text. text.items ≡ row_text default_writer row.now) }
+fn text_of(alloc: Global, fields: &Fields) -> Result<Vec<u8>, AllocError>
+    ensures { IfOk result (λ text. text.items ≡ row_text default_writer fields.now) }
 {
     let mut text = Vec::new(alloc);
-    RowWriter::new(alloc).push_row(alloc, &mut text, row)?;
+    RowWriter::new(alloc).push_row(alloc, &mut text, fields)?;
     Ok(text)
 }
 
@@ -149,7 +113,8 @@ fn scenario_rows(
                 day: *base.day(),
                 scenario: name,
             };
-            let text = flight_rows(alloc, &sheet, &day, &plan, own)?;
+            let rows = Rows::of(alloc, &day, &plan)?;
+            let text = flight_rows(alloc, &sheet, &rows, own)?;
             Ok(text)
         }
         Err((_, word)) => {
@@ -238,7 +203,8 @@ pub(crate) fn csv<R: Threads + Sync, G: Gate>(
     // What the base's records tell is sound, which makes each answer the only one.
     let _values = base.values();
     let mut text = column_text(alloc)?;
-    let own = own_rows(alloc, *base.day(), base, base.plan())?;
+    let rows = Rows::of(alloc, base, base.plan())?;
+    let own = own_rows(alloc, *base.day(), &rows)?;
     push_own(&mut text, &own)?;
     let job = RowsJob { base, own: &own };
     let (rt, workers, gate) = (runner.rt, runner.workers, runner.gate);

@@ -6,13 +6,14 @@ mod changing;
 mod comparing;
 mod comparison;
 mod csv_rows;
-mod laws;
 mod line;
+mod line_rows;
 mod own_row;
+mod ranking;
 mod row;
 mod row_text;
 mod table;
 
-pub use laws::each_flight_has_one_row;
 pub use line::{Line, Summary};
+pub use ranking::{Ranking, ranked_lines};
 pub use table::{Table, TableFault, tabulate};

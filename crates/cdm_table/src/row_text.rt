@@ -1,10 +1,12 @@
-//! Rows, and their text. Only this module writes by `csv`.
-ghost use Rattle.std.specs.Prelude.{◌≡◌, ◌++◌, ◌∷◌, [], map, IfOk, OnOk};
+//! Fields, and the text of rows of them. Only this module writes by `csv`.
+ghost use Rattle.std.specs.Prelude.{◌≡◌, ◌++◌, ◌∷◌, [], decimal, IfOk, OnOk};
 ghost use Rattle.csv.specs.Records.{fields_of};
 ghost use Rattle.csv.specs.Writing.{default_writer, row_text};
-ghost use Rattle.cdm_table.specs.Rows.{number_field};
+ghost use Rattle.cdm_row.specs.Columns.{field, value_of};
 ghost use Rattle.cdm_table.specs.inner.Writers.{IsBetweenRows, written};
 
+use cdm_row::Value;
+use cdm_time::Day;
 use csv::{ByteRecord, Writer, WriterBuilder};
 use std::alloc::{AllocError, Global};
 use std::fmt::Write;
@@ -13,43 +15,33 @@ use std::marker::Model;
 /// For how many bytes and fields a row has room at first.
 const ROOM: (usize, usize) = (160, 14);
 
-/// A row. A contract sees the list of its fields.
+/// The fields of a row. A contract sees the list of them.
 #[derive(Drop)]
-pub(crate) struct Row {
+pub(crate) struct Fields {
     record: ByteRecord,
     // The digits of a number, while they become a field.
     digits: String,
 }
 
-impl Model for Row {
+impl Model for Fields {
     ghost use Rattle.std.specs.Prelude.{◌≡◌, List, ℕ, []};
     ghost use Rattle.csv.specs.Records.{fields_of, partial_of};
 
     ghost Value = { List (List ℕ) };
 
-    ghost view = { λ row. fields_of row.record };
+    ghost view = { λ fields. fields_of fields.record };
 
-    ghost invariant = { λ row. partial_of row.record ≡ [] };
+    ghost invariant = { λ fields. partial_of fields.record ≡ [] };
 }
 
-impl Row {
-    /// A row without fields.
-    pub(crate) fn new(alloc: Global) -> Result<Row, AllocError>
-        ensures { IfOk result (λ row. row ≡ []) }
+impl Fields {
+    /// No fields.
+    pub(crate) fn new(alloc: Global) -> Result<Fields, AllocError>
+        ensures { IfOk result (λ fields. fields ≡ []) }
     {
         let (bytes, fields) = ROOM;
-        Ok(Row {
+        Ok(Fields {
             record: ByteRecord::with_capacity(alloc, bytes, fields)?,
-            digits: String::new(alloc),
-        })
-    }
-
-    /// The row of these fields.
-    pub(crate) fn of(alloc: Global, fields: &[&[u8]]) -> Result<Row, AllocError>
-        ensures { IfOk result (λ row. row ≡ map (λ f. f.now) fields.now) }
-    {
-        Ok(Row {
-            record: ByteRecord::from_fields(alloc, fields)?,
             digits: String::new(alloc),
         })
     }
@@ -73,19 +65,29 @@ impl Row {
         Ok(())
     }
 
-    /// One more field with the digits of a number, or an empty one.
-    pub(crate) fn push_number(&mut self, number: Option<u16>) -> Result<(), AllocError>
-        ensures { OnOk result (self.new ≡ self.old ++ number_field number ∷ []) }
+    /// One more field with the digits of a number.
+    pub(crate) fn push_number(&mut self, number: u64) -> Result<(), AllocError>
+        ensures { OnOk result (self.new ≡ self.old ++ decimal number ∷ []) }
     {
         self.digits.clear();
-        if let Some(number) = number {
-            write!(self.digits, "{number}")?;
-        }
+        write!(self.digits, "{number}")?;
         if self.record.push_field(self.digits.as_bytes()).is_err() {
             self.record.clear();
             return Err(AllocError);
         }
         Ok(())
+    }
+
+    /// One more field with a value, empty where there is nothing.
+    pub(crate) fn push_value(&mut self, day: Day, value: &Value<'_>) -> Result<(), AllocError>
+        ensures { OnOk result (self.new ≡ self.old ++ field day (value_of value.now) ∷ []) }
+    {
+        match value {
+            Value::Nothing => self.push(b""),
+            Value::Text(text) => self.push(text.as_bytes()),
+            Value::Number(number) => self.push_number(u64::from(*number)),
+            Value::Minute(minute) => self.push(&day.time_text(*minute)),
+        }
     }
 }
 
@@ -132,12 +134,12 @@ impl RowWriter {
         &mut self,
         alloc: Global,
         text: &mut Vec<u8>,
-        row: &Row,
+        fields: &Fields,
     ) -> Result<(), AllocError>
-        ensures { OnOk result (text.new.items ≡ text.old.items ++ row_text default_writer row.now) }
+        ensures { OnOk result (text.new.items ≡ text.old.items ++ row_text default_writer fields.now) }
     {
         let begin = self.writer.get_ref().len();
-        if write_row(&mut self.writer, &row.record).is_err() {
+        if write_row(&mut self.writer, &fields.record).is_err() {
             *self = RowWriter::new(alloc);
             return Err(AllocError);
         }

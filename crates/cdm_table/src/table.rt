@@ -3,12 +3,13 @@ ghost use Rattle.std.specs.Prelude.{◌≡◌, ℕ, List, IfErr, IfOk};
 ghost use Rattle.cdm_table.specs.Tables.{IsTable, IsTableFault};
 ghost use Rattle.cdm_table.specs.declared.table.TableFault.TheVariants as fault;
 
-use crate::comparison::{comparison, scenario_named};
+use crate::comparison::comparison;
 use crate::csv_rows::csv;
+use crate::line_rows::comparison_csv;
 use cdm_day::{DayState, Records};
 use cdm_phase::Gate;
 use cdm_plan::Runner;
-use cdm_scenario::{Scenario, ScenarioName};
+use cdm_scenario::{Scenario, ScenarioName, scenario_named};
 use std::alloc::{AllocError, Global};
 use std::thread::Threads;
 
@@ -20,6 +21,8 @@ pub enum Table {
     /// A line for the day and for each scenario, the best first, and then what changes by the scenario of
     /// this name, if one is asked for.
     Comparison(Option<ScenarioName>),
+    /// A row for the day and for each scenario, the best first, as CSV. A scenario that is refused has no numbers.
+    ComparisonCsv,
 }
 
 /// Why there is no table.
@@ -40,9 +43,9 @@ impl From<AllocError> for TableFault {
 }
 
 /// The table of a day and scenarios over it: as CSV each known flight's row by name, of the day and then of
-/// each scenario (`each_flight_has_one_row`), or the scenarios side by side, the best first: fewer blocked
+/// each scenario (`each_flight_has_one_row` of `cdm_row`), or the scenarios side by side, the best first: fewer blocked
 /// flights, then less delay, then the order of the file, in which the day itself is first; and behind them
-/// those that are refused (local profile). Each scenario is answered over the base, by one of the workers
+/// those that are refused (local profile), as text or as CSV. Each scenario is answered over the base, by one of the workers
 /// in phase `Scenarios`, and every scenario is one piece.
 ///
 /// `NoScenario` where none of them has the name that is asked for, and else only `Memory`.
@@ -61,6 +64,7 @@ pub fn tabulate<R: Threads + Sync, G: Gate>(
     let _values = base.values();
     let asked = match table {
         Table::Csv => return Ok(csv(alloc, base, scenarios, runner)?),
+        Table::ComparisonCsv => return Ok(comparison_csv(alloc, base, scenarios, runner)?),
         Table::Comparison(asked) => asked,
     };
     let scenario = match asked {

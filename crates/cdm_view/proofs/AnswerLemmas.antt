@@ -1,7 +1,6 @@
 -- A question has one answer.
 use Rattle.std.proofs.Common.{◌≡◌, ◌∙◌, ℕ, ◌+◌, List, [], MatchOption, Option, None, Some, ap, sym}
 use Rattle.std.specs.Option.{IsSomeAnd, option_map_or}
-use Rattle.cdm_time.specs.declared.bound.TheConstants.{HORIZON_MINUTES}
 use Rattle.cdm_flight.specs.Journal.{flight_of}
 use Rattle.cdm_flight.specs.declared.flight.Flight.{Flight}
 use Rattle.cdm_sequence.specs.declared.plan.Plan.{Plan}
@@ -33,7 +32,7 @@ why_same : (known : Option Flight) (d : DayRecord) (plan : Plan) (x y : List ℕ
     → IsSomeAnd known (λ f. IsWhy d plan f x) → IsSomeAnd known (λ f. IsWhy d plan f y) → x ≡ y
 why_same None d plan x y a b = absurd a
 why_same (Some f) d plan x y a b =
-    let to = option_map_or (λ s. s.ttot) (own_slot plan f) HORIZON_MINUTES in
+    let to = option_map_or (λ s. s.ttot) (own_slot plan f) 2880 in
     let runs : a.runs ≡ b.runs = waits_one (waits_for d plan f) to a.runs b.runs a.waits b.waits in
     a.bytes ∙ ap (why_bytes d plan f) runs ∙ sym b.bytes
 

@@ -4,7 +4,6 @@ use Rattle.std.specs.Fmt.{decimal}
 use Rattle.std.specs.List.{concat, find}
 use Rattle.std.specs.Option.{option_and_then, option_map_or}
 use Rattle.cdm_time.specs.declared.calendar.CalendarDate.{CalendarDate}
-use Rattle.cdm_time.specs.declared.bound.TheConstants.{HORIZON_MINUTES}
 use Rattle.cdm_flight.specs.declared.flight.Status.{Status}
 use Rattle.cdm_flight.specs.declared.flight.Status.TheVariants.{Planned, OffBlock, Airborne, Cancelled}
 use Rattle.cdm_flight.specs.declared.group.Group.{Group}
@@ -104,7 +103,7 @@ waits_for d plan f = if is_planned f.status then waiting_of d plan f else None
 -- waits for nothing
 abbrev pub AreWaits : DayRecord → Plan → Flight → List Run → Type 0
 AreWaits d plan f runs =
-    MatchOption (waits_for d plan f) (runs ≡ []) (λ w. AreRuns (reason_at w) (w.tobt + w.exot) (option_map_or (λ s. s.ttot) (own_slot plan f) HORIZON_MINUTES) runs)
+    MatchOption (waits_for d plan f) (runs ≡ []) (λ w. AreRuns (reason_at w) (w.tobt + w.exot) (option_map_or (λ s. s.ttot) (own_slot plan f) 2880) runs)
 
 -- What comes of it.
 

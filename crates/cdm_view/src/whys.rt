@@ -3,7 +3,6 @@ ghost use Rattle.std.specs.Prelude.{◌≡◌, ◌++◌, IfErr, IfOk, OnOk};
 ghost use Rattle.std.specs.List.{find};
 ghost use Rattle.std.specs.Option.{IsSomeAnd, option_copied, option_map_or};
 ghost use Rattle.std.specs.String.{string_bytes};
-ghost use Rattle.cdm_time.specs.declared.bound.TheConstants.{HORIZON_MINUTES};
 ghost use Rattle.cdm_flight.specs.Journal.{flight_of};
 ghost use Rattle.cdm_flight.specs.Names.{same_name};
 ghost use Rattle.cdm_view.specs.Why.{AreWaits, IsWhy, IsWhyFault, exot_known, outcome_line, own_slot};
@@ -56,7 +55,7 @@ fn exot_known<R: Records>(records: &R, flight: &Flight) -> Option<u16>
 
 // Where the waiting of a flight with this slot ends.
 fn end_of_wait(slot: Option<&Slot>) -> Bound
-    ensures { result ≡ option_map_or (λ s. s.ttot) (option_copied slot.entry) HORIZON_MINUTES }
+    ensures { result ≡ option_map_or (λ s. s.ttot) (option_copied slot.entry) 2880 }
 {
     match slot {
         Some(slot) => slot.ttot.into(),

@@ -19,7 +19,7 @@ only_blocked blocked = record {
   greatest = 0;
   late = 0;
   blocked = length blocked;
-  by_rule = map (λ rule. (rule, blocked_by rule blocked)) all_rules;
+  by_rule = map (λ rule. blocked_by rule blocked) all_rules;
 }
 
 -- a delay counted in

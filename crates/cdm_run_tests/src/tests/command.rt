@@ -4,7 +4,7 @@ mod faults;
 mod help;
 mod memory;
 
-use cdm_command::{Command, CommandFault, command_of};
+use cdm_command::{Command, CommandFault, WhatIf, command_of};
 use cdm_flight::{FlightName, RunwayName};
 use cdm_phase::Workers;
 use cdm_scenario::ScenarioName;
@@ -73,10 +73,23 @@ fn plans_with_one_worker_or_as_many_as_asked_for(rt: HostRuntime) {
 }
 
 // Whether the words ask this of the day of the files a.csv and f.csv.
-fn is_asked(alloc: Global, words: &[&str], question: Question) -> bool {
+fn is_asked(
+    alloc: Global,
+    words: &[&str],
+    question: Question,
+    scenario: Option<ScenarioName>,
+) -> bool {
+    let what_if = match scenario {
+        Some(name) => Some(WhatIf {
+            scenarios: "s.csv",
+            name,
+        }),
+        None => None,
+    };
     let wanted = Command::Ask {
         airport: "a.csv",
         feed: "f.csv",
+        what_if,
         question,
     };
     match command_of(alloc, words) {
@@ -98,7 +111,31 @@ fn questions_name_a_flight_or_a_runway(rt: HostRuntime) {
         ),
     ];
     for (words, question) in table {
-        assert!(rt; is_asked(rt.alloc(), words, question), "{words:?}");
+        assert!(rt; is_asked(rt.alloc(), words, question, None), "{words:?}");
+    }
+}
+
+#[test]
+fn questions_are_asked_of_a_scenario(rt: HostRuntime) {
+    let flight = FlightName::new(b"AB1").expect(&rt, "flight");
+    let name = ScenarioName::new(b"SHUT-2").expect(&rt, "scenario");
+    let table = [
+        (
+            "why a.csv f.csv AB1 --scenarios s.csv --scenario SHUT-2",
+            Question::Why(flight),
+        ),
+        (
+            "load a.csv --scenario SHUT-2 f.csv --scenarios s.csv",
+            Question::Load(None),
+        ),
+    ];
+    for (line, question) in table {
+        let words = line.split(' ').collect::<Vec<&str>>(rt.alloc());
+        let words = words.expect(&rt, "words");
+        assert!(rt;
+            is_asked(rt.alloc(), words.as_slice(), question, Some(name)),
+            "{line}"
+        );
     }
 }
 
@@ -222,6 +259,14 @@ fn other_wrong_words_are_told(rt: HostRuntime) {
     let table = [
         ("fly", "unrecognized subcommand 'fly'"),
         ("Plan a f", "unrecognized subcommand 'Plan'"),
+        ("why a f AB1 --scenarios s", "--scenario <NAME>"),
+        ("why a f AB1 --scenario SHUT", "--scenarios <FILE>"),
+        ("load a f --scenarios s", "--scenario <NAME>"),
+        ("load a f 27L --scenario SHUT", "--scenarios <FILE>"),
+        (
+            "load a f --scenarios s --scenario shut",
+            "value 'shut' for '--scenario <NAME>'",
+        ),
         ("live", "<AIRPORT>"),
         ("live a", "<FEED1>"),
         ("live a f", "<FEED2>"),

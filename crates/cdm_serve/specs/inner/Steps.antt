@@ -1,19 +1,18 @@
 -- What the steps of a served day leave.
-use Rattle.std.specs.Prelude.{◌≡◌, ◌⊎◌, ◌+◌, ◌≤◌, ◌^◌, ⊤, ℕ, count_by, List, [], ◌∷◌, ◌++◌, length, Option, None, Some}
+use Rattle.std.specs.Prelude.{◌≡◌, ◌⊎◌, ◌+◌, ◌≤◌, ◌^◌, ⊤, ℕ, Bool, count_by, List, [], ◌∷◌, ◌++◌, Option, None, Some}
 use Rattle.cdm_files.specs.declared.common_fault.CommonFault.TheVariants as common
 use Rattle.cdm_files.specs.declared.file_fault.FileFault.{FileFault}
 use Rattle.cdm_files.specs.declared.file_fault.FileFault.TheVariants as file
 use Rattle.cdm_files.specs.FeedDay.{refusals_in}
 use Rattle.cdm_flight.specs.Journal.{AirportRows}
 use Rattle.cdm_flight.specs.declared.word.RefusalWord.{RefusalWord}
-use Rattle.cdm_journal.specs.Journal.{whole_lines}
 use Rattle.cdm_journal.specs.Lines.{LineRecord, read_as}
 use Rattle.cdm_journal.specs.declared.lines.LineRead.{LineRead}
 use Rattle.cdm_port.specs.Event.{Event}
-use Rattle.cdm_port.specs.Event.Event.{Appended, End, Flushed, Read, Replied, Synced}
+use Rattle.cdm_port.specs.Event.Event.{Appended, End, Flushed, Replied, Synced}
 use Rattle.cdm_port.specs.Stop.{Stops}
-use Rattle.cdm_serve.specs.Faults.{is_line}
-use Rattle.cdm_serve.specs.Served.{AreReplies, Exchange, IsHeard, day_of, said, served, started}
+use Rattle.cdm_serve.specs.Faults.{IsFaultOf, is_line}
+use Rattle.cdm_serve.specs.Served.{AreReplies, Exchange, IsHeard, day_of, reading, said, served, start_text, started}
 use Rattle.cdm_serve.specs.Taken.{record_heard}
 use Rattle.cdm_plan.specs.Day.{DayRecord}
 use Rattle.cdm_serve.specs.declared.answering.Answer.{Answer}
@@ -40,7 +39,7 @@ events_of (answer.Record line text) = Appended line.items ∷ Synced ∷ Replied
 
 -- a line was heard
 abbrev pub HearsLine : List Event → List Event → LineRecord → Type 0
-HearsLine old new line = (heard : Option (List ℕ)) × (line ≡ record_heard heard) × (new ≡ old ++ said heard ∷ [])
+HearsLine old new line = (heard : Option (List ℕ)) × IsHeard (said heard) × (line ≡ record_heard heard) × (new ≡ old ++ said heard ∷ [])
 
 -- a line was heard, or the end
 abbrev pub Hears : List Event → List Event → Option LineRead → Type 0
@@ -53,22 +52,19 @@ HearsInVain old new = (new ≡ old) ⊎ ((line : LineRecord) × HearsLine old ne
 
 -- a fault of the port, or want of memory
 abbrev pub IsPortFault : ServeError → Type 0
-IsPortFault (error.Common common.Memory) = ⊤
-IsPortFault (error.Port fault) = ⊤
-IsPortFault other = ⊥
+IsPortFault = IsFaultOf ⊤ (λ number word. ⊥) ⊥
 
 -- why a line has no answer, where so many records and questions were numbered before
 abbrev pub IsAnswerFault : ℕ → ServeError → Type 0
-IsAnswerFault number (error.Common common.Memory) = ⊤
-IsAnswerFault number error.TooMany = number + 1 ≡ 2 ^ 32
-IsAnswerFault number other = ⊥
+IsAnswerFault number = IsFaultOf ⊥ (λ place word. ⊥) (number + 1 ≡ 2 ^ 32)
 
--- why the lines aren't served to the end, where so many records and questions were numbered before
+-- lines enough were heard that their numbers were at an end, where so many records and questions were numbered before
+abbrev pub AreTooMany : ℕ → List Event → List Event → Type 0
+AreTooMany number old new = (done : List Event) × (new ≡ old ++ done) × (2 ^ 32 ≤ number + count_by is_line done)
+
+-- why the lines aren't served to the end
 abbrev pub IsLinesFault : ℕ → List Event → List Event → ServeError → Type 0
-IsLinesFault number old new (error.Common common.Memory) = ⊤
-IsLinesFault number old new (error.Port fault) = ⊤
-IsLinesFault number old new error.TooMany = (done : List Event) × (new ≡ old ++ done) × (2 ^ 32 ≤ number + count_by is_line done)
-IsLinesFault number old new other = ⊥
+IsLinesFault number old new = IsFaultOf ⊤ (λ place word. ⊥) (AreTooMany number old new)
 
 -- all lines were served to the end
 abbrev pub Serves : DayRecord → ℕ → List Event → List Event → Type 0
@@ -79,21 +75,18 @@ abbrev pub ServeStops : DayRecord → ℕ → List Event → List Event → Type
 ServeStops d number old new = (xs : List Exchange) × (next : Event) × AreReplies d number xs × IsHeard next × Stops old (served d xs ++ next ∷ []) new
 
 -- a day was started
-pub record Starts (g : AirportRows) (old new : List Event) (d : DayRecord) : Type 0 where
+pub record Starts (g : AirportRows) (marked : Bool) (old new : List Event) (d : DayRecord) : Type 0 where
   pub bytes : List ℕ
-  pub accepted : refusals_in g (whole_lines bytes) ≡ []
-  pub day : d ≡ day_of g bytes
-  pub events : new ≡ old ++ started bytes (length (day_of g bytes).journal)
+  pub accepted : refusals_in g (start_text marked bytes) ≡ []
+  pub day : d ≡ day_of g marked bytes
+  pub events : new ≡ old ++ started g marked bytes
 
 -- a day was being started
-abbrev pub StartStops : AirportRows → List Event → List Event → Type 0
-StartStops g old new = (bytes : List ℕ) × (Stops old (Read bytes ∷ []) new
-    ⊎ ((refusals_in g (whole_lines bytes) ≡ []) × Stops old (started bytes (length (day_of g bytes).journal)) new))
+abbrev pub StartStops : AirportRows → Bool → List Event → List Event → Type 0
+StartStops g marked old new = (bytes : List ℕ) × (Stops old (reading marked bytes) new
+    ⊎ ((refusals_in g (start_text marked bytes) ≡ []) × Stops old (started g marked bytes) new))
 
 -- why a day isn't started
-abbrev pub IsStartFault : AirportRows → List Event → List Event → ServeError → Type 0
-IsStartFault g old new (error.Common common.Memory) = ⊤
-IsStartFault g old new (error.Journal number word) = (bytes : List ℕ) × (others : List (ℕ × RefusalWord))
-    × (new ≡ old ++ Read bytes ∷ []) × (refusals_in g (whole_lines bytes) ≡ (number, word) ∷ others)
-IsStartFault g old new (error.Port fault) = ⊤
-IsStartFault g old new other = ⊥
+abbrev pub IsStartFault : AirportRows → Bool → List Event → List Event → ServeError → Type 0
+IsStartFault g marked old new = IsFaultOf ⊤ (λ number word. (bytes : List ℕ) × (others : List (ℕ × RefusalWord))
+    × (new ≡ old ++ reading marked bytes) × (refusals_in g (start_text marked bytes) ≡ (number, word) ∷ others)) ⊥

@@ -11,6 +11,7 @@ use Rattle.cdm_plan.specs.DayPlan.{IsDayPlan}
 use Rattle.cdm_view.specs.Standings.{AreStandings, changes}
 use Rattle.cdm_view.specs.declared.standing.Standing.{Standing}
 use Rattle.cdm_view.proofs.StandingLemmas.{one_standings}
+use Rattle.cdm_row.proofs.RowLemmas.{one_rows}
 use Rattle.cdm_scenario.specs.Outcome.{IsOutcome}
 use Rattle.cdm_scenario.specs.Overlay.{with_updates}
 use Rattle.cdm_scenario.specs.Scenarios.{ScenarioRecord}
@@ -18,24 +19,24 @@ use Rattle.cdm_scenario.specs.declared.outcome.Outcome.{Outcome}
 use Rattle.cdm_scenario.specs.declared.outcome.Outcome.TheVariants.{Planned, Refused}
 use Rattle.cdm_scenario.specs.inner.OneOutcome.{names_with_all, one_outcome}
 use Rattle.cdm_table.specs.Comparison.{AreTold, IsChanged, IsSummary, summary_of, told_of}
-use Rattle.cdm_table.specs.Rows.{AreFlightRows, AreRows, AreScenarioRows, csv_text, rows_of}
+use Rattle.cdm_table.specs.Rows.{AreFlightRows, AreRowsBy, AreScenarioRows, flights_text}
 use Rattle.cdm_table.specs.declared.line.Summary.{Summary}
 
 -- the rows of a day's flights
 pub one_flight_rows : (d : DayRecord) (plan : Plan) → IsDistinct same_name (runway_names d.airport) → IsDistinct same_name (flights_in d.journal)
     → IsDayPlan d plan → (scenario x y : List ℕ) → AreFlightRows d plan scenario x → AreFlightRows d plan scenario y → x ≡ y
 one_flight_rows d plan runways flights is scenario x y a b =
-    let same : a.0 ≡ b.0 = one_standings d plan runways flights is a.0 b.0 a.1 b.1 in
-    a.2 ∙ (ap (λ l. csv_text (rows_of d scenario l)) same ∙ sym b.2)
+    let same : a.0 ≡ b.0 = one_rows d plan runways flights is a.0 b.0 a.1 b.1 in
+    a.2 ∙ (ap (flights_text d.airport.day scenario) same ∙ sym b.2)
 
 module _ (d : DayRecord) (runways : IsDistinct same_name (runway_names d.airport)) (flights : IsDistinct same_name (flights_in d.journal)) where
   -- the rows of a scenario
   pub one_scenario_rows : (s : ScenarioRecord) (x y : List ℕ) → AreScenarioRows d s x → AreScenarioRows d s y → x ≡ y
   one_scenario_rows s x y a b =
       let same : a.0 ≡ b.0 = one_outcome d s.updates runways flights a.0 b.0 a.1 b.1 in
-      by a.0 a.1 a.2 (subst (λ (o : Outcome). AreRows d s o y) (sym same) b.2)
+      by a.0 a.1 a.2 (subst (λ (o : Outcome). AreRowsBy d s o y) (sym same) b.2)
     where
-      by : (o : Outcome) → IsOutcome d s.updates o → AreRows d s o x → AreRows d s o y → x ≡ y
+      by : (o : Outcome) → IsOutcome d s.updates o → AreRowsBy d s o x → AreRowsBy d s o y → x ≡ y
       by (Planned plan counts) is p q =
           one_flight_rows (with_updates d s.updates) plan runways (names_with_all d s.updates flights is.0) is.1 s.name x y p q
       by (Refused number word) is p q = p ∙ sym q

@@ -4,7 +4,7 @@ use Rattle.cdm_plan.specs.Day.{DayRecord}
 use Rattle.cdm_scenario.specs.Scenarios.{ScenarioRecord}
 use Rattle.cdm_files.specs.FeedDay.{refusals_in}
 use Rattle.cdm_picture.specs.Pictures.{IsPicture}
-use Rattle.cdm_feed.specs.Made.{IsTextOf, IsView}
+use Rattle.cdm_feed.specs.Made.{IsAskedOf, IsTextOf, IsView}
 use Rattle.cdm_feed.specs.Output.{IsReport}
 use Rattle.cdm_feed.specs.declared.asked.DayText.{DayText}
 use Rattle.cdm_feed.proofs.making.text_of_day.Goals as goal
@@ -28,6 +28,7 @@ returns-in_ok-picture-in-Picture-clause-made g c =
 pub returns-in-Answer-clause-made : goal.returns-in-Answer-clause-made
 returns-in-Answer-clause-made g c =
     let day = c.args.day.now in
-    let made = subst (λ (d : DayRecord). IfOk c.answer_of.result (λ text. IsView c.in-Answer.question d text.items)) c.requires.state c.answer_of.ensures.made in
+    let made = subst (λ (d : DayRecord). IfOk c.answer_of.result (λ text. IsView c.in-Answer.question (IsAskedOf c.in-Answer.scenario d day.scenarios.items) text.items))
+    c.requires.state c.answer_of.ensures.made in
     subst (λ (asked : DayText). IfOk c.answer_of.result (λ text. IsTextOf asked day.state.airport c.args.feed.now day.scenarios.items text.items))
     (sym c.in-Answer.is) made

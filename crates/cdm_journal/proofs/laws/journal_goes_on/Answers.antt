@@ -1,5 +1,8 @@
-use Rattle.cdm_journal.proofs.RecoveryLemmas.{journal-goes-on}
+use Rattle.cdm_journal.proofs.ReadLemmas.{adds-line, adds-update}
 use Rattle.cdm_journal.proofs.laws.journal_goes_on.Goals as goal
 
-pub returns : goal.returns
-returns c = journal-goes-on
+pub returns-clause-line : goal.returns-clause-line
+returns-clause-line c = adds-line
+
+pub returns-clause-update : goal.returns-clause-update
+returns-clause-update c = adds-update

@@ -1,29 +1,24 @@
-use Rattle.std.proofs.Common.{◌≡◌, ℕ, ◌+◌, ◌<◌, ◌≤◌, List, [], ◌∷◌, ◌++◌, length, get_or, take, sym, ap, ◌∙◌, arith}
+use Rattle.std.proofs.Common.{rules, ◌≡◌, ℕ, ◌++◌, get_or, length, take, ap, sym, ◌∙◌, arith}
 use Rattle.std.specs.Prelude.{flat_map, zip}
 use Rattle.std.specs.String.{string_bytes}
-use Rattle.std.proofs.lemmas.List.{flat_map_more, take_all, take_more}
 use Rattle.std.proofs.lemmas.Slice.Zip.{get_or-zip, length-zip}
+use Rattle.cdm_sequence.specs.Words.{all_rules}
 use Rattle.cdm_sequence.specs.declared.rule.Rule.TheVariants.{Tobt}
 use Rattle.cdm_report.specs.Delta.{rule_change}
+use Rattle.cdm_report.proofs.Pairs.{one_more_pair}
 use Rattle.cdm_report.proofs.delta.push_rule_changes.Goals as goal
-
--- the text of one more pair
-more : {A : Type 0} (f : A × A → List ℕ) (text : List ℕ) (xs ys : List A) (i : ℕ) (d : A) → length ys ≡ length xs → i < length xs
-    → (text ++ flat_map f (take i (zip xs ys))) ++ f (get_or xs i d, get_or ys i d) ≡ text ++ flat_map f (take (i + 1) (zip xs ys))
-more f text xs ys i d same below =
-    let pairs = zip xs ys in
-    let here : i < length pairs = omega (arith, length-zip xs ys) in
-    let next = take_more pairs i (d, d) here ∙ ap (λ p. take i pairs ++ p ∷ []) (get_or-zip xs ys i (d, d) below (omega arith)) in
-    flat_map_more f text (take i pairs) (get_or xs i d, get_or ys i d) ∙ ap (λ l. text ++ flat_map f l) (sym next)
 
 pub loop-place-preserved : goal.loop-place-preserved
 loop-place-preserved c =
-    let here = rule_change (get_or c.args.base.now c.loop-place.place (Tobt, 0), get_or c.args.scenario.now c.loop-place.place (Tobt, 0)) in
-    c.in_ok-push_rule_change.ensures ∙ ap (λ text. text ++ here) c.loop-place.invariant
-    ∙ more rule_change (string_bytes c.args.text.now) c.args.base.now c.args.scenario.now c.loop-place.place (Tobt, 0) c.requires c.loop-place-test.true
-
-pub returns : goal.returns
-returns c =
-    let pairs = zip c.args.base.now c.args.scenario.now in
-    let end : length pairs ≤ c.loop-place.place = omega (arith, length-zip c.args.base.now c.args.scenario.now, c.loop-place-test.false) in
-    c.loop-place.invariant ∙ ap (λ l. string_bytes c.args.text.now ++ flat_map rule_change l) (take_all c.loop-place.place pairs end)
+    let i = c.loop-place.place in
+    let base = c.args.base.now in
+    let scenario = c.args.scenario.now in
+    let eight : length base ≡ 8 = search rules in
+    let also : length scenario ≡ 8 = search rules in
+    let pairs : length (zip base scenario) ≡ length all_rules = omega (arith, length-zip base scenario) in
+    let both : ℕ × ℕ = (get_or base i 0, get_or scenario i 0) in
+    c.in_ok-push_rule_change.ensures
+    ∙ ap (λ rs. string_bytes c.loop-place.text ++ rule_change (get_or rs i Tobt, both)) c.all-rules.ensures
+    ∙ ap (λ text. text ++ rule_change (get_or all_rules i Tobt, both)) c.loop-place.invariant
+    ∙ ap (λ pair. (string_bytes c.args.text.now ++ flat_map rule_change (take i (zip all_rules (zip base scenario)))) ++ rule_change (get_or all_rules i Tobt, pair)) (sym (get_or-zip base scenario i (0, 0) (search rules) (search rules)))
+    ∙ one_more_pair rule_change (string_bytes c.args.text.now) all_rules (zip base scenario) i Tobt (0, 0) pairs (search rules)

@@ -1,8 +1,9 @@
 use Rattle.std.proofs.Common.{◌≡◌, ◌++◌, take}
 use Rattle.std.specs.Prelude.{flat_map, zip}
 use Rattle.std.specs.String.{string_bytes}
+use Rattle.cdm_sequence.specs.Words.{all_rules}
 use Rattle.cdm_report.specs.Delta.{rule_change}
 use Rattle.cdm_report.proofs.delta.push_rule_changes.Given as goal
 
 abbrev pub invariant-loop-place : goal.invariant-loop-place
-invariant-loop-place l = string_bytes l.text ≡ string_bytes l.initial.text ++ flat_map rule_change (take l.place (zip l.base l.scenario))
+invariant-loop-place l = string_bytes l.text ≡ string_bytes l.initial.text ++ flat_map rule_change (take l.place (zip all_rules (zip l.base l.scenario)))

@@ -1,8 +1,9 @@
 use Rattle.std.proofs.Common.{◌≡◌, ◌++◌, take}
-use Rattle.std.specs.Prelude.{flat_map}
+use Rattle.std.specs.Prelude.{flat_map, zip}
 use Rattle.std.specs.String.{string_bytes}
+use Rattle.cdm_sequence.specs.Words.{all_rules}
 use Rattle.cdm_report.specs.Report.{rule_count}
 use Rattle.cdm_report.proofs.text.push_rule_counts.Given as goal
 
-abbrev pub invariant-loop-counted : goal.invariant-loop-counted
-invariant-loop-counted l = string_bytes l.text ≡ string_bytes l.initial.text ++ flat_map rule_count (take l.counted-index l.by_rule)
+abbrev pub invariant-loop-place : goal.invariant-loop-place
+invariant-loop-place l = string_bytes l.text ≡ string_bytes l.initial.text ++ flat_map rule_count (take l.place (zip all_rules l.by_rule))

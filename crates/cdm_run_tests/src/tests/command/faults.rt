@@ -5,6 +5,7 @@ use cdm_feed::{CommonFault, Device, RunError};
 use cdm_flight::RefusalWord;
 use cdm_live::LiveError;
 use cdm_port::{PortFault, Reason};
+use cdm_scenario::ScenarioName;
 use cdm_serve::ServeError;
 use std::io::ErrorKind;
 use std::process::Abort;
@@ -45,15 +46,23 @@ fn faults_have_lines(rt: HostRuntime) {
         check_line(&rt, Live(LiveError::Common(fault)), line);
     }
     let disordered = RunError::Scenario(1, RefusalWord::Order);
+    let night = ScenarioName::new(b"NIGHT").expect(&rt, "scenario");
+    let update = RunError::Update(night, 2, RefusalWord::Unknown);
     let cases = [
         (NoMemory, "out of memory"),
         (Run(disordered), "SCENARIOS record 1: ORDER"),
+        (Run(RunError::NoScenario(night)), "no scenario NIGHT"),
+        (Run(update), "SCENARIOS scenario NIGHT: update 2: UNKNOWN"),
         (
             Live(LiveError::HistoryFull),
             "board is full after 4096 calls",
         ),
         (Live(LiveError::Mismatch), "board and desk differ"),
         (Fault::JournalInUse, "JOURNAL is in use"),
+        (
+            Fault::JournalMissing,
+            "JOURNAL is missing, and was served before",
+        ),
     ];
     for (fault, line) in cases {
         check_line(&rt, fault, line);
@@ -84,6 +93,7 @@ fn faults_of_a_port_have_lines(rt: HostRuntime) {
             PortFault::CannotWrite(Reason(ErrorKind::Uncategorized)),
             "cannot write",
         ),
+        (PortFault::JournalChanged, "JOURNAL was changed by another"),
         (PortFault::Memory, "out of memory"),
     ];
     for (fault, line) in ports {

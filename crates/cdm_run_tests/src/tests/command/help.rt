@@ -22,15 +22,17 @@ const PLAN: &str = "Usage: cdmseq plan [OPTIONS] <AIRPORT> <FEED>";
 
 const COMPARE: &str = "Usage: cdmseq compare [OPTIONS] <AIRPORT> <FEED> <SCENARIOS> [NAME]";
 
-const WHY: &str = "Usage: cdmseq why <AIRPORT> <FEED> <FLIGHT>";
+const WHY: &str = "Usage: cdmseq why [OPTIONS] <AIRPORT> <FEED> <FLIGHT>";
 
-const LOAD: &str = "Usage: cdmseq load <AIRPORT> <FEED> [RUNWAY]";
+const LOAD: &str = "Usage: cdmseq load [OPTIONS] <AIRPORT> <FEED> [RUNWAY]";
 
 const PICTURE: &str = "Usage: cdmseq picture [OPTIONS] <AIRPORT> <FEED>";
 
 const LIVE: &str = "Usage: cdmseq live <AIRPORT> <FEED1> <FEED2>";
 
 const CHECK: &str = "Usage: cdmseq check [OPTIONS] <AIRPORT> <FEED>";
+
+const KINDS: &str = "Usage: cdmseq kinds [OPTIONS]";
 
 const HELP: &str = "Usage: cdmseq help [COMMAND]";
 
@@ -63,7 +65,7 @@ fn prints_help(alloc: Global, words: &[&str], usage: &str) -> bool {
 
 #[test]
 fn help_of_a_command_is_a_screen(rt: HostRuntime) {
-    let table: [(&[&str], &str); 14] = [
+    let table: [(&[&str], &str); 15] = [
         (&["-h"], ALL),
         (&["--help"], ALL),
         (&["plan", "-h"], PLAN),
@@ -77,6 +79,7 @@ fn help_of_a_command_is_a_screen(rt: HostRuntime) {
         (&["help", "picture"], PICTURE),
         (&["help", "live"], LIVE),
         (&["help", "check"], CHECK),
+        (&["help", "kinds"], KINDS),
         (&["help", "help"], HELP),
     ];
     for (words, usage) in table {

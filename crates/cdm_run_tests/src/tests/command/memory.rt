@@ -16,6 +16,7 @@ fn text_in<'a>(answer: &'a Result<Command<'_>, CommandFault>) -> &'a str {
         ) => feed,
         Ok(Command::Live { feed2, .. }) => feed2,
         Ok(Command::Serve { journal, .. }) => journal,
+        Ok(Command::Kinds(_)) => "kinds",
         Ok(Command::Print(text)) | Err(CommandFault::Usage(text)) => text.as_str(),
         Err(CommandFault::Memory) => "",
     }
@@ -36,12 +37,13 @@ fn is_told(alloc: Global, words: &[&str], end: &str) -> bool {
 /// Words are answered by the whole text or by want of memory.
 #[test]
 fn refused_memory_tells_no_half_text(rt: HostRuntime) {
-    let table: [(&[&str], &str); 9] = [
+    let table: [(&[&str], &str); 10] = [
         (&["plan", "a.csv", "--workers", "2", "f.csv"], "f.csv"),
         (&["live", "a.csv", "f.csv", "g.csv"], "g.csv"),
         (&["compare", "a.csv", "f.csv", "s.csv", "shut"], TRY),
         (&["why", "a.csv", "f.csv", "AB1"], "f.csv"),
         (&["load", "a.csv", "f.csv", "27-L"], TRY),
+        (&["kinds", "--format", "json"], "kinds"),
         (&["--version"], "cdmseq 0.1.0\n"),
         (&["help"], "wrong with the words of status 2.\n"),
         (&["help", "plan"], "cdmseq help | less\n"),

@@ -5,7 +5,7 @@ use cdm_feed::{
     Device, FileFault, InputFault, read_airport, read_feed, read_input, read_scenarios,
 };
 use cdm_flight::RefusalWord;
-use cdm_journal::{LineRead, push_journal_line, read_journal, read_line};
+use cdm_journal::{LineRead, journal_line, own_lines, read_journal, read_line};
 use cdm_phase::{OpenGate, Workers};
 use cdm_time::Day;
 use std::alloc::{AllocError, Global};
@@ -24,6 +24,10 @@ const FEED: &[u8] =
 
 /// The same without the last.
 const JOURNAL: &[u8] = b"AP,FLT,AB1,5\nATC,RWY,AB1,27L\nAO,TOBT,AB1,2025-03-10T06:00Z\n";
+
+/// The records of the same as a person may write them, the last without its end.
+const UNTIDY: &[u8] =
+    b"\nAP,\"FLT\",AB1,5\r\n\r\nATC,RWY,\"AB1\",27L\rAO,TOBT,AB1,2025-03-10T06:00Z";
 
 const SCENARIOS: &[u8] =
     b"SCENARIO,SHUT\nCLOSE,27L,2025-03-10T06:10Z,2025-03-10T06:30Z\nPRIO,AB1,1\nSCENARIO,SAME\n";
@@ -96,16 +100,11 @@ fn refused_memory_in_files(rt: HostRuntime) -> Result<(), Fail> {
 }
 
 // The line of a journal that the record of a line makes.
-fn journal_line(alloc: Global, line: &[u8]) -> Option<Vec<u8>> {
+fn line_of(alloc: Global, line: &[u8]) -> Option<Vec<u8>> {
     let LineRead::One(row) = again!(read_line(alloc, line), AllocError).ok()? else {
         return None;
     };
-    let mut text = Vec::new(alloc);
-    if push_journal_line(&mut text, &row).is_err() {
-        text.clear();
-        push_journal_line(&mut text, &row).ok()?;
-    }
-    Some(text)
+    again!(journal_line(alloc, &row), AllocError).ok()
 }
 
 /// The bytes of the longest journal of a test.
@@ -144,8 +143,10 @@ fn updates<R: Threads + Sync>(
 #[test]
 fn refused_memory_in_a_journal(rt: HostRuntime) -> Result<(), Fail> {
     let alloc = rt.alloc();
-    let line = journal_line(alloc, b"AP,\"FLT\",AB1,5\r").ok_or("no line")?;
+    let line = line_of(alloc, b"AP,\"FLT\",AB1,5\r").ok_or("no line")?;
     assert_eq!(rt; line.as_slice(), b"AP,FLT,AB1,5\n".as_slice());
+    let lines = again!(own_lines(alloc, UNTIDY), AllocError)?;
+    assert_eq!(rt; lines.as_slice(), JOURNAL);
     let airport = airport_of(alloc, AIRPORT).map_err(|_| "no airport")?;
     assert_eq!(rt; updates(&rt, alloc, &airport, JOURNAL), Some(Ok(3)));
     let refused = updates(&rt, alloc, &airport, FEED);

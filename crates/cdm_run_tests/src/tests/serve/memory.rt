@@ -1,42 +1,26 @@
 //! A journal, an input and an output in memory, which stop at one of their calls.
-ghost use Rattle.std.specs.Prelude.{◌≡◌, ◌≤◌, [], ◌∷◌, ◌++◌, IfOk, OnErr, OnOk, vec_len};
+ghost use Rattle.std.specs.Prelude.{◌≡◌, ◌≤◌, [], ◌∷◌, ◌++◌, map, true, IfOk, OnErr, OnOk, vec_len};
 ghost use Rattle.cdm_port.specs.Event.{journal_limit};
-ghost use Rattle.cdm_port.specs.Event.Event.{Appended, Cut, Flushed, Read, Replied, Synced};
+ghost use Rattle.cdm_port.specs.Event.Event.{Appended, Flushed, Marked, Read, Renamed, Replied, Synced};
 ghost use Rattle.cdm_port.specs.Fault.{fault_after};
 ghost use Rattle.cdm_port.specs.Heard.{IsHeard, event_of};
-ghost use Rattle.cdm_port.specs.Notes.{event_with};
+ghost use Rattle.cdm_port.specs.Notes.{noted};
 ghost use Rattle.cdm_port.specs.Stop.{Stops};
 
 use super::script::Row;
-use cdm_port::{Happening, Heard, JOURNAL_LIMIT, LINE_LIMIT, Port, PortFault, Reason};
+use cdm_port::{Happening, Heard, History, JOURNAL_LIMIT, LINE_LIMIT, Port, PortFault, Reason};
 use std::alloc::{AllocError, Global};
 use std::io::ErrorKind;
-use std::marker::Model;
 
 /// Why each call fails.
 pub const REASON: Reason = Reason(ErrorKind::StorageFull);
 
-// What has happened, as clauses see it.
-#[derive(Drop)]
-struct Note {
-    happening: Happening,
-    bytes: Vec<u8>,
-}
-
-impl Model for Note {
-    ghost use Rattle.cdm_port.specs.Event.{Event};
-    ghost use Rattle.cdm_port.specs.Notes.{event_with};
-
-    ghost Value = { Event };
-
-    ghost view = { λ note. event_with note.happening note.bytes.items };
-}
-
-/// The calls of a port.
+/// The calls of a port that can fail.
 #[derive(Clone, Copy, PartialEq, Eq, Debug)]
 pub enum Call {
     Journal,
-    Cut,
+    Replace,
+    Mark,
     Line,
     Append,
     Sync,
@@ -50,7 +34,9 @@ impl Call {
         match self {
             Call::Journal => PortFault::CannotReadJournal(REASON),
             Call::Line => PortFault::CannotReadInput(REASON),
-            Call::Cut | Call::Append | Call::Sync => PortFault::CannotWriteJournal(REASON),
+            Call::Replace | Call::Mark | Call::Append | Call::Sync => {
+                PortFault::CannotWriteJournal(REASON)
+            }
             Call::Reply | Call::Flush => PortFault::CannotWrite(REASON),
         }
     }
@@ -71,17 +57,22 @@ pub enum Left {
     All,
 }
 
-/// A journal, the lines of a script, and what was replied. A write at which it stops writes its first half.
+/// A journal, the lines of a script, and what was replied. A write at which it stops writes its first half, and a file that is
+/// renamed over the journal where it stops is there, but not on the disk.
 #[derive(Drop)]
 pub struct Memory {
     alloc: Global,
     script: &'static [Row],
     stop: Stop,
-    notes: Vec<Note>,
+    history: History,
+    /// Whether the journal is marked as served.
+    pub marked: bool,
     /// The journal as it was synced.
     pub synced: Vec<u8>,
-    /// The journal as it is cut and written.
+    /// The journal as it is written.
     pub journal: Vec<u8>,
+    /// What was left out at the start.
+    pub left_out: usize,
     pub replies: Vec<u8>,
     /// How many lines were heard.
     pub heard: usize,
@@ -92,10 +83,10 @@ pub struct Memory {
 }
 
 impl Memory {
-    /// Over a journal that is on the disk.
+    /// Over a journal that is on the disk, marked as served or not.
     pub fn new(
         alloc: Global,
-        journal: &[u8],
+        (marked, journal): (bool, &[u8]),
         script: &'static [Row],
         stop: Stop,
     ) -> Result<Memory, AllocError> {
@@ -103,9 +94,11 @@ impl Memory {
             alloc,
             script,
             stop,
-            notes: Vec::new(alloc),
+            history: History::new(),
+            marked,
             synced: journal.to_vec(alloc)?,
             journal: journal.to_vec(alloc)?,
+            left_out: 0,
             replies: Vec::new(alloc),
             heard: 0,
             told: 0,
@@ -113,12 +106,14 @@ impl Memory {
         })
     }
 
-    /// What a stop can leave.
+    /// What a stop can leave: of a line that is written behind the synced ones a part too.
     pub fn lefts(&self) -> &'static [Left] {
         if self.synced == self.journal {
             &[Left::All]
-        } else {
+        } else if self.journal.starts_with(&self.synced) {
             &[Left::Nothing, Left::Half, Left::All]
+        } else {
+            &[Left::Nothing, Left::All]
         }
     }
 
@@ -135,8 +130,9 @@ impl Memory {
 
     // Counts a call, unless the port stops at it.
     fn make(&mut self, call: Call) -> Result<(), PortFault>
-        ensures same { self.new.notes.items ≡ self.old.notes.items }
+        ensures same { self.new.history ≡ self.old.history }
         ensures kept { self.new.fault ≡ self.old.fault }
+        ensures mark { self.new.marked ≡ self.old.marked }
     {
         if self.stop.kind.unwrap_or(call) != call {
             return Ok(());
@@ -151,8 +147,9 @@ impl Memory {
     // Keeps a fault, and hands on the answer.
     fn answer<T>(&mut self, outcome: Result<T, PortFault>) -> Result<T, PortFault>
         ensures same { result ≡ outcome }
-        ensures notes { self.new.notes.items ≡ self.old.notes.items }
+        ensures notes { self.new.history ≡ self.old.history }
         ensures kept { self.new.fault ≡ fault_after self.old.fault outcome }
+        ensures mark { self.new.marked ≡ self.old.marked }
     {
         if let Err(fault) = &outcome {
             self.fault = Some(*fault);
@@ -160,110 +157,121 @@ impl Memory {
         outcome
     }
 
-    // Notes what has happened.
-    fn note(&mut self, happening: Happening, bytes: &[u8]) -> Result<(), AllocError>
-        ensures ok { OnOk result (self.new.notes.items ≡ self.old.notes.items ++ event_with happening bytes.now ∷ []) }
-        ensures err { OnErr result (self.new.notes.items ≡ self.old.notes.items) }
-        ensures kept { self.new.fault ≡ self.old.fault }
-    {
-        let bytes = bytes.to_vec(self.alloc)?;
-        self.notes.push(Note { happening, bytes })?;
-        Ok(())
-    }
-
     // The calls of the port, but for that a fault is kept.
 
     fn read(&mut self, alloc: Global) -> Result<Vec<u8>, PortFault>
-        ensures ok { IfOk result (λ bytes. self.new.notes.items ≡ self.old.notes.items ++ Read bytes.items ∷ []) }
+        ensures ok { IfOk result (λ bytes. map noted self.new.history.notes ≡ map noted self.old.history.notes ++ Read bytes.items ∷ []) }
         ensures limit { IfOk result (λ bytes. vec_len bytes ≤ journal_limit) }
-        ensures err { OnErr result (self.new.notes.items ≡ self.old.notes.items) }
+        ensures err { OnErr result (map noted self.new.history.notes ≡ map noted self.old.history.notes) }
         ensures kept { self.new.fault ≡ self.old.fault }
+        ensures mark { self.new.marked ≡ self.old.marked }
     {
         self.make(Call::Journal)?;
         if self.journal.len() > JOURNAL_LIMIT {
             return Err(PortFault::JournalTooLong);
         }
         let bytes = self.journal.to_vec(alloc)?;
-        self.note(Happening::Read, &bytes)?;
+        self.history.note(&Happening::Read, &bytes);
         Ok(bytes)
     }
 
-    fn shorten(&mut self, length: usize) -> Result<(), PortFault>
-        ensures ok { OnOk result (self.new.notes.items ≡ self.old.notes.items ++ Cut length ∷ []) }
-        ensures err { OnErr result (self.new.notes.items ≡ self.old.notes.items) }
+    fn rename(&mut self, bytes: &[u8]) -> Result<(), PortFault>
+        ensures ok { OnOk result (map noted self.new.history.notes ≡ map noted self.old.history.notes ++ Renamed bytes.now ∷ Synced ∷ []) }
+        ensures err { OnErr result (Stops (map noted self.old.history.notes) (Renamed bytes.now ∷ Synced ∷ []) (map noted self.new.history.notes)) }
         ensures kept { self.new.fault ≡ self.old.fault }
+        ensures mark { self.new.marked ≡ self.old.marked }
     {
-        self.make(Call::Cut)?;
-        self.note(Happening::Cut(length), &[])?;
-        self.journal.truncate(length);
+        let journal = bytes.to_vec(self.alloc)?;
+        let synced = bytes.to_vec(self.alloc)?;
+        self.journal = journal;
+        self.history.note(&Happening::Renamed, bytes);
+        self.make(Call::Replace)?;
+        self.synced = synced;
+        self.history.note(&Happening::Synced, &[]);
+        Ok(())
+    }
+
+    fn set_mark(&mut self) -> Result<(), PortFault>
+        ensures ok { OnOk result (map noted self.new.history.notes ≡ map noted self.old.history.notes ++ Marked ∷ []) }
+        ensures err { OnErr result (map noted self.new.history.notes ≡ map noted self.old.history.notes) }
+        ensures kept { self.new.fault ≡ self.old.fault }
+        ensures mark { OnOk result (self.new.marked ≡ true) }
+    {
+        self.make(Call::Mark)?;
+        self.marked = true;
+        self.history.note(&Happening::Marked, &[]);
         Ok(())
     }
 
     fn hear(&mut self, alloc: Global) -> Result<Heard, PortFault>
-        ensures ok { IfOk result (λ heard. self.new.notes.items ≡ self.old.notes.items ++ event_of heard ∷ []) }
+        ensures ok { IfOk result (λ heard. map noted self.new.history.notes ≡ map noted self.old.history.notes ++ event_of heard ∷ []) }
         ensures heard { IfOk result IsHeard }
-        ensures err { OnErr result (self.new.notes.items ≡ self.old.notes.items) }
+        ensures err { OnErr result (map noted self.new.history.notes ≡ map noted self.old.history.notes) }
         ensures kept { self.new.fault ≡ self.old.fault }
+        ensures mark { self.new.marked ≡ self.old.marked }
     {
         self.make(Call::Line)?;
         let Some((line, _, _)) = self.script.get(self.heard) else {
-            self.note(Happening::End, &[])?;
+            self.history.note(&Happening::End, &[]);
             return Ok(Heard::End);
         };
-        self.heard = self.heard.saturating_add(1);
         let bytes = line.as_bytes().to_vec(alloc)?;
+        self.heard = self.heard.saturating_add(1);
         if bytes.len() > LINE_LIMIT || bytes.contains(&b'\n') {
-            self.note(Happening::Broken, &[])?;
+            self.history.note(&Happening::Broken, &[]);
             return Ok(Heard::Broken);
         }
-        self.note(Happening::Line, &bytes)?;
+        self.history.note(&Happening::Line, &bytes);
         Ok(Heard::Line(bytes))
     }
 
     fn write(&mut self, bytes: &[u8]) -> Result<(), PortFault>
-        ensures ok { OnOk result (self.new.notes.items ≡ self.old.notes.items ++ Appended bytes.now ∷ []) }
-        ensures err { OnErr result (Stops self.old.notes.items (Appended bytes.now ∷ []) self.new.notes.items) }
+        ensures ok { OnOk result (map noted self.new.history.notes ≡ map noted self.old.history.notes ++ Appended bytes.now ∷ []) }
+        ensures err { OnErr result (Stops (map noted self.old.history.notes) (Appended bytes.now ∷ []) (map noted self.new.history.notes)) }
         ensures kept { self.new.fault ≡ self.old.fault }
+        ensures mark { self.new.marked ≡ self.old.marked }
     {
         let made = self.make(Call::Append);
         let count = written(&made, bytes.len());
         self.journal.extend_from_slice(&bytes[..count])?;
-        self.note(Happening::Appended, &bytes[..count])?;
+        self.history.note(&Happening::Appended, &bytes[..count]);
         made
     }
 
     fn settle(&mut self) -> Result<(), PortFault>
-        ensures ok { OnOk result (self.new.notes.items ≡ self.old.notes.items ++ Synced ∷ []) }
-        ensures err { OnErr result (self.new.notes.items ≡ self.old.notes.items) }
+        ensures ok { OnOk result (map noted self.new.history.notes ≡ map noted self.old.history.notes ++ Synced ∷ []) }
+        ensures err { OnErr result (map noted self.new.history.notes ≡ map noted self.old.history.notes) }
         ensures kept { self.new.fault ≡ self.old.fault }
+        ensures mark { self.new.marked ≡ self.old.marked }
     {
         self.make(Call::Sync)?;
-        let synced = self.journal.to_vec(self.alloc)?;
-        self.note(Happening::Synced, &[])?;
-        self.synced = synced;
+        self.synced = self.journal.to_vec(self.alloc)?;
+        self.history.note(&Happening::Synced, &[]);
         Ok(())
     }
 
     fn tell(&mut self, bytes: &[u8]) -> Result<(), PortFault>
-        ensures ok { OnOk result (self.new.notes.items ≡ self.old.notes.items ++ Replied bytes.now ∷ []) }
-        ensures err { OnErr result (Stops self.old.notes.items (Replied bytes.now ∷ []) self.new.notes.items) }
+        ensures ok { OnOk result (map noted self.new.history.notes ≡ map noted self.old.history.notes ++ Replied bytes.now ∷ []) }
+        ensures err { OnErr result (Stops (map noted self.old.history.notes) (Replied bytes.now ∷ []) (map noted self.new.history.notes)) }
         ensures kept { self.new.fault ≡ self.old.fault }
+        ensures mark { self.new.marked ≡ self.old.marked }
     {
         let made = self.make(Call::Reply);
         let count = written(&made, bytes.len());
         self.told = self.heard;
         self.replies.extend_from_slice(&bytes[..count])?;
-        self.note(Happening::Replied, &bytes[..count])?;
+        self.history.note(&Happening::Replied, &bytes[..count]);
         made
     }
 
     fn hand_on(&mut self) -> Result<(), PortFault>
-        ensures ok { OnOk result (self.new.notes.items ≡ self.old.notes.items ++ Flushed ∷ []) }
-        ensures err { OnErr result (self.new.notes.items ≡ self.old.notes.items) }
+        ensures ok { OnOk result (map noted self.new.history.notes ≡ map noted self.old.history.notes ++ Flushed ∷ []) }
+        ensures err { OnErr result (map noted self.new.history.notes ≡ map noted self.old.history.notes) }
         ensures kept { self.new.fault ≡ self.old.fault }
+        ensures mark { self.new.marked ≡ self.old.marked }
     {
         self.make(Call::Flush)?;
-        self.note(Happening::Flushed, &[])?;
+        self.history.note(&Happening::Flushed, &[]);
         Ok(())
     }
 }
@@ -280,18 +288,34 @@ fn written(made: &Result<(), PortFault>, count: usize) -> usize
 }
 
 impl Port for Memory {
-    ghost events = { λ memory. memory.notes.items };
+    ghost events = { λ memory. map noted memory.history.notes };
 
     ghost fault = { λ memory. memory.fault };
+
+    ghost marked = { λ memory. memory.marked };
+
+    fn is_marked(&self) -> bool {
+        self.marked
+    }
 
     fn journal(&mut self, alloc: Global) -> Result<Vec<u8>, PortFault> {
         let bytes = self.read(alloc);
         self.answer(bytes)
     }
 
-    fn cut(&mut self, length: usize) -> Result<(), PortFault> {
-        let cut = self.shorten(length);
-        self.answer(cut)
+    fn replace(&mut self, bytes: &[u8]) -> Result<(), PortFault> {
+        let renamed = self.rename(bytes);
+        self.answer(renamed)
+    }
+
+    fn mark(&mut self) -> Result<(), PortFault> {
+        let marked = self.set_mark();
+        self.answer(marked)
+    }
+
+    fn left_out(&mut self, bytes: &[u8]) {
+        self.left_out = bytes.len();
+        self.history.note(&Happening::LeftOut, bytes);
     }
 
     fn line(&mut self, alloc: Global) -> Result<Heard, PortFault> {

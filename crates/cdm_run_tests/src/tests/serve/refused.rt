@@ -13,7 +13,7 @@ use std::thread::Threads;
 fn port_of(alloc: Global) -> Result<Memory, AllocError> {
     let mut journal = BEGUN.as_bytes().to_vec(alloc)?;
     journal.extend_from_slice(TORN.as_bytes())?;
-    Memory::new(alloc, &journal, SCRIPT, NEVER)
+    Memory::new(alloc, (true, journal.as_slice()), SCRIPT, NEVER)
 }
 
 // Whether the day has been served whole.

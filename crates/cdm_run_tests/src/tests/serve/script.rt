@@ -15,6 +15,9 @@ TAXI,A1,27L,10
 /// Two records, one with a quoted field and one that CR LF ends.
 pub const BEGUN: &str = "AP,\"FLT\",AB1,5\nATC,RWY,AB1,27L\r\n";
 
+/// The same as a journal's own lines.
+pub const OWN: &str = "AP,FLT,AB1,5\nATC,RWY,AB1,27L\n";
+
 /// The first part of a record that a stop has torn.
 pub const TORN: &str = "AO,TOBT,AB1,2025-0";
 

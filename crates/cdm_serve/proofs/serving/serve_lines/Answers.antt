@@ -1,13 +1,24 @@
 -- Each exit of the loop, by what was served before it.
-use Rattle.std.proofs.Common.{◌≡◌, ◌≤◌, ◌^◌, ◌++◌, rules, arith}
+use Rattle.std.proofs.Common.{◌≡◌, ◌≤◌, ◌^◌, ◌++◌, [], ◌∷◌, refl, rules, arith}
 use Rattle.cdm_journal.specs.Lines.{read_as}
+use Rattle.cdm_port.specs.Event.Event.{End}
 use Rattle.cdm_port.specs.Stop.{Stops}
 use Rattle.cdm_serve.specs.Requests.{request_of}
 use Rattle.cdm_serve.specs.Served.{IsReplyTo, answered, numbered}
 use Rattle.cdm_serve.specs.Taken.{after}
 use Rattle.cdm_serve.specs.inner.Steps.{HearsInVain, HearsLine, IsAnswerFault, IsLinesFault, IsPortFault, text_of}
-use Rattle.cdm_serve.proofs.Ran.{answer_fault, behind, between, goes_on, in_vain, midst, no_turn_left, on_err, port_fault, too_many}
+use Rattle.cdm_serve.proofs.Ran.{answer_fault, behind, between, ended, goes_on, in_vain, midst, no_turn_left, none_ran, on_err, port_fault, too_many}
 use Rattle.cdm_serve.proofs.serving.serve_lines.Goals as goal
+
+-- no line was served yet
+pub lines-init : goal.lines-init
+lines-init g c = record { ran = none_ran _ _ _; unfailed = refl }
+
+-- the input is at its end
+pub returns-in_default-clause-ok : goal.returns-in_default-clause-ok
+returns-in_default-clause-ok g c =
+    let is : g.P.Port.events c.hear.new.port ≡ g.P.Port.events c.lines.port ++ End ∷ [] = search rules in
+    ended _ _ _ _ _ _ _ c.lines.invariant.ran _ is
 
 -- the input failed
 
@@ -34,7 +45,7 @@ returns-in_err-answer-clause-fault g c =
     let hears : HearsLine (g.P.Port.events c.lines.port) (g.P.Port.events c.hear.new.port) (read_as c.in-Some.read) = search rules in
     let is : IsAnswerFault c.lines.day.number c.in_err-answer.field-0.0 = search rules in
     let fault : IsLinesFault c.args.day.number (g.P.Port.events c.args.port.now) (g.P.Port.events c.hear.new.port) c.in_err-answer.field-0.0 =
-    answer_fault _ _ _ _ _ is (too_many _ _ _ _ _ _ _ _ _ c.lines.invariant.ran hears) in
+    answer_fault _ _ _ _ _ is (too_many _ _ _ _ _ _ _ c.lines.invariant.ran _ _ hears) in
     search rules
 
 -- an answer stopped

@@ -1,24 +1,22 @@
-use Rattle.std.proofs.Common.{◌∙◌, ◌++◌, List, ℕ, [], length, refl, sym, ap}
-use Rattle.std.specs.Prelude.{flat_map}
-use Rattle.std.specs.List.{cons_option}
+use Rattle.std.proofs.Common.{◌∙◌, ◌++◌, List, ℕ, length, refl, sym, ap}
 use Rattle.std.proofs.lemmas.Option.{slice_get_read}
 use Rattle.csv.specs.Writing.{default_writer, row_text}
-use Rattle.cdm_table.specs.Rows.{standing_row}
+use Rattle.cdm_table.specs.Rows.{flight_row}
 use Rattle.cdm_table.proofs.OwnLemmas.{rows_next}
 use Rattle.cdm_table.proofs.csv_rows.flight_rows.Goals as goal
 
-pub push_standing-requires-clause-own : goal.push_standing-requires-clause-own
-push_standing-requires-clause-own g c = c.first_of.ensures c.args.sheet.now.day (c.from_flight-left.ensures c.args.sheet.now.day c.loop-standing.invariant.left)
+pub push_flight-requires : goal.push_flight-requires
+push_flight-requires c = c.first_of.ensures c.args.sheet.now.day (c.from_flight-left.ensures c.args.sheet.now.day c.loop-row.invariant.left)
 
-pub loop-standing-preserved : goal.loop-standing-preserved
-loop-standing-preserved g c =
-    let d = g.R.Records.day c.args.records.now in
-    let xs = c.as_slice-standing-items.result.now in
-    let k = c.loop-standing.standing-index in
-    let item = c.standing-item.result in
-    let next = rows_next d c.args.sheet.now.scenario.now xs k item (slice_get_read xs (length xs) k item refl c.loop-standing-test.true c.standing-item.is) in
-    let more = flat_map (row_text default_writer) (cons_option (standing_row d c.args.sheet.now.scenario.now item) []) in
+pub loop-row-preserved : goal.loop-row-preserved
+loop-row-preserved c =
+    let day = c.args.sheet.now.day in
+    let name = c.args.sheet.now.scenario.now in
+    let xs = c.as_slice-row-items.result.now in
+    let k = c.loop-row.row-index in
+    let item = c.row-item.result in
+    let next = rows_next (flight_row day name) xs k item (slice_get_read xs (length xs) k item refl c.loop-row-test.true c.row-item.is) in
     record {
-      text = c.in_ok-push_standing.ensures ∙ (ap (λ (l : List ℕ). l ++ more) c.loop-standing.invariant.text ∙ sym next);
-      left = c.from_flight-left.ensures c.args.sheet.now.day c.loop-standing.invariant.left;
+      text = c.in_ok-push_flight.ensures ∙ (ap (λ (l : List ℕ). l ++ row_text default_writer (flight_row day name item)) c.loop-row.invariant.text ∙ sym next);
+      left = c.from_flight-left.ensures day c.loop-row.invariant.left;
     }

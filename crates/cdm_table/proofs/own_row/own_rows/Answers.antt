@@ -1,21 +1,18 @@
 use Rattle.std.proofs.Common.{◌∙◌, ◌++◌, List, ℕ, [], length, refl, sym, ap}
-use Rattle.std.specs.Prelude.{flat_map}
-use Rattle.std.specs.List.{cons_option}
 use Rattle.std.proofs.lemmas.Option.{slice_get_read}
 use Rattle.csv.specs.Writing.{default_writer, row_text}
-use Rattle.cdm_table.specs.Rows.{standing_row}
+use Rattle.cdm_table.specs.Rows.{flight_row}
 use Rattle.cdm_table.proofs.OwnLemmas.{rows_next}
 use Rattle.cdm_table.proofs.own_row.own_rows.Goals as goal
 
-pub loop-standing-preserved : goal.loop-standing-preserved
-loop-standing-preserved g c =
-    let d = g.R.Records.day c.args.records.now in
-    let xs = c.as_slice-standing-items.result.now in
-    let k = c.loop-standing.standing-index in
-    let item = c.standing-item.result in
-    let next = rows_next d [] xs k item (slice_get_read xs (length xs) k item refl c.loop-standing-test.true c.standing-item.is) in
-    let more = flat_map (row_text default_writer) (cons_option (standing_row d [] item) []) in
+pub loop-row-preserved : goal.loop-row-preserved
+loop-row-preserved c =
+    let day = c.args.day in
+    let xs = c.as_slice-row-items.result.now in
+    let k = c.loop-row.row-index in
+    let item = c.row-item.result in
+    let next = rows_next (flight_row day []) xs k item (slice_get_read xs (length xs) k item refl c.loop-row-test.true c.row-item.is) in
     record {
       made = c.in_ok-push_own.ensures.made;
-      text = c.in_ok-push_own.ensures.text ∙ (ap (λ (l : List ℕ). l ++ more) c.loop-standing.invariant.text ∙ sym next);
+      text = c.in_ok-push_own.ensures.text ∙ (ap (λ (l : List ℕ). l ++ row_text default_writer (flight_row day [] item)) c.loop-row.invariant.text ∙ sym next);
     }

@@ -11,3 +11,8 @@ pub returns-clause-only : goal.returns-clause-only
 returns-clause-only g c = λ other is.
     let sound = c.values-values.ensures.sound in
     one_table c.args.base.now sound.airport.names sound.names c.args.table c.args.scenarios.now other _ is (search rules)
+
+pub returns-in-ComparisonCsv-clause-only : goal.returns-in-ComparisonCsv-clause-only
+returns-in-ComparisonCsv-clause-only g c = λ other is.
+    let sound = c.values-values.ensures.sound in
+    one_table c.args.base.now sound.airport.names sound.names c.args.table c.args.scenarios.now other _ is (search rules)

@@ -1,0 +1,11 @@
+use Rattle.std.proofs.Common.{None, subst, sym}
+use Rattle.cdm_feed.specs.Made.{IsUntold}
+use Rattle.cdm_feed.specs.declared.asked.DayText.TheVariants.{Answer}
+use Rattle.cdm_feed.proofs.AskedLemmas.{base_fault}
+use Rattle.cdm_feed.proofs.making.answer_of_base.Goals as goal
+
+pub returns-in-Err-clause-fault : goal.returns-in-Err-clause-fault
+returns-in-Err-clause-fault c =
+    let day = c.args.day.now in
+    subst (IsUntold (Answer c.args.question None) day.state day.scenarios.items) (sym c.view_error.ensures)
+    (base_fault c.args.question day.state day.scenarios.items c.in-Err.fault c.in-Err.ensures.fault)

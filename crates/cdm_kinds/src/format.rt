@@ -1,0 +1,10 @@
+//! Formats of output.
+
+/// How a table is written.
+#[derive(Clone, Copy, Debug, PartialEq, Eq, Hash)]
+pub enum Format {
+    /// As lines for people.
+    Text,
+    /// As JSON, one object a line, for programs.
+    Json,
+}

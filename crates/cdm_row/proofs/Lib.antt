@@ -1,0 +1,5 @@
+pub mod EqualRows
+pub mod RowLemmas
+pub mod PassedLemmas
+pub mod OverLemmas
+pub mod TokenLemmas

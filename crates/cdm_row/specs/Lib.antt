@@ -1,0 +1,5 @@
+pub mod Rows
+pub mod Columns
+pub mod Json
+pub mod Changed
+pub mod inner

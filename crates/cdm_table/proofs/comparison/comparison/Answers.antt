@@ -1,9 +1,0 @@
-use Rattle.std.proofs.Common.{◌∙◌, length, ap}
-use Rattle.std.proofs.lemmas.Slice.Zip.{AllZip-long}
-use Rattle.cdm_table.specs.Comparison.{IsSummary}
-use Rattle.cdm_table.proofs.comparison.comparison.Goals as goal
-
-pub lines_of-requires : goal.lines_of-requires
-lines_of-requires g c =
-    ap length c.deref.ensures.value
-    ∙ AllZip-long (IsSummary c.args.base.now c.in_ok-before.before) c.args.scenarios.now c.in_ok-summaries.summaries.items c.in_ok-summaries.ensures
