@@ -1,13 +1,17 @@
 -- The lines of findings and of hints, one after another.
-use Rattle.std.proofs.Common.{◌≡◌, ◌≤◌, ◌<◌, ◌+◌, ◌∙◌, ◌++◌, ◌&&◌, ℕ, Bool, true, false, cond, List, [], ◌∷◌, length, take, drop, map, get_or, refl, sym, ap, subst, arith, filter, length-append, append_assoc, Result, Ok, Err}
+use Rattle.std.proofs.Common.{◌≡◌, ◌≤◌, ◌<◌, ◌+◌, ◌∙◌, ◌++◌, ◌&&◌, ℕ, zero, suc, Bool, true, false, cond, List, [], ◌∷◌, length, take, drop, map, get_or, refl, sym, ap, subst, arith, filter, length-append, append_assoc, Result, Ok, Err}
 use Rattle.std.proofs.lemmas.Grind.{common_steps}
 use Rattle.std.proofs.lemmas.List.{append-nil, length-map, map_more, take-append-drop, take-append-le, take-map, take_all}
 use Rattle.std.proofs.lemmas.List.Elements.{All-append, All-cons, All-nil}
 use Rattle.std.proofs.lemmas.List.Folds.{concat-append, list_all-append}
+use Rattle.std.proofs.lemmas.Bool.Decides.{nat_tests}
+use Rattle.std.proofs.lemmas.Str.{IsUtf8-from_ascii}
 use Rattle.std.specs.List.{concat, list_all}
+use Rattle.std.specs.Str.{IsAscii, IsUtf8}
 use Rattle.cdm_phase.proofs.Values.{AllZip-append}
 use Rattle.cdm_flight.specs.declared.word.RefusalWord.{RefusalWord}
-use Rattle.cdm_check.specs.Check.{AreHintsOf, AreLinesOf, IsHintOf, IsLineOf, IsSentence, is_printable}
+use Rattle.cdm_kinds.specs.declared.format.Format.{Format}
+use Rattle.cdm_check.specs.Check.{AreHintsOf, AreLinesOf, IsHintOf, IsLineOf, IsSentence, finding_line, is_printable}
 use Rattle.cdm_check.specs.Findings.{Finding, fault_at, finding}
 
 -- Sentences.
@@ -20,16 +24,28 @@ all-filter p (x ∷ xs) = at (p x) refl (all-filter p xs)
     at true is rest = rw (is, rest)
     at false is rest = rest
 
-and_left : (a b : Bool) → (a && b) ≡ true → a ≡ true
-and_left true b h = refl
-and_left false b h = h
+both : (a b : Bool) → (a && b) ≡ true → (a ≡ true) × (b ≡ true)
+both true b h = (refl, h)
+both false b h = cc
 
 all-take : (p : ℕ → Bool) (n : ℕ) (xs : List ℕ) → list_all p xs ≡ true → list_all p (take n xs) ≡ true
 all-take p n xs all =
-    and_left (list_all p (take n xs)) (list_all p (drop n xs)) (sym (list_all-append p (take n xs) (drop n xs)) ∙ ap (list_all p) (take-append-drop n xs) ∙ all)
+    (both (list_all p (take n xs)) (list_all p (drop n xs)) (sym (list_all-append p (take n xs) (drop n xs)) ∙ ap (list_all p) (take-append-drop n xs) ∙ all)).0
 
 short-take : (n : ℕ) (xs : List ℕ) → length (take n xs) ≤ n
 short-take n xs = grind (arith, common_steps)
+
+below_128 : (b : ℕ) → is_printable b ≡ true → b < 128
+below_128 b h = grind (arith, nat_tests)
+
+printable-ascii : (xs : List ℕ) → list_all is_printable xs ≡ true → IsAscii xs
+printable-ascii [] all k = omega arith
+printable-ascii (x ∷ xs) all zero = below_128 x (both (is_printable x) _ all).0
+printable-ascii (x ∷ xs) all (suc k) = printable-ascii xs (both (is_printable x) _ all).1 k
+
+-- a sentence is ASCII
+pub sentence-utf8 : (text : List ℕ) → IsSentence text → IsUtf8 text
+sentence-utf8 text is = IsUtf8-from_ascii text (printable-ascii text is.printable)
 
 -- the first printable bytes of a text are a sentence
 pub cut_sentence : (text : List ℕ) → IsSentence (take 160 (filter is_printable text))
@@ -39,48 +55,76 @@ cut_sentence text =
 
 -- Lines of findings.
 
-pub no_lines : AreLinesOf [] []
-no_lines = record { lines = []; each = tt; bytes = refl }
-
-pub one_line : (f : Finding) (text : List ℕ) → IsLineOf f text → AreLinesOf (f ∷ []) text
-one_line f text line = record { lines = text ∷ []; each = (line, tt); bytes = sym (append-nil text) }
-
--- more lines behind others
-pub more_lines : (found also : List Finding) (x y : List ℕ) → AreLinesOf found x → AreLinesOf also y → AreLinesOf (found ++ also) (x ++ y)
-more_lines found also x y a b = record {
-  lines = a.lines ++ b.lines;
-  each = AllZip-append IsLineOf found also a.lines b.lines a.each b.each;
-  bytes = (λ i. a.bytes i ++ b.bytes i) ∙ sym (concat-append a.lines b.lines);
+-- a line with a sentence, in the format that is asked for
+pub told_line : (format told : Format) (f : Finding) (line : ℕ) (sentence given text : List ℕ) → format ≡ told → given ≡ sentence
+    → IsSentence sentence → text ≡ finding_line told f line given → IsLineOf format f text
+told_line format told f line sentence given text as_asked same words is = record {
+  line = line;
+  sentence = sentence;
+  of_words = words;
+  bytes = is ∙ (λ i. finding_line (sym as_asked i) f line (same i));
 }
 
--- the line of the next refused record of a feed
-pub next_line : (path : List ℕ) (refused : List (ℕ × RefusalWord)) (i : ℕ) (d : ℕ × RefusalWord) (x line : List ℕ) → i < length refused
-    → AreLinesOf (map (finding path) (take i refused)) x → IsLineOf (finding path (get_or refused i d)) line
-    → AreLinesOf (map (finding path) (take (i + 1) refused)) (x ++ line)
-next_line path refused i d x line within so_far here =
-    let before = map (finding path) (take i refused) in
-    let longer : map (finding path) (take (i + 1) refused) ≡ before ++ finding path (get_or refused i d) ∷ [] = map_more (finding path) refused i d within in
-    subst (λ (found : List Finding). AreLinesOf found (x ++ line)) (sym longer) (more_lines _ _ _ _ so_far (one_line _ _ here))
+module _ (format : Format) where
+  pub no_lines : AreLinesOf format [] []
+  no_lines = record { lines = []; each = tt; bytes = refl }
 
--- the lines of the first findings, where there is room for those behind the feed's
-pub with_room : (n : ℕ) (path : List ℕ) (refused : List (ℕ × RefusalWord)) (also : List Finding) (x y : List ℕ) → length refused < n → length also ≤ 1
-    → AreLinesOf (map (finding path) (take n refused)) x → AreLinesOf also y → AreLinesOf (take n (map (finding path) refused ++ also)) (x ++ y)
-with_room n path refused also x y room one told behind =
-    let feed = map (finding path) refused in
-    let front : take n refused ≡ refused = take_all n refused (omega arith) in
-    let count : length (feed ++ also) ≤ n = grind (arith, common_steps, room, one) in
-    let whole : take n (feed ++ also) ≡ feed ++ also = take_all n (feed ++ also) count in
-    let lines : AreLinesOf feed x = subst (λ (rs : List (ℕ × RefusalWord)). AreLinesOf (map (finding path) rs) x) front told in
-    subst (λ (found : List Finding). AreLinesOf found (x ++ y)) (sym whole) (more_lines _ _ _ _ lines behind)
+  pub one_line : (f : Finding) (text : List ℕ) → IsLineOf format f text → AreLinesOf format (f ∷ []) text
+  one_line f text line = record { lines = text ∷ []; each = (line, tt); bytes = sym (append-nil text) }
 
--- and where there is none
-pub without_room : (n : ℕ) (path : List ℕ) (refused : List (ℕ × RefusalWord)) (also : List Finding) (x : List ℕ) → n ≤ length refused
-    → AreLinesOf (map (finding path) (take n refused)) x → AreLinesOf (take n (map (finding path) refused ++ also)) x
-without_room n path refused also x full told =
-    let feed = map (finding path) refused in
-    let count : n ≤ length feed = grind (arith, common_steps, full) in
-    let front : take n (feed ++ also) ≡ map (finding path) (take n refused) = take-append-le n feed also count ∙ take-map (finding path) n refused in
-    subst (λ (found : List Finding). AreLinesOf found x) (sym front) told
+  -- more lines behind others
+  pub more_lines : (found also : List Finding) (x y : List ℕ) → AreLinesOf format found x → AreLinesOf format also y → AreLinesOf format (found ++ also) (x ++ y)
+  more_lines found also x y a b = record {
+    lines = a.lines ++ b.lines;
+    each = AllZip-append (IsLineOf format) found also a.lines b.lines a.each b.each;
+    bytes = (λ i. a.bytes i ++ b.bytes i) ∙ sym (concat-append a.lines b.lines);
+  }
+
+  -- the line of the next refused record of a feed
+  pub next_line : (path : List ℕ) (refused : List (ℕ × RefusalWord)) (i : ℕ) (d : ℕ × RefusalWord) (x line : List ℕ) → i < length refused
+      → AreLinesOf format (map (finding path) (take i refused)) x → IsLineOf format (finding path (get_or refused i d)) line
+      → AreLinesOf format (map (finding path) (take (i + 1) refused)) (x ++ line)
+  next_line path refused i d x line within so_far here =
+      let before = map (finding path) (take i refused) in
+      let longer : map (finding path) (take (i + 1) refused) ≡ before ++ finding path (get_or refused i d) ∷ [] = map_more (finding path) refused i d within in
+      subst (λ (found : List Finding). AreLinesOf format found (x ++ line)) (sym longer) (more_lines _ _ _ _ so_far (one_line _ _ here))
+
+  -- the lines of the first findings, where there is room for those behind the feed's
+  pub with_room : (n : ℕ) (path : List ℕ) (refused : List (ℕ × RefusalWord)) (also : List Finding) (x y : List ℕ) → length refused < n → length also ≤ 1
+      → AreLinesOf format (map (finding path) (take n refused)) x → AreLinesOf format also y → AreLinesOf format (take n (map (finding path) refused ++ also)) (x ++ y)
+  with_room n path refused also x y room one told behind =
+      let feed = map (finding path) refused in
+      let front : take n refused ≡ refused = take_all n refused (omega arith) in
+      let count : length (feed ++ also) ≤ n = grind (arith, common_steps, room, one) in
+      let whole : take n (feed ++ also) ≡ feed ++ also = take_all n (feed ++ also) count in
+      let lines : AreLinesOf format feed x = subst (λ (rs : List (ℕ × RefusalWord)). AreLinesOf format (map (finding path) rs) x) front told in
+      subst (λ (found : List Finding). AreLinesOf format found (x ++ y)) (sym whole) (more_lines _ _ _ _ lines behind)
+
+  -- and where there is none
+  pub without_room : (n : ℕ) (path : List ℕ) (refused : List (ℕ × RefusalWord)) (also : List Finding) (x : List ℕ) → n ≤ length refused
+      → AreLinesOf format (map (finding path) (take n refused)) x → AreLinesOf format (take n (map (finding path) refused ++ also)) x
+  without_room n path refused also x full told =
+      let feed = map (finding path) refused in
+      let count : n ≤ length feed = grind (arith, common_steps, full) in
+      let front : take n (feed ++ also) ≡ map (finding path) (take n refused) = take-append-le n feed also count ∙ take-map (finding path) n refused in
+      subst (λ (found : List Finding). AreLinesOf format found x) (sym front) told
+
+  -- Hints.
+
+  pub no_hints : (path : List ℕ) → AreHintsOf format path []
+  no_hints path = record { lines = []; each = All-nil (IsHintOf format path); bytes = refl }
+
+  -- one more hint
+  pub next_hint : (path x line : List ℕ) → AreHintsOf format path x → IsHintOf format path line → AreHintsOf format path (x ++ line)
+  next_hint path x line so_far here =
+      let end : line ≡ line ++ [] = sym (append-nil line) in
+      record {
+        lines = so_far.lines ++ line ∷ [];
+        each = All-append (IsHintOf format path) so_far.lines (line ∷ []) so_far.each (All-cons (IsHintOf format path) line [] here (All-nil (IsHintOf format path)));
+        bytes = (λ i. so_far.bytes i ++ end i) ∙ sym (concat-append so_far.lines (line ∷ []));
+      }
+
+-- Counts.
 
 -- a file has one first faulty record at most
 pub one_fault : {S : Type 0} (path : List ℕ) (said : Result S (ℕ × RefusalWord)) → length (fault_at path said) ≤ 1
@@ -92,21 +136,6 @@ pub counted : (path : List ℕ) (refused : List (ℕ × RefusalWord)) (also : Li
     → m + n ≡ length (map (finding path) refused ++ also)
 counted path refused also m n feed behind =
     (λ i. feed i + behind i) ∙ sym (length-append (map (finding path) refused) also ∙ ap (λ (k : ℕ). k + length also) (length-map refused (finding path)))
-
--- Hints.
-
-pub no_hints : (path : List ℕ) → AreHintsOf path []
-no_hints path = record { lines = []; each = All-nil (IsHintOf path); bytes = refl }
-
--- one more hint
-pub next_hint : (path x line : List ℕ) → AreHintsOf path x → IsHintOf path line → AreHintsOf path (x ++ line)
-next_hint path x line so_far here =
-    let end : line ≡ line ++ [] = sym (append-nil line) in
-    record {
-      lines = so_far.lines ++ line ∷ [];
-      each = All-append (IsHintOf path) so_far.lines (line ∷ []) so_far.each (All-cons (IsHintOf path) line [] here (All-nil (IsHintOf path)));
-      bytes = (λ i. so_far.bytes i ++ end i) ∙ sym (concat-append so_far.lines (line ∷ []));
-    }
 
 -- The text.
 

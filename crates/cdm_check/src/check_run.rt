@@ -4,6 +4,7 @@ ghost use Rattle.std.specs.Option.{option_copied};
 ghost use Rattle.cdm_files.specs.Input.{input_limit};
 ghost use Rattle.cdm_files.specs.Records.{records_of};
 ghost use Rattle.cdm_files.specs.ScenarioFile.{scenarios_in};
+ghost use Rattle.cdm_kinds.specs.declared.format.Format.{Format as AFormat};
 ghost use Rattle.cdm_check.specs.Check.{AreHintsOf, AreLinesOf, most_told};
 ghost use Rattle.cdm_check.specs.Findings.{fault_at, finding, findings_at, findings_in};
 ghost use Rattle.cdm_check.specs.Paths.{IsCheckAt, airport_file, counts_at, feed_file, scenario_file};
@@ -20,6 +21,7 @@ use crate::walk::FeedWalk;
 use cdm_day::Airport;
 use cdm_files::{FileFault, Inputs, Lent, judge, read_airport, read_scenarios};
 use cdm_flight::RefusalWord;
+use cdm_kinds::Format;
 use cdm_phase::Gate;
 use cdm_time::Day;
 use std::alloc::{AllocError, Global};
@@ -44,26 +46,20 @@ pub struct Checked {
 // The lines of refused records of a feed.
 fn feed_lines(
     alloc: Global,
+    format: Format,
     path: &str,
     airport: &Airport,
     feed: &[u8],
     refused: &[(u32, RefusalWord)],
 ) -> Result<Vec<u8>, AllocError>
-    ensures { IfOk result (λ text. AreLinesOf (map (finding path.now) refused.now) text.items) }
+    ensures { IfOk result (λ text. AreLinesOf format (map (finding path.now) refused.now) text.items) }
 {
     let mut walk = FeedWalk::new(alloc, airport, feed);
     let mut text = Vec::new(alloc);
     for refusal in refused {
         let (number, word) = *refusal;
         let cause = walk.cause_of(number, word)?;
-        let line = line_of(
-            alloc,
-            path,
-            cause.line,
-            number as usize,
-            word,
-            &cause.sentence,
-        )?;
+        let line = line_of(alloc, format, path, number as usize, word, &cause)?;
         text.extend_from_slice(&line)?;
     }
     Ok(text)
@@ -83,21 +79,22 @@ fn first_of(refused: &[(u32, RefusalWord)]) -> &[(u32, RefusalWord)]
 // The line of one faulty record.
 fn one_line(
     alloc: Global,
+    format: Format,
     path: &str,
-    cause: &Cause,
     number: usize,
     word: RefusalWord,
+    cause: &Cause,
 ) -> Result<Told, AllocError>
-    ensures lines { IfOk result (λ told. AreLinesOf (finding path.now (number, word) ∷ []) told.lines.items) }
+    ensures lines { IfOk result (λ told. AreLinesOf format (finding path.now (number, word) ∷ []) told.lines.items) }
     ensures refused { IfOk result (λ told. told.refused ≡ 1) }
 {
-    let lines = line_of(alloc, path, cause.line, number, word, &cause.sentence)?;
+    let lines = line_of(alloc, format, path, number, word, cause)?;
     Ok(Told { lines, refused: 1 })
 }
 
 // No line.
 fn no_lines(alloc: Global) -> Told
-    ensures lines { AreLinesOf [] result.lines.items }
+    ensures lines { (format : AFormat) → AreLinesOf format [] result.lines.items }
     ensures refused { result.refused ≡ 0 }
 {
     Told {
@@ -109,43 +106,29 @@ fn no_lines(alloc: Global) -> Told
 // The line of the first faulty record of an airport file.
 fn airport_line(
     alloc: Global,
+    format: Format,
     path: &str,
     text: &[u8],
     number: usize,
     word: RefusalWord,
 ) -> Result<Told, AllocError>
-    ensures lines { IfOk result (λ told. AreLinesOf (finding path.now (number, word) ∷ []) told.lines.items) }
+    ensures lines { IfOk result (λ told. AreLinesOf format (finding path.now (number, word) ∷ []) told.lines.items) }
     ensures refused { IfOk result (λ told. told.refused ≡ 1) }
 {
     let cause = airport_fault(alloc, text, number, word)?;
-    one_line(alloc, path, &cause, number, word)
-}
-
-// The line of the first faulty record of a scenario file.
-fn scenario_line(
-    alloc: Global,
-    path: &str,
-    day: Day,
-    text: &[u8],
-    number: usize,
-    word: RefusalWord,
-) -> Result<Told, AllocError>
-    ensures lines { IfOk result (λ told. AreLinesOf (finding path.now (number, word) ∷ []) told.lines.items) }
-    ensures refused { IfOk result (λ told. told.refused ≡ 1) }
-{
-    let cause = scenario_fault(alloc, day, text, number, word)?;
-    one_line(alloc, path, &cause, number, word)
+    one_line(alloc, format, path, number, word, &cause)
 }
 
 // The line of the first faulty record of a scenario file, if there is one.
 fn scenario_lines(
     alloc: Global,
+    format: Format,
     path: &str,
     airport: &Airport,
     text: &[u8],
 ) -> Result<Told, AllocError>
     ensures lines { IfOk result (λ told.
-        AreLinesOf (fault_at path.now (scenarios_in airport.now.day text.now)) told.lines.items) }
+        AreLinesOf format (fault_at path.now (scenarios_in airport.now.day text.now)) told.lines.items) }
     ensures refused { IfOk result (λ told.
         told.refused ≡ length (fault_at path.now (scenarios_in airport.now.day text.now))) }
     ensures one { IfOk result (λ told. told.refused ≤ 1) }
@@ -153,9 +136,10 @@ fn scenario_lines(
     let day = *airport.day();
     match read_scenarios(alloc, &day, text) {
         Ok(_) => Ok(no_lines(alloc)),
-        Err(FileFault::Refused(number, word)) => scenario_line(
-            alloc, path, day, text, number, word,
-        ),
+        Err(FileFault::Refused(number, word)) => {
+            let cause = scenario_fault(alloc, day, text, number, word)?;
+            one_line(alloc, format, path, number, word, &cause)
+        }
         Err(FileFault::Memory) => Err(AllocError),
     }
 }
@@ -173,13 +157,14 @@ fn scenario_path(paths: FilePaths<'_>) -> &str
 // What is found in the feed and in the scenario file of an airport.
 fn told_of_day<R: Threads + Sync, G: Gate>(
     lent: &Lent<'_, R, G>,
+    format: Format,
     paths: FilePaths<'_>,
     airport: Airport,
     feed: &[u8],
     scenarios: &[u8],
 ) -> Result<Told, AllocError>
     requires { length feed.now ≤ input_limit }
-    ensures lines { IfOk result (λ told. AreLinesOf (take most_told (
+    ensures lines { IfOk result (λ told. AreLinesOf format (take most_told (
         findings_at (Ok airport) (airport_file paths.entry []) (feed_file paths.entry feed.now) (scenario_file paths.entry scenarios.now))) told.lines.items) }
     ensures refused { IfOk result (λ told. told.refused ≡ length (
         findings_at (Ok airport) (airport_file paths.entry []) (feed_file paths.entry feed.now) (scenario_file paths.entry scenarios.now))) }
@@ -187,8 +172,9 @@ fn told_of_day<R: Threads + Sync, G: Gate>(
     let alloc = lent.alloc;
     let judged = judge(lent.rt, alloc, airport, feed, lent.workers, lent.gate)?;
     let airport = judged.state.airport();
-    let mut lines = feed_lines(alloc, paths.feed, airport, feed, first_of(&judged.refused))?;
-    let scenario = scenario_lines(alloc, scenario_path(paths), airport, scenarios)?;
+    let refused = first_of(&judged.refused);
+    let mut lines = feed_lines(alloc, format, paths.feed, airport, feed, refused)?;
+    let scenario = scenario_lines(alloc, format, scenario_path(paths), airport, scenarios)?;
     if judged.refused.len() < MOST_TOLD {
         lines.extend_from_slice(&scenario.lines)?;
     }
@@ -202,20 +188,21 @@ fn told_of_day<R: Threads + Sync, G: Gate>(
 #[tactic(auto, unfolding(crate::specs::Findings::findings_in))]
 fn told_of<R: Threads + Sync, G: Gate>(
     lent: &Lent<'_, R, G>,
+    format: Format,
     paths: FilePaths<'_>,
     inputs: &Inputs,
 ) -> Result<Told, AllocError>
     requires { vec_len inputs.now.second ≤ input_limit }
-    ensures lines { IfOk result (λ told. AreLinesOf (take most_told (findings_in (airport_file paths.entry inputs.now.airport.items)
+    ensures lines { IfOk result (λ told. AreLinesOf format (take most_told (findings_in (airport_file paths.entry inputs.now.airport.items)
         (feed_file paths.entry inputs.now.second.items) (scenario_file paths.entry inputs.now.third.items))) told.lines.items) }
     ensures refused { IfOk result (λ told. told.refused ≡ length (findings_in (airport_file paths.entry inputs.now.airport.items)
         (feed_file paths.entry inputs.now.second.items) (scenario_file paths.entry inputs.now.third.items))) }
 {
     let alloc = lent.alloc;
     match read_airport(alloc, &inputs.airport) {
-        Ok(airport) => told_of_day(lent, paths, airport, &inputs.second, &inputs.third),
+        Ok(airport) => told_of_day(lent, format, paths, airport, &inputs.second, &inputs.third),
         Err(FileFault::Refused(number, word)) => {
-            airport_line(alloc, paths.airport, &inputs.airport, number, word)
+            airport_line(alloc, format, paths.airport, &inputs.airport, number, word)
         }
         Err(FileFault::Memory) => Err(AllocError),
     }
@@ -235,11 +222,16 @@ fn record_counts(alloc: Global, inputs: &Inputs) -> Result<usize, AllocError>
 }
 
 // The hints on a scenario file, if there is one.
-fn scenario_hints(alloc: Global, path: Option<&str>, text: &[u8]) -> Result<Vec<u8>, AllocError>
-    ensures { IfOk result (λ hints. AreHintsOf (unwrap_or (option_copied path.entry) []) hints.items) }
+fn scenario_hints(
+    alloc: Global,
+    format: Format,
+    path: Option<&str>,
+    text: &[u8],
+) -> Result<Vec<u8>, AllocError>
+    ensures { IfOk result (λ hints. AreHintsOf format (unwrap_or (option_copied path.entry) []) hints.items) }
 {
     match path {
-        Some(path) => hints_of(alloc, path, FileKind::Scenarios, text),
+        Some(path) => hints_of(alloc, format, path, FileKind::Scenarios, text),
         None => Ok(Vec::new(alloc)),
     }
 }
@@ -252,26 +244,33 @@ pub fn check_of<R: Threads + Sync, G: Gate>(
     lent: &Lent<'_, R, G>,
     paths: FilePaths<'_>,
     inputs: &Inputs,
+    format: Format,
 ) -> Result<Checked, AllocError>
     requires second { vec_len inputs.now.second ≤ input_limit }
     requires third { vec_len inputs.now.third ≤ input_limit }
     ensures text { IfOk result (λ check.
-        IsCheckAt paths.entry inputs.now.airport.items inputs.now.second.items inputs.now.third.items check.text.items) }
+        IsCheckAt format paths.entry inputs.now.airport.items inputs.now.second.items inputs.now.third.items check.text.items) }
     ensures counts { IfOk result (λ check.
         check.counts ≡ counts_at paths.entry inputs.now.airport.items inputs.now.second.items inputs.now.third.items) }
 {
     let alloc = lent.alloc;
-    let told = told_of(lent, paths, inputs)?;
+    let told = told_of(lent, format, paths, inputs)?;
     let records = record_counts(alloc, inputs)?;
     let refused = told.refused;
     let mut text = told.lines;
-    let airport = hints_of(alloc, paths.airport, FileKind::Airport, &inputs.airport)?;
+    let airport = hints_of(
+        alloc,
+        format,
+        paths.airport,
+        FileKind::Airport,
+        &inputs.airport,
+    )?;
     text.extend_from_slice(&airport)?;
-    let feed = hints_of(alloc, paths.feed, FileKind::Feed, &inputs.second)?;
+    let feed = hints_of(alloc, format, paths.feed, FileKind::Feed, &inputs.second)?;
     text.extend_from_slice(&feed)?;
-    let scenarios = scenario_hints(alloc, paths.scenarios, &inputs.third)?;
+    let scenarios = scenario_hints(alloc, format, paths.scenarios, &inputs.third)?;
     text.extend_from_slice(&scenarios)?;
-    let last = last_line(alloc, records, refused)?;
+    let last = last_line(alloc, format, records, refused)?;
     text.extend_from_slice(&last)?;
     let counts = CheckCounts { records, refused };
     Ok(Checked { text, counts })

@@ -10,29 +10,36 @@ use crate::place::{line_of, without_mark};
 use crate::quotes::open_quote;
 use crate::shown::trimmed;
 use cdm_files::{RecordReader, role_of};
+use cdm_kinds::Format;
 use csv::ByteRecord;
 use std::alloc::{AllocError, Global};
 
 /// The hints on a file of this kind, a line each.
 pub(crate) fn hints_of(
     alloc: Global,
+    format: Format,
     path: &str,
     file: FileKind,
     text: &[u8],
 ) -> Result<Vec<u8>, AllocError>
-    ensures { IfOk result (λ hints. AreHintsOf path.now hints.items) }
+    ensures { IfOk result (λ hints. AreHintsOf format path.now hints.items) }
 {
     let hints = hints_in(alloc, file, text)?;
-    lines_of(alloc, path, &hints)
+    lines_of(alloc, format, path, &hints)
 }
 
 // The lines of hints on a file.
-fn lines_of(alloc: Global, path: &str, hints: &[String]) -> Result<Vec<u8>, AllocError>
-    ensures { IfOk result (λ text. AreHintsOf path.now text.items) }
+fn lines_of(
+    alloc: Global,
+    format: Format,
+    path: &str,
+    hints: &[String],
+) -> Result<Vec<u8>, AllocError>
+    ensures { IfOk result (λ text. AreHintsOf format path.now text.items) }
 {
     let mut text = Vec::new(alloc);
     for hint in hints {
-        let line = hint_line(alloc, path, hint)?;
+        let line = hint_line(alloc, format, path, hint)?;
         text.extend_from_slice(&line)?;
     }
     Ok(text)

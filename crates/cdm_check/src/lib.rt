@@ -12,6 +12,7 @@ mod hints;
 mod kinds;
 mod known;
 mod lines;
+mod objects;
 mod paths;
 mod place;
 mod quotes;

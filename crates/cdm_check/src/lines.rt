@@ -1,11 +1,15 @@
 //! The lines of a check.
 ghost use Rattle.std.specs.Prelude.{◌≡◌, ◌≤◌, length, take, filter, IfOk};
+ghost use Rattle.std.specs.String.{string_bytes};
 ghost use Rattle.cdm_files.specs.Records.{records_of};
-ghost use Rattle.cdm_check.specs.Check.{IsHintOf, IsLineOf, IsSentence, is_printable, last_line};
+ghost use Rattle.cdm_check.specs.Check.{IsHintOf, IsLineOf, IsSentence, finding_text, hint_line, is_printable, last_line, last_text};
 ghost use Rattle.cdm_check.specs.Findings.{finding};
 
+use crate::objects::{finding_object, hint_object, last_object};
+use crate::place::Cause;
 use cdm_files::RecordReader;
 use cdm_flight::RefusalWord;
+use cdm_kinds::Format;
 use csv::ByteRecord;
 use std::alloc::{AllocError, Global};
 use std::fmt::Write;
@@ -35,55 +39,78 @@ fn cut(alloc: Global, text: &[u8]) -> Result<Vec<u8>, AllocError>
 }
 
 // A text as a sentence.
-fn sentence_of(alloc: Global, text: &str) -> Result<Vec<u8>, AllocError>
-    ensures { IfOk result (λ sentence. IsSentence sentence.items) }
+fn sentence_of(alloc: Global, text: &str) -> Result<String, AllocError>
+    ensures { IfOk result (λ sentence. IsSentence (string_bytes sentence)) }
 {
     let sentence = cut(alloc, text.as_bytes())?;
-    Ok(sentence)
+    Ok(String::from_utf8(sentence).unwrap())
+}
+
+// The line of a refused record as text.
+fn finding_text(
+    alloc: Global,
+    path: &str,
+    line: u64,
+    number: usize,
+    word: RefusalWord,
+    sentence: &str,
+) -> Result<Vec<u8>, AllocError>
+    ensures { IfOk result (λ text. text.items ≡ finding_text (finding path.now (number, word)) line sentence.now) }
+{
+    let mut text = String::new(alloc);
+    writeln!(text, "{path}:{line}: record {number}: {word}: {sentence}")?;
+    Ok(text.into_bytes())
 }
 
 /// The line of a refused record: its file's path, the line on which it begins, its number, its word and why
 /// it is refused.
 pub(crate) fn line_of(
     alloc: Global,
+    format: Format,
     path: &str,
-    line: u64,
     number: usize,
     word: RefusalWord,
-    cause: &str,
+    cause: &Cause,
 ) -> Result<Vec<u8>, AllocError>
-    ensures { IfOk result (λ text. IsLineOf (finding path.now (number, word)) text.items) }
+    ensures { IfOk result (λ text. IsLineOf format (finding path.now (number, word)) text.items) }
 {
-    let sentence = sentence_of(alloc, cause)?;
+    let line = cause.line;
+    let sentence = sentence_of(alloc, &cause.sentence)?;
+    match format {
+        Format::Text => finding_text(alloc, path, line, number, word, &sentence),
+        Format::Json => finding_object(alloc, path, line, number, word, &sentence),
+    }
+}
+
+// The line of a hint as text.
+fn hint_text(alloc: Global, path: &str, hint: &str) -> Result<Vec<u8>, AllocError>
+    ensures { IfOk result (λ text. text.items ≡ hint_line Format.Text path.now hint.now) }
+{
     let mut text = String::new(alloc);
-    write!(text, "{path}:{line}: record {number}: {word}: ")?;
-    let mut text = text.into_bytes();
-    text.extend_from_slice(&sentence)?;
-    text.extend_from_slice(b"\n")?;
-    Ok(text)
+    writeln!(text, "{path}: {hint}")?;
+    Ok(text.into_bytes())
 }
 
 /// The line of a hint on a file.
-pub(crate) fn hint_line(alloc: Global, path: &str, hint: &str) -> Result<Vec<u8>, AllocError>
-    ensures { IfOk result (λ text. IsHintOf path.now text.items) }
+pub(crate) fn hint_line(
+    alloc: Global,
+    format: Format,
+    path: &str,
+    hint: &str,
+) -> Result<Vec<u8>, AllocError>
+    ensures { IfOk result (λ text. IsHintOf format path.now text.items) }
 {
     let sentence = sentence_of(alloc, hint)?;
-    let mut text = String::new(alloc);
-    write!(text, "{path}: ")?;
-    let mut text = text.into_bytes();
-    text.extend_from_slice(&sentence)?;
-    text.extend_from_slice(b"\n")?;
-    Ok(text)
+    match format {
+        Format::Text => hint_text(alloc, path, &sentence),
+        Format::Json => hint_object(alloc, path, &sentence),
+    }
 }
 
-/// The last line: how many records there are, and how many of them are refused.
-#[tactic(auto, unfolding(crate::specs::Check::last_line))]
-pub(crate) fn last_line(
-    alloc: Global,
-    records: usize,
-    refused: usize,
-) -> Result<Vec<u8>, AllocError>
-    ensures { IfOk result (λ text. text.items ≡ last_line records refused) }
+// The last line as text.
+#[tactic(auto, unfolding(crate::specs::Check::last_text))]
+fn last_text(alloc: Global, records: usize, refused: usize) -> Result<Vec<u8>, AllocError>
+    ensures { IfOk result (λ text. text.items ≡ last_text records refused) }
 {
     let mut text = String::new(alloc);
     if refused <= MOST_TOLD {
@@ -96,6 +123,21 @@ pub(crate) fn last_line(
         )?;
     }
     Ok(text.into_bytes())
+}
+
+/// The last line: how many records there are, and how many of them are refused.
+pub(crate) fn last_line(
+    alloc: Global,
+    format: Format,
+    records: usize,
+    refused: usize,
+) -> Result<Vec<u8>, AllocError>
+    ensures { IfOk result (λ text. text.items ≡ last_line format records refused) }
+{
+    match format {
+        Format::Text => last_text(alloc, records, refused),
+        Format::Json => last_object(alloc, records, refused),
+    }
 }
 
 /// How many records a text has.

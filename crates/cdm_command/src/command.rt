@@ -4,6 +4,7 @@ ghost use Rattle.cdm_command.specs.declared.command.CommandFault.TheVariants as 
 
 use crate::manual::manual;
 use crate::parsers::parser;
+use cdm_feed::DayText;
 use cdm_flight::{FlightName, RunwayName};
 use cdm_kinds::Format;
 use cdm_phase::Workers;
@@ -19,24 +20,30 @@ use thiserror::Error;
 /// The name of a file that is standard input.
 pub const STANDARD_INPUT: &str = "-";
 
-/// A scenario of a file.
+/// The paths of the files of a day, and of its scenarios, if there are some.
 #[derive(Clone, Copy, PartialEq, Eq, Debug)]
-pub struct WhatIf<'a> {
-    /// The path of the file.
-    pub scenarios: &'a str,
-    /// The name of the scenario.
-    pub name: ScenarioName,
+pub struct DayFiles<'a> {
+    /// The airport file.
+    pub airport: &'a str,
+    /// The feed.
+    pub feed: &'a str,
+    /// The scenario file.
+    pub scenarios: Option<&'a str>,
 }
 
 /// What the words ask for. Files are named by their paths, one at most as [`STANDARD_INPUT`].
 #[derive(PartialEq, Eq, Debug, Drop)]
 pub enum Command<'a> {
-    /// Plan the departures of a feed at an airport, and of each scenario, by so many workers.
-    Plan {
-        airport: &'a str,
-        feed: &'a str,
-        scenarios: Option<&'a str>,
+    /// Tell this of the day that a feed makes at an airport, and of its scenarios, by so many workers.
+    Tell {
+        files: DayFiles<'a>,
+        text: DayText,
         workers: Workers,
+    },
+    /// Check the files of a day at an airport, and of its scenarios.
+    Check {
+        files: DayFiles<'a>,
+        format: Format,
     },
     /// Let two desks post a feed each to one board, at an airport.
     Live {
@@ -44,44 +51,11 @@ pub enum Command<'a> {
         feed1: &'a str,
         feed2: &'a str,
     },
-    /// Make a table of the day that a feed makes at an airport, and of each scenario, by so many workers.
-    Tabulate {
-        airport: &'a str,
-        feed: &'a str,
-        scenarios: Option<&'a str>,
-        table: Table,
-        workers: Workers,
-    },
-    /// Draw the day that a feed makes at an airport, and each scenario, by so many workers.
-    Draw {
-        airport: &'a str,
-        feed: &'a str,
-        scenarios: Option<&'a str>,
-        workers: Workers,
-    },
-    /// Answer a question of the day that a feed makes at an airport, or of that day with a scenario.
-    Ask {
-        airport: &'a str,
-        feed: &'a str,
-        what_if: Option<WhatIf<'a>>,
-        question: Question,
-    },
-    /// Trace which record of a feed moved whose start-up at an airport, or that of one flight.
-    Trace {
-        airport: &'a str,
-        feed: &'a str,
-        flight: Option<FlightName>,
-    },
     /// Serve the day of an airport as it happens, with a journal. Standard input has the records.
     Serve {
         airport: &'a str,
         journal: &'a str,
-    },
-    /// Check the files of a day at an airport, and of its scenarios.
-    Check {
-        airport: &'a str,
-        feed: &'a str,
-        scenarios: Option<&'a str>,
+        format: Format,
     },
     /// Print the table of the kinds of updates.
     Kinds(Format),
@@ -93,43 +67,14 @@ impl Command<'_> {
     // Whether more than one of the files is standard input.
     fn has_standard_input_twice(&self) -> bool {
         let files = match self {
-            Command::Plan {
-                airport,
-                feed,
-                scenarios,
-                ..
+            Command::Tell { files, .. } | Command::Check { files, .. } => {
+                [Some(files.airport), Some(files.feed), files.scenarios]
             }
-            | Command::Tabulate {
-                airport,
-                feed,
-                scenarios,
-                ..
-            }
-            | Command::Draw {
-                airport,
-                feed,
-                scenarios,
-                ..
-            }
-            | Command::Check {
-                airport,
-                feed,
-                scenarios,
-            } => [Some(*airport), Some(*feed), *scenarios],
             Command::Live {
                 airport,
                 feed1,
                 feed2,
             } => [Some(*airport), Some(*feed1), Some(*feed2)],
-            Command::Ask {
-                airport,
-                feed,
-                what_if: Some(WhatIf { scenarios, .. }),
-                ..
-            } => [Some(*airport), Some(*feed), Some(*scenarios)],
-            Command::Ask { airport, feed, .. } | Command::Trace { airport, feed, .. } => {
-                [Some(*airport), Some(*feed), None]
-            }
             Command::Serve { .. } | Command::Kinds(_) | Command::Print(_) => [None; 3],
         };
         files
@@ -181,7 +126,7 @@ pub fn command_of<'a, S: AsStr>(
         Some(("check", check)) => check_of(check),
         Some(("why", why)) => why_of(alloc, why)?,
         Some(("load", load)) => load_of(alloc, load)?,
-        Some(("kinds", kinds)) => kinds_of(kinds),
+        Some(("kinds", kinds)) => Some(Command::Kinds(format_of(kinds))),
         Some((_, help)) => Some(help_of(alloc, help.get_str("COMMAND"))?),
         None => None,
     };
@@ -224,35 +169,51 @@ fn wrong_words(alloc: Global, cause: &str) -> Result<CommandFault, AllocError> {
     Ok(CommandFault::Usage(format!(in alloc; "error: {cause}\n")?))
 }
 
+// The files of a day, with this scenario file.
+fn files_of<'a>(words: &ArgMatches<'a>, scenarios: Option<&'a str>) -> Option<DayFiles<'a>> {
+    Some(DayFiles {
+        airport: words.get_str("AIRPORT")?,
+        feed: words.get_str("FEED")?,
+        scenarios,
+    })
+}
+
+// How the output is written.
+fn format_of(words: &ArgMatches<'_>) -> Format {
+    match words.get_str("format") {
+        Some("json") => Format::Json,
+        _ => Format::Text,
+    }
+}
+
+// What one worker tells of a day.
+fn told_by_one(files: DayFiles<'_>, text: DayText) -> Option<Command<'_>> {
+    let workers = Workers::new(1)?;
+    Some(Command::Tell {
+        files,
+        text,
+        workers,
+    })
+}
+
 // The words of `plan`, all of which the parser has seen to.
 fn plan_of<'a>(plan: &ArgMatches<'a>) -> Option<Command<'a>> {
-    let airport = plan.get_str("AIRPORT")?;
-    let feed = plan.get_str("FEED")?;
-    let scenarios = plan.get_str("scenarios");
-    let workers = workers_of(plan)?;
-    match plan.get_str("format")? {
-        "csv" => Some(Command::Tabulate {
-            airport,
-            feed,
-            scenarios,
-            table: Table::Csv,
-            workers,
-        }),
-        _ => Some(Command::Plan {
-            airport,
-            feed,
-            scenarios,
-            workers,
-        }),
-    }
+    let text = match plan.get_str("format")? {
+        "csv" => DayText::Table(Table::Csv),
+        _ => DayText::Plan(format_of(plan)),
+    };
+    Some(Command::Tell {
+        files: files_of(plan, plan.get_str("scenarios"))?,
+        text,
+        workers: workers_of(plan)?,
+    })
 }
 
 // The words of `picture`, all of which the parser has seen to.
 fn picture_of<'a>(picture: &ArgMatches<'a>) -> Option<Command<'a>> {
-    Some(Command::Draw {
-        airport: picture.get_str("AIRPORT")?,
-        feed: picture.get_str("FEED")?,
-        scenarios: picture.get_str("scenarios"),
+    Some(Command::Tell {
+        files: files_of(picture, picture.get_str("scenarios"))?,
+        text: DayText::Picture,
         workers: workers_of(picture)?,
     })
 }
@@ -267,10 +228,8 @@ fn compare_of<'a>(
     alloc: Global,
     compare: &ArgMatches<'a>,
 ) -> Result<Option<Command<'a>>, CommandFault> {
-    let (Some(airport), Some(feed), Some(scenarios), Some(workers)) = (
-        compare.get_str("AIRPORT"),
-        compare.get_str("FEED"),
-        compare.get_str("SCENARIOS"),
+    let (Some(files), Some(workers)) = (
+        files_of(compare, compare.get_str("SCENARIOS")),
         workers_of(compare),
     ) else {
         return Ok(None);
@@ -279,11 +238,20 @@ fn compare_of<'a>(
         Some(word) => Some(scenario_in(alloc, word, "[NAME]")?),
         None => None,
     };
-    Ok(Some(Command::Tabulate {
-        airport,
-        feed,
-        scenarios: Some(scenarios),
-        table: Table::Comparison(name),
+    let table = match (compare.get_str("format"), name) {
+        (Some("csv"), None) => Table::ComparisonCsv,
+        (Some("csv"), Some(_)) => {
+            return Err(wrong_words(
+                alloc,
+                "with --format csv no scenario can be named: rows have no room for what changes by it",
+            )?);
+        }
+        (Some("json"), name) => Table::ComparisonJson(name),
+        (_, name) => Table::Comparison(name),
+    };
+    Ok(Some(Command::Tell {
+        files,
+        text: DayText::Table(table),
         workers,
     }))
 }
@@ -301,19 +269,38 @@ fn scenario_in(alloc: Global, word: &str, argument: &str) -> Result<ScenarioName
     }
 }
 
-// The scenario that a question is asked of, if one is named. Its file and its name are named together.
+// The file of the scenario that a question is asked of, and its name, if one is named. They are named together.
 fn what_if_of<'a>(
     alloc: Global,
     words: &ArgMatches<'a>,
-) -> Result<Option<WhatIf<'a>>, CommandFault> {
+) -> Result<Option<(&'a str, ScenarioName)>, CommandFault> {
     match (words.get_str("scenarios"), words.get_str("scenario")) {
         (Some(scenarios), Some(word)) => {
             let name = scenario_in(alloc, word, "--scenario <NAME>")?;
-            Ok(Some(WhatIf { scenarios, name }))
+            Ok(Some((scenarios, name)))
         }
         (None, None) => Ok(None),
         (Some(_), None) => Err(missing(alloc, "--scenario <NAME>")?),
         (None, Some(_)) => Err(missing(alloc, "--scenarios <FILE>")?),
+    }
+}
+
+// The words of a question, all of which the parser has seen to but the scenario.
+fn question_of<'a>(
+    alloc: Global,
+    words: &ArgMatches<'a>,
+    question: Question,
+) -> Result<Option<Command<'a>>, CommandFault> {
+    let (scenarios, name) = match what_if_of(alloc, words)? {
+        Some((scenarios, name)) => (Some(scenarios), Some(name)),
+        None => (None, None),
+    };
+    match files_of(words, scenarios) {
+        Some(files) => {
+            let text = DayText::Answer(question, name, format_of(words));
+            Ok(told_by_one(files, text))
+        }
+        None => Ok(None),
     }
 }
 
@@ -326,40 +313,23 @@ fn live_of<'a>(live: &ArgMatches<'a>) -> Option<Command<'a>> {
     })
 }
 
-// The words of `kinds`, all of which the parser has seen to.
-fn kinds_of<'a>(kinds: &ArgMatches<'a>) -> Option<Command<'a>> {
-    match kinds.get_str("format")? {
-        "json" => Some(Command::Kinds(Format::Json)),
-        _ => Some(Command::Kinds(Format::Text)),
-    }
-}
-
 // The words of `check`, all of which the parser has seen to.
 fn check_of<'a>(check: &ArgMatches<'a>) -> Option<Command<'a>> {
     Some(Command::Check {
-        airport: check.get_str("AIRPORT")?,
-        feed: check.get_str("FEED")?,
-        scenarios: check.get_str("scenarios"),
+        files: files_of(check, check.get_str("scenarios"))?,
+        format: format_of(check),
     })
 }
 
 // The words of `why`, all of which the parser has seen to but the form of the flight.
 fn why_of<'a>(alloc: Global, why: &ArgMatches<'a>) -> Result<Option<Command<'a>>, CommandFault> {
-    let (Some(airport), Some(feed), Some(word)) = (
-        why.get_str("AIRPORT"),
-        why.get_str("FEED"),
-        why.get_str("FLIGHT"),
-    ) else {
-        return Ok(None);
-    };
-    let question = Question::Why(flight_in(alloc, word, "<FLIGHT>")?);
-    let what_if = what_if_of(alloc, why)?;
-    Ok(Some(Command::Ask {
-        airport,
-        feed,
-        what_if,
-        question,
-    }))
+    match why.get_str("FLIGHT") {
+        Some(word) => {
+            let flight = flight_in(alloc, word, "<FLIGHT>")?;
+            question_of(alloc, why, Question::Why(flight))
+        }
+        None => Ok(None),
+    }
 }
 
 // The words of `trace`, all of which the parser has seen to but the form of the flight.
@@ -367,18 +337,14 @@ fn trace_of<'a>(
     alloc: Global,
     trace: &ArgMatches<'a>,
 ) -> Result<Option<Command<'a>>, CommandFault> {
-    let (Some(airport), Some(feed)) = (trace.get_str("AIRPORT"), trace.get_str("FEED")) else {
-        return Ok(None);
-    };
     let flight = match trace.get_str("FLIGHT") {
         Some(word) => Some(flight_in(alloc, word, "[FLIGHT]")?),
         None => None,
     };
-    Ok(Some(Command::Trace {
-        airport,
-        feed,
-        flight,
-    }))
+    match files_of(trace, None) {
+        Some(files) => Ok(told_by_one(files, DayText::Trace(flight, format_of(trace)))),
+        None => Ok(None),
+    }
 }
 
 // The flight that a word names.
@@ -403,26 +369,20 @@ fn serve_of<'a>(
             "standard input has the records, so no file can be '-'",
         )?);
     }
-    Ok(Some(Command::Serve { airport, journal }))
+    Ok(Some(Command::Serve {
+        airport,
+        journal,
+        format: format_of(serve),
+    }))
 }
 
 // The words of `load`, all of which the parser has seen to but the form of the runway.
 fn load_of<'a>(alloc: Global, load: &ArgMatches<'a>) -> Result<Option<Command<'a>>, CommandFault> {
-    let (Some(airport), Some(feed)) = (load.get_str("AIRPORT"), load.get_str("FEED")) else {
-        return Ok(None);
-    };
     let runway = match load.get_str("RUNWAY") {
         Some(word) => Some(runway_in(alloc, word)?),
         None => None,
     };
-    let question = Question::Load(runway);
-    let what_if = what_if_of(alloc, load)?;
-    Ok(Some(Command::Ask {
-        airport,
-        feed,
-        what_if,
-        question,
-    }))
+    question_of(alloc, load, Question::Load(runway))
 }
 
 // The runway that a word names.

@@ -5,4 +5,4 @@ mod command;
 mod manual;
 mod parsers;
 
-pub use command::{Command, CommandFault, STANDARD_INPUT, WhatIf, command_of};
+pub use command::{Command, CommandFault, DayFiles, STANDARD_INPUT, command_of};

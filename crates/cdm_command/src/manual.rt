@@ -465,6 +465,26 @@ THE OUTPUT
   kind, what it is of, the roles that may send it, and the field's name, form
   and range. With --format json each kind is an object on a line of its own.
 
+JSON
+  With --format json plan, compare, why, load, trace, check and serve print one
+  object a line, for programs. Each has all its members, null where there is
+  nothing; times are as in the files, minutes and counts are numbers.
+  plan     of the day and of each scenario: scenario, day, now, placed, delay,
+           max, late, blocked, rules (how many flights each cause blocks),
+           flights (the columns of --format csv), refused (record, word)
+  compare  scenario, placed, delay, max, late, blocked, moved; and of a scenario
+           that is named flight, before and after for each flight that moved
+  why      row (the flight's columns), ice (kind, minutes), now, waits (from,
+           to, reason, cap, flights)
+  load     runway, cell, now, cells (from, placed, cap, closed, flights)
+  trace    of each record that is refused or changes a column of a flight:
+           record, reply, and word or accepted (how many updates there are) and
+           changes (those flights); of one flight record, fields, row
+  check    path, line, record, word, sentence; path, hint; records, refused
+  serve    ready; then for each record and question one line: record, reply, and
+           the members above
+  A scenario that is refused has scenario, update and word.
+
 STATUS
   0  done: standard output has the whole text, also where records were refused
   1  a file can't be read or written, the text can't be written, memory is

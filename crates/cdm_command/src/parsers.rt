@@ -9,11 +9,14 @@ use crate::manual::{
 use clap::{Arg, Command as Parser, value_parser};
 use std::alloc::{AllocError, Global};
 
-/// How a plan can be printed.
-const FORMATS: &[&str] = &["text", "csv"];
+/// How the output can be written.
+const FORMATS: &[&str] = &["text", "json"];
 
-/// How the table of kinds can be printed.
-const KINDS_FORMATS: &[&str] = &["text", "json"];
+/// How a plan and a comparison can be written.
+const TABLE_FORMATS: &[&str] = &["text", "csv", "json"];
+
+/// What the formats are, where there are two.
+const TEXT_OR_JSON: &str = "text, or json for programs";
 
 /// What scenarios are, where they are answered.
 const OVER_THE_FEED: &str = "What-if scenarios, each answered over the feed";
@@ -34,26 +37,29 @@ fn scenario_arg<'a>(alloc: Global) -> Arg<'a> {
         .help("The one of them that the answer is over")
 }
 
+// How the output is written, in one of these formats.
+fn format_arg<'a>(alloc: Global, formats: &'a [&'a str], help: &'a str) -> Arg<'a> {
+    Arg::new(alloc, "format")
+        .long("format")
+        .value_name("FORMAT")
+        .value_parser(formats)
+        .default_value("text")
+        .hide_possible_values(true)
+        .help(help)
+}
+
 // The words that `check` takes.
 fn check_parser<'a>(alloc: Global) -> Result<Parser<'a>, AllocError> {
-    day_parser(alloc, "check", CHECK_ABOUT, CHECK_EXAMPLE)?.arg(scenarios_arg(
-        alloc,
-        "What-if scenarios, to be checked too",
-    ))
+    day_parser(alloc, "check", CHECK_ABOUT, CHECK_EXAMPLE)?
+        .arg(scenarios_arg(alloc, "What-if scenarios, to be checked too"))?
+        .arg(format_arg(alloc, FORMATS, TEXT_OR_JSON))
 }
 
 // The words that `plan` takes.
 fn plan_parser<'a>(alloc: Global) -> Result<Parser<'a>, AllocError> {
-    let format = Arg::new(alloc, "format")
-        .long("format")
-        .value_name("FORMAT")
-        .value_parser(FORMATS)
-        .default_value("text")
-        .hide_possible_values(true)
-        .help("text, or csv: a row for each flight");
     day_parser(alloc, "plan", PLAN_ABOUT, PLAN_EXAMPLE)?
         .arg(scenarios_arg(alloc, OVER_THE_FEED))?
-        .arg(format)?
+        .arg(format_arg(alloc, TABLE_FORMATS, "text, csv: a row a flight, or json"))?
         .arg(workers_arg(alloc))
 }
 
@@ -76,6 +82,7 @@ fn compare_parser<'a>(alloc: Global) -> Result<Parser<'a>, AllocError> {
     day_parser(alloc, "compare", COMPARE_ABOUT, COMPARE_EXAMPLE)?
         .arg(scenarios)?
         .arg(name)?
+        .arg(format_arg(alloc, TABLE_FORMATS, "text, csv: a row a line, or json"))?
         .arg(workers_arg(alloc))
 }
 
@@ -133,7 +140,8 @@ fn why_parser<'a>(alloc: Global) -> Result<Parser<'a>, AllocError> {
     day_parser(alloc, "why", WHY_ABOUT, WHY_EXAMPLE)?
         .arg(flight)?
         .arg(scenarios_arg(alloc, OVER_THE_FEED))?
-        .arg(scenario_arg(alloc))
+        .arg(scenario_arg(alloc))?
+        .arg(format_arg(alloc, FORMATS, TEXT_OR_JSON))
 }
 
 // The words that `load` takes.
@@ -142,13 +150,16 @@ fn load_parser<'a>(alloc: Global) -> Result<Parser<'a>, AllocError> {
     day_parser(alloc, "load", LOAD_ABOUT, LOAD_EXAMPLE)?
         .arg(runway)?
         .arg(scenarios_arg(alloc, OVER_THE_FEED))?
-        .arg(scenario_arg(alloc))
+        .arg(scenario_arg(alloc))?
+        .arg(format_arg(alloc, FORMATS, TEXT_OR_JSON))
 }
 
 // The words that `trace` takes.
 fn trace_parser<'a>(alloc: Global) -> Result<Parser<'a>, AllocError> {
     let flight = Arg::new(alloc, "FLIGHT").help("One flight alone, with the records that move it");
-    day_parser(alloc, "trace", TRACE_ABOUT, TRACE_EXAMPLE)?.arg(flight)
+    day_parser(alloc, "trace", TRACE_ABOUT, TRACE_EXAMPLE)?
+        .arg(flight)?
+        .arg(format_arg(alloc, FORMATS, TEXT_OR_JSON))
 }
 
 // The words that `serve` takes.
@@ -163,18 +174,13 @@ fn serve_parser<'a>(alloc: Global) -> Result<Parser<'a>, AllocError> {
         .about(SERVE_ABOUT)
         .after_help(SERVE_EXAMPLE)
         .arg(airport)?
-        .arg(journal)
+        .arg(journal)?
+        .arg(format_arg(alloc, FORMATS, TEXT_OR_JSON))
 }
 
 // The words that `kinds` takes.
 fn kinds_parser<'a>(alloc: Global) -> Result<Parser<'a>, AllocError> {
-    let format = Arg::new(alloc, "format")
-        .long("format")
-        .value_name("FORMAT")
-        .value_parser(KINDS_FORMATS)
-        .default_value("text")
-        .hide_possible_values(true)
-        .help("text, or json: an object for each kind");
+    let format = format_arg(alloc, FORMATS, "text, or json: an object for each kind");
     Parser::new(alloc, "kinds")
         .about(KINDS_ABOUT)
         .after_help(KINDS_EXAMPLE)

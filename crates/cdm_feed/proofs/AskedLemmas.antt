@@ -9,6 +9,7 @@ use Rattle.cdm_view.specs.declared.fault.ViewFault.TheVariants as view
 use Rattle.cdm_view.specs.declared.question.Question.{Question}
 use Rattle.cdm_scenario.specs.Outcome.{IsLaid}
 use Rattle.cdm_scenario.specs.Scenarios.{ScenarioRecord, scenario_named}
+use Rattle.cdm_kinds.specs.declared.format.Format.{Format}
 use Rattle.cdm_files.specs.declared.common_fault.CommonFault.TheVariants as common
 use Rattle.cdm_files.specs.declared.run_error.RunError.{RunError}
 use Rattle.cdm_files.specs.declared.run_error.RunError.TheVariants as error
@@ -32,24 +33,24 @@ over_fault question d name s day laid (view.NoFlight flight) is = (day, laid, is
 over_fault question d name s day laid (view.NoRunway runway) is = (day, laid, is)
 over_fault question d name s day laid view.Memory is = tt
 
-pub base_fault : (question : Question) (d : DayRecord) (questions : List ScenarioRecord) (fault : ViewFault) → IsUnanswered question d fault
-    → IsUntold (Answer question None) d questions (view_error fault)
-base_fault question d questions (view.NoFlight flight) is = (d, refl, is)
-base_fault question d questions (view.NoRunway runway) is = (d, refl, is)
-base_fault question d questions view.Memory is = tt
+pub base_fault : (question : Question) (format : Format) (d : DayRecord) (questions : List ScenarioRecord) (fault : ViewFault) → IsUnanswered question d fault
+    → IsUntold (Answer question None format) d questions (view_error fault)
+base_fault question format d questions (view.NoFlight flight) is = (d, refl, is)
+base_fault question format d questions (view.NoRunway runway) is = (d, refl, is)
+base_fault question format d questions view.Memory is = tt
 
-module _ (question : Question) (d : DayRecord) (questions : List ScenarioRecord) (name : List ℕ) (s : ScenarioRecord) (found : scenario_named questions name ≡ Some s) where
+module _ (question : Question) (format : Format) (d : DayRecord) (questions : List ScenarioRecord) (name : List ℕ) (s : ScenarioRecord) (found : scenario_named questions name ≡ Some s) where
   -- an answer
-  pub view-of : (text : List ℕ) → IsView question (IsLaid d s.updates) text → IsView question (IsAskedOf (Some name) d questions) text
+  pub view-of : (text : List ℕ) → IsView format question (IsLaid d s.updates) text → IsView format question (IsAskedOf (Some name) d questions) text
   view-of text is =
-      subst (λ (o : Option ScenarioRecord). IsView question (λ by. IsSomeAnd o (λ t. IsLaid d t.updates by)) text) (sym found) is
+      subst (λ (o : Option ScenarioRecord). IsView format question (λ by. IsSomeAnd o (λ t. IsLaid d t.updates by)) text) (sym found) is
 
   -- what is said of the scenario is said of the one that has the name
   laid-of : (r : Result DayRecord (ℕ × RefusalWord)) → IsLaid d s.updates r → IsAskedOf (Some name) d questions r
   laid-of r is = subst (λ (o : Option ScenarioRecord). IsSomeAnd o (λ t. IsLaid d t.updates r)) (sym found) is
 
   -- why there is no answer
-  pub untold-of : (e : RunError) → IsUntoldOver question d name s e → IsUntold (Answer question (Some name)) d questions e
+  pub untold-of : (e : RunError) → IsUntoldOver question d name s e → IsUntold (Answer question (Some name) format) d questions e
   untold-of (error.Common common.Memory) is = is
   untold-of (error.Common (common.Read input)) is = absurd is
   untold-of (error.Common (common.TooLong input)) is = absurd is

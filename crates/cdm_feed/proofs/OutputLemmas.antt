@@ -16,19 +16,22 @@ use Rattle.cdm_scenario.specs.Scenarios.{ScenarioRecord, scenario_named}
 use Rattle.cdm_report.specs.Counts.{counts_of}
 use Rattle.cdm_report.specs.Report.{report_bytes}
 use Rattle.cdm_sequence.specs.declared.plan.Plan.{Plan}
-use Rattle.cdm_table.proofs.TableLemmas.{one_table}
+use Rattle.cdm_kinds.specs.declared.format.Format.{Format}
+use Rattle.cdm_kinds.specs.declared.format.Format.TheVariants.{Text, Json}
+use Rattle.cdm_json.proofs.OneAnswer.{answer_one as json_answer_one}
+use Rattle.cdm_table.proofs.TableLemmas.{one_plans, one_table}
 use Rattle.cdm_trace.proofs.OneTrace.{one}
-use Rattle.cdm_view.specs.Questions.{IsAnswer as IsAnswerTo}
 use Rattle.cdm_view.specs.declared.question.Question.{Question}
 use Rattle.cdm_view.proofs.AnswerLemmas.{answer_one}
 use Rattle.cdm_files.specs.FeedDay.{day_in}
 use Rattle.cdm_files.proofs.FeedDayLemmas.{own_airport, own_journal}
 use Rattle.cdm_feed.specs.Answers.{IsAnswer}
-use Rattle.cdm_feed.specs.Made.{HaveOne, IsAskedOf, IsMade, IsTextOf, IsView}
+use Rattle.cdm_feed.specs.Made.{HaveOne, IsAnswerIn, IsAskedOf, IsMade, IsPlanIn, IsTextOf, IsView}
 use Rattle.cdm_feed.specs.Output.{HaveOneText, IsMadeBy, IsReport}
 use Rattle.cdm_feed.specs.inner.OneAnswer.{one_answer}
 use Rattle.cdm_feed.specs.declared.asked.DayText.{DayText}
-use Rattle.cdm_feed.specs.declared.asked.DayText.TheVariants.{Report, Table, Picture, Answer, Trace}
+use Rattle.cdm_feed.specs.declared.asked.DayText.TheVariants.{Table, Picture, Answer, Trace}
+use Rattle.cdm_feed.specs.declared.asked.DayText.TheVariants as told
 use Rattle.cdm_feed.specs.declared.asked.Asked.{Asked}
 use Rattle.cdm_feed.specs.declared.asked.Asked.TheVariants as ask
 use Rattle.cdm_feed.specs.declared.counted.Counted.{Counted}
@@ -48,22 +51,33 @@ one-report d refused questions own x y a b =
     (subst (λ (p : Plan). AllZip (IsAnswer d (counts_of p)) questions b.answers) plans b.of_scenarios) in
     a.bytes ∙ (λ i. report_bytes d.airport.day (sym plans i) refused ++ concat (answers i)) ∙ sym b.bytes
 
--- a day has one answer
-one-answer : (question : Question) (d : DayRecord) → IsAirport d.airport → Own d → (x y : List ℕ) (p q : Plan) → IsDayPlan d p → IsDayPlan d q
-    → IsAnswerTo question d p x → IsAnswerTo question d q y → x ≡ y
-one-answer question d kept own x y p q of_p of_q a b =
+one-plan : (format : Format) (d : DayRecord) (refused : List (ℕ × RefusalWord)) (questions : List ScenarioRecord) → Own d
+    → (x y : List ℕ) → IsPlanIn format d refused questions x → IsPlanIn format d refused questions y → x ≡ y
+one-plan Text d refused questions own x y a b = one-report d refused questions own x y a b
+one-plan Json d refused questions own x y a b = one_plans d own.0 own.1 refused questions x y a b
+
+-- a day with its plan has one answer
+one-in : (format : Format) (question : Question) (d : DayRecord) → IsAirport d.airport → Own d → (x y : List ℕ) (p : Plan) → IsDayPlan d p
+    → IsAnswerIn format question d p x → IsAnswerIn format question d p y → x ≡ y
+one-in Text question d kept own x y p is a b = answer_one question d p x y kept a b
+one-in Json question d kept own x y p is a b = json_answer_one question d None p x y kept own.1 is a b
+
+-- and so has a day
+one-answer : (format : Format) (question : Question) (d : DayRecord) → IsAirport d.airport → Own d → (x y : List ℕ) (p q : Plan) → IsDayPlan d p → IsDayPlan d q
+    → IsAnswerIn format question d p x → IsAnswerIn format question d q y → x ≡ y
+one-answer format question d kept own x y p q of_p of_q a b =
     let plans : q ≡ p = one_day_plan d q p own.0 own.1 of_q of_p in
-    answer_one question d p x y kept a (subst (λ (r : Plan). IsAnswerTo question d r y) plans b)
+    one-in format question d kept own x y p of_p a (subst (λ (r : Plan). IsAnswerIn format question d r y) plans b)
 
 -- and so has what is said to be one day, whose runways and flights have names of their own
-one-view : (question : Question) (IsDay : Result DayRecord (ℕ × RefusalWord) → Type 0) (x y : List ℕ)
+one-view : (format : Format) (question : Question) (IsDay : Result DayRecord (ℕ × RefusalWord) → Type 0) (x y : List ℕ)
     → ((d e : DayRecord) → IsDay (Ok d) → IsDay (Ok e) → e ≡ d) → ((d : DayRecord) → IsDay (Ok d) → IsAirport d.airport × Own d)
-    → IsView question IsDay x → IsView question IsDay y → x ≡ y
-one-view question IsDay x y alone kept a b =
+    → IsView format question IsDay x → IsView format question IsDay y → x ≡ y
+one-view format question IsDay x y alone kept a b =
     let same : b.day ≡ a.day = alone a.day b.day a.is_day b.is_day in
     let own = kept a.day a.is_day in
-    one-answer question a.day own.0 own.1 x y a.plan b.plan a.of_day (subst (λ (d : DayRecord). IsDayPlan d b.plan) same b.of_day)
-    a.answer (subst (λ (d : DayRecord). IsAnswerTo question d b.plan y) same b.answer)
+    one-answer format question a.day own.0 own.1 x y a.plan b.plan a.of_day (subst (λ (d : DayRecord). IsDayPlan d b.plan) same b.of_day)
+    a.answer (subst (λ (d : DayRecord). IsAnswerIn format question d b.plan y) same b.answer)
 
 module _ (d : DayRecord) (kept : IsAirport d.airport) (own : Own d) where
   one-laid : (us : List Update) (x y : DayRecord) → IsLaid d us (Ok x) → IsLaid d us (Ok y) → y ≡ x
@@ -82,12 +96,12 @@ module _ (d : DayRecord) (kept : IsAirport d.airport) (own : Own d) where
   own-asked None x is = absurd is
 
   -- whatever scenario is asked about
-  one-of : (question : Question) (scenario : Option (List ℕ)) (questions : List ScenarioRecord) (x y : List ℕ)
-      → IsView question (IsAskedOf scenario d questions) x → IsView question (IsAskedOf scenario d questions) y → x ≡ y
-  one-of question None questions x y =
-      one-view question (IsAskedOf None d questions) x y (λ a b is so. cc) (λ a is. let same : d ≡ a = cc in subst (λ (e : DayRecord). IsAirport e.airport × Own e) same (kept, own))
-  one-of question (Some name) questions x y =
-      one-view question (IsAskedOf (Some name) d questions) x y (one-asked (scenario_named questions name)) (own-asked (scenario_named questions name))
+  one-of : (format : Format) (question : Question) (scenario : Option (List ℕ)) (questions : List ScenarioRecord) (x y : List ℕ)
+      → IsView format question (IsAskedOf scenario d questions) x → IsView format question (IsAskedOf scenario d questions) y → x ≡ y
+  one-of format question None questions x y =
+      one-view format question (IsAskedOf None d questions) x y (λ a b is so. cc) (λ a is. let same : d ≡ a = cc in subst (λ (e : DayRecord). IsAirport e.airport × Own e) same (kept, own))
+  one-of format question (Some name) questions x y =
+      one-view format question (IsAskedOf (Some name) d questions) x y (one-asked (scenario_named questions name)) (own-asked (scenario_named questions name))
 
 -- where an airport, a feed and scenarios have one text, three files have one
 one-by : (IsText : AirportRows → List ℕ → List ScenarioRecord → List ℕ → Type 0) (airport feed scenarios : List ℕ)
@@ -104,7 +118,7 @@ own-day g feed kept = (kept.names, own_journal g feed)
 
 pub one-output : (airport feed scenarios : List ℕ) → HaveOneText airport feed scenarios
 one-output airport feed scenarios =
-    one-by (IsTextOf Report) airport feed scenarios (λ g questions kept. one-report (day_in g feed) _ questions (own-day g feed kept))
+    one-by (IsTextOf (told.Plan Text)) airport feed scenarios (λ g questions kept. one-report (day_in g feed) _ questions (own-day g feed kept))
 
 one-counted : (asked : DayText) (airport feed scenarios : List ℕ)
     → ((g : AirportRows) (questions : List ScenarioRecord) → IsAirport g → (x y : List ℕ) → IsTextOf asked g feed questions x → IsTextOf asked g feed questions y → x ≡ y)
@@ -114,13 +128,14 @@ one-counted asked airport feed scenarios alone x y (counted.Check c) d a b = abs
 one-counted asked airport feed scenarios alone x y (counted.Day c) (counted.Check d) a b = absurd b
 
 pub one-each : (asked : Asked) (airport feed scenarios : List ℕ) → HaveOne asked airport feed scenarios
-one-each (ask.Check paths) airport feed scenarios = tt
+one-each (ask.Check paths format) airport feed scenarios = tt
 one-each (ask.Day Picture) airport feed scenarios = tt
-one-each (ask.Day Report) airport feed scenarios =
-    one-counted Report airport feed scenarios (λ g questions kept. one-report (day_in g feed) _ questions (own-day g feed kept))
+one-each (ask.Day (told.Plan format)) airport feed scenarios =
+    one-counted (told.Plan format) airport feed scenarios (λ g questions kept. one-plan format (day_in g feed) _ questions (own-day g feed kept))
 one-each (ask.Day (Table table)) airport feed scenarios =
     one-counted (Table table) airport feed scenarios (λ g questions kept. one_table (day_in g feed) kept.names (own_journal g feed) table questions)
-one-each (ask.Day (Answer question scenario)) airport feed scenarios =
-    one-counted (Answer question scenario) airport feed scenarios (λ g questions kept. one-of (day_in g feed) kept (own-day g feed kept) question scenario questions)
-one-each (ask.Day (Trace flight)) airport feed scenarios =
-    one-counted (Trace flight) airport feed scenarios (λ g questions kept x y a b. one flight g feed kept x y a.1 b.1)
+one-each (ask.Day (Answer question scenario format)) airport feed scenarios =
+    one-counted (Answer question scenario format) airport feed scenarios
+    (λ g questions kept. one-of (day_in g feed) kept (own-day g feed kept) format question scenario questions)
+one-each (ask.Day (Trace flight format)) airport feed scenarios =
+    one-counted (Trace flight format) airport feed scenarios (λ g questions kept x y a b. one format flight g feed kept x y a.1 b.1)

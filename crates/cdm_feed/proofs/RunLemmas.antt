@@ -22,7 +22,8 @@ use Rattle.cdm_feed.specs.Made.{HaveText, IsFirstOf, IsMade, IsUnmade, IsUntold}
 use Rattle.cdm_feed.specs.Output.{IsOutput}
 use Rattle.cdm_feed.specs.Counts.{day_counts}
 use Rattle.cdm_feed.specs.declared.asked.DayText.{DayText}
-use Rattle.cdm_feed.specs.declared.asked.DayText.TheVariants.{Report}
+use Rattle.cdm_kinds.specs.declared.format.Format.TheVariants.{Text}
+use Rattle.cdm_feed.specs.declared.asked.DayText.TheVariants as told
 use Rattle.cdm_feed.specs.declared.asked.Asked.{Asked}
 use Rattle.cdm_feed.specs.declared.asked.Asked.TheVariants as ask
 use Rattle.cdm_feed.specs.declared.counted.Counted.{Counted}
@@ -37,18 +38,18 @@ of-read x y z first second third p =
 -- a fault of the inputs is the first, whatever is asked for
 pub input-first : (asked : Asked) (a f s : Reading) (e : CommonFault) → IsFirstInputFault a f s e → IsFirstOf asked a f s (error.Common e)
 input-first (ask.Day asked) a f s e fault = input_fault-first a f s _ e fault
-input-first (ask.Check paths) a f s (common.Read name) fault = fault
-input-first (ask.Check paths) a f s (common.TooLong name) fault = fault
-input-first (ask.Check paths) a f s (common.Airport number word) fault = absurd fault
-input-first (ask.Check paths) a f s common.Memory fault = fault
-input-first (ask.Check paths) a f s common.Write fault = absurd fault
+input-first (ask.Check paths format) a f s (common.Read name) fault = fault
+input-first (ask.Check paths format) a f s (common.TooLong name) fault = fault
+input-first (ask.Check paths format) a f s (common.Airport number word) fault = absurd fault
+input-first (ask.Check paths format) a f s common.Memory fault = fault
+input-first (ask.Check paths format) a f s common.Write fault = absurd fault
 
 -- and so is why whole inputs make no text, where they were read
 pub unmade-first : (asked : Asked) (a f s : Reading) (x y z : List ℕ) (e : RunError) → AreRead a f s
     → IfSome a.before (λ all. x ≡ all) → IfSome f.before (λ all. y ≡ all) → IfSome s.before (λ all. z ≡ all)
     → IsUnmade asked x y z e → IsFirstOf asked a f s e
-unmade-first (ask.Check paths) a f s x y z e read first second third fault =
-    subst (IsFirstOf (ask.Check paths) a f s) (sym fault) (read.0.unfailed, read.1.unfailed, read.2.unfailed)
+unmade-first (ask.Check paths format) a f s x y z e read first second third fault =
+    subst (IsFirstOf (ask.Check paths format) a f s) (sym fault) (read.0.unfailed, read.1.unfailed, read.2.unfailed)
 unmade-first (ask.Day asked) a f s x y z (error.Common e) read first second third fault = airport_record-first a f s _ x e read first fault
 unmade-first (ask.Day asked) a f s x y z (error.Scenario number word) read first second third fault = (read, of-read x y z first second third fault)
 unmade-first (ask.Day asked) a f s x y z (error.NoFlight name) read first second third fault = (read, of-read x y z first second third fault)
@@ -92,12 +93,12 @@ untold-unmade asked a f s d questions (error.Update name number word) airport is
 -- and so is a failed write of a text that they make
 pub write-first : (asked : Asked) (a f s : Reading) → AreRead a f s → OfBytes a.before f.before s.before (HaveText asked) → IsFirstOf asked a f s (error.Common common.Write)
 write-first (ask.Day asked) a f s read made = (read, made)
-write-first (ask.Check paths) a f s read made = (read, made)
+write-first (ask.Check paths format) a f s read made = (read, made)
 
 -- Where a report is asked for.
 
 -- the text is that of the feed and its scenarios
-pub report-output : (x y z text : List ℕ) (c : Counted) → IsMade (ask.Day Report) x y z text c → IsOutput x y z text (day_counts c)
+pub report-output : (x y z text : List ℕ) (c : Counted) → IsMade (ask.Day (told.Plan Text)) x y z text c → IsOutput x y z text (day_counts c)
 report-output x y z text (counted.Day counts) made = made
 report-output x y z text (counted.Check counts) made = absurd made
 
@@ -105,7 +106,7 @@ ok-said : {A E : Type 0} (r : Result A E) (x : A) → r ≡ Ok x → IsOk r
 ok-said r x is = subst IsOk (sym is) refl
 
 -- a report is made of an airport file that is accepted, and of a scenario file too
-report-asks : (x y z text : List ℕ) (c : Counted) → IsMade (ask.Day Report) x y z text c → Asks IsOk x z
+report-asks : (x y z text : List ℕ) (c : Counted) → IsMade (ask.Day (told.Plan Text)) x y z text c → Asks IsOk x z
 report-asks x y z text (counted.Day counts) made =
     subst (λ r. IsOkAnd r (λ g. IsOk (scenarios_in g.day z))) (sym made.airport_file) (ok-said (scenarios_in made.rows.day z) made.questions made.scenario_file)
 report-asks x y z text (counted.Check counts) made = absurd made
@@ -127,7 +128,7 @@ never (Ok g) next h = by (next g) h
 never (Err e) next h = h
 
 -- and so the first fault is that of a run that makes a report
-pub report-first : (a f s : Reading) (e : RunError) → IsFirstOf (ask.Day Report) a f s e → IsFirstFault a f s e
+pub report-first : (a f s : Reading) (e : RunError) → IsFirstOf (ask.Day (told.Plan Text)) a f s e → IsFirstFault a f s e
 report-first a f s (error.Common (common.Read name)) fault = fault
 report-first a f s (error.Common (common.TooLong name)) fault = fault
 report-first a f s (error.Common (common.Airport number word)) fault = fault

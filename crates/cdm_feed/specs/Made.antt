@@ -13,6 +13,10 @@ use Rattle.cdm_view.specs.declared.fault.ViewFault.TheVariants as view
 use Rattle.cdm_view.specs.declared.question.Question.{Question}
 use Rattle.cdm_scenario.specs.Outcome.{IsLaid}
 use Rattle.cdm_scenario.specs.Scenarios.{ScenarioRecord, scenario_named}
+use Rattle.cdm_kinds.specs.declared.format.Format.{Format}
+use Rattle.cdm_kinds.specs.declared.format.Format.TheVariants.{Text, Json}
+use Rattle.cdm_json.specs.Answers.{IsJsonAnswer}
+use Rattle.cdm_table.specs.Plans.{IsPlans}
 use Rattle.cdm_table.specs.Tables.{IsTable, unknown_among}
 use Rattle.cdm_table.specs.declared.table.TableFault.{TableFault}
 use Rattle.cdm_table.specs.declared.table.TableFault.TheVariants as table
@@ -30,7 +34,8 @@ use Rattle.cdm_files.specs.declared.run_error.RunError.{RunError}
 use Rattle.cdm_files.specs.declared.run_error.RunError.TheVariants as error
 use Rattle.cdm_feed.specs.Output.{IsMadeBy, IsReport}
 use Rattle.cdm_feed.specs.declared.asked.DayText.{DayText}
-use Rattle.cdm_feed.specs.declared.asked.DayText.TheVariants.{Report, Table, Picture, Answer, Trace}
+use Rattle.cdm_feed.specs.declared.asked.DayText.TheVariants.{Table, Picture, Answer, Trace}
+use Rattle.cdm_feed.specs.declared.asked.DayText.TheVariants as told
 use Rattle.cdm_feed.specs.declared.asked.Asked.{Asked}
 use Rattle.cdm_feed.specs.declared.asked.Asked.TheVariants as ask
 use Rattle.cdm_feed.specs.declared.counted.Counted.{Counted}
@@ -44,13 +49,18 @@ abbrev pub IsAskedOf : Option (List ℕ) → DayRecord → List ScenarioRecord �
 IsAskedOf None d scenarios = λ by. by ≡ Ok d
 IsAskedOf (Some name) d scenarios = λ by. IsSomeAnd (scenario_named scenarios name) (λ s. IsLaid d s.updates by)
 
+-- the text that answers a question of a day with this plan, as text or as JSON
+abbrev pub IsAnswerIn : Format → Question → DayRecord → Plan → List ℕ → Type 0
+IsAnswerIn Text question day plan text = IsAnswer question day plan text
+IsAnswerIn Json question day plan text = IsJsonAnswer question day None plan text
+
 -- the text answers a question of a day of which this is said
-pub record IsView (question : Question) (IsDay : Result DayRecord (ℕ × RefusalWord) → Type 0) (text : List ℕ) : Type 0 where
+pub record IsView (format : Format) (question : Question) (IsDay : Result DayRecord (ℕ × RefusalWord) → Type 0) (text : List ℕ) : Type 0 where
   pub day : DayRecord
   pub is_day : IsDay (Ok day)
   pub plan : Plan
   pub of_day : IsDayPlan day plan
-  pub answer : IsAnswer question day plan text
+  pub answer : IsAnswerIn format question day plan text
 
 -- the day of which this is said has no answer to the question
 abbrev pub HasNoView : Question → (Result DayRecord (ℕ × RefusalWord) → Type 0) → ViewFault → Type 0
@@ -61,18 +71,23 @@ abbrev pub IsKnown : Option (List ℕ) → DayRecord → Type 0
 IsKnown None d = ⊤
 IsKnown (Some name) d = IsSome (flight_of d.airport d.journal name)
 
+-- the text that is the plan of a day with its refused records, and the answer to each scenario: a report, or JSON
+abbrev pub IsPlanIn : Format → DayRecord → List (ℕ × RefusalWord) → List ScenarioRecord → List ℕ → Type 0
+IsPlanIn Text d refused scenarios text = IsReport d refused scenarios text
+IsPlanIn Json d refused scenarios text = IsPlans d refused scenarios text
+
 -- the text that tells this of the day of an airport and a feed, and of scenarios over it
 abbrev pub IsTextOf : DayText → AirportRows → List ℕ → List ScenarioRecord → List ℕ → Type 0
-IsTextOf Report g feed = IsReport (day_in g feed) (refusals_in g feed)
+IsTextOf (told.Plan format) g feed = IsPlanIn format (day_in g feed) (refusals_in g feed)
 IsTextOf (Table table) g feed = IsTable table (day_in g feed)
 IsTextOf Picture g feed = IsPicture (day_in g feed)
-IsTextOf (Answer question scenario) g feed = λ questions. IsView question (IsAskedOf scenario (day_in g feed) questions)
-IsTextOf (Trace flight) g feed = λ questions text. IsKnown flight (day_in g feed) × IsTrace flight g feed text
+IsTextOf (Answer question scenario format) g feed = λ questions. IsView format question (IsAskedOf scenario (day_in g feed) questions)
+IsTextOf (Trace flight format) g feed = λ questions text. IsKnown flight (day_in g feed) × IsTrace format flight g feed text
 
 -- the text that is made of the bytes of an airport file, of a feed and of a scenario file, and what is counted
 abbrev pub IsMade : Asked → List ℕ → List ℕ → List ℕ → List ℕ → Counted → Type 0
 IsMade (ask.Day asked) a f s text (counted.Day counts) = IsMadeBy (IsTextOf asked) a f s text counts
-IsMade (ask.Check paths) a f s text (counted.Check counts) = IsCheckAt paths a f s text × (counts ≡ counts_at paths a f s)
+IsMade (ask.Check paths format) a f s text (counted.Check counts) = IsCheckAt format paths a f s text × (counts ≡ counts_at paths a f s)
 IsMade asked a f s text other = ⊥
 
 -- there is such a text
@@ -81,7 +96,7 @@ HaveText asked a f s = (text : List ℕ) × (counts : Counted) × IsMade asked a
 
 -- and one at most. Of a picture its height and its legend are only tested, and of a check its sentences.
 abbrev pub HaveOne : Asked → List ℕ → List ℕ → List ℕ → Type 0
-HaveOne (ask.Check paths) a f s = ⊤
+HaveOne (ask.Check paths format) a f s = ⊤
 HaveOne (ask.Day Picture) a f s = ⊤
 HaveOne asked a f s = (x y : List ℕ) (c d : Counted) → IsMade asked a f s x c → IsMade asked a f s y d → x ≡ y
 
@@ -101,18 +116,18 @@ view_error view.Memory = error.Common common.Memory
 -- is no memory
 abbrev pub IsUntold : DayText → DayRecord → List ScenarioRecord → RunError → Type 0
 IsUntold asked d questions (error.Common common.Memory) = ⊤
-IsUntold (Answer question scenario) d questions (error.NoFlight name) = HasNoView question (IsAskedOf scenario d questions) (view.NoFlight name)
-IsUntold (Answer question scenario) d questions (error.NoRunway name) = HasNoView question (IsAskedOf scenario d questions) (view.NoRunway name)
-IsUntold (Answer question scenario) d questions (error.NoScenario name) = (scenario ≡ Some name) × (scenario_named questions name ≡ None)
-IsUntold (Answer question scenario) d questions (error.Update name number word) = (scenario ≡ Some name) × IsAskedOf scenario d questions (Err (number, word))
-IsUntold (Trace flight) d questions (error.NoFlight name) = (flight ≡ Some name) × (flight_of d.airport d.journal name ≡ None)
+IsUntold (Answer question scenario format) d questions (error.NoFlight name) = HasNoView question (IsAskedOf scenario d questions) (view.NoFlight name)
+IsUntold (Answer question scenario format) d questions (error.NoRunway name) = HasNoView question (IsAskedOf scenario d questions) (view.NoRunway name)
+IsUntold (Answer question scenario format) d questions (error.NoScenario name) = (scenario ≡ Some name) × (scenario_named questions name ≡ None)
+IsUntold (Answer question scenario format) d questions (error.Update name number word) = (scenario ≡ Some name) × IsAskedOf scenario d questions (Err (number, word))
+IsUntold (Trace flight format) d questions (error.NoFlight name) = (flight ≡ Some name) × (flight_of d.airport d.journal name ≡ None)
 IsUntold (Table table) d questions (error.NoScenario name) = unknown_among questions table ≡ Some name
 IsUntold asked d questions fault = ⊥
 
 -- why whole inputs make no such text: the first faulty record, of the airport file or else of the scenario file, what the
 -- day doesn't know, or want of memory. To a check a faulty record is a finding, and no fault.
 abbrev pub IsUnmade : Asked → List ℕ → List ℕ → List ℕ → RunError → Type 0
-IsUnmade (ask.Check paths) a f s fault = fault ≡ error.Common common.Memory
+IsUnmade (ask.Check paths format) a f s fault = fault ≡ error.Common common.Memory
 IsUnmade (ask.Day asked) a f s (error.Common fault) = IsAirportFault a fault
 IsUnmade (ask.Day asked) a f s (error.Scenario number word) = Asks (λ said. said ≡ Err (number, word)) a s
 IsUnmade (ask.Day asked) a f s fault =
@@ -122,6 +137,6 @@ IsUnmade (ask.Day asked) a f s fault =
 -- text is written
 abbrev pub IsFirstOf : Asked → Reading → Reading → Reading → RunError → Type 0
 IsFirstOf (ask.Day asked) a f s (error.Common fault) = IsFirstCommonFault a f s (OfBytes a.before f.before s.before (HaveText (ask.Day asked))) fault
-IsFirstOf (ask.Check paths) a f s (error.Common (common.Airport number word)) = ⊥
-IsFirstOf (ask.Check paths) a f s (error.Common fault) = IsFirstCommonFault a f s (OfBytes a.before f.before s.before (HaveText (ask.Check paths))) fault
+IsFirstOf (ask.Check paths format) a f s (error.Common (common.Airport number word)) = ⊥
+IsFirstOf (ask.Check paths format) a f s (error.Common fault) = IsFirstCommonFault a f s (OfBytes a.before f.before s.before (HaveText (ask.Check paths format))) fault
 IsFirstOf asked a f s fault = AreRead a f s × OfBytes a.before f.before s.before (λ x y z. IsUnmade asked x y z fault)

@@ -1,6 +1,7 @@
 //! What is asked of a run.
 use cdm_check::FilePaths;
 use cdm_flight::FlightName;
+use cdm_kinds::Format;
 use cdm_scenario::ScenarioName;
 use cdm_table::Table;
 use cdm_view::Question;
@@ -8,16 +9,16 @@ use cdm_view::Question;
 /// What is told of a day, which an airport file and a feed make, and of the scenarios of a scenario file over it.
 #[derive(Clone, Copy, PartialEq, Eq, Debug)]
 pub enum DayText {
-    /// The report of the day with the feed's refused records, and then the answer to each scenario.
-    Report,
+    /// The plan of the day with the feed's refused records, and then the answer to each scenario: a report, or a line of JSON each.
+    Plan(Format),
     /// A table of the day and the scenarios.
     Table(Table),
     /// The picture of the day, and of each scenario beneath it.
     Picture,
     /// The answer to a question of the day, or of the day with all updates of the scenario of this name.
-    Answer(Question, Option<ScenarioName>),
+    Answer(Question, Option<ScenarioName>, Format),
     /// Which records of the feed moved whose start-up, or that of one flight.
-    Trace(Option<FlightName>),
+    Trace(Option<FlightName>, Format),
 }
 
 /// What is asked of a run.
@@ -26,5 +27,5 @@ pub enum Asked<'a> {
     /// What is told of the day.
     Day(DayText),
     /// What is wrong with the files, which have these paths.
-    Check(FilePaths<'a>),
+    Check(FilePaths<'a>, Format),
 }

@@ -6,7 +6,9 @@ ghost use Rattle.cdm_files.specs.Input.{input_limit};
 ghost use Rattle.cdm_table.specs.Tables.{IsTable};
 ghost use Rattle.cdm_trace.specs.Traces.{IsTrace};
 ghost use Rattle.cdm_scenario.specs.Outcome.{IsLaid};
-ghost use Rattle.cdm_feed.specs.Made.{IsAskedOf, IsKnown, IsMade, IsTextOf, IsUnmade, IsUntold, IsView, table_error, view_error};
+ghost use Rattle.cdm_plan.specs.DayPlan.{IsDayPlan};
+ghost use Rattle.cdm_view.specs.Questions.{IsUnanswered};
+ghost use Rattle.cdm_feed.specs.Made.{IsAnswerIn, IsAskedOf, IsKnown, IsMade, IsPlanIn, IsTextOf, IsUnmade, IsUntold, IsView, table_error, view_error};
 ghost use Rattle.cdm_feed.specs.Output.{IsReport};
 ghost use Rattle.cdm_feed.specs.inner.Over.{IsUntoldOver};
 
@@ -15,15 +17,18 @@ use crate::asked::{Asked, DayText};
 use crate::counted::Counted;
 use crate::runs::RunCounts;
 use cdm_check::{Checked, check_of};
-use cdm_day::{DayState, Records, plan_of};
+use cdm_day::{Airport, DayState, Records, plan_of};
 use cdm_files::{AskedDay, CommonFault, Inputs, Lent, RunError, asked_day};
 use cdm_flight::FlightName;
+use cdm_json::json_answer;
+use cdm_kinds::Format;
 use cdm_phase::Gate;
 use cdm_picture::picture;
 use cdm_plan::Runner;
 use cdm_report::{indicators, report_text};
 use cdm_scenario::{Overlay, Scenario, ScenarioName, scenario_named};
-use cdm_table::{Table, TableFault, tabulate};
+use cdm_sequence::Plan;
+use cdm_table::{Table, TableFault, plans_json, tabulate};
 use cdm_trace::trace_of;
 use cdm_view::{Question, ViewFault, answer};
 use std::alloc::{AllocError, Global};
@@ -34,6 +39,15 @@ use std::thread::Threads;
 pub(crate) struct Made {
     pub(crate) text: Vec<u8>,
     pub(crate) counted: Counted,
+}
+
+// What a plan is made by.
+fn runner_of<'a, R: Threads + Sync, G: Gate>(lent: &'a Lent<'_, R, G>) -> Runner<'a, R, G> {
+    Runner {
+        rt: lent.rt,
+        workers: lent.workers,
+        gate: lent.gate,
+    }
 }
 
 // The report of a day, and then the answer to each scenario.
@@ -48,6 +62,26 @@ fn report_of<R: Threads + Sync, G: Gate>(
     let mut text = report_text(lent.alloc, state.day(), plan, &day.refused)?;
     push_answers(lent, state, indicators(plan), &day.scenarios, &mut text)?;
     Ok(text)
+}
+
+// The plan of a day and of its scenarios.
+fn plan_in<R: Threads + Sync, G: Gate>(
+    lent: &Lent<'_, R, G>,
+    format: Format,
+    day: &AskedDay,
+) -> Result<Vec<u8>, AllocError>
+    ensures { IfOk result (λ text. IsPlanIn format day.now.state day.now.refused.items day.now.scenarios.items text.items) }
+{
+    match format {
+        Format::Text => report_of(lent, day),
+        Format::Json => plans_json(
+            lent.alloc,
+            &day.state,
+            &day.refused,
+            &day.scenarios,
+            &runner_of(lent),
+        ),
+    }
 }
 
 // Why there is no table, as the error of a run.
@@ -74,12 +108,7 @@ fn table_of<R: Threads + Sync, G: Gate>(
         scenarios,
         ..
     } = day;
-    let runner = Runner {
-        rt: lent.rt,
-        workers: lent.workers,
-        gate: lent.gate,
-    };
-    match tabulate(lent.alloc, state, scenarios, table, &runner) {
+    match tabulate(lent.alloc, state, scenarios, table, &runner_of(lent)) {
         Ok(text) => Ok(text),
         Err(fault) => Err(table_error(fault)),
     }
@@ -96,13 +125,39 @@ fn view_error(fault: ViewFault) -> RunError
     }
 }
 
+// A question, and how its answer is written.
+#[derive(Clone, Copy)]
+struct Asking {
+    question: Question,
+    format: Format,
+}
+
+// The answer to a question of a day, as text or as JSON.
+fn answer_in<R: Records>(
+    alloc: Global,
+    asking: Asking,
+    airport: &Airport,
+    records: &R,
+    plan: &Plan,
+) -> Result<Vec<u8>, ViewFault>
+    requires airport { airport.now ≡ (R.day records.now).airport }
+    requires plan { IsDayPlan (R.day records.now) plan.now }
+    ensures answer { IfOk result (λ text. IsAnswerIn asking.format asking.question (R.day records.now) plan.entry.now text.items) }
+    ensures fault { IfErr result (IsUnanswered asking.question (R.day records.now)) }
+{
+    match asking.format {
+        Format::Text => answer(alloc, airport, records, plan, asking.question),
+        Format::Json => json_answer(alloc, None, airport, records, plan, asking.question),
+    }
+}
+
 // The answer to a question of a day.
-fn answer_of_base(alloc: Global, question: Question, day: &AskedDay) -> Result<Vec<u8>, RunError>
-    ensures made { IfOk result (λ text. IsView question (IsAskedOf None day.now.state day.now.scenarios.items) text.items) }
-    ensures fault { IfErr result (IsUntold (DayText.Answer question None) day.now.state day.now.scenarios.items) }
+fn answer_of_base(alloc: Global, asking: Asking, day: &AskedDay) -> Result<Vec<u8>, RunError>
+    ensures made { IfOk result (λ text. IsView asking.format asking.question (IsAskedOf None day.now.state day.now.scenarios.items) text.items) }
+    ensures fault { IfErr result (IsUntold (DayText.Answer asking.question None asking.format) day.now.state day.now.scenarios.items) }
 {
     let state = &day.state;
-    match answer(alloc, state.airport(), state, state.plan(), question) {
+    match answer_in(alloc, asking, state.airport(), state, state.plan()) {
         Ok(text) => Ok(text),
         Err(fault) => Err(view_error(fault)),
     }
@@ -111,18 +166,18 @@ fn answer_of_base(alloc: Global, question: Question, day: &AskedDay) -> Result<V
 // The answer to a question of a day with all updates of the scenario that was asked for by this name.
 fn answer_over(
     alloc: Global,
-    question: Question,
+    asking: Asking,
     base: &DayState,
     name: ScenarioName,
     scenario: &Scenario,
 ) -> Result<Vec<u8>, RunError>
-    ensures made { IfOk result (λ text. IsView question (IsLaid base.now scenario.now.updates) text.items) }
-    ensures fault { IfErr result (IsUntoldOver question base.now name scenario.now) }
+    ensures made { IfOk result (λ text. IsView asking.format asking.question (IsLaid base.now scenario.now.updates) text.items) }
+    ensures fault { IfErr result (IsUntoldOver asking.question base.now name scenario.now) }
 {
     match Overlay::after(alloc, base, scenario.updates())? {
         Ok(day) => {
             let plan = plan_of(alloc, &day)?;
-            match answer(alloc, base.airport(), &day, &plan, question) {
+            match answer_in(alloc, asking, base.airport(), &day, &plan) {
                 Ok(text) => Ok(text),
                 Err(fault) => Err(view_error(fault)),
             }
@@ -134,16 +189,16 @@ fn answer_over(
 // The answer to a question of a day with all updates of the scenario of this name, if there is one.
 fn answer_by(
     alloc: Global,
-    question: Question,
+    asking: Asking,
     base: &DayState,
     scenarios: &[Scenario],
     name: ScenarioName,
 ) -> Result<Vec<u8>, RunError>
-    ensures made { IfOk result (λ text. IsView question (IsAskedOf (Some name) base.now scenarios.now) text.items) }
-    ensures fault { IfErr result (IsUntold (DayText.Answer question (Some name)) base.now scenarios.now) }
+    ensures made { IfOk result (λ text. IsView asking.format asking.question (IsAskedOf (Some name) base.now scenarios.now) text.items) }
+    ensures fault { IfErr result (IsUntold (DayText.Answer asking.question (Some name) asking.format) base.now scenarios.now) }
 {
     match scenario_named(scenarios, name) {
-        Some(scenario) => answer_over(alloc, question, base, name, scenario),
+        Some(scenario) => answer_over(alloc, asking, base, name, scenario),
         None => Err(RunError::NoScenario(name)),
     }
 }
@@ -151,16 +206,16 @@ fn answer_by(
 // The answer to a question of a day, or of the day with all updates of the scenario of this name.
 fn answer_of(
     alloc: Global,
-    question: Question,
+    asking: Asking,
     scenario: Option<ScenarioName>,
     day: &AskedDay,
 ) -> Result<Vec<u8>, RunError>
-    ensures made { IfOk result (λ text. IsView question (IsAskedOf scenario day.now.state day.now.scenarios.items) text.items) }
-    ensures fault { IfErr result (IsUntold (DayText.Answer question scenario) day.now.state day.now.scenarios.items) }
+    ensures made { IfOk result (λ text. IsView asking.format asking.question (IsAskedOf scenario day.now.state day.now.scenarios.items) text.items) }
+    ensures fault { IfErr result (IsUntold (DayText.Answer asking.question scenario asking.format) day.now.state day.now.scenarios.items) }
 {
     match scenario {
-        None => answer_of_base(alloc, question, day),
-        Some(name) => answer_by(alloc, question, &day.state, &day.scenarios, name),
+        None => answer_of_base(alloc, asking, day),
+        Some(name) => answer_by(alloc, asking, &day.state, &day.scenarios, name),
     }
 }
 
@@ -182,19 +237,20 @@ fn check_known(state: &DayState, asked: Option<FlightName>) -> Result<(), Flight
 fn trace_in(
     alloc: Global,
     flight: Option<FlightName>,
+    format: Format,
     day: &AskedDay,
     feed: &[u8],
 ) -> Result<Vec<u8>, RunError>
     requires { length feed.now ≤ input_limit }
     ensures known { OnOk result (IsKnown flight day.now.state) }
-    ensures made { IfOk result (λ text. IsTrace flight day.now.state.airport feed.now text.items) }
-    ensures fault { IfErr result (IsUntold (DayText.Trace flight) day.now.state day.now.scenarios.items) }
+    ensures made { IfOk result (λ text. IsTrace format flight day.now.state.airport feed.now text.items) }
+    ensures fault { IfErr result (IsUntold (DayText.Trace flight format) day.now.state day.now.scenarios.items) }
 {
     if let Err(name) = check_known(&day.state, flight) {
         return Err(RunError::NoFlight(name));
     }
     let airport = day.state.airport().copy(alloc)?;
-    Ok(trace_of(alloc, airport, feed, flight)?)
+    Ok(trace_of(alloc, airport, feed, flight, format)?)
 }
 
 // What is told of the day that a feed makes.
@@ -211,7 +267,7 @@ fn text_of_day<R: Threads + Sync, G: Gate>(
     ensures fault { IfErr result (IsUntold asked day.now.state day.now.scenarios.items) }
 {
     match asked {
-        DayText::Report => Ok(report_of(lent, day)?),
+        DayText::Plan(format) => Ok(plan_in(lent, format, day)?),
         DayText::Table(table) => table_of(lent, table, day),
         DayText::Picture => Ok(picture(
             lent.rt,
@@ -221,8 +277,10 @@ fn text_of_day<R: Threads + Sync, G: Gate>(
             lent.workers,
             lent.gate,
         )?),
-        DayText::Answer(question, scenario) => answer_of(lent.alloc, question, scenario, day),
-        DayText::Trace(flight) => trace_in(lent.alloc, flight, day, feed),
+        DayText::Answer(question, scenario, format) => {
+            answer_of(lent.alloc, Asking { question, format }, scenario, day)
+        }
+        DayText::Trace(flight, format) => trace_in(lent.alloc, flight, format, day, feed),
     }
 }
 
@@ -260,8 +318,8 @@ pub(crate) fn made_of_inputs<R: Threads + Sync, G: Gate>(
 {
     match asked {
         Asked::Day(text) => made_of_day(lent, *text, inputs),
-        Asked::Check(paths) => {
-            let Checked { text, counts } = check_of(lent, *paths, inputs)?;
+        Asked::Check(paths, format) => {
+            let Checked { text, counts } = check_of(lent, *paths, inputs, *format)?;
             let counted = Counted::Check(counts);
             Ok(Made { text, counted })
         }

@@ -12,6 +12,7 @@ use crate::asked::{Asked, DayText};
 use crate::counted::Counted;
 use crate::making::made_of_inputs;
 use cdm_files::{CommonFault, Device, Input, Lent, RunError, read_inputs, write_text};
+use cdm_kinds::Format;
 use cdm_phase::{Gate, Workers};
 use std::alloc::Global;
 use std::io::{Read, Write};
@@ -137,7 +138,7 @@ pub fn run<R: Threads + Sync, A: Read, F: Read, S: Read, G: Gate, W: Write>(
         workers,
         gate,
     };
-    let asked = Asked::Day(DayText::Report);
+    let asked = Asked::Day(DayText::Plan(Format::Text));
     let counted = run_asked(&lent, &asked, airport, feed, scenarios, out)?;
     Ok(counted.of_day())
 }

@@ -7,15 +7,15 @@ mod ending;
 
 use crate::ending::Ending;
 use cdm_check::FilePaths;
-pub use cdm_command::{Command, CommandFault, STANDARD_INPUT, WhatIf, command_of};
+pub use cdm_command::{Command, CommandFault, DayFiles, STANDARD_INPUT, command_of};
 use cdm_day::Airport;
 pub use cdm_fault::{
     Fault, PathText, ShownPath, UnopenedFile, report_command_fault, report_fault, run_status,
 };
 use cdm_feed::{
-    Asked, DayText, Device, Input, Lent, WriteFault, airport_of, read_whole, run_asked, write_text,
+    Asked, Device, Input, Lent, WriteFault, airport_of, read_whole, run_asked, write_text,
 };
-use cdm_kinds::kinds_text;
+use cdm_kinds::{Format, kinds_text};
 pub use cdm_live::{LiveCounts, LiveError, run_live};
 use cdm_phase::{OpenGate, Workers};
 use cdm_port::{OpenFault, OpenJournal, Streams};
@@ -121,87 +121,25 @@ where
     R: AllocGlobal + Files<File = File> + io::Input + Threads + Wait + Sync,
     requires { out.old.failed ≡ false }
 {
-    let one = Workers::new(1).unwrap();
-    let (files, text, workers) = match command {
-        Command::Plan {
-            airport,
-            feed,
-            scenarios,
+    match command {
+        Command::Tell {
+            files,
+            text,
             workers,
-        } => (files(airport, feed, *scenarios), DayText::Report, *workers),
-        Command::Tabulate {
-            airport,
-            feed,
-            scenarios,
-            table,
-            workers,
-        } => (
-            files(airport, feed, *scenarios),
-            DayText::Table(*table),
-            *workers,
-        ),
-        Command::Draw {
-            airport,
-            feed,
-            scenarios,
-            workers,
-        } => (files(airport, feed, *scenarios), DayText::Picture, *workers),
-        Command::Ask {
-            airport,
-            feed,
-            what_if: Some(WhatIf { scenarios, name }),
-            question,
-        } => (
-            files(airport, feed, Some(*scenarios)),
-            DayText::Answer(*question, Some(*name)),
-            one,
-        ),
-        Command::Ask {
-            airport,
-            feed,
-            what_if: None,
-            question,
-        } => (
-            files(airport, feed, None),
-            DayText::Answer(*question, None),
-            one,
-        ),
-        Command::Trace {
-            airport,
-            feed,
-            flight,
-        } => (files(airport, feed, None), DayText::Trace(*flight), one),
-        Command::Check {
-            airport,
-            feed,
-            scenarios,
-        } => return check(rt, files(airport, feed, *scenarios), one, out, errors),
+        } => make(rt, *files, &Asked::Day(*text), *workers, out, errors),
+        Command::Check { files, format } => check(rt, *files, *format, out, errors),
         Command::Live {
             airport,
             feed1,
             feed2,
-        } => return live(rt, airport, feed1, feed2, out, errors),
-        Command::Serve { airport, journal } => return serve_day(rt, airport, journal, out, errors),
-        Command::Kinds(format) => return print(&kinds_text(rt.alloc(), *format)?, out),
-        Command::Print(text) => return print(text.as_bytes(), out),
-    };
-    make(rt, files, &Asked::Day(text), workers, out, errors)
-}
-
-// The paths of the files of a day, and of its scenarios, if there are some.
-#[derive(Clone, Copy)]
-struct DayFiles<'a> {
-    airport: &'a str,
-    feed: &'a str,
-    scenarios: Option<&'a str>,
-}
-
-// The files of these paths.
-fn files<'a>(airport: &'a str, feed: &'a str, scenarios: Option<&'a str>) -> DayFiles<'a> {
-    DayFiles {
-        airport,
-        feed,
-        scenarios,
+        } => live(rt, [airport, feed1, feed2], out, errors),
+        Command::Serve {
+            airport,
+            journal,
+            format,
+        } => serve_day(rt, [airport, journal], *format, out, errors),
+        Command::Kinds(format) => print(&kinds_text(rt.alloc(), *format)?, out),
+        Command::Print(text) => print(text.as_bytes(), out),
     }
 }
 
@@ -288,13 +226,14 @@ fn tell_unended<F, E: Write>(feed: &Ending<F>, input: Input, errors: &mut Device
 fn check<R: AllocGlobal + Files + io::Input + Threads + Sync, W: Write, E: Write>(
     rt: &R,
     files: DayFiles<'_>,
-    workers: Workers,
+    format: Format,
     out: &mut Device<W>,
     errors: &mut Device<E>,
 ) -> Result<u8, Fault>
     requires { out.old.failed ≡ false }
 {
     let alloc = rt.alloc();
+    let one = Workers::new(1).unwrap();
     let airport = shown_path(alloc, files.airport)?;
     let feed = shown_path(alloc, files.feed)?;
     let scenarios = shown_path(alloc, files.scenarios.unwrap_or_default())?;
@@ -304,15 +243,15 @@ fn check<R: AllocGlobal + Files + io::Input + Threads + Sync, W: Write, E: Write
         feed: &feed,
         scenarios,
     };
-    make(rt, files, &Asked::Check(paths), workers, out, errors)
+    make(rt, files, &Asked::Check(paths, format), one, out, errors)
 }
 
 // Serves the day of an airport: records come from standard input, and replies go to `out`. Answers
 // the exit status. The airport file is found good before anything is made beside the journal.
 fn serve_day<R, W: Write, E: Write>(
     rt: &R,
-    airport: &str,
-    journal: &str,
+    paths: [&str; 2],
+    format: Format,
     out: &mut Device<W>,
     errors: &mut Device<E>,
 ) -> Result<u8, Fault>
@@ -320,13 +259,14 @@ where
     R: AllocGlobal + Files<File = File> + io::Input + Threads + Sync,
 {
     let alloc = rt.alloc();
+    let [airport, journal] = paths;
     let airport = airport_read(alloc, open(rt, airport, Input::Airport)?)?;
     let Ok(input) = BufReader::new(alloc, rt.reader()) else {
         return Err(Fault::NoMemory);
     };
     let journal = open_journal(rt, journal)?;
     let mut streams = Streams::new(input, &mut *out, &mut *errors, journal);
-    let served = serve(rt, alloc, airport, &mut streams);
+    let served = serve(rt, alloc, airport, format, &mut streams);
     let mut journal = streams.into_journal();
     if served.is_err() {
         journal.give_up();
@@ -368,14 +308,13 @@ where
 // Writes the day that two desks make, and answers the exit status.
 fn live<R: AllocGlobal + Files + io::Input + Threads + Wait + Sync, W: Write, E: Write>(
     rt: &R,
-    airport: &str,
-    feed1: &str,
-    feed2: &str,
+    paths: [&str; 3],
     out: &mut Device<W>,
     errors: &mut Device<E>,
 ) -> Result<u8, Fault>
     requires { out.old.failed ≡ false }
 {
+    let [airport, feed1, feed2] = paths;
     let airport = open(rt, airport, Input::Airport)?;
     let mut feed1 = Ending::new(open(rt, feed1, Input::Feed1)?);
     let mut feed2 = Ending::new(open(rt, feed2, Input::Feed2)?);

@@ -97,7 +97,9 @@ impl<'a, R: Files<File = File>> Lock<'a, R> {
                 Err(TryLockError::WouldBlock) => return Err(OpenFault::InUse),
                 Err(TryLockError::Error(error)) => return Err(OpenFault::of_lock(&error)),
             }
-            let length = length_of(files, &path, &file).map_err(|error| OpenFault::of_lock(&error))?;
+            let length = length_of(files, &path, &file).map_err(|error| OpenFault::of_lock(
+                &error,
+            ))?;
             if let Some(length) = length {
                 let marked = length > 0;
                 return Ok(Lock {

@@ -1,6 +1,7 @@
 -- JSON values made of lists, and the JSON value of a Row.
-use Rattle.std.specs.Prelude.{ℕ, List, [], ◌∷◌, map}
+use Rattle.std.specs.Prelude.{ℕ, List, [], ◌∷◌, map, Option}
 use Rattle.std.specs.Fmt.{decimal}
+use Rattle.std.specs.Option.{option_map_or}
 use Rattle.json.specs.Json.{Json, Items, Members, array, item, member, no_items, no_members, null, number, object, string}
 use Rattle.json.specs.Token.{Token, key}
 use Rattle.json.specs.Tree.{json_tokens}
@@ -29,6 +30,14 @@ items_of (value ∷ values) = item value (items_of values)
 
 abbrev pub array_of : List Json → Json
 array_of values = array (items_of values)
+
+-- a value, or null where there is none
+abbrev pub or_null : {X : Type 0} → (X → Json) → Option X → Json
+or_null value o = option_map_or value o null
+
+-- a count
+abbrev pub count_json : ℕ → Json
+count_json count = number (decimal count)
 
 -- what stands in a column; times are in full
 abbrev pub json_value : CalendarDate → Value → Json

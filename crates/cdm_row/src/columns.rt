@@ -18,7 +18,7 @@ pub enum Value<'a> {
     /// There is nothing to tell.
     Nothing,
     Text(&'a str),
-    Number(u16),
+    Number(u64),
     /// A minute of the horizon.
     Minute(Minute),
 }
@@ -38,7 +38,7 @@ fn number_value(value: Option<u16>) -> Value<'static>
     ensures { value_of result ≡ if_any number value }
 {
     match value {
-        Some(value) => Value::Number(value),
+        Some(value) => Value::Number(u64::from(value)),
         None => Value::Nothing,
     }
 }
@@ -85,7 +85,7 @@ impl Row {
             Value::Text(self.status.text()),
             name_value(&self.runway),
             name_value(&self.stand),
-            Value::Number(self.priority.get()),
+            Value::Number(u64::from(self.priority.get())),
             Value::Text(group_letter(self.group)),
             minute_value(self.tobt),
             number_value(self.exot),

@@ -1,5 +1,5 @@
 -- The journal from the start of a served day on.
-use Rattle.std.proofs.Common.{◌≡◌, ◌⊎◌, inl, inr, ℕ, Bool, true, false, Option, None, Some, List, [], ◌∷◌, ◌++◌, length, drop, refl, sym, ◌∙◌, ap, subst, append_assoc}
+use Rattle.std.proofs.Common.{◌≡◌, ◌⊎◌, inl, inr, ℕ, Bool, Option, None, List, [], ◌∷◌, ◌++◌, length, drop, refl, sym, subst, append_assoc}
 use Rattle.std.proofs.lemmas.List.{append-nil}
 use Rattle.cdm_files.specs.FeedDay.{accepted_in, refusals_in}
 use Rattle.cdm_files.specs.Records.{records_of}
@@ -7,6 +7,7 @@ use Rattle.cdm_flight.specs.Journal.{AirportRows}
 use Rattle.cdm_journal.specs.Journal.{journal_text}
 use Rattle.cdm_journal.specs.Laws.{Make}
 use Rattle.cdm_journal.proofs.ReadLemmas.{feed-makes}
+use Rattle.cdm_kinds.specs.declared.format.Format.{Format}
 use Rattle.cdm_plan.specs.Day.{DayRecord}
 use Rattle.cdm_port.specs.Event.{Event}
 use Rattle.cdm_port.specs.Event.Event.{Flushed, LeftOut, Marked, Read, Renamed, Replied, Synced}
@@ -107,19 +108,19 @@ since_read bytes start moment whole (inr (inr (rest, same, stop))) =
     (at, rw later stop)
 
 module _ (g : AirportRows) (marked : Bool) (disk : Disk) where
-  pub always_good : (done : List Event) → IsStopped g marked done → (bytes : List ℕ) (moment : List Event) → IsStopOf (Read bytes ∷ moment) done
+  pub always_good : (format : Format) (done : List Event) → IsStopped format g marked done → (bytes : List ℕ) (moment : List Event) → IsStopOf (Read bytes ∷ moment) done
       → MayBeLeft disk marked bytes → AreGood g marked disk bytes moment
-  always_good done (inl (start, stop)) bytes moment now finds =
+  always_good format done (inl (start, stop)) bytes moment now finds =
       let at = since_read bytes start moment _ (earlier (Read bytes ∷ moment) done (reading marked start) now stop) in
       only_read g marked disk bytes finds moment (rw at.0 at.1)
-  always_good done (inr (start, next, whole, heard, is, stop)) bytes moment now finds =
+  always_good format done (inr (start, next, whole, heard, is, stop)) bytes moment now finds =
       let d = day_of g marked start in
       let rest : List Event = served d is.exchanges ++ next ∷ [] in
-      let all : IsStopOf (Read bytes ∷ moment) (started g marked start ++ rest) = rw is.events at (earlier (Read bytes ∷ moment) done whole now stop) in
+      let all : IsStopOf (Read bytes ∷ moment) (started format g marked start ++ rest) = rw is.events at (earlier (Read bytes ∷ moment) done whole now stop) in
       let at = since_read bytes start moment _ all in
       let finds_start : MayBeLeft disk marked start = rw at.0 at finds in
       subst (λ (b : List ℕ). AreGood g marked disk b moment) (sym at.0)
-      (started_at g marked disk start finds_start is.accepted (ready_text (length d.journal)) rest (always_keeps d 0 is.exchanges next is.replies heard) moment at.1)
+      (started_at g marked disk start finds_start is.accepted (ready_text format (length d.journal)) rest (always_keeps format d 0 is.exchanges next is.replies heard) moment at.1)
 
 -- Where the journal was on the disk.
 

@@ -2,7 +2,6 @@
 use Rattle.std.proofs.Common.{◌≡◌, ◌==◌, inl, inr, ℕ, Bool, true, false, Option, None, Some, Ok, Err, List, [], ◌∷◌, ◌++◌, length, refl, sym, ◌∙◌, ap, subst, append_assoc}
 use Rattle.std.specs.Prelude.{⊤, ◌≢◌}
 use Rattle.std.specs.List.{AllByRecursion}
-use Rattle.std.specs.Option.{option_to_list}
 use Rattle.std.proofs.lemmas.Bool.{ne_eqb, or_from}
 use Rattle.std.proofs.lemmas.List.{append-nil, append_cancel_left, drop_all}
 use Rattle.std.proofs.lemmas.List.Prefix.{front_fits, front_rest}
@@ -21,6 +20,7 @@ use Rattle.cdm_journal.specs.Lines.{LineRecord, line_record}
 use Rattle.cdm_journal.specs.Lines.LineRecord.{Blank, One, Several}
 use Rattle.cdm_journal.proofs.ReadLemmas.{adds-line, adds-update, has-updates, reads-back}
 use Rattle.cdm_journal.proofs.WholeLemmas.{is-whole, leaves-torn}
+use Rattle.cdm_kinds.specs.declared.format.Format.{Format}
 use Rattle.cdm_plan.specs.Day.{DayRecord}
 use Rattle.cdm_port.specs.Event.{Event}
 use Rattle.cdm_port.specs.Event.Event.{Appended, Broken, End, Flushed, Line, Replied, Synced}
@@ -254,9 +254,9 @@ heard_last d Broken is = on_line d None [] (λ rows make moment stop. rw stop (u
 heard_last d (Line line) is = on_line d (Some line) [] (λ rows make moment stop. rw stop (untouched d.airport rows d.journal (taken d (record_heard (Some line))) make))
 heard_last d event is = absurd is
 
-pub always_keeps : (d : DayRecord) (number : ℕ) (xs : List Exchange) (next : Event) → AreReplies d number xs → IsHeard next → AlwaysKeeps d (served d xs ++ next ∷ [])
-always_keeps d number [] next are is = heard_last d next is
-always_keeps d number (x ∷ xs) next are is =
+pub always_keeps : (format : Format) (d : DayRecord) (number : ℕ) (xs : List Exchange) (next : Event) → AreReplies format d number xs → IsHeard next → AlwaysKeeps d (served d xs ++ next ∷ [])
+always_keeps format d number [] next are is = heard_last d next is
+always_keeps format d number (x ∷ xs) next are is =
     subst (λ (run : List Event). AlwaysKeeps d (said x.heard ∷ run)) (sym (append_assoc (answered d (line_of x) x.reply) (served (after d (line_of x)) xs) (next ∷ [])))
     (on_line d x.heard (answered d (line_of x) x.reply ++ (served (after d (line_of x)) xs ++ next ∷ []))
-    (on_answered d (line_of x) x.reply (served (after d (line_of x)) xs ++ next ∷ []) (taken_is d x.heard are.0.0) (always_keeps (after d (line_of x)) _ xs next are.1 is)))
+    (on_answered d (line_of x) x.reply (served (after d (line_of x)) xs ++ next ∷ []) (taken_is d x.heard are.0.0) (always_keeps format (after d (line_of x)) _ xs next are.1 is)))

@@ -1,5 +1,5 @@
 -- Questions of a served day, and their replies.
-use Rattle.std.specs.Prelude.{◌≡◌, ◌⊎◌, ◌==◌, ℕ, List, [], ◌∷◌, ◌++◌, codes, count_by, None}
+use Rattle.std.specs.Prelude.{◌≡◌, ◌⊎◌, ◌==◌, ℕ, List, [], ◌∷◌, ◌++◌, codes, count_by, None, Some}
 use Rattle.std.specs.Fmt.{decimal}
 use Rattle.std.specs.List.{concat}
 use Rattle.std.specs.Option.{IsSome}
@@ -7,6 +7,12 @@ use Rattle.cdm_desk.specs.Replies.{reply_text}
 use Rattle.cdm_desk.specs.declared.reply.DeskReply.TheVariants.{Refused}
 use Rattle.cdm_flight.specs.Journal.{flight_of}
 use Rattle.cdm_flight.specs.declared.word.RefusalWord.TheVariants as word
+use Rattle.cdm_json.specs.Answers.{IsJsonAnswer}
+use Rattle.cdm_json.specs.Plans.{IsPlanLine}
+use Rattle.cdm_json.specs.Records.{refused_line}
+use Rattle.cdm_json.specs.declared.plan.PlanOf.TheVariants as of
+use Rattle.cdm_kinds.specs.declared.format.Format.{Format}
+use Rattle.cdm_kinds.specs.declared.format.Format.TheVariants.{Json, Text}
 use Rattle.cdm_plan.specs.Day.{DayRecord}
 use Rattle.cdm_plan.specs.DayPlan.{IsDayPlan}
 use Rattle.cdm_report.specs.Report.{line_end, report_bytes}
@@ -33,10 +39,13 @@ abbrev pub IsUnknown : DayRecord → Question → Type 0
 IsUnknown d (question.Why name) = flight_of d.airport d.journal name ≡ None
 IsUnknown d (question.Load runway) = IsSome (unknown_in d.airport runway)
 
--- the text replies to a question of this number: the report of the day's plan without refused records, or the answer
--- of a view; UNKNOWN refuses a flight or a runway that isn't there
-abbrev pub IsAnswerText : DayRecord → ℕ → Asked → List ℕ → Type 0
-IsAnswerText d number asked.Plan text = (plan : Plan) × IsDayPlan d plan × (text ≡ told_text number (codes "PLAN") (report_bytes d.airport.day plan []))
-IsAnswerText d number (asked.View q) text =
+-- the text replies to a question of this number: the report of the day's plan without refused records, or the answer of a view, or the
+-- same as a line of JSON; UNKNOWN refuses a flight or a runway that isn't there
+abbrev pub IsAnswerText : Format → DayRecord → ℕ → Asked → List ℕ → Type 0
+IsAnswerText Text d number asked.Plan text = (plan : Plan) × IsDayPlan d plan × (text ≡ told_text number (codes "PLAN") (report_bytes d.airport.day plan []))
+IsAnswerText Text d number (asked.View q) text =
     (IsUnknown d q × (text ≡ reply_text d.airport.day number (Refused word.Unknown)))
     ⊎ ((plan : Plan) × (body : List ℕ) × IsDayPlan d plan × IsAnswer q d plan body × (text ≡ told_text number (word_of q) body))
+IsAnswerText Json d number asked.Plan text = (plan : Plan) × IsDayPlan d plan × IsPlanLine d (of.Asked number) plan [] text
+IsAnswerText Json d number (asked.View q) text =
+    (IsUnknown d q × (text ≡ refused_line number word.Unknown)) ⊎ ((plan : Plan) × IsDayPlan d plan × IsJsonAnswer q d (Some number) plan text)

@@ -1,5 +1,5 @@
 -- Why a served day ends before its input does.
-use Rattle.std.specs.Prelude.{◌≡◌, ◌≤◌, ◌^◌, ⊤, ℕ, Bool, true, false, List, [], ◌∷◌, count_by, Option, Some, Result, Err}
+use Rattle.std.specs.Prelude.{◌≡◌, ◌≤◌, ◌^◌, ⊤, ℕ, Bool, true, false, List, ◌∷◌, count_by, Option, Some, Result, Err}
 use Rattle.cdm_files.specs.FeedDay.{refusals_in}
 use Rattle.cdm_files.specs.declared.common_fault.CommonFault.TheVariants as common
 use Rattle.cdm_flight.specs.Journal.{AirportRows}

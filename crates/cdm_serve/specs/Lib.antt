@@ -1,4 +1,5 @@
 pub mod Asked
+pub mod Posted
 pub mod Requests
 pub mod Taken
 pub mod Served

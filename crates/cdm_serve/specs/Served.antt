@@ -2,21 +2,24 @@
 use Rattle.std.specs.Prelude.{◌≡◌, ◌⊎◌, ⊤, ℕ, ◌+◌, Bool, true, false, List, [], ◌∷◌, ◌++◌, codes, drop, length, Option, None, Some}
 use Rattle.std.specs.Fmt.{decimal}
 use Rattle.std.specs.List.{concat}
-use Rattle.cdm_desk.specs.Replies.{IsReply, reply_text}
-use Rattle.cdm_desk.specs.declared.reply.DeskReply.{DeskReply}
 use Rattle.cdm_files.specs.FeedDay.{day_in, refusals_in}
 use Rattle.cdm_files.specs.Records.{records_of}
 use Rattle.cdm_flight.specs.Journal.{AirportRows}
 use Rattle.cdm_journal.specs.Journal.{journal_line, journal_text, whole_lines}
 use Rattle.cdm_journal.specs.Lines.{LineRecord}
 use Rattle.cdm_journal.specs.Lines.LineRecord.{Blank, One, Several}
+use Rattle.cdm_json.specs.Lines.{json_line}
+use Rattle.cdm_kinds.specs.declared.format.Format.{Format}
+use Rattle.cdm_kinds.specs.declared.format.Format.TheVariants.{Json, Text}
 use Rattle.cdm_plan.specs.Day.{DayRecord}
 use Rattle.cdm_port.specs.Event.{Event}
 use Rattle.cdm_port.specs.Event.Event.{Appended, Broken, End, Flushed, LeftOut, Line, Marked, Read, Renamed, Replied, Synced}
 use Rattle.cdm_port.specs.Heard.{IsLine}
 use Rattle.cdm_port.specs.Stop.{IsStopOf}
 use Rattle.cdm_report.specs.Report.{line_end}
+use Rattle.cdm_row.specs.Json.{count_json, object_of}
 use Rattle.cdm_serve.specs.Asked.{IsAnswerText}
+use Rattle.cdm_serve.specs.Posted.{IsRecordText}
 use Rattle.cdm_serve.specs.Requests.{request_of}
 use Rattle.cdm_serve.specs.Taken.{TakenRecord, after, record_heard, taken}
 use Rattle.cdm_serve.specs.declared.request.Request.{Request}
@@ -41,10 +44,10 @@ answered d (One fields) reply = told_of (taken d (One fields)) reply
 answered d Several reply = told_of (taken d Several) reply
 
 -- the text replies to a request of this number
-abbrev pub IsReplyTo : DayRecord → ℕ → Request → List ℕ → Type 0
-IsReplyTo d number Nothing text = ⊤
-IsReplyTo d number (Ask asked) text = IsAnswerText d number asked text
-IsReplyTo d number (Post spelled) text = (reply : DeskReply) × IsReply d spelled reply × (text ≡ reply_text d.airport.day number reply)
+abbrev pub IsReplyTo : Format → DayRecord → ℕ → Request → List ℕ → Type 0
+IsReplyTo format d number Nothing text = ⊤
+IsReplyTo format d number (Ask asked) text = IsAnswerText format d number asked text
+IsReplyTo format d number (Post spelled) text = IsRecordText format d number spelled text
 
 -- records and questions are numbered together, blank lines aren't
 abbrev pub numbered : ℕ → LineRecord → ℕ
@@ -71,13 +74,13 @@ abbrev pub line_of : Exchange → LineRecord
 line_of x = record_heard x.heard
 
 -- a line is replied to, where so many records and questions were numbered before
-abbrev pub IsExchange : DayRecord → ℕ → Exchange → Type 0
-IsExchange d number x = IsHeard (said x.heard) × IsReplyTo d (numbered number (line_of x)) (request_of d.airport.day (line_of x)) x.reply
+abbrev pub IsExchange : Format → DayRecord → ℕ → Exchange → Type 0
+IsExchange format d number x = IsHeard (said x.heard) × IsReplyTo format d (numbered number (line_of x)) (request_of d.airport.day (line_of x)) x.reply
 
 -- the replies are those of the day, line after line
-abbrev pub AreReplies : DayRecord → ℕ → List Exchange → Type 0
-AreReplies d number [] = ⊤
-AreReplies d number (x ∷ later) = IsExchange d number x × AreReplies (after d (line_of x)) (numbered number (line_of x)) later
+abbrev pub AreReplies : Format → DayRecord → ℕ → List Exchange → Type 0
+AreReplies format d number [] = ⊤
+AreReplies format d number (x ∷ later) = IsExchange format d number x × AreReplies format (after d (line_of x)) (numbered number (line_of x)) later
 
 -- what happens for these lines
 abbrev pub served : DayRecord → List Exchange → List Event
@@ -101,8 +104,9 @@ abbrev pub reading : Bool → List ℕ → List Event
 reading marked bytes = Read bytes ∷ left_out (drop (length (start_text marked bytes)) bytes)
 
 -- how many updates the day has at the start
-abbrev pub ready_text : ℕ → List ℕ
-ready_text count = concat (codes "READY " ∷ decimal count ∷ line_end ∷ [])
+abbrev pub ready_text : Format → ℕ → List ℕ
+ready_text Text count = concat (codes "READY " ∷ decimal count ∷ line_end ∷ [])
+ready_text Json count = json_line (object_of ((codes "ready", count_json count) ∷ []))
 
 -- the journal's own lines are on the disk in its place, and it is marked, before the day is told to be ready
 abbrev pub begun : List ℕ → List ℕ → List Event
@@ -113,19 +117,19 @@ abbrev pub day_of : AirportRows → Bool → List ℕ → DayRecord
 day_of g marked bytes = day_in g (start_text marked bytes)
 
 -- what happens at the start, by the mark and the bytes of the journal
-abbrev pub started : AirportRows → Bool → List ℕ → List Event
-started g marked bytes = reading marked bytes ++ begun (journal_text (records_of (start_text marked bytes))) (ready_text (length (day_of g marked bytes).journal))
+abbrev pub started : Format → AirportRows → Bool → List ℕ → List Event
+started format g marked bytes = reading marked bytes ++ begun (journal_text (records_of (start_text marked bytes))) (ready_text format (length (day_of g marked bytes).journal))
 
 -- A run.
 
 -- a journal without a refused record is served, line after line, until this is heard
-pub record IsServed (g : AirportRows) (marked : Bool) (bytes : List ℕ) (next : Event) (whole : List Event) : Type 0 where
+pub record IsServed (format : Format) (g : AirportRows) (marked : Bool) (bytes : List ℕ) (next : Event) (whole : List Event) : Type 0 where
   pub accepted : refusals_in g (start_text marked bytes) ≡ []
   pub exchanges : List Exchange
-  pub replies : AreReplies (day_of g marked bytes) 0 exchanges
-  pub events : whole ≡ started g marked bytes ++ (served (day_of g marked bytes) exchanges ++ next ∷ [])
+  pub replies : AreReplies format (day_of g marked bytes) 0 exchanges
+  pub events : whole ≡ started format g marked bytes ++ (served (day_of g marked bytes) exchanges ++ next ∷ [])
 
 -- what has happened is a part of what is to happen: of reading a journal, or of serving it until something is heard
-abbrev pub IsStopped : AirportRows → Bool → List Event → Type 0
-IsStopped g marked done = ((bytes : List ℕ) × IsStopOf done (reading marked bytes))
-    ⊎ ((bytes : List ℕ) × (next : Event) × (whole : List Event) × IsHeard next × IsServed g marked bytes next whole × IsStopOf done whole)
+abbrev pub IsStopped : Format → AirportRows → Bool → List Event → Type 0
+IsStopped format g marked done = ((bytes : List ℕ) × IsStopOf done (reading marked bytes))
+    ⊎ ((bytes : List ℕ) × (next : Event) × (whole : List Event) × IsHeard next × IsServed format g marked bytes next whole × IsStopOf done whole)

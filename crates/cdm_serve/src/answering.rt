@@ -7,12 +7,14 @@ ghost use Rattle.cdm_serve.specs.Served.{IsReplyTo, answered, numbered, told_of}
 ghost use Rattle.cdm_serve.specs.Taken.{after, day_with, fields_in, taken_of};
 ghost use Rattle.cdm_serve.specs.inner.Steps.{IsAnswerFault, events_of, text_of};
 
-use crate::asked::{asked_text, reply_text};
+use crate::asked::asked_text;
 use crate::fault::ServeError;
+use crate::posting::post;
 use crate::request::{Request, request_of};
-use cdm_desk::{DeskDay, DeskReply};
+use cdm_desk::DeskDay;
 use cdm_flight::{RefusalWord, Role, Update};
 use cdm_journal::{LineRead, journal_line};
+use cdm_kinds::Format;
 use csv::ByteRecord;
 use std::alloc::{AllocError, Global};
 
@@ -47,27 +49,24 @@ fn line_of(alloc: Global, read: &LineRead) -> Result<Vec<u8>, AllocError>
 // Posts what a line spells, and says what is to be done then.
 fn post_line(
     alloc: Global,
+    format: Format,
     desk: &mut DeskDay,
     number: u32,
     read: &LineRead,
     spelled: &Result<(Role, Update), RefusalWord>,
 ) -> Result<Answer, AllocError>
-    ensures reply { IfOk result (λ answer. IsReplyTo desk.old number (Request.Post spelled.now) (text_of answer)) }
+    ensures reply { IfOk result (λ answer. IsReplyTo format desk.old number (Request.Post spelled.now) (text_of answer)) }
     ensures events { IfOk result (λ answer. events_of answer ≡
         told_of (taken_of desk.old (fields_in (read_as read.now)) (Request.Post spelled.now)) (text_of answer)) }
     ensures day { OnOk result (desk.new ≡
         day_with desk.old (taken_of desk.old (fields_in (read_as read.now)) (Request.Post spelled.now))) }
 {
-    let day = *desk.state().day();
-    let reply = desk.post(alloc, spelled)?;
-    let text = reply_text(alloc, day, number, &reply)?;
-    match reply {
-        DeskReply::Refused(_) => Ok(Answer::Reply(text)),
-        DeskReply::Accepted(_) => {
-            let line = line_of(alloc, read)?;
-            Ok(Answer::Record(line, text))
-        }
+    let posted = post(alloc, format, desk, number, spelled)?;
+    if !posted.accepted {
+        return Ok(Answer::Reply(posted.text));
     }
+    let line = line_of(alloc, read)?;
+    Ok(Answer::Record(line, posted.text))
 }
 
 impl ServedDay {
@@ -86,8 +85,13 @@ impl ServedDay {
     /// day as it is. The reply and the journal's line are ready then.
     ///
     /// `TooMany` where the line's number would be greater than a `u32`, and else only `Memory`.
-    pub(crate) fn answer(&mut self, alloc: Global, read: &LineRead) -> Result<Answer, ServeError>
-        ensures reply { IfOk result (λ answer. IsReplyTo self.old.desk (numbered self.old.number (read_as read.now))
+    pub(crate) fn answer(
+        &mut self,
+        alloc: Global,
+        format: Format,
+        read: &LineRead,
+    ) -> Result<Answer, ServeError>
+        ensures reply { IfOk result (λ answer. IsReplyTo format self.old.desk (numbered self.old.number (read_as read.now))
             (request_of self.old.desk.airport.day (read_as read.now)) (text_of answer)) }
         ensures events { IfOk result (λ answer. events_of answer ≡ answered self.old.desk (read_as read.now) (text_of answer)) }
         ensures day { OnOk result (self.new.desk ≡ after self.old.desk (read_as read.now)) }
@@ -98,12 +102,12 @@ impl ServedDay {
             Request::Nothing => Ok(Answer::Nothing),
             Request::Post(spelled) => {
                 let number = self.count()?;
-                let answer = post_line(alloc, &mut self.desk, number, read, &spelled)?;
+                let answer = post_line(alloc, format, &mut self.desk, number, read, &spelled)?;
                 Ok(answer)
             }
             Request::Ask(asked) => {
                 let number = self.count()?;
-                let text = asked_text(alloc, self.desk.state(), number, asked)?;
+                let text = asked_text(alloc, format, self.desk.state(), number, asked)?;
                 Ok(Answer::Reply(text))
             }
         }

@@ -1,15 +1,16 @@
 //! Questions of a served day, and their replies.
 ghost use Rattle.std.specs.Prelude.{◌≡◌, ◌++◌, IfOk, OnOk, codes, count_by, ◌==◌};
-ghost use Rattle.std.specs.String.{string_bytes};
 ghost use Rattle.cdm_desk.specs.Replies.{reply_text};
 ghost use Rattle.cdm_desk.specs.declared.reply.DeskReply.TheVariants.{Refused};
 ghost use Rattle.cdm_serve.specs.Asked.{IsAnswerText, told_text, word_of};
 
+use crate::asked_json::json_asked;
+use crate::posting::reply_text;
 use cdm_day::DayState;
-use cdm_desk::{DeskReply, push_reply};
+use cdm_desk::DeskReply;
 use cdm_flight::RefusalWord;
+use cdm_kinds::Format;
 use cdm_report::report_text;
-use cdm_time::Day;
 use cdm_view::{Question, ViewFault, answer};
 use std::alloc::{AllocError, Global};
 use std::fmt::Write;
@@ -53,20 +54,6 @@ fn told_text(alloc: Global, number: u32, word: &str, body: &[u8]) -> Result<Vec<
     Ok(text)
 }
 
-/// The text of a reply to the record or the question of this number. Only want of memory makes it fail.
-pub(crate) fn reply_text(
-    alloc: Global,
-    day: Day,
-    number: u32,
-    reply: &DeskReply,
-) -> Result<Vec<u8>, AllocError>
-    ensures { IfOk result (λ text. text.items ≡ reply_text day number reply.now) }
-{
-    let mut text = String::new(alloc);
-    push_reply(&mut text, day, number, reply)?;
-    Ok(text.into_bytes())
-}
-
 // The reply to a question of a view.
 fn view_text(
     alloc: Global,
@@ -74,7 +61,7 @@ fn view_text(
     number: u32,
     question: &Question,
 ) -> Result<Vec<u8>, AllocError>
-    ensures { IfOk result (λ text. IsAnswerText state.now number (Asked.View question.now) text.items) }
+    ensures { IfOk result (λ text. IsAnswerText Format.Text state.now number (Asked.View question.now) text.items) }
 {
     let word = word_of(question);
     match answer(alloc, state.airport(), state, state.plan(), *question) {
@@ -89,15 +76,14 @@ fn view_text(
     }
 }
 
-/// The reply to the question of this number: the report of the plan, or the answer to a view, or the refusal of one
-/// that asks for what isn't known. Only want of memory makes it fail.
-pub(crate) fn asked_text(
+// The reply for people.
+fn text_asked(
     alloc: Global,
     state: &DayState,
     number: u32,
     asked: Asked,
 ) -> Result<Vec<u8>, AllocError>
-    ensures { IfOk result (λ text. IsAnswerText state.now number asked text.items) }
+    ensures { IfOk result (λ text. IsAnswerText Format.Text state.now number asked text.items) }
 {
     match asked {
         Asked::Plan => {
@@ -105,5 +91,22 @@ pub(crate) fn asked_text(
             told_text(alloc, number, "PLAN", &body)
         }
         Asked::View(question) => view_text(alloc, state, number, &question),
+    }
+}
+
+/// The reply to the question of this number: the report of the plan, or the answer to a view, or the refusal of one
+/// that asks for what isn't known. Only want of memory makes it fail.
+pub(crate) fn asked_text(
+    alloc: Global,
+    format: Format,
+    state: &DayState,
+    number: u32,
+    asked: Asked,
+) -> Result<Vec<u8>, AllocError>
+    ensures { IfOk result (λ text. IsAnswerText format state.now number asked text.items) }
+{
+    match format {
+        Format::Text => text_asked(alloc, state, number, asked),
+        Format::Json => json_asked(alloc, state, number, asked),
     }
 }

@@ -4,9 +4,11 @@
 
 mod answering;
 mod asked;
+mod asked_json;
 mod fault;
 mod laws;
 mod performing;
+mod posting;
 mod request;
 mod serving;
 mod starting;

@@ -11,8 +11,11 @@ use crate::fault::ServeError;
 use crate::performing::tell;
 use cdm_day::{Airport, DayState};
 use cdm_journal::{own_lines, read_journal, whole_length};
+use cdm_json::{begin_line, end_line};
+use cdm_kinds::Format;
 use cdm_phase::{OpenGate, Workers};
 use cdm_port::{Port, PortFault};
+use cdm_row::push_count;
 use std::alloc::{AllocError, Global};
 use std::fmt::Write;
 use std::thread::Threads;
@@ -24,13 +27,27 @@ struct Found {
     taken: usize,
 }
 
-// The line that tells that a day is served, with how many updates it has.
-fn ready_text(alloc: Global, count: usize) -> Result<Vec<u8>, AllocError>
-    ensures { IfOk result (λ text. text.items ≡ ready_text count) }
+// The line of JSON that tells that a day is served, with how many updates it has.
+fn ready_line(alloc: Global, count: usize) -> Result<Vec<u8>, AllocError>
+    ensures { IfOk result (λ line. line.items ≡ ready_text Format.Json count) }
 {
-    let mut text = String::new(alloc);
-    writeln!(text, "READY {count}")?;
-    Ok(text.into_bytes())
+    let mut writer = begin_line(alloc, None, "")?;
+    push_count(&mut writer, "ready", count as u64)?;
+    end_line(writer)
+}
+
+// The text that tells it.
+fn ready_text(alloc: Global, format: Format, count: usize) -> Result<Vec<u8>, AllocError>
+    ensures { IfOk result (λ text. text.items ≡ ready_text format count) }
+{
+    match format {
+        Format::Text => {
+            let mut text = String::new(alloc);
+            writeln!(text, "READY {count}")?;
+            Ok(text.into_bytes())
+        }
+        Format::Json => ready_line(alloc, count),
+    }
 }
 
 // How many bytes a start takes of a journal.
@@ -89,10 +106,11 @@ pub(crate) fn start<R: Threads + Sync, P: Port>(
     rt: &R,
     alloc: Global,
     airport: Airport,
+    format: Format,
     port: &mut P,
 ) -> Result<DayState, ServeError>
-    ensures ok { IfOk result (Starts airport (P.marked port.old) (P.events port.old) (P.events port.new)) }
-    ensures err { OnErr result (StartStops airport (P.marked port.old) (P.events port.old) (P.events port.new)) }
+    ensures ok { IfOk result (Starts format airport (P.marked port.old) (P.events port.old) (P.events port.new)) }
+    ensures err { OnErr result (StartStops format airport (P.marked port.old) (P.events port.old) (P.events port.new)) }
     ensures fault { IfErr result (IsStartFault airport (P.marked port.old) (P.events port.old) (P.events port.new)) }
     ensures failed { P.fault port.new ≡ fault_told (P.fault port.old) result }
 {
@@ -101,7 +119,7 @@ pub(crate) fn start<R: Threads + Sync, P: Port>(
     let one = Workers::new(1).unwrap();
     let state = read_journal(rt, alloc, airport, text, one, &OpenGate)?;
     let lines = own_lines(alloc, text)?;
-    let ready = ready_text(alloc, state.journal().len())?;
+    let ready = ready_text(alloc, format, state.journal().len())?;
     begin(port, &lines, &ready)?;
     Ok(state)
 }

@@ -1,4 +1,5 @@
 pub mod TableLemmas
+pub mod MemberLemmas
 mod LineLemmas
 mod NameColumn
 mod OwnLemmas

@@ -20,18 +20,23 @@ use Rattle.cdm_plan.proofs.OnePlanLemmas.{one_day_plan}
 use Rattle.cdm_view.specs.Standings.{AreStandings}
 use Rattle.cdm_view.specs.declared.standing.Standing.{Standing}
 use Rattle.cdm_view.proofs.StandingLemmas.{one_standings}
+use Rattle.cdm_flight.specs.declared.word.RefusalWord.{RefusalWord}
+use Rattle.cdm_json.specs.Plans.{IsPlanLine}
+use Rattle.cdm_json.specs.declared.plan.PlanOf.TheVariants as of
 use Rattle.cdm_scenario.specs.Scenarios.{ScenarioRecord}
 use Rattle.cdm_scenario.specs.inner.OneOutcome.{one_each}
 use Rattle.cdm_table.specs.Comparison.{AreRanked, IsComparison, IsComparisonCsv, IsRanking, IsSummary, IsToldIf, all_lines, blocked_in, delay_in, heading, is_refused, line_cmp, line_columns, line_fields, line_text, lines_from}
+use Rattle.cdm_table.specs.ComparisonJson.{AreChangeLinesIf, IsComparisonJson, summary_line}
+use Rattle.cdm_table.specs.Plans.{IsPlans, IsScenarioLine}
 use Rattle.cdm_table.specs.Rows as rows
 use Rattle.cdm_table.specs.Rows.{AreFlightRows, AreScenarioRows, IsCsv, csv_text}
 use Rattle.cdm_table.specs.Tables.{IsTable}
-use Rattle.cdm_table.specs.inner.OneTable.{one_flight_rows, one_scenario_rows, one_summary, one_told}
+use Rattle.cdm_table.specs.inner.OneTable.{one_change_lines, one_flight_rows, one_plan_line, one_scenario_line, one_scenario_rows, one_summary, one_told}
 use Rattle.cdm_table.specs.declared.line.Line.{Line}
 use Rattle.cdm_table.specs.declared.line.Summary.{Summary}
 use Rattle.cdm_table.specs.declared.line.Summary.TheVariants.{Planned}
 use Rattle.cdm_table.specs.declared.table.Table.{Table}
-use Rattle.cdm_table.specs.declared.table.Table.TheVariants.{Csv, Comparison, ComparisonCsv}
+use Rattle.cdm_table.specs.declared.table.Table.TheVariants.{Csv, Comparison, ComparisonCsv, ComparisonJson}
 
 -- No two lines have one place.
 
@@ -111,6 +116,16 @@ module _ (d : DayRecord) (runways : IsDistinct same_name (runway_names d.airport
       one_each (AreScenarioRows d) (one_scenario_rows d runways flights) scenarios a.answers b.answers a.of_scenarios b.of_scenarios in
       a.bytes ∙ ((λ i. csv_text (rows.column_names ∷ []) ++ own i ++ concat (answers i)) ∙ sym b.bytes)
 
+  pub one_plans : (refused : List (ℕ × RefusalWord)) (scenarios : List ScenarioRecord) (x y : List ℕ) → IsPlans d refused scenarios x
+      → IsPlans d refused scenarios y → x ≡ y
+  one_plans refused scenarios x y a b =
+      let plans : a.plan ≡ b.plan = one_day_plan d a.plan b.plan runways flights a.of_day b.of_day in
+      let line_too : IsPlanLine d of.Day a.plan refused b.own = subst (λ (p : Plan). IsPlanLine d of.Day p refused b.own) (sym plans) b.line in
+      let own : a.own ≡ b.own = one_plan_line d a.plan runways flights a.of_day of.Day refused a.own b.own a.line line_too in
+      let answers : a.answers ≡ b.answers =
+      one_each (IsScenarioLine d) (one_scenario_line d runways flights) scenarios a.answers b.answers a.of_scenarios b.of_scenarios in
+      a.bytes ∙ ((λ i. own i ++ concat (answers i)) ∙ sym b.bytes)
+
   one_told_if : (before : List Standing) (asked : Option ScenarioRecord) (x y : List ℕ) → IsToldIf d before asked x → IsToldIf d before asked y → x ≡ y
   one_told_if before None x y a b = a ∙ sym b
   one_told_if before (Some s) x y a b = one_told d runways flights before s x y a b
@@ -145,7 +160,23 @@ module _ (d : DayRecord) (runways : IsDistinct same_name (runway_names d.airport
       let same = one_ranked scenarios a.before b.before a.ranked b.ranked a.lines b.lines in
       a.bytes ∙ (ap (λ lines. csv_text (line_columns ∷ map line_fields lines)) same.1 ∙ sym b.bytes)
 
+  one_lines_if : (stood : List Standing) (asked : Option ScenarioRecord) (x y : List ℕ) → AreChangeLinesIf d stood asked x
+      → AreChangeLinesIf d stood asked y → x ≡ y
+  one_lines_if stood None x y a b = a ∙ sym b
+  one_lines_if stood (Some s) x y a b = one_change_lines d runways flights stood s x y a b
+
+  one_comparison_json : (scenarios : List ScenarioRecord) (asked : Option ScenarioRecord) (x y : List ℕ) → IsComparisonJson d scenarios asked x
+      → IsComparisonJson d scenarios asked y → x ≡ y
+  one_comparison_json scenarios asked x y a b =
+      let same = one_ranked scenarios a.stood b.stood a.ranked b.ranked a.lines b.lines in
+      let ranked = same.1 in
+      let asked_for : AreChangeLinesIf d a.stood asked b.told =
+      subst (λ (l : List Standing). AreChangeLinesIf d l asked b.told) (sym same.0) b.of_asked in
+      let told : a.told ≡ b.told = one_lines_if a.stood asked a.told b.told a.of_asked asked_for in
+      a.bytes ∙ ((λ i. flat_map summary_line (ranked i) ++ told i) ∙ sym b.bytes)
+
   pub one_table : (table : Table) (scenarios : List ScenarioRecord) (x y : List ℕ) → IsTable table d scenarios x → IsTable table d scenarios y → x ≡ y
   one_table Csv scenarios x y a b = one_csv scenarios x y a b
   one_table (Comparison asked) scenarios x y a b = one_comparison scenarios _ x y a.1 b.1
   one_table ComparisonCsv scenarios x y a b = one_comparison_csv scenarios x y a b
+  one_table (ComparisonJson asked) scenarios x y a b = one_comparison_json scenarios _ x y a.1 b.1

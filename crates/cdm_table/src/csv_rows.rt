@@ -1,6 +1,5 @@
 //! The rows of a day and of its scenarios.
 ghost use Rattle.std.specs.Prelude.{◌≡◌, ◌++◌, ◌∷◌, [], All, IfOk, IfSome, OnOk};
-ghost use Rattle.std.specs.List.{concat};
 ghost use Rattle.cdm_phase.specs.declared.job.PhaseName.TheVariants.{Scenarios};
 ghost use Rattle.cdm_plan.specs.Sound.{IsSound};
 ghost use Rattle.csv.specs.Writing.{default_writer, row_text};
@@ -8,6 +7,7 @@ ghost use Rattle.cdm_table.specs.Rows.{AreScenarioRows, IsCsv, column_names, csv
 ghost use Rattle.cdm_table.specs.inner.OwnRows.{IsOwnRow, own_text};
 ghost use Rattle.cdm_table.specs.inner.OneTable.{one_scenario_rows};
 
+use crate::answers::push_all;
 use crate::own_row::{OwnRow, first_of, from_flight, own_rows};
 use crate::row::{FlightWriter, column_names, refused_row};
 use crate::row_text::{Fields, RowWriter};
@@ -167,25 +167,6 @@ fn push_own(text: &mut Vec<u8>, rows: &[OwnRow]) -> Result<(), AllocError>
 {
     for row in rows {
         text.extend_from_slice(row.text())?;
-    }
-    Ok(())
-}
-
-// How many bytes the texts have.
-fn room_for(answers: &[Listed<u8>]) -> usize {
-    answers.iter().fold(
-        0,
-        |room: usize, answer| room.saturating_add(answer.as_slice().len()),
-    )
-}
-
-// Puts the texts behind what is there, one after another.
-fn push_all(text: &mut Vec<u8>, answers: &[Listed<u8>]) -> Result<(), AllocError>
-    ensures { OnOk result (text.new.items ≡ text.old.items ++ concat answers.now) }
-{
-    text.reserve(room_for(answers))?;
-    for answer in answers {
-        text.extend_from_slice(answer.as_slice())?;
     }
     Ok(())
 }

@@ -85,7 +85,7 @@ impl Fields {
         match value {
             Value::Nothing => self.push(b""),
             Value::Text(text) => self.push(text.as_bytes()),
-            Value::Number(number) => self.push_number(u64::from(*number)),
+            Value::Number(number) => self.push_number(*number),
             Value::Minute(minute) => self.push(&day.time_text(*minute)),
         }
     }

@@ -1,9 +1,11 @@
 //! Tables over a day and its scenarios.
-ghost use Rattle.std.specs.Prelude.{◌≡◌, ℕ, List, IfErr, IfOk};
-ghost use Rattle.cdm_table.specs.Tables.{IsTable, IsTableFault};
+ghost use Rattle.std.specs.Prelude.{◌≡◌, ℕ, List, None, IfErr, IfOk, OnOk};
+ghost use Rattle.std.specs.Option.{option_copied};
+ghost use Rattle.cdm_table.specs.Tables.{IsFaultOf, IsTable, IsTableFault, asked_of, unknown_in};
 ghost use Rattle.cdm_table.specs.declared.table.TableFault.TheVariants as fault;
 
 use crate::comparison::comparison;
+use crate::comparison_json::comparison_json;
 use crate::csv_rows::csv;
 use crate::line_rows::comparison_csv;
 use cdm_day::{DayState, Records};
@@ -23,6 +25,9 @@ pub enum Table {
     Comparison(Option<ScenarioName>),
     /// A row for the day and for each scenario, the best first, as CSV. A scenario that is refused has no numbers.
     ComparisonCsv,
+    /// A line of JSON for the day and for each scenario, the best first, and then one for each flight that stands
+    /// otherwise by the scenario of this name, if one is asked for, with its Rows before and after.
+    ComparisonJson(Option<ScenarioName>),
 }
 
 /// Why there is no table.
@@ -42,11 +47,29 @@ impl From<AllocError> for TableFault {
     }
 }
 
+// The scenario of this name, if one is asked for.
+fn asked_of(
+    scenarios: &[Scenario],
+    asked: Option<ScenarioName>,
+) -> Result<Option<&Scenario>, TableFault>
+    ensures asked { IfOk result (λ scenario. option_copied scenario ≡ asked_of scenarios.now asked) }
+    ensures known { OnOk result (unknown_in scenarios.now asked ≡ None) }
+    ensures fault { IfErr result (IsFaultOf (unknown_in scenarios.now asked)) }
+{
+    let Some(name) = asked else {
+        return Ok(None);
+    };
+    match scenario_named(scenarios, name) {
+        Some(scenario) => Ok(Some(scenario)),
+        None => Err(TableFault::NoScenario(name)),
+    }
+}
+
 /// The table of a day and scenarios over it: as CSV each known flight's row by name, of the day and then of
 /// each scenario (`each_flight_has_one_row` of `cdm_row`), or the scenarios side by side, the best first: fewer blocked
 /// flights, then less delay, then the order of the file, in which the day itself is first; and behind them
-/// those that are refused (local profile), as text or as CSV. Each scenario is answered over the base, by one of the workers
-/// in phase `Scenarios`, and every scenario is one piece.
+/// those that are refused (local profile), as text, as CSV or as JSON. Each scenario is answered over the base, by
+/// one of the workers in phase `Scenarios`, and every scenario is one piece.
 ///
 /// `NoScenario` where none of them has the name that is asked for, and else only `Memory`.
 pub fn tabulate<R: Threads + Sync, G: Gate>(
@@ -62,17 +85,16 @@ pub fn tabulate<R: Threads + Sync, G: Gate>(
 {
     // What the base's records tell is sound, which makes the table the only one.
     let _values = base.values();
-    let asked = match table {
-        Table::Csv => return Ok(csv(alloc, base, scenarios, runner)?),
-        Table::ComparisonCsv => return Ok(comparison_csv(alloc, base, scenarios, runner)?),
-        Table::Comparison(asked) => asked,
-    };
-    let scenario = match asked {
-        Some(name) => match scenario_named(scenarios, name) {
-            Some(scenario) => Some(scenario),
-            None => return Err(TableFault::NoScenario(name)),
-        },
-        None => None,
-    };
-    Ok(comparison(alloc, base, scenarios, scenario, runner)?)
+    match table {
+        Table::Csv => Ok(csv(alloc, base, scenarios, runner)?),
+        Table::ComparisonCsv => Ok(comparison_csv(alloc, base, scenarios, runner)?),
+        Table::Comparison(asked) => {
+            let asked = asked_of(scenarios, asked)?;
+            Ok(comparison(alloc, base, scenarios, asked, runner)?)
+        }
+        Table::ComparisonJson(asked) => {
+            let asked = asked_of(scenarios, asked)?;
+            Ok(comparison_json(alloc, base, scenarios, asked, runner)?)
+        }
+    }
 }

@@ -1,2 +1,3 @@
 mod TraceLemmas
+mod LineLemmas
 pub mod OneTrace

@@ -1,5 +1,5 @@
 -- A feed has one trace.
-use Rattle.std.proofs.Common.{◌≡◌, ◌∙◌, ◌+◌, ℕ, List, [], ◌∷◌, ◌++◌, Option, None, Some, Ok, Err, refl, sym, ap, subst, not}
+use Rattle.std.proofs.Common.{◌≡◌, ◌∙◌, ◌+◌, ℕ, List, [], ◌∷◌, ◌++◌, Option, None, Some, Ok, Err, sym, ap, subst, length, not}
 use Rattle.std.specs.List.{IsDistinct}
 use Rattle.cdm_flight.specs.Accepted.{accepted, after_one, refusal}
 use Rattle.cdm_flight.specs.Journal.{AirportRows}
@@ -19,13 +19,21 @@ use Rattle.cdm_view.specs.declared.standing.Standing.{Standing}
 use Rattle.cdm_view.proofs.StandingLemmas.{standings_apart}
 use Rattle.cdm_plan.proofs.ListWords.{distinct_filter}
 use Rattle.cdm_plan.proofs.NameLemmas.{by_name}
-use Rattle.cdm_desk.specs.Replies.{IsChangedTo, IsReply, IsReplyBy, day_after}
+use Rattle.cdm_row.specs.Changed.{changed_rows}
+use Rattle.cdm_row.specs.Rows.{AreRows}
+use Rattle.cdm_row.specs.declared.row.Row.{Row}
+use Rattle.cdm_row.proofs.RowLemmas.{one_rows}
+use Rattle.cdm_desk.specs.Replies.{AreChangedRows, IsChangedTo, IsReply, IsReplyBy, IsRowReply, IsRowReplyBy, day_after}
 use Rattle.cdm_desk.specs.declared.reply.DeskReply.{DeskReply}
 use Rattle.cdm_desk.specs.declared.reply.DeskReply.TheVariants.{Accepted, Refused}
+use Rattle.cdm_desk.specs.declared.reply.RowReply.{RowReply}
+use Rattle.cdm_desk.specs.declared.reply.RowReply.TheVariants as row_reply
+use Rattle.cdm_kinds.specs.declared.format.Format.{Format}
+use Rattle.cdm_kinds.specs.declared.format.Format.TheVariants.{Text, Json as AsJson}
 use Rattle.cdm_files.specs.Parsing.{parse_of}
 use Rattle.cdm_files.specs.Records.{records_of}
 use Rattle.cdm_files.specs.Refused.{Spelled}
-use Rattle.cdm_trace.specs.Traces.{IsTold, IsTrace, told}
+use Rattle.cdm_trace.specs.Traces.{IsPiece, IsTold, IsTrace, told, told_json}
 use Rattle.cdm_trace.proofs.TraceLemmas.{first_day}
 
 -- the day's runways have names of their own, and so have its flights
@@ -69,19 +77,55 @@ one_reply : (d : DayRecord) (spelled : Spelled) → Own d → (x y : DeskReply) 
 one_reply d (Ok u) own x y a b = one_reply_by (refusal d.airport d.journal u.0 u.1) d (day_after d (Ok u)) own (own_next d (Ok u) own) x y a b
 one_reply d (Err word) own x y a b = a ∙ sym b
 
--- what is told of records
-one_told : (asked : Option (List ℕ)) (d : DayRecord) (number : ℕ) (records : List (List (List ℕ))) → Own d
-    → (x y : List ℕ) → IsTold asked d number records x → IsTold asked d number records y → x ≡ y
-one_told asked d number [] own x y a b = a ∙ sym b
-one_told asked d number (fields ∷ records) own x y a b =
+-- The reply by Rows.
+
+one_changed_rows : (d next : DayRecord) → Own d → Own next → (x y : List Row) → AreChangedRows d next x → AreChangedRows d next y → x ≡ y
+one_changed_rows d next own after x y a b =
+    let plans : b.plan ≡ a.plan = one_day_plan d b.plan a.plan own.0 own.1 b.of_day a.of_day in
+    let next_plans : b.next_plan ≡ a.next_plan = one_day_plan next b.next_plan a.next_plan after.0 after.1 b.of_next a.of_next in
+    let had : a.had ≡ b.had =
+    one_rows d a.plan own.0 own.1 a.of_day a.had b.had a.before (subst (λ (p : Plan). AreRows d p b.had) plans b.before) in
+    let has : a.has ≡ b.has =
+    one_rows next a.next_plan after.0 after.1 a.of_next a.has b.has a.after (subst (λ (p : Plan). AreRows next p b.has) next_plans b.after) in
+    a.changes ∙ (λ i. changed_rows (had i) (has i)) ∙ sym b.changes
+
+one_row_reply_by : (o : Option RefusalWord) (d next : DayRecord) → Own d → Own next → (x y : RowReply) → IsRowReplyBy o d next x → IsRowReplyBy o d next y → x ≡ y
+one_row_reply_by (Some word) d next own after x y a b = a ∙ sym b
+one_row_reply_by None d next own after (row_reply.Accepted x) (row_reply.Accepted y) a b = ap row_reply.Accepted (one_changed_rows d next own after x y a b)
+one_row_reply_by None d next own after (row_reply.Accepted x) (row_reply.Refused word) a b = absurd b
+one_row_reply_by None d next own after (row_reply.Refused word) y a b = absurd a
+
+one_row_reply : (d : DayRecord) (spelled : Spelled) → Own d → (x y : RowReply) → IsRowReply d spelled x → IsRowReply d spelled y → x ≡ y
+one_row_reply d (Ok u) own x y a b = one_row_reply_by (refusal d.airport d.journal u.0 u.1) d (day_after d (Ok u)) own (own_next d (Ok u) own) x y a b
+one_row_reply d (Err word) own x y a b = a ∙ sym b
+
+-- The trace.
+
+-- what is told of a record
+one_piece : (format : Format) (asked : Option (List ℕ)) (d : DayRecord) (number : ℕ) (fields : List (List ℕ)) → Own d
+    → (x y : List ℕ) → IsPiece format asked d number fields x → IsPiece format asked d number fields y → x ≡ y
+one_piece Text asked d number fields own x y a b =
+    let reply : a.0 ≡ b.0 = one_reply d (parse_of d.airport.day fields) own a.0 b.0 a.1 b.1 in
+    a.2 ∙ ap (told asked d.airport.day number fields) reply ∙ sym b.2
+one_piece AsJson asked d number fields own x y a b =
     let spelled = parse_of d.airport.day fields in
-    let reply : a.0 ≡ b.0 = one_reply d spelled own a.0 b.0 a.2 b.2 in
-    let later : a.1 ≡ b.1 = one_told asked (day_after d spelled) (number + 1) records (own_next d spelled own) a.1 b.1 a.3 b.3 in
-    a.4 ∙ ((λ i. told asked d.airport.day number fields (reply i) ++ later i) ∙ sym b.4)
+    let reply : a.0 ≡ b.0 = one_row_reply d spelled own a.0 b.0 a.1 b.1 in
+    a.2 ∙ ap (told_json asked d.airport.day number (length (day_after d spelled).journal) fields) reply ∙ sym b.2
+
+-- what is told of records
+one_told : (format : Format) (asked : Option (List ℕ)) (d : DayRecord) (number : ℕ) (records : List (List (List ℕ))) → Own d
+    → (x y : List ℕ) → IsTold format asked d number records x → IsTold format asked d number records y → x ≡ y
+one_told format asked d number [] own x y a b = a ∙ sym b
+one_told format asked d number (fields ∷ records) own x y a b =
+    let spelled = parse_of d.airport.day fields in
+    let piece : a.0 ≡ b.0 = one_piece format asked d number fields own a.0 b.0 a.2 b.2 in
+    let later : a.1 ≡ b.1 = one_told format asked (day_after d spelled) (number + 1) records (own_next d spelled own) a.1 b.1 a.3 b.3 in
+    a.4 ∙ ((λ i. piece i ++ later i) ∙ sym b.4)
 
 own_first : (g : AirportRows) → IsAirport g → Own (first_day g)
 unfolding IsDistinct
 own_first g is = (is.names, tt)
 
-pub one : (asked : Option (List ℕ)) (g : AirportRows) (feed : List ℕ) → IsAirport g → (x y : List ℕ) → IsTrace asked g feed x → IsTrace asked g feed y → x ≡ y
-one asked g feed is = one_told asked (first_day g) 1 (records_of feed) (own_first g is)
+pub one : (format : Format) (asked : Option (List ℕ)) (g : AirportRows) (feed : List ℕ) → IsAirport g
+    → (x y : List ℕ) → IsTrace format asked g feed x → IsTrace format asked g feed y → x ≡ y
+one format asked g feed is = one_told format asked (first_day g) 1 (records_of feed) (own_first g is)

@@ -1,6 +1,7 @@
 //! Which record of a feed moved whose start-up.
 #![tactic(auto)]
 
+mod lines;
 mod told;
 mod tracing;
 

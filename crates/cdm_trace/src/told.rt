@@ -1,5 +1,5 @@
-//! What is told of a record.
-ghost use Rattle.std.specs.Prelude.{◌≡◌, ◌++◌, IfOk, OnOk};
+//! What is told of a record, as text.
+ghost use Rattle.std.specs.Prelude.{◌≡◌, IfOk};
 ghost use Rattle.std.specs.Option.{option_copied};
 ghost use Rattle.std.specs.String.{string_bytes};
 ghost use Rattle.csv.specs.Records.{fields_of};
@@ -51,47 +51,46 @@ fn changed_line(alloc: Global, day: Day, standing: &Standing) -> Result<String, 
     Ok(text)
 }
 
-// Puts a record by its number behind a text, and where a flight stands after it.
+// A record by its number, and where a flight stands after it.
 #[tactic(auto, unfolding(crate::specs::Traces::moved_text))]
-fn push_moved(
+fn moved_text(
     alloc: Global,
-    text: &mut Vec<u8>,
     day: Day,
     number: u32,
     row: &ByteRecord,
     standing: &Standing,
-) -> Result<(), AllocError>
-    ensures { OnOk result (text.new.items ≡ text.old.items ++ moved_text day number (fields_of row.now) standing.now) }
+) -> Result<Vec<u8>, AllocError>
+    ensures { IfOk result (λ text. text.items ≡ moved_text day number (fields_of row.now) standing.now) }
 {
     let number = format!(in alloc; "{number} ")?;
-    text.extend_from_slice(number.as_bytes())?;
-    push_record_text(text, row)?;
+    let mut text = number.into_bytes();
+    push_record_text(&mut text, row)?;
     text.push(b'\n')?;
     let line = changed_line(alloc, day, standing)?;
-    text.extend_from_slice(line.as_bytes())
+    text.extend_from_slice(line.as_bytes())?;
+    Ok(text)
 }
 
-/// Puts behind a text what is told of a record with this reply: of each record, or of those that move one flight.
-pub(crate) fn push_told(
+/// What is told of a record with this reply: of each record, or of those that move one flight.
+pub(crate) fn told(
     alloc: Global,
-    text: &mut Vec<u8>,
     asked: Option<FlightName>,
     day: Day,
     number: u32,
     row: &ByteRecord,
     reply: &DeskReply,
-) -> Result<(), AllocError>
-    ensures { OnOk result (text.new.items ≡ text.old.items ++ told asked day number (fields_of row.now) reply.now) }
+) -> Result<Vec<u8>, AllocError>
+    ensures { IfOk result (λ text. text.items ≡ told asked day number (fields_of row.now) reply.now) }
 {
     let Some(name) = asked else {
         let told = told_of_all(alloc, day, number, reply)?;
-        return text.extend_from_slice(told.as_bytes());
+        return Ok(told.into_bytes());
     };
     let DeskReply::Accepted(changed) = reply else {
-        return Ok(());
+        return Ok(Vec::new(alloc));
     };
     match standing_in(changed.as_slice(), name) {
-        Some(standing) => push_moved(alloc, text, day, number, row, standing),
-        None => Ok(()),
+        Some(standing) => moved_text(alloc, day, number, row, standing),
+        None => Ok(Vec::new(alloc)),
     }
 }

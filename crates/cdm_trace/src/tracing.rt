@@ -1,29 +1,88 @@
 //! The records of a feed, one after the other.
-ghost use Rattle.std.specs.Prelude.{◌≤◌, length, IfOk};
+ghost use Rattle.std.specs.Prelude.{◌≡◌, ◌≤◌, length, IfOk, OnOk};
+ghost use Rattle.csv.specs.Records.{fields_of};
+ghost use Rattle.cdm_desk.specs.Replies.{day_after};
 ghost use Rattle.cdm_files.specs.Input.{input_limit};
-ghost use Rattle.cdm_trace.specs.Traces.{IsTrace};
+ghost use Rattle.cdm_files.specs.Parsing.{parse_of};
+ghost use Rattle.cdm_trace.specs.Traces.{IsPiece, IsTrace};
 
-use crate::told::push_told;
-use cdm_day::Airport;
+use crate::lines::{line_of_all, line_of_flight};
+use crate::told::told;
+use cdm_day::{Airport, Records};
 use cdm_desk::DeskDay;
 use cdm_files::{RecordReader, day_of, parse_record};
 use cdm_flight::FlightName;
+use cdm_kinds::Format;
 use csv::ByteRecord;
 use std::alloc::{AllocError, Global};
 
+// Posts a record to a day, and what is told of it as text.
+fn text_piece(
+    alloc: Global,
+    desk: &mut DeskDay,
+    asked: Option<FlightName>,
+    number: u32,
+    row: &ByteRecord,
+) -> Result<Vec<u8>, AllocError>
+    ensures piece { IfOk result (λ piece. IsPiece Format.Text asked desk.old number (fields_of row.now) piece.items) }
+    ensures ok { OnOk result (desk.new ≡ day_after desk.old (parse_of desk.old.airport.day (fields_of row.now))) }
+{
+    let day = *desk.state().day();
+    let reply = desk.post(alloc, &parse_record(day, row))?;
+    told(alloc, asked, day, number, row, &reply)
+}
+
+// Posts a record to a day, and what is told of it as JSON.
+fn json_piece(
+    alloc: Global,
+    desk: &mut DeskDay,
+    asked: Option<FlightName>,
+    number: u32,
+    row: &ByteRecord,
+) -> Result<Vec<u8>, AllocError>
+    ensures piece { IfOk result (λ piece. IsPiece Format.Json asked desk.old number (fields_of row.now) piece.items) }
+    ensures ok { OnOk result (desk.new ≡ day_after desk.old (parse_of desk.old.airport.day (fields_of row.now))) }
+{
+    let day = *desk.state().day();
+    let reply = desk.post_rows(alloc, &parse_record(day, row))?;
+    match asked {
+        Some(name) => line_of_flight(alloc, name, day, number, row, &reply),
+        None => line_of_all(alloc, day, number, desk.state().accepted(), &reply),
+    }
+}
+
+// Posts a record to a day, and what is told of it.
+fn piece_of(
+    alloc: Global,
+    format: Format,
+    desk: &mut DeskDay,
+    asked: Option<FlightName>,
+    number: u32,
+    row: &ByteRecord,
+) -> Result<Vec<u8>, AllocError>
+    ensures piece { IfOk result (λ piece. IsPiece format asked desk.old number (fields_of row.now) piece.items) }
+    ensures ok { OnOk result (desk.new ≡ day_after desk.old (parse_of desk.old.airport.day (fields_of row.now))) }
+{
+    match format {
+        Format::Text => text_piece(alloc, desk, asked, number, row),
+        Format::Json => json_piece(alloc, desk, asked, number, row),
+    }
+}
+
 /// Posts the records of a feed one after the other to the day of an airport, and tells of each what it changed. Without a
 /// flight that is the reply to each record that is refused or by which a flight stands otherwise; of a flight, each record
-/// by which it stands otherwise, and where it stands then.
+/// by which it stands otherwise, and where it stands then. As JSON it is told of Rows: the reply to each record that is
+/// refused or changes a Row, or each record that changes the flight's Row, and that Row.
 pub fn trace_of(
     alloc: Global,
     airport: Airport,
     feed: &[u8],
     asked: Option<FlightName>,
+    format: Format,
 ) -> Result<Vec<u8>, AllocError>
     requires { length feed.now ≤ input_limit }
-    ensures { IfOk result (λ text. IsTrace asked airport feed.now text.items) }
+    ensures { IfOk result (λ text. IsTrace format asked airport feed.now text.items) }
 {
-    let day = *airport.day();
     let mut reader = RecordReader::new(alloc, feed);
     let mut row = ByteRecord::new(alloc);
     let state = day_of(alloc, airport)?;
@@ -35,7 +94,7 @@ pub fn trace_of(
             return Ok(text);
         }
         number += 1;
-        let reply = desk.post(alloc, &parse_record(day, &row))?;
-        push_told(alloc, &mut text, asked, day, number, &row, &reply)?;
+        let piece = piece_of(alloc, format, &mut desk, asked, number, &row)?;
+        text.extend_from_slice(&piece)?;
     }
 }

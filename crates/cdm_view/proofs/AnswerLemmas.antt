@@ -23,7 +23,7 @@ load_same d plan asked x y airport (xs, these, is) (ys, those, also) =
     is ∙ ap (load_text d.airport plan asked) (in_order d xs airport these ∙ sym (in_order d ys airport those)) ∙ sym also
 
 -- the runs of what may be waited for are one list
-waits_one : (w : Option Waiting) (to : ℕ) (xs ys : List Run) → MatchOption w (xs ≡ []) (λ w. AreRuns (reason_at w) (w.tobt + w.exot) to xs)
+pub waits_one : (w : Option Waiting) (to : ℕ) (xs ys : List Run) → MatchOption w (xs ≡ []) (λ w. AreRuns (reason_at w) (w.tobt + w.exot) to xs)
     → MatchOption w (ys ≡ []) (λ w. AreRuns (reason_at w) (w.tobt + w.exot) to ys) → xs ≡ ys
 waits_one None to xs ys a b = a ∙ sym b
 waits_one (Some w) to xs ys a b = runs_one (reason_at w) (w.tobt + w.exot) to xs ys a b

@@ -1,6 +1,7 @@
 //! What the cells of a runway tell.
-ghost use Rattle.std.specs.Prelude.{◌≡◌, ◌+◌, ◌*◌, ◌/◌, ◌<◌, ◌≤◌, ◌==◌, length};
-ghost use Rattle.cdm_view.specs.Load.{cap_of_cell, closed_in_cell, flights_in_cell, tells};
+ghost use Rattle.std.specs.Prelude.{◌≡◌, ◌+◌, ◌-◌, ◌*◌, ◌/◌, ◌<◌, ◌≤◌, ◌==◌, length};
+ghost use Rattle.std.specs.List.{range_with_len};
+ghost use Rattle.cdm_view.specs.Load.{cap_of_cell, closed_in_cell, flights_in_cell, tells, told_cells};
 ghost use Rattle.cdm_view.specs.inner.Ends.{AreEnds};
 
 use cdm_runway::Runway;
@@ -24,7 +25,7 @@ pub fn first_minute(runway: &Runway, cell: u16) -> Minute
 }
 
 /// Whether the flight takes off in the cell.
-pub(crate) fn is_in_cell(runway: &Runway, slot: &Slot, cell: u16) -> bool
+pub fn is_in_cell(runway: &Runway, slot: &Slot, cell: u16) -> bool
     ensures { result ≡ (slot.now.ttot / runway.now.cell == cell) }
 {
     slot.ttot.get() / runway.cell().get() == cell
@@ -75,8 +76,8 @@ fn tells(runway: &Runway, usual: u16, slots: &[Slot], cell: u16) -> bool
         || cap_of_cell(runway, cell) != usual
 }
 
-/// The first cell that tells something, and the first one after all that do.
-pub(crate) fn ends_of_told(runway: &Runway, usual: u16, slots: &[Slot]) -> (u16, u16)
+// The first cell that tells something, and the first one after all that do.
+fn ends_of_told(runway: &Runway, usual: u16, slots: &[Slot]) -> (u16, u16)
     ensures { AreEnds (tells runway.now usual slots.now) (2880 / runway.now.cell) result.0 result.1 }
 {
     let (mut from, mut to) = (0, 0);
@@ -89,4 +90,14 @@ pub(crate) fn ends_of_told(runway: &Runway, usual: u16, slots: &[Slot]) -> (u16,
         }
     }
     (from, to)
+}
+
+/// The cells of a runway that are told, by the cap that it usually has: the first that tells something, a flight, a closed minute or
+/// another cap, and the first one behind the last that does.
+pub fn told_cells(runway: &Runway, usual: u16, slots: &[Slot]) -> (u16, u16)
+    ensures cells { told_cells runway.now usual slots.now ≡ range_with_len result.0 (result.1 - result.0) }
+    ensures order { result.0 ≤ result.1 }
+    ensures within { result.1 ≤ 2880 / runway.now.cell }
+{
+    ends_of_told(runway, usual, slots)
 }

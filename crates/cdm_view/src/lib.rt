@@ -22,12 +22,14 @@ mod waiting_laws;
 mod whys;
 
 pub use answering::answer;
-pub use cells::{cap_of_cell, cell_count, closed_in_cell, first_minute, flights_in_cell};
+pub use cells::{
+    cap_of_cell, cell_count, closed_in_cell, first_minute, flights_in_cell, is_in_cell, told_cells,
+};
 pub use differing::changes_between;
 pub use fault::ViewFault;
 pub use laws::{counts_add_up, each_flight_in_one_line, one_answer};
 pub use lines::{group_letter, push_runs};
-pub use loading::load;
+pub use loading::{is_asked, load, unknown_in, usual_cap};
 pub use question::Question;
 pub use reason::Reason;
 pub use runs::Run;

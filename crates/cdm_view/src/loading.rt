@@ -9,7 +9,7 @@ ghost use Rattle.cdm_plan.specs.DayPlan.{AreByName};
 ghost use Rattle.cdm_view.specs.Load.{IsLoad, cell_columns, cell_line, flights_in_cell, heading, is_asked, runway_load, told_cells, unknown_in, usual_cap, IsLoadFault};
 
 use crate::cells::{
-    cap_of_cell, closed_in_cell, ends_of_told, first_minute, flights_in_cell, is_in_cell,
+    cap_of_cell, closed_in_cell, first_minute, flights_in_cell, is_in_cell, told_cells,
 };
 use crate::fault::ViewFault;
 use crate::slots::slots_on;
@@ -54,8 +54,8 @@ pub fn load<R: Records>(
     Ok(text.into_bytes())
 }
 
-// The runway that is asked, if the airport hasn't it.
-fn unknown_in(airport: &Airport, asked: &Option<RunwayName>) -> Option<RunwayName>
+/// The runway that is asked, if the airport hasn't it.
+pub fn unknown_in(airport: &Airport, asked: &Option<RunwayName>) -> Option<RunwayName>
     ensures { result ≡ unknown_in airport.now asked.now }
 {
     match *asked {
@@ -64,8 +64,8 @@ fn unknown_in(airport: &Airport, asked: &Option<RunwayName>) -> Option<RunwayNam
     }
 }
 
-// Whether a runway of this name is asked.
-fn asks(asked: &Option<RunwayName>, runway: &Runway) -> bool
+/// Whether this runway is asked: the one of the name, or all where there is none.
+pub fn is_asked(asked: &Option<RunwayName>, runway: &Runway) -> bool
     ensures { result ≡ is_asked asked.now runway.now }
 {
     match *asked {
@@ -103,7 +103,7 @@ fn push_asked(
         ++ flat_map (runway_load airport.now plan.entry.now) (filter (is_asked asked.now) (cons_option (option_copied runway.entry) []))) }
 {
     match runway {
-        Some(runway) if asks(asked, runway) => push_runway(text, airport, plan, runway),
+        Some(runway) if is_asked(asked, runway) => push_runway(text, airport, plan, runway),
         _ => Ok(()),
     }
 }
@@ -131,8 +131,8 @@ fn row_named(rows: &[RunwayRow], name: RunwayName) -> Option<&RunwayRow>
     rows.iter().find(|row| row.name == name)
 }
 
-// The cap that the airport's row of the runway gives.
-fn usual_cap(airport: &Airport, name: RunwayName) -> u16
+/// The cap that the airport's row of the runway gives, 0 where it has none.
+pub fn usual_cap(airport: &Airport, name: RunwayName) -> u16
     ensures { result ≡ usual_cap airport.now name }
 {
     match row_named(airport.runways(), name) {
@@ -162,7 +162,7 @@ fn push_cells(
     ensures { OnOk result (string_bytes text.new
         ≡ string_bytes text.old ++ flat_map (cell_line day runway.now slots.now) (told_cells runway.now usual slots.now)) }
 {
-    let (from, to) = ends_of_told(runway, usual, slots);
+    let (from, to) = told_cells(runway, usual, slots);
     for cell in from..to {
         push_cell(text, day, runway, slots, cell)?;
     }

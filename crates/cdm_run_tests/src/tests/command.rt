@@ -4,8 +4,10 @@ mod faults;
 mod help;
 mod memory;
 
-use cdm_command::{Command, CommandFault, WhatIf, command_of};
+use cdm_command::{Command, CommandFault, DayFiles, command_of};
+use cdm_feed::DayText;
 use cdm_flight::{FlightName, RunwayName};
+use cdm_kinds::Format;
 use cdm_phase::Workers;
 use cdm_scenario::ScenarioName;
 use cdm_table::Table;
@@ -15,21 +17,28 @@ use std::alloc::Global;
 /// How the text of wrong words ends.
 const TRY: &str = "For more information, try '--help'.\n";
 
-// Whether the words ask for the plan of the files a.csv and f.csv, with these scenarios and so many workers.
-fn is_plan(alloc: Global, words: &[&str], scenarios: Option<&str>, count: usize) -> bool {
+// Whether the words ask that this is told of the files a.csv and f.csv, and of these scenarios, by so many workers.
+fn is_told(
+    alloc: Global,
+    words: &[&str],
+    scenarios: Option<&str>,
+    text: DayText,
+    count: usize,
+) -> bool {
     let Some(workers) = Workers::new(count) else {
         return false;
     };
-    let wanted = Command::Plan {
+    let files = DayFiles {
         airport: "a.csv",
         feed: "f.csv",
         scenarios,
+    };
+    let wanted = Command::Tell {
+        files,
+        text,
         workers,
     };
-    match command_of(alloc, words) {
-        Ok(command) => command == wanted,
-        Err(_) => false,
-    }
+    is_command(alloc, words, &wanted)
 }
 
 #[test]
@@ -67,34 +76,9 @@ fn plans_with_one_worker_or_as_many_as_asked_for(rt: HostRuntime) {
         ),
     ];
     for (words, scenarios, count) in table {
-        let is_plan = is_plan(rt.alloc(), words, scenarios, count);
-        assert!(rt; is_plan, "{words:?}");
-    }
-}
-
-// Whether the words ask this of the day of the files a.csv and f.csv.
-fn is_asked(
-    alloc: Global,
-    words: &[&str],
-    question: Question,
-    scenario: Option<ScenarioName>,
-) -> bool {
-    let what_if = match scenario {
-        Some(name) => Some(WhatIf {
-            scenarios: "s.csv",
-            name,
-        }),
-        None => None,
-    };
-    let wanted = Command::Ask {
-        airport: "a.csv",
-        feed: "f.csv",
-        what_if,
-        question,
-    };
-    match command_of(alloc, words) {
-        Ok(command) => command == wanted,
-        Err(_) => false,
+        let plan = DayText::Plan(Format::Text);
+        let told = is_told(rt.alloc(), words, scenarios, plan, count);
+        assert!(rt; told, "{words:?}");
     }
 }
 
@@ -111,7 +95,17 @@ fn questions_name_a_flight_or_a_runway(rt: HostRuntime) {
         ),
     ];
     for (words, question) in table {
-        assert!(rt; is_asked(rt.alloc(), words, question, None), "{words:?}");
+        let text = DayText::Answer(question, None, Format::Text);
+        assert!(rt; is_told(rt.alloc(), words, None, text, 1), "{words:?}");
+    }
+}
+
+// The format that a line of words names.
+fn format_in(line: &str) -> Format {
+    if line.contains("json") {
+        Format::Json
+    } else {
+        Format::Text
     }
 }
 
@@ -125,35 +119,17 @@ fn questions_are_asked_of_a_scenario(rt: HostRuntime) {
             Question::Why(flight),
         ),
         (
-            "load a.csv --scenario SHUT-2 f.csv --scenarios s.csv",
+            "load a.csv --scenario SHUT-2 f.csv --scenarios s.csv --format json",
             Question::Load(None),
         ),
     ];
     for (line, question) in table {
         let words = line.split(' ').collect::<Vec<&str>>(rt.alloc());
         let words = words.expect(&rt, "words");
-        assert!(rt;
-            is_asked(rt.alloc(), words.as_slice(), question, Some(name)),
-            "{line}"
-        );
-    }
-}
-
-// Whether the words ask for this table of the files a.csv, f.csv and s.csv, with two workers.
-fn is_table(alloc: Global, words: &[&str], table: Table) -> bool {
-    let Some(workers) = Workers::new(2) else {
-        return false;
-    };
-    let wanted = Command::Tabulate {
-        airport: "a.csv",
-        feed: "f.csv",
-        scenarios: Some("s.csv"),
-        table,
-        workers,
-    };
-    match command_of(alloc, words) {
-        Ok(command) => command == wanted,
-        Err(_) => false,
+        let format = format_in(line);
+        let text = DayText::Answer(question, Some(name), format);
+        let told = is_told(rt.alloc(), words.as_slice(), Some("s.csv"), text, 1);
+        assert!(rt; told, "{line}");
     }
 }
 
@@ -163,55 +139,72 @@ fn scenarios_are_compared_or_printed_as_rows(rt: HostRuntime) {
     let table = [
         (
             "compare a.csv f.csv s.csv --workers 2",
-            Table::Comparison(None),
+            DayText::Table(Table::Comparison(None)),
         ),
         (
             "compare --workers=2 a.csv f.csv s.csv SHUT-2",
-            Table::Comparison(Some(name)),
+            DayText::Table(Table::Comparison(Some(name))),
+        ),
+        (
+            "compare a.csv f.csv s.csv SHUT-2 --format json --workers 2",
+            DayText::Table(Table::ComparisonJson(Some(name))),
+        ),
+        (
+            "compare a.csv f.csv s.csv --format csv --workers 2",
+            DayText::Table(Table::ComparisonCsv),
         ),
         (
             "plan a.csv f.csv --scenarios s.csv --workers 2 --format csv",
-            Table::Csv,
+            DayText::Table(Table::Csv),
         ),
         (
-            "plan --format=csv --workers 2 --scenarios=s.csv a.csv f.csv",
-            Table::Csv,
+            "plan --format=json --workers 2 --scenarios=s.csv a.csv f.csv",
+            DayText::Plan(Format::Json),
+        ),
+        (
+            "picture --workers=2 --scenarios=s.csv a.csv f.csv",
+            DayText::Picture,
         ),
     ];
     for (words, wanted) in table {
         let words = words.split(' ').collect::<Vec<&str>>(rt.alloc());
         let words = words.expect(&rt, "words");
-        assert!(rt; is_table(rt.alloc(), words.as_slice(), wanted), "{words:?}");
+        let told = is_told(rt.alloc(), words.as_slice(), Some("s.csv"), wanted, 2);
+        assert!(rt; told, "{words:?}");
     }
 }
 
-// Whether the words ask for the picture of the files a.csv, f.csv and s.csv, with two workers.
-fn is_picture(alloc: Global, words: &[&str]) -> bool {
-    let Some(workers) = Workers::new(2) else {
-        return false;
-    };
-    let wanted = Command::Draw {
-        airport: "a.csv",
-        feed: "f.csv",
-        scenarios: Some("s.csv"),
-        workers,
-    };
+// Whether the words ask for this.
+fn is_command(alloc: Global, words: &[&str], wanted: &Command<'_>) -> bool {
     match command_of(alloc, words) {
-        Ok(command) => command == wanted,
+        Ok(command) => command == *wanted,
         Err(_) => false,
     }
 }
 
 #[test]
-fn a_day_is_drawn_with_its_scenarios(rt: HostRuntime) {
-    let table = [
-        "picture a.csv f.csv --scenarios s.csv --workers 2",
-        "picture --workers=2 --scenarios=s.csv a.csv f.csv",
-    ];
-    for words in table {
-        let words = words.split(' ').collect::<Vec<&str>>(rt.alloc());
-        let words = words.expect(&rt, "words");
-        assert!(rt; is_picture(rt.alloc(), words.as_slice()), "{words:?}");
+fn traces_checks_and_served_days_have_a_format(rt: HostRuntime) {
+    let alloc = rt.alloc();
+    let files = DayFiles {
+        airport: "a.csv",
+        feed: "f.csv",
+        scenarios: None,
+    };
+    let (airport, journal) = ("a.csv", "j.csv");
+    for (word, format) in [("text", Format::Text), ("json", Format::Json)] {
+        let trace = ["trace", "a.csv", "f.csv", "--format", word];
+        let told = DayText::Trace(None, format);
+        assert!(rt; is_told(alloc, &trace, None, told, 1), "{word}");
+        let check = ["check", "--format", word, "a.csv", "f.csv"];
+        let wanted = Command::Check { files, format };
+        assert!(rt; is_command(alloc, &check, &wanted), "{word}");
+        let serve = ["serve", "a.csv", "j.csv", "--format", word];
+        let wanted = Command::Serve {
+            airport,
+            journal,
+            format,
+        };
+        assert!(rt; is_command(alloc, &serve, &wanted), "{word}");
     }
 }
 
@@ -275,6 +268,14 @@ fn other_wrong_words_are_told(rt: HostRuntime) {
         ("compare a f", "<SCENARIOS>"),
         ("compare a f s shut", "invalid value 'shut' for '[NAME]'"),
         ("compare a f s A B", "unexpected argument 'B'"),
+        (
+            "why a f AB1 --format csv",
+            "value 'csv' for '--format <FORMAT>'",
+        ),
+        (
+            "serve a j --format CSV",
+            "value 'CSV' for '--format <FORMAT>'",
+        ),
         ("why a f", "<FLIGHT>"),
         ("why a f AB1 AB2", "unexpected argument 'AB2'"),
         ("why a f AB123456", "value 'AB123456' for '<FLIGHT>'"),

@@ -6,6 +6,7 @@ mod script;
 
 use cdm_feed::airport_of;
 use cdm_flight::RefusalWord;
+use cdm_kinds::Format;
 use cdm_port::PortFault;
 use cdm_serve::{ServeError, serve};
 use memory::{Call, Left, Memory, Stop};
@@ -23,7 +24,7 @@ const NEVER: Stop = Stop {
 // What a served day over this port answers.
 fn answer_of<R: AllocGlobal + Threads + Sync>(rt: &R, port: &mut Memory) -> Result<(), ServeError> {
     let airport = airport_of(rt.alloc(), AIRPORT.as_bytes())?;
-    serve(rt, rt.alloc(), airport, port)
+    serve(rt, rt.alloc(), airport, Format::Text, port)
 }
 
 // The journal when the day has heard so many lines.

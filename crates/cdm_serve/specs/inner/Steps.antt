@@ -8,6 +8,7 @@ use Rattle.cdm_flight.specs.Journal.{AirportRows}
 use Rattle.cdm_flight.specs.declared.word.RefusalWord.{RefusalWord}
 use Rattle.cdm_journal.specs.Lines.{LineRecord, read_as}
 use Rattle.cdm_journal.specs.declared.lines.LineRead.{LineRead}
+use Rattle.cdm_kinds.specs.declared.format.Format.{Format}
 use Rattle.cdm_port.specs.Event.{Event}
 use Rattle.cdm_port.specs.Event.Event.{Appended, End, Flushed, Replied, Synced}
 use Rattle.cdm_port.specs.Stop.{Stops}
@@ -67,24 +68,24 @@ abbrev pub IsLinesFault : ℕ → List Event → List Event → ServeError → T
 IsLinesFault number old new = IsFaultOf ⊤ (λ place word. ⊥) (AreTooMany number old new)
 
 -- all lines were served to the end
-abbrev pub Serves : DayRecord → ℕ → List Event → List Event → Type 0
-Serves d number old new = (xs : List Exchange) × AreReplies d number xs × (new ≡ old ++ (served d xs ++ End ∷ []))
+abbrev pub Serves : Format → DayRecord → ℕ → List Event → List Event → Type 0
+Serves format d number old new = (xs : List Exchange) × AreReplies format d number xs × (new ≡ old ++ (served d xs ++ End ∷ []))
 
 -- lines were served up to some moment
-abbrev pub ServeStops : DayRecord → ℕ → List Event → List Event → Type 0
-ServeStops d number old new = (xs : List Exchange) × (next : Event) × AreReplies d number xs × IsHeard next × Stops old (served d xs ++ next ∷ []) new
+abbrev pub ServeStops : Format → DayRecord → ℕ → List Event → List Event → Type 0
+ServeStops format d number old new = (xs : List Exchange) × (next : Event) × AreReplies format d number xs × IsHeard next × Stops old (served d xs ++ next ∷ []) new
 
 -- a day was started
-pub record Starts (g : AirportRows) (marked : Bool) (old new : List Event) (d : DayRecord) : Type 0 where
+pub record Starts (format : Format) (g : AirportRows) (marked : Bool) (old new : List Event) (d : DayRecord) : Type 0 where
   pub bytes : List ℕ
   pub accepted : refusals_in g (start_text marked bytes) ≡ []
   pub day : d ≡ day_of g marked bytes
-  pub events : new ≡ old ++ started g marked bytes
+  pub events : new ≡ old ++ started format g marked bytes
 
 -- a day was being started
-abbrev pub StartStops : AirportRows → Bool → List Event → List Event → Type 0
-StartStops g marked old new = (bytes : List ℕ) × (Stops old (reading marked bytes) new
-    ⊎ ((refusals_in g (start_text marked bytes) ≡ []) × Stops old (started g marked bytes) new))
+abbrev pub StartStops : Format → AirportRows → Bool → List Event → List Event → Type 0
+StartStops format g marked old new = (bytes : List ℕ) × (Stops old (reading marked bytes) new
+    ⊎ ((refusals_in g (start_text marked bytes) ≡ []) × Stops old (started format g marked bytes) new))
 
 -- why a day isn't started
 abbrev pub IsStartFault : AirportRows → Bool → List Event → List Event → ServeError → Type 0

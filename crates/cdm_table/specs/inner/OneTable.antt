@@ -1,5 +1,6 @@
 -- A scenario has one answer in each table.
-use Rattle.std.proofs.Common.{◌≡◌, ◌∙◌, ℕ, List, Result, Ok, Err, sym, ap, subst}
+use Rattle.std.proofs.Common.{◌≡◌, ◌∙◌, ℕ, List, [], Result, Ok, Err, sym, ap, subst}
+use Rattle.std.specs.Prelude.{flat_map}
 use Rattle.std.specs.List.{IsDistinct}
 use Rattle.cdm_flight.specs.Names.{same_name}
 use Rattle.cdm_flight.specs.declared.word.RefusalWord.{RefusalWord}
@@ -8,10 +9,16 @@ use Rattle.cdm_plan.specs.Airport.{runway_names}
 use Rattle.cdm_sequence.specs.declared.plan.Plan.{Plan}
 use Rattle.cdm_plan.specs.Day.{DayRecord, flights_in}
 use Rattle.cdm_plan.specs.DayPlan.{IsDayPlan}
+use Rattle.cdm_plan.proofs.OnePlanLemmas.{one_day_plan}
 use Rattle.cdm_view.specs.Standings.{AreStandings, changes}
 use Rattle.cdm_view.specs.declared.standing.Standing.{Standing}
 use Rattle.cdm_view.proofs.StandingLemmas.{one_standings}
 use Rattle.cdm_row.proofs.RowLemmas.{one_rows}
+use Rattle.cdm_row.specs.Rows.{AreRows}
+use Rattle.cdm_row.specs.declared.row.Row.{Row}
+use Rattle.cdm_json.specs.Plans.{IsPlanLine, plan_line}
+use Rattle.cdm_json.specs.declared.plan.PlanOf.{PlanOf}
+use Rattle.cdm_json.specs.declared.plan.PlanOf.TheVariants as of
 use Rattle.cdm_scenario.specs.Outcome.{IsOutcome}
 use Rattle.cdm_scenario.specs.Overlay.{with_updates}
 use Rattle.cdm_scenario.specs.Scenarios.{ScenarioRecord}
@@ -19,8 +26,26 @@ use Rattle.cdm_scenario.specs.declared.outcome.Outcome.{Outcome}
 use Rattle.cdm_scenario.specs.declared.outcome.Outcome.TheVariants.{Planned, Refused}
 use Rattle.cdm_scenario.specs.inner.OneOutcome.{names_with_all, one_outcome}
 use Rattle.cdm_table.specs.Comparison.{AreTold, IsChanged, IsSummary, summary_of, told_of}
+use Rattle.cdm_table.specs.ComparisonJson.{AreChangeLines, AreChangeLinesBy, AreDayRows, change_line}
+use Rattle.cdm_table.specs.Plans.{IsLineBy, IsScenarioLine}
 use Rattle.cdm_table.specs.Rows.{AreFlightRows, AreRowsBy, AreScenarioRows, flights_text}
 use Rattle.cdm_table.specs.declared.line.Summary.{Summary}
+
+-- the Rows of a day's flights
+one_day_rows : (d : DayRecord) → IsDistinct same_name (runway_names d.airport) → IsDistinct same_name (flights_in d.journal) → (x y : List Row)
+    → AreDayRows d x → AreDayRows d y → x ≡ y
+one_day_rows d runways flights x y a b =
+    let plans : a.plan ≡ b.plan = one_day_plan d a.plan b.plan runways flights a.of_day b.of_day in
+    let rows : AreRows d a.plan y = subst (λ (p : Plan). AreRows d p y) (sym plans) b.are_rows in
+    one_rows d a.plan runways flights a.of_day x y a.are_rows rows
+
+-- the line of a day's plan
+pub one_plan_line : (d : DayRecord) (plan : Plan) → IsDistinct same_name (runway_names d.airport) → IsDistinct same_name (flights_in d.journal)
+    → IsDayPlan d plan → (of : PlanOf) (refused : List (ℕ × RefusalWord)) (x y : List ℕ) → IsPlanLine d of plan refused x
+    → IsPlanLine d of plan refused y → x ≡ y
+one_plan_line d plan runways flights is of refused x y a b =
+    let same : a.rows ≡ b.rows = one_rows d plan runways flights is a.rows b.rows a.are_rows b.are_rows in
+    a.bytes ∙ (ap (λ rows. plan_line d.airport.day of plan rows refused) same ∙ sym b.bytes)
 
 -- the rows of a day's flights
 pub one_flight_rows : (d : DayRecord) (plan : Plan) → IsDistinct same_name (runway_names d.airport) → IsDistinct same_name (flights_in d.journal)
@@ -39,6 +64,17 @@ module _ (d : DayRecord) (runways : IsDistinct same_name (runway_names d.airport
       by : (o : Outcome) → IsOutcome d s.updates o → AreRowsBy d s o x → AreRowsBy d s o y → x ≡ y
       by (Planned plan counts) is p q =
           one_flight_rows (with_updates d s.updates) plan runways (names_with_all d s.updates flights is.0) is.1 s.name x y p q
+      by (Refused number word) is p q = p ∙ sym q
+
+  -- the line of a scenario's plan
+  pub one_scenario_line : (s : ScenarioRecord) (x y : List ℕ) → IsScenarioLine d s x → IsScenarioLine d s y → x ≡ y
+  one_scenario_line s x y a b =
+      let same : a.0 ≡ b.0 = one_outcome d s.updates runways flights a.0 b.0 a.1 b.1 in
+      by a.0 a.1 a.2 (subst (λ (o : Outcome). IsLineBy d s o y) (sym same) b.2)
+    where
+      by : (o : Outcome) → IsOutcome d s.updates o → IsLineBy d s o x → IsLineBy d s o y → x ≡ y
+      by (Planned plan counts) is p q =
+          one_plan_line (with_updates d s.updates) plan runways (names_with_all d s.updates flights is.0) is.1 (of.Scenario s.name) [] x y p q
       by (Refused number word) is p q = p ∙ sym q
 
   -- what changes by a scenario
@@ -70,3 +106,18 @@ module _ (d : DayRecord) (runways : IsDistinct same_name (runway_names d.airport
   -- as lines
   pub one_told : (before : List Standing) (s : ScenarioRecord) (x y : List ℕ) → AreTold d before s x → AreTold d before s y → x ≡ y
   one_told before s x y a b = a.2 ∙ (ap (told_of d.airport.day before) (one_changed before s a.0 b.0 a.1 b.1) ∙ sym b.2)
+
+  -- as lines of JSON
+  one_lines_by : (before : List Standing) (s : ScenarioRecord) (by : Result (Counts × List Standing) (ℕ × RefusalWord)) → IsChanged d before s by
+      → (x y : List ℕ) → AreChangeLinesBy d s by x → AreChangeLinesBy d s by y → x ≡ y
+  one_lines_by before s (Ok (c, changed)) is x y a b =
+      let own : a.0 ≡ b.0 = one_day_rows d runways flights a.0 b.0 a.1 b.1 in
+      let names = names_with_all d s.updates flights is.2.0 in
+      let after : a.2 ≡ b.2 = one_day_rows (with_updates d s.updates) runways names a.2 b.2 a.3 b.3 in
+      a.4 ∙ ((λ i. flat_map (change_line d.airport.day (own i) (after i)) changed) ∙ sym b.4)
+  one_lines_by before s (Err refusal) is x y a b = a ∙ sym b
+
+  pub one_change_lines : (before : List Standing) (s : ScenarioRecord) (x y : List ℕ) → AreChangeLines d before s x → AreChangeLines d before s y → x ≡ y
+  one_change_lines before s x y a b =
+      let same : a.0 ≡ b.0 = one_changed before s a.0 b.0 a.1 b.1 in
+      one_lines_by before s a.0 a.1 x y a.2 (subst (λ (by : Result (Counts × List Standing) (ℕ × RefusalWord)). AreChangeLinesBy d s by y) (sym same) b.2)

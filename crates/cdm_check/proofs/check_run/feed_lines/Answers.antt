@@ -13,6 +13,6 @@ loop-refusal-preserved c =
     let before = c.loop-refusal.text.items in
     let line = c.in_ok-line.line.items in
     let longer : c.extend_from_slice.new.self.items ≡ before ++ line =
-    c.in_ok-extend_from_slice.ensures.items ∙ ap (λ (x : List ℕ). before ++ x) c.deref-in-loop-refusal.ensures.value in
-    subst (λ (x : List ℕ). AreLinesOf (map (finding path) (take (i + 1) refused)) x) (sym longer)
-    (next_line path refused i (0, Fields) before line c.loop-refusal-test.true c.loop-refusal.invariant c.in_ok-line.ensures)
+    c.in_ok-extend_from_slice.ensures.items ∙ ap (λ (x : List ℕ). before ++ x) c.deref.ensures.value in
+    subst (λ (x : List ℕ). AreLinesOf c.args.format (map (finding path) (take (i + 1) refused)) x) (sym longer)
+    (next_line c.args.format path refused i (0, Fields) before line c.loop-refusal-test.true c.loop-refusal.invariant c.in_ok-line.ensures)

@@ -4,4 +4,4 @@ use Rattle.cdm_check.specs.Findings.{finding}
 use Rattle.cdm_check.proofs.check_run.feed_lines.Given as goal
 
 abbrev pub invariant-loop-refusal : goal.invariant-loop-refusal
-invariant-loop-refusal l = AreLinesOf (map (finding l.path) (take l.refusal-index l.refused)) l.text.items
+invariant-loop-refusal l = AreLinesOf l.format (map (finding l.path) (take l.refusal-index l.refused)) l.text.items

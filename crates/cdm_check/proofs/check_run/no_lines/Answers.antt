@@ -4,4 +4,4 @@ use Rattle.cdm_check.proofs.LineLemmas.{no_lines}
 use Rattle.cdm_check.proofs.check_run.no_lines.Goals as goal
 
 pub returns-clause-lines : goal.returns-clause-lines
-returns-clause-lines c = subst (AreLinesOf []) (sym c.new.ensures.items) no_lines
+returns-clause-lines c = λ format. subst (AreLinesOf format []) (sym c.new.ensures.items) (no_lines format)

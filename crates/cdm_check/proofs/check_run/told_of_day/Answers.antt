@@ -20,26 +20,26 @@ returns-clause-lines g c =
     let lines = c.in_ok-lines.lines.items in
     let behind = c.in_ok-scenario.scenario.lines.items in
     let is : c.in_ok-judged.judged.refused.items ≡ refused = c.in_ok-judged.ensures.refused in
-    let first : c.first_of.result.now ≡ take 1000 refused = c.first_of.ensures ∙ ap (λ (rs : List (ℕ × RefusalWord)). take 1000 rs) (c.deref.ensures.value ∙ is) in
-    let told : AreLinesOf (map (finding path) (take 1000 refused)) lines =
-    subst (λ (rs : List (ℕ × RefusalWord)). AreLinesOf (map (finding path) rs) lines) first c.in_ok-lines.ensures in
+    let first : c.first_of-refused.result.now ≡ take 1000 refused = c.first_of-refused.ensures ∙ ap (λ (rs : List (ℕ × RefusalWord)). take 1000 rs) (c.deref.ensures.value ∙ is) in
+    let told : AreLinesOf c.args.format (map (finding path) (take 1000 refused)) lines =
+    subst (λ (rs : List (ℕ × RefusalWord)). AreLinesOf c.args.format (map (finding path) rs) lines) first c.in_ok-lines.ensures in
     let same : c.airport-airport.result.now ≡ c.args.airport = c.airport-airport.ensures ∙ ap (λ (s : DayRecord). s.airport) c.in_ok-judged.ensures.state in
-    let also : AreLinesOf (fault_at behind_path said) behind =
-    subst (λ (rows : AirportRows). AreLinesOf (fault_at behind_path (scenarios_in rows.day c.args.scenarios.now)) behind) same
-    (subst (λ (p : List ℕ). AreLinesOf (fault_at p (scenarios_in c.airport-airport.result.now.day c.args.scenarios.now)) behind) c.scenario_path.ensures c.in_ok-scenario.ensures.lines) in
+    let also : AreLinesOf c.args.format (fault_at behind_path said) behind =
+    subst (λ (rows : AirportRows). AreLinesOf c.args.format (fault_at behind_path (scenarios_in rows.day c.args.scenarios.now)) behind) same
+    (subst (λ (p : List ℕ). AreLinesOf c.args.format (fault_at p (scenarios_in c.airport-airport.result.now.day c.args.scenarios.now)) behind) c.scenario_path.ensures c.in_ok-scenario.ensures.lines) in
     let count : c.len.result ≡ length refused =
     c.len.ensures ∙ sym c.deref.ensures.len ∙ ap (λ (rs : List (ℕ × RefusalWord)). length rs) (c.deref.ensures.value ∙ is) in
-    let Told : List ℕ → Type 0 = λ text. AreLinesOf (take 1000 (map (finding path) refused ++ fault_at behind_path said)) text in
+    let Told : List ℕ → Type 0 = λ text. AreLinesOf c.args.format (take 1000 (map (finding path) refused ++ fault_at behind_path said)) text in
     elim c.if-len-lt-MOST_TOLD.branch [
       | then-len-lt-MOST_TOLD+in_ok-extend_from_slice w ↦
           let room : length refused < 1000 = omega (arith, count, w.if-len-lt-MOST_TOLD.true) in
           let longer = ap (λ (v : Vec ℕ Global). v.items) w.lines-is ∙ w.in_ok-extend_from_slice.ensures.items
           ∙ ap (λ (x : List ℕ). lines ++ x) w.deref-then-len-lt-MOST_TOLD.ensures.value in
-          subst Told (sym longer) (with_room 1000 path refused (fault_at behind_path said) lines behind room (one_fault behind_path said) told also)
+          subst Told (sym longer) (with_room c.args.format 1000 path refused (fault_at behind_path said) lines behind room (one_fault behind_path said) told also)
       | else-len-lt-MOST_TOLD w ↦
           let full : 1000 ≤ length refused = omega (arith, count, w.if-len-lt-MOST_TOLD.false) in
           let kept = ap (λ (v : Vec ℕ Global). v.items) w.lines-is in
-          subst Told (sym kept) (without_room 1000 path refused (fault_at behind_path said) lines full told)
+          subst Told (sym kept) (without_room c.args.format 1000 path refused (fault_at behind_path said) lines full told)
     ]
 
 pub returns-clause-refused : goal.returns-clause-refused

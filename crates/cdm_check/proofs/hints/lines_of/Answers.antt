@@ -10,4 +10,4 @@ loop-hint-preserved c =
     let line = c.in_ok-line.line.items in
     let longer : c.extend_from_slice.new.self.items ≡ before ++ line =
     c.in_ok-extend_from_slice.ensures.items ∙ ap (λ (x : List ℕ). before ++ x) c.deref-in-loop-hint.ensures.value in
-    subst (AreHintsOf path) (sym longer) (next_hint path before line c.loop-hint.invariant c.in_ok-line.ensures)
+    subst (AreHintsOf c.args.format path) (sym longer) (next_hint c.args.format path before line c.loop-hint.invariant c.in_ok-line.ensures)

@@ -7,5 +7,5 @@ use Rattle.cdm_feed.proofs.making.answer_of_base.Goals as goal
 pub returns-in-Err-clause-fault : goal.returns-in-Err-clause-fault
 returns-in-Err-clause-fault c =
     let day = c.args.day.now in
-    subst (IsUntold (Answer c.args.question None) day.state day.scenarios.items) (sym c.view_error.ensures)
-    (base_fault c.args.question day.state day.scenarios.items c.in-Err.fault c.in-Err.ensures.fault)
+    subst (IsUntold (Answer c.args.asking.question None c.args.asking.format) day.state day.scenarios.items) (sym c.view_error.ensures)
+    (base_fault c.args.asking.question c.args.asking.format day.state day.scenarios.items c.in-Err.fault c.in-Err.ensures.fault)

@@ -6,14 +6,7 @@ use std::alloc::Global;
 // The text that the words are answered, or the last file that they name. Nothing for want of memory.
 fn text_in<'a>(answer: &'a Result<Command<'_>, CommandFault>) -> &'a str {
     match answer {
-        Ok(
-            Command::Plan { feed, .. }
-            | Command::Tabulate { feed, .. }
-            | Command::Draw { feed, .. }
-            | Command::Check { feed, .. }
-            | Command::Trace { feed, .. }
-            | Command::Ask { feed, .. },
-        ) => feed,
+        Ok(Command::Tell { files, .. } | Command::Check { files, .. }) => files.feed,
         Ok(Command::Live { feed2, .. }) => feed2,
         Ok(Command::Serve { journal, .. }) => journal,
         Ok(Command::Kinds(_)) => "kinds",

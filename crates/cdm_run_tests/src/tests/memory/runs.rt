@@ -58,8 +58,8 @@ TOTAL PLACED 3 DELAY 55 MAX 25 LATE 1 BLOCKED 0
 DELTA PLACED +0 DELAY +50 MAX +20 LATE +1 BLOCKED +0
 ";
 
-// Whether a text is made of these parts.
-fn is_made_of(text: &[u8], parts: &[&str]) -> bool {
+/// Whether a text is made of these parts.
+pub fn is_made_of(text: &[u8], parts: &[&str]) -> bool {
     let mut left = text;
     for part in parts {
         match left.strip_prefix(part.as_bytes()) {

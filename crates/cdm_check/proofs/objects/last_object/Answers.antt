@@ -1,0 +1,11 @@
+use Rattle.std.proofs.Common.{[]}
+use Rattle.std.proofs.lemmas.Result.{IfOk-weaker}
+use Rattle.cdm_json.proofs.TokenLemmas.{line_written}
+use Rattle.cdm_check.specs.Check.{last_members}
+use Rattle.cdm_check.proofs.objects.last_object.Goals as goal
+
+pub returns : goal.returns
+returns c =
+    let members = last_members c.args.records c.args.refused in
+    let written = line_written _ _ [] members c.in_ok-writer.ensures.tokens c.in_ok-push_counts.ensures.tokens in
+    IfOk-weaker c.end_line.result _ _ (λ text is. is members written) c.end_line.ensures.line

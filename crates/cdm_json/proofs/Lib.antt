@@ -1,0 +1,4 @@
+pub mod TokenLemmas
+pub mod OneAnswer
+mod LoadLemmas
+mod ReadBack

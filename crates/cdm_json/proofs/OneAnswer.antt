@@ -1,0 +1,46 @@
+-- A question has one answer in JSON.
+use Rattle.std.proofs.Common.{◌≡◌, ◌∙◌, ℕ, List, Option, None, Some, ap, sym}
+use Rattle.std.specs.Prelude.{filter, flat_map}
+use Rattle.std.specs.List.{IsDistinct}
+use Rattle.std.specs.Option.{IsSomeAnd, option_map_or}
+use Rattle.cdm_flight.specs.Journal.{flight_of}
+use Rattle.cdm_flight.specs.Names.{same_name}
+use Rattle.cdm_flight.specs.declared.flight.Flight.{Flight}
+use Rattle.cdm_sequence.specs.declared.plan.Plan.{Plan}
+use Rattle.cdm_plan.specs.Airport.{IsAirport}
+use Rattle.cdm_plan.specs.Day.{DayRecord, flights_in}
+use Rattle.cdm_plan.specs.DayPlan.{IsDayPlan}
+use Rattle.cdm_plan.proofs.NameLemmas.{in_order}
+use Rattle.cdm_view.specs.Load.{is_asked}
+use Rattle.cdm_view.specs.Why.{own_slot, waits_for}
+use Rattle.cdm_view.specs.declared.question.Question.{Question}
+use Rattle.cdm_view.specs.declared.question.Question.TheVariants.{Why, Load}
+use Rattle.cdm_view.specs.declared.runs.Run.{Run}
+use Rattle.cdm_view.proofs.AnswerLemmas.{waits_one}
+use Rattle.cdm_row.specs.Changed.{row_named}
+use Rattle.cdm_row.specs.declared.row.Row.{Row}
+use Rattle.cdm_row.proofs.RowLemmas.{one_rows}
+use Rattle.cdm_json.specs.Answers.{IsJsonAnswer}
+use Rattle.cdm_json.specs.Lines.{answer_line}
+use Rattle.cdm_json.specs.Loads.{AreLoadLines, load_line}
+use Rattle.cdm_json.specs.Whys.{IsWhyLine, why_members}
+use Rattle.std.specs.Prelude.{codes}
+
+load_one : (d : DayRecord) (number : Option ℕ) (plan : Plan) (asked : Option (List ℕ)) (x y : List ℕ) → IsAirport d.airport
+    → AreLoadLines d number plan asked x → AreLoadLines d number plan asked y → x ≡ y
+load_one d number plan asked x y airport (xs, these, is) (ys, those, also) =
+    is ∙ ap (λ runways. flat_map (load_line d.airport number plan) (filter (is_asked asked) runways)) (in_order d xs airport these ∙ sym (in_order d ys airport those)) ∙ sym also
+
+module _ (d : DayRecord) (number : Option ℕ) (plan : Plan) (airport : IsAirport d.airport) (flights : IsDistinct same_name (flights_in d.journal)) (is : IsDayPlan d plan) where
+  why_one : (known : Option Flight) (x y : List ℕ) → IsSomeAnd known (λ f. IsWhyLine d number plan f x) → IsSomeAnd known (λ f. IsWhyLine d number plan f y) → x ≡ y
+  why_one None x y a b = absurd a
+  why_one (Some f) x y a b =
+      let to = option_map_or (λ s. s.ttot) (own_slot plan f) 2880 in
+      let rows : a.rows ≡ b.rows = one_rows d plan airport.names flights is a.rows b.rows a.are_rows b.are_rows in
+      let runs : a.runs ≡ b.runs = waits_one (waits_for d plan f) to a.runs b.runs a.waits b.waits in
+      a.bytes ∙ (λ i. answer_line number (codes "WHY") (why_members d.airport.day plan f (row_named (rows i) f.name) (runs i))) ∙ sym b.bytes
+
+pub answer_one : (question : Question) (d : DayRecord) (number : Option ℕ) (plan : Plan) (x y : List ℕ) → IsAirport d.airport
+    → IsDistinct same_name (flights_in d.journal) → IsDayPlan d plan → IsJsonAnswer question d number plan x → IsJsonAnswer question d number plan y → x ≡ y
+answer_one (Why name) d number plan x y airport flights is a b = why_one d number plan airport flights is (flight_of d.airport d.journal name) x y a b
+answer_one (Load runway) d number plan x y airport flights is a b = load_one d number plan runway x y airport a.1 b.1

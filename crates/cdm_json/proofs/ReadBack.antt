@@ -1,0 +1,15 @@
+-- A value is read back from its text.
+use Rattle.std.proofs.Common.{◌≡◌, ◌∙◌, ◌≤◌, ℕ, List, [], Some, ap, append-nil, sym}
+use Rattle.std.specs.Option.{option_and_then}
+use Rattle.json.specs.Json.{Json, if_last, max_depth, value}
+use Rattle.json.specs.Lex.{tokens}
+use Rattle.json.specs.Print.{print}
+use Rattle.json.specs.Token.{Token}
+use Rattle.json.specs.Tree.{depth, json_tokens}
+use Rattle.json.proofs.Printed.Trees.{value-json_tokens}
+use Rattle.cdm_json.specs.Lines.{IsReadBack}
+
+pub read_back : (v : Json) → tokens (print (json_tokens v)) ≡ json_tokens v → depth v ≤ max_depth → IsReadBack v
+read_back v same shallow =
+    ap (λ ts. option_and_then (λ p. if_last p.0 p.1) (value max_depth ts)) (same ∙ sym (append-nil (json_tokens v)))
+    ∙ ap (option_and_then (λ p. if_last p.0 p.1)) (value-json_tokens v max_depth [] shallow)

@@ -1,0 +1,12 @@
+use Rattle.std.proofs.Common.{◌≡◌, ◌++◌, map, take}
+use Rattle.std.specs.Prelude.{flat_map}
+use Rattle.json.specs.Tree.{json_tokens}
+use Rattle.cdm_view.specs.Load.{flights_in_cell}
+use Rattle.cdm_json.specs.Loads.{name_json}
+use Rattle.cdm_json.proofs.load.push_names.Given as goal
+
+abbrev pub invariant-loop-slot : goal.invariant-loop-slot
+invariant-loop-slot l = record {
+  tokens : l.writer.tokens ≡ l.initial.writer.tokens ++ flat_map json_tokens (map name_json (flights_in_cell l.runway (take l.slot-index l.slots) l.cell));
+  before : l.writer.before ≡ l.initial.writer.before;
+}

@@ -1,0 +1,12 @@
+use Rattle.std.proofs.Common.{◌≡◌, ◌++◌, take}
+use Rattle.std.specs.Prelude.{flat_map, zip}
+use Rattle.cdm_sequence.specs.Words.{all_rules}
+use Rattle.cdm_row.specs.Json.{member_tokens}
+use Rattle.cdm_json.specs.Plans.{rule_members}
+use Rattle.cdm_json.proofs.plan.push_rule_members.Given as goal
+
+abbrev pub invariant-loop-place : goal.invariant-loop-place
+invariant-loop-place l = record {
+  tokens : l.writer.tokens ≡ l.initial.writer.tokens ++ flat_map (λ pair. flat_map member_tokens (rule_members pair)) (take l.place (zip all_rules l.by_rule));
+  before : l.writer.before ≡ l.initial.writer.before;
+}

@@ -1,0 +1,18 @@
+use Rattle.std.proofs.Common.{◌≡◌, ◌++◌, ℕ, List, Some}
+use Rattle.std.specs.Prelude.{codes}
+use Rattle.json.specs.Json.{Json, string}
+use Rattle.cdm_flight.specs.Words.{text_of}
+use Rattle.cdm_json.specs.Records.{refused_members}
+use Rattle.cdm_json.proofs.TokenLemmas.{one_member}
+use Rattle.cdm_json.specs.Lines.{answer_line, head_members}
+use Rattle.cdm_json.proofs.TokenLemmas.{line_written, ok_then}
+use Rattle.cdm_json.proofs.record.refused_line.Goals as goal
+
+pub returns : goal.returns
+returns c =
+    let head = head_members (Some c.args.number) (codes "REFUSED") in
+    let word : List ℕ × Json = (codes "word", string (text_of c.args.word)) in
+    let members = refused_members c.args.word in
+    ok_then _ (λ text. text.items ≡ answer_line (Some c.args.number) (codes "REFUSED") members) c.end_line.result
+    (λ text is. is (head ++ members) (line_written c.in_ok-writer.writer.tokens _ head members c.in_ok-writer.ensures.tokens (one_member _ _ word (rw c.text.ensures at c.in_ok-push_text.ensures.tokens))))
+    c.end_line.ensures.line

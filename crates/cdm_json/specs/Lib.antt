@@ -1,0 +1,6 @@
+pub mod Lines
+pub mod Plans
+pub mod Whys
+pub mod Loads
+pub mod Records
+pub mod Answers

@@ -1,6 +1,0 @@
-use Rattle.std.proofs.Common.{◌≡◌, ◌++◌, take}
-use Rattle.std.specs.List.{concat}
-use Rattle.cdm_table.proofs.csv_rows.push_all.Given as goal
-
-abbrev pub invariant-loop-answer : goal.invariant-loop-answer
-invariant-loop-answer l = l.text.items ≡ l.initial.text.items ++ concat (take l.answer-index l.answers)
