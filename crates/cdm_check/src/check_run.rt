@@ -16,6 +16,7 @@ use crate::kinds::FileKind;
 use crate::lines::{MOST_TOLD, last_line, line_of, record_count};
 use crate::paths::FilePaths;
 use crate::place::Cause;
+use crate::scenario_updates::refused_updates;
 use crate::scenario_words::scenario_fault;
 use crate::walk::FeedWalk;
 use cdm_day::Airport;
@@ -27,11 +28,12 @@ use cdm_time::Day;
 use std::alloc::{AllocError, Global};
 use std::thread::Threads;
 
-// The lines of the first findings, and how many findings there are.
+// The lines of the first findings, how many findings there are, and the refused updates of scenarios.
 #[derive(Drop)]
 struct Told {
     lines: Vec<u8>,
     refused: usize,
+    updates: Vec<String>,
 }
 
 /// The text of a check and what it counts.
@@ -89,7 +91,11 @@ fn one_line(
     ensures refused { IfOk result (λ told. told.refused ≡ 1) }
 {
     let lines = line_of(alloc, format, path, number, word, cause)?;
-    Ok(Told { lines, refused: 1 })
+    Ok(Told {
+        lines,
+        refused: 1,
+        updates: Vec::new(alloc),
+    })
 }
 
 // No line.
@@ -100,6 +106,7 @@ fn no_lines(alloc: Global) -> Told
     Told {
         lines: Vec::new(alloc),
         refused: 0,
+        updates: Vec::new(alloc),
     }
 }
 
@@ -178,9 +185,11 @@ fn told_of_day<R: Threads + Sync, G: Gate>(
     if judged.refused.len() < MOST_TOLD {
         lines.extend_from_slice(&scenario.lines)?;
     }
+    let updates = refused_updates(alloc, &judged, feed, scenarios)?;
     Ok(Told {
         lines,
         refused: judged.refused.len() + scenario.refused,
+        updates,
     })
 }
 
@@ -221,17 +230,18 @@ fn record_counts(alloc: Global, inputs: &Inputs) -> Result<usize, AllocError>
     Ok(airport + feed + scenarios)
 }
 
-// The hints on a scenario file, if there is one.
+// The hints on a scenario file, if there is one, and its refused updates.
 fn scenario_hints(
     alloc: Global,
     format: Format,
     path: Option<&str>,
     text: &[u8],
+    updates: &[String],
 ) -> Result<Vec<u8>, AllocError>
     ensures { IfOk result (λ hints. AreHintsOf format (unwrap_or (option_copied path.entry) []) hints.items) }
 {
     match path {
-        Some(path) => hints_of(alloc, format, path, FileKind::Scenarios, text),
+        Some(path) => hints_of(alloc, format, path, FileKind::Scenarios, text, updates),
         None => Ok(Vec::new(alloc)),
     }
 }
@@ -264,11 +274,19 @@ pub fn check_of<R: Threads + Sync, G: Gate>(
         paths.airport,
         FileKind::Airport,
         &inputs.airport,
+        &[],
     )?;
     text.extend_from_slice(&airport)?;
-    let feed = hints_of(alloc, format, paths.feed, FileKind::Feed, &inputs.second)?;
+    let feed = hints_of(
+        alloc,
+        format,
+        paths.feed,
+        FileKind::Feed,
+        &inputs.second,
+        &[],
+    )?;
     text.extend_from_slice(&feed)?;
-    let scenarios = scenario_hints(alloc, format, paths.scenarios, &inputs.third)?;
+    let scenarios = scenario_hints(alloc, format, paths.scenarios, &inputs.third, &told.updates)?;
     text.extend_from_slice(&scenarios)?;
     let last = last_line(alloc, format, records, refused)?;
     text.extend_from_slice(&last)?;

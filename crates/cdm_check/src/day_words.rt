@@ -2,19 +2,16 @@
 
 ghost use Rattle.std.specs.Prelude.{◌<◌, IfSome};
 
-use crate::fields::{field_at, kind_of};
-use crate::kinds::{FileKind, kinds_by_word};
+use crate::kinds::kinds_by_word;
 use crate::known::{Ending, Known, KnownFlight};
-use crate::shown::shown;
-use crate::times::{ClockText, TimeText};
+use crate::partners::{RoleText, push_roles};
+use crate::times::{ClockText, TimeText, bound_time};
 use cdm_day::{Airport, MOST_DAY_UPDATES};
 use cdm_flight::{FlightName, Place, Reach, RefusalWord, Role, RunwayName, RunwayRow, Update};
-use cdm_kinds::role_name;
+use cdm_kinds::Kind;
 use cdm_time::{Bound, Minute};
-use csv::ByteRecord;
 use std::alloc::{AllocError, Global};
 use std::fmt::Write;
-use std::str;
 
 /// What there is before a record of a feed.
 #[derive(Clone, Copy)]
@@ -23,10 +20,12 @@ pub(crate) struct Before<'a> {
     pub airport: &'a Airport,
     /// What the accepted records say.
     pub known: &'a Known,
+    /// The line of the FLT of the record's flight, if it comes later.
+    pub later: Option<u64>,
 }
 
-// The flight of an update, if it is one of a flight.
-fn flight_of(update: &Update) -> Option<FlightName> {
+/// The flight of an update, if it is one of a flight.
+pub(crate) fn flight_of(update: &Update) -> Option<FlightName> {
     match update.reach() {
         Reach::Flight(flight) => Some(flight),
         _ => None,
@@ -45,21 +44,21 @@ fn runway_of(update: &Update) -> Option<RunwayName> {
     }
 }
 
-/// Why an update is refused by this word, which is one of Authority to Full.
+/// Why an update is refused by this word, which is one of Authority to Full. In a feed it has a role.
 pub(crate) fn cause_of_day(
     alloc: Global,
     before: Before<'_>,
-    row: &ByteRecord,
+    role: Option<Role>,
     update: &Update,
     word: RefusalWord,
 ) -> Result<String, AllocError> {
     match word {
-        RefusalWord::Authority => authority(alloc, row),
+        RefusalWord::Authority => authority(alloc, role, update),
         RefusalWord::Unknown => unknown(alloc, before, update),
         RefusalWord::Exists => exists(alloc, before, update),
         RefusalWord::Ended => ended(alloc, before, update),
         RefusalWord::OffBlock => off_block(alloc, before, update),
-        RefusalWord::Order => order(alloc, before, row, update),
+        RefusalWord::Order => order(alloc, before, update),
         RefusalWord::NotReady => not_ready(alloc, before, update),
         _ => full(alloc, before, update),
     }
@@ -74,44 +73,25 @@ fn article_of(word: &str) -> &'static str {
 }
 
 // A role may not make this kind of update: who may, and what it may do.
-fn authority(alloc: Global, row: &ByteRecord) -> Result<String, AllocError> {
-    let mut text = String::new(alloc);
-    if let Some(kind) = kind_of(FileKind::Feed, row) {
-        let word = kind.word();
-        let article = article_of(word);
-        write!(text, "{article} {word} is set by ")?;
-        push_roles(&mut text, kind.roles())?;
+fn authority(alloc: Global, role: Option<Role>, update: &Update) -> Result<String, AllocError> {
+    let kind = Kind::of(update);
+    let word = kind.name();
+    let article = article_of(word);
+    let mut text = format!(in alloc; "{article} {word} is set by ")?;
+    push_roles(&mut text, kind.roles())?;
+    if let Some(role) = role {
+        let may = RoleText(role);
+        write!(text, "; {may} may set ")?;
+        push_kinds_of(alloc, &mut text, role)?;
     }
-    let role = field_at(row, 0);
-    text.push_str("; ")?;
-    text.push_str(str::from_utf8(role).unwrap_or_default())?;
-    text.push_str(" may set ")?;
-    push_kinds_of(alloc, &mut text, role)?;
     Ok(text)
 }
 
-// Puts the words of roles behind the text.
-fn push_roles(text: &mut String, roles: &[Role]) -> Result<(), AllocError> {
-    let mut first = true;
-    for role in roles {
-        if !first {
-            text.push_str(" or ")?;
-        }
-        text.push_str(role_name(*role))?;
-        first = false;
-    }
-    Ok(())
-}
-
 // Puts the kinds of updates that a role may make behind the text.
-fn push_kinds_of(alloc: Global, text: &mut String, role: &[u8]) -> Result<(), AllocError> {
+fn push_kinds_of(alloc: Global, text: &mut String, role: Role) -> Result<(), AllocError> {
     let mut first = true;
     for kind in &kinds_by_word(alloc)? {
-        let has_role = kind
-            .roles()
-            .iter()
-            .any(|other| role_name(*other).as_bytes() == role);
-        if has_role {
+        if kind.roles().iter().any(|other| *other == role) {
             if !first {
                 text.push_str(", ")?;
             }
@@ -142,8 +122,7 @@ pub(crate) fn push_runways(text: &mut String, runways: &[RunwayRow]) -> Result<(
 fn unknown(alloc: Global, before: Before<'_>, update: &Update) -> Result<String, AllocError> {
     if let Some(flight) = flight_of(update) {
         if before.known.flight(flight).is_none() {
-            let name = flight.text();
-            return format!(in alloc; "{name} has no FLT that was accepted before this record");
+            return unknown_flight(alloc, before, flight);
         }
     }
     let mut text = String::new(alloc);
@@ -153,6 +132,21 @@ fn unknown(alloc: Global, before: Before<'_>, update: &Update) -> Result<String,
     }
     push_runways(&mut text, before.airport.runways())?;
     Ok(text)
+}
+
+// The flight isn't known: its FLT may come later.
+fn unknown_flight(
+    alloc: Global,
+    before: Before<'_>,
+    flight: FlightName,
+) -> Result<String, AllocError> {
+    let name = flight.text();
+    match before.later {
+        Some(line) => format!(in alloc;
+            "{name} has no FLT that was accepted before this record; its FLT is on line {line}: move it up"
+        ),
+        None => format!(in alloc; "{name} has no FLT that was accepted before this record"),
+    }
 }
 
 // What is known of the update's flight.
@@ -168,7 +162,7 @@ fn exists(alloc: Global, before: Before<'_>, update: &Update) -> Result<String, 
         return String::from_str(alloc, "the flight is known");
     };
     let (name, since) = (name.text(), flight.since);
-    format!(in alloc; "{name} is known since record {since}")
+    format!(in alloc; "{name} was created by {since}")
 }
 
 // The flight is airborne or cancelled.
@@ -178,11 +172,9 @@ fn ended(alloc: Global, before: Before<'_>, update: &Update) -> Result<String, A
     };
     let name = name.text();
     match flight.ended {
-        Some((number, Ending::Cancelled)) => {
-            format!(in alloc; "{name} is cancelled since record {number}")
-        }
-        Some((number, Ending::Airborne)) => {
-            format!(in alloc; "{name} is airborne since record {number}")
+        Some((since, Ending::Cancelled)) => { format!(in alloc; "{name} was cancelled by {since}") }
+        Some((since, Ending::Airborne)) => {
+            format!(in alloc; "{name} has been airborne since {since}")
         }
         None => format!(in alloc; "{name} has left"),
     }
@@ -195,25 +187,24 @@ fn off_block(alloc: Global, before: Before<'_>, update: &Update) -> Result<Strin
     };
     let name = name.text();
     match flight.off {
-        Some((number, _)) => {
-            format!(in alloc; "{name} is off-block since record {number}; only AIR may follow")
+        Some((since, _)) => {
+            format!(in alloc; "{name} has been off-block since {since}; only AIR may follow")
         }
         None => format!(in alloc; "{name} is off-block; only AIR may follow"),
     }
 }
 
 // Times are out of order, or off the runway's cells.
-fn order(
-    alloc: Global,
-    before: Before<'_>,
-    row: &ByteRecord,
-    update: &Update,
-) -> Result<String, AllocError> {
+fn order(alloc: Global, before: Before<'_>, update: &Update) -> Result<String, AllocError> {
     match *update {
         Update::Clock { .. } => clock_back(alloc, before),
         Update::Air { atot, .. } => air_order(alloc, before, update, atot),
-        Update::Close { .. } | Update::Reopen { .. } => empty_window(alloc, row),
-        Update::Rate { from, to, .. } if from.get() >= to.get() => empty_window(alloc, row),
+        Update::Close { from, to, .. } | Update::Reopen { from, to, .. } => {
+            empty_window(alloc, before, from, to)
+        }
+        Update::Rate { from, to, .. } if from.get() >= to.get() => {
+            empty_window(alloc, before, from, to)
+        }
         Update::Rate {
             runway,
             from,
@@ -226,22 +217,30 @@ fn order(
 
 // The clock goes back.
 fn clock_back(alloc: Global, before: Before<'_>) -> Result<String, AllocError> {
-    let Some((number, minute)) = before.known.clock else {
+    let Some((since, minute)) = before.known.clock else {
         return String::from_str(alloc, "the clock can't go back");
     };
     let day = *before.airport.day();
     let time = TimeText { day, minute };
-    format!(in alloc; "the clock can't go back; it is {time} since record {number}")
+    format!(in alloc; "the clock can't go back; it has been {time} since {since}")
 }
 
-// A window without a minute, which the fourth field begins and the fifth ends.
-fn empty_window(alloc: Global, row: &ByteRecord) -> Result<String, AllocError> {
-    let from = str::from_utf8(field_at(row, 3)).unwrap_or_default();
-    let to = str::from_utf8(field_at(row, 4)).unwrap_or_default();
-    format!(in alloc; "the window is empty: its end {to} isn't after its begin {from}")
+// A window without a minute.
+fn empty_window(
+    alloc: Global,
+    before: Before<'_>,
+    from: Minute,
+    to: Bound,
+) -> Result<String, AllocError> {
+    let day = *before.airport.day();
+    let start = TimeText { day, minute: from };
+    let Some(end) = bound_time(day, to.get()) else {
+        return format!(in alloc; "the window is empty: its end isn't after its start {start}");
+    };
+    format!(in alloc; "the window is empty: its end {end} isn't after its start {start}")
 }
 
-// A rate with an end off the runway's cells.
+// A rate with an end off the runway's cells, and the nearest ends that fit.
 fn off_cells(
     alloc: Global,
     before: Before<'_>,
@@ -253,13 +252,29 @@ fn off_cells(
     let Some(cell) = cell_of(before.airport.runways(), runway) else {
         return format!(in alloc; "an end of the window is within a cell of {name}");
     };
-    let minute = if from.get() % cell != 0 {
-        from.get()
-    } else {
-        to.get()
-    };
+    let is_start = from.get() % cell != 0;
+    let minute = if is_start { from.get() } else { to.get() };
     let time = ClockText(minute);
-    format!(in alloc; "{time} is no multiple of the {cell}-minute cells of {name}")
+    let mut text = format!(in alloc; "{time} is no multiple of the {cell}-minute cells of {name}")?;
+    let earlier = minute.saturating_sub(minute % cell);
+    let later = earlier.saturating_add(cell);
+    let day = *before.airport.day();
+    let lower = if is_start || earlier > from.get() {
+        bound_time(day, earlier)
+    } else {
+        None
+    };
+    let upper = if !is_start || later < to.get() {
+        bound_time(day, later)
+    } else {
+        None
+    };
+    match (lower, upper) {
+        (Some(lower), Some(upper)) => write!(text, ": write {lower} or {upper}")?,
+        (Some(one), None) | (None, Some(one)) => write!(text, ": write {one}")?,
+        (None, None) => {}
+    }
+    Ok(text)
 }
 
 // The length of the cells of a runway.
@@ -278,15 +293,15 @@ fn air_order(
     atot: Minute,
 ) -> Result<String, AllocError> {
     let Some((name, flight)) = known_flight(before, update) else {
-        return String::from_str(alloc, "OFF comes before AIR");
+        return String::from_str(alloc, "send OFF before AIR");
     };
     let name = name.text();
-    let Some((number, minute)) = flight.off else {
-        return format!(in alloc; "{name} isn't off-block: its OFF comes before AIR");
+    let Some((since, minute)) = flight.off else {
+        return format!(in alloc; "{name} isn't off-block: send OFF before AIR");
     };
     let day = *before.airport.day();
     let (atot, aobt) = (TimeText { day, minute: atot }, TimeText { day, minute });
-    format!(in alloc; "{atot} is before {aobt}, the AOBT of {name} in record {number}")
+    format!(in alloc; "{atot} is before {aobt}, the AOBT of {name} by {since}")
 }
 
 // The flight can't leave its stand.
@@ -296,7 +311,7 @@ fn not_ready(alloc: Global, before: Before<'_>, update: &Update) -> Result<Strin
     };
     let name = name.text();
     let Some(runway) = flight.runway else {
-        return format!(in alloc; "{name} has no runway; RWY comes before OFF");
+        return format!(in alloc; "{name} has no runway; send RWY before OFF");
     };
     let Some(exot) = exot_of(before, &flight, runway) else {
         return no_taxi_time(alloc, name, &flight, runway);
@@ -305,7 +320,7 @@ fn not_ready(alloc: Global, before: Before<'_>, update: &Update) -> Result<Strin
         Update::Off { aobt, .. } => {
             let day = *before.airport.day();
             let time = TimeText { day, minute: aobt };
-            format!(in alloc; "AOBT {time} and EXOT {exot} are past the end of the second day")
+            format!(in alloc; "AOBT {time} + EXOT {exot} is past the end of the second day")
         }
         _ => String::from_str(alloc, "the flight isn't ready"),
     }

@@ -1,6 +1,7 @@
 //! What the fields of records hold: their forms, their ranges, and how sentences tell them.
 
 use crate::kinds::FileKind;
+use crate::time_words::{other_day, wrong_day, wrong_time};
 use crate::times::DateText;
 use cdm_files::{
     cap_field, cell_field, ctot_field, ice_field, occupancy_field, place_field, priority_field,
@@ -81,7 +82,7 @@ fn field_fault(field: Field, day: Day, text: &[u8]) -> Option<RefusalWord> {
 fn field_words(alloc: Global, field: Field) -> Result<String, AllocError> {
     let (form, range) = (field.form(), field.range());
     match field {
-        Field::Flight => format!(in alloc; "a flight has {form}"),
+        Field::Flight => format!(in alloc; "a flight name is {form}"),
         Field::Runway => format!(in alloc; "a runway has {form}"),
         Field::Stand => format!(in alloc; "a stand has {form}"),
         Field::Place => {
@@ -119,12 +120,20 @@ impl Form {
         }
     }
 
-    // Whether it is a day or a time.
-    fn is_time(self) -> bool {
-        matches!(
-            self,
-            Form::Day | Form::Of(Field::Time | Field::From | Field::To | Field::Ctot)
-        )
+    /// Which part of a day or a time is wrong, and how it should be written, if the text looks like one.
+    pub fn wrong_part(
+        self,
+        alloc: Global,
+        day: Day,
+        text: &[u8],
+    ) -> Result<Option<String>, AllocError> {
+        match self {
+            Form::Day => wrong_day(alloc, text),
+            Form::Of(field @ (Field::Time | Field::From | Field::To | Field::Ctot)) => {
+                wrong_time(alloc, day, field, text)
+            }
+            _ => Ok(None),
+        }
     }
 
     /// How a field of this form is written.
@@ -135,7 +144,7 @@ impl Form {
                 format!(in alloc; "a time is written {date}T06:00Z")
             }
             Form::Of(Field::Ctot) => {
-                format!(in alloc; "a time is written {date}T06:00Z, and - takes it away")
+                format!(in alloc; "a time is written {date}T06:00Z, or - to cancel the CTOT")
             }
             Form::Of(field) => field_words(alloc, field),
             Form::Day => format!(in alloc; "a day is written {date}"),
@@ -146,7 +155,9 @@ impl Form {
     // How a field is written that is no day and no field of an update.
     fn words(self) -> &'static str {
         match self {
-            Form::Role => "a record begins with its role: AO, GH, AP, ATC or NM",
+            Form::Role => {
+                "a role is AO (operator), GH (handler), AP (airport), ATC (tower) or NM (Network Manager)"
+            }
             Form::Kind(file) => file.beginning(),
             Form::NoMinutes => "NONE has 0 minutes",
             Form::Cell => "a cell has 1, 2, 3, 4, 5, 6, 10, 12, 15, 20, 30 or 60 minutes",
@@ -157,38 +168,14 @@ impl Form {
     }
 
     /// Why a field of this form is out of its range.
-    pub fn range(self, alloc: Global, day: Day) -> Result<String, AllocError> {
-        let date = DateText(day);
+    pub fn range(self, alloc: Global, day: Day, text: &[u8]) -> Result<String, AllocError> {
         match self {
             Form::Day => String::from_str(alloc, "a day is one of the years 2000 to 2099"),
-            Form::Of(Field::To) => {
-                format!(in alloc;
-                    "the two days begin at {date}T00:00Z; a window ends with them at the latest"
-                )
-            }
-            Form::Of(Field::Time | Field::From | Field::Ctot) => {
-                format!(in alloc; "a time is one of the two days from {date}T00:00Z on")
+            Form::Of(field @ (Field::Time | Field::From | Field::To | Field::Ctot)) => {
+                other_day(alloc, day, field, text)
             }
             Form::Of(field) => field_words(alloc, field),
             _ => String::from_str(alloc, self.words()),
         }
-    }
-
-    /// Whether a field looks like a day or a time of this form, and there is none: each digit has its place.
-    pub fn is_no_date(self, text: &[u8]) -> bool {
-        let pattern: &[u8] = if matches!(self, Form::Day) {
-            b"0000-00-00"
-        } else {
-            b"0000-00-00T00:00Z"
-        };
-        self.is_time()
-            && text.len() == pattern.len()
-            && text.iter().zip(pattern).all(|(byte, wanted)| {
-                if *wanted == b'0' {
-                    byte.is_ascii_digit()
-                } else {
-                    *byte == *wanted
-                }
-            })
     }
 }

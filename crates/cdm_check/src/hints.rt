@@ -14,17 +14,21 @@ use cdm_kinds::Format;
 use csv::ByteRecord;
 use std::alloc::{AllocError, Global};
 
-/// The hints on a file of this kind, a line each.
+/// The hints on a file of this kind, a line each, and then further hints on it.
 pub(crate) fn hints_of(
     alloc: Global,
     format: Format,
     path: &str,
     file: FileKind,
     text: &[u8],
+    further: &[String],
 ) -> Result<Vec<u8>, AllocError>
     ensures { IfOk result (λ hints. AreHintsOf format path.now hints.items) }
 {
-    let hints = hints_in(alloc, file, text)?;
+    let mut hints = hints_in(alloc, file, text)?;
+    for hint in further {
+        hints.push(hint.clone()?)?;
+    }
     lines_of(alloc, format, path, &hints)
 }
 

@@ -4,6 +4,25 @@ use cdm_flight::{FlightName, Ice, Place, RunwayName, StandName, TaxiMinutes, Upd
 use cdm_time::Minute;
 use std::alloc::{AllocError, Global};
 use std::collections::BTreeMap;
+use std::fmt;
+
+/// Where an accepted update is.
+#[derive(Clone, Copy, PartialEq, Eq, Debug)]
+pub(crate) enum Source {
+    /// The record of the feed that has this number.
+    Record(u32),
+    /// The scenario that is told.
+    Scenario,
+}
+
+impl fmt::Display for Source {
+    fn fmt<W: fmt::Write>(&self, f: &mut fmt::Formatter<W>) -> fmt::Result {
+        match *self {
+            Source::Record(number) => write!(f, "record {number}"),
+            Source::Scenario => f.write_str("an update of this scenario"),
+        }
+    }
+}
 
 /// How a flight's day ended.
 #[derive(Clone, Copy, PartialEq, Eq, Debug)]
@@ -22,26 +41,26 @@ fn remote_minutes(ice: Ice) -> u16 {
     }
 }
 
-/// What is known of a flight. Records are told by their numbers.
+/// What is known of a flight.
 #[derive(Clone, Copy, Debug)]
 pub(crate) struct KnownFlight {
-    /// The record of its FLT.
-    pub since: u32,
+    /// Where its FLT is.
+    pub since: Source,
     /// Its stand, if it has one.
     pub stand: Option<StandName>,
     /// Its runway, if it has one.
     pub runway: Option<RunwayName>,
     /// How long it is de-iced on the way to its runway.
     pub remote: u16,
-    /// The record of its OFF, and its AOBT.
-    pub off: Option<(u32, Minute)>,
-    /// The record of its AIR or CNL.
-    pub ended: Option<(u32, Ending)>,
+    /// Where its OFF is, and its AOBT.
+    pub off: Option<(Source, Minute)>,
+    /// Where its AIR or CNL is.
+    pub ended: Option<(Source, Ending)>,
 }
 
 impl KnownFlight {
-    // A flight of which this record is the FLT.
-    fn new(since: u32) -> KnownFlight {
+    // A flight of which this is the FLT.
+    fn new(since: Source) -> KnownFlight {
         KnownFlight {
             since,
             stand: None,
@@ -52,29 +71,29 @@ impl KnownFlight {
         }
     }
 
-    // The flight after an accepted update of it, which stands in this record.
-    fn after(self, number: u32, update: &Update) -> KnownFlight {
+    // The flight after an accepted update of it.
+    fn after(self, source: Source, update: &Update) -> KnownFlight {
         let mut flight = self;
         match *update {
             Update::Stand { stand, .. } => flight.stand = Some(stand),
             Update::Rwy { runway, .. } => flight.runway = Some(runway),
             Update::Ice { ice, .. } => flight.remote = remote_minutes(ice),
-            Update::Off { aobt, .. } => flight.off = Some((number, aobt)),
-            Update::Air { .. } => flight.ended = Some((number, Ending::Airborne)),
-            Update::Cnl { .. } => flight.ended = Some((number, Ending::Cancelled)),
+            Update::Off { aobt, .. } => flight.off = Some((source, aobt)),
+            Update::Air { .. } => flight.ended = Some((source, Ending::Airborne)),
+            Update::Cnl { .. } => flight.ended = Some((source, Ending::Cancelled)),
             _ => {}
         }
         flight
     }
 }
 
-/// What the accepted records of a feed say.
+/// What the accepted records of a feed say, and updates of a scenario after them.
 #[derive(Drop)]
 pub(crate) struct Known {
     flights: BTreeMap<FlightName, KnownFlight>,
     taxi: Vec<(Place, RunwayName, TaxiMinutes)>,
-    /// The record of the last CLOCK, and its time.
-    pub clock: Option<(u32, Minute)>,
+    /// Where the last CLOCK is, and its time.
+    pub clock: Option<(Source, Minute)>,
     /// How many updates were accepted.
     pub accepted: usize,
 }
@@ -88,6 +107,20 @@ impl Known {
             clock: None,
             accepted: 0,
         }
+    }
+
+    /// The same, to which more can be added.
+    pub fn copy(&self, alloc: Global) -> Result<Known, AllocError> {
+        let mut flights = BTreeMap::new(alloc);
+        for (name, flight) in &self.flights {
+            flights.insert(*name, *flight)?;
+        }
+        Ok(Known {
+            flights,
+            taxi: Vec::from_slice(alloc, &self.taxi)?,
+            clock: self.clock,
+            accepted: self.accepted,
+        })
     }
 
     /// What is known of a flight.
@@ -105,18 +138,18 @@ impl Known {
         Some(row.2)
     }
 
-    /// Takes an accepted update, which stands in this record.
-    pub fn take(&mut self, number: u32, update: &Update) -> Result<(), AllocError> {
+    /// Takes an accepted update.
+    pub fn take(&mut self, source: Source, update: &Update) -> Result<(), AllocError> {
         self.accepted = self.accepted.saturating_add(1);
         match *update {
-            Update::Flt { flight, .. } => self.put(flight, KnownFlight::new(number)),
+            Update::Flt { flight, .. } => self.put(flight, KnownFlight::new(source)),
             Update::Taxi {
                 place,
                 runway,
                 minutes,
             } => push_last(&mut self.taxi, (place, runway, minutes)),
             Update::Clock { now } => {
-                self.clock = Some((number, now));
+                self.clock = Some((source, now));
                 Ok(())
             }
             Update::Stand { flight, .. }
@@ -124,15 +157,20 @@ impl Known {
             | Update::Ice { flight, .. }
             | Update::Off { flight, .. }
             | Update::Air { flight, .. }
-            | Update::Cnl { flight } => self.change(number, flight, update),
+            | Update::Cnl { flight } => self.change(source, flight, update),
             _ => Ok(()),
         }
     }
 
     // Changes a flight by an accepted update.
-    fn change(&mut self, number: u32, name: FlightName, update: &Update) -> Result<(), AllocError> {
+    fn change(
+        &mut self,
+        source: Source,
+        name: FlightName,
+        update: &Update,
+    ) -> Result<(), AllocError> {
         match self.flight(name) {
-            Some(flight) => self.put(name, flight.after(number, update)),
+            Some(flight) => self.put(name, flight.after(source, update)),
             None => Ok(()),
         }
     }

@@ -13,12 +13,15 @@ mod kinds;
 mod known;
 mod lines;
 mod objects;
+mod partners;
 mod paths;
 mod place;
 mod quotes;
 mod record_words;
+mod scenario_updates;
 mod scenario_words;
 mod shown;
+mod time_words;
 mod times;
 mod walk;
 

@@ -3,9 +3,11 @@
 use crate::fields::{FieldOf, faulty_field, field_at, kind_of};
 use crate::forms::Form;
 use crate::kinds::{FileKind, RecordKind, kinds_by_word};
+use crate::partners::{partner_of, push_roles, role_meant};
 use crate::shown::{shown, trimmed, where_spaces_are};
 use cdm_files::role_of;
 use cdm_flight::RefusalWord;
+use cdm_kinds::role_name;
 use cdm_time::Day;
 use csv::ByteRecord;
 use std::alloc::{AllocError, Global};
@@ -20,6 +22,11 @@ pub(crate) fn cause_in_record(
     row: &ByteRecord,
     word: RefusalWord,
 ) -> Result<String, AllocError> {
+    if !matches!(word, RefusalWord::Text | RefusalWord::Range) {
+        if let Some(cause) = no_record(row) {
+            return String::from_str(alloc, cause);
+        }
+    }
     let kind = kind_of(file, row);
     match (word, kind) {
         (RefusalWord::Fields, Some(kind)) => wrong_count(alloc, file, kind, row),
@@ -34,6 +41,22 @@ pub(crate) fn cause_in_record(
         }
         _ => wrong_kind(alloc, file, day, row),
     }
+}
+
+// Why a row is no record of a file, whatever the file: other programs put it there.
+fn no_record(row: &ByteRecord) -> Option<&'static str> {
+    let first = field_at(row, 0);
+    if first.contains(&0) || first.starts_with(b"\xFF\xFE") || first.starts_with(b"\xFE\xFF") {
+        return Some("these bytes are UTF-16: save the file as UTF-8");
+    }
+    if row.len() > 1 && row.iter().all(|field| trimmed(field).is_empty()) {
+        return Some("all fields are empty: remove this line");
+    }
+    let begins = first.get(..4).unwrap_or_default();
+    if begins.eq_ignore_ascii_case(b"sep=") {
+        return Some("this line is for Excel alone: remove it");
+    }
+    None
 }
 
 // A record of the feed that ends before its kind.
@@ -54,14 +77,13 @@ fn wrong_count(
     let word = kind.word();
     let role = if file == FileKind::Feed { "role, " } else { "" };
     let here = row.len();
-    let are = if here == 1 { "is" } else { "are" };
     let wanted = kind
         .count()
         .saturating_add(file.kind_place())
         .saturating_add(1);
-    let mut text = format!(in alloc; "{word} has {wanted} fields: {role}{word}")?;
+    let mut text = format!(in alloc; "{word} takes {wanted} fields ({role}{word}")?;
     push_names(&mut text, kind)?;
-    write!(text, "; here {are} {here}")?;
+    write!(text, "); this record has {here}")?;
     let last = here.saturating_sub(1);
     if here > wanted && field_at(row, last).is_empty() {
         text.push_str(", the last one empty: remove the comma at the end")?;
@@ -111,10 +133,8 @@ fn wrong_text(alloc: Global, day: Day, field: FieldOf<'_>) -> Result<String, All
     if let Some(mended) = mended(alloc, day, field)? {
         return format!(in alloc; "field {number} {here}: {mended}");
     }
-    if field.form.is_no_date(field.text) {
-        return format!(in alloc;
-            "field {number} {here}: the calendar has no such day, or the day no such time"
-        );
+    if let Some(part) = field.form.wrong_part(alloc, day, field.text)? {
+        return format!(in alloc; "field {number} {here}: {part}");
     }
     let wanted = field.form.wanted(alloc, day)?;
     format!(in alloc; "field {number} {here}: {wanted}")
@@ -124,18 +144,23 @@ fn wrong_text(alloc: Global, day: Day, field: FieldOf<'_>) -> Result<String, All
 fn wrong_range(alloc: Global, day: Day, field: FieldOf<'_>) -> Result<String, AllocError> {
     let number = field.number;
     let here = shown(alloc, field.text)?;
-    let range = field.form.range(alloc, day)?;
+    let range = field.form.range(alloc, day, field.text)?;
     format!(in alloc; "field {number} {here}: {range}")
 }
 
 // A first field of a feed's record that is no role.
 fn wrong_role(alloc: Global, day: Day, row: &ByteRecord) -> Result<String, AllocError> {
     let text = field_at(row, 0);
-    if FileKind::Feed.kind_of(text).is_some() {
-        let here = shown(alloc, text)?;
-        return format!(in alloc;
-            "field 1 {here} is a kind: before it stands the role, AO, GH, AP, ATC or NM"
-        );
+    let here = shown(alloc, text)?;
+    if let Some(kind) = FileKind::Feed.kind_of(text) {
+        let mut sentence = format!(in alloc; "field 1 {here} is a kind; put its role before it: ")?;
+        push_roles(&mut sentence, kind.roles())?;
+        return Ok(sentence);
+    }
+    let capitals = trimmed(text).to_ascii_uppercase(alloc)?;
+    if let Some(role) = role_meant(&capitals) {
+        let (role, partner) = (role_name(role), partner_of(role));
+        return format!(in alloc; "field 1 {here}: write {role}, the role of the {partner}");
     }
     let form = Form::Role;
     wrong_text(
@@ -170,7 +195,7 @@ fn wrong_kind(
     }
     if file == FileKind::Scenarios && role_of(text).is_some() {
         return format!(in alloc;
-            "field 1 {here} is a role: an update of a scenario has none, and begins with its kind"
+            "field 1 {here} is a role: remove it, since an update of a scenario begins with its kind"
         );
     }
     let first = if file == FileKind::Scenarios {

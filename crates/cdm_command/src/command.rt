@@ -4,7 +4,7 @@ ghost use Rattle.cdm_command.specs.declared.command.CommandFault.TheVariants as 
 
 use crate::manual::manual;
 use crate::parsers::parser;
-use cdm_feed::DayText;
+use cdm_feed::{Ahead, DayQuestion, DayText, GroupBy, ShiftQuestion, Since};
 use cdm_flight::{FlightName, RunwayName};
 use cdm_kinds::Format;
 use cdm_phase::Workers;
@@ -126,6 +126,9 @@ pub fn command_of<'a, S: AsStr>(
         Some(("check", check)) => check_of(check),
         Some(("why", why)) => why_of(alloc, why)?,
         Some(("load", load)) => load_of(alloc, load)?,
+        Some(("next", next)) => next_of(alloc, next)?,
+        Some(("warnings", words)) => shift_of(alloc, words, ShiftQuestion::Warnings)?,
+        Some(("causes", words)) => shift_of(alloc, words, ShiftQuestion::Causes(group_by(words)))?,
         Some(("kinds", kinds)) => Some(Command::Kinds(format_of(kinds))),
         Some((_, help)) => Some(help_of(alloc, help.get_str("COMMAND"))?),
         None => None,
@@ -289,7 +292,7 @@ fn what_if_of<'a>(
 fn question_of<'a>(
     alloc: Global,
     words: &ArgMatches<'a>,
-    question: Question,
+    question: DayQuestion,
 ) -> Result<Option<Command<'a>>, CommandFault> {
     let (scenarios, name) = match what_if_of(alloc, words)? {
         Some((scenarios, name)) => (Some(scenarios), Some(name)),
@@ -326,13 +329,13 @@ fn why_of<'a>(alloc: Global, why: &ArgMatches<'a>) -> Result<Option<Command<'a>>
     match why.get_str("FLIGHT") {
         Some(word) => {
             let flight = flight_in(alloc, word, "<FLIGHT>")?;
-            question_of(alloc, why, Question::Why(flight))
+            question_of(alloc, why, DayQuestion::View(Question::Why(flight)))
         }
         None => Ok(None),
     }
 }
 
-// The words of `trace`, all of which the parser has seen to but the form of the flight.
+// The words of `trace`, all of which the parser has seen to but the form of the flight and of the time.
 fn trace_of<'a>(
     alloc: Global,
     trace: &ArgMatches<'a>,
@@ -341,9 +344,29 @@ fn trace_of<'a>(
         Some(word) => Some(flight_in(alloc, word, "[FLIGHT]")?),
         None => None,
     };
+    let since = match trace.get_str("since") {
+        Some(word) => Some(since_in(alloc, word)?),
+        None => None,
+    };
     match files_of(trace, None) {
-        Some(files) => Ok(told_by_one(files, DayText::Trace(flight, format_of(trace)))),
+        Some(files) => {
+            let text = DayText::Trace(flight, since, format_of(trace));
+            Ok(told_by_one(files, text))
+        }
         None => Ok(None),
+    }
+}
+
+// The time that a word writes.
+fn since_in(alloc: Global, word: &str) -> Result<Since, CommandFault> {
+    match Since::new(word.as_bytes()) {
+        Some(since) => Ok(since),
+        None => Err(wrong_value(
+            alloc,
+            word,
+            "--since <TIME>",
+            "a time is written 2025-03-10T06:30Z",
+        )?),
     }
 }
 
@@ -382,7 +405,41 @@ fn load_of<'a>(alloc: Global, load: &ArgMatches<'a>) -> Result<Option<Command<'a
         Some(word) => Some(runway_in(alloc, word)?),
         None => None,
     };
-    question_of(alloc, load, Question::Load(runway))
+    question_of(alloc, load, DayQuestion::View(Question::Load(runway)))
+}
+
+// The words of `next`, all of which the parser has seen to.
+fn next_of<'a>(alloc: Global, next: &ArgMatches<'a>) -> Result<Option<Command<'a>>, CommandFault> {
+    shift_of(alloc, next, ShiftQuestion::Next(ahead_of(next)))
+}
+
+// The words of what a shift asks, all of which the parser has seen to but the scenario.
+fn shift_of<'a>(
+    alloc: Global,
+    words: &ArgMatches<'a>,
+    question: ShiftQuestion,
+) -> Result<Option<Command<'a>>, CommandFault> {
+    question_of(alloc, words, DayQuestion::Shift(question))
+}
+
+// How many minutes ahead is looked, which the parser has found in their range.
+fn ahead_of(words: &ArgMatches<'_>) -> Ahead {
+    let Some(minutes) = words.get_one::<usize>("MINUTES") else {
+        return Ahead::usual();
+    };
+    match u16::try_from(minutes) {
+        Ok(minutes) => Ahead::new(minutes).unwrap_or(Ahead::usual()),
+        Err(_) => Ahead::usual(),
+    }
+}
+
+// What flights are grouped by.
+fn group_by(words: &ArgMatches<'_>) -> GroupBy {
+    match words.get_str("by") {
+        Some("runway") => GroupBy::Runway,
+        Some("operator") => GroupBy::Operator,
+        _ => GroupBy::All,
+    }
 }
 
 // The runway that a word names.

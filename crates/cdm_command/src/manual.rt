@@ -5,182 +5,220 @@ use std::alloc::{AllocError, Global};
 use std::fmt::Write;
 
 /// The program's version.
-pub const VERSION: &str = "0.1.0";
+pub const VERSION: &str = "1.0.0";
 
 /// What the program is.
 pub const ABOUT: &str = "\
-The pre-departure sequencer of Airport CDM: a start-up time for each departure.";
+cdmseq plans departures for Airport CDM: a start-up time for each flight, or the
+rule that blocks it.";
 
 /// What `plan` does.
-pub const PLAN_ABOUT: &str = "Plan a feed of updates, and print the sequence of each runway";
+pub const PLAN_ABOUT: &str = "Plan the day: a start-up time or a blocking rule for each flight";
+
+/// What `next` does.
+pub const NEXT_ABOUT: &str = "List the next start-ups, over all runways";
+
+/// What `warnings` does.
+pub const WARNINGS_ABOUT: &str = "List what needs attention: late, blocked or at risk";
+
+/// What `causes` does.
+pub const CAUSES_ABOUT: &str = "Count the minutes of delay by their cause";
 
 /// What `compare` does.
-pub const COMPARE_ABOUT: &str = "Print scenarios side by side, the best first";
+pub const COMPARE_ABOUT: &str = "Compare what-if scenarios, best first";
 
 /// What `why` does.
-pub const WHY_ABOUT: &str = "Tell what holds a flight, and until when";
+pub const WHY_ABOUT: &str = "Show what delays or blocks one flight";
 
 /// What `load` does.
-pub const LOAD_ABOUT: &str = "Tell how full each runway is, cell by cell";
+pub const LOAD_ABOUT: &str = "Show how full each runway is, cell by cell";
 
 /// What `trace` does.
-pub const TRACE_ABOUT: &str = "Tell which record moved whose start-up";
+pub const TRACE_ABOUT: &str = "Show which record changed which flight";
 
 /// What `picture` does.
-pub const PICTURE_ABOUT: &str = "Draw the day as a picture (SVG) that a browser shows";
+pub const PICTURE_ABOUT: &str = "Draw the day as a timeline (SVG) for a browser";
 
 /// What `live` does.
-pub const LIVE_ABOUT: &str = "Let two desks post a feed each to one board, and print its day";
+pub const LIVE_ABOUT: &str = "Run two feeds concurrently on one shared day";
 
 /// What `serve` does.
-pub const SERVE_ABOUT: &str = "Take records as they come, reply to each, and keep a journal";
+pub const SERVE_ABOUT: &str = "Run the day in real time: reply to each record, keep a journal";
 
 /// What `check` does.
-pub const CHECK_ABOUT: &str = "Tell what is wrong with the files, and where";
+pub const CHECK_ABOUT: &str = "Explain each refused record, with its file and line";
 
 /// What `kinds` does.
-pub const KINDS_ABOUT: &str = "Print the table of the kinds of updates, with their fields";
+pub const KINDS_ABOUT: &str = "Print the kinds of updates, with their roles and fields";
 
 /// What `help` does.
 pub const HELP_ABOUT: &str = "Print the manual, or the help of one command";
 
 /// The end of the program's help: examples, and where there is more.
 pub const EXAMPLES: &str = "\
-For example:
+Examples:
   cdmseq plan airport.csv feed.csv
-The whole manual: cdmseq help | less";
+Full manual: cdmseq help | less";
 
 /// The end of the help of `plan`.
 pub const PLAN_EXAMPLE: &str = "\
-For example:
+Examples:
   cdmseq plan airport.csv feed.csv --scenarios what_if.csv
   cdmseq plan airport.csv feed.csv --format csv > day.csv
-One of the files can be -, which is standard input:
+- reads standard input in place of one file:
   grep -v AB1 feed.csv | cdmseq plan airport.csv -
-The whole manual: cdmseq help | less";
+Full manual: cdmseq help | less";
+
+/// The end of the help of `next`.
+pub const NEXT_EXAMPLE: &str = "\
+Examples:
+  cdmseq next airport.csv feed.csv
+  cdmseq next airport.csv feed.csv 30
+- reads standard input in place of one file.
+Full manual: cdmseq help | less";
+
+/// The end of the help of `warnings`.
+pub const WARNINGS_EXAMPLE: &str = "\
+Examples:
+  cdmseq warnings airport.csv feed.csv
+  cdmseq warnings airport.csv feed.csv --scenarios what_if.csv --scenario SHUT
+- reads standard input in place of one file.
+Full manual: cdmseq help | less";
+
+/// The end of the help of `causes`.
+pub const CAUSES_EXAMPLE: &str = "\
+Examples:
+  cdmseq causes airport.csv feed.csv
+  cdmseq causes airport.csv feed.csv --by operator
+- reads standard input in place of one file.
+Full manual: cdmseq help | less";
 
 /// The end of the help of `compare`.
 pub const COMPARE_EXAMPLE: &str = "\
-For example:
+Examples:
   cdmseq compare airport.csv feed.csv what_if.csv
   cdmseq compare airport.csv feed.csv what_if.csv SHUT
-One of the files can be -, which is standard input.
-The whole manual: cdmseq help | less";
+- reads standard input in place of one file.
+Full manual: cdmseq help | less";
 
 /// The end of the help of `why`.
 pub const WHY_EXAMPLE: &str = "\
-For example:
+Examples:
   cdmseq why airport.csv feed.csv AB1
   cdmseq why airport.csv feed.csv AB1 --scenarios what_if.csv --scenario SHUT
-One of the files can be -, which is standard input.
-The whole manual: cdmseq help | less";
+- reads standard input in place of one file.
+Full manual: cdmseq help | less";
 
 /// The end of the help of `load`.
 pub const LOAD_EXAMPLE: &str = "\
-For example:
+Examples:
   cdmseq load airport.csv feed.csv 27L
   cdmseq load airport.csv feed.csv --scenarios what_if.csv --scenario SHUT
-One of the files can be -, which is standard input.
-The whole manual: cdmseq help | less";
+- reads standard input in place of one file.
+Full manual: cdmseq help | less";
 
 /// The end of the help of `trace`.
 pub const TRACE_EXAMPLE: &str = "\
-For example:
-  cdmseq trace airport.csv feed.csv
+Examples:
   cdmseq trace airport.csv feed.csv AB1
-One of the files can be -, which is standard input.
-The whole manual: cdmseq help | less";
+  cdmseq trace airport.csv feed.csv --since 2025-03-10T06:30Z
+- reads standard input in place of one file.
+Full manual: cdmseq help | less";
 
 /// The end of the help of `picture`.
 pub const PICTURE_EXAMPLE: &str = "\
-For example:
+Examples:
   cdmseq picture airport.csv feed.csv > day.svg
   cdmseq picture airport.csv feed.csv --scenarios what_if.csv > day.svg
-One of the files can be -, which is standard input.
-The whole manual: cdmseq help | less";
+- reads standard input in place of one file.
+Full manual: cdmseq help | less";
 
 /// The end of the help of `live`.
 pub const LIVE_EXAMPLE: &str = "\
-For example:
+Examples:
   cdmseq live airport.csv desk_1.csv desk_2.csv
-One of the files can be -, which is standard input.
-The whole manual: cdmseq help | less";
+- reads standard input in place of one file.
+Full manual: cdmseq help | less";
 
 /// The end of the help of `serve`.
 pub const SERVE_EXAMPLE: &str = "\
-For example:
+Examples:
   cdmseq serve airport.csv journal.csv
-Records are read from standard input, one a line; replies go to standard output.
-The whole manual: cdmseq help | less";
+It reads records from standard input, one per line, and prints the replies.
+Full manual: cdmseq help | less";
 
 /// The end of the help of `check`.
 pub const CHECK_EXAMPLE: &str = "\
-For example:
+Examples:
   cdmseq check airport.csv feed.csv
   cdmseq check airport.csv feed.csv --scenarios what_if.csv
-One of the files can be -, which is standard input.
-The whole manual: cdmseq help | less";
+- reads standard input in place of one file.
+Full manual: cdmseq help | less";
 
 /// The end of the help of `kinds`.
 pub const KINDS_EXAMPLE: &str = "\
-For example:
+Examples:
   cdmseq kinds
   cdmseq kinds --format json
-The whole manual: cdmseq help | less";
+Full manual: cdmseq help | less";
 
 /// The end of the help of `help`.
 pub const HELP_EXAMPLE: &str = "\
-For example:
+Examples:
   cdmseq help plan
-The whole manual: cdmseq help | less";
+Full manual: cdmseq help | less";
 
 /// What the files hold and what the output says, for a reader who has no other paper: up to the kinds of updates.
 const BEFORE_KINDS: &str = "\
-WHAT IT DOES
-  All times are UTC, in whole minutes. A plan spans two days from 00:00 of the
+PURPOSE
+  This manual is for everyone who uses cdmseq. cdmseq reads an airport file and
+  a feed of updates. For each departure it prints a start-up time, or the rule
+  that blocks the flight.
+
+  All times are UTC, in whole minutes. A plan covers two days from 00:00 of the
   airport file's day.
 
   TOBT   target off-block time: when the operator or handler expects the flight
          to be ready
-  EXOT   estimated taxi-out minutes: the taxi time from the stand to the runway,
-         and remote de-icing
-  CTOT   calculated take-off time of the Network Manager; its tolerance is from
-         5 minutes before to 10 minutes after, unless TOL gives another
-  TSAT   target start-up approval time: when start-up can be expected to be
-         approved
+  EXOT   estimated taxi-out time, in minutes: the taxi time from the stand to
+         the runway, and remote de-icing
+  CTOT   calculated take-off time of the Network Manager. The flight may take
+         off within its CTOT window: from 5 minutes before the CTOT to 10
+         minutes after it, unless TOL sets other minutes
+  TSAT   target start-up approval time: when air traffic control expects to
+         approve the start-up
   TTOT   target take-off time: TSAT + EXOT
   AOBT   actual off-block time
   ATOT   actual take-off time
 
-  On each runway the flights stand in the order of their priority numbers (0
-  comes first), then of their TOBT, then of their names. One after the other
-  gets the first take-off minute that
-    - isn't before the time at which it is ready + EXOT. It is ready at TOBT and
-      the minutes of de-icing on the stand, or now if that is later,
-    - lies in the tolerance of its CTOT, if it has one,
-    - isn't closed on its runway,
-    - keeps the spacing: from its take-off on a flight occupies its runway for
-      as many minutes as the airport file gives its group there, and no planned
-      flight may share one of them with a flight off-block, a flight airborne or
-      one that got its minute before,
-    - lies in a cell of its runway that has room beside the flights off-block,
-      the flights airborne and those that got their minute before. A cell is a
-      stretch of so many minutes; its cap says how many flights may take off in
-      it.
-  A flight that gets no minute is blocked. This is a local profile, not a rule
-  of the A-CDM manual.
+THE SEQUENCE
+  On each runway the planned flights take their turn by priority (0 is first),
+  then by TOBT, then by name. Each gets the first take-off minute that meets
+  all of these conditions:
+    - The flight can be there: it is ready at its TOBT plus its minutes of
+      de-icing on the stand, or now if that is later. Then it needs its EXOT.
+    - The minute is in its CTOT window, if the flight has a CTOT.
+    - The runway is open.
+    - The spacing is kept. A take-off takes the runway for the spacing time of
+      the flight's wake category, which the airport file sets. The spacing times
+      of two flights may not overlap.
+    - The cell has room. A capacity cell, or cell, is a fixed stretch of minutes
+      with one capacity: so many flights may take off in it.
+  Flights that are off-block or airborne, and flights that took their turn
+  earlier, keep their minutes. A flight that gets no minute is blocked. This
+  order is a local profile, not a rule of the A-CDM manual.
 
 THE FILES
-  Each is a list of comma-separated records, one a line, without a heading;
-  blank lines don't count. A field that begins with a double quote goes on to
-  the next double quote, over line ends too. One of the files can be named -,
-  which is standard input.
-  A flight has 1 to 7 of A-Z and 0-9, a runway 1 to 3, a stand 1 to 5. A number
-  has up to 4 digits. A time is written 2025-03-10T06:00Z. A window has the
-  minutes from its first time up to the one before its second, which may be the
-  midnight that ends the second day.
+  Each file is a list of records, one per line, with commas between the fields
+  and without a header row. Blank lines don't count. A field that begins with a
+  double quote goes on to the next double quote, across line ends too. - reads
+  standard input in place of one file.
+  A flight is 1 to 7 characters A-Z or 0-9, a runway 1 to 3, a stand 1 to 5. A
+  number has up to 4 digits. A time is written 2025-03-10T06:00Z. A window goes
+  from its first time to the minute before its second, which may be the midnight
+  that ends the second day.
 
-  AIRPORT, in this example all its kinds of record:
+  AIRPORT has these kinds of records, each used in this example:
 
 DAY,2025-03-10
 RUNWAY,27L,10,2
@@ -189,17 +227,17 @@ TAXI,A1,27L,10
 SPACE,27L,H,2
 
     DAY,day                    the first day; the first record, and once
-    RUNWAY,runway,cell,cap     a runway: minutes of a cell (1, 2, 3, 4, 5, 6,
-                               10, 12, 15, 20, 30 or 60), cap of each (0 to 60)
-    TAXI,stand,runway,minutes  taxi minutes (1 to 120) from a stand to a runway,
-                               * for the stands without a row; of two rows for
-                               one stand and runway the last counts
-    SPACE,runway,group,minutes how long a flight of a group (L, M or H) occupies
-                               a runway, 0 to 5 minutes, 0 without a row; of two
-                               rows for one runway and group the last counts
+    RUNWAY,runway,cell,cap     a runway: the minutes of a cell (1, 2, 3, 4, 5,
+                               6, 10, 12, 15, 20, 30 or 60), and the capacity
+                               of each cell (0 to 60)
+    TAXI,stand,runway,minutes  taxi time (1 to 120) from a stand to a runway; *
+                               is for the stands without a row. If a stand and
+                               runway have several rows, the last one wins
+    SPACE,runway,group,minutes spacing time (0 to 5) of a wake category (L, M or
+                               H) on a runway; 0 without a row. If a runway and
+                               category have several rows, the last one wins
 
-  FEED, and FEED1 and FEED2 of live, a record a line, in the order in which the
-  updates came:
+  FEED, and FEED1 and FEED2 of live, have the updates, oldest first:
 
 AP,FLT,AB1,5
 ATC,RWY,AB1,27L
@@ -207,17 +245,18 @@ AO,TOBT,AB1,2025-03-10T06:00Z
 AP,FLT,CD2,5
 AO,CTOT,AB1,2025-03-10T06:40Z
 
-  The first field is who makes the update: AO operator, GH ground handler, AP
-  airport operator, ATC air traffic control, NM Network Manager. The kinds of
-  update, with those who may make them:
+  The first field is the role of the sender: AO aircraft operator, GH ground
+  handler, AP airport operator, ATC air traffic control, NM Network Manager.
+  These are the kinds of updates, each with a role that may send it:
+
 ";
 
 /// The rest of the manual, behind the kinds of updates.
 const AFTER_KINDS: &str = "\
-  Of several updates of one item the last counts.
 
-  SCENARIOS, a file that --scenarios names, or the third of compare, asks what
-  the day would be if other updates came after those of FEED:
+  If several updates set one value, the last one wins.
+
+  SCENARIOS has what-if scenarios: updates that could follow those of FEED.
 
 SCENARIO,SHUT
 CLOSE,27L,2025-03-10T06:10Z,2025-03-10T06:30Z
@@ -225,15 +264,14 @@ SCENARIO,NO-SUCH
 TOBT,CD2,2025-03-10T06:00Z
 PRIO,XY9,1
 
-    SCENARIO,name              a scenario begins; its name has 1 to 16 of A-Z,
-                               0-9 and -. Its updates follow, written as in FEED
-                               without the role, and may be any
-  Each scenario is answered for itself, over the updates of FEED that were
-  accepted. It may have no update, and has at most 64; there are at most 64
-  scenarios.
+    SCENARIO,name              begins a scenario; its name is 1 to 16 characters
+                               A-Z, 0-9 or -. Its updates follow, written as in
+                               FEED but without the role; any kind is allowed
+  Each scenario follows the accepted updates of FEED, independently of the other
+  scenarios. A file has at most 64 scenarios, and a scenario at most 64 updates.
 
-THE OUTPUT
-  The example files AIRPORT and FEED give
+PLAN
+  cdmseq plan airport.csv feed.csv prints, for the example files:
 
     DAY 2025-03-10 NOW 100000
     RUNWAY 27L
@@ -243,57 +281,57 @@ THE OUTPUT
     REFUSED 5 AUTHORITY
 
   Times are printed as day of the month, hour and minute: 100615 is the 10th,
-  06:15.
+  06:15. Dashes mean that there is no such value.
 
-  DAY      the first day, and the time that it is now
-  RUNWAY   each runway by name, with a line for each of its flights by TTOT and
-           then by name: flight, TOBT, EXOT, CTOT, TSAT, TTOT, a letter, minutes
-           of delay (TSAT - TOBT)
+  DAY      the first day, and the current time
+  RUNWAY   each runway by name, with a line for each of its flights, by TTOT and
+           then by name: flight, TOBT, EXOT, CTOT, TSAT, TTOT, a letter, and the
+           delay in minutes (TSAT - TOBT)
              P  planned
-             O  off-block: AOBT stands for TSAT, and TTOT is AOBT + EXOT
-             A  airborne: AOBT stands for TSAT, ATOT for TTOT, ATOT - AOBT for
-                EXOT
-           Dashes stand where there is no such value. Cancelled flights are in
-           no line.
-  BLOCKED  each planned flight without a minute, by name, and the first cause
-           that holds:
-             TOBT     it has none
-             RUNWAY   it has none
-             EXOT     no taxi time is known
+             O  off-block: AOBT in place of TSAT; TTOT is AOBT + EXOT
+             A  airborne: AOBT in place of TSAT, ATOT in place of TTOT, and
+                ATOT - AOBT in place of EXOT
+           Cancelled flights aren't listed.
+  BLOCKED  each planned flight without a minute, by name, with its blocking
+           rule, the first of these that applies:
+             TOBT     the flight has no TOBT
+             RUNWAY   it has no runway
+             EXOT     its taxi time isn't known
              HORIZON  it can't take off within the two days
-             CTOT     no such minute lies in its tolerance
-             CLOSURE  all those minutes are closed
-             SPACING  at each of those that are open it would meet another
-             RATE     those at which it meets none are all in full cells
-  TOTAL    PLACED planned flights with a minute, DELAY the sum and MAX the
-           greatest of their delays, LATE how many are above 15 minutes, BLOCKED
-           the blocked flights, and how many by each cause
-  REFUSED  the number, from 1, of each record of the feed that was refused, and
-           the first cause that holds. A refused record changes nothing.
-             FIELDS     too few or too many fields
-             ROLE       no such role
-             KIND       no such kind of update
-             TEXT       a field hasn't its form
-             RANGE      a number or time is out of its range
-             AUTHORITY  the role may not make this update
-             UNKNOWN    no such flight or runway
-             EXISTS     the flight is known already
+             CTOT     it can't take off within its CTOT window
+             CLOSURE  the runway is closed at all these minutes
+             SPACING  at each open minute its spacing time overlaps another's
+             RATE     the minutes that are left are in full cells
+  TOTAL    PLACED the planned flights with a minute; DELAY the sum and MAX the
+           maximum of their delays; LATE the delays above 15 minutes; BLOCKED
+           the blocked flights, then their number by blocking rule
+  REFUSED  each refused record of FEED: its number, from 1, and its refusal
+           code, the first of these that applies. A refused record changes
+           nothing. Standard error has the check command that explains them.
+             FIELDS     wrong number of fields
+             ROLE       unknown role
+             KIND       unknown kind of update
+             TEXT       a field is malformed
+             RANGE      a number or time is out of range
+             AUTHORITY  the role may not send this kind of update
+             UNKNOWN    unknown flight or runway
+             EXISTS     the flight exists already
              ENDED      the flight is airborne or cancelled
              OFFBLOCK   the flight is off-block; only AIR may follow
-             ORDER      the clock goes back, a window is empty or cuts a cell,
-                        AIR without OFF or before it
+             ORDER      CLOCK goes back; a window is empty or cuts a cell; AIR
+                        comes without OFF or is earlier than it
              NOTREADY   OFF without a runway or EXOT, or with a TTOT past the
                         two days
-             FULL       20,000 updates, 2,000 flights or 400 stands with taxi
-                        rows are known
-           The first record at fault in AIRPORT stops the run, with the same
-           words: ORDER is a first record that isn't DAY, as in an empty file,
-           or a second DAY; EXISTS a runway named twice; FULL a ninth runway or
-           a 401st stand. So does the first in SCENARIOS, with FIELDS, KIND,
-           TEXT or RANGE, EXISTS for a name used twice, ORDER for an update
-           before the first SCENARIO, FULL for a 65th scenario or update.
+             FULL       the day has 20,000 updates, 2,000 flights or 400 stands
+                        with taxi times
+           The first invalid record of AIRPORT or SCENARIOS ends the run, with
+           one of the same codes. In AIRPORT, ORDER is a first record that isn't
+           DAY, or a second DAY; EXISTS is a runway named twice; FULL is a ninth
+           runway or a 401st stand. In SCENARIOS, EXISTS is a name used twice;
+           ORDER is an update before the first SCENARIO; FULL is a 65th scenario
+           or update.
 
-  The example file SCENARIOS adds
+  With --scenarios what_if.csv these lines follow:
 
     SCENARIO SHUT
     DAY 2025-03-10 NOW 100000
@@ -305,15 +343,70 @@ THE OUTPUT
     SCENARIO NO-SUCH
     REFUSED 2 UNKNOWN
 
-  SCENARIO each scenario by its name, in the order of the file. Where all its
-           updates can be accepted, the plan with them follows, from DAY to
-           TOTAL, and then DELTA: the numbers of TOTAL less those of the plan
-           without them, and each cause whose number differs. Else REFUSED tells
-           its first update that can't be, by its number in the scenario, from
-           1, and the cause, from UNKNOWN to FULL.
+  SCENARIO each scenario, in the order of the file. Its plan follows, from DAY
+           to TOTAL. If an update of the scenario is refused, only the number of
+           the first such update in the scenario, from 1, and its code follow.
+  DELTA    the change of each number of TOTAL against the base plan, which is
+           the plan of FEED alone; a blocking rule is listed if its number
+           differs
 
-  compare prints the same day and scenarios side by side. Of the three example
-  files cdmseq compare airport.csv feed.csv what_if.csv SHUT prints
+  --format csv prints one row per flight, by name, for the base plan and then
+  for each scenario:
+
+    scenario,flight,status,runway,stand,priority,group,tobt,exot,ctot,tsat,...
+    ,AB1,PLANNED,27L,,5,M,2025-03-10T06:00Z,15,,2025-03-10T06:00Z,...
+
+  The last columns are ttot, delay and rule. The status is PLANNED, BLOCKED,
+  OFFBLOCK, AIRBORNE or CANCELLED. A refused scenario has one row, with the
+  status REFUSED and its code in the column rule. Times are written as in the
+  files. For a flight that has left, tsat and ttot are its AOBT and its
+  take-off.
+
+NEXT
+  cdmseq next airport.csv feed.csv 720 lists the planned flights that start up
+  within 720 minutes of the current time (60 without a number), by TSAT and
+  name:
+
+    DAY 2025-03-10 NOW 100000
+    100600 AB1     27L -     100600 ------ 100615    0 -
+
+  A line has TSAT, flight, runway, stand (- for none), TOBT, CTOT, TTOT, the
+  delay, and the cause of the last minute that the flight waits, - for none.
+  The causes are the wait reasons of why. Here NOW comes last: a minute has the
+  cause NOW only if nothing but the clock took it.
+
+WARNINGS
+  cdmseq warnings airport.csv feed.csv lists what needs attention, and last
+  their number. The kinds come in this order:
+
+  OVERDUE  off-block, and its take-off minute is more than 5 minutes ago
+  MISSED   off-block, and too late for its CTOT window
+  BLOCKED  planned, with a TOBT or a CTOT, and without a minute
+  EDGE     planned, after its CTOT, in one of the last 3 minutes of the window
+  PAST     planned, and it waits for a minute whose cause is NOW: it could have
+           gone
+  AHEAD    its AOBT or ATOT is more than 2 minutes after the current time
+  FULL     a cell with more flights than its capacity, not over yet
+  SHUT     off-block, and its runway is closed at its take-off
+
+CAUSES
+  cdmseq causes airport.csv feed.csv counts the minutes of delay of the planned
+  flights by their cause. The six columns from ICE to NOW add up to DELAY:
+
+    GROUP    PLACED   DELAY     ICE    CTOT CLOSURE SPACING    RATE     NOW ...
+    TOTAL         1       0       0       0       0       0       0       0 ...
+
+  The last column is BLOCKED, the blocked flights. --by runway and --by operator
+  print a line for each group before TOTAL. An operator is the first three
+  letters of a flight that a digit follows; other flights are in the group -.
+
+  With --scenarios FILE --scenario NAME, next, warnings, causes, why and load
+  answer for the day with all updates of that scenario. If one of them is
+  refused, there is no answer, and the status is 3.
+
+COMPARE
+  compare ranks the base plan and the scenarios. For the three example files
+  cdmseq compare airport.csv feed.csv what_if.csv SHUT prints:
 
     SCENARIO         PLACED  DELAY   MAX  LATE BLOCKED  MOVED
     -                     1      0     0     0       1      0
@@ -322,73 +415,58 @@ THE OUTPUT
     - SLOT 27L AB1     100600   15 ------ 100600 100615 P    0
     + SLOT 27L AB1     100600   15 ------ 100615 100630 P   15
 
-  -        the day itself, which stands among the scenarios: the best first,
-           which blocks fewer flights, then has less delay, then comes first in
-           the file, before which the day comes. Those that are refused stand
-           last, with the number and the cause of REFUSED.
-  PLACED   up to BLOCKED: as in TOTAL
-  MOVED    how many flights stand otherwise than in the day: on another runway
-           or with another line, blocked, by another cause, or cancelled, or not
-           known in the day
-  - and +  of the scenario that is named last, if one is: each such flight by
-           name, where it stands in the day, if it is known there, and where in
-           the scenario. SLOT has its runway and its line. Of a scenario that is
-           refused, REFUSED once more.
+  -        the base plan, ranked with the scenarios. Best first: fewer blocked
+           flights, then less total delay, then the order of the file, with the
+           base plan first. Refused scenarios come last.
+  PLACED   to BLOCKED: as in TOTAL
+  MOVED    how many flights change: another runway or another line, blocked, by
+           another rule, cancelled, or unknown in the base plan
+  - and +  if you name a scenario, each flight that it changes, by name: its
+           line in the base plan, if it is known there, and its line in the
+           scenario. SLOT has the runway and the flight's line. If the scenario
+           is refused, its REFUSED line follows.
 
-  plan --format csv prints a row for each flight by name, of the day and then of
-  each scenario, in place of all other lines:
-
-    scenario,flight,status,runway,stand,priority,group,tobt,exot,ctot,tsat,...
-    ,AB1,PLANNED,27L,,5,M,2025-03-10T06:00Z,15,,2025-03-10T06:00Z,...
-
-  The last columns are ttot, delay and rule. status is PLANNED, BLOCKED,
-  OFFBLOCK, AIRBORNE or CANCELLED, and of a scenario that is refused REFUSED in
-  one row with the cause in rule. Times are written as in the files; tsat and
-  ttot of a flight that has left are its AOBT and its take-off.
-
-  why tells what holds a flight, and load how full the runways are, or the one
-  that it is asked for. Of the example files AIRPORT and FEED
-  cdmseq why airport.csv feed.csv AB1 prints
+WHY
+  cdmseq why airport.csv feed.csv AB1 prints:
 
     DAY 2025-03-10 NOW 100000
     FLIGHT AB1 RUNWAY 27L STAND - PRIORITY 5 GROUP M
     TOBT 100600 ICE NONE 0 EXOT 15 CTOT ------
     TSAT 100600 TTOT 100615 DELAY 0
 
-  and cdmseq load airport.csv feed.csv
+  FLIGHT   and TOBT: the flight's current values. EXOT is the one of its line,
+           and - for an airborne or cancelled flight.
+  WAIT     for a flight that waits: the first and last minute of a stretch, from
+           TOBT + EXOT on, in which the flight can't take off, and the wait
+           reason, the first of these that applies:
+             ICE      its de-icing on the stand isn't over
+             NOW      it would have had to leave its stand before now
+             CTOT     the minute is outside its CTOT window
+             CLOSURE  the runway is closed
+             SPACING  its spacing time would overlap those of the flights named
+             RATE     the cell is full: its capacity, and its flights
+           These minutes are its delay or, for a blocked flight, all minutes to
+           the end of the two days. Only flights that take their turn earlier
+           are named.
+  TSAT     its TSAT, TTOT and delay; or BLOCKED and the blocking rule; or
+           OFFBLOCK and the AOBT, with TTOT, or AIRBORNE and the ATOT; or
+           CANCELLED
+
+LOAD
+  cdmseq load airport.csv feed.csv prints:
 
     DAY 2025-03-10 NOW 100000
     RUNWAY 27L CELL 10
     100610  1/2  CLOSED  0 AB1
 
-  FLIGHT   and TOBT: what is known of the flight last, - or dashes where nothing
-           is. EXOT is that of its line, and - once it took off or is cancelled.
-  WAIT     the first and the last minute of a while, from TOBT + EXOT on, in
-           which the flight can't take off, and the first cause that holds:
-             ICE      it is de-iced on its stand until later
-             NOW      it would have had to leave its stand before now
-             CTOT     not in the tolerance of its CTOT
-             CLOSURE  the runway is closed
-             SPACING  it would meet the flights that are named
-             RATE     so many may take off in the cell, and the flights that are
-                      named do
-           These minutes are its delay, or all to the end of the two days if it
-           is blocked. Only flights that come before it are named.
-  TSAT     its TSAT, TTOT and delay; or else BLOCKED and the cause as in a plan,
-           OFFBLOCK and its AOBT, with its TTOT, or AIRBORNE and its ATOT, or
-           CANCELLED
-  RUNWAY   in load, each runway by name with the minutes of its cells; a line
-           for each cell from the first to the last with a flight, a closed
-           minute or another cap than the one of AIRPORT: its first minute, how
-           many flights of how many it has, how many of its minutes are closed,
-           and its flights by TTOT and name
+  RUNWAY   each runway by name, or the one that you name, with the minutes of
+           its cells. One line per cell follows, from the first to the last that
+           has a flight, a closed minute or a changed capacity: its first
+           minute, its flights/capacity, its closed minutes, and the names of
+           its flights by TTOT and name.
 
-  With --scenarios what_if.csv --scenario SHUT both answer for the day with all
-  updates of SHUT, as its plan is. If one of them can't be accepted, there is
-  no answer, and the status is 3.
-
-  trace tells which record moved whose start-up. Of the example files AIRPORT
-  and FEED cdmseq trace airport.csv feed.csv prints
+TRACE
+  cdmseq trace airport.csv feed.csv prints:
 
     1 ACCEPTED 1
     BLOCKED AB1     TOBT
@@ -398,106 +476,143 @@ THE OUTPUT
     BLOCKED CD2     TOBT
     5 REFUSED AUTHORITY
 
-  ACCEPTED how many flights stand otherwise by this record of FEED, which follow
-           by name; a record that moves none isn't told. Of one FLIGHT that is
-           asked for, the records that move it, each with where it stands then.
-  REFUSED  as in a plan
+  ACCEPTED how many flights this record changed; their new lines follow, by
+           name. Records that change none aren't listed. If you name a flight,
+           each record that changes it follows with the flight's new line.
+  REFUSED  as in PLAN
+  --since  lists only from the first record on that made the current time this
+           time or later, as --since 2025-03-10T06:00Z
 
-  picture draws the day and, with --scenarios, each scenario beneath it, as a
-  file for a browser (SVG), over the hours with flights or closures and half an
-  hour around. Each runway is a band. Above are its cells, with their caps as
-  steps and their flights; below each flight is a bar from TOBT + EXOT to its
-  TTOT, painted by what it waits for as why tells it, one off-block or airborne
-  from its AOBT, with its name behind it. Closed minutes are hatched, blocked
-  flights stand below with their causes, and * marks the flights of a scenario
-  that stand otherwise than in the day. The pointer over a flight shows its line
-  and its waiting.
+PICTURE
+  picture draws the day and, with --scenarios, each scenario below it, as an SVG
+  file for a browser. Each runway is a band. In its upper part are the cells
+  with their capacities and flights. In its lower part each delayed flight is a
+  bar from TOBT + EXOT to its TTOT, with its name after it; the colour and the
+  pattern show what it waits for. A flight off-block or airborne has a bar from
+  its AOBT. Closed minutes are hatched. Blocked flights are listed below with
+  their rules. In a scenario * marks the flights that change. Point at a flight
+  to see its line and its waiting times.
 
-  live has two desks, which post FEED1 and FEED2 at the same time to one board,
-  in batches of 256 updates, and each looks at the board after its last batch.
-  It prints the plan of the day that they made together, from DAY to TOTAL, and
-  for each desk
+LIVE
+  live runs two desks concurrently on one shared day: desk 1 sends FEED1, and
+  desk 2 sends FEED2, in batches of 256 updates. After its last batch each desk
+  reads the day once; then the run ends. It isn't real time: see SERVE. It
+  prints the plan of the day, from DAY to TOTAL, and for each desk:
 
     DESK 1 POSTS 1 REFUSED 1
     REFUSED 5 AUTHORITY
 
-  DESK     the desk, the batches that it posted, and how many records of its
-           feed were refused; then their numbers in that feed, and the causes
-  Where both feeds touch the same flights, runways or the clock, it depends on
-  which batches came first, and two runs may print different texts. Each is
-  right: it is the text of one order of the batches that keeps each feed's own.
-  There is room for 4096 calls, which are the batches and the two looks.
+  DESK     the desk, its batches, and how many records of its feed were refused;
+           then their numbers in that feed, with their codes
+  If both feeds change the same flights, runways or the clock, the output
+  depends on which batch comes first: two runs may print different texts. Each
+  is the output of one order of the batches that keeps each feed's own order.
+  A run has room for 4096 calls, which are the batches and the two final reads.
 
-  serve takes records of FEED as they come, one a line of standard input, and
-  replies to each before it reads the next. JOURNAL has the accepted ones, each
-  on the disk before its reply, so plan AIRPORT JOURNAL prints the day any time.
-  With an empty JOURNAL cdmseq serve airport.csv journal.csv < feed.csv prints
+SERVE
+  serve reads records from standard input, one per line, and replies to each
+  before it reads the next. JOURNAL has the accepted records; each is on the
+  disk before its reply is written. With an empty JOURNAL
+  cdmseq serve airport.csv journal.csv < feed.csv prints:
 
     READY 0
     1 ACCEPTED 1
     BLOCKED AB1     TOBT
     2 ACCEPTED 0
 
-  and so on, as trace does but for every record.
+  and so on, as trace does, but for every record. The journal is itself a feed:
+  cdmseq plan airport.csv journal.csv prints the plan at any time.
 
-  READY    the day is served: how many records JOURNAL has. A last line without
-           an end, which a crash has torn, was cut off before
-  PLAN     a line PLAN asks for the plan, WHY,AB1 what holds a flight, LOAD,27L
-           how full a runway is: the reply has the number, the word and how many
-           lines follow, or REFUSED
-  A line of more than 4096 bytes or without an end is refused by FIELDS. At the
-  end of the input the program ends.
+  READY    how many records JOURNAL has. A restart leaves out an incomplete last
+           line, which a crash left.
+  PLAN     the line PLAN asks for the plan, WHY,AB1 for what delays a flight,
+           LOAD,27L for how full a runway is. The reply has the number, the word
+           and how many lines follow, or REFUSED.
+  A line that is longer than 4096 bytes or unterminated is refused with FIELDS.
+  At the end of the input the program ends.
 
-  check tells what is wrong with the files, and where. Of the example files
-  AIRPORT and FEED cdmseq check airport.csv feed.csv prints
+CHECK
+  cdmseq check airport.csv feed.csv prints:
 
-    feed.csv:5: record 5: AUTHORITY: a CTOT is set by NM; AO may set CNL, TOBT
+    feed.csv:5: record 5: AUTHORITY: a CTOT is set by NM (Network Manager);
+        AO (operator) may set CNL, TOBT
     10 records, 1 refused
 
-  A line tells the file, the line on which a record begins, the record's number,
-  the cause as in REFUSED, and what is wrong. If AIRPORT is at fault, its first
-  record at fault is told alone; else each refused record of FEED, and then the
-  first at fault in SCENARIOS, up to 1000 lines. Then come hints on whole files,
-  as: fields are separated by semicolons, not commas. The last line counts the
-  records of all files, and those that are refused.
+  of which the first two are one line.
 
-  kinds prints the table of the kinds of update: a line for each field, with the
-  kind, what it is of, the roles that may send it, and the field's name, form
-  and range. With --format json each kind is an object on a line of its own.
+  Each line has the file, the line on which the record begins, the record's
+  number, its refusal code, and a sentence. If AIRPORT is invalid, only its
+  first invalid record is listed. Otherwise each refused record of FEED is
+  listed, then the first invalid record of SCENARIOS, up to 1000 lines. Then
+  come hints on whole files, as: fields are separated by semicolons, not commas.
+  The last line counts the records of all files, and the refused ones.
+
+KINDS
+  kinds prints the kinds of updates: one line per field, with the kind, what it
+  is of, the roles that may send it, and the field's name, form and range.
+
+THE BOARD
+  cdmboard is a second program: it serves one day of one airport over HTTP, to
+  browsers and to programs. It decides who may speak, and keeps every record in
+  a log; cdmseq decides everything else.
+
+    cdmboard AIRPORT LOG [--desks FILE] [--listen HOST:PORT] [--name HOST]
+             [--tls CERT KEY | --behind-proxy] [--board NAME] [--clock]
+    cdmboard import AIRPORT LOG FEED
+    cdmboard export LOG [--all]
+    cdmboard token
+
+  LOG      the file of the log; created if missing, and never shared by two
+           servers
+  --desks  the desks with their tokens and roles. Without it the board serves
+           this machine alone, and whoever opens it may speak in every role
+  --listen the address, 127.0.0.1:8270 by default; another machine's needs
+           --desks, and --tls or --behind-proxy
+  --name   a further name of the server, as browsers call it
+  --board  the name of the board in the log
+  --clock  sends CLOCK each minute, by the machine's UTC time
+  import   makes FEED the first records of a new log; all must be accepted
+  export   prints the accepted records as a feed; --all prints every record
+  token    prints a new token, and its line for the file of the desks
 
 JSON
-  With --format json plan, compare, why, load, trace, check and serve print one
-  object a line, for programs. Each has all its members, null where there is
-  nothing; times are as in the files, minutes and counts are numbers.
-  plan     of the day and of each scenario: scenario, day, now, placed, delay,
-           max, late, blocked, rules (how many flights each cause blocks),
+  With --format json every command but picture, live and help prints one JSON
+  object per line, for programs. Each object has all its members, null where
+  there is no value. Times are written as in the files; minutes and counts are
+  numbers.
+  plan     for the base plan and each scenario: scenario, day, now, placed,
+           delay, max, late, blocked, rules (how many flights each rule blocks),
            flights (the columns of --format csv), refused (record, word)
-  compare  scenario, placed, delay, max, late, blocked, moved; and of a scenario
-           that is named flight, before and after for each flight that moved
+  next     tsat, flight, runway, stand, tobt, ctot, ttot, delay, cause
+  warnings kind, flight, runway, time, ctot, ttot, rule, placed, cap
+  causes   group, placed, delay, ice, ctot, closure, spacing, rate, now, blocked
+  compare  scenario, placed, delay, max, late, blocked, moved; and if you name a
+           scenario flight, before and after for each flight that it changes
   why      row (the flight's columns), ice (kind, minutes), now, waits (from,
            to, reason, cap, flights)
   load     runway, cell, now, cells (from, placed, cap, closed, flights)
-  trace    of each record that is refused or changes a column of a flight:
+  trace    for each record that is refused or changes a column of a flight:
            record, reply, and word or accepted (how many updates there are) and
-           changes (those flights); of one flight record, fields, row
+           changes (those flights); if you name a flight record, fields, row
   check    path, line, record, word, sentence; path, hint; records, refused
   serve    ready; then for each record and question one line: record, reply, and
            the members above
-  A scenario that is refused has scenario, update and word.
+  kinds    kind, of, roles, fields (name, form, range)
+  A refused scenario has scenario, update and word.
 
 STATUS
-  0  done: standard output has the whole text, also where records were refused
-  1  a file can't be read or written, the text can't be written, memory is
-     short, JOURNAL is in use, or the board gave a wrong answer
-  2  the words are wrong
-  3  a file has more than 8388608 bytes, AIRPORT, SCENARIOS or a record of
-     JOURNAL is refused, FEED1 and FEED2 need more than 4096 calls, the flight,
-     runway or scenario that is asked for isn't known, or an update of that
-     scenario is refused
-  4  check has found a refused record
-  For 1 and 3 one line on standard error names the cause, as
-  cdmseq: cannot read FEED (feed.csv: no such file). A text there says what is
-  wrong with the words of status 2.
+  0  the complete output was written, even if records were refused
+  1  a file can't be read or written, the output can't be written, memory ran
+     out, JOURNAL is in use, or a check inside live failed
+  2  usage error: a wrong command, option or argument
+  3  a file is longer than 8388608 bytes; a record of AIRPORT, SCENARIOS or
+     JOURNAL is refused; FEED1 and FEED2 need more than 4096 calls; the flight,
+     runway or scenario that you name is unknown, or that scenario is refused
+  4  check found a refused record
+  For 1 and 3 standard error has the error, as
+  cdmseq: cannot read FEED (feed.csv: no such file). For an invalid record of
+  AIRPORT or SCENARIOS the line of check follows, except in live and serve. For
+  2 it has the error and a hint.
 ";
 
 // What a kind of updates says, in lines of 45 characters.
@@ -507,24 +622,24 @@ fn words_of(kind: Kind) -> &'static str {
         Kind::Tobt => "its TOBT",
         Kind::Stand => "its stand",
         Kind::Rwy => "its runway",
-        Kind::Ctot => "its CTOT; - for the time takes it away",
+        Kind::Ctot => "its CTOT; - in place of the time cancels it",
         Kind::Ice => {
             "de-icing: NONE with 0 minutes, or with 1 to\n60 STAND (on the stand, before it is ready)\nor REMOTE (on the way, part of EXOT)"
         }
         Kind::Prio => "its priority, 0 to 9",
-        Kind::Group => "how heavy it is: L, M or H, at first M",
-        Kind::Off => { "it went off-block at this AOBT, which fixes\nits EXOT" }
+        Kind::Group => "its wake category: L, M or H, initially M",
+        Kind::Off => { "it went off-block at this AOBT; this fixes\nits EXOT" }
         Kind::Air => "it took off at this ATOT",
         Kind::Cnl => "it is cancelled",
         Kind::Rate => {
-            "cap (0 to 60) of the cells of a window, whose\nends are whole numbers of cells from 00:00"
+            "the capacity (0 to 60) of the cells of a\nwindow that begins and ends between cells"
         }
         Kind::Close => "no take-off in the window",
         Kind::Reopen => "take-offs again in the window",
-        Kind::Taxi => { "taxi minutes (1 to 120) from a stand, * for\nthe stands without a row" }
-        Kind::Clock => { "it is this time now; at first it is 00:00 of\nthe first day" }
+        Kind::Taxi => { "taxi time (1 to 120) from a stand; * is for\nthe stands without a row" }
+        Kind::Clock => { "the current time; initially 00:00 of the\nfirst day" }
         Kind::Tol => {
-            "the tolerance of every CTOT: 0 to 15 minutes\nbefore and 0 to 30 after, at first 5 and 10"
+            "the CTOT window of all flights: 0 to 15\nminutes before and 0 to 30 after the CTOT,\ninitially 5 and 10"
         }
     }
 }

@@ -1,10 +1,11 @@
 //! The words that the program and each command take.
 
 use crate::manual::{
-    ABOUT, CHECK_ABOUT, CHECK_EXAMPLE, COMPARE_ABOUT, COMPARE_EXAMPLE, EXAMPLES, HELP_ABOUT,
-    HELP_EXAMPLE, KINDS_ABOUT, KINDS_EXAMPLE, LIVE_ABOUT, LIVE_EXAMPLE, LOAD_ABOUT, LOAD_EXAMPLE,
-    PICTURE_ABOUT, PICTURE_EXAMPLE, PLAN_ABOUT, PLAN_EXAMPLE, SERVE_ABOUT, SERVE_EXAMPLE,
-    TRACE_ABOUT, TRACE_EXAMPLE, VERSION, WHY_ABOUT, WHY_EXAMPLE,
+    ABOUT, CAUSES_ABOUT, CAUSES_EXAMPLE, CHECK_ABOUT, CHECK_EXAMPLE, COMPARE_ABOUT,
+    COMPARE_EXAMPLE, EXAMPLES, HELP_ABOUT, HELP_EXAMPLE, KINDS_ABOUT, KINDS_EXAMPLE, LIVE_ABOUT,
+    LIVE_EXAMPLE, LOAD_ABOUT, LOAD_EXAMPLE, NEXT_ABOUT, NEXT_EXAMPLE, PICTURE_ABOUT,
+    PICTURE_EXAMPLE, PLAN_ABOUT, PLAN_EXAMPLE, SERVE_ABOUT, SERVE_EXAMPLE, TRACE_ABOUT,
+    TRACE_EXAMPLE, VERSION, WARNINGS_ABOUT, WARNINGS_EXAMPLE, WHY_ABOUT, WHY_EXAMPLE,
 };
 use clap::{Arg, Command as Parser, value_parser};
 use std::alloc::{AllocError, Global};
@@ -14,6 +15,9 @@ const FORMATS: &[&str] = &["text", "json"];
 
 /// How a plan and a comparison can be written.
 const TABLE_FORMATS: &[&str] = &["text", "csv", "json"];
+
+/// What the causes of delays can be grouped by.
+const GROUPS: &[&str] = &["runway", "operator"];
 
 /// What the formats are, where there are two.
 const TEXT_OR_JSON: &str = "text, or json for programs";
@@ -132,33 +136,67 @@ fn day_parser<'a>(
         .arg(feed)
 }
 
+// The words of a question of a day or of a scenario over it, behind those that are the question's own.
+fn question_parser<'a>(parser: Parser<'a>, alloc: Global) -> Result<Parser<'a>, AllocError> {
+    parser
+        .arg(scenarios_arg(alloc, OVER_THE_FEED))?
+        .arg(scenario_arg(alloc))?
+        .arg(format_arg(alloc, FORMATS, TEXT_OR_JSON))
+}
+
 // The words that `why` takes.
 fn why_parser<'a>(alloc: Global) -> Result<Parser<'a>, AllocError> {
     let flight = Arg::new(alloc, "FLIGHT")
         .required(true)
         .help("The flight that is asked for");
-    day_parser(alloc, "why", WHY_ABOUT, WHY_EXAMPLE)?
-        .arg(flight)?
-        .arg(scenarios_arg(alloc, OVER_THE_FEED))?
-        .arg(scenario_arg(alloc))?
-        .arg(format_arg(alloc, FORMATS, TEXT_OR_JSON))
+    let parser = day_parser(alloc, "why", WHY_ABOUT, WHY_EXAMPLE)?.arg(flight)?;
+    question_parser(parser, alloc)
 }
 
 // The words that `load` takes.
 fn load_parser<'a>(alloc: Global) -> Result<Parser<'a>, AllocError> {
     let runway = Arg::new(alloc, "RUNWAY").help("One runway alone");
-    day_parser(alloc, "load", LOAD_ABOUT, LOAD_EXAMPLE)?
-        .arg(runway)?
-        .arg(scenarios_arg(alloc, OVER_THE_FEED))?
-        .arg(scenario_arg(alloc))?
-        .arg(format_arg(alloc, FORMATS, TEXT_OR_JSON))
+    let parser = day_parser(alloc, "load", LOAD_ABOUT, LOAD_EXAMPLE)?.arg(runway)?;
+    question_parser(parser, alloc)
+}
+
+// The words that `next` takes.
+fn next_parser<'a>(alloc: Global) -> Result<Parser<'a>, AllocError> {
+    let minutes = Arg::new(alloc, "MINUTES")
+        .value_parser(value_parser!(usize).range(1..=2880))
+        .help("How far ahead, 1 to 2880 minutes; 60 without it");
+    let parser = day_parser(alloc, "next", NEXT_ABOUT, NEXT_EXAMPLE)?.arg(minutes)?;
+    question_parser(parser, alloc)
+}
+
+// The words that `warnings` takes.
+fn warnings_parser<'a>(alloc: Global) -> Result<Parser<'a>, AllocError> {
+    let parser = day_parser(alloc, "warnings", WARNINGS_ABOUT, WARNINGS_EXAMPLE)?;
+    question_parser(parser, alloc)
+}
+
+// The words that `causes` takes.
+fn causes_parser<'a>(alloc: Global) -> Result<Parser<'a>, AllocError> {
+    let by = Arg::new(alloc, "by")
+        .long("by")
+        .value_name("GROUP")
+        .value_parser(GROUPS)
+        .hide_possible_values(true)
+        .help("runway or operator: a line for each of them");
+    let parser = day_parser(alloc, "causes", CAUSES_ABOUT, CAUSES_EXAMPLE)?.arg(by)?;
+    question_parser(parser, alloc)
 }
 
 // The words that `trace` takes.
 fn trace_parser<'a>(alloc: Global) -> Result<Parser<'a>, AllocError> {
     let flight = Arg::new(alloc, "FLIGHT").help("One flight alone, with the records that move it");
+    let since = Arg::new(alloc, "since")
+        .long("since")
+        .value_name("TIME")
+        .help("From the first record that made it this time or later");
     day_parser(alloc, "trace", TRACE_ABOUT, TRACE_EXAMPLE)?
         .arg(flight)?
+        .arg(since)?
         .arg(format_arg(alloc, FORMATS, TEXT_OR_JSON))
 }
 
@@ -209,6 +247,9 @@ pub(crate) fn parser<'a>(alloc: Global) -> Result<Parser<'a>, AllocError> {
         .subcommand_required(true)
         .arg_required_else_help(true)
         .subcommand(plan_parser(alloc)?)?
+        .subcommand(next_parser(alloc)?)?
+        .subcommand(warnings_parser(alloc)?)?
+        .subcommand(causes_parser(alloc)?)?
         .subcommand(compare_parser(alloc)?)?
         .subcommand(why_parser(alloc)?)?
         .subcommand(load_parser(alloc)?)?

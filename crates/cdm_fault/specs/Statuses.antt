@@ -1,6 +1,6 @@
 -- The exit status of each fault, and of a run that has written its text.
 -- 3 where an input is refused or doesn't know what is asked for, 1 where a file can't be opened, a device fails, memory
--- is short or the board gives a wrong answer, 2 where the words name no command.
+-- is short or the board gives a wrong answer, 2 where the words name no command, or a time of another day.
 use Rattle.std.specs.Prelude.{ℕ, ◌==◌, if◌then◌else◌}
 use Rattle.cdm_feed.specs.declared.counted.Counted.{Counted}
 use Rattle.cdm_feed.specs.declared.counted.Counted.TheVariants as counted
@@ -35,6 +35,7 @@ status_of_fault (fault.Run (run.Scenario number word)) = 3
 status_of_fault (fault.Run (run.NoFlight name)) = 3
 status_of_fault (fault.Run (run.NoRunway name)) = 3
 status_of_fault (fault.Run (run.NoScenario name)) = 3
+status_of_fault (fault.Run run.OtherDay) = 2
 status_of_fault (fault.Run (run.Update name number word)) = 3
 status_of_fault (fault.Live (live.Common e)) = status_of_common e
 status_of_fault (fault.Live live.HistoryFull) = 3

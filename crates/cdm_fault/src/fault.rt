@@ -57,8 +57,8 @@ impl From<AllocError> for Fault {
 }
 
 impl Fault {
-    /// The exit status: 3 where an input is refused, is missing though it was served, or doesn't know what is asked for, and 1 where a file
-    /// can't be opened, a device fails, memory is short or the board gives a wrong answer.
+    /// The exit status: 2 where the words name a time of another day, 3 where an input is refused, is missing though it was served, or doesn't
+    /// know what is asked for, and 1 where a file can't be opened, a device fails, memory is short or the board gives a wrong answer.
     pub fn status(&self) -> u8
         ensures { result ≡ status_of_fault self.now }
     {
@@ -66,6 +66,7 @@ impl Fault {
             Fault::Run(RunError::Common(fault))
             | Fault::Live(LiveError::Common(fault))
             | Fault::Serve(ServeError::Common(fault)) => common_status(*fault),
+            Fault::Run(RunError::OtherDay) => USAGE_STATUS,
             Fault::Run(
                 RunError::Scenario(..)
                 | RunError::NoFlight(_)

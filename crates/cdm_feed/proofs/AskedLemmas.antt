@@ -3,10 +3,10 @@ use Rattle.std.proofs.Common.{◌≡◌, ℕ, List, Option, None, Some, Result, 
 use Rattle.std.specs.Option.{IsSomeAnd}
 use Rattle.cdm_flight.specs.declared.word.RefusalWord.{RefusalWord}
 use Rattle.cdm_plan.specs.Day.{DayRecord}
-use Rattle.cdm_view.specs.Questions.{IsUnanswered}
 use Rattle.cdm_view.specs.declared.fault.ViewFault.{ViewFault}
 use Rattle.cdm_view.specs.declared.fault.ViewFault.TheVariants as view
-use Rattle.cdm_view.specs.declared.question.Question.{Question}
+use Rattle.cdm_shift.specs.Answers.{IsNotAnswered}
+use Rattle.cdm_shift.specs.declared.question.DayQuestion.{DayQuestion}
 use Rattle.cdm_scenario.specs.Outcome.{IsLaid}
 use Rattle.cdm_scenario.specs.Scenarios.{ScenarioRecord, scenario_named}
 use Rattle.cdm_kinds.specs.declared.format.Format.{Format}
@@ -27,19 +27,19 @@ err-then P Q (Ok x) more is = is
 err-then P Q (Err e) more is = more e is
 
 -- why a day has no answer
-pub over_fault : (question : Question) (d : DayRecord) (name : List ℕ) (s : ScenarioRecord) (day : DayRecord) → IsLaid d s.updates (Ok day)
-    → (fault : ViewFault) → IsUnanswered question day fault → IsUntoldOver question d name s (view_error fault)
+pub over_fault : (question : DayQuestion) (d : DayRecord) (name : List ℕ) (s : ScenarioRecord) (day : DayRecord) → IsLaid d s.updates (Ok day)
+    → (fault : ViewFault) → IsNotAnswered question day fault → IsUntoldOver question d name s (view_error fault)
 over_fault question d name s day laid (view.NoFlight flight) is = (day, laid, is)
 over_fault question d name s day laid (view.NoRunway runway) is = (day, laid, is)
 over_fault question d name s day laid view.Memory is = tt
 
-pub base_fault : (question : Question) (format : Format) (d : DayRecord) (questions : List ScenarioRecord) (fault : ViewFault) → IsUnanswered question d fault
+pub base_fault : (question : DayQuestion) (format : Format) (d : DayRecord) (questions : List ScenarioRecord) (fault : ViewFault) → IsNotAnswered question d fault
     → IsUntold (Answer question None format) d questions (view_error fault)
 base_fault question format d questions (view.NoFlight flight) is = (d, refl, is)
 base_fault question format d questions (view.NoRunway runway) is = (d, refl, is)
 base_fault question format d questions view.Memory is = tt
 
-module _ (question : Question) (format : Format) (d : DayRecord) (questions : List ScenarioRecord) (name : List ℕ) (s : ScenarioRecord) (found : scenario_named questions name ≡ Some s) where
+module _ (question : DayQuestion) (format : Format) (d : DayRecord) (questions : List ScenarioRecord) (name : List ℕ) (s : ScenarioRecord) (found : scenario_named questions name ≡ Some s) where
   -- an answer
   pub view-of : (text : List ℕ) → IsView format question (IsLaid d s.updates) text → IsView format question (IsAskedOf (Some name) d questions) text
   view-of text is =
@@ -60,6 +60,7 @@ module _ (question : Question) (format : Format) (d : DayRecord) (questions : Li
   untold-of (error.NoFlight flight) is = (is.0, laid-of (Ok is.0) is.1, is.2)
   untold-of (error.NoRunway runway) is = (is.0, laid-of (Ok is.0) is.1, is.2)
   untold-of (error.NoScenario scenario) is = absurd is
+  untold-of error.OtherDay is = absurd is
   untold-of (error.Update scenario number word) is = (refl-some is.0, laid-of (Err (number, word)) is.1)
     where
       refl-some : scenario ≡ name → Some name ≡ Some scenario

@@ -1,7 +1,9 @@
 -- A run has one text.
-use Rattle.std.proofs.Common.{◌≡◌, ◌++◌, ◌∙◌, ℕ, List, Option, None, Some, Result, Ok, sym, subst, subst₂}
+use Rattle.std.proofs.Common.{◌≡◌, ◌++◌, ◌∙◌, ℕ, List, Option, None, Some, Result, Ok, Err, sym, subst, subst₂}
 use Rattle.std.specs.Option.{IsSomeAnd}
+use Rattle.std.specs.Result.{IsOkAnd}
 use Rattle.std.specs.List.{AllZip, IsDistinct, concat}
+use Rattle.cdm_time.specs.declared.day.TimeFault.{TimeFault}
 use Rattle.cdm_flight.specs.Journal.{AirportRows}
 use Rattle.cdm_flight.specs.Names.{same_name}
 use Rattle.cdm_flight.specs.declared.update.Update.{Update}
@@ -18,15 +20,16 @@ use Rattle.cdm_report.specs.Report.{report_bytes}
 use Rattle.cdm_sequence.specs.declared.plan.Plan.{Plan}
 use Rattle.cdm_kinds.specs.declared.format.Format.{Format}
 use Rattle.cdm_kinds.specs.declared.format.Format.TheVariants.{Text, Json}
-use Rattle.cdm_json.proofs.OneAnswer.{answer_one as json_answer_one}
 use Rattle.cdm_table.proofs.TableLemmas.{one_plans, one_table}
+use Rattle.cdm_trace.specs.Traces.{IsTrace, from_minute}
 use Rattle.cdm_trace.proofs.OneTrace.{one}
-use Rattle.cdm_view.specs.declared.question.Question.{Question}
-use Rattle.cdm_view.proofs.AnswerLemmas.{answer_one}
+use Rattle.cdm_shift.specs.Answers.{IsDayAnswer}
+use Rattle.cdm_shift.specs.declared.question.DayQuestion.{DayQuestion}
+use Rattle.cdm_shift.proofs.OneAnswer.{answer_one}
 use Rattle.cdm_files.specs.FeedDay.{day_in}
 use Rattle.cdm_files.proofs.FeedDayLemmas.{own_airport, own_journal}
 use Rattle.cdm_feed.specs.Answers.{IsAnswer}
-use Rattle.cdm_feed.specs.Made.{HaveOne, IsAnswerIn, IsAskedOf, IsMade, IsPlanIn, IsTextOf, IsView}
+use Rattle.cdm_feed.specs.Made.{HaveOne, IsAskedOf, IsMade, IsPlanIn, IsTextOf, IsTraceSince, IsView}
 use Rattle.cdm_feed.specs.Output.{HaveOneText, IsMadeBy, IsReport}
 use Rattle.cdm_feed.specs.inner.OneAnswer.{one_answer}
 use Rattle.cdm_feed.specs.declared.asked.DayText.{DayText}
@@ -56,28 +59,22 @@ one-plan : (format : Format) (d : DayRecord) (refused : List (ℕ × RefusalWord
 one-plan Text d refused questions own x y a b = one-report d refused questions own x y a b
 one-plan Json d refused questions own x y a b = one_plans d own.0 own.1 refused questions x y a b
 
--- a day with its plan has one answer
-one-in : (format : Format) (question : Question) (d : DayRecord) → IsAirport d.airport → Own d → (x y : List ℕ) (p : Plan) → IsDayPlan d p
-    → IsAnswerIn format question d p x → IsAnswerIn format question d p y → x ≡ y
-one-in Text question d kept own x y p is a b = answer_one question d p x y kept a b
-one-in Json question d kept own x y p is a b = json_answer_one question d None p x y kept own.1 is a b
-
--- and so has a day
-one-answer : (format : Format) (question : Question) (d : DayRecord) → IsAirport d.airport → Own d → (x y : List ℕ) (p q : Plan) → IsDayPlan d p → IsDayPlan d q
-    → IsAnswerIn format question d p x → IsAnswerIn format question d q y → x ≡ y
+-- a day has one answer
+one-answer : (format : Format) (question : DayQuestion) (d : DayRecord) → IsAirport d.airport → Own d → (x y : List ℕ) (p q : Plan) → IsDayPlan d p → IsDayPlan d q
+    → IsDayAnswer format question d p x → IsDayAnswer format question d q y → x ≡ y
 one-answer format question d kept own x y p q of_p of_q a b =
     let plans : q ≡ p = one_day_plan d q p own.0 own.1 of_q of_p in
-    one-in format question d kept own x y p of_p a (subst (λ (r : Plan). IsAnswerIn format question d r y) plans b)
+    answer_one format question d p x y kept own.1 of_p a (subst (λ (r : Plan). IsDayAnswer format question d r y) plans b)
 
 -- and so has what is said to be one day, whose runways and flights have names of their own
-one-view : (format : Format) (question : Question) (IsDay : Result DayRecord (ℕ × RefusalWord) → Type 0) (x y : List ℕ)
+one-view : (format : Format) (question : DayQuestion) (IsDay : Result DayRecord (ℕ × RefusalWord) → Type 0) (x y : List ℕ)
     → ((d e : DayRecord) → IsDay (Ok d) → IsDay (Ok e) → e ≡ d) → ((d : DayRecord) → IsDay (Ok d) → IsAirport d.airport × Own d)
     → IsView format question IsDay x → IsView format question IsDay y → x ≡ y
 one-view format question IsDay x y alone kept a b =
     let same : b.day ≡ a.day = alone a.day b.day a.is_day b.is_day in
     let own = kept a.day a.is_day in
     one-answer format question a.day own.0 own.1 x y a.plan b.plan a.of_day (subst (λ (d : DayRecord). IsDayPlan d b.plan) same b.of_day)
-    a.answer (subst (λ (d : DayRecord). IsAnswerIn format question d b.plan y) same b.answer)
+    a.answer (subst (λ (d : DayRecord). IsDayAnswer format question d b.plan y) same b.answer)
 
 module _ (d : DayRecord) (kept : IsAirport d.airport) (own : Own d) where
   one-laid : (us : List Update) (x y : DayRecord) → IsLaid d us (Ok x) → IsLaid d us (Ok y) → y ≡ x
@@ -96,12 +93,22 @@ module _ (d : DayRecord) (kept : IsAirport d.airport) (own : Own d) where
   own-asked None x is = absurd is
 
   -- whatever scenario is asked about
-  one-of : (format : Format) (question : Question) (scenario : Option (List ℕ)) (questions : List ScenarioRecord) (x y : List ℕ)
+  one-of : (format : Format) (question : DayQuestion) (scenario : Option (List ℕ)) (questions : List ScenarioRecord) (x y : List ℕ)
       → IsView format question (IsAskedOf scenario d questions) x → IsView format question (IsAskedOf scenario d questions) y → x ≡ y
   one-of format question None questions x y =
       one-view format question (IsAskedOf None d questions) x y (λ a b is so. cc) (λ a is. let same : d ≡ a = cc in subst (λ (e : DayRecord). IsAirport e.airport × Own e) same (kept, own))
   one-of format question (Some name) questions x y =
       one-view format question (IsAskedOf (Some name) d questions) x y (one-asked (scenario_named questions name)) (own-asked (scenario_named questions name))
+
+-- and so have the records of a feed
+one-from : (r : Result ℕ TimeFault) (format : Format) (flight : Option (List ℕ)) (g : AirportRows) (feed : List ℕ) → IsAirport g → (x y : List ℕ)
+    → IsOkAnd r (λ from. IsTrace format flight from g feed x) → IsOkAnd r (λ from. IsTrace format flight from g feed y) → x ≡ y
+one-from (Ok from) format flight g feed kept x y a b = one format flight from g feed kept x y a b
+one-from (Err e) format flight g feed kept x y a b = absurd a
+
+one-trace : (flight since : Option (List ℕ)) (format : Format) (g : AirportRows) (feed : List ℕ) → IsAirport g → (x y : List ℕ)
+    → IsTraceSince flight since format g feed x → IsTraceSince flight since format g feed y → x ≡ y
+one-trace flight since format g feed kept x y a b = one-from (from_minute g.day since) format flight g feed kept x y a.1 b.1
 
 -- where an airport, a feed and scenarios have one text, three files have one
 one-by : (IsText : AirportRows → List ℕ → List ScenarioRecord → List ℕ → Type 0) (airport feed scenarios : List ℕ)
@@ -137,5 +144,5 @@ one-each (ask.Day (Table table)) airport feed scenarios =
 one-each (ask.Day (Answer question scenario format)) airport feed scenarios =
     one-counted (Answer question scenario format) airport feed scenarios
     (λ g questions kept. one-of (day_in g feed) kept (own-day g feed kept) format question scenario questions)
-one-each (ask.Day (Trace flight format)) airport feed scenarios =
-    one-counted (Trace flight format) airport feed scenarios (λ g questions kept x y a b. one format flight g feed kept x y a.1 b.1)
+one-each (ask.Day (Trace flight since format)) airport feed scenarios =
+    one-counted (Trace flight since format) airport feed scenarios (λ g questions kept. one-trace flight since format g feed kept)

@@ -55,6 +55,7 @@ unmade-first (ask.Day asked) a f s x y z (error.Scenario number word) read first
 unmade-first (ask.Day asked) a f s x y z (error.NoFlight name) read first second third fault = (read, of-read x y z first second third fault)
 unmade-first (ask.Day asked) a f s x y z (error.NoRunway name) read first second third fault = (read, of-read x y z first second third fault)
 unmade-first (ask.Day asked) a f s x y z (error.NoScenario name) read first second third fault = (read, of-read x y z first second third fault)
+unmade-first (ask.Day asked) a f s x y z error.OtherDay read first second third fault = (read, of-read x y z first second third fault)
 unmade-first (ask.Day asked) a f s x y z (error.Update name number word) read first second third fault = (read, of-read x y z first second third fault)
 
 -- a faulty record is why they make none
@@ -64,6 +65,7 @@ record-unmade asked a f s (error.Scenario number word) fault = fault
 record-unmade asked a f s (error.NoFlight name) fault = absurd fault
 record-unmade asked a f s (error.NoRunway name) fault = absurd fault
 record-unmade asked a f s (error.NoScenario name) fault = absurd fault
+record-unmade asked a f s error.OtherDay fault = absurd fault
 record-unmade asked a f s (error.Update name number word) fault = absurd fault
 
 -- and what their day doesn't know
@@ -88,6 +90,7 @@ untold-unmade asked a f s d questions (error.Scenario number word) airport is sa
 untold-unmade asked a f s d questions (error.NoFlight name) airport is said fault = unknown-unmade asked a f s d questions (error.NoFlight name) airport is said fault
 untold-unmade asked a f s d questions (error.NoRunway name) airport is said fault = unknown-unmade asked a f s d questions (error.NoRunway name) airport is said fault
 untold-unmade asked a f s d questions (error.NoScenario name) airport is said fault = unknown-unmade asked a f s d questions (error.NoScenario name) airport is said fault
+untold-unmade asked a f s d questions error.OtherDay airport is said fault = unknown-unmade asked a f s d questions error.OtherDay airport is said fault
 untold-unmade asked a f s d questions (error.Update name number word) airport is said fault = unknown-unmade asked a f s d questions (error.Update name number word) airport is said fault
 
 -- and so is a failed write of a text that they make
@@ -140,6 +143,7 @@ report-first a f s (error.Scenario number word) fault =
 report-first a f s (error.NoFlight name) fault = absurd (never (airport_in fault.1.airport) (λ g. scenarios_in g.day fault.1.third) fault.1.holds)
 report-first a f s (error.NoRunway name) fault = absurd (never (airport_in fault.1.airport) (λ g. scenarios_in g.day fault.1.third) fault.1.holds)
 report-first a f s (error.NoScenario name) fault = absurd (never (airport_in fault.1.airport) (λ g. scenarios_in g.day fault.1.third) fault.1.holds)
+report-first a f s error.OtherDay fault = absurd (never (airport_in fault.1.airport) (λ g. scenarios_in g.day fault.1.third) fault.1.holds)
 report-first a f s (error.Update name number word) fault = absurd (never (airport_in fault.1.airport) (λ g. scenarios_in g.day fault.1.third) fault.1.holds)
 
 -- an error is the same, whatever would have been answered in its place

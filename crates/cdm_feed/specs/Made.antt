@@ -1,5 +1,5 @@
 -- What runs make of an airport file, a feed and a scenario file, and why they make nothing.
-use Rattle.std.specs.Prelude.{◌≡◌, ⊤, ℕ, List, Option, None, Some, IsSome, Result, Ok, Err}
+use Rattle.std.specs.Prelude.{◌≡◌, ⊤, ℕ, List, Option, None, Some, IsSome, IsErr, Result, Ok, Err}
 use Rattle.std.specs.Option.{IsSomeAnd}
 use Rattle.std.specs.Result.{IsOkAnd}
 use Rattle.cdm_flight.specs.Journal.{AirportRows, flight_of}
@@ -7,21 +7,20 @@ use Rattle.cdm_flight.specs.declared.word.RefusalWord.{RefusalWord}
 use Rattle.cdm_sequence.specs.declared.plan.Plan.{Plan}
 use Rattle.cdm_plan.specs.Day.{DayRecord}
 use Rattle.cdm_plan.specs.DayPlan.{IsDayPlan}
-use Rattle.cdm_view.specs.Questions.{IsAnswer, IsUnanswered}
 use Rattle.cdm_view.specs.declared.fault.ViewFault.{ViewFault}
 use Rattle.cdm_view.specs.declared.fault.ViewFault.TheVariants as view
-use Rattle.cdm_view.specs.declared.question.Question.{Question}
+use Rattle.cdm_shift.specs.Answers.{IsDayAnswer, IsNotAnswered}
+use Rattle.cdm_shift.specs.declared.question.DayQuestion.{DayQuestion}
 use Rattle.cdm_scenario.specs.Outcome.{IsLaid}
 use Rattle.cdm_scenario.specs.Scenarios.{ScenarioRecord, scenario_named}
 use Rattle.cdm_kinds.specs.declared.format.Format.{Format}
 use Rattle.cdm_kinds.specs.declared.format.Format.TheVariants.{Text, Json}
-use Rattle.cdm_json.specs.Answers.{IsJsonAnswer}
 use Rattle.cdm_table.specs.Plans.{IsPlans}
 use Rattle.cdm_table.specs.Tables.{IsTable, unknown_among}
 use Rattle.cdm_table.specs.declared.table.TableFault.{TableFault}
 use Rattle.cdm_table.specs.declared.table.TableFault.TheVariants as table
 use Rattle.cdm_picture.specs.Pictures.{IsPicture}
-use Rattle.cdm_trace.specs.Traces.{IsTrace}
+use Rattle.cdm_trace.specs.Traces.{IsTrace, from_minute}
 use Rattle.cdm_check.specs.Paths.{IsCheckAt, counts_at}
 use Rattle.cdm_files.specs.AirportFile.{airport_in}
 use Rattle.cdm_files.specs.CommonFaults.{IsAirportFault, IsFirstCommonFault}
@@ -49,22 +48,17 @@ abbrev pub IsAskedOf : Option (List ℕ) → DayRecord → List ScenarioRecord �
 IsAskedOf None d scenarios = λ by. by ≡ Ok d
 IsAskedOf (Some name) d scenarios = λ by. IsSomeAnd (scenario_named scenarios name) (λ s. IsLaid d s.updates by)
 
--- the text that answers a question of a day with this plan, as text or as JSON
-abbrev pub IsAnswerIn : Format → Question → DayRecord → Plan → List ℕ → Type 0
-IsAnswerIn Text question day plan text = IsAnswer question day plan text
-IsAnswerIn Json question day plan text = IsJsonAnswer question day None plan text
-
 -- the text answers a question of a day of which this is said
-pub record IsView (format : Format) (question : Question) (IsDay : Result DayRecord (ℕ × RefusalWord) → Type 0) (text : List ℕ) : Type 0 where
+pub record IsView (format : Format) (question : DayQuestion) (IsDay : Result DayRecord (ℕ × RefusalWord) → Type 0) (text : List ℕ) : Type 0 where
   pub day : DayRecord
   pub is_day : IsDay (Ok day)
   pub plan : Plan
   pub of_day : IsDayPlan day plan
-  pub answer : IsAnswerIn format question day plan text
+  pub answer : IsDayAnswer format question day plan text
 
 -- the day of which this is said has no answer to the question
-abbrev pub HasNoView : Question → (Result DayRecord (ℕ × RefusalWord) → Type 0) → ViewFault → Type 0
-HasNoView question IsDay fault = (day : DayRecord) × IsDay (Ok day) × IsUnanswered question day fault
+abbrev pub HasNoView : DayQuestion → (Result DayRecord (ℕ × RefusalWord) → Type 0) → ViewFault → Type 0
+HasNoView question IsDay fault = (day : DayRecord) × IsDay (Ok day) × IsNotAnswered question day fault
 
 -- the day knows the flight that is asked for, if one is
 abbrev pub IsKnown : Option (List ℕ) → DayRecord → Type 0
@@ -76,13 +70,19 @@ abbrev pub IsPlanIn : Format → DayRecord → List (ℕ × RefusalWord) → Lis
 IsPlanIn Text d refused scenarios text = IsReport d refused scenarios text
 IsPlanIn Json d refused scenarios text = IsPlans d refused scenarios text
 
+-- the text that tells which records of a feed at an airport moved whose start-up, or that of a flight that the day knows, from
+-- a time of the airport's two days on
+abbrev pub IsTraceSince : Option (List ℕ) → Option (List ℕ) → Format → AirportRows → List ℕ → List ℕ → Type 0
+IsTraceSince flight since format g feed text =
+    IsKnown flight (day_in g feed) × IsOkAnd (from_minute g.day since) (λ from. IsTrace format flight from g feed text)
+
 -- the text that tells this of the day of an airport and a feed, and of scenarios over it
 abbrev pub IsTextOf : DayText → AirportRows → List ℕ → List ScenarioRecord → List ℕ → Type 0
 IsTextOf (told.Plan format) g feed = IsPlanIn format (day_in g feed) (refusals_in g feed)
 IsTextOf (Table table) g feed = IsTable table (day_in g feed)
 IsTextOf Picture g feed = IsPicture (day_in g feed)
 IsTextOf (Answer question scenario format) g feed = λ questions. IsView format question (IsAskedOf scenario (day_in g feed) questions)
-IsTextOf (Trace flight format) g feed = λ questions text. IsKnown flight (day_in g feed) × IsTrace format flight g feed text
+IsTextOf (Trace flight since format) g feed = λ questions. IsTraceSince flight since format g feed
 
 -- the text that is made of the bytes of an airport file, of a feed and of a scenario file, and what is counted
 abbrev pub IsMade : Asked → List ℕ → List ℕ → List ℕ → List ℕ → Counted → Type 0
@@ -120,7 +120,8 @@ IsUntold (Answer question scenario format) d questions (error.NoFlight name) = H
 IsUntold (Answer question scenario format) d questions (error.NoRunway name) = HasNoView question (IsAskedOf scenario d questions) (view.NoRunway name)
 IsUntold (Answer question scenario format) d questions (error.NoScenario name) = (scenario ≡ Some name) × (scenario_named questions name ≡ None)
 IsUntold (Answer question scenario format) d questions (error.Update name number word) = (scenario ≡ Some name) × IsAskedOf scenario d questions (Err (number, word))
-IsUntold (Trace flight format) d questions (error.NoFlight name) = (flight ≡ Some name) × (flight_of d.airport d.journal name ≡ None)
+IsUntold (Trace flight since format) d questions (error.NoFlight name) = (flight ≡ Some name) × (flight_of d.airport d.journal name ≡ None)
+IsUntold (Trace flight since format) d questions error.OtherDay = IsErr (from_minute d.airport.day since)
 IsUntold (Table table) d questions (error.NoScenario name) = unknown_among questions table ≡ Some name
 IsUntold asked d questions fault = ⊥
 

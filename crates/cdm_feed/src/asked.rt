@@ -3,8 +3,9 @@ use cdm_check::FilePaths;
 use cdm_flight::FlightName;
 use cdm_kinds::Format;
 use cdm_scenario::ScenarioName;
+use cdm_shift::DayQuestion;
 use cdm_table::Table;
-use cdm_view::Question;
+use cdm_trace::Since;
 
 /// What is told of a day, which an airport file and a feed make, and of the scenarios of a scenario file over it.
 #[derive(Clone, Copy, PartialEq, Eq, Debug)]
@@ -16,9 +17,9 @@ pub enum DayText {
     /// The picture of the day, and of each scenario beneath it.
     Picture,
     /// The answer to a question of the day, or of the day with all updates of the scenario of this name.
-    Answer(Question, Option<ScenarioName>, Format),
-    /// Which records of the feed moved whose start-up, or that of one flight.
-    Trace(Option<FlightName>, Format),
+    Answer(DayQuestion, Option<ScenarioName>, Format),
+    /// Which records of the feed moved whose start-up, or that of one flight, from the first on that made it this time or later.
+    Trace(Option<FlightName>, Option<Since>, Format),
 }
 
 /// What is asked of a run.

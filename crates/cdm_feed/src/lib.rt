@@ -15,6 +15,8 @@ pub use cdm_files::{
     parse_record, place_field, read_airport, read_feed, read_input, read_inputs, read_scenarios,
     read_whole, records_are_read_back, refusals_of, role_of, updates_of, write_text,
 };
+pub use cdm_shift::{Ahead, DayQuestion, GroupBy, ShiftQuestion};
+pub use cdm_trace::Since;
 pub use counted::Counted;
 pub use laws::{one_text, one_text_each};
 pub use runs::{RunCounts, run, run_asked};

@@ -1,14 +1,13 @@
 //! What is made of whole inputs.
 ghost use Rattle.std.specs.Prelude.{◌≡◌, ◌≤◌, None, Some, length, IfErr, IfOk, OnOk};
+ghost use Rattle.std.specs.Result.{IsOkAnd};
 ghost use Rattle.cdm_flight.specs.Journal.{flight_of};
 ghost use Rattle.cdm_files.specs.FeedDay.{day_in, refusals_in};
 ghost use Rattle.cdm_files.specs.Input.{input_limit};
 ghost use Rattle.cdm_table.specs.Tables.{IsTable};
-ghost use Rattle.cdm_trace.specs.Traces.{IsTrace};
+ghost use Rattle.cdm_trace.specs.Traces.{IsTrace, from_minute};
 ghost use Rattle.cdm_scenario.specs.Outcome.{IsLaid};
-ghost use Rattle.cdm_plan.specs.DayPlan.{IsDayPlan};
-ghost use Rattle.cdm_view.specs.Questions.{IsUnanswered};
-ghost use Rattle.cdm_feed.specs.Made.{IsAnswerIn, IsAskedOf, IsKnown, IsMade, IsPlanIn, IsTextOf, IsUnmade, IsUntold, IsView, table_error, view_error};
+ghost use Rattle.cdm_feed.specs.Made.{IsAskedOf, IsKnown, IsMade, IsPlanIn, IsTextOf, IsUnmade, IsUntold, IsView, table_error, view_error};
 ghost use Rattle.cdm_feed.specs.Output.{IsReport};
 ghost use Rattle.cdm_feed.specs.inner.Over.{IsUntoldOver};
 
@@ -17,20 +16,19 @@ use crate::asked::{Asked, DayText};
 use crate::counted::Counted;
 use crate::runs::RunCounts;
 use cdm_check::{Checked, check_of};
-use cdm_day::{Airport, DayState, Records, plan_of};
+use cdm_day::{DayState, Records, plan_of};
 use cdm_files::{AskedDay, CommonFault, Inputs, Lent, RunError, asked_day};
 use cdm_flight::FlightName;
-use cdm_json::json_answer;
 use cdm_kinds::Format;
 use cdm_phase::Gate;
 use cdm_picture::picture;
 use cdm_plan::Runner;
 use cdm_report::{indicators, report_text};
 use cdm_scenario::{Overlay, Scenario, ScenarioName, scenario_named};
-use cdm_sequence::Plan;
+use cdm_shift::{DayQuestion, day_answer};
 use cdm_table::{Table, TableFault, plans_json, tabulate};
-use cdm_trace::trace_of;
-use cdm_view::{Question, ViewFault, answer};
+use cdm_trace::{Since, from_minute, trace_of};
+use cdm_view::ViewFault;
 use std::alloc::{AllocError, Global};
 use std::thread::Threads;
 
@@ -128,27 +126,8 @@ fn view_error(fault: ViewFault) -> RunError
 // A question, and how its answer is written.
 #[derive(Clone, Copy)]
 struct Asking {
-    question: Question,
+    question: DayQuestion,
     format: Format,
-}
-
-// The answer to a question of a day, as text or as JSON.
-fn answer_in<R: Records>(
-    alloc: Global,
-    asking: Asking,
-    airport: &Airport,
-    records: &R,
-    plan: &Plan,
-) -> Result<Vec<u8>, ViewFault>
-    requires airport { airport.now ≡ (R.day records.now).airport }
-    requires plan { IsDayPlan (R.day records.now) plan.now }
-    ensures answer { IfOk result (λ text. IsAnswerIn asking.format asking.question (R.day records.now) plan.entry.now text.items) }
-    ensures fault { IfErr result (IsUnanswered asking.question (R.day records.now)) }
-{
-    match asking.format {
-        Format::Text => answer(alloc, airport, records, plan, asking.question),
-        Format::Json => json_answer(alloc, None, airport, records, plan, asking.question),
-    }
 }
 
 // The answer to a question of a day.
@@ -156,8 +135,10 @@ fn answer_of_base(alloc: Global, asking: Asking, day: &AskedDay) -> Result<Vec<u
     ensures made { IfOk result (λ text. IsView asking.format asking.question (IsAskedOf None day.now.state day.now.scenarios.items) text.items) }
     ensures fault { IfErr result (IsUntold (DayText.Answer asking.question None asking.format) day.now.state day.now.scenarios.items) }
 {
+    let Asking { question, format } = asking;
     let state = &day.state;
-    match answer_in(alloc, asking, state.airport(), state, state.plan()) {
+    let plan = state.plan();
+    match day_answer(alloc, format, state.airport(), state, plan, question) {
         Ok(text) => Ok(text),
         Err(fault) => Err(view_error(fault)),
     }
@@ -174,10 +155,11 @@ fn answer_over(
     ensures made { IfOk result (λ text. IsView asking.format asking.question (IsLaid base.now scenario.now.updates) text.items) }
     ensures fault { IfErr result (IsUntoldOver asking.question base.now name scenario.now) }
 {
+    let Asking { question, format } = asking;
     match Overlay::after(alloc, base, scenario.updates())? {
         Ok(day) => {
             let plan = plan_of(alloc, &day)?;
-            match answer_in(alloc, asking, base.airport(), &day, &plan) {
+            match day_answer(alloc, format, base.airport(), &day, &plan, question) {
                 Ok(text) => Ok(text),
                 Err(fault) => Err(view_error(fault)),
             }
@@ -233,24 +215,28 @@ fn check_known(state: &DayState, asked: Option<FlightName>) -> Result<(), Flight
     }
 }
 
-// What is told of the records of the feed that made a day.
+// What is told of the records of the feed that made a day, from a time on.
 fn trace_in(
     alloc: Global,
     flight: Option<FlightName>,
+    since: Option<Since>,
     format: Format,
     day: &AskedDay,
     feed: &[u8],
 ) -> Result<Vec<u8>, RunError>
     requires { length feed.now ≤ input_limit }
     ensures known { OnOk result (IsKnown flight day.now.state) }
-    ensures made { IfOk result (λ text. IsTrace format flight day.now.state.airport feed.now text.items) }
-    ensures fault { IfErr result (IsUntold (DayText.Trace flight format) day.now.state day.now.scenarios.items) }
+    ensures made { IfOk result (λ text. IsOkAnd (from_minute day.now.state.airport.day since) (λ from. IsTrace format flight from day.now.state.airport feed.now text.items)) }
+    ensures fault { IfErr result (IsUntold (DayText.Trace flight since format) day.now.state day.now.scenarios.items) }
 {
+    let Ok(from) = from_minute(*day.state.day(), since) else {
+        return Err(RunError::OtherDay);
+    };
     if let Err(name) = check_known(&day.state, flight) {
         return Err(RunError::NoFlight(name));
     }
     let airport = day.state.airport().copy(alloc)?;
-    Ok(trace_of(alloc, airport, feed, flight, format)?)
+    Ok(trace_of(alloc, airport, feed, flight, from, format)?)
 }
 
 // What is told of the day that a feed makes.
@@ -280,7 +266,9 @@ fn text_of_day<R: Threads + Sync, G: Gate>(
         DayText::Answer(question, scenario, format) => {
             answer_of(lent.alloc, Asking { question, format }, scenario, day)
         }
-        DayText::Trace(flight, format) => trace_in(lent.alloc, flight, format, day, feed),
+        DayText::Trace(flight, since, format) => {
+            trace_in(lent.alloc, flight, since, format, day, feed)
+        }
     }
 }
 

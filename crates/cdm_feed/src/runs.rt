@@ -36,7 +36,8 @@ pub struct RunCounts {
 /// `Ok` has read the three inputs to their ends, answers what is counted, and has written the whole text and flushed it.
 /// Faults in their order: `Read` and `TooLong` of the airport file, of the feed and of the scenario file; `Airport` and
 /// `Scenario`, the first faulty record of that file and its word, unless a check is asked for, to which these are findings;
-/// `NoFlight`, `NoRunway` and `NoScenario`, where what is asked for isn't known; `Update`, the first refused update of the
+/// `NoFlight`, `NoRunway` and `NoScenario`, where what is asked for isn't known; `OtherDay`, where it is asked from a time of another
+/// day on; `Update`, the first refused update of the
 /// scenario that is asked for; `Memory`, wherever memory was first refused;
 /// `Write`. Before `Write` nothing was written, and at `Write` a prefix of the text was.
 pub fn run_asked<R: Threads + Sync, A: Read, F: Read, S: Read, G: Gate, W: Write>(

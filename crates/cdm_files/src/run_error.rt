@@ -31,6 +31,9 @@ pub enum RunError {
     /// The first update of this scenario that is refused, by its number in the scenario from 1, and the word that refuses it.
     #[error("SCENARIOS scenario {}: update {}: {}", .0.text(), .1, .2)]
     Update(ScenarioName, usize, RefusalWord),
+    /// The time from which is asked isn't one of the airport's two days.
+    #[error("--since names a time outside the airport's two days")]
+    OtherDay,
 }
 
 impl From<CommonFault> for RunError {

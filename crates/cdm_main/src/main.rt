@@ -4,13 +4,19 @@
 ghost use Rattle.std.specs.Prelude.{◌≡◌, false};
 
 mod ending;
+mod explaining;
+mod files;
+mod refused;
 
 use crate::ending::Ending;
+use crate::explaining::explanation;
+use crate::files::{open, open_scenarios, shown_path, unopened};
+use crate::refused::tell_refused;
 use cdm_check::FilePaths;
-pub use cdm_command::{Command, CommandFault, DayFiles, STANDARD_INPUT, command_of};
+pub use cdm_command::{Command, CommandFault, DayFiles, command_of};
 use cdm_day::Airport;
 pub use cdm_fault::{
-    Fault, PathText, ShownPath, UnopenedFile, report_command_fault, report_fault, run_status,
+    Fault, ShownPath, UnopenedFile, report_command_fault, report_fault, run_status,
 };
 use cdm_feed::{
     Asked, Device, Input, Lent, WriteFault, airport_of, read_whole, run_asked, write_text,
@@ -20,7 +26,6 @@ pub use cdm_live::{LiveCounts, LiveError, run_live};
 use cdm_phase::{OpenGate, Workers};
 use cdm_port::{OpenFault, OpenJournal, Streams};
 use cdm_serve::{ServeError, serve};
-use either::Either;
 use std::alloc::{AllocError, Global};
 use std::fs::{File, OpenOptions};
 use std::io::{BufReader, ErrorKind, Read, Write};
@@ -29,7 +34,7 @@ use std::process::ExitCode;
 use std::rt::{Env, Files};
 use std::sync::Wait;
 use std::thread::Threads;
-use std::{env, fs, io};
+use std::{env, io};
 
 /// The descriptor of standard error, the last of the standard streams.
 const LAST_STANDARD: RawFd = 2;
@@ -77,7 +82,25 @@ where
     };
     match run_command(rt, &command, out, errors) {
         Ok(status) => status,
-        Err(fault) => report_fault(&fault, errors),
+        Err(fault) => stop(rt, &command, &fault, errors),
+    }
+}
+
+// Tells the fault that stops a command, and why a record is refused, if it is that. Answers the exit status.
+fn stop<R: AllocGlobal + Files + io::Input + Threads + Sync, E: Write>(
+    rt: &R,
+    command: &Command<'_>,
+    fault: &Fault,
+    errors: &mut Device<E>,
+) -> u8 {
+    match explanation(rt, command, fault) {
+        Ok(Some(line)) => {
+            let status = report_fault(fault, errors);
+            let _ = writeln!(errors, "{line}");
+            status
+        }
+        Ok(None) => report_fault(fault, errors),
+        Err(memory) => report_fault(&memory, errors),
     }
 }
 
@@ -151,43 +174,8 @@ fn print<W: Write>(text: &[u8], out: &mut Device<W>) -> Result<u8, Fault>
     Ok(0)
 }
 
-// Opens a file, or takes standard input where that is its name. A fault is named as the input.
-fn open<R: AllocGlobal + Files + io::Input>(
-    rt: &R,
-    path: &str,
-    input: Input,
-) -> Result<Either<R::File, R::Reader>, Fault> {
-    if path == STANDARD_INPUT {
-        return Ok(Either::Right(rt.reader()));
-    }
-    match fs::open(rt, path) {
-        Ok(file) => Ok(Either::Left(file)),
-        Err(error) => {
-            let file = unopened(rt.alloc(), path, error.kind())?;
-            Err(Fault::CannotOpen(input, file))
-        }
-    }
-}
-
-// A file that can't be opened for this reason.
-fn unopened(alloc: Global, path: &str, kind: ErrorKind) -> Result<UnopenedFile, AllocError> {
-    let path = String::from_str(alloc, path)?;
-    Ok(UnopenedFile { path, kind })
-}
-
-// Opens the scenario file, if one is named. Without one there is no scenario.
-fn open_scenarios<R: AllocGlobal + Files + io::Input>(
-    rt: &R,
-    path: Option<&str>,
-) -> Result<Either<Either<R::File, R::Reader>, &'static [u8]>, Fault> {
-    match path {
-        Some(path) => Ok(Either::Left(open(rt, path, Input::Scenarios)?)),
-        None => Ok(Either::Right(&[])),
-    }
-}
-
 // Writes what is asked of a day and its scenarios, and answers the exit status. A feed whose last line has no end is told,
-// where a check doesn't tell it.
+// where a check doesn't tell it, and so is how many records a plan has refused.
 fn make<R: AllocGlobal + Files + io::Input + Threads + Sync, W: Write, E: Write>(
     rt: &R,
     files: DayFiles<'_>,
@@ -212,7 +200,9 @@ fn make<R: AllocGlobal + Files + io::Input + Threads + Sync, W: Write, E: Write>
     if let Asked::Day(_) = asked {
         tell_unended(&ending, Input::Feed, errors);
     }
-    Ok(run_status(&counted?))
+    let counted = counted?;
+    tell_refused(files, asked, &counted, errors);
+    Ok(run_status(&counted))
 }
 
 // Tells that the last line of a feed has no end, where that is so: it may be the first part of another record.
@@ -331,10 +321,4 @@ fn live<R: AllocGlobal + Files + io::Input + Threads + Wait + Sync, W: Write, E:
     tell_unended(&feed2, Input::Feed2, errors);
     done?;
     Ok(0)
-}
-
-// A path as the lines of a check show it.
-fn shown_path(alloc: Global, path: &str) -> Result<String, AllocError> {
-    let path = PathText(path);
-    format!(in alloc; "{path}")
 }

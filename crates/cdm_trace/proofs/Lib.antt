@@ -1,3 +1,4 @@
 mod TraceLemmas
 mod LineLemmas
+mod SinceLemmas
 pub mod OneTrace

@@ -1,5 +1,5 @@
 -- A feed has one trace.
-use Rattle.std.proofs.Common.{◌≡◌, ◌∙◌, ◌+◌, ℕ, List, [], ◌∷◌, ◌++◌, Option, None, Some, Ok, Err, sym, ap, subst, length, not}
+use Rattle.std.proofs.Common.{◌≡◌, ◌∙◌, ◌+◌, ℕ, Bool, true, false, List, [], ◌∷◌, ◌++◌, Option, None, Some, Ok, Err, sym, ap, subst, length, not}
 use Rattle.std.specs.List.{IsDistinct}
 use Rattle.cdm_flight.specs.Accepted.{accepted, after_one, refusal}
 use Rattle.cdm_flight.specs.Journal.{AirportRows}
@@ -33,7 +33,7 @@ use Rattle.cdm_kinds.specs.declared.format.Format.TheVariants.{Text, Json as AsJ
 use Rattle.cdm_files.specs.Parsing.{parse_of}
 use Rattle.cdm_files.specs.Records.{records_of}
 use Rattle.cdm_files.specs.Refused.{Spelled}
-use Rattle.cdm_trace.specs.Traces.{IsPiece, IsTold, IsTrace, told, told_json}
+use Rattle.cdm_trace.specs.Traces.{IsPiece, IsPieceBy, IsTold, IsTrace, is_before, told, told_json}
 use Rattle.cdm_trace.proofs.TraceLemmas.{first_day}
 
 -- the day's runways have names of their own, and so have its flights
@@ -112,20 +112,25 @@ one_piece AsJson asked d number fields own x y a b =
     let reply : a.0 ≡ b.0 = one_row_reply d spelled own a.0 b.0 a.1 b.1 in
     a.2 ∙ ap (told_json asked d.airport.day number (length (day_after d spelled).journal) fields) reply ∙ sym b.2
 
+one_piece_by : (before : Bool) (format : Format) (asked : Option (List ℕ)) (d : DayRecord) (number : ℕ) (fields : List (List ℕ)) → Own d
+    → (x y : List ℕ) → IsPieceBy before format asked d number fields x → IsPieceBy before format asked d number fields y → x ≡ y
+one_piece_by true format asked d number fields own x y a b = a ∙ sym b
+one_piece_by false format asked d number fields own x y a b = one_piece format asked d number fields own x y a b
+
 -- what is told of records
-one_told : (format : Format) (asked : Option (List ℕ)) (d : DayRecord) (number : ℕ) (records : List (List (List ℕ))) → Own d
-    → (x y : List ℕ) → IsTold format asked d number records x → IsTold format asked d number records y → x ≡ y
-one_told format asked d number [] own x y a b = a ∙ sym b
-one_told format asked d number (fields ∷ records) own x y a b =
+one_told : (from : ℕ) (format : Format) (asked : Option (List ℕ)) (d : DayRecord) (number : ℕ) (records : List (List (List ℕ))) → Own d
+    → (x y : List ℕ) → IsTold from format asked d number records x → IsTold from format asked d number records y → x ≡ y
+one_told from format asked d number [] own x y a b = a ∙ sym b
+one_told from format asked d number (fields ∷ records) own x y a b =
     let spelled = parse_of d.airport.day fields in
-    let piece : a.0 ≡ b.0 = one_piece format asked d number fields own a.0 b.0 a.2 b.2 in
-    let later : a.1 ≡ b.1 = one_told format asked (day_after d spelled) (number + 1) records (own_next d spelled own) a.1 b.1 a.3 b.3 in
+    let piece : a.0 ≡ b.0 = one_piece_by (is_before from (day_after d spelled)) format asked d number fields own a.0 b.0 a.2 b.2 in
+    let later : a.1 ≡ b.1 = one_told from format asked (day_after d spelled) (number + 1) records (own_next d spelled own) a.1 b.1 a.3 b.3 in
     a.4 ∙ ((λ i. piece i ++ later i) ∙ sym b.4)
 
 own_first : (g : AirportRows) → IsAirport g → Own (first_day g)
 unfolding IsDistinct
 own_first g is = (is.names, tt)
 
-pub one : (format : Format) (asked : Option (List ℕ)) (g : AirportRows) (feed : List ℕ) → IsAirport g
-    → (x y : List ℕ) → IsTrace format asked g feed x → IsTrace format asked g feed y → x ≡ y
-one format asked g feed is = one_told format asked (first_day g) 1 (records_of feed) (own_first g is)
+pub one : (format : Format) (asked : Option (List ℕ)) (from : ℕ) (g : AirportRows) (feed : List ℕ) → IsAirport g
+    → (x y : List ℕ) → IsTrace format asked from g feed x → IsTrace format asked from g feed y → x ≡ y
+one format asked from g feed is = one_told from format asked (first_day g) 1 (records_of feed) (own_first g is)

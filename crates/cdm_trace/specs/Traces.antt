@@ -1,11 +1,13 @@
 -- Which record of a feed moved whose start-up.
-use Rattle.std.specs.Prelude.{◌≡◌, ℕ, ◌+◌, List, [], ◌∷◌, ◌++◌, codes, length, map, Option, None, Some, if◌then◌else◌}
+use Rattle.std.specs.Prelude.{◌≡◌, ℕ, ◌+◌, Bool, true, false, nat_lt, List, [], ◌∷◌, ◌++◌, codes, length, map, Option, None, Some, Result, Ok, if◌then◌else◌}
 use Rattle.std.specs.Fmt.{decimal}
 use Rattle.std.specs.List.{concat, find}
 use Rattle.std.specs.Str.{is_utf8}
 use Rattle.json.specs.Json.{Json, null, string}
+use Rattle.cdm_time.specs.Times.{minute_up_to}
 use Rattle.cdm_time.specs.declared.calendar.CalendarDate.{CalendarDate}
-use Rattle.cdm_flight.specs.Journal.{AirportRows}
+use Rattle.cdm_time.specs.declared.day.TimeFault.{TimeFault}
+use Rattle.cdm_flight.specs.Journal.{AirportRows, values_of}
 use Rattle.cdm_flight.specs.Names.{same_name}
 use Rattle.cdm_plan.specs.Day.{DayRecord}
 use Rattle.cdm_report.specs.Report.{line_end}
@@ -103,15 +105,37 @@ IsPiece AsJson asked d number fields piece =
     (reply : RowReply) × IsRowReply d (parse_of d.airport.day fields) reply
     × (piece ≡ told_json asked d.airport.day number (length (day_after d (parse_of d.airport.day fields)).journal) fields reply)
 
--- the text tells of these records, of which the first has this number and comes after this day: what is told of it, and
--- then of the others
-abbrev pub IsTold : Format → Option (List ℕ) → DayRecord → ℕ → List (List (List ℕ)) → List ℕ → Type 0
-IsTold format asked d number [] text = text ≡ []
-IsTold format asked d number (fields ∷ records) text =
-    (piece : List ℕ) × (later : List ℕ) × IsPiece format asked d number fields piece
-    × IsTold format asked (day_after d (parse_of d.airport.day fields)) (number + 1) records later
+-- From which record on.
+
+-- the minute of the airport's two days that a time names, from which records are told: the first, where none is named
+abbrev pub from_minute : CalendarDate → Option (List ℕ) → Result ℕ TimeFault
+from_minute day None = Ok 0
+from_minute day (Some time) = minute_up_to 2879 day time
+
+-- the clock of a day is before this minute
+abbrev pub is_before : ℕ → DayRecord → Bool
+is_before from d = nat_lt (values_of d.journal).clock from
+
+-- what is told of a record of this number that comes after this day: nothing, where the clock is still before a minute
+-- after it
+abbrev pub IsPieceBy : Bool → Format → Option (List ℕ) → DayRecord → ℕ → List (List ℕ) → List ℕ → Type 0
+IsPieceBy true format asked d number fields piece = piece ≡ []
+IsPieceBy false format asked d number fields piece = IsPiece format asked d number fields piece
+
+-- and so from a minute on: since a clock is never set back, from the first record after which it is that minute or later
+abbrev pub IsPieceFrom : ℕ → Format → Option (List ℕ) → DayRecord → ℕ → List (List ℕ) → List ℕ → Type 0
+IsPieceFrom from format asked d number fields =
+    IsPieceBy (is_before from (day_after d (parse_of d.airport.day fields))) format asked d number fields
+
+-- from this minute on the text tells of these records, of which the first has this number and comes after this day: what is
+-- told of it, and then of the others
+abbrev pub IsTold : ℕ → Format → Option (List ℕ) → DayRecord → ℕ → List (List (List ℕ)) → List ℕ → Type 0
+IsTold from format asked d number [] text = text ≡ []
+IsTold from format asked d number (fields ∷ records) text =
+    (piece : List ℕ) × (later : List ℕ) × IsPieceFrom from format asked d number fields piece
+    × IsTold from format asked (day_after d (parse_of d.airport.day fields)) (number + 1) records later
     × (text ≡ piece ++ later)
 
--- the text tells of the records of a feed at an airport
-abbrev pub IsTrace : Format → Option (List ℕ) → AirportRows → List ℕ → List ℕ → Type 0
-IsTrace format asked g feed text = IsTold format asked (record { airport = g; journal = [] }) 1 (records_of feed) text
+-- from this minute on the text tells of the records of a feed at an airport
+abbrev pub IsTrace : Format → Option (List ℕ) → ℕ → AirportRows → List ℕ → List ℕ → Type 0
+IsTrace format asked from g feed text = IsTold from format asked (record { airport = g; journal = [] }) 1 (records_of feed) text

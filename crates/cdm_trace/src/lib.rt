@@ -2,7 +2,9 @@
 #![tactic(auto)]
 
 mod lines;
+mod since;
 mod told;
 mod tracing;
 
+pub use since::{Since, from_minute};
 pub use tracing::trace_of;

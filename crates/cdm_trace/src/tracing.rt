@@ -4,7 +4,7 @@ ghost use Rattle.csv.specs.Records.{fields_of};
 ghost use Rattle.cdm_desk.specs.Replies.{day_after};
 ghost use Rattle.cdm_files.specs.Input.{input_limit};
 ghost use Rattle.cdm_files.specs.Parsing.{parse_of};
-ghost use Rattle.cdm_trace.specs.Traces.{IsPiece, IsTrace};
+ghost use Rattle.cdm_trace.specs.Traces.{IsPiece, IsPieceFrom, IsTrace};
 
 use crate::lines::{line_of_all, line_of_flight};
 use crate::told::told;
@@ -13,6 +13,7 @@ use cdm_desk::DeskDay;
 use cdm_files::{RecordReader, day_of, parse_record};
 use cdm_flight::FlightName;
 use cdm_kinds::Format;
+use cdm_time::Minute;
 use csv::ByteRecord;
 use std::alloc::{AllocError, Global};
 
@@ -69,19 +70,41 @@ fn piece_of(
     }
 }
 
-/// Posts the records of a feed one after the other to the day of an airport, and tells of each what it changed. Without a
-/// flight that is the reply to each record that is refused or by which a flight stands otherwise; of a flight, each record
-/// by which it stands otherwise, and where it stands then. As JSON it is told of Rows: the reply to each record that is
-/// refused or changes a Row, or each record that changes the flight's Row, and that Row.
+// Posts a record to a day, and what is told of it, where the clock is not before this minute after it.
+fn piece_from(
+    alloc: Global,
+    format: Format,
+    desk: &mut DeskDay,
+    asked: Option<FlightName>,
+    from: Minute,
+    number: u32,
+    row: &ByteRecord,
+) -> Result<Vec<u8>, AllocError>
+    ensures piece { IfOk result (λ piece. IsPieceFrom from format asked desk.old number (fields_of row.now) piece.items) }
+    ensures ok { OnOk result (desk.new ≡ day_after desk.old (parse_of desk.old.airport.day (fields_of row.now))) }
+{
+    let piece = piece_of(alloc, format, desk, asked, number, row)?;
+    if desk.state().values().clock.get() < from.get() {
+        return Ok(Vec::new(alloc));
+    }
+    Ok(piece)
+}
+
+/// Posts the records of a feed one after the other to the day of an airport, and tells of each what it changed, from the
+/// first record on after which the clock is this minute or later. Without a flight that is the reply to each record that is
+/// refused or by which a flight stands otherwise; of a flight, each record by which it stands otherwise, and where it stands
+/// then. As JSON it is told of Rows: the reply to each record that is refused or changes a Row, or each record that changes
+/// the flight's Row, and that Row.
 pub fn trace_of(
     alloc: Global,
     airport: Airport,
     feed: &[u8],
     asked: Option<FlightName>,
+    from: Minute,
     format: Format,
 ) -> Result<Vec<u8>, AllocError>
     requires { length feed.now ≤ input_limit }
-    ensures { IfOk result (λ text. IsTrace format asked airport feed.now text.items) }
+    ensures { IfOk result (λ text. IsTrace format asked from airport feed.now text.items) }
 {
     let mut reader = RecordReader::new(alloc, feed);
     let mut row = ByteRecord::new(alloc);
@@ -94,7 +117,7 @@ pub fn trace_of(
             return Ok(text);
         }
         number += 1;
-        let piece = piece_of(alloc, format, &mut desk, asked, number, &row)?;
+        let piece = piece_from(alloc, format, &mut desk, asked, from, number, &row)?;
         text.extend_from_slice(&piece)?;
     }
 }

@@ -2,6 +2,7 @@ pub mod ListLemmas
 pub mod RangeLemmas
 pub mod LoadLemmas
 pub mod ReasonLemmas
+mod CauseLemmas
 pub mod TurnLemmas
 pub mod WaitingLemmas
 pub mod OutcomeLemmas

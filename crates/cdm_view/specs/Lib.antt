@@ -1,4 +1,5 @@
 pub mod Reasons
+pub mod Causes
 pub mod Waits
 pub mod Runs
 pub mod Why

@@ -48,11 +48,16 @@ is_between test numbers k = list_any (λ j. nat_le j k && test j) numbers && lis
 unfoldable pub told_cells : RunwayRules → ℕ → List Slot → List ℕ
 told_cells rules usual slots = filter (is_between (tells rules usual slots) (cells_of rules)) (cells_of rules)
 
--- a cell's columns: its first minute, how many flights it has and may have, and how many of its minutes are closed
+-- the mark of a cell that has more flights than it may
+abbrev pub over_mark : RunwayRules → List Slot → ℕ → List ℕ
+over_mark rules slots k = if nat_lt (cap_of_cell rules k) (length (flights_in_cell rules slots k)) then codes "!" else codes " "
+
+-- a cell's columns: its first minute, how many flights it has and may have, whether those are too many, and how many of its minutes
+-- are closed
 unfoldable pub cell_columns : CalendarDate → RunwayRules → List Slot → ℕ → List ℕ
 cell_columns day rules slots k = concat (
     stamp day (k * rules.cell) ∷ codes " " ∷ right_in 2 (decimal (length (flights_in_cell rules slots k)))
-    ∷ codes "/" ∷ left_in 2 (decimal (cap_of_cell rules k)) ∷ codes " CLOSED " ∷ right_in 2 (decimal (closed_in_cell rules k)) ∷ [])
+    ∷ codes "/" ∷ left_in 2 (decimal (cap_of_cell rules k)) ∷ over_mark rules slots k ∷ codes "CLOSED " ∷ right_in 2 (decimal (closed_in_cell rules k)) ∷ [])
 
 -- a cell's line: its columns, and the names of its flights
 unfoldable pub cell_line : CalendarDate → RunwayRules → List Slot → ℕ → List ℕ

@@ -3,6 +3,7 @@
 #![tactic(auto)]
 
 mod answering;
+mod cause;
 mod cells;
 mod differing;
 mod fault;
@@ -22,6 +23,7 @@ mod waiting_laws;
 mod whys;
 
 pub use answering::answer;
+pub use cause::Cause;
 pub use cells::{
     cap_of_cell, cell_count, closed_in_cell, first_minute, flights_in_cell, is_in_cell, told_cells,
 };
@@ -36,9 +38,9 @@ pub use runs::Run;
 pub use slots::slots_on;
 pub use standing::{Standing, push_standing};
 pub use standings::Standings;
-pub use waiting::exot_to;
+pub use waiting::{Waiting, exot_to};
 pub use waiting_laws::{
-    a_blocked_flight_waits_always, a_placed_flight_waits_its_delay,
+    a_blocked_flight_waits_always, a_placed_flight_waits_its_delay, a_reason_has_a_cause,
     a_waiting_flight_is_placed_or_blocked,
 };
-pub use whys::{waits_of, why};
+pub use whys::{own_slot, waits_for, waits_of, why};

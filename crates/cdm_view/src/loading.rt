@@ -1,5 +1,5 @@
 //! The text of how full the runways are.
-ghost use Rattle.std.specs.Prelude.{◌≡◌, ◌/◌, ◌<◌, ◌++◌, [], List, ℕ, None, codes, filter, flat_map, IfErr, IfOk, OnOk};
+ghost use Rattle.std.specs.Prelude.{◌≡◌, ◌/◌, ◌<◌, ◌++◌, if◌then◌else◌, [], List, ℕ, None, codes, nat_lt, filter, flat_map, IfErr, IfOk, OnOk};
 ghost use Rattle.std.specs.List.{cons_option, find};
 ghost use Rattle.std.specs.Option.{option_copied};
 ghost use Rattle.std.specs.String.{string_bytes};
@@ -27,7 +27,7 @@ use std::fmt::Write;
 /// Its lines, each ended by LF, are the day and the minute that it is now, and for each runway its name and
 /// the length of its cells, and then each cell from the first to the last that has a flight or a closed
 /// minute, or takes another number of flights than the airport's row says: its first minute, how many
-/// flights take off in it and how many it takes, how many of its minutes are closed, and the flights by
+/// flights take off in it and how many it takes, `!` if those are more, how many of its minutes are closed, and the flights by
 /// take-off and name. Each flight of the runway's slots is in one of these lines
 /// (`each_flight_in_one_line`), and the counts add up to them (`counts_add_up`).
 ///
@@ -186,6 +186,13 @@ fn push_cell(
     writeln!(text)
 }
 
+// The mark of a cell with more flights than it takes.
+fn over_mark(count: usize, cap: u16) -> &'static str
+    ensures { result.now ≡ if nat_lt cap count then codes "!" else codes " " }
+{
+    if usize::from(cap) < count { "!" } else { " " }
+}
+
 // A cell's first minute and its counts.
 fn push_columns(
     text: &mut String,
@@ -204,7 +211,8 @@ fn push_columns(
     let count = flights_in_cell(runway, slots, cell);
     let cap = cap_of_cell(runway, cell);
     let closed = closed_in_cell(runway, cell);
-    write!(text, "{from} {count:>2}/{cap:<2} CLOSED {closed:>2}")
+    let mark = over_mark(count, cap);
+    write!(text, "{from} {count:>2}/{cap:<2}{mark}CLOSED {closed:>2}")
 }
 
 // A blank and the name of each flight of the cell.

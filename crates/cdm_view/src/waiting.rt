@@ -1,5 +1,5 @@
 //! What a planned flight waits for.
-ghost use Rattle.std.specs.Prelude.{◌≡◌, ◌≤◌, IfOk, filter, true};
+ghost use Rattle.std.specs.Prelude.{◌≡◌, ◌≤◌, ◌+◌, IfOk, filter, true};
 ghost use Rattle.std.specs.Option.{ForSome, option_map_or};
 ghost use Rattle.cdm_time.specs.Windows.{is_in_tolerance};
 ghost use Rattle.cdm_flight.specs.Journal.{taxi_of};
@@ -21,7 +21,7 @@ use std::marker::Model;
 /// A planned flight with its TOBT and its taxi-out time to its runway, the values of the day, the
 /// runway, and the slots on it that are taken when the flight's turn comes.
 #[derive(Drop)]
-pub(crate) struct Waiting<'a> {
+pub struct Waiting<'a> {
     pub(crate) flight: &'a Flight,
     pub(crate) tobt: Minute,
     pub(crate) exot: u16,
@@ -49,8 +49,15 @@ impl<'a> Model for Waiting<'a> {
 }
 
 impl Waiting<'_> {
+    /// The first minute at which the flight could take off if nothing held it: its TOBT and its taxi-out time.
+    pub fn earliest(&self) -> u16
+        ensures value { result ≡ self.now.tobt + self.now.exot }
+    {
+        self.tobt.get() + self.exot
+    }
+
     // Whether the minute is within the tolerance of the flight's CTOT, if it has one.
-    fn keeps_ctot(&self, minute: Minute) -> bool
+    pub(crate) fn keeps_ctot(&self, minute: Minute) -> bool
         ensures { result ≡ option_map_or (λ c. is_in_tolerance self.now.values.tolerance c minute) self.now.flight.ctot true }
     {
         let flight = self.flight;
@@ -61,7 +68,7 @@ impl Waiting<'_> {
     }
 
     // Whether the flight would meet that of the slot, if it took off at the minute.
-    fn meets(&self, minute: Minute, slot: &Slot) -> bool
+    pub(crate) fn meets(&self, minute: Minute, slot: &Slot) -> bool
         ensures { result ≡ meets (taken_by self.now.rules self.now.flight.group minute) (taken_by self.now.rules slot.now.group slot.now.ttot) }
     {
         let flight = self.flight;

@@ -1,11 +1,12 @@
 //! Laws of waiting: by the plan of the day a flight waits exactly while there is a reason.
-ghost use Rattle.std.specs.Prelude.{◌≡◌, ◌⊎◌, ℕ, ◌+◌, ◌<◌, ◌≤◌, None, Some, IfSome, IsSome, Contains};
+ghost use Rattle.std.specs.Prelude.{◌≡◌, ◌⊎◌, ◌↔◌, ℕ, ◌+◌, ◌<◌, ◌≤◌, None, Some, IfSome, IsSome, Contains};
 ghost use Rattle.std.specs.Option.{IsSomeAnd};
 ghost use Rattle.cdm_flight.specs.declared.flight.Flight.{Flight};
 ghost use Rattle.cdm_sequence.specs.declared.plan.Plan.{Plan};
 ghost use Rattle.cdm_sequence.specs.declared.slot.Slot.{Slot};
 ghost use Rattle.cdm_sequence.specs.declared.slot.BlockedFlight.{BlockedFlight};
 ghost use Rattle.cdm_plan.specs.Day.{DayRecord};
+ghost use Rattle.cdm_view.specs.Causes.{cause_at};
 ghost use Rattle.cdm_view.specs.Reasons.{Waiting, reason_at, slots_on};
 ghost use Rattle.cdm_view.specs.Waits.{Waits, place_of, rule_of};
 
@@ -49,4 +50,10 @@ pub fn a_waiting_flight_is_placed_or_blocked()
     ensures not_both { (d : DayRecord) (plan : Plan) (f : Flight) (w : Waiting) →
         (s : Slot) (b : BlockedFlight) → Waits d plan f w → Contains (slots_on plan w.rules.name) s → s.name ≡ f.name →
         Contains plan.blocked b → b.name ≡ f.name → ⊥ }
+{}
+
+/// A minute has a cause exactly where it has a reason.
+#[tactic(auto, using(crate::proofs::CauseLemmas::both))]
+pub fn a_reason_has_a_cause()
+    ensures { (w : Waiting) (m : ℕ) → IsSome (reason_at w m) ↔ IsSome (cause_at w m) }
 {}

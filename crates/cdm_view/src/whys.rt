@@ -5,13 +5,13 @@ ghost use Rattle.std.specs.Option.{IsSomeAnd, option_copied, option_map_or};
 ghost use Rattle.std.specs.String.{string_bytes};
 ghost use Rattle.cdm_flight.specs.Journal.{flight_of};
 ghost use Rattle.cdm_flight.specs.Names.{same_name};
-ghost use Rattle.cdm_view.specs.Why.{AreWaits, IsWhy, IsWhyFault, exot_known, outcome_line, own_slot};
+ghost use Rattle.cdm_view.specs.Why.{AreWaits, IsWhy, IsWhyFault, exot_known, outcome_line, own_slot, waits_for};
 
 use crate::fault::ViewFault;
 use crate::lines::{push_flight, push_left, push_planned, push_runs, push_times};
 use crate::runs::{Run, runs_of};
 use crate::slots::slots_on;
-use crate::waiting::{exot_to, waiting_of};
+use crate::waiting::{Waiting, exot_to, waiting_of};
 use cdm_flight::{Flight, FlightName, Status};
 use cdm_plan::Records;
 use cdm_report::push_day;
@@ -27,8 +27,8 @@ fn slot_named(slots: &[Slot], name: FlightName) -> Option<&Slot>
     slots.iter().find(|slot| slot.name == name)
 }
 
-// The flight's slot on its runway.
-fn own_slot<'a>(plan: &'a Plan, flight: &Flight) -> Option<&'a Slot>
+/// The flight's slot on its runway, if it has one.
+pub fn own_slot<'a>(plan: &'a Plan, flight: &Flight) -> Option<&'a Slot>
     ensures { option_copied result ≡ own_slot plan.entry.now flight.now }
 {
     let runway = flight.runway?;
@@ -63,6 +63,22 @@ fn end_of_wait(slot: Option<&Slot>) -> Bound
     }
 }
 
+/// What the flight waits for on its stand: nothing once it has left or is cancelled, nor without a TOBT, a runway of the
+/// airport and a taxi-out time to it.
+pub fn waits_for<'a, R: Records>(
+    alloc: Global,
+    records: &'a R,
+    plan: &Plan,
+    flight: &'a Flight,
+) -> Result<Option<Waiting<'a>>, AllocError>
+    ensures { IfOk result (λ waiting. waiting ≡ waits_for (R.day records.now) plan.entry.now flight.now) }
+{
+    if flight.status != Status::Planned {
+        return Ok(None);
+    }
+    waiting_of(alloc, records, plan, flight)
+}
+
 /// The runs of minutes for which a planned flight waits for the same, from its TOBT and taxi-out time up to its
 /// take-off, or up to the horizon's end where it is blocked. No run of a flight that waits for nothing.
 pub fn waits_of<R: Records>(
@@ -73,10 +89,7 @@ pub fn waits_of<R: Records>(
 ) -> Result<Vec<Run>, AllocError>
     ensures { IfOk result (λ runs. AreWaits (R.day records.now) plan.entry.now flight.now runs.items) }
 {
-    if flight.status != Status::Planned {
-        return Ok(Vec::new(alloc));
-    }
-    match waiting_of(alloc, records, plan, flight)? {
+    match waits_for(alloc, records, plan, flight)? {
         Some(waiting) => runs_of(alloc, &waiting, end_of_wait(own_slot(plan, flight))),
         None => Ok(Vec::new(alloc)),
     }

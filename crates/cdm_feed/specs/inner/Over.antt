@@ -2,7 +2,7 @@
 use Rattle.std.specs.Prelude.{◌≡◌, ⊤, ℕ, List, Err}
 use Rattle.cdm_plan.specs.Day.{DayRecord}
 use Rattle.cdm_view.specs.declared.fault.ViewFault.TheVariants as view
-use Rattle.cdm_view.specs.declared.question.Question.{Question}
+use Rattle.cdm_shift.specs.declared.question.DayQuestion.{DayQuestion}
 use Rattle.cdm_scenario.specs.Outcome.{IsLaid}
 use Rattle.cdm_scenario.specs.Scenarios.{ScenarioRecord}
 use Rattle.cdm_files.specs.declared.common_fault.CommonFault.TheVariants as common
@@ -12,7 +12,7 @@ use Rattle.cdm_feed.specs.Made.{HasNoView}
 
 -- a word refuses an update of the scenario, which is asked for by this name, the flight or the runway isn't known, or there is
 -- no memory
-abbrev pub IsUntoldOver : Question → DayRecord → List ℕ → ScenarioRecord → RunError → Type 0
+abbrev pub IsUntoldOver : DayQuestion → DayRecord → List ℕ → ScenarioRecord → RunError → Type 0
 IsUntoldOver question d asked s (error.Common common.Memory) = ⊤
 IsUntoldOver question d asked s (error.NoFlight name) = HasNoView question (IsLaid d s.updates) (view.NoFlight name)
 IsUntoldOver question d asked s (error.NoRunway name) = HasNoView question (IsLaid d s.updates) (view.NoRunway name)

@@ -5,7 +5,7 @@ mod help;
 mod memory;
 
 use cdm_command::{Command, CommandFault, DayFiles, command_of};
-use cdm_feed::DayText;
+use cdm_feed::{Ahead, DayQuestion, DayText, GroupBy, ShiftQuestion, Since};
 use cdm_flight::{FlightName, RunwayName};
 use cdm_kinds::Format;
 use cdm_phase::Workers;
@@ -16,6 +16,9 @@ use std::alloc::Global;
 
 /// How the text of wrong words ends.
 const TRY: &str = "For more information, try '--help'.\n";
+
+/// A time of the second day.
+const TIME: &str = "2025-03-11T23:59Z";
 
 // Whether the words ask that this is told of the files a.csv and f.csv, and of these scenarios, by so many workers.
 fn is_told(
@@ -86,12 +89,40 @@ fn plans_with_one_worker_or_as_many_as_asked_for(rt: HostRuntime) {
 fn questions_name_a_flight_or_a_runway(rt: HostRuntime) {
     let flight = FlightName::new(b"AB12345").expect(&rt, "flight");
     let runway = RunwayName::new(b"27L").expect(&rt, "runway");
-    let table: [(&[&str], Question); 3] = [
-        (&["why", "a.csv", "f.csv", "AB12345"], Question::Why(flight)),
-        (&["load", "a.csv", "f.csv"], Question::Load(None)),
+    let usual = Ahead::new(60).expect(&rt, "minutes");
+    let longest = Ahead::new(2880).expect(&rt, "minutes");
+    let table: [(&[&str], DayQuestion); 8] = [
+        (
+            &["why", "a.csv", "f.csv", "AB12345"],
+            DayQuestion::View(Question::Why(flight)),
+        ),
+        (
+            &["load", "a.csv", "f.csv"],
+            DayQuestion::View(Question::Load(None)),
+        ),
         (
             &["load", "a.csv", "f.csv", "27L"],
-            Question::Load(Some(runway)),
+            DayQuestion::View(Question::Load(Some(runway))),
+        ),
+        (
+            &["next", "a.csv", "f.csv"],
+            DayQuestion::Shift(ShiftQuestion::Next(usual)),
+        ),
+        (
+            &["next", "a.csv", "f.csv", "2880"],
+            DayQuestion::Shift(ShiftQuestion::Next(longest)),
+        ),
+        (
+            &["warnings", "a.csv", "f.csv"],
+            DayQuestion::Shift(ShiftQuestion::Warnings),
+        ),
+        (
+            &["causes", "a.csv", "f.csv"],
+            DayQuestion::Shift(ShiftQuestion::Causes(GroupBy::All)),
+        ),
+        (
+            &["causes", "a.csv", "f.csv", "--by", "operator"],
+            DayQuestion::Shift(ShiftQuestion::Causes(GroupBy::Operator)),
         ),
     ];
     for (words, question) in table {
@@ -113,14 +144,27 @@ fn format_in(line: &str) -> Format {
 fn questions_are_asked_of_a_scenario(rt: HostRuntime) {
     let flight = FlightName::new(b"AB1").expect(&rt, "flight");
     let name = ScenarioName::new(b"SHUT-2").expect(&rt, "scenario");
+    let five = Ahead::new(5).expect(&rt, "minutes");
     let table = [
         (
             "why a.csv f.csv AB1 --scenarios s.csv --scenario SHUT-2",
-            Question::Why(flight),
+            DayQuestion::View(Question::Why(flight)),
         ),
         (
             "load a.csv --scenario SHUT-2 f.csv --scenarios s.csv --format json",
-            Question::Load(None),
+            DayQuestion::View(Question::Load(None)),
+        ),
+        (
+            "next a.csv f.csv 5 --scenarios s.csv --scenario SHUT-2",
+            DayQuestion::Shift(ShiftQuestion::Next(five)),
+        ),
+        (
+            "warnings a.csv f.csv --scenarios s.csv --scenario SHUT-2",
+            DayQuestion::Shift(ShiftQuestion::Warnings),
+        ),
+        (
+            "causes a.csv f.csv --by runway --scenarios s.csv --format json --scenario SHUT-2",
+            DayQuestion::Shift(ShiftQuestion::Causes(GroupBy::Runway)),
         ),
     ];
     for (line, question) in table {
@@ -193,8 +237,11 @@ fn traces_checks_and_served_days_have_a_format(rt: HostRuntime) {
     let (airport, journal) = ("a.csv", "j.csv");
     for (word, format) in [("text", Format::Text), ("json", Format::Json)] {
         let trace = ["trace", "a.csv", "f.csv", "--format", word];
-        let told = DayText::Trace(None, format);
+        let told = DayText::Trace(None, None, format);
         assert!(rt; is_told(alloc, &trace, None, told, 1), "{word}");
+        let later = ["trace", "a.csv", "f.csv", "--since", TIME, "--format", word];
+        let told = DayText::Trace(None, Since::new(TIME.as_bytes()), format);
+        assert!(rt; is_told(alloc, &later, None, told, 1), "{word}");
         let check = ["check", "--format", word, "a.csv", "f.csv"];
         let wanted = Command::Check { files, format };
         assert!(rt; is_command(alloc, &check, &wanted), "{word}");
@@ -282,6 +329,20 @@ fn other_wrong_words_are_told(rt: HostRuntime) {
         ("load a", "<FEED>"),
         ("load a f ", "invalid value '' for '[RUNWAY]'"),
         ("load a f 27L 09", "unexpected argument '09'"),
+        ("next a f 0", "0 is not in 1..=2880"),
+        ("next a f 2881", "2881 is not in 1..=2880"),
+        ("next a f 2.5", "value '2.5' for '[MINUTES]'"),
+        (
+            "causes a f --by flight",
+            "value 'flight' for '--by <GROUP>'",
+        ),
+        ("warnings a f AB1", "unexpected argument 'AB1'"),
+        ("next a f 5 --scenario SHUT", "--scenarios <FILE>"),
+        (
+            "trace a f --since 2025-03-10T06:30",
+            "value '2025-03-10T06:30' for '--since <TIME>'",
+        ),
+        ("trace a f --since", "required for '--since <TIME>'"),
         ("help fly", "unrecognized subcommand 'fly'"),
         ("help plan live", "unexpected argument 'live'"),
     ];

@@ -12,8 +12,8 @@ returns-clause-text g c =
     let last = c.in_ok-last.last.items in
     let first = c.in_ok-extend_from_slice.ensures.items ∙ ap (λ (x : List ℕ). found ++ x) c.deref-2.ensures.value in
     let second = c.in_ok-extend_from_slice-2.ensures.items ∙ (λ i. first i ++ c.deref-4.ensures.value i) in
-    let third = c.in_ok-extend_from_slice-3.ensures.items ∙ (λ i. second i ++ c.deref-6.ensures.value i) in
-    let fourth = c.in_ok-extend_from_slice-4.ensures.items ∙ (λ i. third i ++ c.deref-7.ensures.value i) in
+    let third = c.in_ok-extend_from_slice-3.ensures.items ∙ (λ i. second i ++ c.deref-7.ensures.value i) in
+    let fourth = c.in_ok-extend_from_slice-4.ensures.items ∙ (λ i. third i ++ c.deref-8.ensures.value i) in
     let told = c.in_ok-last.ensures ∙ (λ i. last_line c.args.format (c.in_ok-records.ensures i) (c.in_ok-told.ensures.refused i)) in
     record {
       found = found;

@@ -7,8 +7,8 @@ use Rattle.cdm_feed.specs.inner.Over.{IsUntoldOver}
 use Rattle.cdm_feed.proofs.AskedLemmas.{over_fault}
 use Rattle.cdm_feed.proofs.making.answer_over.Goals as goal
 
-pub returns-in-Ok-answer_in-clause-made : goal.returns-in-Ok-answer_in-clause-made
-returns-in-Ok-answer_in-clause-made c =
+pub returns-in-Ok-day_answer-clause-made : goal.returns-in-Ok-day_answer-clause-made
+returns-in-Ok-day_answer-clause-made c =
     let base = c.args.base.now in
     let laid = subst (λ (us : List Update). IsLaid base us c.in_ok-day.field-0) c.updates.ensures.value c.in_ok-day.ensures in
     record {
@@ -16,7 +16,7 @@ returns-in-Ok-answer_in-clause-made c =
       is_day = subst (λ (r : Result DayRecord (ℕ × RefusalWord)). IsLaid base c.args.scenario.now.updates r) c.in-Ok.is laid;
       plan = c.in_ok-plan-in-Ok.plan;
       of_day = c.in_ok-plan-in-Ok.ensures.of_day;
-      answer = c.in-Ok-answer_in.ensures.answer;
+      answer = c.in-Ok-day_answer.ensures.answer;
     }
 
 pub returns-in-Ok-clause-fault : goal.returns-in-Ok-clause-fault
@@ -26,4 +26,4 @@ returns-in-Ok-clause-fault c =
     let laid = subst (λ (us : List Update). IsLaid base us c.in_ok-day.field-0) c.updates.ensures.value c.in_ok-day.ensures in
     let of_day = subst (λ (r : Result DayRecord (ℕ × RefusalWord)). IsLaid base s.updates r) c.in-Ok.is laid in
     subst (IsUntoldOver c.args.asking.question base c.args.name s) (sym c.view_error.ensures)
-    (over_fault c.args.asking.question base c.args.name s c.in-Ok.day of_day c.in-Err-answer_in.fault c.in-Err-answer_in.ensures.fault)
+    (over_fault c.args.asking.question base c.args.name s c.in-Ok.day of_day c.in-Err-day_answer.fault c.in-Err-day_answer.ensures.fault)

@@ -52,6 +52,10 @@ fn faults_have_lines(rt: HostRuntime) {
         (NoMemory, "out of memory"),
         (Run(disordered), "SCENARIOS record 1: ORDER"),
         (Run(RunError::NoScenario(night)), "no scenario NIGHT"),
+        (
+            Run(RunError::OtherDay),
+            "--since names a time outside the airport's two days",
+        ),
         (Run(update), "SCENARIOS scenario NIGHT: update 2: UNKNOWN"),
         (
             Live(LiveError::HistoryFull),

@@ -8,17 +8,28 @@ TOBT   target|EXOT   estimated|CTOT   calculated|TSAT   target|TTOT   target|\
 \nDAY,2025-03-10\n|\nRUNWAY,27L,10,2\n|\nTAXI,*,27L,15\n|\nTAXI,A1,27L,10\n|\nSPACE,27L,H,2\n|\
 DAY,day|RUNWAY,runway,cell,cap|TAXI,stand,runway,minutes|\
 SPACE,runway,group,minutes|AP,GROUP,|SPACING  at|\
-SCENARIO,name|\nSCENARIO,SHUT\n|SCENARIO each|DELTA: the numbers|\
+SCENARIO,name|\nSCENARIO,SHUT\n|SCENARIO each|DELTA    the change|\
 AP,FLT,|AO,TOBT,|AP,STAND,|ATC,RWY,|NM,CTOT,|GH,ICE,|ATC,PRIO,|ATC,OFF,|ATC,AIR,|AO,CNL,|\
 ATC,RATE,|ATC,CLOSE,|ATC,OPEN,|ATC,TAXI,|ATC,CLOCK,|NM,TOL,|P  planned|O  off-block|A  airborne|\
 PLACED|DELAY|MAX|LATE|BLOCKED|FIELDS |ROLE |KIND |TEXT |RANGE |AUTHORITY |UNKNOWN |EXISTS |\
-ENDED |OFFBLOCK |ORDER |NOTREADY |FULL |TOBT     it|RUNWAY   it|EXOT     no|HORIZON  it|\
-CTOT     no|CLOSURE  all|RATE     those|0  done|1  a file|2  the words|3  a file|4  check|named -,|\
-FEED1 and FEED2|DESK     the|MOVED    how|scenario,flight,status,|WAIT     the|RATE     so many|RUNWAY   in load|picture draws|two runs may print different texts";
+ENDED |OFFBLOCK |ORDER |NOTREADY |FULL |TOBT     the|RUNWAY   it|EXOT     its|HORIZON  it|\
+CTOT     it|CLOSURE  the|RATE     the|0  the complete|1  a file|2  usage error|3  a file|4  check|- reads|\
+FEED1 and FEED2|DESK     the|MOVED    how|scenario,flight,status,|WAIT     for|RATE     the cell|RUNWAY   each|\
+picture draws|two runs may print different texts|\
+\nPLAN\n|\nNEXT\n|\nWARNINGS\n|\nCAUSES\n|\nCOMPARE\n|\nWHY\n|\nLOAD\n|\nTRACE\n|\nPICTURE\n|\nLIVE\n|\nSERVE\n|\nCHECK\n|\
+\nKINDS\n|\nJSON\n|\nSTATUS\n|\nTHE BOARD\n|OVERDUE  off-block|--since  lists|--by operator";
 
 const ALL: &str = "Usage: cdmseq <COMMAND>";
 
 const PLAN: &str = "Usage: cdmseq plan [OPTIONS] <AIRPORT> <FEED>";
+
+const NEXT: &str = "Usage: cdmseq next [OPTIONS] <AIRPORT> <FEED> [MINUTES]";
+
+const WARNINGS: &str = "Usage: cdmseq warnings [OPTIONS] <AIRPORT> <FEED>";
+
+const CAUSES: &str = "Usage: cdmseq causes [OPTIONS] <AIRPORT> <FEED>";
+
+const TRACE: &str = "Usage: cdmseq trace [OPTIONS] <AIRPORT> <FEED> [FLIGHT]";
 
 const COMPARE: &str = "Usage: cdmseq compare [OPTIONS] <AIRPORT> <FEED> <SCENARIOS> [NAME]";
 
@@ -49,12 +60,12 @@ fn has_short_lines(text: &str) -> bool {
     text.lines().all(|line| line.len() <= 80)
 }
 
-// Whether it is a help of one screen with this usage and an example, which names the manual.
+// Whether it is a help of 28 lines at most with this usage and an example, which names the manual.
 fn is_help(text: &str, usage: &str) -> bool {
     text.contains(usage)
-        && text.contains("\nFor example:\n  cdmseq ")
-        && text.ends_with("The whole manual: cdmseq help | less\n")
-        && text.lines().count() <= 24
+        && text.contains("\nExamples:\n  cdmseq ")
+        && text.ends_with("Full manual: cdmseq help | less\n")
+        && text.lines().count() <= 28
         && has_short_lines(text)
 }
 
@@ -65,7 +76,7 @@ fn prints_help(alloc: Global, words: &[&str], usage: &str) -> bool {
 
 #[test]
 fn help_of_a_command_is_a_screen(rt: HostRuntime) {
-    let table: [(&[&str], &str); 15] = [
+    let table: [(&[&str], &str); 19] = [
         (&["-h"], ALL),
         (&["--help"], ALL),
         (&["plan", "-h"], PLAN),
@@ -73,6 +84,10 @@ fn help_of_a_command_is_a_screen(rt: HostRuntime) {
         (&["plan", "a", "-h"], PLAN),
         (&["help", "plan"], PLAN),
         (&["manual", "plan"], PLAN),
+        (&["help", "next"], NEXT),
+        (&["help", "warnings"], WARNINGS),
+        (&["help", "causes"], CAUSES),
+        (&["help", "trace"], TRACE),
         (&["help", "compare"], COMPARE),
         (&["help", "why"], WHY),
         (&["load", "--help"], LOAD),
@@ -113,6 +128,6 @@ fn the_manual_and_the_version_are_printed(rt: HostRuntime) {
     }
     for words in [["--version"], ["-V"]] {
         let version = printed(alloc, &words);
-        assert_eq!(rt; version.as_deref(), Some("cdmseq 0.1.0\n"), "{words:?}");
+        assert_eq!(rt; version.as_deref(), Some("cdmseq 1.0.0\n"), "{words:?}");
     }
 }

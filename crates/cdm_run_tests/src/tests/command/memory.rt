@@ -37,8 +37,8 @@ fn refused_memory_tells_no_half_text(rt: HostRuntime) {
         (&["why", "a.csv", "f.csv", "AB1"], "f.csv"),
         (&["load", "a.csv", "f.csv", "27-L"], TRY),
         (&["kinds", "--format", "json"], "kinds"),
-        (&["--version"], "cdmseq 0.1.0\n"),
-        (&["help"], "wrong with the words of status 2.\n"),
+        (&["--version"], "cdmseq 1.0.0\n"),
+        (&["help"], "it has the error and a hint.\n"),
         (&["help", "plan"], "cdmseq help | less\n"),
         (&["plan", "a.csv", "f.csv", "--workers", "65"], TRY),
     ];

@@ -2,7 +2,9 @@
 use super::runs::{AIRPORT, FEED, is_made_of};
 use crate::tests::devices::{Page, Source};
 use cdm_check::FilePaths;
-use cdm_feed::{Asked, CommonFault, Counted, DayText, Device, Lent, RunError, run_asked};
+use cdm_feed::{
+    Asked, CommonFault, Counted, DayQuestion, DayText, Device, Lent, RunError, run_asked,
+};
 use cdm_flight::FlightName;
 use cdm_kinds::Format;
 use cdm_phase::{OpenGate, Workers};
@@ -49,6 +51,11 @@ const SECOND: &str = "{\"record\":2,\"fields\":[\"ATC\",\"RWY\",\"AB1\",\"27L\"]
 
 const THIRD: &str =
     "{\"record\":3,\"fields\":[\"AO\",\"TOBT\",\"AB1\",\"2025-03-10T06:00Z\"],\"row\":";
+
+/// What a check says of the scenario.
+const HINT: &str = "\
+{\"path\":\"s.csv\",\"hint\":\"line 2: update 1 of BAD is refused: UNKNOWN: AB3 has no FLT that was accepted before this \
+record\"}\n";
 
 // What a run that is asked for this of one flight and a scenario answers, and what it has written.
 fn ask<R: AllocGlobal + Threads + Sync + Abort>(
@@ -111,12 +118,15 @@ fn refused_memory_in_lines_of_json(rt: HostRuntime) {
             &[LINE, REFUSED],
         ),
         (
-            DayText::Answer(Question::Why(flight), None, json),
+            DayText::Answer(DayQuestion::View(Question::Why(flight)), None, json),
             &["{\"row\":", ROW, WHY],
         ),
-        (DayText::Answer(Question::Load(None), None, json), &[LOAD]),
         (
-            DayText::Trace(Some(flight), json),
+            DayText::Answer(DayQuestion::View(Question::Load(None)), None, json),
+            &[LOAD],
+        ),
+        (
+            DayText::Trace(Some(flight), None, json),
             &[
                 FIRST,
                 NEW,
@@ -133,6 +143,6 @@ fn refused_memory_in_lines_of_json(rt: HostRuntime) {
     for (text, parts) in table {
         assert!(rt; is_written(&rt, &Asked::Day(text), parts), "{text:?}");
     }
-    let counts = ["{\"records\":9,\"refused\":0}\n"];
-    assert!(rt; is_written(&rt, &Asked::Check(paths, json), &counts));
+    let found = [HINT, "{\"records\":9,\"refused\":0}\n"];
+    assert!(rt; is_written(&rt, &Asked::Check(paths, json), &found));
 }

@@ -20,6 +20,7 @@ returns c =
       count,
       cap,
       closed,
+      c.over_mark-mark.ensures,
       c.flights_in_cell-count.ensures,
       c.cap_of_cell-cap.ensures,
       c.closed_in_cell-closed.ensures,

@@ -1,0 +1,9 @@
+mod LineFeeds
+mod Values
+mod Texts
+mod AnswerLemmas
+mod TableLemmas
+mod KindLemmas
+mod CheckLemmas
+mod TraceLemmas
+mod ReplyLemmas

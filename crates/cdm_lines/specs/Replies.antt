@@ -1,0 +1,26 @@
+-- What each reply of a served day keeps.
+use Rattle.std.specs.Prelude.{⊤, ℕ, List, [], ◌∷◌}
+use Rattle.cdm_port.specs.Event.{Event}
+use Rattle.cdm_port.specs.Event.Event.{Replied}
+use Rattle.cdm_port.specs.Stop.{IsPrefix}
+use Rattle.cdm_lines.specs.Lines.{IsLine}
+
+-- where it is a reply, it is one line
+abbrev pub RepliesLine : Event → Type 0
+RepliesLine (Replied text) = IsLine text
+RepliesLine other = ⊤
+
+-- where it is a reply, it is the first bytes of a line
+abbrev pub BeginsLine : Event → Type 0
+BeginsLine (Replied text) = (line : List ℕ) × IsLine line × IsPrefix text line
+BeginsLine other = ⊤
+
+-- an event before these others: only the last may have stopped in its midst
+abbrev pub RepliesBefore : Event → List Event → Type 0
+RepliesBefore event [] = BeginsLine event
+RepliesBefore event (next ∷ later) = RepliesLine event
+
+-- each reply is one line, of which the last may be incomplete
+abbrev pub AreReplyLines : List Event → Type 0
+AreReplyLines [] = ⊤
+AreReplyLines (event ∷ later) = RepliesBefore event later × AreReplyLines later

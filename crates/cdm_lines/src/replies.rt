@@ -1,0 +1,37 @@
+//! Laws of a served day.
+ghost use Rattle.std.specs.Prelude.{◌∷◌, [], ℕ, Bool, List, codes};
+ghost use Rattle.std.specs.List.{AllByRecursion};
+ghost use Rattle.cdm_flight.specs.Journal.{AirportRows};
+ghost use Rattle.cdm_journal.specs.Lines.{LineRecord};
+ghost use Rattle.cdm_kinds.specs.declared.format.Format.TheVariants as format;
+ghost use Rattle.cdm_plan.specs.Airport.{IsAirport};
+ghost use Rattle.cdm_plan.specs.Day.{DayRecord};
+ghost use Rattle.cdm_port.specs.Event.{Event};
+ghost use Rattle.cdm_row.specs.Json.{count_json, object_of};
+ghost use Rattle.cdm_serve.specs.Requests.{request_of};
+ghost use Rattle.cdm_serve.specs.Served.{IsHeard, IsReplyTo, IsServed, IsStopped, answered};
+ghost use Rattle.cdm_lines.specs.Lines.{FitsLine};
+ghost use Rattle.cdm_lines.specs.Replies.{AreReplyLines, RepliesLine};
+
+/// How many updates the day has at the start.
+pub fn ready_fits_line()
+    ensures { (count : ℕ) → FitsLine (object_of ((codes "ready", count_json count) ∷ [])) }
+{}
+
+/// A line of the input has one line as its reply, whatever it says or asks; a blank one has none.
+pub fn replies_are_lines()
+    ensures { (d : DayRecord) (line : LineRecord) (number : ℕ) (reply : List ℕ) → IsAirport d.airport →
+        IsReplyTo format.Json d number (request_of d.airport.day line) reply → AllByRecursion RepliesLine (answered d line reply) }
+{}
+
+/// Whatever happens while a day is served, each reply is one line.
+pub fn served_replies_are_lines()
+    ensures { (g : AirportRows) (marked : Bool) (bytes : List ℕ) (next : Event) (whole : List Event) → IsAirport g → IsHeard next →
+        IsServed format.Json g marked bytes next whole → AllByRecursion RepliesLine whole }
+{}
+
+/// Wherever a served day stops, each reply is one line, of which the last may be incomplete.
+pub fn stopped_replies_are_lines()
+    ensures { (g : AirportRows) (marked : Bool) (done : List Event) → IsAirport g → IsStopped format.Json g marked done →
+        AreReplyLines done }
+{}

@@ -1,0 +1,66 @@
+//! The files that the words name.
+
+use cdm_command::STANDARD_INPUT;
+use cdm_fault::{Fault, PathText, UnopenedFile};
+use cdm_feed::Input;
+use either::Either;
+use std::alloc::{AllocError, Global};
+use std::fs::Files;
+use std::io::ErrorKind;
+use std::{fs, io};
+
+/// Opens a file, or takes standard input where that is its name. A fault is named as the input.
+pub(crate) fn open<R: AllocGlobal + Files + io::Input>(
+    rt: &R,
+    path: &str,
+    input: Input,
+) -> Result<Either<R::File, R::Reader>, Fault> {
+    if path == STANDARD_INPUT {
+        return Ok(Either::Right(rt.reader()));
+    }
+    match fs::open(rt, path) {
+        Ok(file) => Ok(Either::Left(file)),
+        Err(error) => {
+            let file = unopened(rt.alloc(), path, error.kind())?;
+            Err(Fault::CannotOpen(input, file))
+        }
+    }
+}
+
+/// A file that can't be opened for this reason.
+pub(crate) fn unopened(
+    alloc: Global,
+    path: &str,
+    kind: ErrorKind,
+) -> Result<UnopenedFile, AllocError> {
+    let path = String::from_str(alloc, path)?;
+    Ok(UnopenedFile { path, kind })
+}
+
+/// Opens the scenario file, if one is named. Without one there is no scenario.
+pub(crate) fn open_scenarios<R: AllocGlobal + Files + io::Input>(
+    rt: &R,
+    path: Option<&str>,
+) -> Result<Either<Either<R::File, R::Reader>, &'static [u8]>, Fault> {
+    match path {
+        Some(path) => Ok(Either::Left(open(rt, path, Input::Scenarios)?)),
+        None => Ok(Either::Right(&[])),
+    }
+}
+
+/// Whether a path names a regular file, which can be read a second time.
+pub(crate) fn is_regular<R: Files>(rt: &R, path: &str) -> bool {
+    if path == STANDARD_INPUT {
+        return false;
+    }
+    match fs::metadata(rt, path) {
+        Ok(found) => found.is_file(),
+        Err(_) => false,
+    }
+}
+
+/// A path as the lines of a check show it.
+pub(crate) fn shown_path(alloc: Global, path: &str) -> Result<String, AllocError> {
+    let path = PathText(path);
+    format!(in alloc; "{path}")
+}

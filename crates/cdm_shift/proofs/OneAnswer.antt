@@ -1,0 +1,45 @@
+-- A question has one answer.
+use Rattle.std.proofs.Common.{◌≡◌, ◌∙◌, ℕ, List, Option, None, Some, ap, sym}
+use Rattle.std.specs.List.{IsDistinct}
+use Rattle.cdm_flight.specs.Names.{same_name}
+use Rattle.cdm_kinds.specs.declared.format.Format.{Format}
+use Rattle.cdm_kinds.specs.declared.format.Format.TheVariants.{Text, Json}
+use Rattle.cdm_runway.specs.Rules.{RunwayRules}
+use Rattle.cdm_sequence.specs.declared.plan.Plan.{Plan}
+use Rattle.cdm_plan.specs.Airport.{IsAirport}
+use Rattle.cdm_plan.specs.Day.{DayRecord, flights_in}
+use Rattle.cdm_plan.specs.DayPlan.{IsDayPlan}
+use Rattle.cdm_plan.proofs.NameLemmas.{in_order}
+use Rattle.cdm_json.proofs.OneAnswer.{answer_one as json_one}
+use Rattle.cdm_row.specs.declared.row.Row.{Row}
+use Rattle.cdm_row.proofs.RowLemmas.{one_rows}
+use Rattle.cdm_view.proofs.AnswerLemmas.{answer_one as text_one}
+use Rattle.cdm_shift.specs.Answers.{IsDayAnswer, IsOfRows, IsOfRunways}
+use Rattle.cdm_shift.specs.Lines.{causes_text, next_text, warnings_text}
+use Rattle.cdm_shift.specs.Objects.{causes_lines, next_lines, warning_lines}
+use Rattle.cdm_shift.specs.declared.question.DayQuestion.{DayQuestion}
+use Rattle.cdm_shift.specs.declared.question.DayQuestion.TheVariants.{View, Shift}
+use Rattle.cdm_shift.specs.declared.question.ShiftQuestion.{ShiftQuestion}
+use Rattle.cdm_shift.specs.declared.question.ShiftQuestion.TheVariants.{Next, Warnings, Causes}
+
+module _ (d : DayRecord) (plan : Plan) (airport : IsAirport d.airport) (flights : IsDistinct same_name (flights_in d.journal)) (is : IsDayPlan d plan) where
+  of_rows : (bytes : List Row → List ℕ) (x y : List ℕ) → IsOfRows d plan bytes x → IsOfRows d plan bytes y → x ≡ y
+  of_rows bytes x y (xs, these, a) (ys, those, b) =
+      a ∙ ap bytes (one_rows d plan airport.names flights is xs ys these those) ∙ sym b
+
+  of_runways : (bytes : List Row → List RunwayRules → List ℕ) (x y : List ℕ) → IsOfRunways d plan bytes x → IsOfRunways d plan bytes y → x ≡ y
+  of_runways bytes x y (xs, rs, these, by, a) (ys, ss, those, also, b) =
+      let rows : xs ≡ ys = one_rows d plan airport.names flights is xs ys these those in
+      let runways : rs ≡ ss = in_order d rs airport by ∙ sym (in_order d ss airport also) in
+      a ∙ (λ i. bytes (rows i) (runways i)) ∙ sym b
+
+pub answer_one : (format : Format) (question : DayQuestion) (d : DayRecord) (plan : Plan) (x y : List ℕ) → IsAirport d.airport
+    → IsDistinct same_name (flights_in d.journal) → IsDayPlan d plan → IsDayAnswer format question d plan x → IsDayAnswer format question d plan y → x ≡ y
+answer_one Text (View question) d plan x y airport flights is a b = text_one question d plan x y airport a b
+answer_one Json (View question) d plan x y airport flights is a b = json_one question d None plan x y airport flights is a b
+answer_one Text (Shift (Next minutes)) d plan x y airport flights is a b = of_rows d plan airport flights is (λ rows. next_text d plan rows minutes) x y a b
+answer_one Text (Shift Warnings) d plan x y airport flights is a b = of_runways d plan airport flights is (warnings_text d plan) x y a b
+answer_one Text (Shift (Causes by)) d plan x y airport flights is a b = of_rows d plan airport flights is (causes_text d plan by) x y a b
+answer_one Json (Shift (Next minutes)) d plan x y airport flights is a b = of_rows d plan airport flights is (λ rows. next_lines d plan rows minutes) x y a b
+answer_one Json (Shift Warnings) d plan x y airport flights is a b = of_runways d plan airport flights is (warning_lines d plan) x y a b
+answer_one Json (Shift (Causes by)) d plan x y airport flights is a b = of_rows d plan airport flights is (causes_lines d plan by) x y a b

@@ -1,0 +1,7 @@
+pub mod Held
+pub mod StartUps
+pub mod Warnings
+pub mod Costs
+pub mod Lines
+pub mod Objects
+pub mod Answers

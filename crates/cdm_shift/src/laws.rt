@@ -1,0 +1,49 @@
+//! Laws of what a shift is told.
+ghost use Rattle.std.specs.Prelude.{◌≡◌, ℕ, ◌+◌, List, Some, length};
+ghost use Rattle.std.specs.List.{IsDistinct};
+ghost use Rattle.std.specs.Option.{IsSomeAnd};
+ghost use Rattle.cdm_flight.specs.Names.{same_name};
+ghost use Rattle.cdm_flight.specs.declared.flight.Flight.{Flight};
+ghost use Rattle.cdm_kinds.specs.declared.format.Format.{Format as AFormat};
+ghost use Rattle.cdm_sequence.specs.declared.plan.Plan.{Plan};
+ghost use Rattle.cdm_sequence.specs.declared.slot.Slot.{Slot};
+ghost use Rattle.cdm_plan.specs.Airport.{IsAirport};
+ghost use Rattle.cdm_plan.specs.Day.{DayRecord, flights_in};
+ghost use Rattle.cdm_plan.specs.DayPlan.{IsDayPlan};
+ghost use Rattle.cdm_row.specs.declared.row.Row.{Row as ARow};
+ghost use Rattle.cdm_view.specs.Reasons.{Waiting};
+ghost use Rattle.cdm_view.specs.Waits.{Waits};
+ghost use Rattle.cdm_view.specs.Why.{own_slot};
+ghost use Rattle.cdm_shift.specs.Answers.{IsDayAnswer};
+ghost use Rattle.cdm_shift.specs.Costs.{costs_of};
+ghost use Rattle.cdm_shift.specs.Held.{causes_of};
+ghost use Rattle.cdm_shift.specs.declared.question.DayQuestion.{DayQuestion as AQuestion};
+
+use cdm_view::{
+    a_placed_flight_waits_its_delay, a_reason_has_a_cause, a_waiting_flight_is_placed_or_blocked,
+};
+
+/// A question of a day and its plan has one answer at most.
+#[tactic(auto, using(crate::proofs::OneAnswer::answer_one))]
+pub fn one_day_answer()
+    ensures { (format : AFormat) (question : AQuestion) (d : DayRecord) (plan : Plan) (x y : List ℕ) → IsAirport d.airport →
+        IsDistinct same_name (flights_in d.journal) → IsDayPlan d plan → IsDayAnswer format question d plan x →
+        IsDayAnswer format question d plan y → x ≡ y }
+{}
+
+/// A flight on its stand that has a slot is held for the minutes of its delay, each by one cause.
+pub fn a_slot_is_held_its_delay()
+    ensures { (d : DayRecord) (plan : Plan) (f : Flight) (w : Waiting) (s : Slot) → Waits d plan f w → own_slot plan f ≡ Some s →
+        IsSomeAnd s.delay (λ delay. length (causes_of d plan f) ≡ delay) }
+{
+    a_placed_flight_waits_its_delay();
+    a_waiting_flight_is_placed_or_blocked();
+    a_reason_has_a_cause();
+}
+
+/// The minutes of the six causes add up to the delay.
+#[tactic(auto, using(crate::proofs::CostLemmas::add_up))]
+pub fn the_causes_add_up()
+    ensures { (d : DayRecord) (plan : Plan) (rows : List ARow) → let c = costs_of d plan rows in
+        c.ice + c.ctot + c.closure + c.spacing + c.rate + c.clock ≡ c.delay }
+{}

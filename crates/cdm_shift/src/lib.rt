@@ -1,0 +1,21 @@
+//! A shift's questions of a day and its plan: which start-ups come next, what is wrong or about to be, and where the minutes of
+//! delay come from. None of them decides anything: they are made of Rows, slots and causes.
+#![tactic(auto)]
+
+mod answering;
+mod costs;
+mod held;
+mod laws;
+mod objects;
+mod question;
+mod start_ups;
+mod text;
+mod warning;
+mod warnings;
+
+pub use answering::day_answer;
+pub use costs::Costs;
+pub use laws::{a_slot_is_held_its_delay, one_day_answer, the_causes_add_up};
+pub use question::{Ahead, DayQuestion, GroupBy, ShiftQuestion};
+pub use start_ups::StartUp;
+pub use warning::Warning;
