@@ -1,9 +1,9 @@
 """The day as this server has it: the records of the log that were replied to, with their replies."""
 import asyncio
 import json
-from collections import OrderedDict
-from collections.abc import Callable, Mapping
-from itertools import islice
+from bisect import bisect
+from collections import OrderedDict, defaultdict
+from collections.abc import Callable, Iterable, Mapping
 from weakref import WeakValueDictionary
 
 from board.log import Record
@@ -20,19 +20,37 @@ class Day:
         self.records: list[Record] = []
         self.lines: list[str] = []
         self.on_reply: list[Callable[[Record], None]] = []
+        self.on_restart: list[Callable[[], None]] = []
+        self.starts = 0
         self._texts: OrderedDict[int, bytes] = OrderedDict()
         self._bytes = 0
         self._waited_for: WeakValueDictionary[int, asyncio.Event] = WeakValueDictionary()
+        self._of: defaultdict[tuple[str | None, str | None], list[Record]] = defaultdict(list)
         for record in records:
             self._keep(record, refused.get(record.position), 0)
+
+    def restart(self, day: "Day") -> None:
+        """Begins anew with the records of another day. Who waits is told, also who doesn't wait yet: `starts`
+        is another."""
+        self.starts += 1
+        self.records, self.lines, self._of, self._bytes = day.records, day.lines, day._of, 0
+        self._texts.clear()
+        waited_for, self._waited_for = list(self._waited_for.values()), WeakValueDictionary()
+        for event in waited_for:
+            event.set()
+        for told in self.on_restart:
+            told()
 
     def _keep(self, record: Record, word: str | None, changes: int) -> Record:
         assert record.position == len(self.records) + 1
         if word is None:
             self.lines.append(f"{record.role},{record.line}")
-        self.records.append(record._replace(word=word, accepted=len(self.lines), changes=changes,
-                                            flight=self.kinds.flight_of(record.line)))
-        return self.records[-1]
+        flight = self.kinds.flight_of(record.line)
+        record = record._replace(word=word, accepted=len(self.lines), changes=changes, flight=flight)
+        for key in {(flight, record.desk), (flight, None), (None, record.desk)} - {(None, None)}:
+            self._of[key].append(record)
+        self.records.append(record)
+        return record
 
     def add(self, record: Record, word: str | None, changes: list[object]) -> None:
         """The next record's reply. Who waits for it is woken."""
@@ -51,9 +69,16 @@ class Day:
         """The accepted records, or the first of them, as a feed."""
         return "".join(f"{line}\n" for line in self.lines[:accepted])
 
-    def texts(self, records: list[Record]) -> bytes:
-        """Their replies, one a line."""
-        return b"".join(self.text(record) + b"\n" for record in records)
+    def texts(self, records: Iterable[Record], most: float = float("inf")) -> bytes:
+        """Their replies, one a line; no more than fit, but the first one."""
+        texts, size = list[bytes](), 0
+        for record in records:
+            texts.append(self.text(record) + b"\n")
+            size += len(texts[-1])
+            if size > most and len(texts) > 1:
+                texts.pop()
+                break
+        return b"".join(texts)
 
     def text(self, record: Record) -> bytes:
         """The reply to a record, `changes` null where they aren't kept."""
@@ -65,9 +90,14 @@ class Day:
 
     def found(self, since: int, flight: str | None, desk: str | None) -> list[Record]:
         """The first records behind a position, of a flight and of a desk where these are asked for."""
-        behind = islice(self.records, since, None)
-        return list(islice((record for record in behind if flight in (None, record.flight)
-                            and desk in (None, record.desk)), MOST_FOUND))
+        is_all = flight is None and desk is None
+        of = self.records if is_all else self._of.get((flight, desk), [])
+        first = bisect(of, since, key=lambda record: record.position)
+        return of[first:first + MOST_FOUND]
+
+    def count_of(self, desk: str) -> int:
+        """How many records of a desk have replies."""
+        return len(self._of.get((None, desk), []))
 
     async def reached(self, position: int) -> None:
         """Returns as soon as this record has its reply. Raises Problem where it won't have one here."""

@@ -1,8 +1,10 @@
 """Events: what each display gets, written together at most ten times a second, the same bytes to each."""
 import asyncio
 import re
-from collections.abc import Iterable
+from collections.abc import Iterable, Iterator
 from dataclasses import dataclass
+
+from aiohttp import web
 
 from board.day import Day
 from board.desks import Desk
@@ -10,20 +12,21 @@ from board.log import Record
 from board.words import Problem
 
 PAUSE, COMMENT = 0.1, 15.0
-MOST_ROWS, MOST_UNSENT, MOST_OF_DESK, MOST_DISPLAYS = 100, 1 << 20, 20, 5000
+MOST_ROWS, MOST_UNSENT, MOST_OF_ALL, MOST_OF_DESK, MOST_DISPLAYS = 100, 1 << 20, 256 << 20, 20, 5000
 
 
 @dataclass(eq=False)
 class Stream:
-    """One display; `since` is the record up to which it had events when it came."""
+    """One display, and by which request it came; `since` is the record up to which it had events then."""
+    request: web.Request
     desk: Desk
     transport: asyncio.Transport
     ended: asyncio.Event
     since: int = 0
 
-    def write(self, text: bytes) -> None:
+    def write(self, text: bytes, most: int = MOST_UNSENT) -> None:
         """A chunk of the answer. Who doesn't read is cut off."""
-        if self.transport.get_write_buffer_size() > MOST_UNSENT:
+        if self.transport.get_write_buffer_size() > most:
             self.transport.abort()
         elif not self.transport.is_closing():
             self.transport.write(b"%x\r\n%s\r\n" % (len(text), text))
@@ -36,20 +39,27 @@ class Events:
         self._log_id, self._day, self._sent = log_id, day, len(day.records)
         self._new, self.streams = asyncio.Event(), set[Stream]()
         day.on_reply.append(lambda record: self._new.set())
+        day.on_restart.append(self._restart)
+
+    def _restart(self) -> None:
+        """What displays had is of another day: all get `reset`."""
+        self._sent = -1
+        for stream in self.streams:
+            stream.since = 0
+        self._new.set()
 
     def _event(self, position: int, name: str, data: bytes) -> bytes:
         return b"id: %s-%d\nevent: %s\ndata: %s\n\n" % (self._log_id.encode(), position, name.encode(), data)
 
-    def _events(self, records: Iterable[Record], desk: str) -> bytes:
+    def _events(self, records: Iterable[Record], desk: str) -> Iterator[bytes]:
         """What a desk gets of these records."""
-        texts = [b":\n\n"]
+        yield b":\n\n"
         for record in records:
             if record.changes > MOST_ROWS:
-                texts.append(self._event(record.position, "reset", b'{"position":%d}' % record.position))
+                yield self._event(record.position, "reset", b'{"position":%d}' % record.position)
             elif record.word is None or record.desk == desk:
                 name = "reply" if record.word is None else "refused"
-                texts.append(self._event(record.position, name, self._day.text(record)))
-        return b"".join(texts)
+                yield self._event(record.position, name, self._day.text(record))
 
     async def run(self) -> None:
         """Writes what is new to all, or a comment where nothing is. Returns never."""
@@ -66,14 +76,17 @@ class Events:
         sent, self._sent = self._sent, len(self._day.records)
         kept = self._day.kept_behind(sent)
         new, reset = kept or [], self._event(self._sent, "reset", b"{}")
-        shared = reset if kept is None else self._events(new, "")
         own = {record.desk for record in new if record.word is not None}
+        texts: dict[tuple[str, int], bytes] = {}
+        unsent = sum(stream.transport.get_write_buffer_size() for stream in self.streams)
+        most = MOST_UNSENT if unsent < MOST_OF_ALL else MOST_OF_ALL // len(self.streams)
         for number, stream in enumerate(list(self.streams), 1):
-            if new and (stream.desk.name in own or stream.since > sent):
-                mine = (record for record in new if record.position > stream.since)
-                stream.write(self._events(mine, stream.desk.name))
-            else:
-                stream.write(shared)
+            name = stream.desk.name if stream.desk.name in own else ""
+            this = name, max(stream.since, sent) if new else sent
+            if this not in texts:
+                mine = (record for record in new if record.position > this[1])
+                texts[this] = reset if kept is None else b"".join(self._events(mine, name))
+            stream.write(texts[this], most)
             if number % 200 == 0:
                 await asyncio.sleep(0)
 
@@ -99,9 +112,12 @@ class Events:
         is_known = log_id == self._log_id and re.fullmatch("[0-9]{1,9}", position) is not None
         since = int(position) if is_known else now
         missed = self._day.kept_behind(since) if since <= now and (is_known or not said) else None
-        text = b"" if missed is None else self._events(missed, stream.desk.name)
-        if missed is None or len(text) > MOST_UNSENT // 2:
-            stream.write(self._event(now, "reset", b"{}"))
-        else:
-            stream.write(b"id: %s-%d\n\n" % (self._log_id.encode(), since) + text)
+        texts, size = [b"id: %s-%d\n\n" % (self._log_id.encode(), since)], 0
+        for text in self._events(missed or [], stream.desk.name):
+            texts.append(text)
+            size += len(text)
+            if size > MOST_UNSENT // 2:
+                break
+        is_whole = missed is not None and size <= MOST_UNSENT // 2
+        stream.write(b"".join(texts) if is_whole else self._event(now, "reset", b"{}"))
         self.streams.add(stream)

@@ -1,11 +1,16 @@
-"""Connections: how many an address may have, how long headers may take, how much may come unasked."""
+"""Connections: how many there may be, how long headers may take, how much may come unasked."""
 import asyncio
 import ipaddress
+import resource
+import socket
 from collections import Counter
+from typing import Any
 
 from aiohttp import web
 
-MOST_OF_ADDRESS, MOST_UNREAD, MOST_PIPELINED, HEADERS, OF_A_PROXY = 100, 256 << 10, 16, 10.0, 75.0
+MOST_OF_ADDRESS, MOST_INSIDE, KEPT_FREE = 100, 10_000, 200
+TCP_USER_TIMEOUT = 18  # Linux' number of it
+MOST_UNREAD, MOST_PIPELINED, HEADERS, OF_A_PROXY, UNTAKEN = 256 << 10, 16, 10.0, 75.0, 60.0
 
 
 def is_loopback(address: str) -> bool:
@@ -16,24 +21,69 @@ def is_loopback(address: str) -> bool:
         return False
 
 
-class Guard(web.RequestHandler):
-    """A connection that is cut off where it takes more than its share; a proxy on this machine may take
-    more. Between two requests aiohttp keeps the time itself. `of_address` is shared by all."""
+class Door(socket.socket):
+    """A socket that listens, and lets so many connections in, of one address and in all. They count from
+    the first, also before TLS is agreed on. A proxy on this machine may have any number."""
 
-    def __init__(self, server: web.Server, of_address: Counter[str], proxy: bool) -> None:
+    def __init__(self, host: str, port: int, is_for_proxy: bool) -> None:
+        family, kind, proto, _, address = socket.getaddrinfo(host, port, type=socket.SOCK_STREAM)[0]
+        super().__init__(family, kind, proto)
+        self.setsockopt(socket.SOL_SOCKET, socket.SO_REUSEADDR, 1)
+        if family == socket.AF_INET6:
+            self.setsockopt(socket.IPPROTO_IPV6, socket.IPV6_V6ONLY, 1)
+        self.bind(address)
+        self.of_address, self.inside, self._is_for_proxy = Counter[str](), 0, is_for_proxy
+        self._most = min(MOST_INSIDE, resource.getrlimit(resource.RLIMIT_NOFILE)[0] - KEPT_FREE)
+
+    def accept(self) -> tuple[socket.socket, Any]:
+        connection, peer = super().accept()
+        is_proxy = self._is_for_proxy and is_loopback(peer[0])
+        if self.inside >= self._most or self.of_address[peer[0]] >= MOST_OF_ADDRESS and not is_proxy:
+            connection.close()
+            raise ConnectionAbortedError("too many connections")
+        self.inside += 1
+        self.of_address[peer[0]] += 1
+        guest = Guest(connection.detach(), self, peer[0])
+        # Whoever takes nothing of what was sent to it for so long is gone, whatever else it says.
+        guest.setsockopt(socket.IPPROTO_TCP, TCP_USER_TIMEOUT, int(1000 * UNTAKEN))
+        return guest, peer
+
+    def leave(self, address: str) -> None:
+        """A connection is gone."""
+        self.inside -= 1
+        self.of_address[address] -= 1
+        if not self.of_address[address]:
+            del self.of_address[address]
+
+
+class Guest(socket.socket):
+    """A connection that was let in, which counts until it is closed."""
+
+    def __init__(self, number: int, door: Door, address: str) -> None:
+        super().__init__(fileno=number)
+        self._door: Door | None = door
+        self._address = address
+
+    def close(self) -> None:
+        super().close()
+        if self._door is not None:
+            self._door.leave(self._address)
+        self._door = None
+
+
+class Guard(web.RequestHandler):
+    """A connection that is cut off where it takes more than its share. Between two requests aiohttp keeps
+    the time itself."""
+
+    def __init__(self, server: web.Server, proxy: bool) -> None:
         super().__init__(server, loop=asyncio.get_running_loop(), lingering_time=5.0, auto_decompress=False,
                          keepalive_timeout=OF_A_PROXY if proxy else HEADERS)
         self.access_logger = None
-        self._of_address, self._proxy, self._unread, self.lost = of_address, proxy, 0, asyncio.Event()
+        self._unread, self.lost = 0, asyncio.Event()
 
     def connection_made(self, transport: asyncio.BaseTransport) -> None:
         assert isinstance(transport, asyncio.Transport)
-        self._address = (transport.get_extra_info("peername") or [""])[0]
-        self._of_address[self._address] += 1
         self._late = asyncio.get_running_loop().call_later(HEADERS, transport.abort)
-        is_proxy = self._proxy and is_loopback(self._address)
-        if self._of_address[self._address] > MOST_OF_ADDRESS and not is_proxy:
-            return transport.abort()
         super().connection_made(transport)
         assert self._task_handler is not None
         self._task_handler.add_done_callback(self._died)
@@ -47,9 +97,6 @@ class Guard(web.RequestHandler):
         super().connection_lost(exc)
         self._late.cancel()
         self.lost.set()
-        self._of_address[self._address] -= 1
-        if not self._of_address[self._address]:
-            del self._of_address[self._address]
 
     def data_received(self, data: bytes) -> None:
         count = self._request_count

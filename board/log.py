@@ -1,31 +1,14 @@
 """The log: all records in the order in which they were taken, in a database. A record is never changed."""
 import asyncio
-import contextlib
-import fcntl
-import os
-import secrets
-import sqlite3
-from collections import deque
-from collections.abc import Callable
-from concurrent.futures import ThreadPoolExecutor
+from abc import ABC, abstractmethod
+from collections.abc import Sequence
 from dataclasses import dataclass, field
-from typing import NamedTuple, TypeVar
-from urllib.parse import quote
+from typing import NamedTuple
 
-from board.words import Fault, Problem, now_text
+from board.words import LINE, MOST_BYTES, ROLES, Fault, Problem, now_text
 
 MOST_RECORDS = 60_000
-T = TypeVar("T")
-SCHEMA = """
-PRAGMA journal_mode = WAL;
-PRAGMA synchronous = FULL;
-CREATE TABLE IF NOT EXISTS cdm_log (
-    board TEXT PRIMARY KEY, id TEXT NOT NULL, airport BLOB NOT NULL, version TEXT NOT NULL);
-CREATE TABLE IF NOT EXISTS cdm_record (
-    board TEXT NOT NULL, position INTEGER NOT NULL, desk TEXT NOT NULL, key TEXT, n INTEGER NOT NULL,
-    lines INTEGER NOT NULL, role TEXT NOT NULL, line TEXT NOT NULL, at TEXT NOT NULL,
-    UNIQUE (board, position), UNIQUE (board, desk, key, n));
-"""
+NOT_KNOWN = "not known whether the records are in the log; send again with the same key"
 
 
 class Record(NamedTuple):
@@ -45,7 +28,8 @@ class Record(NamedTuple):
 @dataclass
 class Batch:
     """Records of one desk, each with its role, that are to stand together. `most`: how many the desk may
-    have in the log. `closed`: why it sends nothing new. `answer`: where they are, once committed."""
+    have in the log. `end`: the last position that they may take. `closed`: why the desk sends nothing new.
+    `answer`: where they are, once committed."""
     desk: str
     records: list[tuple[str, str]]
     key: str | None = None
@@ -53,127 +37,80 @@ class Batch:
     closed: str | None = None
     at: str = field(default_factory=now_text)
     answer: range | Problem | None = None
+    end: int = MOST_RECORDS
+
+    def full(self) -> Problem:
+        """What is answered where the log, or the desk's part of it, is full."""
+        return Problem(403, f"a log takes {MOST_RECORDS} records, and {self.most} of {self.desk}")
 
 
-class Log:
-    """A log in a file of SQLite, which has a thread of its own. Another engine has the same public calls."""
+class Changed(Exception):
+    """The database hasn't the last row that was handed on: the day begins anew."""
+
+
+class Log(ABC):
+    """A log in an engine. All calls are made by one event loop."""
     id: str
     airport: bytes
 
-    def __init__(self, path: str, board: str) -> None:
-        self._path, self._board, self._loop = path, board, asyncio.get_running_loop()
-        self._thread = ThreadPoolExecutor(1, "log")
-        self._waiting: deque[Batch] = deque()
-        self._grown, self._faults = asyncio.Event(), asyncio.Queue[sqlite3.Error]()
+    def __init__(self, name: str, board: str) -> None:
+        self.name, self._board, self._grown = name, board, asyncio.Event()
 
-    async def _in_thread(self, call: Callable[[], T]) -> T:
-        return await self._loop.run_in_executor(self._thread, call)
-
+    @abstractmethod
     async def open(self, airport: bytes, version: str) -> None:
         """Opens the log, and makes it where it isn't there. Raises Fault."""
-        try:
-            await self._in_thread(lambda: self._open(airport, version))
-        except BlockingIOError:
-            raise Fault(f"{self._path} is served by another") from None
-        except (OSError, sqlite3.Error) as fault:
-            raise Fault(f"{self._path}: {fault}") from None
 
-    def _open(self, airport: bytes, version: str) -> None:
-        self._lock = os.open(f"{self._path}.lock", os.O_CREAT | os.O_RDWR | os.O_CLOEXEC, 0o600)
-        fcntl.lockf(self._lock, fcntl.LOCK_EX | fcntl.LOCK_NB)
-        os.close(os.open(self._path, os.O_CREAT | os.O_RDWR, 0o600))
-        self._database = sqlite3.connect(self._path, timeout=10, isolation_level=None)
-        self._database.executescript(SCHEMA)
-        self._database.execute("INSERT OR IGNORE INTO cdm_log VALUES (?, ?, ?, ?)",
-                               (self._board, secrets.token_hex(8), airport, version))
-        self.id, self.airport, made_by = self._database.execute(
-            "SELECT id, airport, version FROM cdm_log WHERE board = ?", (self._board,)).fetchone()
-        if (self.airport, made_by) != (airport, version):
-            what = "airport file" if self.airport != airport else "program"
-            raise Fault(f"{self._path} belongs to another {what}; for a new log: ./cdmboard export"
-                        f" {self._path} > day.csv && ./cdmboard import AIRPORT NEWLOG day.csv")
-
+    @abstractmethod
     async def append(self, batch: Batch) -> range:
-        """The records' positions; they are in the log from then on. Raises Problem; 504: it isn't known."""
-        self._waiting.append(batch)
-        await self._in_thread(self._commit)
-        if batch.answer is None:
-            raise Problem(504, "not known whether the records are in the log; send again with the same key")
-        if isinstance(batch.answer, Problem):
-            raise batch.answer
-        return batch.answer
+        """The records' positions; they are in the log from then on. Raises Problem; 503: nothing was taken;
+        504: it isn't known."""
 
-    def _commit(self) -> None:
-        """Takes all batches that wait, in one transaction. A fault ends the log."""
-        batches = [self._waiting.popleft() for _ in range(len(self._waiting))]
-        try:
-            self._database.execute("BEGIN IMMEDIATE")
-            answers = [self._take(batch) for batch in batches]
-            self._database.execute("COMMIT")
-        except sqlite3.Error as fault:
-            self._loop.call_soon_threadsafe(self._faults.put_nowait, fault)
-            return
-        for batch, answer in zip(batches, answers):
-            batch.answer = answer
-        self._loop.call_soon_threadsafe(self.wake)
-
-    def _take(self, batch: Batch) -> range | Problem:
-        """The records' positions: those that their key has already, or new ones."""
-        one, desk, count = self._database.execute, (self._board, batch.desk), len(batch.records)
-        if batch.key is not None:
-            kept = one("SELECT position, line FROM cdm_record WHERE board = ? AND desk = ? AND key = ?"
-                       " ORDER BY n", (*desk, batch.key)).fetchall()
-            if kept and [line for _, line in kept] != [line for _, line in batch.records]:
-                return Problem(422, "this key came with another body before")
-            if kept:
-                return range(kept[0][0], kept[0][0] + len(kept))
-        last, = one("SELECT coalesce(max(position), 0) FROM cdm_record WHERE board = ?", desk[:1]).fetchone()
-        mine, = one("SELECT count(*) FROM cdm_record WHERE board = ? AND desk = ?", desk).fetchone()
-        if batch.closed is not None:
-            return Problem(403, batch.closed)
-        if last + count > MOST_RECORDS or mine + count > batch.most:
-            return Problem(403, f"a log takes {MOST_RECORDS} records, and {batch.most} of {batch.desk}")
-        self._database.executemany(
-            "INSERT INTO cdm_record VALUES (?, ?, ?, ?, ?, ?, ?, ?, ?)",
-            [(self._board, last + 1 + n, batch.desk, batch.key, n, count, role, line, batch.at)
-             for n, (role, line) in enumerate(batch.records)])
-        return range(last + 1, last + 1 + count)
-
+    @abstractmethod
     async def rows(self, after: int, most: int) -> list[Record]:
-        """The first records behind a position."""
-        return await self._in_thread(lambda: _select(self._database, self._board, after, most))
+        """The first records behind a position; none while the database is away. Raises Changed, Fault."""
+
+    @abstractmethod
+    async def whole(self) -> list[Record]:
+        """All records, as soon as the database is there. Raises Fault."""
+
+    @abstractmethod
+    async def ended(self) -> None:
+        """Raises what ended the log."""
+
+    @abstractmethod
+    async def close(self) -> None:
+        """Ends what is open."""
+
+    @property
+    def stale_since(self) -> str | None:
+        """Since when there may be records that aren't known here; None where all are."""
+        return None
 
     async def grown(self) -> None:
         """Returns when there may be more records than at its last return."""
         await self._grown.wait()
         self._grown.clear()
 
-    async def ended(self) -> None:
-        """Raises what ended the log."""
-        raise Fault(f"{self._path}: {await self._faults.get()}", 1)
-
     def wake(self) -> None:
         """Lets `grown` return."""
         self._grown.set()
 
-    async def close(self) -> None:
-        """Ends the thread."""
-        await self._in_thread(self._database.close)
-        self._thread.shutdown()
-        os.close(self._lock)
+    def check(self, airport: bytes, made_by: str, version: str) -> None:
+        """Raises Fault where the log is another airport's or program's."""
+        if (self.airport, made_by) != (airport, version):
+            what = "airport file" if self.airport != airport else "program"
+            raise Fault(f"{self.name} belongs to another {what}; for a new log: ./cdmboard export"
+                        f" {self.name} > day.csv && ./cdmboard import AIRPORT NEWLOG day.csv")
 
 
-def read_log(path: str, board: str) -> tuple[bytes, list[Record]]:
-    """Airport file and all records of a log, also while it is served. Raises Fault."""
-    try:
-        with contextlib.closing(sqlite3.connect(f"file:{quote(path)}?mode=ro", uri=True)) as database:
-            airport, = database.execute("SELECT airport FROM cdm_log WHERE board = ?", (board,)).fetchone()
-            return airport, _select(database, board, 0, MOST_RECORDS)
-    except (sqlite3.Error, TypeError) as fault:
-        raise Fault(f"{path} is no log: {fault}") from None
-
-
-def _select(database: sqlite3.Connection, board: str, after: int, most: int) -> list[Record]:
-    columns = "SELECT position, desk, role, line, at FROM cdm_record"
-    return [Record(*row) for row in database.execute(
-        f"{columns} WHERE board = ? AND position > ? ORDER BY position LIMIT ?", (board, after, most))]
+def records_of(name: str, after: int, rows: Sequence[Sequence[object]]) -> list[Record]:
+    """The rows behind a position as records, if each is the next one, and one line. Raises Fault."""
+    records = []
+    for position, (number, desk, role, line, at) in enumerate(rows, after + 1):
+        if number != position:
+            raise Fault(f"{name}: position {position} is missing")
+        is_line = isinstance(line, str) and line.isascii() and LINE.fullmatch(line.encode()) and line.strip()
+        if not is_line or len(str(line)) > MOST_BYTES or role not in ROLES:
+            raise Fault(f"{name}: position {position} isn't one line of a record")
+        records.append(Record(position, str(desk), str(role), str(line), str(at)))
+    return records

@@ -3,28 +3,32 @@ import asyncio
 import json
 import re
 import socket
-from collections import defaultdict
+import zlib
+from collections import Counter, defaultdict
 from collections.abc import Awaitable, Callable
 from dataclasses import dataclass, field
 from http import HTTPStatus
 from http.cookies import CookieError
 from pathlib import Path
+from weakref import WeakValueDictionary
 
+import prometheus_client as prometheus
 from aiohttp import HttpVersion11, web
-from prometheus_client import Counter, Gauge, Histogram, generate_latest
 
-from board.answers import Answers, Question, Ran
+from board.answers import Answers, Question, pack
 from board.day import Day
 from board.desks import DESK, SESSION, Desk, Desks, Pace
 from board.events import Events, Stream
 from board.guard import Guard, is_loopback
-from board.log import Batch, Log
+from board.log import MOST_RECORDS, NOT_KNOWN, Batch, Log
 from board.sequencer import Sequencer
 from board.words import KEY, Problem, lines_of, now_text, tell
 
-MOST_BODY, TOWERS = 64 << 10, 18_000
+MOST_BODY, MOST_FOUND, MOST_UNSENT, TOWERS, RESERVED = 64 << 10, 1 << 20, 64 << 20, 18_000, 2000
 REPLY, AFTER, BODY, ANSWER = 30.0, 2.0, 20.0, 60.0
 PAGE = Path(__file__).parent / "page"
+FILES = {".html": "text/html; charset=utf-8", ".css": "text/css; charset=utf-8",
+         ".js": "text/javascript; charset=utf-8", ".svg": "image/svg+xml"}
 TYPES = {"": "text/plain", "csv": "text/csv", "json": "application/x-ndjson", "svg": "image/svg+xml"}
 # The program's commands as paths. Those that want a scenario are asked by POST alone, in a format by Accept.
 JSON = r"{form:(\.json)?}"
@@ -35,8 +39,11 @@ BY_POST = ("{command:what-if}", "{command:compare}", "{command:compare}/{name:[A
 OPTIONS: dict[str, tuple[str, ...]] = {"minutes": (), "by": ("--by",), "scenario": ("--scenario",)}
 ARGUMENT = re.compile("[A-Za-z0-9][A-Za-z0-9-]{0,15}")
 UNKNOWN = ("cdmseq: no flight ", "cdmseq: no runway ", "cdmseq: no scenario ")
-COUNT = Counter("cdm_records", "Records with a reply", ["role", "reply"])
-SECONDS = Histogram("cdm_reply_seconds", "Seconds of a reply")
+# What may be said once alone: of two, the next program on the way might read the other one.
+ONCE = ("Host", "Origin", "Authorization", "Idempotency-Key", "Cdm-Role", "Cdm-After", "Content-Length",
+        "Transfer-Encoding", "Content-Type")
+COUNT = prometheus.Counter("cdm_records", "Records with a reply", ["role", "reply"])
+SECONDS = prometheus.Histogram("cdm_reply_seconds", "Seconds of a reply")
 Handler = Callable[[web.Request], Awaitable[web.StreamResponse]]
 
 
@@ -54,13 +61,18 @@ class Board:
     behind_proxy: bool
     is_closing: bool = False
     paces: defaultdict[str, Pace] = field(default_factory=lambda: defaultdict(Pace))
+    unsent: Counter[str] = field(default_factory=Counter)
+    turns: WeakValueDictionary[str, asyncio.Lock] = field(default_factory=WeakValueDictionary)
 
     def __post_init__(self) -> None:
         self.day.on_reply.append(lambda record: COUNT.labels(record.role, record.word or "ACCEPTED").inc())
-        Gauge("cdm_displays", "Displays").set_function(lambda: len(self.events.streams))
-        Gauge("cdm_accepted_updates", "Accepted updates").set_function(lambda: len(self.day.lines))
-        Gauge("cdm_position", "The last record with a reply").set_function(lambda: len(self.day.records))
-        Gauge("cdm_restarts", "Restarts of the sequencer").set_function(lambda: self.sequencer.starts - 1)
+        gauges: dict[tuple[str, str], Callable[[], float]] = {
+            ("cdm_displays", "Displays"): lambda: len(self.events.streams),
+            ("cdm_accepted_updates", "Accepted updates"): lambda: len(self.day.lines),
+            ("cdm_position", "The last record with a reply"): lambda: len(self.day.records),
+            ("cdm_restarts", "Restarts of the sequencer"): lambda: self.sequencer.starts - 1}
+        for words, value in gauges.items():
+            prometheus.Gauge(*words).set_function(value)
 
     def are_waiting(self) -> bool:
         """Whether somebody waits for a reply."""
@@ -70,18 +82,24 @@ class Board:
         """The address of who asks; a proxy on this machine says it."""
         peer = request.remote or ""
         if self.behind_proxy and is_loopback(peer):
-            return request.headers.get("X-Forwarded-For", peer).rpartition(",")[2].strip()
+            # The last one is the proxy's own word; those before it are whatever the client said.
+            return request.headers.getall("X-Forwarded-For", [peer])[-1].rpartition(",")[2].strip()[:60]
         return peer
+
+    def asker(self, request: web.Request) -> str:
+        """Who asks, for what each may have: a desk, or @ and an address."""
+        desk = request["desk"].name if "desk" in request else ""
+        return desk or f"@{self.address(request)}"
 
     def desk_of(self, request: web.Request) -> Desk:
         """The desk that asks; who may read without a token is a display without a name. Raises Problem."""
         role, said = request.headers.get("Cdm-Role"), request.headers.get("Authorization")
-        cookie, reader, desk = request.cookies.get(f"cdm-{self.log.id}"), Desk("", "READ"), None
+        reader, desk = Desk("", "READ"), None
         if self.desks.is_open:
             desk = reader if role is None else self.desks.by_name.get(role)
         elif said is not None:
             desk = self.desks.by_token(said[7:]) if said[:7].lower() == "bearer " else None
-        elif cookie is not None:
+        elif (cookie := request.cookies.get(f"cdm-{self.log.id}")) is not None:
             desk = self.desks.by_cookie(cookie, self.log.id)
         elif self.desks.anyone_reads:
             desk = reader
@@ -91,16 +109,32 @@ class Board:
             raise Problem(401, "a token of a desk is needed", WWW_Authenticate="Bearer")
         return desk
 
+    def check_displays(self) -> None:
+        """Ends each display that wouldn't be let in any more as the desk that it was."""
+        for stream in self.events.streams:
+            try:
+                desk = self.desk_of(stream.request)
+            except Problem:
+                desk = Desk("", "")
+            if (desk.name, desk.role) != (stream.desk.name, stream.desk.role):
+                stream.transport.abort()
+
     @web.middleware
     async def checked(self, request: web.Request, handler: Handler) -> web.StreamResponse:
         """Checks where a request comes from and who speaks, and waits for the position that it wants."""
-        host, after = request.headers.get("Host", ""), request.headers.get("Cdm-After", "0")
+        headers = request.headers
+        is_framed_twice = "Transfer-Encoding" in headers and "Content-Length" in headers
+        if is_framed_twice or any(len(headers.getall(name, ())) > 1 for name in ONCE):
+            raise Problem(400, "the request can be read in two ways")
+        host, after = headers.get("Host", ""), headers.get("Cdm-After", "0")
         if request.path != "/health" and re.sub(r":[0-9]*$", "", host).strip("[]").lower() not in self.names:
             raise Problem(421, "this server has another name (--name HOST adds one)")
-        if request.headers.get("Origin", f"{self.scheme}://{host}") != f"{self.scheme}://{host}":
+        if headers.get("Origin", f"{self.scheme}://{host}") != f"{self.scheme}://{host}":
             raise Problem(403, "a page of another site speaks")
         if request.path.startswith("/v1/") and request.path != "/v1/session" or request.path == "/metrics":
             request["desk"] = self.desk_of(request)
+        if self.unsent[self.asker(request)] > MOST_UNSENT:
+            raise Problem(429, "read the answers that wait first", Retry_After="5")
         if not re.fullmatch("[0-9]{1,9}", after):
             raise Problem(400, "Cdm-After is a position")
         if request.method == "GET":
@@ -132,9 +166,14 @@ class Board:
             tell(f"cdmboard: {type(fault).__name__}: {fault}")
             response = self.told(request, Problem(500, "a fault of the server"))
         if not response.prepared:
+            if response.status in (400, 408, 413):
+                response.force_close()
             own = "'none'; style-src 'unsafe-inline'" if response.content_type == TYPES["svg"] else "'self'"
             response.headers["Content-Security-Policy"] = f"default-src {own}; frame-ancestors 'self'"
-            response.headers.update({"X-Content-Type-Options": "nosniff", "Cache-Control": "no-cache"})
+            response.headers.update({"X-Content-Type-Options": "nosniff", "Cache-Control": "no-cache",
+                                     "Cross-Origin-Resource-Policy": "same-origin"})
+            asker, size = self.asker(request), response.content_length or 0
+            self.unsent[asker] += size
             try:
                 async with asyncio.timeout(ANSWER):
                     await response.prepare(request)
@@ -142,6 +181,10 @@ class Board:
             except (TimeoutError, ConnectionError):
                 if request.transport is not None:
                     request.transport.abort()
+            finally:
+                self.unsent[asker] -= size
+                if not self.unsent[asker]:
+                    del self.unsent[asker]
         return response
 
     def told(self, request: web.Request, problem: Problem) -> web.Response:
@@ -155,7 +198,9 @@ class Board:
                             content_type="application/problem+json")
 
     async def body(self, request: web.Request) -> bytes:
-        """A body, if it comes in time."""
+        """A body, if it comes in time, as it stands."""
+        if "Content-Encoding" in request.headers or "Upgrade" in request.headers:
+            raise Problem(400, "a body is sent as it is, without Content-Encoding or Upgrade")
         try:
             async with asyncio.timeout(BODY):
                 return await request.read()
@@ -187,7 +232,7 @@ class Board:
         """Who asks, and what it may send."""
         desk: Desk = request["desk"]
         kinds = [kind for kind, roles in self.day.kinds.roles.items() if desk.role in roles]
-        left = desk.records - sum(record.desk == desk.name for record in self.day.records) if kinds else 0
+        left = desk.records - self.day.count_of(desk.name) if kinds else 0
         return web.json_response({
             "desk": desk.name or None, "role": desk.role, "kinds": kinds, "flights": desk.flights,
             "clock": desk.clock is not None, "left": max(0, left), "log": self.log.id,
@@ -197,9 +242,14 @@ class Board:
         """Records into the log, and their replies out of the sequencer. Raises Problem."""
         if self.is_closing:
             raise Problem(503, "the server is ending; nothing was taken", Retry_After="5")
-        is_full = desk.role != "ATC" and len(self.day.lines) >= TOWERS
+        accepted, flying = len(self.day.lines), sum(pace.waiting for pace in self.paces.values())
+        is_full = accepted >= TOWERS or len(self.day.records) >= MOST_RECORDS - RESERVED
+        if desk.role != "ATC" and not is_full and flying and accepted + flying >= TOWERS:
+            raise Problem(429, "the last updates are taken one desk after the other", Retry_After="1")
         batch = Batch(desk.name, [(desk.role, line) for line in lines], key, desk.records,
-                      f"from {TOWERS} accepted updates on ATC alone sends records" if is_full else None)
+                      f"from {TOWERS} accepted updates, or {MOST_RECORDS - RESERVED} records, on ATC alone sends"
+                      if is_full and desk.role != "ATC" else None)
+        starts = self.day.starts
         with self.paces[desk.name].of(len(lines)), SECONDS.time():
             try:
                 async with asyncio.timeout(REPLY):
@@ -207,12 +257,15 @@ class Board:
                     await self.day.reached(positions[-1])
             except TimeoutError:
                 raise Problem(504, "no reply yet; send again with the same key") from None
+        if starts != self.day.starts:
+            raise Problem(504, NOT_KNOWN)
         return self.day.texts(self.day.records[positions[0] - 1:positions[-1]])
 
     async def post_records(self, request: web.Request) -> web.Response:
         """The lines of the body are records of this desk."""
-        desk: Desk = request["desk"]
         lines, key = lines_of(await self.body(request)), request.headers.get("Idempotency-Key")
+        # Who lost the right while the body came speaks no more.
+        desk = self.desk_of(request)
         if key is not None and not KEY.fullmatch(key):
             raise Problem(400, "Idempotency-Key has 1 to 64 printable bytes")
         desk.check(lines, self.day.kinds)
@@ -223,8 +276,9 @@ class Board:
         since, desk = request.query.get("since", "0"), request.query.get("desk")
         if not re.fullmatch("[0-9]{1,9}", since) or desk is not None and not DESK.fullmatch(desk):
             raise Problem(400, "since is a position, desk is a desk's name")
-        texts = self.day.texts(self.day.found(int(since), request.query.get("flight"), desk))
-        return self.of_moment(request, len(self.day.records), "json", texts)
+        async with self.turn(request):
+            now, found = len(self.day.records), self.day.found(int(since), request.query.get("flight"), desk)
+            return await self.of_moment(request, now, "json", self.day.texts(found, MOST_FOUND))
 
     async def sentence(self, request: web.Request) -> web.Response:
         """Why a record is refused, in words: what `check` says of it behind the records accepted before."""
@@ -233,28 +287,37 @@ class Board:
         if record is None or record.word is None:
             raise Problem(404, "no refused record stands there")
         last = f"{record.role},{record.line}\n"
-        ran = await self.ask(request, Question(record.accepted, "check", ("--format", "json"), None, last))
+        question = Question("check", ("--format", "json"), None, record.accepted, last)
+        _, ran = await self.answers.ask(self.asker(request), question)
         for found in map(json.loads, ran.output.splitlines() if ran.status in (0, 4) else []):
             if found.get("record") == record.accepted + 1:
-                return self.of_moment(request, now, "", f"{record.word}: {found['sentence']}\n".encode())
+                text = f"{record.word}: {found['sentence']}\n".encode()
+                return await self.of_moment(request, now, "", text)
         raise Problem(503, ran.told or "the program says nothing of it")
 
     def tags(self, position: int) -> dict[str, str]:
         """The headers that say of which moment an answer is."""
+        stale = {"Cdm-Stale-Since": self.log.stale_since} if self.log.stale_since else {}
         return {"Cdm-Position": str(position), "ETag": f'"{self.log.id}-{position}"',
-                "Vary": "Accept, Accept-Encoding"}
+                "Vary": "Accept, Accept-Encoding", **stale}
 
-    def of_moment(self, request: web.Request, position: int, form: str, body: bytes) -> web.Response:
-        """An answer about the day at one moment."""
-        response = web.Response(body=body, content_type=TYPES[form], headers=self.tags(position),
-                                zlib_executor_size=1 << 14)
-        if len(body) > 1024 and "gzip" in request.headers.get("Accept-Encoding", ""):
-            response.enable_compression(web.ContentCoding.gzip)
+    def turn(self, request: web.Request) -> asyncio.Lock:
+        """Long answers are made one after the other for each who asks, so that nobody takes all the time."""
+        return self.turns.setdefault(self.asker(request), asyncio.Lock())
+
+    async def of_moment(self, request: web.Request, position: int, form: str, body: bytes,
+                        packed: bytes | None = None) -> web.Response:
+        """An answer about the day at one moment, by gzip where that is wanted; it may be there already."""
+        response = web.Response(body=body, content_type=TYPES[form], headers=self.tags(position))
+        if "gzip" in request.headers.get("Accept-Encoding", ""):
+            packed = packed or await pack(body)
+            if packed is not None:
+                response.body = packed
+                response.headers["Content-Encoding"] = "gzip"
+        unsent = self.unsent[self.asker(request)]
+        if unsent and unsent + (response.content_length or 0) > MOST_UNSENT:
+            raise Problem(429, "read the answers that wait first", Retry_After="5")
         return response
-
-    async def ask(self, request: web.Request, question: Question) -> Ran:
-        """The program's answer to who asks: a desk, or an address. Raises Problem."""
-        return await self.answers.ask(request["desk"].name or f"@{self.address(request)}", question)
 
     async def question(self, request: web.Request) -> web.StreamResponse:
         """A command of the program over the day as it stands, or over a scenario."""
@@ -272,10 +335,9 @@ class Board:
             words += [*option, request.query[name]] if name in request.query else []
         words += ["--format", form] if form in ("csv", "json") else []
         scenarios = await self.body(request) if is_post else None
-        now, asked = len(self.day.records), Question(len(self.day.lines), command, tuple(words), scenarios)
-        ran = await self.ask(request, asked)
+        now, ran = await self.answers.ask(self.asker(request), Question(command, tuple(words), scenarios))
         if ran.status == 0:
-            return self.of_moment(request, now, form, ran.output)
+            return await self.of_moment(request, now, form, ran.output, ran.packed)
         status = 404 if ran.told.startswith(UNKNOWN) else {2: 400, 3: 422}.get(ran.status, 503)
         raise Problem(status, ran.told or "the program ended")
 
@@ -285,7 +347,8 @@ class Board:
             return web.Response(body=self.day.kinds.text, content_type=TYPES["json"])
         if request.path == "/v1/airport.csv":
             return web.Response(body=self.log.airport, content_type=TYPES["csv"])
-        return self.of_moment(request, len(self.day.records), "csv", self.day.feed().encode())
+        async with self.turn(request):
+            return await self.of_moment(request, len(self.day.records), "csv", self.day.feed().encode())
 
     async def get_events(self, request: web.Request) -> web.StreamResponse:
         """Server-sent events."""
@@ -300,11 +363,15 @@ class Board:
         response = web.StreamResponse(headers={
             "Content-Type": "text/event-stream", "Cache-Control": "no-store", "X-Accel-Buffering": "no"})
         await response.prepare(request)
-        stream = Stream(request["desk"], transport, guard.lost)
+        stream = Stream(request, request["desk"], transport, guard.lost)
         # A browser that comes back sends both, of which the header is the newer one.
         self.events.open(stream, request.headers.get("Last-Event-ID") or request.query.get("since") or "")
         try:
-            await stream.ended.wait()
+            # Not longer than a cookie; a display comes back by itself.
+            async with asyncio.timeout(SESSION):
+                await stream.ended.wait()
+        except TimeoutError:
+            transport.abort()
         finally:
             self.events.streams.discard(stream)
         return response
@@ -312,19 +379,29 @@ class Board:
     async def health(self, request: web.Request) -> web.Response:
         """Whether records get replies."""
         is_ready = self.sequencer.is_ready.is_set() and not self.is_closing
-        told = {"ready": is_ready, "accepted": len(self.day.lines), "position": len(self.day.records)}
+        told: dict[str, object] = {"ready": is_ready, "accepted": len(self.day.lines),
+                                   "position": len(self.day.records)}
+        if self.log.stale_since:
+            told["stale_since"] = self.log.stale_since
         return web.json_response(told, status=200 if is_ready else 503)
 
     async def metrics(self, request: web.Request) -> web.Response:
         """What to watch, for Prometheus."""
-        return web.Response(body=generate_latest(), content_type="text/plain")
+        return web.Response(body=prometheus.generate_latest(),
+                            headers={"Content-Type": prometheus.CONTENT_TYPE_LATEST})
 
     async def page(self, request: web.Request) -> web.StreamResponse:
-        """A file of the page."""
+        """A file of the page, compressed where that is taken."""
         path = PAGE / (request.match_info.get("file") or "index.html")
-        if not path.is_file():
+        if not path.is_file() or path.suffix not in FILES:
             raise Problem(404, "there is no such file")
-        return web.FileResponse(path)
+        body = path.read_bytes()
+        tag = f'"{zlib.crc32(body):08x}-{len(body)}"'
+        headers = {"ETag": tag, "Vary": "Accept-Encoding", "Content-Type": FILES[path.suffix]}
+        if tag in [f'"{had.value}"' for had in request.if_none_match or ()]:
+            return web.Response(status=304, headers=headers)
+        packed = await pack(body) if "gzip" in request.headers.get("Accept-Encoding", "") else None
+        return web.Response(body=packed or body, headers=headers | ({"Content-Encoding": "gzip"} if packed else {}))
 
     def application(self) -> web.Application:
         """All paths."""

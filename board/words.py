@@ -7,7 +7,7 @@ from datetime import datetime, timedelta, timezone
 ROLES = ("AO", "GH", "AP", "ATC", "NM")
 MOST_LINES, MOST_BYTES = 256, 100
 # Printable ASCII without the double quote: such a line is one record of CSV, whatever it holds.
-LINE = re.compile(rb"[\x20\x21\x23-\x7e]+")
+LINE = re.compile(rb"(?=.*[^ ])[\x20\x21\x23-\x7e]+")
 KEY = re.compile(r"[\x20-\x7e]{1,64}")
 
 
@@ -39,7 +39,7 @@ def lines_of(body: bytes, most: int = MOST_LINES, most_bytes: int = MOST_BYTES) 
     if len(lines) > most:
         raise Problem(400, f"at most {most} records are taken together", most + 1)
     for number, line in enumerate(lines, 1):
-        if len(line) > most_bytes or not line.strip() or not LINE.fullmatch(line):
+        if len(line) > most_bytes or not LINE.fullmatch(line):
             raise Problem(400, f'no record of 1 to {most_bytes} bytes of printable ASCII without "', number)
     return [line.decode("ascii") for line in lines]
 

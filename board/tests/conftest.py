@@ -1,5 +1,6 @@
 """A board for a test: a real server, a real sequencer, a real log. CDMSEQ names the program; without it the proved one is taken
-as soon as it has the forms that the server needs, and until then the stand-in."""
+where it is there, else the stand-in."""
+import contextlib
 import http.client
 import json
 import os
@@ -7,7 +8,6 @@ import pathlib
 import random
 import shutil
 import signal
-import sqlite3
 import subprocess
 import time
 from collections import namedtuple
@@ -22,15 +22,20 @@ Reply = namedtuple("Reply", "status headers body")
 
 def program():
     """The program that the tests run."""
-    for path in (os.environ.get("CDMSEQ"), ROOT / "crates/cdm_main/out/cdm_main"):
-        if path and os.access(path, os.X_OK):
-            kinds = subprocess.run([path, "kinds", "--format", "json"], capture_output=True)
-            if kinds.returncode == 0 and kinds.stdout.startswith(b'{"kind":'):
-                return str(pathlib.Path(path).resolve())
+    if os.environ.get("CDMSEQ"):
+        return os.path.realpath(os.environ["CDMSEQ"])
+    proved = ROOT / "crates/cdm_main/out/cdm_main"
+    if os.access(proved, os.X_OK):
+        return str(proved)
     return str(TESTS / "standin.py")
 
 
 PROGRAM = program()
+
+
+def has(command):
+    """Whether the program has a command."""
+    return subprocess.run([PROGRAM, command], capture_output=True, text=True).stderr.find("unrecognized subcommand") < 0
 
 
 def pytest_report_header():
@@ -58,9 +63,9 @@ def of_role(chance, role, flights):
 class Server:
     """One server process, which can be killed and started again."""
 
-    def __init__(self, folder, desks=None, options=(), environment=None, faulty=None, airport=AIRPORT):
-        self.folder, self.options, self.children = folder, list(options), []
-        self.airport, self.log = folder / "airport.csv", folder / "day.db"
+    def __init__(self, folder, desks=None, options=(), environment=None, faulty=None, airport=AIRPORT, log=None):
+        self.folder, self.options, self.left = folder, list(options), set()
+        self.airport, self.log = folder / "airport.csv", log or folder / "day.db"
         self.airport.write_text(airport)
         self.environment = dict(os.environ, CDMSEQ=PROGRAM, **(environment or {}))
         if faulty:
@@ -95,14 +100,22 @@ class Server:
         line = self.process.stdout.readline().decode()
         assert line.startswith("http"), (line, self.told())
         self.port = int(line.rstrip("/\n").rpartition(":")[2])
+        for number in self.sequencers():
+            with contextlib.suppress(OSError):
+                self.left.add(os.path.dirname(os.readlink(f"/proc/{number}/cwd")))
         return self
+
+    def clean(self):
+        """Removes what a killed server leaves in memory."""
+        for left in self.left:
+            shutil.rmtree(left, ignore_errors=True)
 
     def told(self):
         return (self.folder / "errors.txt").read_text()
 
     def request(self, method, path, body=None, desk=None, **headers):
         """One request. desk: whose token it has. Words in headers have _ for -."""
-        connection = http.client.HTTPConnection("127.0.0.1", self.port, timeout=40)
+        connection = http.client.HTTPConnection("127.0.0.1", self.port, timeout=120)
         try:
             sent = {name.replace("_", "-"): value for name, value in headers.items()}
             if desk:
@@ -183,14 +196,57 @@ def until(is_so, seconds=10):
         time.sleep(0.02)
 
 
+# What runs over each log: a file of the server's own, and a board of its own in PostgreSQL.
+EACH_LOG = ("test_a_reply_goes_to_its_own_record", "test_a_desk_speaks_for_its_own_role", "test_a_record_is_taken_once",
+            "test_what_is_forwarded_is_one_line", "test_an_answer_is_of_one_moment", "test_a_sequencer_that_ended_is_not_gone_on_with",
+            "test_a_sequencer_that_says_what_it_must_not_say_is_ended", "test_what_is_kept_of_replies_is_bounded", "test_a_day_is_its_log",
+            "test_what_was_answered_is_kept", "test_an_end_answers_what_waits", "test_the_clock_is_taken",
+            "test_an_operator_sends_for_its_own_flights", "test_each_event_once_among_many_displays")
+
+
+def pytest_generate_tests(metafunc):
+    if metafunc.function.__name__ in EACH_LOG:
+        metafunc.parametrize("log_engine", ["sqlite", "postgres"], indirect=True)
+
+
+@pytest.fixture(scope="session")
+def cluster():
+    """A cluster of PostgreSQL with a log's tables, for all tests that need one with nothing else in it."""
+    import clusters
+    if clusters.missing():
+        pytest.skip(f"a log in PostgreSQL: {' and '.join(clusters.missing())} missing")
+    with clusters.clusters(settings="fsync = off") as (primary,):
+        yield primary
+
+
 @pytest.fixture
-def board(tmp_path):
+def log_engine(request):
+    """Words for a server with another log than a file of its own."""
+    if getattr(request, "param", "sqlite") == "sqlite":
+        return lambda options: {}
+    url = request.getfixturevalue("cluster").url()
+    return lambda options: {"log": url, "options": [*options, "--board", f"{random.randrange(1 << 62):x}"]}
+
+
+def certificates(folder):
+    """Two certificates of this machine, each with its key."""
+    if shutil.which("openssl") is None:
+        pytest.skip("openssl is missing")
+    for name in ("one", "two"):
+        subprocess.run(["openssl", "req", "-x509", "-newkey", "ec", "-pkeyopt", "ec_paramgen_curve:P-256", "-nodes", "-keyout", f"{name}.key", "-out",
+                        f"{name}.crt", "-days", "2", "-subj", f"/CN={name}", "-addext", "subjectAltName=IP:127.0.0.1"],
+                       cwd=folder, check=True, capture_output=True)
+
+
+@pytest.fixture
+def board(tmp_path, log_engine):
     """Makes servers, and ends them."""
     made = []
 
     def make(*words, start=True, **more):
         folder = tmp_path / f"board-{len(made)}"
         folder.mkdir()
+        more |= log_engine(more.get("options", ())) if "log" not in more else {}
         made.append(Server(folder, *words, **more))
         return made[-1].start() if start else made[-1]
     yield make
@@ -198,10 +254,7 @@ def board(tmp_path):
         if server.process is not None and server.process.poll() is None:
             server.kill()
         if server.process is not None:
-            database = sqlite3.connect(server.log)
-            for left in pathlib.Path("/dev/shm").glob(f"cdmboard-{database.execute('SELECT id FROM cdm_log').fetchone()[0]}-*"):
-                shutil.rmtree(left)
-            database.close()
+            server.clean()
             assert "Traceback" not in server.told()
 
 

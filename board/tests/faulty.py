@@ -1,8 +1,8 @@
 #!/usr/bin/python3 -SE
 """Runs the program, and once spoils what its `serve` says, at one reply.
     faulty.py FAULT:N DONE PROGRAM WORDS..
-FAULT: drop (reply N is left out), twice, end (it ends instead of reply N), torn (half of reply N, then it ends), always (it ends
-at each reply N), slow (each plan and why takes N seconds). DONE: a file that says that it was done."""
+FAULT: drop (reply N is left out), twice, end (it ends instead of reply N), torn (half of reply N, then it ends), mute (it says nothing
+more), always (it ends at each reply N), slow (each plan and why takes N seconds). DONE: a file that says that it was done."""
 import os
 import subprocess
 import sys
@@ -19,6 +19,8 @@ for count, line in enumerate(program.stdout):
     spoiled = count == int(number) and (fault == "always" or not os.path.exists(done))
     if spoiled:
         open(done, "w").close()
+    if spoiled and fault == "mute":
+        time.sleep(3600)
     if spoiled and fault in ("end", "always", "torn"):
         sys.stdout.buffer.write(line[:len(line) // 2] if fault == "torn" else b"")
         sys.stdout.buffer.flush()

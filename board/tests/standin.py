@@ -6,6 +6,10 @@ slot of its own: its TSAT is its TOBT, and nothing holds it. It is no part of th
     standin.py kinds --format json
     standin.py plan AIRPORT FEED [--scenarios FILE] [--format text|csv|json]
     standin.py why AIRPORT FEED FLIGHT [--scenarios FILE --scenario NAME] [--format json]
+    standin.py compare AIRPORT FEED SCENARIOS [NAME]
+    standin.py next AIRPORT FEED [MINUTES] [--scenarios FILE --scenario NAME] [--format json]
+    standin.py warnings AIRPORT FEED [--scenarios FILE --scenario NAME] [--format json]
+    standin.py causes AIRPORT FEED [--by runway|operator] [--scenarios FILE --scenario NAME] [--format json]
     standin.py check AIRPORT FEED --format json
     standin.py trace AIRPORT FEED --format json
     standin.py serve AIRPORT JOURNAL --format json"""
@@ -152,8 +156,29 @@ def serve(airport, journal):
             out({"record": number, "reply": "ACCEPTED", "accepted": day.accepted, "changes": changes})
 
 
+def shift(day, command, words, options):
+    """Toys of the three: all that start up at all, all that are blocked, how many there are."""
+    if words and not (command == "next" and len(words) == 1 and words[0].isdecimal() and 1 <= int(words[0]) <= 2880):
+        raise Fault(f"error: invalid value '{words[0]}'", 2)
+    if "--by" in options and (command != "causes" or options["--by"] not in ("runway", "operator")):
+        raise Fault(f"error: invalid value '{options['--by']}' for '--by'", 2)
+    rows = [row for _, row in sorted(day.rows.items())]
+    placed, blocked = ([row for row in rows if row["status"] == status] for status in ("PLANNED", "BLOCKED"))
+    found = {"next": [{name: row.get(name) for name in "tsat flight runway stand tobt ctot ttot delay cause".split()} for row in placed],
+             "warnings": [{"kind": "BLOCKED"} | {name: row.get(name) for name in "flight runway time ctot ttot rule placed cap".split()} for row in blocked],
+             "causes": [{"group": "TOTAL", "placed": len(placed), "by": options.get("--by"), "blocked": len(blocked)}]}[command]
+    if options.get("--format") == "json":
+        for one in found:
+            out(one)
+    else:
+        print(f"DAY {day.day} NOW {day.now}")
+        for one in found:
+            print(command.upper(), *one.values())
+    return 0
+
+
 def main(words):
-    options = {name: words[words.index(name) + 1] for name in ("--format", "--scenarios", "--scenario") if name in words}
+    options = {name: words[words.index(name) + 1] for name in ("--format", "--scenarios", "--scenario", "--by") if name in words}
     command, *rest = [word for word in words if word not in options and word not in options.values()]
     if command == "--version":
         print("cdmseq stand-in")
@@ -208,6 +233,12 @@ def main(words):
         else:
             print(f"FLIGHT {rest[2]} {day.rows[rest[2]]['status']}")
         return 0
+    if command == "compare":
+        for name in ("SCENARIO", "-", *scenarios(rest[2])):
+            print(name)
+        return 0
+    if command in ("next", "warnings", "causes"):
+        return shift(day, command, rest[2:], options)
     raise Fault(f"error: unrecognized subcommand '{command}'", 2)
 
 
@@ -218,4 +249,7 @@ if __name__ == "__main__":
         print(fault.args[0], file=sys.stderr)
         sys.exit(fault.args[1])
     except BrokenPipeError:
+        sys.exit(1)
+    except OSError as fault:
+        print(f"cdmseq: {fault.filename}: {fault.strerror}", file=sys.stderr)
         sys.exit(1)

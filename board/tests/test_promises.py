@@ -10,12 +10,12 @@ import os
 
 import aiohttp
 import pytest
-from conftest import ROLES, moment, until
+from conftest import ROLES, moment, objects, until
 
 ALL = {role.lower(): f'role = "{role}"' for role in ROLES}
 
 
-@pytest.mark.parametrize("fault", ["drop", "twice", "end", "torn"])
+@pytest.mark.parametrize("fault", ["drop", "twice", "end", "torn", "mute"])
 def test_a_reply_goes_to_its_own_record(board, fault):
     """Whatever the sequencer says wrongly or not at all: each sender gets the reply that its record has."""
     server = board(faulty=f"{fault}:3")
@@ -113,28 +113,31 @@ def test_what_is_forwarded_is_one_line(board):
 
 
 def test_an_answer_is_of_one_moment(board):
-    """Records come while questions wait: each answer is the day's at the position that it names."""
+    """Records come while questions wait and run: each answer is the day's at the position that it names."""
     server = board(faulty="slow:0.3")
     server.post(["FLT,AB1,5"], Cdm_Role="AP")
+    nothing = f"SCENARIO,X\nTOBT,AB1,{moment(400)}\n"
 
     async def talk():
         async with aiohttp.ClientSession(f"http://127.0.0.1:{server.port}") as session:
-            async def ask(path):
-                async with session.get(path) as answer:
-                    return int(answer.headers["Cdm-Position"]), await answer.read()
+            async def ask(method, path, role):
+                headers = {"Cdm-Role": role, "Accept": "application/json"}
+                async with session.request(method, path, headers=headers, data=nothing if method == "POST" else None) as answer:
+                    assert answer.headers["ETag"].endswith(f'-{answer.headers["Cdm-Position"]}"')
+                    return int(answer.headers["Cdm-Position"]), objects(await answer.read())
 
             async def speak():
                 for number in range(2, 60):
                     async with session.post("/v1/records", data=f"FLT,AB{number},5", headers={"Cdm-Role": "AP"}) as answer:
                         assert answer.status == 200
-                    await asyncio.sleep(0.02)
-            asked = [ask(path) for path in ("/v1/why/AB1", "/v1/why/AB1.json", "/v1/plan", "/v1/plan.json")]
+                    await asyncio.sleep(0.03)
+            asked = [ask(*one) for role in ROLES for one in (("GET", "/v1/plan.json", role), ("POST", "/v1/what-if", role))]
             return (await asyncio.gather(speak(), *asked))[1:]
-    for position, body in asyncio.run(talk()):
-        if body.startswith(b'{"scenario"'):
-            assert len(json.loads(body)["flights"]) == position == 1
-        else:
-            assert b"AB1" in body and position == 1
+    positions = set()
+    for position, plans in asyncio.run(talk()):
+        positions.add(position)
+        assert [len(plan["flights"]) for plan in plans] == [position] * len(plans)
+    assert len(positions) > 1 and max(positions) < 60
 
 
 def test_a_sequencer_that_ended_is_not_gone_on_with(board):
@@ -241,7 +244,7 @@ def test_what_is_kept_of_replies_is_bounded(board):
     """`changes` is kept for the last 2,000 records, and is null before."""
     server = board({f"ap{desk}": 'role = "AP"' for desk in range(9)})
     for desk in range(9):
-        server.post([f"FLT,F{desk}X{number},5" for number in range(256)], f"ap{desk}", "k")
+        assert len(server.post([f"FLT,F{desk}X{number},5" for number in range(256)], f"ap{desk}", "k")) == 256
     kept = server.records("ap0")
     assert [record["position"] for record in kept if record.get("changes") is not None][0] == 305
     assert len(kept) == 2304

@@ -11,14 +11,14 @@ import time
 import urllib.request
 
 import pytest
-from conftest import AIRPORT, PROGRAM, ROOT, figure, moment, objects, until
+from conftest import AIRPORT, PROGRAM, ROOT, certificates, figure, moment, objects, until
 
 ENVIRONMENT = dict(os.environ, CDMSEQ=PROGRAM)
 DESKS = {"ap": 'role = "AP"', "screen": 'role = "READ"'}
 
 
 def cdmboard(*words, environment=ENVIRONMENT):
-    return subprocess.run([str(ROOT / "cdmboard"), *map(str, words)], env=environment, capture_output=True, text=True, timeout=60)
+    return subprocess.run([str(ROOT / "cdmboard"), *map(str, words)], env=environment, capture_output=True, text=True, timeout=120)
 
 
 @pytest.fixture
@@ -28,7 +28,7 @@ def files(tmp_path):
 
 
 @pytest.mark.parametrize("words", [[], ["airport.csv"], ["A", "L", "--nix"], ["A", "L", "--listen", "x"], ["A", "L", "--listen", "0.0.0.0:0"],
-                                   ["A", "L", "--behind-proxy"], ["A", "L", "--listen", "0.0.0.0:0", "--tls", "c", "k"], ["A", "postgresql://x"],
+                                   ["A", "L", "--behind-proxy"], ["A", "L", "--listen", "0.0.0.0:0", "--tls", "c", "k"], ["A", "L", "--tls", "c"],
                                    ["A", "L", "--desks", "D", "--listen", "0.0.0.0:0"], ["import", "A"], ["export"]])
 def test_wrong_words_are_status_2(files, words):
     there = {"A": files / "airport.csv", "L": files / "day.db", "D": files / "desks.toml"}
@@ -189,10 +189,7 @@ def test_the_clock_is_taken(board):
 
 def test_sealed_by_tls(board):
     server = board(DESKS, start=False)
-    for name in ("one", "two"):
-        subprocess.run(["openssl", "req", "-x509", "-newkey", "ec", "-pkeyopt", "ec_paramgen_curve:P-256", "-nodes", "-keyout", f"{name}.key", "-out",
-                        f"{name}.crt", "-days", "2", "-subj", f"/CN={name}", "-addext", "subjectAltName=IP:127.0.0.1"],
-                       cwd=server.folder, check=True, capture_output=True)
+    certificates(server.folder)
     for kind in ("crt", "key"):
         (server.folder / f"used.{kind}").write_bytes((server.folder / f"one.{kind}").read_bytes())
     server.options += ["--tls", str(server.folder / "used.crt"), str(server.folder / "used.key")]
@@ -229,3 +226,8 @@ def test_behind_a_proxy(board):
     assert "Secure" in session.headers["Set-Cookie"]
     assert server.get("/v1/plan", "nobody", Host="cdm.example", X_Forwarded_For="1.2.3.4, 10.9.8.7").status == 401
     assert " 10.9.8.7 " in server.told()
+    # A proxy that says it in a header of its own: what the client said itself stands before it.
+    with socket.create_connection(("127.0.0.1", server.port)) as own:
+        own.sendall(b"GET /v1/plan HTTP/1.1\r\nHost: cdm.example\r\nX-Forwarded-For: 10.6.6.6\r\nX-Forwarded-For: 10.7.7.7\r\n\r\n")
+        assert own.recv(65536).startswith(b"HTTP/1.1 401")
+    assert " 10.7.7.7 " in server.told() and "10.6.6.6" not in server.told()

@@ -80,4 +80,4 @@ def test_the_tower_is_answered(board):
            f"memory {before:.0f} MiB before, {memory:.0f} MiB at most; what the flood got: {statuses}")
     assert len(times) > SECONDS / 4 and memory < before + 100
     mine = [record for record in server.records("atc") if record["desk"] == "gh"]
-    assert len(mine) <= 300 and 403 in statuses and 429 in statuses
+    assert len(mine) <= 300 and (403 in statuses or len(mine) < 300) and 429 in statuses

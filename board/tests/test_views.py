@@ -6,7 +6,8 @@ import signal
 import socket
 import time
 
-from conftest import PROGRAM, ROOT, moment, objects, until
+import pytest
+from conftest import PROGRAM, ROOT, has, moment, objects, until
 
 DESKS = {"gh": 'role = "GH"', "ap": 'role = "AP"', "screen": 'role = "READ"'}
 
@@ -151,6 +152,34 @@ def test_questions_over_a_scenario(board):
     assert len(server.records("gh")) == 1
 
 
+def test_a_shift(board):
+    """What comes, what is wrong, what it costs: texts and JSON, over the day and over a scenario, with the program's own words."""
+    if not has("next"):
+        pytest.skip("test_a_shift: the program has no next, warnings, causes")
+    server = board(DESKS | {"atc": 'role = "ATC"', "ao": 'role = "AO"', "nm": 'role = "NM"'})
+    server.post(["FLT,AB1,5", "FLT,AB2,5"], "ap")
+    server.post(["RWY,AB1,27L"], "atc")
+    server.post([f"TOBT,AB1,{moment(20)}"], "ao")
+    server.post([f"CTOT,AB2,{moment(45)}"], "nm")
+    first, = objects(server.get("/v1/next.json?minutes=30", "gh").body)
+    assert (first["flight"], first["runway"], first["tobt"]) == ("AB1", "27L", moment(20))
+    for path in ("next", "next?minutes=2880", "warnings", "causes", "causes?by=runway", "causes?by=operator"):
+        answer = server.get(f"/v1/{path}", "screen")
+        assert answer.status == 200 and answer.headers["Content-Type"].startswith("text/plain") and answer.headers["Cdm-Position"] == "5", path
+    assert "BLOCKED" in server.get("/v1/warnings", "gh").body.decode()
+    assert [one["kind"] for one in objects(server.get("/v1/warnings.json", "gh").body) if one["flight"] == "AB2"] == ["BLOCKED"]
+    assert objects(server.get("/v1/causes.json", "gh").body)[-1]["placed"] == 1
+    late = f"SCENARIO,LATE\nRWY,AB2,27L\nTOBT,AB2,{moment(25)}\n"
+    assert len(objects(server.request("POST", "/v1/next.json?minutes=60&scenario=LATE", late, "gh").body)) == 2
+    warned = objects(server.request("POST", "/v1/warnings?scenario=LATE", late, "gh", Accept="application/json").body)
+    assert not [one for one in warned if one["kind"] == "BLOCKED"]
+    assert objects(server.request("POST", "/v1/causes?scenario=LATE&by=runway", late, "gh", Accept="application/json").body)[-1]["placed"] == 2
+    assert server.request("POST", "/v1/next?scenario=NIX", late, "gh").status == 404
+    for wrong in ("next?minutes=0", "next?minutes=2881", "next?minutes=x", "next?minutes=", "causes?by=stand", "causes?by=", "warnings?by=runway", "next?by=runway",
+                  "warnings?minutes=30"):
+        assert server.get(f"/v1/{wrong}", "gh").status == 400, wrong
+
+
 def test_one_running_question_a_desk_and_equal_ones_once(board):
     server = board(DESKS, faulty="slow:0.2")
     server.post([f"FLT,AB{number},5" for number in range(40)], "ap")
@@ -163,7 +192,7 @@ def test_one_running_question_a_desk_and_equal_ones_once(board):
         statuses = [answer.result().status for answer in asked]
         began = time.monotonic()
         assert {answer.result().status for answer in same} == {200} and most <= 2
-    assert statuses.count(429) >= 1 and statuses.count(200) == 40 - statuses.count(429) >= 16
+    assert statuses.count(429) >= 1 and statuses.count(200) == 40 - statuses.count(429) >= 16, statuses
     # Asked again at the same moment it is there already.
     began = time.monotonic()
     assert server.get("/v1/why/AB0", "screen").status == 200 and time.monotonic() - began < 0.3
@@ -200,8 +229,11 @@ def test_the_log_is_read(board):
 
 def test_too_much_is_429(board):
     server = board({f"ap{number}": 'role = "AP"' for number in range(2)})
-    sent = [server.post(["FOO"] * 256, "ap0") for _ in range(3)]
-    assert len(sent[0]) == 256 and sent[2].status == 429 and int(sent[2].headers["Retry-After"]) >= 1
+    with concurrent.futures.ThreadPoolExecutor(4) as pool:
+        sent = list(pool.map(lambda _: server.post(["FOO"] * 256, "ap0"), range(4)))
+    taken, refused = ([one for one in sent if isinstance(one, list) == is_taken] for is_taken in (True, False))
+    assert taken and all(len(one) == 256 for one in taken)
+    assert refused and all(one.status == 429 and int(one.headers["Retry-After"]) >= 1 for one in refused)
     assert len(server.post(["FOO"], "ap1")) == 1
     assert server.post(["FOO"] * 257, "ap1").status == 400
     assert server.post(b"FOO\n" * 17_000, "ap1").status == 413

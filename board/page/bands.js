@@ -1,0 +1,120 @@
+// Each runway's hours from NOW on, drawn from the program's `load`: a column a cell, a block a place.
+import { $, el } from './dom.js';
+import { hm, later, minutesFrom, nextDay } from './times.js';
+
+const MOST_CELLS = 15;
+const MOST_BLOCKS = 6;
+const HOURS = 2.5;
+const CELL = 3.625; // rem: the widest name fits
+
+export class Bands {
+  constructor(day) {
+    Object.assign(this, { day, runways: [], other: null, bands: new Map() });
+  }
+
+  take(runways) {
+    this.runways = runways;
+    this.show();
+  }
+
+  /** The loads of a what-if, as a second row; null: none. */
+  beside(runways) {
+    this.other = runways;
+    this.show();
+  }
+
+  show() {
+    const root = $('#runways');
+    const withFlights = this.runways.length <= 4;
+    for (const runway of this.runways) {
+      const cells = cellsOf(runway, this.day.date);
+      const other = this.other?.find((one) => one.runway === runway.runway);
+      const text = JSON.stringify([cells, runway.now, other && likeOf(other, cells), withFlights]);
+      const band = this.bands.get(runway.runway) ?? this.make(runway.runway);
+      if (band.text === text) continue;
+      band.text = text;
+      this.draw(band, runway, cells, other && likeOf(other, cells), withFlights);
+    }
+    for (const [name, band] of this.bands) {
+      if (!this.runways.some((one) => one.runway === name)) {
+        band.root.remove();
+        this.bands.delete(name);
+      }
+    }
+    $('.empty', root).hidden = this.runways.length > 0;
+  }
+
+  make(name) {
+    const head = el('h3', { id: `rw-${name}` });
+    const table = el('table');
+    const scroll = el('div', { class: 'scroll', tabindex: 0, role: 'region', 'aria-label': `Runway ${name}, hours from NOW` }, table);
+    const band = { root: el('section', { class: 'band', 'aria-labelledby': `rw-${name}` }, head, scroll), head, table, text: '' };
+    this.bands.set(name, band);
+    $('#runways').append(band.root);
+    return band;
+  }
+
+  draw(band, runway, cells, other, withFlights) {
+    const { date } = this.day;
+    band.head.replaceChildren(runway.runway, ' ', el('b', {}, stateOf(cells, runway, date)), ' ',
+      el('small', {}, `cells of ${runway.cell} min`));
+    band.table.style.minWidth = `${3.25 + cells.length * CELL}rem`;
+    const heads = cells.map((cell) => el('th', { scope: 'col', class: cell.from.slice(14, 16) === '00' && 'hour' }, hm(cell.from, date)));
+    const bodies = [el('tbody', {}, ...rowsOf('load', cells, runway, withFlights))];
+    if (other) {
+      const moved = new Map(cells.map((cell) => [cell.from, new Set(cell.flights)]));
+      bodies.push(el('tbody', { class: 'wi' }, ...rowsOf('what-if', other, runway, withFlights, moved)));
+    }
+    band.table.replaceChildren(el('thead', {}, el('tr', {}, el('th', { scope: 'col' }, 'TTOT'), ...heads)), ...bodies);
+  }
+}
+
+/** A runway's cell by its beginning. The program tells those from the first to the last that has something to tell. */
+function cellOf({ cells }, from) {
+  return cells.find((cell) => cell.from === from) ?? { from, placed: 0, cap: null, closed: 0, flights: [] };
+}
+
+const likeOf = (runway, cells) => cells.map((cell) => cellOf(runway, cell.from));
+
+/** The cells of the axis, from the one that has NOW on, up to the end of the two days. */
+function cellsOf(runway, date) {
+  const midnight = `${runway.now.slice(0, 10)}T00:00Z`;
+  const first = Math.floor(minutesFrom(midnight, runway.now) / runway.cell) * runway.cell;
+  const count = Math.max(1, Math.min(MOST_CELLS, HOURS * 60 / runway.cell));
+  const end = nextDay(nextDay(date));
+  return Array.from({ length: count }, (_, at) => later(midnight, first + at * runway.cell))
+    .filter((from) => from < end).map((from) => cellOf(runway, from));
+}
+
+/** In words, whether it is open. */
+function stateOf(cells, { cell: length }, date) {
+  const isShut = (cell) => cell.closed >= length;
+  const open = cells.find((cell) => !isShut(cell));
+  if (isShut(cells[0])) return open ? `closed, opens at ${open.closed ? 'or after ' : ''}${hm(open.from, date)}` : 'closed for these hours';
+  if (cells[0].closed) return `closed ${cells[0].closed} of these ${length} min`;
+  const next = cells.find((cell) => cell.closed);
+  return next ? `open, closes at ${next.closed < length ? 'or after ' : ''}${hm(next.from, date)}` : 'open';
+}
+
+function rowsOf(title, cells, { cell: length }, withFlights, before = null) {
+  const loads = cells.map((cell, at) => {
+    const isShut = cell.closed >= length;
+    const isOver = cell.cap !== null && cell.placed > cell.cap;
+    const name = [at === 0 && 'at', cell.closed && 'shut', isOver && 'over', cell.cap !== null && cell.placed === cell.cap && 'full'];
+    const shut = isShut && !cell.placed;
+    return el('td', { class: name.filter(Boolean).join(' ') || null }, el('span', { class: 'st', 'aria-hidden': 'true' }, ...blocks(cell, shut)),
+      el('span', { class: 'num' }, shut ? 'shut' : cell.cap === null ? '0' : `${cell.placed}/${cell.cap}${isOver ? '!' : ''}`),
+      cell.closed && !shut ? el('span', { class: 'vh' }, `, ${cell.closed} min closed`) : null);
+  });
+  const rows = [el('tr', {}, el('th', { scope: 'row' }, title), ...loads)];
+  if (withFlights) {
+    rows.push(el('tr', { class: 'names' }, el('th', { scope: 'row' }, 'flights'), ...cells.map((cell) => el('td', {},
+      ...cell.flights.flatMap((name, at) => [at > 0 && el('br'), before && !before.get(cell.from)?.has(name) ? `${name}*` : name])))));
+  }
+  return rows;
+}
+
+function blocks({ placed, cap }, isShut) {
+  if (isShut || cap === null || Math.max(placed, cap) > MOST_BLOCKS) return [];
+  return Array.from({ length: Math.max(placed, cap) }, (_, at) => el(at >= cap ? 's' : at < placed ? 'b' : 'i')).reverse();
+}

@@ -1,0 +1,44 @@
+// The day as the server said it: a Row for each flight by name, and of which moment.
+
+/** A flight is late if its delay is more than this: the program's own limit, which the page shows in words. */
+export const LATE = 15;
+export const isLate = (row) => row.delay != null && row.delay > LATE;
+
+/** The columns that make a Row another one. */
+const SAME = ['status', 'runway', 'stand', 'priority', 'group', 'tobt', 'exot', 'ctot', 'tsat', 'ttot', 'delay', 'rule'];
+
+export class Day {
+  constructor() {
+    this.rows = new Map();
+    this.date = '';
+    this.now = '';
+    this.position = 0;
+    this.moment = '';
+  }
+
+  /** The whole day anew. What changed against the one before, by name: [before, after]; null where there is none. */
+  take(plan, position, moment) {
+    const rows = new Map(plan.flights.map((row) => [row.flight, row]));
+    const changed = new Map();
+    for (const [name, row] of rows) {
+      const before = this.rows.get(name) ?? null;
+      if (!before || SAME.some((column) => before[column] !== row[column])) changed.set(name, [before, row]);
+    }
+    for (const [name, before] of this.rows) if (!rows.has(name)) changed.set(name, [before, null]);
+    Object.assign(this, { rows, date: plan.day, now: plan.now, position, moment });
+    return changed;
+  }
+
+  /** Puts the Rows that a record changed over those that were. What changed, by name; null where it is older. */
+  apply(reply) {
+    if (reply.position <= this.position) return null;
+    this.position = reply.position;
+    if (reply.line.startsWith('CLOCK,')) this.now = reply.line.slice(6);
+    const changed = new Map();
+    for (const row of reply.changes ?? []) {
+      changed.set(row.flight, [this.rows.get(row.flight) ?? null, row]);
+      this.rows.set(row.flight, row);
+    }
+    return changed;
+  }
+}

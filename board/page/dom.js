@@ -1,0 +1,30 @@
+// Elements of the page. Text is always put in as text, never as markup.
+
+export const $ = (selector, root = document) => root.querySelector(selector);
+export const $$ = (selector, root = document) => [...root.querySelectorAll(selector)];
+
+/** An element with attributes (false and null are left out) and children, of which strings become text. */
+export function el(tag, attributes = {}, ...children) {
+  const node = document.createElement(tag);
+  for (const [name, value] of Object.entries(attributes)) {
+    if (value === true) node.setAttribute(name, '');
+    else if (value !== false && value != null) node.setAttribute(name, String(value));
+  }
+  node.append(...children.filter((child) => child != null && child !== false));
+  return node;
+}
+
+/** Puts a text in, if it isn't there already. */
+export function say(node, text) {
+  const now = String(text);
+  if (node.textContent !== now) node.textContent = now;
+}
+
+/** What isn't known is a dash: never 0, never nothing. */
+export const known = (value) => (value == null || value === '' ? '–' : String(value));
+
+/** A row of a table from its template, with its cells. */
+export function cloned(template) {
+  const row = template.content.firstElementChild.cloneNode(true);
+  return { row, cells: [...row.children] };
+}

@@ -1,0 +1,87 @@
+// The filter, kept in the address, so that a link shows the same.
+import { $, el, say } from './dom.js';
+
+const FIELDS = ['flight', 'runway', 'status', 'op'];
+const STATUS = { blocked: 'BLOCKED', planned: 'PLANNED', 'off-block': 'OFFBLOCK', airborne: 'AIRBORNE', cancelled: 'CANCELLED' };
+
+export class Filter {
+  constructor(onChange) {
+    this.form = $('#filter');
+    this.onChange = onChange;
+    this.read();
+    this.form.addEventListener('submit', (event) => {
+      event.preventDefault();
+      this.typed();
+    });
+    for (const name of ['input', 'change']) this.form.addEventListener(name, () => this.typed());
+    $('#show-all').addEventListener('click', () => {
+      for (const field of FIELDS) this.form.elements[field].value = '';
+      this.typed();
+      this.form.elements.flight.focus();
+    });
+    addEventListener('popstate', () => {
+      this.read();
+      this.onChange();
+    });
+  }
+
+  /** What the address says. */
+  read() {
+    const query = new URLSearchParams(location.search);
+    for (const field of FIELDS) {
+      const input = this.form.elements[field];
+      const value = (query.get(field) ?? '').slice(0, 16);
+      if (value && input.tagName === 'SELECT' && ![...input.options].some((one) => one.value === value)) {
+        input.append(el('option', { value }, value));
+      }
+      input.value = value;
+    }
+    this.values = this.said();
+  }
+
+  said() {
+    const values = Object.fromEntries(FIELDS.map((field) => [field, this.form.elements[field].value.trim()]));
+    return { ...values, flight: values.flight.toUpperCase(), op: values.op.toUpperCase() };
+  }
+
+  typed() {
+    this.values = this.said();
+    const query = new URLSearchParams(Object.entries(this.values).filter(([, value]) => value)).toString();
+    history.replaceState(null, '', `${location.pathname}${query && `?${query}`}${location.hash}`);
+    this.onChange();
+  }
+
+  /** Sets it from elsewhere. */
+  set(values) {
+    for (const field of FIELDS) this.form.elements[field].value = values[field] ?? '';
+    this.typed();
+  }
+
+  get isOn() {
+    return FIELDS.some((field) => this.values[field]);
+  }
+
+  /** Whether a Row is shown. */
+  takes(row) {
+    const { flight, runway, status, op } = this.values;
+    return (!flight || row.flight.includes(flight)) && (!runway || row.runway === runway)
+      && (!status || row.status === STATUS[status]) && (!op || row.flight.startsWith(op));
+  }
+
+  /** Says what is shown, at the top of the tables. */
+  head(shown, all) {
+    const { flight, runway, status, op } = this.values;
+    const words = [flight && `flight ${flight}`, runway && `runway ${runway}`, status, op && `operator ${op}`].filter(Boolean);
+    $('#filtered').hidden = !this.isOn;
+    say($('#filtered span'), `Filter: ${words.join(', ')}. ${shown} of ${all} flights; warnings and runways show all.`);
+  }
+
+  /** The runways and operators that there are. */
+  offer(runways, operators) {
+    const select = this.form.elements.runway;
+    for (const name of runways) {
+      if (![...select.options].some((one) => one.value === name)) select.append(el('option', { value: name }, name));
+    }
+    $('#operators').replaceChildren(...operators.map((name) => el('option', { value: name })));
+  }
+}

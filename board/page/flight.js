@@ -1,0 +1,149 @@
+// One flight: what it is, why it waits, what to send, and its records.
+import { $, $$, el, known, say } from './dom.js';
+import { isLate } from './day.js';
+import { RecordForm } from './form.js';
+import { Problem, objects } from './net.js';
+import { showRecords } from './records.js';
+import { hm, later, minutesFrom } from './times.js';
+
+const LETTERS = { ICE: 'I', NOW: 'N', CTOT: 'C', CLOSURE: 'X', SPACING: 'S', RATE: 'R' };
+const LATER = 10;
+const DRAWN = 180;
+const STATUS = { PLANNED: 'planned', BLOCKED: 'blocked', OFFBLOCK: 'off-block', AIRBORNE: 'airborne', CANCELLED: 'cancelled' };
+
+export class FlightPanel {
+  constructor(day, desk, runways, onSent) {
+    Object.assign(this, { day, desk, runways, onSent, name: null, form: null, answered: '' });
+    this.root = $('#p-flight');
+  }
+
+  open(name) {
+    Object.assign(this, { name, form: null, answered: '', why: null });
+    say($('h2 span', this.root), name);
+    $('.x-close', this.root).setAttribute('aria-label', `Close ${name}`);
+    for (const id of ['waits', 'f-later', 'f-form', 'f-records']) $(`#${id}`).replaceChildren();
+    say($('#why-note'), '…');
+    $('#wait').replaceChildren();
+    say($('#wait-ends'), '');
+    this.changed();
+    this.makeForm();
+  }
+
+  close() {
+    this.name = null;
+  }
+
+  get row() {
+    return this.day.rows.get(this.name);
+  }
+
+  /** What its Row says. */
+  changed() {
+    const { row } = this;
+    const { date } = this.day;
+    $('#f-unknown').hidden = Boolean(row) || !this.day.date;
+    $('#f-known').hidden = !row;
+    if (!row) {
+      say($('h2 small', this.root), '');
+      return;
+    }
+    say($('h2 small', this.root), [STATUS[row.status], row.rule, row.runway ? `runway ${row.runway}` : 'no runway', row.stand ? `stand ${row.stand}` : 'no stand',
+      `priority ${row.priority}`, `group ${row.group}`].filter(Boolean).join(', '));
+    const facts = { tobt: hm(row.tobt, date), exot: row.exot, ctot: hm(row.ctot, date), tsat: hm(row.tsat, date), ttot: hm(row.ttot, date), delay: row.delay };
+    for (const [name, value] of Object.entries(facts)) say($(`#f-${name}`), known(value));
+    $('#f-late').hidden = !isLate(row);
+    if (this.answered && this.answered !== JSON.stringify([row.tobt, row.status])) this.makeForm();
+  }
+
+  /** The records that the desk may make of this flight, and what comes of being late. */
+  makeForm() {
+    const { row } = this;
+    const kinds = row ? this.desk.kindsOf(this.name) : [];
+    $('#f-send').hidden = !kinds.length;
+    if (!kinds.length) return;
+    this.answered = JSON.stringify([row.tobt, row.status]);
+    say($('#f-send small'), `as ${this.desk.words}`);
+    if (!this.form?.isUsed) {
+      this.form = new RecordForm(kinds, { flight: this.name, row, day: this.day, runways: this.runways, onSent: this.onSent,
+        label: `One record for ${this.name}` });
+      this.form.enable(!document.documentElement.classList.contains('is-lost'));
+      $('#f-form').replaceChildren(this.form.root);
+    }
+    this.askLater();
+  }
+
+  /** What the plan would be, were it ten minutes later: the program's answer to a what-if. */
+  async askLater() {
+    const { name, row } = this;
+    const root = $('#f-later');
+    root.replaceChildren();
+    if (!row.tobt || !['PLANNED', 'BLOCKED'].includes(row.status) || !this.desk.kindsOf(name).some((kind) => kind.kind === 'TOBT')) return;
+    const time = later(row.tobt, LATER);
+    try {
+      const body = `SCENARIO,LATER\nTOBT,${name},${time}\n`;
+      const { list: [{ row: then }] } = await objects(`/v1/why/${name}.json?scenario=LATER`, { method: 'POST', body });
+      if (this.name !== name) return;
+      const at = hm(time, this.day.date);
+      const button = el('button', { type: 'button' }, `Put TOBT ${at} into the form`);
+      button.addEventListener('click', () => this.form.propose('TOBT', at));
+      root.replaceChildren(`${LATER} minutes late: send TOBT ${at}. It would then `, el('b', {}, then.tsat ? `start up at ${hm(then.tsat, this.day.date)}` : `be blocked by ${then.rule}`),
+        then.tsat ? `, delay ${then.delay}. ` : '. ', button);
+    } catch (problem) {
+      if (!(problem instanceof Problem)) throw problem;
+    }
+  }
+
+  /** The program's `why`. */
+  takeWhy([why]) {
+    const { row, waits } = why;
+    const { date } = this.day;
+    const times = ({ from, to }) => (from === to ? hm(from, date) : `${hm(from, date)}–${hm(to, date)}`);
+    const [first, last] = [waits[0], waits.at(-1)];
+    say($('#why-note'), !waits.length ? { PLANNED: 'It doesn’t wait.', BLOCKED: `It is blocked by ${row.rule}: it lacks what that rule asks for.` }[row.status] ?? 'It has left, or was cancelled.'
+      : row.status === 'BLOCKED' ? `Blocked by ${row.rule}: no minute from ${hm(first.from, date)} to ${hm(last.to, date)} is free.`
+        : `${row.delay} min, take-off ${hm(first.from, date)} to ${hm(row.ttot, date)}`);
+    $('#waits').replaceChildren(...waits.map((wait) => el('li', {}, el('b', { class: `k${LETTERS[wait.reason]}`, 'aria-hidden': 'true' }, LETTERS[wait.reason]),
+      el('span', {}, times(wait)), el('span', {}, el('b', {}, wait.reason), wait.cap === null ? '' : ` ${wait.flights.length}/${wait.cap}`,
+        wait.reason === 'SPACING' ? ' to' : '', ...wait.flights.flatMap((name) => [' ', el('a', { href: `#${name}` }, name)])),
+      el('span', {}, `${minutesFrom(wait.from, wait.to) + 1} min`))));
+    this.draw(waits, row);
+  }
+
+  /** The waiting minutes as a bar of at most three hours. */
+  draw(waits, row) {
+    const bar = $('#wait');
+    bar.replaceChildren();
+    bar.toggleAttribute('hidden', !waits.length);
+    say($('#wait-ends'), '');
+    if (!waits.length) return;
+    const whole = Math.min(DRAWN, minutesFrom(waits[0].from, waits.at(-1).to) + 1);
+    const shape = (tag, attributes, text = '') => {
+      const node = document.createElementNS('http://www.w3.org/2000/svg', tag);
+      for (const [name, value] of Object.entries(attributes)) node.setAttribute(name, value);
+      node.textContent = text;
+      bar.append(node);
+    };
+    for (const wait of waits) {
+      const from = minutesFrom(waits[0].from, wait.from);
+      const to = Math.min(whole, minutesFrom(waits[0].from, wait.to) + 1);
+      if (from >= whole) break;
+      const [x, width] = [from * 400 / whole, (to - from) * 400 / whole];
+      shape('rect', { class: `k${LETTERS[wait.reason]}`, x: (x + 0.5).toFixed(1), y: 1, width: Math.max(1, width - 1).toFixed(1), height: 26 });
+      if (width > 14) shape('text', { x: (x + width / 2).toFixed(1), y: 19 }, LETTERS[wait.reason]);
+    }
+    say($('#wait-ends'), `${hm(waits[0].from, this.day.date)} TOBT + EXOT · ${row.ttot ? `${hm(row.ttot, this.day.date)} TTOT` : `${whole} minutes are drawn`}`);
+  }
+
+  failed(problem) {
+    say($('#why-note'), problem.message);
+  }
+
+  takeRecords(list) {
+    say($('#f-count'), `${list.length}, newest first`);
+    showRecords($('#f-records'), list, this.name);
+  }
+}
+
+export function enableForms(isOn) {
+  for (const button of $$('.panel:not(#p-sign-in) form button:not([type=button])')) button.disabled = !isOn;
+}

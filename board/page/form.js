@@ -1,0 +1,134 @@
+// The records that a desk's role may make, as a form: kinds, fields, forms and ranges are those of the program's table.
+import { el, say } from './dom.js';
+import { Problem, newKey, objects } from './net.js';
+import { sentence } from './records.js';
+import { hm, typed } from './times.js';
+
+const TIME = 'YYYY-MM-DDTHH:MMZ';
+let count = 0;
+
+/** The words that a form lists, as `NONE, STAND or REMOTE`; null where it is no such list. */
+const listed = (form) => (/^[A-Z]+(, [A-Z]+)* or [A-Z]+$/.test(form) ? form.split(/, | or /) : null);
+
+/** What a field has now, from the flight's Row. */
+function current(name, kind, row, date) {
+  if (!row) return '';
+  if (name === 'time') return { TOBT: row.tobt, CTOT: row.ctot }[kind] ? hm({ TOBT: row.tobt, CTOT: row.ctot }[kind], date) : '';
+  return { priority: row.priority, runway: row.runway, stand: row.stand, group: row.group }[name] ?? '';
+}
+
+export class RecordForm {
+  /** kinds: rows of the table; flight: of which all records are, or null; day; runways(): their names; onSent(). */
+  constructor(kinds, { flight, row, day, runways, onSent, label }) {
+    Object.assign(this, { kinds, flight, row, day, runways, onSent, key: null, keyOf: '', isSending: false });
+    this.id = `f${count += 1}`;
+    this.kind = el('select', { name: 'kind' }, ...kinds.map((kind) => el('option', { value: kind.kind }, kind.kind)));
+    // What comes next of a flight, where the desk may send it.
+    const due = { PLANNED: row?.runway ? ['TOBT', 'OFF'] : [], BLOCKED: ['TOBT'], OFFBLOCK: ['AIR'] }[row?.status] ?? [];
+    this.kind.value = (kinds.find((kind) => due.includes(kind.kind)) ?? kinds[0]).kind;
+    this.fields = el('div', { class: 'fields' });
+    this.line = el('code');
+    this.button = el('button', {}, 'Send');
+    this.reply = el('p', { class: 'reply', tabindex: -1, hidden: true });
+    this.root = el('form', { class: 'send', 'aria-label': label }, el('label', {}, 'Kind ', this.kind), this.fields, this.button,
+      el('p', { class: 'hint', id: `${this.id}-line` }, 'Goes out as ', this.line), this.reply);
+    this.kind.addEventListener('change', () => this.choose());
+    for (const name of ['input', 'change']) this.root.addEventListener(name, () => this.preview());
+    this.root.addEventListener('submit', (event) => {
+      event.preventDefault();
+      this.send();
+    });
+    this.choose();
+  }
+
+  /** The fields of the kind that is chosen. */
+  choose() {
+    const kind = this.kinds.find((one) => one.kind === this.kind.value);
+    this.inputs = [];
+    const nodes = [];
+    for (const [at, field] of kind.fields.entries()) {
+      if (this.flight && at === 0) continue;
+      const id = `${this.id}-${at}`;
+      const hint = [field.form.replace(TIME, `HH:MM UTC (or ${this.day.date.slice(8)} HH:MM)`), field.range].filter(Boolean).join('; ');
+      const choices = field.name === 'runway' && this.runways().length ? this.runways() : listed(field.form);
+      const value = current(field.name, kind.kind, this.row, this.day.date);
+      const input = choices
+        ? el('select', { id, name: field.name, 'aria-describedby': `${id}-h` }, ...choices.map((one) => el('option', { value: one }, one)))
+        : el('input', { id, name: field.name, size: field.form.includes(TIME) ? 9 : 6, maxlength: 17, autocomplete: 'off', spellcheck: 'false',
+          'aria-describedby': `${id}-h ${this.id}-line`, value });
+      if (choices && choices.includes(String(value))) input.value = value;
+      this.inputs.push({ input, isTime: field.form.includes(TIME) });
+      nodes.push(el('label', { for: id }, field.name), input, el('span', { class: 'hint', id: `${id}-h` }, hint));
+    }
+    this.fields.replaceChildren(...nodes);
+    this.preview();
+  }
+
+  /** Whether somebody types in it, sends it or reads its reply. */
+  get isUsed() {
+    return this.isSending || !this.reply.hidden || this.root.contains(document.activeElement);
+  }
+
+  /** Puts a kind and its values in, as a proposal. */
+  propose(kind, ...values) {
+    this.kind.value = kind;
+    this.choose();
+    values.forEach((value, at) => { this.inputs[at].input.value = value; });
+    this.preview();
+    this.button.focus();
+  }
+
+  text() {
+    const values = this.inputs.map(({ input, isTime }) => (isTime ? typed(input.value, this.day.date) : input.value.trim()));
+    return [this.kind.value, ...(this.flight ? [this.flight] : []), ...values].join(',');
+  }
+
+  preview() {
+    say(this.line, this.text());
+  }
+
+  enable(isOn) {
+    this.button.disabled = !isOn;
+  }
+
+  async send() {
+    const line = this.text();
+    // The same line with the same key is taken once, however often it is sent, until there is a reply.
+    if (this.keyOf !== line || !this.key) [this.key, this.keyOf] = [newKey(), line];
+    this.button.disabled = true;
+    this.isSending = true;
+    try {
+      const { list: [reply] } = await objects('/v1/records', { method: 'POST', body: `${line}\n`, key: this.key });
+      this.key = null;
+      if (reply.reply === 'ACCEPTED') {
+        const names = (reply.changes ?? []).map((row) => row.flight);
+        this.answer('Accepted.', names.length ? `${names.length === 1 ? 'This flight' : `${names.length} flights`} changed: ${names.slice(0, 8).join(', ')}${names.length > 8 ? ' …' : ''}.`
+          : 'No flight changed.', reply, true);
+      } else {
+        this.answer(`Refused, ${reply.word}.`, 'Nothing is changed.', reply, false);
+        const words = await sentence(reply.position);
+        this.answer('Refused,', `${words.replace(/[.]?$/, '.')} Nothing is changed.`, reply, false);
+      }
+      this.onSent(reply);
+    } catch (problem) {
+      if (!(problem instanceof Problem)) throw problem;
+      if (problem.status === 0 || problem.status === 504) {
+        this.answer('No reply.', `It isn’t known whether the record was taken. Send it again: it is taken once. (${problem.message})`, null, false);
+      } else {
+        this.key = null;
+        this.answer('Not taken.', `${problem.message}.`, null, false);
+      }
+    } finally {
+      this.isSending = false;
+      this.button.disabled = document.documentElement.classList.contains('is-lost');
+    }
+  }
+
+  /** The reply, below the form; it gets the focus, so that it is read. */
+  answer(word, words, reply, isGood) {
+    this.reply.replaceChildren(el('b', {}, word), ` ${words} `, reply ? el('small', {}, `record ${reply.position}, ${reply.at.slice(11, 19)}`) : '');
+    this.reply.classList.toggle('good', isGood);
+    this.reply.hidden = false;
+    this.reply.focus({ preventScroll: true });
+  }
+}

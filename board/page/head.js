@@ -1,0 +1,93 @@
+// NOW, the totals, and how the connection is.
+import { $, el, say } from './dom.js';
+import { clock } from './net.js';
+import { recordText } from './moves.js';
+import { dayText, hm, hms } from './times.js';
+
+const NO_CLOCK = 120000;
+const PAUSE = 10000;
+
+export class Head {
+  constructor(day) {
+    this.day = day;
+    this.clockAt = null; // when the last CLOCK was taken, by the server's clock
+    this.isHeard = false; // whether that is known
+    this.status = $('#conn');
+    this.written = -PAUSE;
+    this.timer = 0;
+    setInterval(() => this.clockText(), 1000);
+  }
+
+  now() {
+    const { date, now } = this.day;
+    say($('#date'), dayText(date));
+    say($('.now time'), hm(now, date));
+    $('.now time').setAttribute('datetime', now);
+    document.title = `${hm(now, date)} Start-up board`;
+    this.clockText();
+  }
+
+  /** A CLOCK was taken at this moment of the server's clock; null: none is known, since the page was opened. */
+  clockTaken(at) {
+    this.isHeard = at !== null;
+    this.clockAt = at === null ? clock.now() : Date.parse(at);
+    this.clockText();
+  }
+
+  /** Where no CLOCK came for two minutes, that is said; the page never counts on by itself. */
+  clockText() {
+    if (this.clockAt === null) return;
+    const isOld = clock.now() - this.clockAt >= NO_CLOCK;
+    $('#no-clock').hidden = !isOld;
+    say($('#no-clock'), `${this.isHeard ? 'no CLOCK since' : 'no CLOCK seen since'} ${hms(this.clockAt).slice(0, 5)}`);
+  }
+
+  totals({ placed, late, blocked, delay, max }) {
+    for (const [name, value] of Object.entries({ placed, late, blocked, delay, max })) say($(`#n-${name}`), value ?? '–');
+  }
+
+  /** What is said of the connection: at once, or at most every ten seconds. */
+  tell(parts, isUrgent = false) {
+    this.parts = parts;
+    const pause = this.written + PAUSE - performance.now();
+    if (!isUrgent && pause > 0) {
+      this.timer ||= setTimeout(() => this.write(), pause);
+      return;
+    }
+    this.write();
+  }
+
+  write() {
+    clearTimeout(this.timer);
+    this.timer = 0;
+    this.written = performance.now();
+    this.status.replaceChildren(...this.parts);
+  }
+
+  /** The last record, and how many start-ups it moved. */
+  record(reply, moved) {
+    const what = `Record ${reply.position} at ${hms(reply.at)}: ${reply.desk} sent ${recordText(reply.line)}. `;
+    this.tell([el('b', {}, 'Connected'), ` ${what}${moved === 1 ? '1 start-up' : `${moved} start-ups`} moved.`]);
+  }
+
+  lost(since, why) {
+    document.documentElement.classList.add('is-lost');
+    this.tell([el('b', {}, 'CONNECTION LOST'), ` since ${hms(since)} UTC: ${why}. Shown: record ${this.day.position}. Nothing can be `
+      + 'sent; trying again.'], true);
+  }
+
+  connected(words = '') {
+    document.documentElement.classList.remove('is-lost');
+    this.tell([el('b', {}, 'Connected'), words && ` ${words}`].filter(Boolean), true);
+  }
+
+  /** A warning that is new is said at once. */
+  warn(words) {
+    this.tell([el('b', {}, 'Connected'), ` New warning: ${words}.`], true);
+  }
+
+  stale(since) {
+    $('#stale').hidden = !since;
+    say($('#stale'), since ? `The log isn’t reached since ${hms(since)} UTC: what is shown may be old, and nothing can be sent.` : '');
+  }
+}

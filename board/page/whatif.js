@@ -1,0 +1,143 @@
+// What-if: a box for scenarios, their comparison, what moves, and the picture of both. Nothing of it changes the day.
+import { $, el, say } from './dom.js';
+import { startUp } from './moves.js';
+import { Problem, ask, objects } from './net.js';
+import { showPicture } from './picture.js';
+import { minutesFrom } from './times.js';
+
+const PICTURES = 10000;
+const COLUMNS = ['placed', 'delay', 'max', 'late', 'blocked', 'moved'];
+
+export class WhatIf {
+  constructor(day, bands) {
+    Object.assign(this, { day, bands, body: '', asked: 0, pictured: -PICTURES });
+    this.box = $('#scenario');
+    $('#p-what-if form').addEventListener('submit', (event) => {
+      event.preventDefault();
+      this.compare();
+    });
+    $('#b-pictures').addEventListener('click', () => this.pictures());
+  }
+
+  open() {
+    if (!this.box.value) this.box.value = 'SCENARIO,NAME\n';
+    this.hint();
+    say($('#wi-at'), `over the day at record ${this.day.position}`);
+    document.documentElement.classList.toggle('is-whatif', this.bands.other !== null);
+  }
+
+  /** How a scenario is written, with a runway and the date of this day. */
+  hint() {
+    const { date } = this.day;
+    if (!date) return;
+    const record = `CLOSE,${this.bands.runways[0]?.runway ?? '27L'},${date}T06:20Z,${date}T06:40Z`;
+    say($('#scenario-h'), `SCENARIO,name, then records as desks send them, one a line, as ${record}. Times are UTC.`);
+  }
+
+  close() {
+    this.bands.beside(null);
+    document.documentElement.classList.remove('is-whatif');
+    $('#wi-answer').hidden = true;
+    $('#wi-picture').hidden = true;
+  }
+
+  fault(words) {
+    const node = $('#wi-fault');
+    node.hidden = !words;
+    say(node, words);
+    if (words) node.focus({ preventScroll: true });
+  }
+
+  get names() {
+    return this.box.value.split('\n').map((line) => /^SCENARIO,([A-Z0-9-]{1,16})\s*$/.exec(line)?.[1]).filter(Boolean);
+  }
+
+  /** Compares them; `name` is the scenario whose flights are shown. */
+  async compare(name = this.names[0]) {
+    const number = this.asked += 1;
+    const body = this.box.value;
+    this.fault('');
+    if (!name) return this.fault('A scenario begins with a line SCENARIO,NAME.');
+    try {
+      const options = { method: 'POST', body, accept: 'application/json' };
+      const { list, position } = await objects(`/v1/compare/${name}`, options);
+      if (number !== this.asked) return;
+      this.body = body;
+      say($('#wi-at'), `over the day at record ${position}`);
+      this.table(list.filter((one) => 'scenario' in one), name);
+      this.moved(list.filter((one) => 'flight' in one), name);
+      $('#wi-answer').hidden = false;
+      $('#wi-picture').hidden = true;
+      $('#wi-head').focus({ preventScroll: true });
+      const refused = list.find((one) => one.scenario === name && 'word' in one);
+      if (refused) {
+        this.bands.beside(null);
+        document.documentElement.classList.remove('is-whatif');
+        return;
+      }
+      const loads = await objects(`/v1/load.json?scenario=${name}`, { method: 'POST', body });
+      if (number !== this.asked) return;
+      this.bands.beside(loads.list);
+      document.documentElement.classList.add('is-whatif');
+    } catch (problem) {
+      if (!(problem instanceof Problem)) throw problem;
+      if (number === this.asked) this.fault(`${problem.message}.`);
+    }
+  }
+
+  table(lines, shown) {
+    const base = lines.find((one) => one.scenario === null);
+    const rows = lines.map((one) => {
+      const label = one.scenario ?? 'day';
+      const title = one.scenario === null || one.scenario === shown || lines.length <= 2 ? label : this.chooser(label);
+      if ('word' in one) return el('tr', {}, el('th', { scope: 'row' }, title), el('td', { colspan: 6 }, `refused: update ${one.update}, ${one.word}`));
+      return el('tr', { class: one.scenario === shown && 'chosen' }, el('th', { scope: 'row' }, title),
+        ...COLUMNS.map((name) => el('td', { class: 'n' }, String(one[name]))));
+    });
+    const mine = lines.find((one) => one.scenario === shown && !('word' in one));
+    if (mine) {
+      rows.push(el('tr', { class: 'diff' }, el('th', { scope: 'row' }, 'difference'), ...COLUMNS.slice(0, 5).map((name) => el('td', { class: 'n' },
+        signed(mine[name] - base[name]))), el('td')));
+    }
+    $('#wi-table').replaceChildren(...rows);
+  }
+
+  chooser(name) {
+    const button = el('button', { type: 'button', class: 'quiet' }, name);
+    button.addEventListener('click', () => this.compare(name));
+    return button;
+  }
+
+  moved(list, name) {
+    const { date } = this.day;
+    say($('#wi-moved'), list.length ? `${list.length === 1 ? '1 flight' : `${list.length} flights`}, TSAT or rule` : 'no flight');
+    $('#wi-flights').replaceChildren(...list.map(({ flight, before, after }) => {
+      const row = after ?? before;
+      const change = !before ? 'new' : before.tsat && after.tsat ? `${signed(minutesFrom(before.tsat, after.tsat))} min`
+        : after.tsat ? 'placed' : before.tsat ? 'blocked' : 'no start-up';
+      return el('tr', {}, el('th', { scope: 'row' }, el('a', { href: `#${row.flight ?? flight}` }, flight)), el('td', {}, startUp(before, date)),
+        el('td', {}, startUp(after, date)), el('td', {}, change));
+    }));
+    say($('#wi-note'), `In the runways’ bands the second row is ${name}; * marks a flight that isn’t in that cell now.`);
+  }
+
+  /** The day's picture with the scenarios' below it: asked for at most every ten seconds. */
+  async pictures() {
+    const pause = this.pictured + PICTURES - performance.now();
+    if (pause > 0) return this.fault(`A picture can be drawn again in ${Math.ceil(pause / 1000)} s.`);
+    this.pictured = performance.now();
+    this.fault('');
+    try {
+      const body = this.names.length ? this.box.value : '';
+      const text = await (await ask('/v1/picture.svg', { method: 'POST', body })).text();
+      $('#wi-picture').hidden = false;
+      showPicture($('#wi-drawn'), text, `The day, and ${this.names.join(', ') || 'no scenario'}, as timelines`);
+      $('#wi-picture').focus({ preventScroll: true });
+    } catch (problem) {
+      if (!(problem instanceof Problem)) throw problem;
+      this.fault(`${problem.message}.`);
+    }
+  }
+}
+
+const signed = (value) => (value > 0 ? `+${value}` : value < 0 ? `−${-value}` : '0');

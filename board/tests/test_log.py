@@ -1,0 +1,179 @@
+"""The log's promises, over each engine by the same calls."""
+import asyncio
+import sqlite3
+
+import clusters
+import pytest
+from conftest import ROOT
+
+AIRPORT = b"DAY,2025-03-10\n"
+
+
+@pytest.fixture(scope="module")
+def primary():
+    """One cluster for all tests here."""
+    if clusters.missing():
+        pytest.skip(f"a log in PostgreSQL: {' and '.join(clusters.missing())} missing")
+    with clusters.clusters(settings="fsync = off") as (primary,):
+        yield primary
+
+
+@pytest.fixture(params=["sqlite", "postgres"])
+def log_at(request, tmp_path):
+    """Makes logs of one place, by their board; and something that puts a row there by force."""
+    import sys
+    sys.path.insert(0, str(ROOT))
+    from board import postgres, sqlite
+    if request.param == "sqlite":
+        path = str(tmp_path / "day.db")
+
+        def force(text):
+            database = sqlite3.connect(path)
+            database.execute(text)
+            database.commit()
+            database.close()
+        return (lambda board="": sqlite.FileLog(path, board)), force
+    cluster = request.getfixturevalue("primary")
+    cluster.sql("TRUNCATE cdm_log, cdm_record")
+    return (lambda board="": postgres.PostgresLog(cluster.url(), board)), cluster.sql
+
+
+def talk(log_at, what, board=""):
+    """What some calls over an open log return."""
+    async def all_of_it():
+        log = log_at(board)
+        await log.open(AIRPORT, "v1")
+        try:
+            return await what(log)
+        finally:
+            await log.close()
+    return asyncio.run(all_of_it())
+
+
+def batch(*lines, desk="ap", key=None, **more):
+    from board.log import Batch
+    return Batch(desk, [("AP", line) for line in lines], key, at="2025-03-10T06:00:00.000Z", **more)
+
+
+def problem(call):
+    from board.words import Problem
+    with pytest.raises(Problem) as raised:
+        call()
+    return raised.value.status
+
+
+def test_records_stand_in_the_order_in_which_they_were_taken(log_at):
+    open_log, _ = log_at
+
+    async def what(log):
+        assert await log.append(batch("A", "B")) == range(1, 3)
+        assert await log.append(batch("C", desk="gh")) == range(3, 4)
+        together = await asyncio.gather(*(log.append(batch(f"D{number}", f"E{number}")) for number in range(20)))
+        rows = await log.rows(0, 1000)
+        assert [(row.position, row.desk, row.role, row.line, row.at) for row in rows[:3]] == [
+            (1, "ap", "AP", "A", "2025-03-10T06:00:00.000Z"), (2, "ap", "AP", "B", "2025-03-10T06:00:00.000Z"),
+            (3, "gh", "AP", "C", "2025-03-10T06:00:00.000Z")]
+        assert sorted(position for positions in together for position in positions) == list(range(4, 44))
+        assert [[rows[position - 1].line for position in positions] for positions in together] == [
+            [f"D{number}", f"E{number}"] for number in range(20)]
+        assert [row.position for row in await log.rows(41, 2)] == [42, 43] and await log.rows(43, 5) == []
+        return log.id, rows
+    log_id, rows = talk(open_log, what)
+
+    async def again(log):
+        assert (log.id, log.airport) == (log_id, AIRPORT)
+        return await log.whole()
+    assert talk(open_log, again) == rows
+
+
+def test_a_key_is_taken_once(log_at):
+    open_log, _ = log_at
+
+    async def what(log):
+        assert await log.append(batch("A", "B", key="k")) == range(1, 3)
+        same = await asyncio.gather(*(log.append(batch("C", desk="gh", key="k")) for _ in range(10)))
+        assert same == [range(3, 4)] * 10
+        assert await log.append(batch("A", "B", key="k", most=0, closed="closed", end=0)) == range(1, 3)
+        return [row.line for row in await log.rows(0, 100)]
+    assert talk(open_log, what) == ["A", "B", "C"]
+    for lines in (("A",), ("A", "C"), ("A", "B", "B")):
+        assert problem(lambda: talk(open_log, lambda log: log.append(batch(*lines, key="k")))) == 422
+    assert talk(open_log, lambda log: log.append(batch("A", "B", key="k"))) == range(1, 3)
+
+
+def test_a_desk_and_a_log_take_so_many(log_at):
+    open_log, _ = log_at
+    assert talk(open_log, lambda log: log.append(batch("A", "B", most=2))) == range(1, 3)
+    assert problem(lambda: talk(open_log, lambda log: log.append(batch("C", most=2)))) == 403
+    assert problem(lambda: talk(open_log, lambda log: log.append(batch("C", closed="only the tower")))) == 403
+    assert problem(lambda: talk(open_log, lambda log: log.append(batch("C", end=2)))) == 403
+    assert talk(open_log, lambda log: log.append(batch("C", desk="gh", most=1))) == range(3, 4)
+
+
+def test_another_airport_or_program_is_refused(log_at):
+    from board.words import Fault
+    open_log, _ = log_at
+    talk(open_log, lambda log: log.append(batch("A")))
+
+    async def opened(airport, version):
+        log = open_log()
+        try:
+            await log.open(airport, version)
+        finally:
+            await log.close()
+    for airport, version, what in ((b"DAY,2025-03-11\n", "v1", "another airport file"), (AIRPORT, "v2", "another program")):
+        with pytest.raises(Fault, match=what) as raised:
+            asyncio.run(opened(airport, version))
+        assert raised.value.status == 3 and "export" in str(raised.value) and "import" in str(raised.value)
+    asyncio.run(opened(AIRPORT, "v1"))
+
+
+@pytest.mark.parametrize("line", ["A\nAP,B", "A\rB", 'A"', "F" * 101, "", " ", "\xe9", "A\x00"])
+def test_a_row_that_is_no_line_is_a_fault(log_at, line):
+    """Also where whoever may do all has put it there."""
+    from board.words import Fault
+    open_log, force = log_at
+    talk(open_log, lambda log: log.append(batch("A")))
+    told = "".join(f"chr({ord(sign)}) || " for sign in line.replace("\x00", "\x7f")) + "''"
+    if "char" not in told and force.__name__ == "force":
+        told = told.replace("chr(", "char(")
+    if force.__name__ == "sql":
+        force("ALTER TABLE cdm_record DROP CONSTRAINT IF EXISTS cdm_record_line_check")
+    force(f"INSERT INTO cdm_record VALUES ('', 2, 'ap', NULL, 0, 1, 'AP', {told}, 'now')")
+    with pytest.raises(Fault, match="position 2 isn't one line"):
+        talk(open_log, lambda log: log.rows(0, 10))
+
+
+def test_a_row_that_is_missing_is_a_fault(log_at):
+    from board.words import Fault
+    open_log, force = log_at
+    talk(open_log, lambda log: log.append(batch("A", "B", "C")))
+    force("DELETE FROM cdm_record WHERE position = 2")
+    with pytest.raises(Fault, match="position 2 is missing"):
+        talk(open_log, lambda log: log.rows(0, 10))
+
+
+def test_ten_boards_of_one_database(log_at):
+    """Each has its own records and positions; nobody waits for another board."""
+    open_log, force = log_at
+
+    async def speak(log, board):
+        for turn in range(10):
+            assert await log.append(batch(f"A{board}{turn}", key=str(turn))) == range(turn + 1, turn + 2)
+        return log.id, [row.line for row in await log.whole()]
+
+    async def all_of_them():
+        logs = [open_log(f"board-{board}") for board in range(10)]
+        for log in logs:
+            await log.open(AIRPORT, "v1")
+        try:
+            return await asyncio.gather(*(speak(log, board) for board, log in enumerate(logs)))
+        finally:
+            for log in logs:
+                await log.close()
+    if force.__name__ == "sql":
+        found = asyncio.run(all_of_them())
+    else:
+        found = [talk(open_log, lambda log, board=board: speak(log, board), f"board-{board}") for board in range(10)]
+    assert [lines for _, lines in found] == [[f"A{board}{turn}" for turn in range(10)] for board in range(10)]
+    assert len({log_id for log_id, _ in found}) == 10

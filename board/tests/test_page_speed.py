@@ -1,0 +1,146 @@
+"""The page over a full day: how soon it shows, how soon an event is seen, and that it never stalls. Limits are for an idle machine,
+multiplied by BOARD_PAGE_FACTOR."""
+import json
+import threading
+import time
+
+import pytest
+from browser import FACTOR, Page, chromium  # noqa: F401
+from conftest import Server, figure
+
+COUNT = 2000
+AIRPORT = "DAY,2025-03-10\n" + "".join(f"RUNWAY,{name},10,12\n" for name in ("09", "27L", "18", "36")) + "".join(
+    f"TAXI,*,{name},15\n" for name in ("09", "27L", "18", "36"))
+RUNWAYS = ("09", "27L", "18", "36")
+# What is told of long tasks, of when a chunk of events comes, and of when a row shows it.
+WATCH = r"""
+window.long = []; window.came = []; window.seen = [];
+new PerformanceObserver((list) => { for (const e of list.getEntries()) window.long.push([e.startTime, e.duration]); })
+  .observe({type: 'longtask', buffered: true});
+const read = ReadableStreamDefaultReader.prototype.read;
+ReadableStreamDefaultReader.prototype.read = async function (...words) {
+  const got = await read.apply(this, words);
+  if (typeof got.value === 'string') for (const [, at] of got.value.matchAll(/"line":"TOBT,[A-Z0-9]+,[^"]+","at":"([^"]+)"/g)) window.came.push([at, performance.now()]);
+  return got;
+};
+"""
+
+
+def name_of(number):
+    return f"{('DLH', 'BAW', 'AFR', 'RYR')[number % 4]}{number}"
+
+
+def at(minute):
+    return f"2025-03-10T{minute // 60:02}:{minute % 60:02}Z"
+
+
+@pytest.fixture(scope="module")
+def full(tmp_path_factory):
+    """A server with a full day: 2,000 flights on four runways."""
+    folder = tmp_path_factory.mktemp("full")
+    server = Server(folder, airport=AIRPORT)
+    # Quickly into the log: as a feed that is imported.
+    import os
+    import subprocess
+    from conftest import ROOT
+    lines = [f"AP,FLT,{name_of(n)},5" for n in range(COUNT)] + [f"ATC,RWY,{name_of(n)},{RUNWAYS[n % 4]}" for n in range(COUNT)]
+    lines += [f"AO,TOBT,{name_of(n)},{at(240 + n * 900 // COUNT)}" for n in range(COUNT)] + ["ATC,CLOCK,2025-03-10T06:00Z"]
+    (folder / "feed.csv").write_text("\n".join(lines) + "\n")
+    subprocess.run([str(ROOT / "cdmboard"), "import", str(server.airport), str(server.log), str(folder / "feed.csv")], check=True,
+                   env=server.environment)
+    assert os.path.exists(server.log)
+    yield server.start()
+    server.end()
+
+
+@pytest.fixture
+def shown(request, full):
+    from browser import missing, size
+    if missing():
+        pytest.skip(f"{request.node.name}: {missing()}")
+    driver = request.getfixturevalue("chromium")
+    size(driver, 1280, 900)
+    page = Page(driver, full)
+    watch = driver.execute_cdp_cmd("Page.addScriptToEvaluateOnNewDocument", {"source": WATCH})
+    driver.execute_cdp_cmd("Network.clearBrowserCache", {})
+    driver.get_log("browser"), driver.get_log("performance")
+    yield page
+    driver.execute_cdp_cmd("Page.removeScriptToEvaluateOnNewDocument", watch)
+    assert page.told() == []
+    driver.get("about:blank")
+
+
+def test_a_full_day_at_first(shown):
+    shown.open()
+    shown.until("return document.querySelectorAll('#all tbody tr').length === 2000")
+    paint = shown.js("return performance.getEntriesByName('first-contentful-paint')[0].startTime")
+    rows = shown.js("return window.long.map((l) => l[1])")
+    figure(f"page, {COUNT} flights: first paint {paint:.0f} ms, longest task {max(rows, default=0):.0f} ms")
+    assert paint < 1000 * FACTOR and max(rows, default=0) < 100 * FACTOR
+    # What went over the wire, besides the plan.
+    messages = [json.loads(line["message"])["message"] for line in shown.driver.get_log("performance")]
+    paths = {message["params"]["requestId"]: message["params"]["request"]["url"] for message in messages if message["method"] == "Network.requestWillBeSent"}
+    bytes_of = {}
+    for message in messages:
+        if message["method"] == "Network.dataReceived":
+            path = paths.get(message["params"]["requestId"], "")
+            bytes_of[path] = bytes_of.get(path, 0) + message["params"]["encodedDataLength"]
+        if message["method"] == "Network.loadingFinished":
+            path = paths.get(message["params"]["requestId"], "")
+            bytes_of[path] = max(bytes_of.get(path, 0), message["params"]["encodedDataLength"])
+    ours = {path: count for path, count in bytes_of.items() if "127.0.0.1" in path and "plan.json" not in path and "/v1/picture" not in path}
+    assert sum("board.css" in path or path.endswith(".js") for path in ours) > 20
+    figure(f"page: {sum(ours.values())} bytes at first load besides the plan, {sum(count for path, count in ours.items() if '/v1/' not in path)} of them files")
+    assert sum(ours.values()) <= 100_000, sorted(ours.items(), key=lambda one: -one[1])[:12]
+
+
+def test_twenty_records_a_second(shown):
+    shown.open()
+    shown.until("return document.querySelectorAll('#all tbody tr').length === 2000")
+    time.sleep(2)
+    shown.js("""window.long.length = 0; window.came.length = 0; window.shown = new Map();
+        new MutationObserver((list) => requestAnimationFrame(() => { const now = performance.now();
+          for (const {target} of list) { const row = (target.closest ? target : target.parentElement)?.closest?.('tr[data-flight]');
+            if (row) { const key = `${row.dataset.flight} ${row.cells[5].textContent}`; if (!window.shown.has(key)) window.shown.set(key, now); } } }))
+        .observe(document.querySelector('#all'), {subtree: true, childList: true, characterData: true});
+        window.cameOf = new Map();
+        const read = ReadableStreamDefaultReader.prototype.read;
+        ReadableStreamDefaultReader.prototype.read = async function (...words) {
+          const got = await read.apply(this, words);
+          if (typeof got.value === 'string') for (const [, name, time] of got.value.matchAll(/"line":"TOBT,([A-Z0-9]+),\\d{4}-\\d\\d-\\d\\dT(\\d\\d:\\d\\d)Z"/g)) window.cameOf.set(`${name} ${time}`, performance.now());
+          return got;
+        };""")
+    posted, stop = [], threading.Event()
+
+    def post():
+        number = 0
+        while not stop.is_set() and number < 160:
+            began = time.monotonic()
+            name, minute = name_of(400 + number * 7), 420 + number % 300
+            reply = shown.server.post(f"TOBT,{name},{at(minute)}", Cdm_Role="AO")[0]
+            if reply["reply"] == "ACCEPTED" and reply["changes"]:
+                posted.append((f"{name} {minute // 60:02}:{minute % 60:02}", len(reply["changes"])))
+            number += 1
+            time.sleep(max(0, 0.05 - (time.monotonic() - began)))
+    thread = threading.Thread(target=post)
+    began = time.monotonic()
+    thread.start()
+    thread.join(60)
+    stop.set()
+    seconds = time.monotonic() - began
+    time.sleep(1.5)
+    came, seen = shown.js("return [Object.fromEntries(window.cameOf), Object.fromEntries(window.shown)]")
+    waits = sorted(seen[key] - came[key] for key, rows in posted if key in came and key in seen and rows <= 100)
+    assert len(waits) > 100, (len(posted), len(came), len(seen), posted[:3], list(came)[:3], list(seen)[:3])
+    tasks = shown.js("return window.long.map((l) => l[1])")
+    figure(f"page, {COUNT} flights, {160 / seconds:.0f} records a second: an event is shown in {waits[len(waits) // 2]:.0f} ms at the median, "
+           f"{waits[-1]:.0f} ms at most ({len(waits)} events); longest task {max(tasks, default=0):.0f} ms")
+    assert waits[len(waits) // 2] < 100 * FACTOR / 2 and waits[-1] < 100 * FACTOR
+    assert max(tasks, default=0) < 100 * FACTOR
+    # And it is the plan's day in the end.
+    plan = {row["flight"]: row["tsat"] for row in json.loads(shown.server.get("/v1/plan.json").body)["flights"]}
+    hm = lambda time: time[11:16] if time and time.startswith("2025-03-10") else f"{time[8:10]} {time[11:16]}" if time else "–"
+    read = "return Object.fromEntries([...document.querySelectorAll('#all tbody tr')].map((r) => [r.dataset.flight, r.cells[0].textContent]))"
+    assert shown.js(read) == {name: hm(tsat) for name, tsat in plan.items()}
+    order = shown.js("return [...document.querySelectorAll('#all [data-status=PLANNED] tbody tr')].map((r) => r.dataset.flight)")
+    assert order == sorted(order, key=lambda name: (plan[name], name))

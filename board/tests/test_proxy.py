@@ -1,0 +1,82 @@
+"""Behind nginx, with the site that docs/OPERATING.md shows."""
+import json
+import os
+import re
+import shutil
+import signal
+import socket
+import ssl
+import subprocess
+import time
+import urllib.error
+import urllib.request
+
+import pytest
+from conftest import ROOT, certificates, objects, until
+
+DESKS = {"ap": 'role = "AP"', "screen": 'role = "READ"'}
+NGINX = shutil.which("nginx", path="/usr/sbin:/usr/bin")
+
+
+def free_port():
+    with socket.create_server(("127.0.0.1", 0)) as own:
+        return own.getsockname()[1]
+
+
+@pytest.fixture
+def site(board):
+    """The board behind nginx, and how to ask it."""
+    if NGINX is None:
+        pytest.skip("test_proxy: nginx is missing")
+    server, port = board(DESKS, options=["--behind-proxy", "--name", "cdm.example"]), free_port()
+    folder = server.folder
+    certificates(folder)
+    text = re.search(r"```nginx\n(.*?)```", (ROOT / "docs/OPERATING.md").read_text(), re.DOTALL)[1]
+    for old, new in (("listen 443 ", f"listen 127.0.0.1:{port} "), ("127.0.0.1:8270", f"127.0.0.1:{server.port}"),
+                     ("/etc/ssl/cdm.example.pem", f"{folder}/one.crt"), ("/etc/ssl/private/cdm.example.key", f"{folder}/one.key")):
+        assert old in text, old
+        text = text.replace(old, new)
+    (folder / "temp").mkdir()
+    temp = "".join(f"{name}_temp_path {folder}/temp; " for name in ("client_body", "proxy", "fastcgi", "uwsgi", "scgi"))
+    (folder / "nginx.conf").write_text(f"daemon off; pid {folder}/nginx.pid; error_log {folder}/nginx.txt; worker_processes 1;\n"
+                                       f"events {{}}\nhttp {{ access_log off; {temp}\n{text}\n}}\n")
+    process = subprocess.Popen([NGINX, "-p", folder, "-c", folder / "nginx.conf"], stderr=subprocess.DEVNULL)
+    until(lambda: os.path.exists(folder / "nginx.pid"))
+    trusted = ssl.create_default_context(cafile=folder / "one.crt")
+    trusted.check_hostname = False
+
+    def ask(path, body=None, desk=None, **headers):
+        sent = {"Host": "cdm.example"} | {name.replace("_", "-"): value for name, value in headers.items()}
+        if desk:
+            sent["Authorization"] = f"Bearer token-{desk}"
+        request = urllib.request.Request(f"https://127.0.0.1:{port}{path}", body, sent)
+        try:
+            return urllib.request.urlopen(request, context=trusted, timeout=20)
+        except urllib.error.HTTPError as answer:
+            return answer
+    ask.server = server
+    yield ask
+    process.send_signal(signal.SIGTERM)
+    process.wait(10)
+
+
+def test_the_site_of_the_page(site):
+    """Records, a session, events as they come, whose address it was, and what the proxy lets in."""
+    assert site("/health").status == 200
+    reply, = objects(site("/v1/records", b"FLT,AB1,5", "ap", Origin="https://cdm.example").read())
+    assert (reply["desk"], reply["reply"]) == ("ap", "ACCEPTED")
+    assert site("/v1/records", b"FLT,AB2,5", "ap", Origin="https://evil.example").status == 403
+    assert site("/v1/plan", desk="ap", Host="evil.example").status == 421
+    session = site("/v1/session", json.dumps({"desk": "ap", "token": "token-ap"}).encode())
+    cookie = session.headers["Set-Cookie"]
+    assert session.status == 204 and "Secure" in cookie and site("/v1/who", Cookie=cookie.partition(";")[0]).status == 200
+    with site("/v1/events", desk="screen") as events:
+        began = time.monotonic()
+        site("/v1/records", b"FLT,AB3,5", "ap").read()
+        while not (line := events.readline()).startswith(b"data: "):
+            pass
+        assert b"AB3" in line and time.monotonic() - began < 8
+    assert site("/v1/plan", desk="nobody", X_Forwarded_For="10.6.6.6").status == 401
+    assert " 127.0.0.1 - '/v1/plan' 401" in site.server.told() and "10.6.6.6" not in site.server.told()
+    assert site("/v1/what-if", b"A" * 66_000, "ap").status == 413
+    assert site("/v1/plan.json", desk="ap", Accept_Encoding="gzip").status == 200
