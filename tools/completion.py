@@ -1,4 +1,7 @@
-"""The program's completion for bash, made from its helps."""
+"""The completions for bash: the program's, made from its helps, and the board server's, made from the program's manual."""
+import re
+
+from tools.manual_page import board_parts
 from tools.program import commands, options, values
 
 TEXT = r"""# bash completion of cdmseq: commands, options, their values, and files
@@ -46,3 +49,25 @@ def completion(program):
                 of_values.append(f"        {name}{option}) mapfile -t COMPREPLY < <(compgen -W '{words}' -- \"$word\"); return ;;")
     of_values.append("        *) ;;")
     return TEXT % {"commands": " ".join(names), "options": "\n".join(of_commands), "values": "\n".join(of_values)}
+
+
+BOARD_TEXT = r"""# bash completion of cdmboard: commands, options and files
+_cdmboard() {
+    local word=${COMP_WORDS[COMP_CWORD]}
+    COMPREPLY=()
+    case $COMP_CWORD,$word in
+        *,-*) mapfile -t COMPREPLY < <(compgen -W '%(options)s' -- "$word"); return ;;
+        1,*) mapfile -t COMPREPLY < <(compgen -W '%(commands)s' -- "$word") ;;
+    esac
+    compopt -o filenames 2> /dev/null
+    mapfile -t -O "${#COMPREPLY[@]}" COMPREPLY < <(compgen -f -- "$word")
+}
+complete -F _cdmboard cdmboard
+"""
+
+
+def board_completion(program):
+    """The board server's completion as a script of bash."""
+    usage = "\n".join(board_parts(program)[1])
+    names = re.findall(r"^cdmboard ([a-z]+)", usage, re.M)
+    return BOARD_TEXT % {"commands": " ".join(names), "options": " ".join(sorted({*re.findall("--[a-z-]+", usage), "--help"}))}

@@ -1,8 +1,9 @@
-"""The manual page of the program, made from its manual and its helps."""
+"""The manual pages of the program and of the board server, made from the program's manual and its helps."""
 import re
 
 from tools.program import commands, printed
 
+BOARD = "THE BOARD"
 ESCAPES = {"\\": r"\e", "-": r"\-", "'": r"\(aq", "`": r"\(ga", "^": r"\(ha", "~": r"\(ti"}
 
 
@@ -29,20 +30,44 @@ def unindented(text):
     return [line.removeprefix("  ") for line in text.splitlines()]
 
 
+def beginning(name, what, version, day):
+    """The beginning of a page."""
+    page = [f'.TH {name.upper()} 1 "{day.isoformat()}" "cdmseq {version}" "User Commands"', ".SH NAME", rf"{name} \- {escaped(what)}"]
+    return [*page, ".SH SYNOPSIS"]
+
+
+def ending(other):
+    """The end of a page, which names the other page."""
+    return [".SH SEE ALSO", rf".BR {other} (1).", "The pages and the worked days are in", ".IR /usr/share/doc/cdmseq ."]
+
+
 def manual_page(program, version, day):
-    """The page as roff."""
+    """The page of the program as roff: all of its manual but the section on the board, and its helps."""
     helps = {name: printed(program, name, "--help") for name in commands(program)}
     page = [
-        f'.TH CDMSEQ 1 "{day.isoformat()}" "cdmseq {version}" "User Commands"',
-        *(".SH NAME", r"cdmseq \- pre\-departure sequencer for Airport CDM"),
-        *(".SH SYNOPSIS", *shown(re.search(r"^Usage: (.*)", text, re.M)[1] for text in helps.values())),
+        *beginning("cdmseq", "pre-departure sequencer for Airport CDM", version, day),
+        *shown(re.search(r"^Usage: (.*)", text, re.M)[1] for text in helps.values()),
         *(".SH COMMANDS", *shown(f"{name:<9}{about}" for name, about in commands(program).items())),
     ]
     for heading, text in sections(printed(program, "manual")):
-        page += [f".SH {heading}", *shown(unindented(text))]
+        if heading != BOARD:
+            page += [f".SH {heading}", *shown(unindented(text))]
     page.append(".SH ARGUMENTS AND OPTIONS")
     for name, text in helps.items():
-        lines = [line for line in text.splitlines()[1:] if not line.startswith(("Usage: ", "The whole manual", "Full manual"))]
+        lines = [line for line in text.splitlines()[1:] if not line.startswith(("Usage: ", "Full manual"))]
         page += [f".SS {name}", *shown(lines, 0)]
-    page += [".SH SEE ALSO", "The pages and the worked days are in", ".IR /usr/share/doc/cdmseq ."]
-    return "\n".join(page) + "\n"
+    return "\n".join([*page, *ending("cdmboard")]) + "\n"
+
+
+def board_page(program, version, day):
+    """The page of the board server as roff: the section on the board of the program's manual."""
+    about, usage, words = board_parts(program)
+    page = [*beginning("cdmboard", "board server of cdmseq, over HTTP", version, day), *shown(usage), ".SH DESCRIPTION", *shown(about)]
+    return "\n".join([*page, ".SH ARGUMENTS, OPTIONS AND COMMANDS", *shown(words), *ending("cdmseq")]) + "\n"
+
+
+def board_parts(program):
+    """The section on the board in its three parts: what it is, how it is called, and what its words mean."""
+    text = "\n".join(unindented(dict(sections(printed(program, "manual")))[BOARD]))
+    about, usage, words = re.split(r"\n\n(?=  cdmboard|LOG )", text.strip("\n"))
+    return [part.splitlines() for part in (about, re.sub("^  ", "", usage, flags=re.M), words)]
