@@ -2,6 +2,7 @@
 import json
 import os
 import time
+from importlib.util import find_spec
 from urllib.parse import urlsplit
 
 import pytest
@@ -26,9 +27,7 @@ DAY = {
 
 def missing():
     """Why the page can't be tested here, or nothing."""
-    try:
-        import selenium  # noqa: F401
-    except ImportError:
+    if find_spec("selenium") is None:
         return "python3-selenium is missing"
     for path, package in ((BINARY, "chromium"), (DRIVER, "chromium-driver")):
         if not os.access(path, os.X_OK):
