@@ -1,6 +1,6 @@
-// Loaded before a program (LD_PRELOAD): tells its calls on files in the file FAULTS_LOG, one a line, and has the
-// FAULTS_AT-th of them end as FAULTS_KIND says: a short write, a call that a signal interrupts, or a fault of the device or for
-// want of room. It needs no header, and at run time the C library alone.
+// Loaded before a program (LD_PRELOAD): logs its calls on files in the file FAULTS_LOG, one per line, and lets call number
+// FAULTS_AT end as FAULTS_KIND says: as a short write, interrupted by a signal, with an error of the device, or without space
+// left. It needs no header, and at run time only the C library.
 typedef unsigned long size;
 extern long syscall(long, ...), atol(const char *);
 extern char *getenv(const char *);
@@ -13,7 +13,7 @@ enum { append_made = 02101, all_may = 0644 };
 
 static long calls;
 
-// Puts a text at the end of the log.
+// Appends a text to the log.
 static void tell(const char *text, size length) {
     const char *log = getenv("FAULTS_LOG");
     long file = log ? syscall(sys_open, log, append_made, all_may) : -1;
@@ -44,7 +44,7 @@ static const char *last_part(const char *path) {
     return last;
 }
 
-// The name of an open file: a number for a standard stream, and else the last part of its path.
+// The name of an open file: a number for a standard stream, otherwise the last part of its path.
 static size put_file(char *line, size at, long file) {
     char link[40], path[4100];
     if (file <= 2) return put_number(line, at, file);
@@ -55,7 +55,7 @@ static size put_file(char *line, size at, long file) {
     return put_word(line, at, last_part(path));
 }
 
-// Tells a call: its name, its file, its result, and in hexadecimal the bytes that were written.
+// Logs a call: its name, its file, its result, and in hexadecimal the bytes that were written.
 static void told(const char *name, long file, const char *path, long result, const char *bytes) {
     static char line[30000];
     size at = put_word(line, 0, name);
@@ -72,7 +72,7 @@ static void told(const char *name, long file, const char *path, long result, con
     tell(line, at);
 }
 
-// How this call ends: 0 as ever, -1 short, else with this error.
+// How this call ends: 0 as usual, -1 short, otherwise with this error.
 static long fault(void) {
     const char *at = getenv("FAULTS_AT"), *kind = getenv("FAULTS_KIND");
     calls++;

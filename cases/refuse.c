@@ -1,5 +1,5 @@
-// Loaded before a program (LD_PRELOAD): refuses its REFUSE_AT-th request for memory, and then makes the
-// file REFUSE_MARK. It needs no header, and at run time the C library alone.
+// Loaded before a program (LD_PRELOAD): lets allocation number REFUSE_AT fail, and then creates the file
+// REFUSE_MARK. It needs no header, and at run time only the C library.
 typedef unsigned long size;
 extern void *__libc_malloc(size), *__libc_calloc(size, size), *__libc_realloc(void *, size);
 extern char *getenv(const char *);

@@ -1,5 +1,5 @@
-// Loaded before a program (LD_PRELOAD): for each thread that it starts, puts a byte behind the file THREADS. It
-// needs no header, and at run time the C library alone.
+// Loaded before a program (LD_PRELOAD): for each thread that the program starts, appends a byte to the file THREADS. It
+// needs no header, and at run time only the C library.
 extern char *getenv(const char *);
 extern void *dlsym(void *, const char *);
 extern int open(const char *, int, ...), close(int);

@@ -1,17 +1,20 @@
 -- The lines of findings and of hints, one after another.
-use Rattle.std.proofs.Common.{◌≡◌, ◌≤◌, ◌<◌, ◌+◌, ◌∙◌, ◌++◌, ◌&&◌, ℕ, zero, suc, Bool, true, false, cond, List, [], ◌∷◌, length, take, drop, map, get_or, refl, sym, ap, subst, arith, filter, length-append, append_assoc, Result, Ok, Err}
+use Rattle.std.proofs.Common.{◌≡◌, ◌≤◌, ◌<◌, ◌+◌, ◌%◌, ◌^◌, ◌∙◌, ◌++◌, ◌&&◌, ℕ, zero, suc, Bool, true, false, cond, codes, List, [], ◌∷◌, length, take, drop, map, get_or, refl, sym, ap, subst, arith, filter, length-append, append_assoc, Result, Ok, Err}
 use Rattle.std.proofs.lemmas.Grind.{common_steps}
 use Rattle.std.proofs.lemmas.List.{append-nil, length-map, map_more, take-append-drop, take-append-le, take-map, take_all}
 use Rattle.std.proofs.lemmas.List.Elements.{All-append, All-cons, All-nil}
 use Rattle.std.proofs.lemmas.List.Folds.{concat-append, list_all-append}
 use Rattle.std.proofs.lemmas.Bool.Decides.{nat_tests}
+use Rattle.std.proofs.lemmas.Fmt.{decimal_by_steps, length-decimal-le}
+use Rattle.std.proofs.lemmas.Nat.{mod_below}
 use Rattle.std.proofs.lemmas.Str.{IsUtf8-from_ascii}
+use Rattle.std.specs.Fmt.{decimal}
 use Rattle.std.specs.List.{concat, list_all}
 use Rattle.std.specs.Str.{IsAscii, IsUtf8}
 use Rattle.cdm_phase.proofs.Values.{AllZip-append}
 use Rattle.cdm_flight.specs.declared.word.RefusalWord.{RefusalWord}
 use Rattle.cdm_kinds.specs.declared.format.Format.{Format}
-use Rattle.cdm_check.specs.Check.{AreHintsOf, AreLinesOf, IsHintOf, IsLineOf, IsSentence, finding_line, is_printable}
+use Rattle.cdm_check.specs.Check.{AreHintsOf, AreLinesOf, IsHintOf, IsLineOf, IsSentence, IsStanding, finding_line, is_printable}
 use Rattle.cdm_check.specs.Findings.{Finding, fault_at, finding}
 
 -- Sentences.
@@ -52,6 +55,56 @@ pub cut_sentence : (text : List ℕ) → IsSentence (take 160 (filter is_printab
 cut_sentence text =
     let kept = filter is_printable text in
     record { printable = all-take is_printable 160 kept (all-filter is_printable text); short = short-take 160 kept }
+
+-- Hints that stand for all records of a file.
+
+digit-printable : (d : ℕ) → d < 10 → list_all is_printable ((48 + d) ∷ []) ≡ true
+digit-printable d h = grind (arith, nat_tests)
+
+all-both : (p : ℕ → Bool) (xs ys : List ℕ) → list_all p xs ≡ true → list_all p ys ≡ true → list_all p (xs ++ ys) ≡ true
+all-both p xs ys x y = list_all-append p xs ys ∙ rw (x, y)
+
+number-printable : (n : ℕ) → n < 2 ^ 64 → list_all is_printable (decimal n) ≡ true
+number-printable = decimal_by_steps (λ n ds. list_all is_printable ds ≡ true) digit-printable
+    (λ n ds big so_far. all-both is_printable ds ((48 + n % 10) ∷ []) so_far (digit-printable (n % 10) (mod_below n 10 (omega arith))))
+
+length-of_four : (w x y z : List ℕ) → length (concat (w ∷ x ∷ y ∷ z ∷ [])) ≡ length w + (length x + (length y + length z))
+length-of_four w x y z =
+    length-append w (x ++ (y ++ (z ++ [])))
+    ∙ ap (λ (n : ℕ). length w + n) (length-append x (y ++ (z ++ []))
+    ∙ ap (λ (n : ℕ). length x + n) (length-append y (z ++ []) ∙ ap (λ (xs : List ℕ). length y + length xs) (append-nil z)))
+
+-- the first printable bytes of a text, with the number of the records behind them, are such a hint
+pub standing_hint : (text : List ℕ) (records : ℕ) → records ≤ 8388608
+    → IsSentence (concat (take 130 (filter is_printable text) ∷ codes " (all " ∷ decimal records ∷ codes " records refused)" ∷ []))
+standing_hint text records few =
+    let kept = filter is_printable text in
+    let words = take 130 kept in
+    let small : records < 2 ^ 64 = omega (arith, few) in
+    let digits : length (decimal records) ≤ 7 = length-decimal-le 7 records (omega arith) (omega (arith, few)) small in
+    let front : list_all is_printable words ≡ true = all-take is_printable 130 kept (all-filter is_printable text) in
+    let end : List ℕ = codes " records refused)" ++ [] in
+    let before : length (codes " (all ") ≡ 6 = refl in
+    let behind : length (codes " records refused)") ≡ 17 = refl in
+    let count = length-of_four words (codes " (all ") (decimal records) (codes " records refused)") in
+    let cut : length words ≤ 130 = short-take 130 kept in
+    record {
+      printable =
+          all-both is_printable words (codes " (all " ++ (decimal records ++ end)) front
+          (all-both is_printable (codes " (all ") (decimal records ++ end) refl
+          (all-both is_printable (decimal records) end (number-printable records small) refl));
+      short = omega (arith, count, before, behind, cut, digits);
+    }
+
+-- such printable bytes are a text
+pub cut_utf8 : (n : ℕ) (text : List ℕ) → IsUtf8 (take n (filter is_printable text))
+cut_utf8 n text = IsUtf8-from_ascii _ (printable-ascii _ (all-take is_printable n _ (all-filter is_printable text)))
+
+pub is_standing : (text words sentence : List ℕ) (records : ℕ) → records ≤ 8388608 → words ≡ take 130 (filter is_printable text)
+    → sentence ≡ concat (words ∷ codes " (all " ∷ decimal records ∷ codes " records refused)" ∷ []) → IsStanding records sentence
+is_standing text words sentence records few cut is =
+    let whole = is ∙ ap (λ (w : List ℕ). concat (w ∷ codes " (all " ∷ decimal records ∷ codes " records refused)" ∷ [])) cut in
+    record { words = words; of_words = subst IsSentence (sym whole) (standing_hint text records few); bytes = is }
 
 -- Lines of findings.
 

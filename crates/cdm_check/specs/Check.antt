@@ -1,5 +1,5 @@
 -- What a check writes, and what it counts.
-use Rattle.std.specs.Prelude.{◌≡◌, ◌≤◌, ℕ, ◌+◌, ◌-◌, ◌&&◌, Bool, nat_le, List, [], ◌∷◌, ◌++◌, length, take, codes, All, IsTrue, if◌then◌else◌}
+use Rattle.std.specs.Prelude.{◌≡◌, ◌≤◌, ℕ, ◌+◌, ◌-◌, ◌&&◌, Bool, true, false, nat_le, List, [], ◌∷◌, ◌++◌, length, take, codes, All, IsTrue, if◌then◌else◌}
 use Rattle.std.specs.Fmt.{decimal}
 use Rattle.std.specs.List.{AllZip, concat, list_all}
 use Rattle.json.specs.Json.{Json, string}
@@ -11,7 +11,7 @@ use Rattle.cdm_kinds.specs.declared.format.Format.TheVariants.{Text, Json as AsJ
 use Rattle.cdm_row.specs.Json.{count_json, object_of}
 use Rattle.cdm_json.specs.Lines.{json_line}
 use Rattle.cdm_files.specs.Records.{records_of}
-use Rattle.cdm_check.specs.Findings.{File, Finding, findings_in}
+use Rattle.cdm_check.specs.Findings.{File, Finding, findings_in, is_stood_for, told_in}
 use Rattle.cdm_check.specs.declared.counts.CheckCounts.{CheckCounts}
 
 -- Sentences.
@@ -82,25 +82,54 @@ pub record AreHintsOf (format : Format) (path text : List ℕ) : Type 0 where
   pub each : All (IsHintOf format path) lines
   pub bytes : text ≡ concat lines
 
+-- a hint that stands for all records of a feed: it ends with their number
+pub record IsStanding (records : ℕ) (hint : List ℕ) : Type 0 where
+  pub words : List ℕ
+  pub of_words : IsSentence hint
+  pub bytes : hint ≡ concat (words ∷ codes " (all " ∷ decimal records ∷ codes " records refused)" ∷ [])
+
+-- the line is such a hint on the whole file of this path
+pub record IsStandingHintOf (format : Format) (path : List ℕ) (records : ℕ) (text : List ℕ) : Type 0 where
+  pub hint : List ℕ
+  pub stands : IsStanding records hint
+  pub bytes : text ≡ hint_line format path hint
+
+-- the text has a hint that stands for all records of the file, and some others
+pub record HasStandingHintOf (format : Format) (path : List ℕ) (records : ℕ) (text : List ℕ) : Type 0 where
+  pub first : List ℕ
+  pub stands : IsStandingHintOf format path records first
+  pub others : List ℕ
+  pub of_others : AreHintsOf format path others
+  pub bytes : text ≡ first ++ others
+
+-- the text has the hints on a feed: whether one of them stands for all its records, its path, and their number
+abbrev pub AreFeedHintsOf : Format → Bool → List ℕ → ℕ → List ℕ → Type 0
+AreFeedHintsOf format true path records text = HasStandingHintOf format path records text
+AreFeedHintsOf format false path records text = AreHintsOf format path text
+
 -- The last line.
 
 -- so many lines of records are told at most
 abbrev pub most_told : ℕ
 most_told = 1000
 
--- how many records were read, how many of them are refused, and how many of these are not told, if there are some
-unfoldable pub last_text : ℕ → ℕ → List ℕ
-last_text records refused =
-    if nat_le refused most_told then concat (decimal records ∷ codes " records, " ∷ decimal refused ∷ codes " refused\n" ∷ [])
-    else concat (decimal records ∷ codes " records, " ∷ decimal refused ∷ codes " refused, " ∷ decimal (refused - most_told) ∷ codes " of them not shown\n" ∷ [])
+-- how many records were read, and how many of them are refused; and how many of those that are to be told one by one
+-- are not told, if there are some
+unfoldable pub last_text : ℕ → ℕ → ℕ → List ℕ
+last_text records refused told =
+    if nat_le told most_told then concat (decimal records ∷ codes " records, " ∷ decimal refused ∷ codes " refused\n" ∷ [])
+    else concat (decimal records ∷ codes " records, " ∷ decimal refused ∷ codes " refused, " ∷ decimal (told - most_told) ∷ codes " of them not shown\n" ∷ [])
 
 abbrev pub last_members : ℕ → ℕ → List (List ℕ × Json)
 last_members records refused = (codes "records", count_json records) ∷ (codes "refused", count_json refused) ∷ []
 
+abbrev pub last_json : ℕ → ℕ → List ℕ
+last_json records refused = json_line (object_of (last_members records refused))
+
 -- how many records were read, and how many of them are refused; the text tells how many aren't shown, too
-abbrev pub last_line : Format → ℕ → ℕ → List ℕ
-last_line Text records refused = last_text records refused
-last_line AsJson records refused = json_line (object_of (last_members records refused))
+abbrev pub last_line : Format → ℕ → ℕ → ℕ → List ℕ
+last_line Text records refused told = last_text records refused told
+last_line AsJson records refused told = last_json records refused
 
 -- The text.
 
@@ -111,15 +140,15 @@ counts_in a f s = record {
   refused = length (findings_in a f s);
 }
 
--- the text of a check: a line for each of the first findings, hints on each file, and the last line
+-- the text of a check: hints on each file, a line for each of the first findings that are told one by one, and the last line
 pub record IsCheck (format : Format) (a f s : File) (text : List ℕ) : Type 0 where
-  pub found : List ℕ
-  pub of_findings : AreLinesOf format (take most_told (findings_in a f s)) found
   pub hints_airport : List ℕ
   pub of_airport : AreHintsOf format a.path hints_airport
   pub hints_feed : List ℕ
-  pub of_feed : AreHintsOf format f.path hints_feed
+  pub of_feed : AreFeedHintsOf format (is_stood_for a f) f.path (length (records_of f.bytes)) hints_feed
   pub hints_scenarios : List ℕ
   pub of_scenarios : AreHintsOf format s.path hints_scenarios
+  pub found : List ℕ
+  pub of_findings : AreLinesOf format (take most_told (told_in a f s)) found
   pub bytes : text ≡ concat (
-      found ∷ hints_airport ∷ hints_feed ∷ hints_scenarios ∷ last_line format (counts_in a f s).records (counts_in a f s).refused ∷ [])
+      hints_airport ∷ hints_feed ∷ hints_scenarios ∷ found ∷ last_line format (counts_in a f s).records (counts_in a f s).refused (length (told_in a f s)) ∷ [])

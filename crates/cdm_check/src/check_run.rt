@@ -1,17 +1,17 @@
 //! A whole check, from the bytes of its inputs to its text.
-ghost use Rattle.std.specs.Prelude.{◌≡◌, ◌≤◌, ◌+◌, ◌++◌, ◌∷◌, [], map, length, take, unwrap_or, vec_len, Ok, IfOk};
+ghost use Rattle.std.specs.Prelude.{◌≡◌, ◌≤◌, ◌+◌, ◌++◌, ◌∷◌, [], map, length, take, is_some, unwrap_or, vec_len, false, Ok, IfOk, if◌then◌else◌};
 ghost use Rattle.std.specs.Option.{option_copied};
 ghost use Rattle.cdm_files.specs.Input.{input_limit};
 ghost use Rattle.cdm_files.specs.Records.{records_of};
 ghost use Rattle.cdm_files.specs.ScenarioFile.{scenarios_in};
 ghost use Rattle.cdm_kinds.specs.declared.format.Format.{Format as AFormat};
 ghost use Rattle.cdm_check.specs.Check.{AreHintsOf, AreLinesOf, most_told};
-ghost use Rattle.cdm_check.specs.Findings.{fault_at, finding, findings_at, findings_in};
+ghost use Rattle.cdm_check.specs.Findings.{fault_at, finding, findings_at, findings_in, is_no_feed, is_stood_for, listed, told_at, told_in};
 ghost use Rattle.cdm_check.specs.Paths.{IsCheckAt, airport_file, counts_at, feed_file, scenario_file};
 
 use crate::airport_words::airport_fault;
 use crate::counts::CheckCounts;
-use crate::hints::hints_of;
+use crate::hints::{feed_hints, hints_of, standing_hint};
 use crate::kinds::FileKind;
 use crate::lines::{MOST_TOLD, last_line, line_of, record_count};
 use crate::paths::FilePaths;
@@ -28,11 +28,18 @@ use cdm_time::Day;
 use std::alloc::{AllocError, Global};
 use std::thread::Threads;
 
-// The lines of the first findings, how many findings there are, and the refused updates of scenarios.
+// What is found.
 #[derive(Drop)]
 struct Told {
+    // The lines of the first findings that are told one by one.
     lines: Vec<u8>,
+    // How many findings there are.
     refused: usize,
+    // How many of them are told one by one, those beyond the limit too.
+    told: usize,
+    // The hint that stands for all records of the feed, if one does.
+    standing: Option<String>,
+    // The refused updates of scenarios.
     updates: Vec<String>,
 }
 
@@ -78,6 +85,13 @@ fn first_of(refused: &[(u32, RefusalWord)]) -> &[(u32, RefusalWord)]
     }
 }
 
+// The refused records of a feed that are told one by one: none, if a hint stands for them.
+fn listed(refused: &[(u32, RefusalWord)], is_stood_for: bool) -> &[(u32, RefusalWord)]
+    ensures { result.now ≡ (if is_stood_for then [] else refused.now) }
+{
+    if is_stood_for { &[] } else { refused }
+}
+
 // The line of one faulty record.
 fn one_line(
     alloc: Global,
@@ -89,11 +103,15 @@ fn one_line(
 ) -> Result<Told, AllocError>
     ensures lines { IfOk result (λ told. AreLinesOf format (finding path.now (number, word) ∷ []) told.lines.items) }
     ensures refused { IfOk result (λ told. told.refused ≡ 1) }
+    ensures told { IfOk result (λ told. told.told ≡ 1) }
+    ensures standing { IfOk result (λ told. is_some told.standing ≡ false) }
 {
     let lines = line_of(alloc, format, path, number, word, cause)?;
     Ok(Told {
         lines,
         refused: 1,
+        told: 1,
+        standing: None,
         updates: Vec::new(alloc),
     })
 }
@@ -106,6 +124,8 @@ fn no_lines(alloc: Global) -> Told
     Told {
         lines: Vec::new(alloc),
         refused: 0,
+        told: 0,
+        standing: None,
         updates: Vec::new(alloc),
     }
 }
@@ -121,6 +141,8 @@ fn airport_line(
 ) -> Result<Told, AllocError>
     ensures lines { IfOk result (λ told. AreLinesOf format (finding path.now (number, word) ∷ []) told.lines.items) }
     ensures refused { IfOk result (λ told. told.refused ≡ 1) }
+    ensures told { IfOk result (λ told. told.told ≡ 1) }
+    ensures standing { IfOk result (λ told. is_some told.standing ≡ false) }
 {
     let cause = airport_fault(alloc, text, number, word)?;
     one_line(alloc, format, path, number, word, &cause)
@@ -167,34 +189,41 @@ fn told_of_day<R: Threads + Sync, G: Gate>(
     format: Format,
     paths: FilePaths<'_>,
     airport: Airport,
-    feed: &[u8],
-    scenarios: &[u8],
+    inputs: &Inputs,
 ) -> Result<Told, AllocError>
-    requires { length feed.now ≤ input_limit }
-    ensures lines { IfOk result (λ told. AreLinesOf format (take most_told (
-        findings_at (Ok airport) (airport_file paths.entry []) (feed_file paths.entry feed.now) (scenario_file paths.entry scenarios.now))) told.lines.items) }
-    ensures refused { IfOk result (λ told. told.refused ≡ length (
-        findings_at (Ok airport) (airport_file paths.entry []) (feed_file paths.entry feed.now) (scenario_file paths.entry scenarios.now))) }
+    requires { vec_len inputs.now.second ≤ input_limit }
+    ensures lines { IfOk result (λ told. AreLinesOf format (take most_told (told_at (Ok airport) (airport_file paths.entry [])
+        (feed_file paths.entry inputs.now.second.items) (scenario_file paths.entry inputs.now.third.items))) told.lines.items) }
+    ensures refused { IfOk result (λ told. told.refused ≡ length (findings_at (Ok airport) (airport_file paths.entry [])
+        (feed_file paths.entry inputs.now.second.items) (scenario_file paths.entry inputs.now.third.items))) }
+    ensures told { IfOk result (λ told. told.told ≡ length (told_at (Ok airport) (airport_file paths.entry [])
+        (feed_file paths.entry inputs.now.second.items) (scenario_file paths.entry inputs.now.third.items))) }
+    ensures standing { IfOk result (λ told. is_some told.standing ≡ is_no_feed inputs.now.second.items) }
 {
     let alloc = lent.alloc;
+    let feed: &[u8] = &inputs.second;
     let judged = judge(lent.rt, alloc, airport, feed, lent.workers, lent.gate)?;
     let airport = judged.state.airport();
-    let refused = first_of(&judged.refused);
-    let mut lines = feed_lines(alloc, format, paths.feed, airport, feed, refused)?;
-    let scenario = scenario_lines(alloc, format, scenario_path(paths), airport, scenarios)?;
-    if judged.refused.len() < MOST_TOLD {
+    let standing = standing_hint(alloc, *airport.day(), feed)?;
+    let listed = listed(&judged.refused, standing.is_some());
+    let mut lines = feed_lines(alloc, format, paths.feed, airport, feed, first_of(listed))?;
+    let scenario = scenario_lines(alloc, format, scenario_path(paths), airport, &inputs.third)?;
+    if listed.len() < MOST_TOLD {
         lines.extend_from_slice(&scenario.lines)?;
     }
-    let updates = refused_updates(alloc, &judged, feed, scenarios)?;
+    let told = listed.len() + scenario.refused;
+    let updates = refused_updates(alloc, &judged, feed, &inputs.third)?;
     Ok(Told {
         lines,
         refused: judged.refused.len() + scenario.refused,
+        told,
+        standing,
         updates,
     })
 }
 
 // What is found in all files.
-#[tactic(auto, unfolding(crate::specs::Findings::findings_in))]
+#[tactic(auto, unfolding(crate::specs::Findings::findings_in, crate::specs::Findings::told_in))]
 fn told_of<R: Threads + Sync, G: Gate>(
     lent: &Lent<'_, R, G>,
     format: Format,
@@ -202,14 +231,18 @@ fn told_of<R: Threads + Sync, G: Gate>(
     inputs: &Inputs,
 ) -> Result<Told, AllocError>
     requires { vec_len inputs.now.second ≤ input_limit }
-    ensures lines { IfOk result (λ told. AreLinesOf format (take most_told (findings_in (airport_file paths.entry inputs.now.airport.items)
+    ensures lines { IfOk result (λ told. AreLinesOf format (take most_told (told_in (airport_file paths.entry inputs.now.airport.items)
         (feed_file paths.entry inputs.now.second.items) (scenario_file paths.entry inputs.now.third.items))) told.lines.items) }
     ensures refused { IfOk result (λ told. told.refused ≡ length (findings_in (airport_file paths.entry inputs.now.airport.items)
         (feed_file paths.entry inputs.now.second.items) (scenario_file paths.entry inputs.now.third.items))) }
+    ensures told { IfOk result (λ told. told.told ≡ length (told_in (airport_file paths.entry inputs.now.airport.items)
+        (feed_file paths.entry inputs.now.second.items) (scenario_file paths.entry inputs.now.third.items))) }
+    ensures standing { IfOk result (λ told. is_some told.standing ≡ is_stood_for
+        (airport_file paths.entry inputs.now.airport.items) (feed_file paths.entry inputs.now.second.items)) }
 {
     let alloc = lent.alloc;
     match read_airport(alloc, &inputs.airport) {
-        Ok(airport) => told_of_day(lent, format, paths, airport, &inputs.second, &inputs.third),
+        Ok(airport) => told_of_day(lent, format, paths, airport, inputs),
         Err(FileFault::Refused(number, word)) => {
             airport_line(alloc, format, paths.airport, &inputs.airport, number, word)
         }
@@ -246,10 +279,11 @@ fn scenario_hints(
     }
 }
 
-/// The text of a check of files, which are these inputs, and what it counts: a line for the first faulty record of the
-/// airport file, or else for each refused record of the feed and for the first faulty record of the scenario file, 1,000
-/// lines at most; then hints on whole files; and then how many records there are, and how many of them are refused. The
-/// records that are told, and their words, are those that a run of these files tells as refused or as its fault.
+/// The text of a check of files, which are these inputs, and what it counts: hints on whole files; then a line for the first
+/// faulty record of the airport file, or else for each refused record of the feed, unless one hint stands for all of them,
+/// and for the first faulty record of the scenario file, 1,000 lines at most; and then how many records there are, and how
+/// many of them are refused. The records that are told, and their words, are those that a run of these files tells as
+/// refused or as its fault.
 pub fn check_of<R: Threads + Sync, G: Gate>(
     lent: &Lent<'_, R, G>,
     paths: FilePaths<'_>,
@@ -264,10 +298,15 @@ pub fn check_of<R: Threads + Sync, G: Gate>(
         check.counts ≡ counts_at paths.entry inputs.now.airport.items inputs.now.second.items inputs.now.third.items) }
 {
     let alloc = lent.alloc;
-    let told = told_of(lent, format, paths, inputs)?;
+    let found = told_of(lent, format, paths, inputs)?;
+    let Told {
+        lines,
+        refused,
+        told,
+        standing,
+        updates,
+    } = found;
     let records = record_counts(alloc, inputs)?;
-    let refused = told.refused;
-    let mut text = told.lines;
     let airport = hints_of(
         alloc,
         format,
@@ -276,19 +315,13 @@ pub fn check_of<R: Threads + Sync, G: Gate>(
         &inputs.airport,
         &[],
     )?;
-    text.extend_from_slice(&airport)?;
-    let feed = hints_of(
-        alloc,
-        format,
-        paths.feed,
-        FileKind::Feed,
-        &inputs.second,
-        &[],
-    )?;
+    let feed = feed_hints(alloc, format, paths.feed, &inputs.second, standing)?;
+    let scenarios = scenario_hints(alloc, format, paths.scenarios, &inputs.third, &updates)?;
+    let last = last_line(alloc, format, records, refused, told)?;
+    let mut text = airport;
     text.extend_from_slice(&feed)?;
-    let scenarios = scenario_hints(alloc, format, paths.scenarios, &inputs.third, &told.updates)?;
     text.extend_from_slice(&scenarios)?;
-    let last = last_line(alloc, format, records, refused)?;
+    text.extend_from_slice(&lines)?;
     text.extend_from_slice(&last)?;
     let counts = CheckCounts { records, refused };
     Ok(Checked { text, counts })

@@ -1,16 +1,22 @@
 //! Hints on whole files.
-ghost use Rattle.std.specs.Prelude.{◌≡◌, ◌++◌, take, IfOk, All};
-ghost use Rattle.std.specs.List.{concat};
-ghost use Rattle.cdm_check.specs.Check.{AreHintsOf};
+ghost use Rattle.std.specs.Prelude.{◌≡◌, ◌≤◌, ◌++◌, length, take, is_some, IfOk, All};
+ghost use Rattle.std.specs.List.{concat, list_all};
+ghost use Rattle.cdm_files.specs.Input.{input_limit};
+ghost use Rattle.cdm_files.specs.Records.{records_of};
+ghost use Rattle.cdm_check.specs.Check.{AreFeedHintsOf, AreHintsOf, HasStandingHintOf};
+ghost use Rattle.cdm_check.specs.Findings.{has_no_role, is_no_feed};
 
 use crate::fields::field_at;
 use crate::kinds::FileKind;
-use crate::lines::hint_line;
+use crate::lines::{STANDING_COLUMNS, hint_line, record_count, standing_line};
 use crate::place::{line_of, without_mark};
 use crate::quotes::open_quote;
+use crate::record_words::cause_in_record;
 use crate::shown::trimmed;
 use cdm_files::{RecordReader, role_of};
+use cdm_flight::RefusalWord;
 use cdm_kinds::Format;
+use cdm_time::Day;
 use csv::ByteRecord;
 use std::alloc::{AllocError, Global};
 
@@ -25,11 +31,53 @@ pub(crate) fn hints_of(
 ) -> Result<Vec<u8>, AllocError>
     ensures { IfOk result (λ hints. AreHintsOf format path.now hints.items) }
 {
-    let mut hints = hints_in(alloc, file, text)?;
+    let mut hints = Vec::new(alloc);
+    if let Some(hint) = explanation(alloc, file, text)? {
+        hints.push(hint)?;
+    }
+    push_others(alloc, text, &mut hints)?;
     for hint in further {
         hints.push(hint.clone()?)?;
     }
     lines_of(alloc, format, path, &hints)
+}
+
+/// The hints on a feed, a line each. The first of them stands for all its records, where there is such a hint.
+pub(crate) fn feed_hints(
+    alloc: Global,
+    format: Format,
+    path: &str,
+    text: &[u8],
+    standing: Option<String>,
+) -> Result<Vec<u8>, AllocError>
+    requires { length text.now ≤ input_limit }
+    ensures { IfOk result (λ hints.
+        AreFeedHintsOf format (is_some standing) path.now (length (records_of text.now)) hints.items) }
+{
+    match standing {
+        Some(hint) => standing_hints(alloc, format, path, text, &hint),
+        None => hints_of(alloc, format, path, FileKind::Feed, text, &[]),
+    }
+}
+
+// The hints on a feed of which this one stands for all its records.
+fn standing_hints(
+    alloc: Global,
+    format: Format,
+    path: &str,
+    text: &[u8],
+    hint: &str,
+) -> Result<Vec<u8>, AllocError>
+    requires { length text.now ≤ input_limit }
+    ensures { IfOk result (λ hints. HasStandingHintOf format path.now (length (records_of text.now)) hints.items) }
+{
+    let records = record_count(alloc, text)?;
+    let mut lines = standing_line(alloc, format, path, hint, records)?;
+    let mut hints = Vec::new(alloc);
+    push_others(alloc, text, &mut hints)?;
+    let others = lines_of(alloc, format, path, &hints)?;
+    lines.extend_from_slice(&others)?;
+    Ok(lines)
 }
 
 // The lines of hints on a file.
@@ -49,32 +97,104 @@ fn lines_of(
     Ok(text)
 }
 
-// What is to be said of a whole file.
-fn hints_in(alloc: Global, file: FileKind, text: &[u8]) -> Result<Vec<String>, AllocError> {
-    let mut hints = Vec::new(alloc);
+// Whether no record of a text begins with a role.
+fn have_no_role(alloc: Global, text: &[u8]) -> Result<bool, AllocError>
+    ensures { IfOk result (λ none. none ≡ list_all has_no_role (records_of text.now)) }
+{
+    let mut reader = RecordReader::new(alloc, text);
+    let mut row = ByteRecord::new(alloc);
+    'records: while reader.read(&mut row)? {
+        if role_of(field_at(&row, 0)).is_some() {
+            return Ok(false);
+        }
+    }
+    Ok(true)
+}
+
+// Whether a text is no feed: it has two records or more, and none of them begins with a role.
+#[tactic(auto, unfolding(crate::specs::Findings::is_no_feed))]
+fn is_no_feed(alloc: Global, text: &[u8]) -> Result<bool, AllocError>
+    ensures { IfOk result (λ is. is ≡ is_no_feed text.now) }
+{
+    let records = record_count(alloc, text)?;
+    Ok(records >= 2 && have_no_role(alloc, text)?)
+}
+
+/// The hint that stands for all records of a feed of this day, where it is no feed.
+pub(crate) fn standing_hint(
+    alloc: Global,
+    day: Day,
+    feed: &[u8],
+) -> Result<Option<String>, AllocError>
+    ensures { IfOk result (λ hint. is_some hint ≡ is_no_feed feed.now) }
+{
+    if !is_no_feed(alloc, feed)? {
+        return Ok(None);
+    }
+    let hint = match explanation(alloc, FileKind::Feed, feed)? {
+        Some(hint) => hint,
+        None => no_role(alloc, day, feed)?,
+    };
+    Ok(Some(hint))
+}
+
+// What is said of a feed of which no record begins with a role, where nothing else explains it: what is wrong with its
+// first record, if that is short enough, and else what the roles are.
+fn no_role(alloc: Global, day: Day, feed: &[u8]) -> Result<String, AllocError> {
+    let mut reader = RecordReader::new(alloc, feed);
+    let mut row = ByteRecord::new(alloc);
+    reader.read(&mut row)?;
+    let word = if row.len() < 2 {
+        RefusalWord::Fields
+    } else {
+        RefusalWord::Role
+    };
+    let cause = cause_in_record(alloc, FileKind::Feed, day, &row, word)?;
+    let hint = format!(in alloc; "no record begins with a role; record 1: {cause}")?;
+    if hint.len() <= STANDING_COLUMNS {
+        return Ok(hint);
+    }
+    String::from_str(
+        alloc,
+        "no record begins with a role: AO (operator), GH (handler), AP (airport), ATC (tower) or NM (Network Manager)",
+    )
+}
+
+// What is to be said of a whole file that explains each of its records, if there is something.
+fn explanation(alloc: Global, file: FileKind, text: &[u8]) -> Result<Option<String>, AllocError> {
     if is_utf16(text) {
-        hints.push(String::from_str(alloc, "it is UTF-16; save it as UTF-8")?)?;
-        return Ok(hints);
+        return Ok(Some(String::from_str(alloc, "it is UTF-16; save it as UTF-8")?));
     }
     let mut reader = RecordReader::new(alloc, text);
     let mut row = ByteRecord::new(alloc);
     if !reader.read(&mut row)? {
-        hints.push(String::from_str(alloc, "it has no record")?)?;
-        return Ok(hints);
+        return Ok(None);
     }
     if let Some(separator) = wrong_separator(&row) {
-        hints.push(format!(in alloc; "fields are separated by {separator}, not commas")?)?;
+        return Ok(Some(format!(in alloc; "fields are separated by {separator}, not commas")?));
     }
     match looks_like(&row) {
         Some(other) if other != file => {
             let name = name_of(other);
-            hints.push(format!(in alloc; "this looks like {name}")?)?;
+            Ok(Some(format!(in alloc; "this looks like {name}")?))
         }
         None if is_heading(alloc, file, &row)? => {
             let line = line_of(text, &row);
-            hints.push(format!(in alloc; "line {line} looks like a heading")?)?;
+            Ok(Some(format!(in alloc; "line {line} looks like a heading")?))
         }
-        _ => {}
+        _ => Ok(None),
+    }
+}
+
+// Puts behind hints what else is to be said of a whole file.
+fn push_others(alloc: Global, text: &[u8], hints: &mut Vec<String>) -> Result<(), AllocError> {
+    if is_utf16(text) {
+        return Ok(());
+    }
+    let mut reader = RecordReader::new(alloc, text);
+    if !reader.read(&mut ByteRecord::new(alloc))? {
+        hints.push(String::from_str(alloc, "it has no record")?)?;
+        return Ok(());
     }
     if let Some(line) = open_quote(without_mark(text)) {
         hints.push(format!(in alloc; "a quote opened on line {line} never closes")?)?;
@@ -82,7 +202,7 @@ fn hints_in(alloc: Global, file: FileKind, text: &[u8]) -> Result<Vec<String>, A
     if !matches!(text.last(), Some(b'\n' | b'\r')) {
         hints.push(String::from_str(alloc, "its last line has no end")?)?;
     }
-    Ok(hints)
+    Ok(())
 }
 
 // A file as hints name it.

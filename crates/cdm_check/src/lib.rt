@@ -11,6 +11,7 @@ mod forms;
 mod hints;
 mod kinds;
 mod known;
+mod laws;
 mod lines;
 mod objects;
 mod partners;
@@ -27,4 +28,5 @@ mod walk;
 
 pub use check_run::{Checked, check_of};
 pub use counts::CheckCounts;
+pub use laws::no_feed_is_refused;
 pub use paths::FilePaths;

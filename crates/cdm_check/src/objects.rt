@@ -1,7 +1,7 @@
 //! The lines of a check as JSON.
 ghost use Rattle.std.specs.Prelude.{◌≡◌, ◌++◌, IfOk, OnOk, flat_map};
 ghost use Rattle.cdm_row.specs.Json.{member_tokens};
-ghost use Rattle.cdm_check.specs.Check.{cause_members, finding_json, hint_line, hint_members, last_line, last_members, place_members};
+ghost use Rattle.cdm_check.specs.Check.{cause_members, finding_json, hint_line, hint_members, last_json, last_members, place_members};
 ghost use Rattle.cdm_check.specs.Findings.{finding};
 
 use cdm_flight::RefusalWord;
@@ -96,7 +96,7 @@ pub(crate) fn last_object(
     records: usize,
     refused: usize,
 ) -> Result<Vec<u8>, AllocError>
-    ensures { IfOk result (λ text. text.items ≡ last_line Format.Json records refused) }
+    ensures { IfOk result (λ text. text.items ≡ last_json records refused) }
 {
     let mut writer = begin_line(alloc, None, "")?;
     push_counts(&mut writer, records, refused)?;

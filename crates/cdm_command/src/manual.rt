@@ -543,8 +543,10 @@ CHECK
   Each line has the file, the line on which the record begins, the record's
   number, its refusal code, and a sentence. If AIRPORT is invalid, only its
   first invalid record is listed. Otherwise each refused record of FEED is
-  listed, then the first invalid record of SCENARIOS, up to 1000 lines. Then
-  come hints on whole files, as: fields are separated by semicolons, not commas.
+  listed, then the first invalid record of SCENARIOS, up to 1000 lines. Hints
+  on whole files come first, as: fields are separated by semicolons, not commas.
+  If FEED has two records or more and none begins with a role, one hint stands
+  for all of them, and ends with their number.
   The last line counts the records of all files, and the refused ones.
 
 KINDS

@@ -1,4 +1,5 @@
 pub mod TokenLemmas
 pub mod OneAnswer
+pub mod AroundLemmas
 mod LoadLemmas
 mod ReadBack

@@ -14,15 +14,11 @@ use Rattle.cdm_time.specs.declared.calendar.CalendarDate.{CalendarDate}
 use Rattle.cdm_flight.specs.Words.{text_of}
 use Rattle.cdm_flight.specs.declared.word.RefusalWord.{RefusalWord}
 use Rattle.cdm_runway.specs.Rules.{RunwayRules}
-use Rattle.cdm_sequence.specs.declared.plan.Plan.{Plan}
-use Rattle.cdm_report.specs.Counts.{counts_of}
-use Rattle.cdm_report.specs.declared.counts.Counts.{Counts}
 use Rattle.cdm_row.specs.Columns.{Value}
-use Rattle.cdm_row.specs.declared.row.Row.{Row}
 use Rattle.cdm_row.specs.Json.{array_of, count_json, json_value, member_tokens}
 use Rattle.cdm_row.proofs.TokenLemmas.{array_written}
 use Rattle.cdm_json.specs.Loads.{runway_members}
-use Rattle.cdm_json.specs.Plans.{count_members, day_members, flight_members, plan_members, refused_json, refused_members}
+use Rattle.cdm_json.specs.Plans.{day_members, refused_json}
 
 -- parts of members
 pub two_parts : (a b : List (List ℕ × Json)) → flat_map member_tokens (a ++ b) ≡ flat_map member_tokens a ++ flat_map member_tokens b
@@ -41,21 +37,6 @@ runway_tokens day rules now = refl
 pub refused_tokens : (number : ℕ) (word : RefusalWord) → json_tokens (refused_json (number, word))
     ≡ begin_object ∷ (member_tokens (codes "record", count_json number) ++ (member_tokens (codes "word", string (text_of word)) ++ end_object ∷ []))
 refused_tokens number word = refl
-
--- what is told of a plan, part by part
-pub plan_tokens : (day : CalendarDate) (scenario : Value) (plan : Plan) (rows : List Row) (refused : List (ℕ × RefusalWord))
-    → flat_map member_tokens (plan_members day scenario plan rows refused)
-    ≡ flat_map member_tokens (day_members day scenario plan.clock) ++ (flat_map member_tokens (count_members (counts_of plan))
-    ++ (flat_map member_tokens (flight_members day (counts_of plan) rows) ++ flat_map member_tokens (refused_members refused)))
-unfolding plan_members
-plan_tokens day scenario plan rows refused =
-    let first = day_members day scenario plan.clock in
-    let counts = count_members (counts_of plan) in
-    let flights = flight_members day (counts_of plan) rows in
-    let last = refused_members refused in
-    two_parts first (counts ++ (flights ++ last))
-    ∙ ap (λ ts. flat_map member_tokens first ++ ts) (two_parts counts (flights ++ last))
-    ∙ ap (λ ts. flat_map member_tokens first ++ (flat_map member_tokens counts ++ ts)) (two_parts flights last)
 
 -- members of members
 pub nested : {X : Type 0} (f : X → List (List ℕ × Json)) (xs : List X) → flat_map member_tokens (flat_map f xs) ≡ flat_map (λ x. flat_map member_tokens (f x)) xs
@@ -114,12 +95,6 @@ pub more_parts : (old before after : List Token) (a b : List (List ℕ × Json))
 more_parts old before after a b first then =
     then ∙ ap (λ ts. ts ++ flat_map member_tokens b) first ∙ append_assoc old (flat_map member_tokens a) (flat_map member_tokens b)
     ∙ ap (λ ts. old ++ ts) (sym (two_parts a b))
-
-pub four_parts : (old one two three four a b c d : List Token) → one ≡ old ++ a → two ≡ one ++ b → three ≡ two ++ c → four ≡ three ++ d
-    → four ≡ old ++ (a ++ (b ++ (c ++ d)))
-four_parts old one two three four a b c d first second third last =
-    let apart : ((((old ++ a) ++ b) ++ c) ++ d) ≡ old ++ (a ++ (b ++ (c ++ d))) = simp append_assoc in
-    last ∙ ap (λ ts. ts ++ d) (third ∙ ap (λ ts. ts ++ c) (second ∙ ap (λ ts. ts ++ b) first)) ∙ apart
 
 -- values of a list, one after another
 pub mapped : {X : Type 0} (f : X → Json) (xs : List X) → flat_map json_tokens (map f xs) ≡ flat_map (λ x. json_tokens (f x)) xs

@@ -4,3 +4,4 @@ pub mod Whys
 pub mod Loads
 pub mod Records
 pub mod Answers
+pub mod inner

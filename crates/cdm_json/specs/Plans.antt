@@ -1,6 +1,8 @@
 -- The plan of a day as JSON.
 use Rattle.std.specs.Prelude.{◌≡◌, ℕ, ◌==◌, List, [], ◌∷◌, ◌++◌, codes, flat_map, map, zip, Option, None, Some, if◌then◌else◌}
 use Rattle.json.specs.Json.{Json, string}
+use Rattle.json.specs.Print.{print}
+use Rattle.json.specs.Tree.{json_tokens}
 use Rattle.cdm_time.specs.Times.{date_text, time_text}
 use Rattle.cdm_time.specs.declared.calendar.CalendarDate.{CalendarDate}
 use Rattle.cdm_flight.specs.Words.{text_of}
@@ -65,6 +67,10 @@ abbrev pub scenario_of : PlanOf → Value
 scenario_of of.Day = nothing
 scenario_of (of.Asked number) = nothing
 scenario_of (of.Scenario name) = text name
+
+-- the text of the flights' Rows
+abbrev pub flights_text : CalendarDate → List Row → List ℕ
+flights_text day rows = print (json_tokens (array_of (map (row_json day) rows)))
 
 -- the line of a plan with these Rows
 abbrev pub plan_line : CalendarDate → PlanOf → Plan → List Row → List (ℕ × RefusalWord) → List ℕ

@@ -14,6 +14,6 @@ pub use answering::json_answer;
 pub use laws::one_json_answer;
 pub use lines::{begin_line, end_line};
 pub use load::load_lines;
-pub use plan::{PlanOf, plan_line, push_counts};
+pub use plan::{PlanOf, plan_line, plan_line_around, push_counts};
 pub use record::reply_line;
 pub use why::why_line;

@@ -1,13 +1,15 @@
 //! The plan of a day as JSON.
-ghost use Rattle.std.specs.Prelude.{◌≡◌, ◌++◌, IfOk, OnOk, flat_map, map, zip};
+ghost use Rattle.std.specs.Prelude.{◌≡◌, ◌++◌, IfOk, List, OnOk, flat_map, map, zip};
 ghost use Rattle.json.specs.Tree.{json_tokens};
 ghost use Rattle.cdm_sequence.specs.Words.{all_rules};
 ghost use Rattle.cdm_report.specs.Counts.{counts_of};
 ghost use Rattle.cdm_row.specs.Columns.{value_of};
-ghost use Rattle.cdm_row.specs.Json.{member_tokens, row_json};
-ghost use Rattle.cdm_json.specs.Plans.{count_members, day_members, flight_members, number_of, plan_line, plan_members, refused_json, refused_members, rule_members, rules_json, scenario_of};
+ghost use Rattle.cdm_row.specs.Json.{member_tokens};
+ghost use Rattle.cdm_row.specs.declared.row.Row.{Row as ARow};
+ghost use Rattle.cdm_json.specs.Plans.{count_members, day_members, flights_text, number_of, plan_line, refused_json, refused_members, rule_members, rules_json, scenario_of};
+ghost use Rattle.cdm_json.specs.inner.Around.{first_members, text_before, text_behind};
 
-use crate::lines::{begin_line, end_line};
+use crate::lines::begin_line;
 use cdm_flight::RefusalWord;
 use cdm_report::{Counts, indicators};
 use cdm_row::{Row, Rows, Value, push_count, push_member, push_minute, push_rows, push_text};
@@ -17,6 +19,9 @@ use cdm_time::{Day, Minute};
 use json::Writer;
 use std::alloc::{AllocError, Global};
 use std::str;
+
+/// For how many bytes the line has room behind its flights.
+const ROOM: usize = 64;
 
 /// Whose plan is told.
 #[derive(Clone, Copy, Debug, PartialEq, Eq)]
@@ -122,20 +127,22 @@ fn push_day(
     push_minute(writer, day, "now", now)
 }
 
-// Writes the members of the rules and of the flights.
-fn push_flights(
+// Writes the members before that of the flights.
+fn push_first(
     writer: &mut Writer<Global>,
     day: Day,
-    counts: &Counts,
-    rows: &[Row],
+    scenario: &Value<'_>,
+    plan: &Plan,
 ) -> Result<(), AllocError>
-    ensures tokens { OnOk result (writer.new.tokens ≡ writer.old.tokens ++ flat_map member_tokens (flight_members day counts.now rows.now)) }
+    ensures tokens { OnOk result (writer.new.tokens ≡ writer.old.tokens
+        ++ flat_map member_tokens (first_members day (value_of scenario.now) plan.entry.now)) }
     ensures before { writer.new.before ≡ writer.old.before }
 {
+    let counts = indicators(plan);
+    push_day(writer, day, scenario, plan.clock)?;
+    push_counts(writer, &counts)?;
     writer.key("rules")?;
-    push_rules(writer, counts)?;
-    writer.key("flights")?;
-    push_rows(writer, day, rows)
+    push_rules(writer, &counts)
 }
 
 // Writes the member of the refused records.
@@ -150,26 +157,6 @@ fn push_refused(
     writer.begin_array()?;
     push_refusals(writer, refused)?;
     writer.end_array()
-}
-
-// Writes the members of a plan with these Rows.
-fn push_plan(
-    writer: &mut Writer<Global>,
-    day: Day,
-    scenario: &Value<'_>,
-    plan: &Plan,
-    rows: &[Row],
-    refused: &[(u32, RefusalWord)],
-) -> Result<(), AllocError>
-    ensures tokens { OnOk result (writer.new.tokens ≡ writer.old.tokens
-        ++ flat_map member_tokens (plan_members day (value_of scenario.now) plan.entry.now rows.now refused.now)) }
-    ensures before { writer.new.before ≡ writer.old.before }
-{
-    let counts = indicators(plan);
-    push_day(writer, day, scenario, plan.clock)?;
-    push_counts(writer, &counts)?;
-    push_flights(writer, day, &counts, rows)?;
-    push_refused(writer, refused)
 }
 
 // The number of the record that asked for the plan, if one did.
@@ -192,6 +179,59 @@ fn scenario_of(of: &PlanOf) -> Value<'_>
     }
 }
 
+// The line of a plan up to its flights.
+fn text_before(alloc: Global, of: PlanOf, day: Day, plan: &Plan) -> Result<Vec<u8>, AllocError>
+    ensures { IfOk result (λ text. text.items ≡ text_before day of plan.entry.now) }
+{
+    let number = number_of(of);
+    let scenario = scenario_of(&of);
+    let mut writer = begin_line(alloc, number, "PLAN")?;
+    push_first(&mut writer, day, &scenario, plan)?;
+    writer.key("flights")?;
+    Ok(writer.into_inner())
+}
+
+// Ends the line of a plan behind its flights.
+fn end_plan(mut text: Vec<u8>, refused: &[(u32, RefusalWord)]) -> Result<Vec<u8>, AllocError>
+    ensures { IfOk result (λ line. line.items ≡ text.items ++ text_behind refused.now) }
+{
+    text.push(b',')?;
+    let mut writer = Writer::new(text);
+    push_refused(&mut writer, refused)?;
+    writer.end_object()?;
+    let mut line = writer.into_inner();
+    line.push(b'\n')?;
+    Ok(line)
+}
+
+/// The line of a plan whose flights' Rows have this text, as [`plan_line`] writes it. So who has the text of most Rows needn't write
+/// them again. Only want of memory makes it fail.
+pub fn plan_line_around(
+    alloc: Global,
+    of: PlanOf,
+    day: Day,
+    plan: &Plan,
+    flights: &[u8],
+    refused: &[(u32, RefusalWord)],
+) -> Result<Vec<u8>, AllocError>
+    ensures { IfOk result (λ text. (rows : List ARow) → flights.now ≡ flights_text day rows
+        → text.items ≡ plan_line day of plan.entry.now rows refused.now) }
+{
+    let mut text = text_before(alloc, of, day, plan)?;
+    text.reserve(flights.len().saturating_add(ROOM))?;
+    text.extend_from_slice(flights)?;
+    end_plan(text, refused)
+}
+
+// The text of the Rows of all flights.
+fn flights_text(alloc: Global, day: Day, rows: &[Row]) -> Result<Vec<u8>, AllocError>
+    ensures { IfOk result (λ text. text.items ≡ flights_text day rows.now) }
+{
+    let mut writer = Writer::new(Vec::new(alloc));
+    push_rows(&mut writer, day, rows)?;
+    Ok(writer.into_inner())
+}
+
 /// The line of a plan: whose it is, the day and the minute that it is now, the indicators with each rule that blocks flights, the
 /// Rows of all known flights by name, and the refused records. Only want of memory makes it fail.
 pub fn plan_line(
@@ -204,9 +244,6 @@ pub fn plan_line(
 ) -> Result<Vec<u8>, AllocError>
     ensures { IfOk result (λ text. text.items ≡ plan_line day of plan.entry.now rows.now refused.now) }
 {
-    let number = number_of(of);
-    let scenario = scenario_of(&of);
-    let mut writer = begin_line(alloc, number, "PLAN")?;
-    push_plan(&mut writer, day, &scenario, plan, rows.as_slice(), refused)?;
-    end_line(writer)
+    let flights = flights_text(alloc, day, rows.as_slice())?;
+    plan_line_around(alloc, of, day, plan, &flights, refused)
 }

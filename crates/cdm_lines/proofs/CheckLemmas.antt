@@ -1,12 +1,15 @@
 -- A check is lines.
-use Rattle.std.proofs.Common.{ℕ, List, [], ◌∷◌, ◌++◌, take, refl}
+use Rattle.std.proofs.Common.{◌≡◌, ◌∙◌, ◌++◌, ℕ, Bool, true, false, List, [], ◌∷◌, length, take, refl, sym, ap}
+use Rattle.std.proofs.lemmas.List.{append-nil}
+use Rattle.std.specs.List.{concat}
 use Rattle.std.proofs.lemmas.List.Elements.{recursion_from_All}
 use Rattle.cdm_flight.specs.Words.{text_of}
 use Rattle.cdm_flight.specs.declared.word.RefusalWord.{RefusalWord}
 use Rattle.cdm_kinds.specs.declared.format.Format.TheVariants.{Json as AsJson}
 use Rattle.cdm_row.specs.Json.{object_of}
-use Rattle.cdm_check.specs.Check.{AreHintsOf, AreLinesOf, IsCheck, IsHintOf, IsLineOf, cause_members, counts_in, hint_members, last_line, last_members, most_told, place_members}
-use Rattle.cdm_check.specs.Findings.{File, Finding, findings_in}
+use Rattle.cdm_files.specs.Records.{records_of}
+use Rattle.cdm_check.specs.Check.{AreFeedHintsOf, AreHintsOf, AreLinesOf, HasStandingHintOf, IsCheck, IsHintOf, IsLineOf, IsStandingHintOf, cause_members, counts_in, hint_members, last_line, last_members, most_told, place_members}
+use Rattle.cdm_check.specs.Findings.{File, Finding, is_stood_for, told_in}
 use Rattle.cdm_lines.specs.Lines.{AreLines, FitsLine}
 use Rattle.cdm_lines.proofs.Texts.{fits, lines-all, lines-concat, lines-zip, lines_same, one_line}
 use Rattle.cdm_lines.proofs.Values.{small_decimal, small_object, small_string}
@@ -40,18 +43,31 @@ are_hints path text are =
     lines_same text _ are.bytes
     (lines-concat are.lines (lines-all (IsHintOf AsJson path) (hint_line path) are.lines (recursion_from_All (IsHintOf AsJson path) are.lines are.each)))
 
+standing_line : (path : List ℕ) (records : ℕ) (text : List ℕ) → IsStandingHintOf AsJson path records text → AreLines text
+standing_line path records text is = one_line text (_, hint_fits path is.hint, is.bytes)
+
+standing_hints : (path : List ℕ) (records : ℕ) (text : List ℕ) → HasStandingHintOf AsJson path records text → AreLines text
+standing_hints path records text has =
+    let two : has.first ++ has.others ≡ concat (has.first ∷ has.others ∷ []) = ap (λ (x : List ℕ). has.first ++ x) (sym (append-nil has.others)) in
+    lines_same text _ (has.bytes ∙ two)
+    (lines-concat (has.first ∷ has.others ∷ []) (standing_line path records has.first has.stands, (are_hints path has.others has.of_others, tt)))
+
+feed_hints : (stood_for : Bool) (path : List ℕ) (records : ℕ) (text : List ℕ) → AreFeedHintsOf AsJson stood_for path records text → AreLines text
+feed_hints true path records text has = standing_hints path records text has
+feed_hints false path records text are = are_hints path text are
+
 pub is_check : (a f s : File) (text : List ℕ) → IsCheck AsJson a f s text → AreLines text
 is_check a f s text is =
     let counts = counts_in a f s in
     lines_same text _ is.bytes
-    (lines-concat (is.found ∷ is.hints_airport ∷ is.hints_feed ∷ is.hints_scenarios ∷ last_line AsJson counts.records counts.refused ∷ []) (
-      are_findings (take most_told (findings_in a f s)) is.found is.of_findings,
+    (lines-concat (is.hints_airport ∷ is.hints_feed ∷ is.hints_scenarios ∷ is.found ∷ last_line AsJson counts.records counts.refused (length (told_in a f s)) ∷ []) (
+      are_hints a.path is.hints_airport is.of_airport,
       (
-        are_hints a.path is.hints_airport is.of_airport,
+        feed_hints (is_stood_for a f) f.path (length (records_of f.bytes)) is.hints_feed is.of_feed,
         (
-          are_hints f.path is.hints_feed is.of_feed,
+          are_hints s.path is.hints_scenarios is.of_scenarios,
           (
-            are_hints s.path is.hints_scenarios is.of_scenarios,
+            are_findings (take most_told (told_in a f s)) is.found is.of_findings,
             (one_line _ (_, last_fits counts.records counts.refused, refl), tt),
           ),
         ),

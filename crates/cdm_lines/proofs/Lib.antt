@@ -2,6 +2,7 @@ mod LineFeeds
 mod Values
 mod Texts
 mod AnswerLemmas
+mod ShiftLemmas
 mod TableLemmas
 mod KindLemmas
 mod CheckLemmas

@@ -5,6 +5,7 @@ mod answers;
 mod checks;
 mod kinds;
 mod replies;
+mod shifts;
 mod tables;
 mod traces;
 
@@ -17,6 +18,7 @@ pub use kinds::{kind_fits_line, kinds_are_lines, kinds_are_read_back};
 pub use replies::{
     ready_fits_line, replies_are_lines, served_replies_are_lines, stopped_replies_are_lines,
 };
+pub use shifts::shift_answers_are_lines;
 pub use tables::{
     change_fits_line, comparisons_are_lines, plans_are_lines, refusal_fits_line, summary_fits_line,
 };

@@ -39,6 +39,7 @@ fn view_answer<R: Records>(
 // The text that answers what a shift asks.
 fn shift_text<R: Records>(
     alloc: Global,
+    format: Format,
     day: Day,
     records: &R,
     plan: &Plan,
@@ -46,35 +47,19 @@ fn shift_text<R: Records>(
 ) -> Result<Vec<u8>, AllocError>
     requires day { day ≡ (R.day records.now).airport.day }
     requires plan { IsDayPlan (R.day records.now) plan.now }
-    ensures { IfOk result (λ text. IsShiftText Format.Text question (R.day records.now) plan.entry.now text.items) }
+    ensures { IfOk result (λ text. IsShiftText format question (R.day records.now) plan.entry.now text.items) }
 {
+    use Format::{Json, Text};
+    use ShiftQuestion::{Causes, Next, Warnings};
     let rows = Rows::of(alloc, records, plan)?;
     let rows = rows.as_slice();
-    match question {
-        ShiftQuestion::Next(ahead) => next_text(alloc, day, records, plan, rows, ahead),
-        ShiftQuestion::Warnings => warnings_text(alloc, day, records, plan, rows),
-        ShiftQuestion::Causes(by) => causes_text(alloc, records, plan, by, rows),
-    }
-}
-
-// The lines of JSON that answer what a shift asks.
-fn shift_lines<R: Records>(
-    alloc: Global,
-    day: Day,
-    records: &R,
-    plan: &Plan,
-    question: ShiftQuestion,
-) -> Result<Vec<u8>, AllocError>
-    requires day { day ≡ (R.day records.now).airport.day }
-    requires plan { IsDayPlan (R.day records.now) plan.now }
-    ensures { IfOk result (λ text. IsShiftText Format.Json question (R.day records.now) plan.entry.now text.items) }
-{
-    let rows = Rows::of(alloc, records, plan)?;
-    let rows = rows.as_slice();
-    match question {
-        ShiftQuestion::Next(ahead) => next_lines(alloc, day, records, plan, rows, ahead),
-        ShiftQuestion::Warnings => warning_lines(alloc, day, records, plan, rows),
-        ShiftQuestion::Causes(by) => causes_lines(alloc, day, records, plan, by, rows),
+    match (format, question) {
+        (Text, Next(ahead)) => next_text(alloc, day, records, plan, rows, ahead),
+        (Text, Warnings) => warnings_text(alloc, day, records, plan, rows),
+        (Text, Causes(by)) => causes_text(alloc, records, plan, by, rows),
+        (Json, Next(ahead)) => next_lines(alloc, day, records, plan, rows, ahead),
+        (Json, Warnings) => warning_lines(alloc, day, records, plan, rows),
+        (Json, Causes(by)) => causes_lines(alloc, day, records, plan, by, rows),
     }
 }
 
@@ -97,11 +82,7 @@ pub fn day_answer<R: Records>(
     match question {
         DayQuestion::View(question) => view_answer(alloc, format, airport, records, plan, question),
         DayQuestion::Shift(question) => {
-            let day = *airport.day();
-            let text = match format {
-                Format::Text => shift_text(alloc, day, records, plan, question)?,
-                Format::Json => shift_lines(alloc, day, records, plan, question)?,
-            };
+            let text = shift_text(alloc, format, *airport.day(), records, plan, question)?;
             Ok(text)
         }
     }

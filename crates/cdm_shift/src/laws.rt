@@ -31,7 +31,8 @@ pub fn one_day_answer()
         IsDayAnswer format question d plan y → x ≡ y }
 {}
 
-/// A flight on its stand that has a slot is held for the minutes of its delay, each by one cause.
+/// A flight on its stand that has a TOBT, a runway, a taxi-out time and a slot is held for the minutes of its delay, each by one
+/// cause.
 pub fn a_slot_is_held_its_delay()
     ensures { (d : DayRecord) (plan : Plan) (f : Flight) (w : Waiting) (s : Slot) → Waits d plan f w → own_slot plan f ≡ Some s →
         IsSomeAnd s.delay (λ delay. length (causes_of d plan f) ≡ delay) }

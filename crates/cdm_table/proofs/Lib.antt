@@ -3,3 +3,4 @@ pub mod MemberLemmas
 mod LineLemmas
 mod NameColumn
 mod OwnLemmas
+mod LeftLemmas

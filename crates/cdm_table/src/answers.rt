@@ -13,11 +13,11 @@ fn room_for(answers: &[Listed<u8>]) -> usize {
     )
 }
 
-/// Puts the texts behind what is there, one after another.
-pub(crate) fn push_all(text: &mut Vec<u8>, answers: &[Listed<u8>]) -> Result<(), AllocError>
-    ensures { OnOk result (text.new.items ≡ text.old.items ++ concat answers.now) }
+/// Puts the texts behind what is there, one after another. Each is let go once it is there, so that not all are held twice.
+pub(crate) fn push_all(text: &mut Vec<u8>, answers: Vec<Listed<u8>>) -> Result<(), AllocError>
+    ensures { OnOk result (text.new.items ≡ text.old.items ++ concat answers.items) }
 {
-    text.reserve(room_for(answers))?;
+    text.reserve(room_for(&answers))?;
     for answer in answers {
         text.extend_from_slice(answer.as_slice())?;
     }

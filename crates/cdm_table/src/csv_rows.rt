@@ -4,11 +4,11 @@ ghost use Rattle.cdm_phase.specs.declared.job.PhaseName.TheVariants.{Scenarios};
 ghost use Rattle.cdm_plan.specs.Sound.{IsSound};
 ghost use Rattle.csv.specs.Writing.{default_writer, row_text};
 ghost use Rattle.cdm_table.specs.Rows.{AreScenarioRows, IsCsv, column_names, csv_text, flight_row, flights_text, refused_row};
-ghost use Rattle.cdm_table.specs.inner.OwnRows.{IsOwnRow, own_text};
+ghost use Rattle.cdm_table.specs.inner.OwnRows.{IsOwnRow, csv_row, own_text};
 ghost use Rattle.cdm_table.specs.inner.OneTable.{one_scenario_rows};
 
 use crate::answers::push_all;
-use crate::own_row::{OwnRow, first_of, from_flight, own_rows};
+use crate::own_row::{OwnRow, from_flight, text_of_same};
 use crate::row::{FlightWriter, column_names, refused_row};
 use crate::row_text::{Fields, RowWriter};
 use cdm_day::{DayState, Records, plan_of};
@@ -21,8 +21,8 @@ use cdm_time::Day;
 use std::alloc::{AllocError, Global};
 use std::thread::Threads;
 
-/// For how many bytes the text of a scenario has room at first, for each flight of the day.
-const ROOM: usize = 120;
+/// For how many bytes the text of a flight has room at first.
+const ROOM: usize = 128;
 
 // The day of rows, and the scenario whose rows they are.
 #[derive(Clone, Copy)]
@@ -38,18 +38,16 @@ fn push_flight(
     writer: &mut FlightWriter,
     sheet: &Sheet<'_>,
     row: &Row,
-    own: Option<&OwnRow>,
+    own: Option<&[u8]>,
 ) -> Result<(), AllocError>
-    requires { IfSome own (λ own. IsOwnRow sheet.now.day own.now) }
+    requires { IfSome own (λ own. own.now ≡ csv_row sheet.now.day row.now) }
     ensures { OnOk result (text.new.items ≡ text.old.items
         ++ row_text default_writer (flight_row sheet.now.day sheet.now.scenario.now row.now)) }
 {
     if let Some(own) = own {
-        if own.row() == row {
-            text.extend_from_slice(sheet.scenario.bytes())?;
-            text.extend_from_slice(own.text())?;
-            return Ok(());
-        }
+        text.extend_from_slice(sheet.scenario.bytes())?;
+        text.extend_from_slice(own)?;
+        return Ok(());
     }
     writer.push(text, sheet.day, sheet.scenario.bytes(), row)
 }
@@ -62,7 +60,7 @@ fn flight_rows(
     rows: &Rows,
     own: &[OwnRow],
 ) -> Result<Vec<u8>, AllocError>
-    requires { All (IsOwnRow sheet.now.day) own.now }
+    requires { All (IsOwnRow (csv_row sheet.now.day)) own.now }
     ensures { IfOk result (λ text. text.items ≡ flights_text sheet.now.day sheet.now.scenario.now rows.now) }
 {
     let mut writer = FlightWriter::new(alloc)?;
@@ -70,7 +68,7 @@ fn flight_rows(
     let mut left = own;
     for row in rows.as_slice() {
         left = from_flight(left, row.flight);
-        push_flight(&mut text, &mut writer, sheet, row, first_of(left))?;
+        push_flight(&mut text, &mut writer, sheet, row, text_of_same(left, row))?;
     }
     Ok(text)
 }
@@ -102,7 +100,7 @@ fn scenario_rows(
     own: &[OwnRow],
     scenario: &Scenario,
 ) -> Result<Vec<u8>, AllocError>
-    requires { All (IsOwnRow base.now.airport.day) own.now }
+    requires { All (IsOwnRow (csv_row base.now.airport.day)) own.now }
     ensures { IfOk result (λ text. AreScenarioRows base.now scenario.now text.items) }
 {
     let name = scenario.name();
@@ -136,7 +134,7 @@ impl Job for RowsJob<'_> {
 
     type Out = Listed<u8>;
 
-    ghost can_run = { λ job _. IsSound job.base.now × All (IsOwnRow job.base.now.airport.day) job.own.now };
+    ghost can_run = { λ job _. IsSound job.base.now × All (IsOwnRow (csv_row job.base.now.airport.day)) job.own.now };
 
     ghost gives = { λ job scenario text. AreScenarioRows job.base.now scenario text };
 
@@ -161,8 +159,39 @@ fn column_text(alloc: Global) -> Result<Vec<u8>, AllocError>
     text_of(alloc, &column_names(alloc)?)
 }
 
+// A Row with its text behind the others.
+fn push_own(
+    alloc: Global,
+    own: &mut Vec<OwnRow>,
+    writer: &mut FlightWriter,
+    day: Day,
+    row: &Row,
+) -> Result<(), AllocError>
+    requires { All (IsOwnRow (csv_row day)) own.old.items }
+    ensures made { OnOk result (All (IsOwnRow (csv_row day)) own.new.items) }
+    ensures text { OnOk result (own_text own.new.items ≡ own_text own.old.items ++ csv_row day row.now) }
+{
+    let mut text = Vec::with_capacity(alloc, ROOM)?;
+    writer.push(&mut text, day, b"", row)?;
+    own.push(OwnRow::new(row, text))?;
+    Ok(())
+}
+
+// The Rows of a day's flights with their texts.
+fn own_rows(alloc: Global, day: Day, rows: &Rows) -> Result<Vec<OwnRow>, AllocError>
+    ensures made { IfOk result (λ own. All (IsOwnRow (csv_row day)) own.items) }
+    ensures text { IfOk result (λ own. own_text own.items ≡ flights_text day [] rows.now) }
+{
+    let mut writer = FlightWriter::new(alloc)?;
+    let mut own = Vec::with_capacity(alloc, rows.as_slice().len())?;
+    for row in rows.as_slice() {
+        push_own(alloc, &mut own, &mut writer, day, row)?;
+    }
+    Ok(own)
+}
+
 // Puts the texts of rows behind what is there.
-fn push_own(text: &mut Vec<u8>, rows: &[OwnRow]) -> Result<(), AllocError>
+fn push_texts(text: &mut Vec<u8>, rows: &[OwnRow]) -> Result<(), AllocError>
     ensures { OnOk result (text.new.items ≡ text.old.items ++ own_text rows.now) }
 {
     for row in rows {
@@ -186,10 +215,10 @@ pub(crate) fn csv<R: Threads + Sync, G: Gate>(
     let mut text = column_text(alloc)?;
     let rows = Rows::of(alloc, base, base.plan())?;
     let own = own_rows(alloc, *base.day(), &rows)?;
-    push_own(&mut text, &own)?;
+    push_texts(&mut text, &own)?;
     let job = RowsJob { base, own: &own };
     let (rt, workers, gate) = (runner.rt, runner.workers, runner.gate);
     let answers = run_phase(rt, alloc, workers, 1, &job, scenarios, gate)?;
-    push_all(&mut text, &answers)?;
+    push_all(&mut text, answers)?;
     Ok(text)
 }

@@ -8,6 +8,7 @@ mod comparing;
 mod comparison;
 mod comparison_json;
 mod csv_rows;
+mod json_rows;
 mod line;
 mod line_rows;
 mod own_row;

@@ -1,4 +1,5 @@
 mod TraceLemmas
 mod LineLemmas
 mod SinceLemmas
+mod BatchLemmas
 pub mod OneTrace

@@ -1,6 +1,7 @@
 //! Which record of a feed moved whose start-up.
 #![tactic(auto)]
 
+mod batched;
 mod lines;
 mod since;
 mod told;

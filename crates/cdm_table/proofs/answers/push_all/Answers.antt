@@ -1,7 +1,16 @@
-use Rattle.std.proofs.Common.{arith}
+use Rattle.std.proofs.Common.{◌∙◌, ◌++◌, arith, rules, ap, map-id, sym}
+use Rattle.std.specs.List.{concat}
 use Rattle.std.proofs.lemmas.Grind.{common_steps}
+use Rattle.std.proofs.lemmas.Iterator.Adapters.{YieldsList-from_vec}
+use Rattle.std.proofs.lemmas.Iterator.Consumers.{YieldsList-end}
 use Rattle.std.proofs.lemmas.List.Concat.{concat_is}
 use Rattle.cdm_table.proofs.answers.push_all.Goals as goal
 
 pub loop-answer-preserved : goal.loop-answer-preserved
 loop-answer-preserved c = grind (arith, common_steps, concat_is)
+
+pub returns : goal.returns
+returns c =
+    let all = YieldsList-from_vec {s = c.into_iter-answer-iterator.result} c.args.answers.items (search rules) (search rules) in
+    let seen = YieldsList-end all c.loop-answer.yielded c.loop-answer.answer-iterator c.loop-answer.yielded_by _ c.next.new.self c.in-None.is c.next.ensures.steps in
+    c.loop-answer.invariant ∙ ap (λ l. c.args.text.now.items ++ concat l) (sym (map-id _) ∙ seen.0)

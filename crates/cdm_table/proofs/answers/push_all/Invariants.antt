@@ -1,6 +1,6 @@
-use Rattle.std.proofs.Common.{◌≡◌, ◌++◌, take}
+use Rattle.std.proofs.Common.{◌≡◌, ◌++◌}
 use Rattle.std.specs.List.{concat}
 use Rattle.cdm_table.proofs.answers.push_all.Given as goal
 
 abbrev pub invariant-loop-answer : goal.invariant-loop-answer
-invariant-loop-answer l = l.text.items ≡ l.initial.text.items ++ concat (take l.answer-index l.answers)
+invariant-loop-answer l = l.text.items ≡ l.fn.text.items ++ concat l.yielded

@@ -2,11 +2,14 @@ use Rattle.std.proofs.Common.{◌∙◌, ◌++◌, List, ℕ, length, refl, sym,
 use Rattle.std.proofs.lemmas.Option.{slice_get_read}
 use Rattle.csv.specs.Writing.{default_writer, row_text}
 use Rattle.cdm_table.specs.Rows.{flight_row}
+use Rattle.cdm_table.specs.inner.OwnRows.{csv_row}
 use Rattle.cdm_table.proofs.OwnLemmas.{rows_next}
 use Rattle.cdm_table.proofs.csv_rows.flight_rows.Goals as goal
 
 pub push_flight-requires : goal.push_flight-requires
-push_flight-requires c = c.first_of.ensures c.args.sheet.now.day (c.from_flight-left.ensures c.args.sheet.now.day c.loop-row.invariant.left)
+push_flight-requires c =
+    let form = csv_row c.args.sheet.now.day in
+    c.text_of_same.ensures form (c.from_flight-left.ensures form c.loop-row.invariant.left)
 
 pub loop-row-preserved : goal.loop-row-preserved
 loop-row-preserved c =
@@ -18,5 +21,5 @@ loop-row-preserved c =
     let next = rows_next (flight_row day name) xs k item (slice_get_read xs (length xs) k item refl c.loop-row-test.true c.row-item.is) in
     record {
       text = c.in_ok-push_flight.ensures ∙ (ap (λ (l : List ℕ). l ++ row_text default_writer (flight_row day name item)) c.loop-row.invariant.text ∙ sym next);
-      left = c.from_flight-left.ensures day c.loop-row.invariant.left;
+      left = c.from_flight-left.ensures (csv_row day) c.loop-row.invariant.left;
     }

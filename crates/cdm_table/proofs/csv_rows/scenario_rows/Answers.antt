@@ -7,7 +7,7 @@ use Rattle.cdm_scenario.specs.Overlay.{with_updates}
 use Rattle.cdm_scenario.specs.declared.outcome.Outcome.TheVariants.{Planned, Refused}
 use Rattle.cdm_row.specs.Rows.{AreRows}
 use Rattle.cdm_table.specs.Rows.{flights_text}
-use Rattle.cdm_table.specs.inner.OwnRows.{IsOwnRow}
+use Rattle.cdm_table.specs.inner.OwnRows.{IsOwnRow, csv_row}
 use Rattle.cdm_table.proofs.csv_rows.scenario_rows.Goals as goal
 
 pub returns-in_ok-text-in-Ok : goal.returns-in_ok-text-in-Ok
@@ -24,7 +24,7 @@ returns-in_ok-text-in-Ok c =
     (Planned plan (counts_of plan), (laid.0, of_day, refl), (made, rows, text))
 
 pub flight_rows-requires : goal.flight_rows-requires
-flight_rows-requires c = subst (λ (day : CalendarDate). All (IsOwnRow day) c.args.own.now) (sym c.day-in-Ok.ensures) c.requires
+flight_rows-requires c = subst (λ (day : CalendarDate). All (IsOwnRow (csv_row day)) c.args.own.now) (sym c.day-in-Ok.ensures) c.requires
 
 pub returns-in_ok-text-in-Err : goal.returns-in_ok-text-in-Err
 returns-in_ok-text-in-Err c =

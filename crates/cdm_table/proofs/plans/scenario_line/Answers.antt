@@ -18,8 +18,9 @@ returns-in_ok-line-in-Ok c =
     let of_day : IsDayPlan (with_updates base s.updates) plan = rw laid.1 at c.in_ok-plan-in-Ok.ensures.of_day in
     let made = c.in_ok-rows-in-Ok.rows in
     let rows : AreRows (with_updates base s.updates) plan made = rw laid.1 at c.in_ok-rows-in-Ok.ensures.all in
+    let told = c.deref.ensures.value ∙ c.in_ok-flights-in-Ok.ensures in
     let text : c.in_ok-line-in-Ok.line.items ≡ plan_line base.airport.day (of.Scenario s.name) plan made [] =
-    c.in_ok-line-in-Ok.ensures ∙ (λ i. plan_line (c.day-in-Ok.ensures i) (of.Scenario (c.name-name.ensures i)) plan made []) in
+    c.in_ok-line-in-Ok.ensures made told ∙ (λ i. plan_line (c.day-date.ensures i) (of.Scenario (c.name-name.ensures i)) plan made []) in
     let line : IsPlanLine (with_updates base s.updates) (of.Scenario s.name) plan [] c.in_ok-line-in-Ok.line.items =
     record { rows = made; are_rows = rows; bytes = text } in
     (Planned plan (counts_of plan), (laid.0, of_day, refl), line)

@@ -14,17 +14,17 @@ one-read false old new row h left = cc h
 
 pub records-init : goal.records-init
 records-init c =
-    tells_first c.args.from c.args.format c.args.asked c.args.airport c.args.feed.now _ _ _ (c.new-desk.ensures ∙ c.in_ok-state.ensures)
+    tells_first c.args.from c.args.format c.args.flight c.args.airport c.args.feed.now _ _ _ (c.new-day.ensures ∙ (c.new.ensures ∙ c.in_ok-state.ensures))
     c.new-reader.ensures.left c.new-reader.ensures.count c.new-text.ensures.items
 
 pub returns-then-not-branch : goal.returns-then-not-branch
 returns-then-not-branch c =
-    all_told c.args.from c.args.format c.args.asked c.args.airport c.args.feed.now _ _ _ _ c.records.invariant
+    all_told c.args.from c.args.format c.args.flight c.args.airport c.args.feed.now _ _ _ _ c.records.invariant
     (none-read _ _ _ _ c.if-not-branch.true c.in_ok-read.ensures.left)
 
 pub records-preserved : goal.records-preserved
 records-preserved c =
     let before = c.records.text.items in
     let longer = c.in_ok-extend_from_slice.ensures.items ∙ ap (λ (x : List ℕ). before ++ x) c.deref.ensures.value in
-    tells_next c.args.from c.args.format c.args.asked c.args.airport c.args.feed.now _ _ _ _ _ _ _ c.in_ok-piece.piece.items _ c.records.invariant
-    (one-read _ _ _ _ c.if-not-branch.false c.in_ok-read.ensures.left) c.in_ok-piece.ensures.piece c.in_ok-piece.ensures.ok longer
+    tells_next c.args.from c.args.format c.args.flight c.args.airport c.args.feed.now _ _ _ _ _ _ _ c.in_ok-next.piece.items _ c.records.invariant
+    (one-read _ _ _ _ c.if-not-branch.false c.in_ok-read.ensures.left) c.in_ok-next.ensures.piece c.in_ok-next.ensures.day longer

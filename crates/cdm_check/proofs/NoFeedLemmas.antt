@@ -1,0 +1,70 @@
+-- All records of a file that is no feed are refused.
+use Rattle.std.proofs.Common.{◌≡◌, ◌∙◌, ◌&&◌, ℕ, ◌+◌, suc, ◌-◌, Bool, true, false, List, [], ◌∷◌, length, map, is_none, is_err, nat_lt, refl, ap, Option, Some, None, Result, Ok, Err, if◌then◌else◌}
+use Rattle.std.proofs.lemmas.Bool.{false≢true}
+use Rattle.std.proofs.lemmas.List.{length-map}
+use Rattle.std.specs.List.{list_all}
+use Rattle.cdm_time.specs.declared.calendar.CalendarDate.{CalendarDate}
+use Rattle.cdm_flight.specs.Journal.{AirportRows}
+use Rattle.cdm_flight.specs.declared.role.Role.{Role}
+use Rattle.cdm_flight.specs.declared.update.Update.{Update}
+use Rattle.cdm_flight.specs.declared.word.RefusalWord.{RefusalWord}
+use Rattle.cdm_flight.specs.declared.word.RefusalWord.TheVariants as word
+use Rattle.cdm_files.specs.FeedDay.{refusals_in}
+use Rattle.cdm_files.specs.Fields.{field}
+use Rattle.cdm_files.specs.Kinds.{update_of}
+use Rattle.cdm_files.specs.Parsing.{parse_of, with_role}
+use Rattle.cdm_files.specs.Records.{records_of}
+use Rattle.cdm_files.specs.Refused.{Spelled, refused_in}
+use Rattle.cdm_files.specs.Roles.{role_of}
+use Rattle.cdm_check.specs.Findings.{has_no_role, is_no_feed}
+
+without_role : (r : Result Update RefusalWord) → is_err (with_role None r) ≡ true
+without_role (Ok u) = refl
+without_role (Err word.Fields) = refl
+without_role (Err word.Role) = refl
+without_role (Err word.Kind) = refl
+without_role (Err word.Text) = refl
+without_role (Err word.Range) = refl
+without_role (Err word.Authority) = refl
+without_role (Err word.Unknown) = refl
+without_role (Err word.Exists) = refl
+without_role (Err word.Ended) = refl
+without_role (Err word.OffBlock) = refl
+without_role (Err word.Order) = refl
+without_role (Err word.NotReady) = refl
+without_role (Err word.Full) = refl
+
+by-role : (short : Bool) (role : Option Role) (r : Result Update RefusalWord) → is_none role ≡ true
+    → is_err (if short then Err word.Fields else with_role role r) ≡ true
+by-role true role r none = refl
+by-role false None r none = without_role r
+by-role false (Some role) r none = absurd (false≢true none)
+
+-- a record without a role spells no update
+spells-none : (day : CalendarDate) (fields : List (List ℕ)) → has_no_role fields ≡ true → is_err (parse_of day fields) ≡ true
+unfolding parse_of
+spells-none day fields none =
+    by-role (nat_lt (length fields) 2) (role_of (field fields 0))
+    (update_of day (field fields 1) (length fields - 2) (field fields 2) (field fields 3) (field fields 4) (field fields 5)) none
+
+each : (a b : Bool) → (a && b) ≡ true → (a ≡ true) × (b ≡ true)
+each true b h = (refl, h)
+each false b h = absurd (false≢true h)
+
+spell-none : (day : CalendarDate) (records : List (List (List ℕ))) → list_all has_no_role records ≡ true → list_all is_err (map (parse_of day) records) ≡ true
+spell-none day [] all = refl
+spell-none day (fields ∷ later) all =
+    let both = each (has_no_role fields) (list_all has_no_role later) all in
+    rw (spells-none day fields both.0, spell-none day later both.1) refl
+
+all-refused : (g : AirportRows) (n : ℕ) (spelled : List Spelled) → list_all is_err spelled ≡ true → length (refused_in g [] n spelled) ≡ length spelled
+unfolding refused_in
+all-refused g n [] all = refl
+all-refused g n (Err w ∷ later) all = ap suc (all-refused g (n + 1) later all)
+all-refused g n (Ok p ∷ later) all = absurd (false≢true all)
+
+pub no_feed : (g : AirportRows) (bytes : List ℕ) → is_no_feed bytes ≡ true → length (refusals_in g bytes) ≡ length (records_of bytes)
+unfolding is_no_feed refusals_in
+no_feed g bytes is =
+    let none = (each _ (list_all has_no_role (records_of bytes)) is).1 in
+    all-refused g 1 (map (parse_of g.day) (records_of bytes)) (spell-none g.day (records_of bytes) none) ∙ length-map (records_of bytes) (parse_of g.day)

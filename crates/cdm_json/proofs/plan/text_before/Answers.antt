@@ -1,0 +1,20 @@
+use Rattle.std.proofs.Common.{◌∙◌, ◌++◌, [], ◌∷◌, ap}
+use Rattle.std.specs.Prelude.{codes}
+use Rattle.json.specs.Print.{print}
+use Rattle.json.specs.Token.{key}
+use Rattle.cdm_json.specs.Lines.{head_members}
+use Rattle.cdm_json.specs.Plans.{number_of, scenario_of}
+use Rattle.cdm_json.specs.inner.Around.{first_members}
+use Rattle.cdm_json.proofs.TokenLemmas.{line_written}
+use Rattle.cdm_json.proofs.plan.text_before.Goals as goal
+
+pub returns : goal.returns
+returns c =
+    let head = head_members (number_of c.args.of) (codes "PLAN") in
+    let first = first_members c.args.day (scenario_of c.args.of) c.args.plan.now in
+    let begun = rw c.number_of-number.ensures at c.in_ok-writer.ensures.tokens in
+    let more = rw c.scenario_of-scenario.ensures at c.in_ok-push_first.ensures.tokens in
+    let written = line_written _ _ head first begun more in
+    let tokens = c.in_ok-key.ensures.ok ∙ ap (λ ts. ts ++ key (codes "flights") ∷ []) written in
+    let none = c.in_ok-key.ensures.room.0 ∙ c.in_ok-push_first.ensures.before ∙ c.in_ok-writer.ensures.before in
+    c.into_inner.ensures.items ∙ (λ i. none i ++ print (tokens i))
