@@ -7,55 +7,61 @@ import glob
 import logging
 import os
 import resource
+import secrets
 import shutil
 import signal
 import socket
 import ssl
 import sys
 import tempfile
-from collections.abc import AsyncIterator, Iterator
+from collections.abc import AsyncIterator, Awaitable, Callable, Iterator
 from pathlib import Path
 
 from aiohttp import web
 
-from board import clock
+from board import clock, postgres, sqlite
 from board.answers import Answers, asked, day_of
-from board.desks import new_token, open_desks, read_desks
+from board.desks import digest, read_desks
 from board.events import Events
 from board.guard import HEADERS, Door, Guard, is_loopback
-from board import postgres, sqlite
-from board.log import MOST_RECORDS, Batch, Changed, Log, Record
+from board.log import MOST_RECORDS, Batch, Log, Record
 from board.sequencer import Sequencer
 from board.web import Board
 from board.words import Fault, Problem, lines_of, tell
 
 PROGRAM = os.environ.get("CDMSEQ", "")
 MEMORY = "/dev/shm" if os.path.isdir("/dev/shm") else tempfile.gettempdir()
-WORDS = {"serve": ("airport", "log"), "import": ("airport", "log", "feed"), "export": ("log",), "token": (),
-         "log init": ("log",)}
 
 
 def words() -> argparse.Namespace:
-    """The words of the command line. Ends with status 2 where they are wrong."""
-    told = [" ".join(sys.argv[1:1 + what.count(" ") + 1]) for what in WORDS]
-    what = next((what for what, said in zip(WORDS, told) if what == said != "serve"), "serve")
-    parser = argparse.ArgumentParser(f"cdmboard {what}".removesuffix(" serve"), allow_abbrev=False)
-    parser.set_defaults(what=what)
-    for name in WORDS[what]:
-        parser.add_argument(name)
-    if what == "export":
-        parser.add_argument("--all", action="store_true", help="every record, with desk, time and reply")
-    if what not in ("token", "log init"):
-        parser.add_argument("--board", default="", help="the board's name in the log")
-    if what == "serve":
-        parser.add_argument("--desks", metavar="FILE")
-        parser.add_argument("--listen", metavar="HOST:PORT", default="127.0.0.1:8270")
-        parser.add_argument("--name", metavar="HOST", action="append", default=[])
-        parser.add_argument("--clock", action="store_true", help="takes the machine's UTC minutes")
-        sealed = parser.add_mutually_exclusive_group()
-        sealed.add_argument("--tls", nargs=2, metavar=("CERT", "KEY"))
-        sealed.add_argument("--behind-proxy", action="store_true")
-    return parser.parse_args(sys.argv[1 + (what != "serve") * len(what.split()):])
+    """The words of the command line. Ends with status 2 if they are wrong."""
+    parser = argparse.ArgumentParser("cdmboard")
+    commands = parser.add_subparsers()
+
+    def command(name: str, run: Callable[[argparse.Namespace], Awaitable[None]], *files: str) -> argparse.ArgumentParser:
+        made = commands.add_parser(name, prog=f"cdmboard {name}".removesuffix(" serve"), allow_abbrev=False)
+        made.set_defaults(run=run)
+        for file in files:
+            made.add_argument(file)
+        if "log" in files:
+            made.add_argument("--board", default="", help="the board's name in the log")
+        return made
+    server = command("serve", serve, "airport", "log")
+    server.epilog = "Also: cdmboard import | export | log init | token, each with --help."
+    server.add_argument("--desks", metavar="FILE")
+    server.add_argument("--listen", metavar="HOST:PORT", default="127.0.0.1:8270")
+    server.add_argument("--name", metavar="HOST", action="append", default=[])
+    server.add_argument("--clock", action="store_true", help="takes the machine's UTC minutes")
+    sealed = server.add_mutually_exclusive_group()
+    sealed.add_argument("--tls", nargs=2, metavar=("CERT", "KEY"))
+    sealed.add_argument("--behind-proxy", action="store_true")
+    command("import", take_in, "airport", "log", "feed")
+    command("export", give_out, "log").add_argument("--all", action="store_true", help="every record, with desk, time and reply")
+    command("log", init).add_argument("init", choices=["init"])
+    commands.choices["log"].add_argument("log", metavar="postgresql://..")
+    command("token", token)
+    said = sys.argv[1:]
+    return parser.parse_args(said if said[:1] and said[0] in commands.choices else ["serve", *said])
 
 
 def read(path: str) -> bytes:
@@ -72,15 +78,14 @@ def folder_of(name: str, airport: bytes) -> Iterator[str]:
     for old in glob.glob(f"{MEMORY}/cdmboard-{name}-*"):
         with contextlib.suppress(OSError), locked(old):
             shutil.rmtree(old, ignore_errors=True)
-    with tempfile.TemporaryDirectory("", f"cdmboard-{name}-", MEMORY, ignore_cleanup_errors=True) as folder:
-        with locked(folder):
-            Path(folder, "airport.csv").write_bytes(airport)
-            yield folder
+    with tempfile.TemporaryDirectory("", f"cdmboard-{name}-", MEMORY, ignore_cleanup_errors=True) as folder, locked(folder):
+        Path(folder, "airport.csv").write_bytes(airport)
+        yield folder
 
 
 @contextlib.contextmanager
 def locked(folder: str) -> Iterator[None]:
-    """A lock on a folder. Raises OSError where another process has it."""
+    """A lock on a folder. Raises OSError if another process has it."""
     held = os.open(folder, os.O_RDONLY | os.O_DIRECTORY)
     try:
         fcntl.flock(held, fcntl.LOCK_EX | fcntl.LOCK_NB)
@@ -98,8 +103,7 @@ def is_url(log: str) -> bool:
 async def log_of(options: argparse.Namespace) -> AsyncIterator[tuple[Log, str]]:
     """The log and its folder, while they are used. Raises Fault."""
     airport, version = read(options.airport), await asked("/", PROGRAM, "--version")
-    log: Log = sqlite.FileLog(os.path.realpath(options.log), options.board) if not is_url(options.log) else (
-        postgres.PostgresLog(options.log, options.board))
+    log: Log = (postgres.PostgresLog if is_url(options.log) else sqlite.FileLog)(options.log, options.board)
     await log.open(airport, version.decode("ascii", "replace").strip())
     try:
         with folder_of(log.id, log.airport) as folder:
@@ -108,14 +112,20 @@ async def log_of(options: argparse.Namespace) -> AsyncIterator[tuple[Log, str]]:
         await log.close()
 
 
+async def token(_: argparse.Namespace) -> None:
+    """`token`: a new one, and its line for desks.toml."""
+    new = secrets.token_urlsafe(32)
+    print(f'{new}\ntoken = "sha256:{digest(new).hex()}"')
+
+
 async def take_in(options: argparse.Namespace) -> None:
     """`import`: a feed as the first records of a log. All of them have to be accepted."""
     feed = [line.partition(",") for line in lines_of(read(options.feed), MOST_RECORDS, 104)]
     async with log_of(options) as (log, folder):
         if await log.whole():
             raise Fault(f"{options.log} has records already")
-        records = [Record(number, "import", role, line) for number, (role, _, line) in enumerate(feed, 1)]
-        for record in (await day_of(folder, PROGRAM, records))[1].records:
+        _, day = await day_of(folder, PROGRAM, [Record(number, "import", role, line) for number, (role, _, line) in enumerate(feed, 1)])
+        for record in day.records:
             if record.word is not None:
                 raise Fault(f"{options.feed} record {record.position}: {record.word} (see ./cdmseq check)")
         await log.append(Batch("import", [(role, line) for role, _, line in feed], end=len(feed)))
@@ -130,10 +140,7 @@ async def init(options: argparse.Namespace) -> None:
 
 async def give_out(options: argparse.Namespace) -> None:
     """`export`: the accepted records, or all."""
-    if is_url(options.log):
-        airport, records = await postgres.read_log(options.log, options.board)
-    else:
-        airport, records = sqlite.read_log(options.log, options.board)
+    airport, records = await (postgres if is_url(options.log) else sqlite).read_log(options.log, options.board)
     with folder_of(f"export{os.getpid()}", airport) as folder:
         _, day = await day_of(folder, PROGRAM, records)
     print(day.texts(day.records).decode() if options.all else day.feed(), end="")
@@ -170,28 +177,23 @@ async def serve(options: argparse.Namespace) -> None:
     for number in (signal.SIGTERM, signal.SIGINT):
         loop.add_signal_handler(number, starting.cancel)
     host, port, sealed = listening(options)
-    desks = read_desks(options.desks) if options.desks else open_desks()
+    desks = read_desks(options.desks)
     resource.setrlimit(resource.RLIMIT_NOFILE, (resource.getrlimit(resource.RLIMIT_NOFILE)[1],) * 2)
     async with log_of(options) as (log, folder):
         kinds = await asked(folder, PROGRAM, "kinds", "--format", "json")
         date, day = await day_of(folder, PROGRAM, await log.whole(), kinds)
-        board = Board(desks, log, day, Sequencer(PROGRAM, folder, log, day),
-                      Answers(PROGRAM, folder, day), Events(log.id, day),
-                      {name.lower() for name in (host, "localhost", socket.gethostname(), *options.name)},
-                      "https" if sealed or options.behind_proxy else "http", options.behind_proxy)
-        runner = web.AppRunner(board.application())
+        names, scheme = (host, "localhost", socket.gethostname(), *options.name), "https" if sealed or options.behind_proxy else "http"
+        board = Board(desks, log, day, Sequencer(PROGRAM, folder, log, day), Answers(PROGRAM, folder, day), Events(log.id, day),
+                      {name.lower() for name in names}, scheme, options.behind_proxy)
+        runner, door = web.AppRunner(board.application()), Door(host, port, options.behind_proxy)
         await runner.setup()
-        manager = runner.server
-        assert manager is not None
-        door = Door(host, port, options.behind_proxy)
+        assert (manager := runner.server) is not None
         server = await loop.create_server(
-            lambda: Guard(manager, options.behind_proxy), sock=door, ssl=sealed, backlog=100,
-            ssl_handshake_timeout=HEADERS if sealed else None)
-        at = f"{f'[{host}]' if ':' in host else host}:{door.getsockname()[1]}"
+            lambda: Guard(manager, options.behind_proxy), sock=door, ssl=sealed, ssl_handshake_timeout=HEADERS if sealed else None)
         loop.add_signal_handler(signal.SIGHUP, again, options, board, sealed)
+        at = f"{scheme}://{f'[{host}]' if ':' in host else host}:{door.getsockname()[1]}/"
         try:
-            address = f"{'https' if sealed else 'http'}://{at}/"
-            await run(board, folder, address, date if options.clock else "")
+            await run(board, at, date if options.clock else "")
         except ExceptionGroup as faults:
             raise faults.exceptions[0] from None
         finally:
@@ -199,18 +201,17 @@ async def serve(options: argparse.Namespace) -> None:
             server.close()
             board.events.end()
             day.end()
-            await board.answers.close()
             await manager.shutdown(2)
             await runner.cleanup()
 
 
-async def run(board: Board, folder: str, address: str, date: str) -> None:
+async def run(board: Board, address: str, date: str) -> None:
     """Runs all that a board has running, until it is told to end and each record has its reply."""
     ending, loop = asyncio.Event(), asyncio.get_running_loop()
     for number in (signal.SIGTERM, signal.SIGINT):
         loop.add_signal_handler(number, ending.set)
     async with asyncio.TaskGroup() as group:
-        parts = [sequenced(board, folder), board.log.ended(), board.events.run(), ready(board, address)]
+        parts = [board.sequencer.run(), board.log.ended(), board.events.run(), ready(board, address)]
         tasks = [group.create_task(part) for part in parts + ([clock.run(date, board.take)] if date else [])]
         await ending.wait()
         board.is_closing = True
@@ -218,22 +219,10 @@ async def run(board: Board, folder: str, address: str, date: str) -> None:
             # What another server takes from now on gets its reply there.
             rest = [] if board.log.stale_since else await board.log.rows(len(board.day.records), MOST_RECORDS)
             last = rest[-1].position if rest else 0
-            while len(board.day.records) < last and not board.log.stale_since or board.are_waiting():
+            while len(board.day.records) < last and not board.log.stale_since or board.waiting():
                 await asyncio.sleep(0.02)
         for task in tasks:
             task.cancel()
-
-
-async def sequenced(board: Board, folder: str) -> None:
-    """Runs the sequencer. Where the database has lost rows that were handed on, the day begins anew, with those
-    that it has. Returns never."""
-    while True:
-        try:
-            await board.sequencer.run()
-        except Changed as changed:
-            tell(f"cdmboard: {changed}")
-            _, day = await day_of(folder, PROGRAM, await board.log.whole(), board.day.kinds.text)
-            board.day.restart(day)
 
 
 async def ready(board: Board, address: str) -> None:
@@ -242,9 +231,9 @@ async def ready(board: Board, address: str) -> None:
 
 
 def again(options: argparse.Namespace, board: Board, sealed: ssl.SSLContext | None) -> None:
-    """Reads desks and certificates again, each for itself; the old one stays where the new one is wrong."""
+    """Reads desks and certificates again, each for itself; the old one stays if the new one is wrong."""
     try:
-        board.desks = read_desks(options.desks) if options.desks else board.desks
+        board.desks = read_desks(options.desks)
     except Fault as fault:
         tell(f"cdmboard: {fault}; the old one stays")
     try:
@@ -262,11 +251,7 @@ def main() -> int:
     # Of malformed requests it would tell a traceback each; faults of the server's own are told by it.
     logging.getLogger("aiohttp").setLevel(logging.CRITICAL)
     try:
-        if options.what == "token":
-            print(new_token())
-        else:
-            parts = {"serve": serve, "import": take_in, "export": give_out, "log init": init}
-            asyncio.run(parts[options.what](options))
+        asyncio.run(options.run(options))
         return 0
     except asyncio.CancelledError:
         return 0

@@ -13,8 +13,7 @@ JUMP = timedelta(minutes=5)
 
 async def run(day: str, take: Callable[[Desk, list[str], str], Awaitable[object]]) -> None:
     """Takes a CLOCK each minute, the first at once, with the minute as its key. Returns never."""
-    days = (day, str(date.fromisoformat(day) + timedelta(days=1)))
-    latest, told = "", ""
+    days, latest, told = (day, str(date.fromisoformat(day) + timedelta(days=1))), "", ""
     while True:
         now, limit, why = minute_text(), minute_text(JUMP), ""
         if now[:10] not in days:

@@ -3,43 +3,35 @@ import asyncio
 import json
 from bisect import bisect
 from collections import OrderedDict, defaultdict
-from collections.abc import Callable, Iterable, Mapping
+from collections.abc import Iterable, Mapping
 from weakref import WeakValueDictionary
 
 from board.log import Record
-from board.words import Kinds, Problem
+from board.words import Kinds, refuse
 
 KEPT, KEPT_BYTES, MOST_FOUND = 2000, 64 << 20, 1000
 
 
 class Day:
-    """All records by position, from the first to the moment that is now; `lines` are the accepted ones."""
+    """All records by position, from the first to the moment that is now; `lines` are the accepted ones. `starts`: how
+    often it began anew. `changed` is set at each reply, and when it begins anew."""
 
-    def __init__(self, kinds: Kinds, records: list[Record], refused: Mapping[int, str]) -> None:
-        self.kinds = kinds
-        self.records: list[Record] = []
-        self.lines: list[str] = []
-        self.on_reply: list[Callable[[Record], None]] = []
-        self.on_restart: list[Callable[[], None]] = []
-        self.starts = 0
-        self._texts: OrderedDict[int, bytes] = OrderedDict()
-        self._bytes = 0
+    def __init__(self, kinds: Kinds, records: Iterable[Record], refused: Mapping[int, str]) -> None:
+        self.kinds, self.starts, self.changed = kinds, 0, asyncio.Event()
+        self.records, self.lines = list[Record](), list[str]()
+        self._texts, self._bytes = OrderedDict[int, bytes](), 0
         self._waited_for: WeakValueDictionary[int, asyncio.Event] = WeakValueDictionary()
         self._of: defaultdict[tuple[str | None, str | None], list[Record]] = defaultdict(list)
         for record in records:
             self._keep(record, refused.get(record.position), 0)
 
     def restart(self, day: "Day") -> None:
-        """Begins anew with the records of another day. Who waits is told, also who doesn't wait yet: `starts`
-        is another."""
-        self.starts += 1
+        """Begins anew with the records of another day. Whoever waits is told."""
         self.records, self.lines, self._of, self._bytes = day.records, day.lines, day._of, 0
         self._texts.clear()
-        waited_for, self._waited_for = list(self._waited_for.values()), WeakValueDictionary()
-        for event in waited_for:
-            event.set()
-        for told in self.on_restart:
-            told()
+        self.starts += 1
+        self.changed.set()
+        self.end()
 
     def _keep(self, record: Record, word: str | None, changes: int) -> Record:
         assert record.position == len(self.records) + 1
@@ -59,10 +51,8 @@ class Day:
         self._bytes += len(text)
         while len(self._texts) > KEPT or self._bytes > KEPT_BYTES:
             self._bytes -= len(self._texts.popitem(last=False)[1])
-        for told in self.on_reply:
-            told(record)
-        waited_for = self._waited_for.get(record.position)
-        if waited_for is not None:
+        self.changed.set()
+        if waited_for := self._waited_for.get(record.position):
             waited_for.set()
 
     def feed(self, accepted: int | None = None) -> str:
@@ -71,27 +61,25 @@ class Day:
 
     def texts(self, records: Iterable[Record], most: float = float("inf")) -> bytes:
         """Their replies, one a line; no more than fit, but the first one."""
-        texts, size = list[bytes](), 0
+        texts = bytearray()
         for record in records:
-            texts.append(self.text(record) + b"\n")
-            size += len(texts[-1])
-            if size > most and len(texts) > 1:
-                texts.pop()
+            text = self.text(record) + b"\n"
+            if texts and len(texts) + len(text) > most:
                 break
-        return b"".join(texts)
+            texts += text
+        return bytes(texts)
 
     def text(self, record: Record) -> bytes:
-        """The reply to a record, `changes` null where they aren't kept."""
+        """The reply to a record, `changes` null if they aren't kept."""
         return self._texts.get(record.position) or _text(record, None)
 
     def kept_behind(self, position: int) -> list[Record] | None:
-        """All records behind a position, None where their replies aren't all kept whole."""
-        return self.records[position:] if len(self.records) - position <= len(self._texts) else None
+        """All records behind a position, None if their replies aren't all kept whole."""
+        return self.records[position:] if 0 <= len(self.records) - position <= len(self._texts) else None
 
     def found(self, since: int, flight: str | None, desk: str | None) -> list[Record]:
-        """The first records behind a position, of a flight and of a desk where these are asked for."""
-        is_all = flight is None and desk is None
-        of = self.records if is_all else self._of.get((flight, desk), [])
+        """The first records behind a position, of a flight and of a desk if these are asked for."""
+        of = self.records if flight is desk is None else self._of.get((flight, desk), [])
         first = bisect(of, since, key=lambda record: record.position)
         return of[first:first + MOST_FOUND]
 
@@ -100,16 +88,16 @@ class Day:
         return len(self._of.get((None, desk), []))
 
     async def reached(self, position: int) -> None:
-        """Returns as soon as this record has its reply. Raises Problem where it won't have one here."""
+        """Returns as soon as this record has its reply. Raises Problem if it won't have one here."""
         if position > len(self.records):
             await self._waited_for.setdefault(position, asyncio.Event()).wait()
-        if position > len(self.records):
-            raise Problem(504, "the server ended; send again with the same key")
+        refuse(position > len(self.records), 504, "the server ended; send again with the same key")
 
     def end(self) -> None:
         """No more replies come: who waits is told."""
         for waited_for in list(self._waited_for.values()):
             waited_for.set()
+        self._waited_for.clear()
 
 
 def _text(record: Record, changes: list[object] | None) -> bytes:

@@ -4,15 +4,14 @@ import hashlib
 import hmac
 import os
 import re
-import secrets
 import time
 import tomllib
-from collections.abc import Callable, Iterable, Iterator
+from collections.abc import Iterable, Iterator
 from dataclasses import dataclass, field
 from datetime import timedelta
 from typing import Any
 
-from board.words import ROLES, Fault, Kinds, Problem, minute_text
+from board.words import ROLES, Fault, Kinds, minute_text, refuse
 
 DESK, TOKEN = re.compile(r"[A-Za-z0-9-]{1,32}"), re.compile(r"sha256:[0-9a-f]{64}")
 COOKIE = re.compile(r"([A-Za-z0-9-]{1,32})\.([0-9]{1,12})\.([0-9a-f]{64})")
@@ -32,17 +31,16 @@ class Desk:
     clock: timedelta | None = None
 
     def check(self, lines: Iterable[str], kinds: Kinds) -> None:
-        """Raises Problem where one of the lines isn't this desk's to send."""
-        if self.role not in ROLES:
-            raise Problem(403, "who only reads sends no records")
+        """Raises Problem if one of the lines isn't this desk's to send."""
+        refuse(self.role not in ROLES, 403, "who only reads sends no records")
         for number, line in enumerate(lines, 1):
             flight, (kind, _, at) = kinds.flight_of(line), line.partition(",")
-            if self.flights is not None and (flight is None or not flight.startswith(self.flights)):
-                raise Problem(403, f"{self.name} sends records of its own flights alone", number)
-            if kind == "CLOCK" and self.clock is None:
-                raise Problem(403, f"{self.name} sends no CLOCK", number)
-            if kind == "CLOCK" and self.clock and TIME.fullmatch(at) and at > minute_text(self.clock):
-                raise Problem(403, "a CLOCK is at most 5 minutes ahead", number)
+            is_other = self.flights is not None and not (flight or "").startswith(self.flights)
+            refuse(is_other, 403, f"{self.name} sends records of its own flights alone", number)
+            if kind == "CLOCK":
+                refuse(self.clock is None, 403, f"{self.name} sends no CLOCK", number)
+                is_ahead = self.clock and TIME.fullmatch(at) and at > minute_text(self.clock)
+                refuse(is_ahead, 403, "a CLOCK is at most 5 minutes ahead", number)
 
 
 @dataclass
@@ -54,12 +52,11 @@ class Pace:
 
     @contextlib.contextmanager
     def of(self, count: int) -> Iterator[None]:
-        """While these records wait. Raises Problem where they are too many."""
+        """While these records wait. Raises Problem if they are too many."""
         now = time.monotonic()
         room = min(MOST_A_SECOND * SECONDS, self.room + (now - self.then) * MOST_A_SECOND)
-        if self.waiting + count > MOST_WAITING or room < count:
-            seconds = 1 + int(max(0, count - room) / MOST_A_SECOND)
-            raise Problem(429, "too many records at once", Retry_After=str(seconds))
+        is_much, seconds = self.waiting + count > MOST_WAITING or room < count, 1 + int(max(0, count - room) / MOST_A_SECOND)
+        refuse(is_much, 429, "too many records at once", Retry_After=str(seconds))
         self.room, self.then, self.waiting = room - count, now, self.waiting + count
         try:
             yield
@@ -76,9 +73,8 @@ class Desks:
 
     def by_token(self, token: str) -> Desk | None:
         """The desk of a token. All are compared, in constant time."""
-        asked = digest(token)
-        found = [desk for desk in self.by_name.values()
-                 if any([hmac.compare_digest(asked, kept) for kept in desk.tokens])]
+        asked, desks = digest(token), self.by_name.values()
+        found = [desk for desk in desks for kept in desk.tokens if hmac.compare_digest(asked, kept)]
         return found[0] if found else None
 
     def cookie(self, desk: Desk, log_id: str, token: str) -> str:
@@ -88,12 +84,10 @@ class Desks:
 
     def by_cookie(self, cookie: str, log_id: str) -> Desk | None:
         """The desk of a session that hasn't ended."""
-        parts = COOKIE.fullmatch(cookie)
-        desk = self.by_name.get(parts[1]) if parts else None
-        if parts is None or desk is None or int(parts[2]) < time.time():
-            return None
-        signs = [_sign(kept, log_id, parts[1], parts[2]) for kept in desk.tokens]
-        return desk if any([hmac.compare_digest(parts[3], sign) for sign in signs]) else None
+        name, expiry, signed = parts.groups() if (parts := COOKIE.fullmatch(cookie)) else ("", "0", "")
+        desk = self.by_name.get(name) if int(expiry) >= time.time() else None
+        signs = [_sign(kept, log_id, name, expiry) for kept in desk.tokens] if desk else []
+        return desk if any([hmac.compare_digest(signed, sign) for sign in signs]) else None
 
 
 def digest(token: str) -> bytes:
@@ -105,20 +99,10 @@ def _sign(key: bytes, log_id: str, name: str, expiry: str) -> str:
     return hmac.new(key, f"{log_id}.{name}.{expiry}".encode(), "sha256").hexdigest()
 
 
-def new_token() -> str:
-    """A new token, and its line for desks.toml."""
-    token = secrets.token_urlsafe(32)
-    return f'{token}\ntoken = "sha256:{digest(token).hex()}"'
-
-
-def open_desks() -> Desks:
-    """Without a desks file: each role is a desk, for who speaks from this machine."""
-    desks = [Desk(role, role, records=20_000, clock=ANY if role == "ATC" else None) for role in ROLES]
-    return Desks(desks, anyone_reads=True, is_open=True)
-
-
-def read_desks(path: str) -> Desks:
-    """The desks of a file. Raises Fault."""
+def read_desks(path: str | None) -> Desks:
+    """The desks of a file; without one each role is a desk, for who speaks from this machine. Raises Fault."""
+    if path is None:
+        return Desks([Desk(role, role, (), 20_000, None, ANY if role == "ATC" else None) for role in ROLES], True, True)
     try:
         with open(path, "rb") as file:
             if os.fstat(file.fileno()).st_mode & 0o077:
@@ -136,25 +120,19 @@ def read_desks(path: str) -> Desks:
     return Desks(desks, read == "anyone")
 
 
-def _are(said: object, form: re.Pattern[str]) -> bool:
-    return isinstance(said, list) and all(isinstance(one, str) and form.fullmatch(one) for one in said)
-
-
-# What may stand in a desk's table, and when it is right.
-RIGHT: dict[str, Callable[[Any], object]] = {
-    "role": lambda said: said in (*ROLES, "READ"), "token": lambda said: said and _are(said, TOKEN),
-    "records": lambda said: type(said) is int and said >= 0, "clock": lambda said: isinstance(said, bool),
-    "flights": lambda said: said is None or _are(said, re.compile(".+"))}
-
-
 def _desk(name: str, told: Any) -> Desk:
-    table: dict[str, Any] = {"role": "", "token": [], "flights": None, "clock": False}
-    table |= told if isinstance(told, dict) else {}
-    table.setdefault("records", 20_000 if table["role"] in ("ATC", "NM") else 2000)
-    table["token"] = table["token"] if isinstance(table["token"], list) else [table["token"]]
-    wrong = [word for word, said in table.items() if word not in RIGHT or not RIGHT[word](said)]
+    table: dict[str, Any] = {"role": "", "token": [], "flights": None, "clock": False} | (told if isinstance(told, dict) else {})
+    role, tokens, flights, clock = table["role"], table["token"], table["flights"], table["clock"]
+    records = table.setdefault("records", 20_000 if role in ("ATC", "NM") else 2000)
+    tokens = tokens if isinstance(tokens, list) else [tokens]
+    right = {"role": role in (*ROLES, "READ"), "records": type(records) is int and records >= 0, "clock": isinstance(clock, bool),
+             "token": tokens and _are(tokens, TOKEN), "flights": flights is None or _are(flights, re.compile(".+"))}
+    wrong = [word for word in table if not right.get(word)]
     if not DESK.fullmatch(name) or name in ("clock", "import") or wrong:
         raise ValueError(f"desk {name!a}: {', '.join(wrong) or 'its name'}: missing, unknown or malformed")
-    digests = tuple(bytes.fromhex(token.removeprefix("sha256:")) for token in table["token"])
-    flights = None if table["flights"] is None else tuple(table["flights"])
-    return Desk(name, table["role"], digests, table["records"], flights, AHEAD if table["clock"] else None)
+    digests = tuple(bytes.fromhex(token.removeprefix("sha256:")) for token in tokens)
+    return Desk(name, role, digests, records, None if flights is None else tuple(flights), AHEAD if clock else None)
+
+
+def _are(said: object, form: re.Pattern[str]) -> bool:
+    return isinstance(said, list) and all(isinstance(one, str) and form.fullmatch(one) for one in said)

@@ -9,7 +9,7 @@ from typing import Any
 from aiohttp import web
 
 MOST_OF_ADDRESS, MOST_INSIDE, KEPT_FREE = 100, 10_000, 200
-TCP_USER_TIMEOUT = 18  # Linux' number of it
+TCP_USER_TIMEOUT = 18  # Linux' number of it, which mypy doesn't know.
 MOST_UNREAD, MOST_PIPELINED, HEADERS, OF_A_PROXY, UNTAKEN = 256 << 10, 16, 10.0, 75.0, 60.0
 
 
@@ -26,60 +26,45 @@ class Door(socket.socket):
     the first, also before TLS is agreed on. A proxy on this machine may have any number."""
 
     def __init__(self, host: str, port: int, is_for_proxy: bool) -> None:
-        family, kind, proto, _, address = socket.getaddrinfo(host, port, type=socket.SOCK_STREAM)[0]
-        super().__init__(family, kind, proto)
-        self.setsockopt(socket.SOL_SOCKET, socket.SO_REUSEADDR, 1)
-        if family == socket.AF_INET6:
-            self.setsockopt(socket.IPPROTO_IPV6, socket.IPV6_V6ONLY, 1)
-        self.bind(address)
-        self.of_address, self.inside, self._is_for_proxy = Counter[str](), 0, is_for_proxy
+        family, *_, address = socket.getaddrinfo(host, port, type=socket.SOCK_STREAM)[0]
+        super().__init__(fileno=socket.create_server(address, family=family).detach())
+        self._guests, self._is_for_proxy = Counter[str](), is_for_proxy
         self._most = min(MOST_INSIDE, resource.getrlimit(resource.RLIMIT_NOFILE)[0] - KEPT_FREE)
 
     def accept(self) -> tuple[socket.socket, Any]:
         connection, peer = super().accept()
         is_proxy = self._is_for_proxy and is_loopback(peer[0])
-        if self.inside >= self._most or self.of_address[peer[0]] >= MOST_OF_ADDRESS and not is_proxy:
+        if self._guests.total() >= self._most or self._guests[peer[0]] >= MOST_OF_ADDRESS and not is_proxy:
             connection.close()
             raise ConnectionAbortedError("too many connections")
-        self.inside += 1
-        self.of_address[peer[0]] += 1
-        guest = Guest(connection.detach(), self, peer[0])
         # Whoever takes nothing of what was sent to it for so long is gone, whatever else it says.
-        guest.setsockopt(socket.IPPROTO_TCP, TCP_USER_TIMEOUT, int(1000 * UNTAKEN))
-        return guest, peer
-
-    def leave(self, address: str) -> None:
-        """A connection is gone."""
-        self.inside -= 1
-        self.of_address[address] -= 1
-        if not self.of_address[address]:
-            del self.of_address[address]
+        connection.setsockopt(socket.IPPROTO_TCP, TCP_USER_TIMEOUT, int(1000 * UNTAKEN))
+        return Guest(connection.detach(), self._guests, peer[0]), peer
 
 
 class Guest(socket.socket):
     """A connection that was let in, which counts until it is closed."""
 
-    def __init__(self, number: int, door: Door, address: str) -> None:
+    def __init__(self, number: int, guests: Counter[str], address: str) -> None:
         super().__init__(fileno=number)
-        self._door: Door | None = door
-        self._address = address
+        self._guests, self._address = guests, address
+        guests[address] += 1
 
     def close(self) -> None:
         super().close()
-        if self._door is not None:
-            self._door.leave(self._address)
-        self._door = None
+        self._guests.subtract([self._address])
+        if self._guests[self._address] <= 0:
+            del self._guests[self._address]
+        self._guests = Counter()
 
 
 class Guard(web.RequestHandler):
-    """A connection that is cut off where it takes more than its share. Between two requests aiohttp keeps
-    the time itself."""
+    """A connection that is cut off if it takes more than its share. Between two requests aiohttp keeps the time itself."""
 
     def __init__(self, server: web.Server, proxy: bool) -> None:
         super().__init__(server, loop=asyncio.get_running_loop(), lingering_time=5.0, auto_decompress=False,
                          keepalive_timeout=OF_A_PROXY if proxy else HEADERS)
-        self.access_logger = None
-        self._unread, self.lost = 0, asyncio.Event()
+        self.access_logger, self._unread, self.lost = None, 0, asyncio.Event()
 
     def connection_made(self, transport: asyncio.BaseTransport) -> None:
         assert isinstance(transport, asyncio.Transport)
@@ -90,7 +75,11 @@ class Guard(web.RequestHandler):
 
     def _died(self, task: "asyncio.Task[None]") -> None:
         """A request whose very address can't be read ends aiohttp's task; so it ends the connection too."""
-        if not task.cancelled() and task.exception() and self.transport is not None:
+        if not task.cancelled() and task.exception():
+            self._cut()
+
+    def _cut(self) -> None:
+        if self.transport is not None:
             self.transport.abort()
 
     def connection_lost(self, exc: BaseException | None) -> None:
@@ -105,9 +94,8 @@ class Guard(web.RequestHandler):
         if self._request_count > count:
             self._late.cancel()
             self._unread = 0
-        is_much = self._unread > MOST_UNREAD or len(self._messages) > MOST_PIPELINED
-        if is_much and self.transport is not None:
-            self.transport.abort()
+        if self._unread > MOST_UNREAD or len(self._messages) > MOST_PIPELINED:
+            self._cut()
 
     def handle_error(self, request: web.BaseRequest, status: int = 500, exc: BaseException | None = None,
                      message: str | None = None) -> web.StreamResponse:

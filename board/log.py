@@ -3,7 +3,7 @@ import asyncio
 from abc import ABC, abstractmethod
 from collections.abc import Sequence
 from dataclasses import dataclass, field
-from typing import NamedTuple
+from typing import Any, NamedTuple
 
 from board.words import LINE, MOST_BYTES, ROLES, Fault, Problem, now_text
 
@@ -12,7 +12,7 @@ NOT_KNOWN = "not known whether the records are in the log; send again with the s
 
 
 class Record(NamedTuple):
-    """A record of the log, and what the day adds: the `word` that refuses it, None where it is accepted; how
+    """A record of the log, and what the day adds: the `word` that refuses it, None if it is accepted; how
     many are `accepted` up to it; how many Rows it `changes`; its `flight`."""
     position: int
     desk: str
@@ -27,20 +27,20 @@ class Record(NamedTuple):
 
 @dataclass
 class Batch:
-    """Records of one desk, each with its role, that are to stand together. `most`: how many the desk may
-    have in the log. `end`: the last position that they may take. `closed`: why the desk sends nothing new.
-    `answer`: where they are, once committed."""
+    """Records of one desk, each with its role, that are to stand together. `most`: how many the desk may have
+    in the log. `end`: the last position that they may take. `closed`: why the desk sends nothing new. `answer`: where
+    they are, once committed."""
     desk: str
     records: list[tuple[str, str]]
     key: str | None = None
     most: int = MOST_RECORDS
     closed: str | None = None
     at: str = field(default_factory=now_text)
-    answer: range | Problem | None = None
     end: int = MOST_RECORDS
+    answer: range | Problem | None = None
 
     def full(self) -> Problem:
-        """What is answered where the log, or the desk's part of it, is full."""
+        """What is answered if the log, or the desk's part of it, is full."""
         return Problem(403, f"a log takes {MOST_RECORDS} records, and {self.most} of {self.desk}")
 
 
@@ -58,20 +58,19 @@ class Log(ABC):
 
     @abstractmethod
     async def open(self, airport: bytes, version: str) -> None:
-        """Opens the log, and makes it where it isn't there. Raises Fault."""
+        """Opens the log, and makes it if it isn't there. Raises Fault."""
 
     @abstractmethod
     async def append(self, batch: Batch) -> range:
-        """The records' positions; they are in the log from then on. Raises Problem; 503: nothing was taken;
-        504: it isn't known."""
+        """The records' positions, once they are in the log. Raises Problem; 503: nothing was taken; 504: not known."""
 
     @abstractmethod
     async def rows(self, after: int, most: int) -> list[Record]:
         """The first records behind a position; none while the database is away. Raises Changed, Fault."""
 
-    @abstractmethod
     async def whole(self) -> list[Record]:
         """All records, as soon as the database is there. Raises Fault."""
+        return await self.rows(0, MOST_RECORDS)
 
     @abstractmethod
     async def ended(self) -> None:
@@ -83,7 +82,7 @@ class Log(ABC):
 
     @property
     def stale_since(self) -> str | None:
-        """Since when there may be records that aren't known here; None where all are."""
+        """Since when there may be records that aren't known here; None if all are."""
         return None
 
     async def grown(self) -> None:
@@ -96,21 +95,20 @@ class Log(ABC):
         self._grown.set()
 
     def check(self, airport: bytes, made_by: str, version: str) -> None:
-        """Raises Fault where the log is another airport's or program's."""
+        """Raises Fault if the log is another airport's or program's."""
         if (self.airport, made_by) != (airport, version):
             what = "airport file" if self.airport != airport else "program"
-            raise Fault(f"{self.name} belongs to another {what}; for a new log: ./cdmboard export"
-                        f" {self.name} > day.csv && ./cdmboard import AIRPORT NEWLOG day.csv")
+            raise Fault(f"{self.name} belongs to another {what}; for a new log: ./cdmboard export {self.name} > day.csv"
+                        " && ./cdmboard import AIRPORT NEWLOG day.csv")
 
 
-def records_of(name: str, after: int, rows: Sequence[Sequence[object]]) -> list[Record]:
+def records_of(name: str, after: int, rows: Sequence[Sequence[Any]]) -> list[Record]:
     """The rows behind a position as records, if each is the next one, and one line. Raises Fault."""
-    records = []
-    for position, (number, desk, role, line, at) in enumerate(rows, after + 1):
-        if number != position:
+    records = [Record(*row) for row in rows]
+    for position, record in enumerate(records, after + 1):
+        if record.position != position:
             raise Fault(f"{name}: position {position} is missing")
-        is_line = isinstance(line, str) and line.isascii() and LINE.fullmatch(line.encode()) and line.strip()
-        if not is_line or len(str(line)) > MOST_BYTES or role not in ROLES:
+        is_line = all(isinstance(word, str) for word in record[1:5]) and len(record.line) <= MOST_BYTES and LINE.fullmatch(record.line)
+        if not is_line or record.role not in ROLES:
             raise Fault(f"{name}: position {position} isn't one line of a record")
-        records.append(Record(position, str(desk), str(role), str(line), str(at)))
     return records

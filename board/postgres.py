@@ -11,9 +11,10 @@ import json
 import secrets
 import time
 from collections import deque
-from collections.abc import AsyncIterator, Awaitable
+from collections.abc import AsyncIterator, Awaitable, Callable
+from itertools import chain, repeat
 from pathlib import Path
-from typing import Any
+from typing import Any, TypeVar
 from urllib.parse import parse_qsl, urlencode, urlsplit
 
 from board.log import MOST_RECORDS, NOT_KNOWN, Batch, Changed, Log, Record, records_of
@@ -24,6 +25,7 @@ try:
 except ImportError:
     asyncpg = None
 
+T = TypeVar("T")
 SCHEMA = Path(__file__).with_name("schema.sql")
 CONNECT, READ, COMMIT, LOOK, STALE = 3.0, 5.0, 20.0, 1.0, 3.0
 MOST_TOGETHER = 512
@@ -32,14 +34,17 @@ SETTINGS = {"statement_timeout": "0", "lock_timeout": "0", "idle_in_transaction_
             "idle_session_timeout": "0", "client_connection_check_interval": "0",
             "default_transaction_isolation": "read committed", "jit": "off"}
 COLUMNS = "SELECT position, desk, role, line, at FROM public.cdm_record WHERE board = $1"
-STATE = """SELECT pg_is_in_recovery(), CASE WHEN pg_is_in_recovery() THEN 0
-           ELSE ('x' || left(pg_walfile_name(pg_current_wal_lsn()), 8))::bit(32)::integer END"""
+TIMELINE = "SELECT ('x' || left(pg_walfile_name(pg_current_wal_lsn()), 8))::bit(32)::integer"
 COMMITTING = """SELECT count(*) FROM pg_stat_activity
                 WHERE application_name = $1 AND state = 'active' AND pid <> $2"""
 LAST = "SELECT coalesce(max(position), 0) FROM public.cdm_record WHERE board = $1"
 TABLES = "SELECT to_regclass('public.cdm_record') IS NOT NULL AND to_regclass('public.cdm_log') IS NOT NULL"
 NOTHING = "the log's database takes no records at present; nothing was taken"
 WRONG = {422: "this key came with another body before"}
+LOST: tuple[Any, ...] = (OSError,) if asyncpg is None else (
+    OSError, asyncpg.InterfaceError, asyncpg.InternalClientError, asyncpg.PostgresConnectionError,
+    asyncpg.OperatorInterventionError)
+FAULTS = LOST if asyncpg is None else (*LOST, asyncpg.PostgresError)
 
 
 class Away(Exception):
@@ -69,46 +74,59 @@ def name_of(url: str) -> str:
     return parts._replace(netloc=f"{who.partition(':')[0]}{at}{hosts}", query=query).geturl()
 
 
-def host_of(url: str) -> str:
-    """A URL's host and port, for messages."""
-    return urlsplit(url).netloc.rpartition("@")[2] or "the database"
+async def first(url: str, make: Callable[[str], Awaitable[T]]) -> T:
+    """What is made of the first host that takes commits. Raises Away, Fault."""
+    whys = []
+    for host in hosts_of(url):
+        try:
+            return await make(host)
+        except Away as why:
+            whys.append(f"{urlsplit(host).netloc.rpartition('@')[2] or 'the database'}: {why}")
+    raise Away("; ".join(whys))
 
 
 async def connect(url: str, name: str = "cdmboard") -> Any:
-    """A connection. Raises Away, Fault."""
+    """A connection to a host that takes commits. Raises Away, Fault."""
     if asyncpg is None:
         raise Fault("python3-asyncpg missing: sudo apt-get install python3-asyncpg", 1)
     try:
         settings = SETTINGS | {"application_name": name}
-        return await asyncpg.connect(url, timeout=CONNECT, server_settings=settings)
-    except (OSError, asyncpg.PostgresError, asyncpg.InterfaceError, asyncpg.InternalClientError) as why:
-        raise Away(f"{host_of(url)}: {why or type(why).__name__}") from None
+        connection = await asyncpg.connect(url, timeout=CONNECT, server_settings=settings)
+        is_standby = True
+        try:
+            is_standby = await connection.fetchval("SELECT pg_is_in_recovery()", timeout=READ)
+        finally:
+            if is_standby:
+                connection.terminate()
+    except FAULTS as why:
+        raise Away(str(why) or type(why).__name__) from None
     except ValueError as why:
         raise Fault(f"{name_of(url)}: {why}", 2) from None
+    if is_standby:
+        raise Away("a standby")
+    return connection
 
 
-async def finished(connection: Any, seconds: float, call: Awaitable[Any]) -> Any:
+async def finished(connection: Any, seconds: float, call: Awaitable[T]) -> T:
     """What a call on a connection returns. It isn't cancelled: the connection of a call that hangs is closed.
     Raises Away, Refused."""
     task = asyncio.ensure_future(call)
     task.add_done_callback(lambda done: done.cancelled() or done.exception())
     try:
-        await asyncio.wait([task], timeout=seconds)
+        async with asyncio.timeout(seconds):
+            return await asyncio.shield(task)
+    except TimeoutError:
+        raise Away(f"no answer within {seconds:.0f} seconds") from None
+    # A query that was cancelled before its commit changed nothing, and its connection is still there.
+    except asyncpg.QueryCanceledError as why:
+        raise Refused(why) from None
+    except LOST as why:
+        raise Away(str(why) or type(why).__name__) from None
+    except asyncpg.PostgresError as why:
+        raise Refused(why) from None
     finally:
         if not task.done():
             connection.terminate()
-    if not task.done():
-        raise Away(f"no answer within {seconds:.0f} seconds")
-    try:
-        return task.result()
-    except (OSError, asyncpg.InterfaceError, asyncpg.InternalClientError, asyncpg.PostgresConnectionError,
-            asyncpg.OperatorInterventionError) as why:
-        # A query that was cancelled before its commit changed nothing, and its connection is still there.
-        if isinstance(why, asyncpg.QueryCanceledError):
-            raise Refused(why) from None
-        raise Away(why or type(why).__name__) from None
-    except asyncpg.PostgresError as why:
-        raise Refused(why) from None
 
 
 class Link:
@@ -116,7 +134,9 @@ class Link:
 
     def __init__(self, reader: Any, writer: Any) -> None:
         self._reader, self._writer, self._reads = reader, writer, asyncio.Lock()
-        self.broken, self.why, self._warned, self.timeline = asyncio.Event(), "", "", 0
+        self.broken, self.why, self._warned = asyncio.Event(), "a connection was lost", ""
+        for connection in (reader, writer):
+            connection.add_termination_listener(lambda _: self.broken.set())
         writer.add_log_listener(self._warn)
 
     def _warn(self, _: Any, message: Any) -> None:
@@ -129,7 +149,8 @@ class Link:
             try:
                 return await finished(self._reader, seconds, self._reader.fetch(query, *words))
             except (Away, Refused) as why:
-                self.fail(why)
+                self.why = str(why)
+                self._reader.terminate()
                 raise Away(why) from None
 
     async def write(self, query: str, *words: object) -> Any:
@@ -141,7 +162,7 @@ class Link:
         return value
 
     async def listen(self, heard: Any) -> None:
-        """Has a call made for each notice that another server took records. Raises Away."""
+        """Has a call made for each notice that another server took records. Raises Away, Refused."""
         await finished(self._reader, READ, self._reader.add_listener("cdm_record", heard))
 
     async def is_committing(self, name: str) -> bool:
@@ -149,14 +170,8 @@ class Link:
         rows = await self.read(COMMITTING, name, self._writer.get_server_pid())
         return bool(rows[0][0])
 
-    def fail(self, why: object) -> None:
-        """The link isn't used again."""
-        self.why = self.why or str(why)
-        self.broken.set()
-
     def end(self) -> None:
         """Closes both connections, without a word to what runs there."""
-        self.broken.set()
         self._reader.terminate()
         self._writer.terminate()
 
@@ -167,7 +182,7 @@ class PostgresLog(Log):
     def __init__(self, url: str, board: str) -> None:
         super().__init__(name_of(url), board)
         self.id, self.airport, self._version = "", b"", ""
-        self._urls, self._writer_name = hosts_of(url), f"cdmboard {secrets.token_hex(8)}"
+        self._url, self._writer_name = url, f"cdmboard {secrets.token_hex(8)}"
         self._link: Link | None = None
         self._linked, self._wanted = asyncio.Event(), asyncio.Event()
         self._waiting: deque[tuple[Batch, asyncio.Future[range]]] = deque()
@@ -181,7 +196,7 @@ class PostgresLog(Log):
     async def open(self, airport: bytes, version: str) -> None:
         self.airport, self._version = airport, version
         try:
-            self._use(await self._any())
+            self._use(await first(self._url, self._to))
         except Away as why:
             raise Fault(f"{self.name}: {why}", 1) from None
         self._keeping = asyncio.create_task(self._keep())
@@ -266,14 +281,12 @@ class PostgresLog(Log):
                     raise Away(why) from None
                 finally:
                     _answer([positions for _, positions in taken], problem)
-                # In a transaction this would hold a lock of all boards until the commit has ended.
+                # In that transaction it would hold a lock of all boards until the commit has ended.
                 await link.write("SELECT pg_notify('cdm_record', $1)", self._board)
 
     async def _take(self, link: Link, taken: list[tuple[Batch, asyncio.Future[range]]]) -> None:
         """One transaction, and its answers. Raises Refused, Away."""
-        batches = json.dumps([{
-            "desk": batch.desk, "key": batch.key, "most": batch.most, "end": batch.end, "at": batch.at,
-            "closed": batch.closed is not None, "records": batch.records} for batch, _ in taken])
+        batches = json.dumps([vars(batch) | {"closed": batch.closed is not None} for batch, _ in taken])
         answers = json.loads(await link.write("SELECT public.cdm_append($1, $2)", self._board, batches))
         for (batch, positions), told in zip(taken, answers, strict=True):
             if positions.done():
@@ -290,31 +303,28 @@ class PostgresLog(Log):
 
     async def _keep(self) -> None:
         """Keeps a link, and makes a new one where it breaks. Returns never. Raises Fault."""
-        pause = 0.1
         while True:
             link = self._link
-            if link is not None:
-                pause = 0.1
-                try:
-                    async with asyncio.TaskGroup() as group:
-                        group.create_task(self._look(link))
-                        group.create_task(self._commit(link))
-                except* (Away, Refused) as aways:
-                    tell(f"cdmboard: {self.name} is away: {aways.exceptions[0]}")
-                finally:
-                    self._link = None
-                    self._linked.clear()
-                    link.end()
-                    nothing = Problem(503, NOTHING, Retry_After="1")
-                    _answer([positions for _, positions in self._waiting], nothing)
-                    self._waiting.clear()
-                await asyncio.sleep(pause)
+            assert link is not None
             try:
-                self._use(await self._any())
-                tell(f"cdmboard: {self.name} is there")
-            except Away:
+                async with asyncio.TaskGroup() as group:
+                    group.create_task(self._look(link))
+                    group.create_task(self._commit(link))
+            except* (Away, Refused) as aways:
+                tell(f"cdmboard: {self.name} is away: {aways.exceptions[0]}")
+            finally:
+                self._link = None
+                self._linked.clear()
+                link.end()
+                nothing = Problem(503, NOTHING, Retry_After="1")
+                _answer([positions for _, positions in self._waiting], nothing)
+                self._waiting.clear()
+            for pause in chain((0.1, 0.1, 0.2, 0.4), repeat(1.0)):
                 await asyncio.sleep(pause)
-                pause = min(1.0, pause * 2)
+                with contextlib.suppress(Away):
+                    self._use(await first(self._url, self._to))
+                    break
+            tell(f"cdmboard: {self.name} is there")
 
     async def _look(self, link: Link) -> None:
         """Looks each second whether the link is there, and has more. Raises Away."""
@@ -327,49 +337,38 @@ class PostgresLog(Log):
             if self._is_committing:
                 self._is_committing = await link.is_committing(self._writer_name)
             with contextlib.suppress(TimeoutError):
-                await asyncio.wait_for(link.broken.wait(), LOOK)
+                async with asyncio.timeout(LOOK):
+                    await link.broken.wait()
                 raise Away(link.why)
 
     def _use(self, link: Link) -> None:
-        self._link, self._timeline = link, link.timeline
+        self._link = link
         self._linked.set()
         self.wake()
 
-    async def _any(self) -> Link:
-        """A link to the first host that takes commits. Raises Away, Fault."""
-        whys = []
-        for url in self._urls:
-            try:
-                return await self._to(url)
-            except Away as why:
-                whys.append(str(why))
-        raise Away("; ".join(whys))
-
     async def _to(self, url: str) -> Link:
         """A link to a host, checked. Raises Away, Fault."""
-        reader = await connect(url)
-        try:
-            link = Link(reader, await connect(url, self._writer_name))
-        except (Away, asyncio.CancelledError):
-            reader.terminate()
-            raise
-        try:
-            await self._check(link, host_of(url))
-            await link.listen(lambda _, pid, channel, board: self.wake() if board == self._board else None)
-            return link
-        except (Away, Fault, asyncio.CancelledError):
-            link.end()
-            raise
-        except Refused as why:
-            link.end()
-            raise Away(why) from None
+        with contextlib.ExitStack() as opened:
+            reader = await connect(url)
+            opened.callback(reader.terminate)
+            writer = await connect(url, self._writer_name)
+            opened.callback(writer.terminate)
+            link = Link(reader, writer)
+            try:
+                await link.listen(lambda _, pid, channel, board: self.wake() if board == self._board else None)
+                await self._check(link)
+            except Refused as why:
+                raise Away(why) from None
+            opened.pop_all()
+        return link
 
-    async def _check(self, link: Link, host: str) -> None:
+    async def _check(self, link: Link) -> None:
         """Whether a link leads to the log, and whether it has the last row that was handed on. Raises Away,
         Refused, Fault."""
-        (is_standby, link.timeline), = await link.read(STATE)
-        if is_standby or link.timeline < self._timeline:
-            raise Away(f"{host} is {'a standby' if is_standby else 'of an older timeline'}")
+        began, at = time.monotonic(), now_text()
+        (timeline,), = await link.read(TIMELINE)
+        if timeline < self._timeline:
+            raise Away("of an older timeline")
         if not (await link.read(TABLES))[0][0]:
             raise Fault(f"{self.name} has no tables for a log; ./cdmboard log init URL makes them")
         row = "SELECT id, airport, version FROM public.cdm_log WHERE board = $1"
@@ -386,6 +385,7 @@ class PostgresLog(Log):
             kept = await link.read(f"{COLUMNS} AND position = $2", self._board, last.position)
             self._is_other = self._is_other or not kept or Record(*kept[0]) != last
         self._is_committing = await link.is_committing(self._writer_name)
+        self._timeline, self._looked, self._looked_at = timeline, began, at
 
 
 def _answer(waiting: list["asyncio.Future[range]"], problem: Problem) -> None:
@@ -397,24 +397,14 @@ def _answer(waiting: list["asyncio.Future[range]"], problem: Problem) -> None:
 @contextlib.asynccontextmanager
 async def database_of(url: str) -> AsyncIterator[Any]:
     """A connection of one's own to the host that takes commits. Raises Fault."""
-    whys = []
-    for one in hosts_of(url):
+    try:
+        connection = await first(url, connect)
         try:
-            connection = await connect(one)
-        except Away as why:
-            whys.append(str(why))
-            continue
-        try:
-            if await connection.fetchval("SELECT pg_is_in_recovery()"):
-                whys.append("a standby")
-                continue
             yield connection
-            return
-        except (OSError, asyncpg.PostgresError, asyncpg.InterfaceError, asyncpg.InternalClientError) as why:
-            raise Fault(f"{name_of(url)}: {why}", 1) from None
         finally:
             connection.terminate()
-    raise Fault(f"{name_of(url)}: {'; '.join(whys)}", 1)
+    except (Away, *FAULTS) as why:
+        raise Fault(f"{name_of(url)}: {why}", 1) from None
 
 
 async def init(url: str) -> None:

@@ -8,11 +8,15 @@ from asyncio.subprocess import PIPE, Process
 from collections import deque
 from pathlib import Path
 
+import prometheus_client as prometheus
+
+from board.answers import day_of
 from board.day import Day
-from board.log import Log, Record
+from board.log import Changed, Log, Record
 from board.words import Fault, tell
 
 MOST_REPLY, MOST_AHEAD, SECONDS, START = 8 << 20, 256, 10.0, 60.0
+COUNT = prometheus.Counter("cdm_records", "Records with a reply", ["role", "reply"])
 
 
 class Ended(Exception):
@@ -27,13 +31,18 @@ class Sequencer:
         self.is_ready, self.starts = asyncio.Event(), 0
 
     async def run(self) -> None:
-        """Returns never. Raises Fault where the sequencer ends three times within a minute."""
-        ends: deque[float] = deque([float("-inf")] * 3, maxlen=3)
+        """Returns never. Rows that the database has lost are another day, which begins. Raises Fault if the sequencer ends
+        three times within a minute."""
+        ends = deque([float("-inf")] * 3, maxlen=3)
         while True:
             self.starts += 1
             try:
                 with tempfile.TemporaryDirectory(dir=self._folder) as folder:
                     await self._serve(folder)
+            except Changed as changed:
+                tell(f"cdmboard: {changed}")
+                _, day = await day_of(self._folder, self._program, await self._log.whole(), self._day.kinds.text)
+                self._day.restart(day)
             except (Ended, OSError) as end:
                 tell(f"cdmboard: the sequencer: {end}")
                 ends.append(time.monotonic())
@@ -43,31 +52,30 @@ class Sequencer:
     async def _serve(self, folder: str) -> None:
         """One process, on the day as it is, until it ends. The next one gets the rest."""
         Path(folder, "journal.csv").write_text(self._day.feed(), "ascii")
+        words, patience = ("serve", "../airport.csv", "journal.csv", "--format", "json"), SECONDS
         process = await asyncio.create_subprocess_exec(
-            self._program, "serve", "../airport.csv", "journal.csv", "--format", "json", cwd=folder,
-            stdin=PIPE, stdout=PIPE, limit=MOST_REPLY, start_new_session=True)
-        assert process.stdin is not None
-        ended, patience = asyncio.create_task(process.wait()), SECONDS
+            self._program, *words, cwd=folder, stdin=PIPE, stdout=PIPE, limit=MOST_REPLY, start_new_session=True)
+        lines, replies, ended = process.stdin, process.stdout, asyncio.create_task(process.wait())
+        assert lines is not None and replies is not None
         ended.add_done_callback(lambda _: self._log.wake())
         try:
-            await self._hand_on(process)
+            await self._hand_on(process, lines, replies)
         except (Ended, OSError):
             patience = 0
             raise
         finally:
             self.is_ready.clear()
-            process.stdin.close()
+            lines.close()
             await asyncio.wait([ended], timeout=patience)
             with contextlib.suppress(ProcessLookupError):
                 process.kill()
             await ended
             with contextlib.suppress(OSError):
-                await asyncio.wait_for(process.stdin.wait_closed(), 1)
+                async with asyncio.timeout(1):
+                    await lines.wait_closed()
 
-    async def _hand_on(self, process: Process) -> None:
+    async def _hand_on(self, process: Process, lines: asyncio.StreamWriter, replies: asyncio.StreamReader) -> None:
         """One line in, one line out. Raises Ended."""
-        lines, replies = process.stdin, process.stdout
-        assert lines is not None and replies is not None
         if await _reply(replies, START) != {"ready": len(self._day.lines)}:
             raise Ended("it is ready with another day")
         self.is_ready.set()
@@ -94,6 +102,7 @@ class Sequencer:
             self._day.add(record, None, changes)
         else:
             raise Ended("a reply that no record has")
+        COUNT.labels(record.role, word or said).inc()
 
 
 async def _reply(replies: asyncio.StreamReader, seconds: float) -> dict[str, object]:

@@ -18,24 +18,22 @@ T = TypeVar("T")
 SCHEMA = """
 PRAGMA journal_mode = WAL;
 PRAGMA synchronous = FULL;
-CREATE TABLE IF NOT EXISTS cdm_log (
-    board TEXT PRIMARY KEY, id TEXT NOT NULL, airport BLOB NOT NULL, version TEXT NOT NULL);
+CREATE TABLE IF NOT EXISTS cdm_log (board TEXT PRIMARY KEY, id TEXT NOT NULL, airport BLOB NOT NULL, version TEXT NOT NULL);
 CREATE TABLE IF NOT EXISTS cdm_record (
     board TEXT NOT NULL, position INTEGER NOT NULL, desk TEXT NOT NULL, key TEXT, n INTEGER NOT NULL,
     lines INTEGER NOT NULL, role TEXT NOT NULL, line TEXT NOT NULL, at TEXT NOT NULL,
     UNIQUE (board, position), UNIQUE (board, desk, key, n));
 """
+ROWS = "SELECT position, desk, role, line, at FROM cdm_record WHERE board = ? AND position > ? ORDER BY position LIMIT ?"
 
 
 class FileLog(Log):
     """A log in a file, which has a thread of its own."""
 
     def __init__(self, path: str, board: str) -> None:
-        super().__init__(path, board)
-        self._path, self._loop = path, asyncio.get_running_loop()
-        self._thread = ThreadPoolExecutor(1, "log")
-        self._waiting: deque[Batch] = deque()
-        self._faults = asyncio.Queue[sqlite3.Error]()
+        super().__init__(os.path.realpath(path), board)
+        self._loop, self._thread = asyncio.get_running_loop(), ThreadPoolExecutor(1, "log")
+        self._waiting, self._locks, self._faults = deque[Batch](), list[int](), asyncio.Queue[sqlite3.Error]()
 
     async def _in_thread(self, call: Callable[[], T]) -> T:
         return await self._loop.run_in_executor(self._thread, call)
@@ -44,32 +42,29 @@ class FileLog(Log):
         try:
             await self._in_thread(lambda: self._open(airport, version))
         except BlockingIOError:
-            raise Fault(f"{self._path} is served by another") from None
+            raise Fault(f"{self.name} is served by another") from None
         except (OSError, sqlite3.Error) as fault:
-            raise Fault(f"{self._path}: {fault}") from None
+            raise Fault(f"{self.name}: {fault}") from None
 
     def _open(self, airport: bytes, version: str) -> None:
-        self._lock = os.open(f"{self._path}.lock", os.O_CREAT | os.O_RDWR | os.O_CLOEXEC, 0o600)
-        fcntl.lockf(self._lock, fcntl.LOCK_EX | fcntl.LOCK_NB)
         # Another name of the file has another lock, but is the same file.
-        self._file = os.open(self._path, os.O_CREAT | os.O_RDWR | os.O_CLOEXEC, 0o600)
-        fcntl.flock(self._file, fcntl.LOCK_EX | fcntl.LOCK_NB)
-        self._database = sqlite3.connect(self._path, timeout=10, isolation_level=None)
+        for path in (f"{self.name}.lock", self.name):
+            self._locks.append(os.open(path, os.O_CREAT | os.O_RDWR | os.O_CLOEXEC, 0o600))
+            fcntl.flock(self._locks[-1], fcntl.LOCK_EX | fcntl.LOCK_NB)
+        self._database = sqlite3.connect(self.name, timeout=10, isolation_level=None)
         self._database.executescript(SCHEMA)
-        self._database.execute("INSERT OR IGNORE INTO cdm_log VALUES (?, ?, ?, ?)",
-                               (self._board, secrets.token_hex(8), airport, version))
-        self.id, self.airport, made_by = self._database.execute(
-            "SELECT id, airport, version FROM cdm_log WHERE board = ?", (self._board,)).fetchone()
+        log = (self._board, secrets.token_hex(8), airport, version)
+        self._database.execute("INSERT OR IGNORE INTO cdm_log VALUES (?, ?, ?, ?)", log)
+        row = self._database.execute("SELECT id, airport, version FROM cdm_log WHERE board = ?", log[:1]).fetchone()
+        self.id, self.airport, made_by = row
         self.check(airport, made_by, version)
 
     async def append(self, batch: Batch) -> range:
         self._waiting.append(batch)
         await self._in_thread(self._commit)
-        if batch.answer is None:
-            raise Problem(504, NOT_KNOWN)
-        if isinstance(batch.answer, Problem):
-            raise batch.answer
-        return batch.answer
+        if isinstance(batch.answer, range):
+            return batch.answer
+        raise batch.answer or Problem(504, NOT_KNOWN)
 
     def _commit(self) -> None:
         """Takes all batches that wait, in one transaction. A fault ends the log."""
@@ -87,53 +82,47 @@ class FileLog(Log):
 
     def _take(self, batch: Batch) -> range | Problem:
         """The records' positions: those that their key has already, or new ones."""
-        one, desk, count = self._database.execute, (self._board, batch.desk), len(batch.records)
+        query, desk, count = self._database.execute, (self._board, batch.desk), len(batch.records)
         if batch.key is not None:
-            kept = one("SELECT position, line FROM cdm_record WHERE board = ? AND desk = ? AND key = ?"
-                       " ORDER BY n", (*desk, batch.key)).fetchall()
+            kept = query("SELECT position, line FROM cdm_record WHERE board = ? AND desk = ? AND key = ? ORDER BY n",
+                         (*desk, batch.key)).fetchall()
             if kept and [line for _, line in kept] != [line for _, line in batch.records]:
                 return Problem(422, "this key came with another body before")
             if kept:
                 return range(kept[0][0], kept[0][0] + len(kept))
-        last, = one("SELECT coalesce(max(position), 0) FROM cdm_record WHERE board = ?", desk[:1]).fetchone()
-        mine, = one("SELECT count(*) FROM cdm_record WHERE board = ? AND desk = ?", desk).fetchone()
+        last, = query("SELECT coalesce(max(position), 0) FROM cdm_record WHERE board = ?", desk[:1]).fetchone()
+        mine, = query("SELECT count(*) FROM cdm_record WHERE board = ? AND desk = ?", desk).fetchone()
         if batch.closed is not None:
             return Problem(403, batch.closed)
         if last + count > batch.end or mine + count > batch.most:
             return batch.full()
         self._database.executemany(
             "INSERT INTO cdm_record VALUES (?, ?, ?, ?, ?, ?, ?, ?, ?)",
-            [(self._board, last + 1 + n, batch.desk, batch.key, n, count, role, line, batch.at)
-             for n, (role, line) in enumerate(batch.records)])
+            [(self._board, last + 1 + n, batch.desk, batch.key, n, count, *record, batch.at) for n, record in enumerate(batch.records)])
         return range(last + 1, last + 1 + count)
 
     async def rows(self, after: int, most: int) -> list[Record]:
-        return await self._in_thread(lambda: _select(self._database, self._path, self._board, after, most))
-
-    async def whole(self) -> list[Record]:
-        return await self.rows(0, MOST_RECORDS)
+        return await self._in_thread(lambda: _rows(self._database, self.name, self._board, after, most))
 
     async def ended(self) -> None:
-        raise Fault(f"{self._path}: {await self._faults.get()}", 1)
+        raise Fault(f"{self.name}: {await self._faults.get()}", 1)
 
     async def close(self) -> None:
         await self._in_thread(self._database.close)
         self._thread.shutdown()
-        os.close(self._file)
-        os.close(self._lock)
+        for lock in self._locks:
+            os.close(lock)
 
 
-def read_log(path: str, board: str) -> tuple[bytes, list[Record]]:
+async def read_log(path: str, board: str) -> tuple[bytes, list[Record]]:
     """Airport file and all records of a log, also while it is served. Raises Fault."""
     try:
         with contextlib.closing(sqlite3.connect(f"file:{quote(path)}?mode=ro", uri=True)) as database:
             airport, = database.execute("SELECT airport FROM cdm_log WHERE board = ?", (board,)).fetchone()
-            return airport, _select(database, path, board, 0, MOST_RECORDS)
+            return airport, _rows(database, path, board, 0, MOST_RECORDS)
     except (sqlite3.Error, TypeError) as fault:
         raise Fault(f"{path} is no log: {fault}") from None
 
 
-def _select(database: sqlite3.Connection, path: str, board: str, after: int, most: int) -> list[Record]:
-    columns = "SELECT position, desk, role, line, at FROM cdm_record"
-    query = f"{columns} WHERE board = ? AND position > ? ORDER BY position LIMIT ?"
-    return records_of(path, after, database.execute(query, (board, after, most)).fetchall())
+def _rows(database: sqlite3.Connection, path: str, board: str, after: int, most: int) -> list[Record]:
+    return records_of(path, after, database.execute(ROWS, (board, after, most)).fetchall())

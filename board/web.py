@@ -1,5 +1,7 @@
 """HTTP: requests in, answers out."""
 import asyncio
+import functools
+import gzip
 import json
 import re
 import socket
@@ -10,41 +12,63 @@ from dataclasses import dataclass, field
 from http import HTTPStatus
 from http.cookies import CookieError
 from pathlib import Path
-from weakref import WeakValueDictionary
 
 import prometheus_client as prometheus
 from aiohttp import HttpVersion11, web
 
-from board.answers import Answers, Question, pack
+from board.answers import Answers, Question
 from board.day import Day
-from board.desks import DESK, SESSION, Desk, Desks, Pace
+from board.desks import SESSION, Desk, Desks, Pace
 from board.events import Events, Stream
 from board.guard import Guard, is_loopback
 from board.log import MOST_RECORDS, NOT_KNOWN, Batch, Log
 from board.sequencer import Sequencer
-from board.words import KEY, Problem, lines_of, now_text, tell
+from board.words import KEY, POSITION, Problem, lines_of, now_text, refuse, tell
 
-MOST_BODY, MOST_FOUND, MOST_UNSENT, TOWERS, RESERVED = 64 << 10, 1 << 20, 64 << 20, 18_000, 2000
+MOST_BODY, MOST_FOUND, MOST_UNSENT, PACKED, TOWERS, RESERVED = 64 << 10, 1 << 20, 64 << 20, 1024, 18_000, 2000
 REPLY, AFTER, BODY, ANSWER = 30.0, 2.0, 20.0, 60.0
-PAGE = Path(__file__).parent / "page"
-FILES = {".html": "text/html; charset=utf-8", ".css": "text/css; charset=utf-8",
-         ".js": "text/javascript; charset=utf-8", ".svg": "image/svg+xml"}
+FILES = {".html": "text/html; charset=utf-8", ".css": "text/css; charset=utf-8", ".js": "text/javascript; charset=utf-8",
+         ".svg": "image/svg+xml"}
+PAGE, READER = Path(__file__).parent / "page", Desk("", "READ")
 TYPES = {"": "text/plain", "csv": "text/csv", "json": "application/x-ndjson", "svg": "image/svg+xml"}
 # The program's commands as paths. Those that want a scenario are asked by POST alone, in a format by Accept.
 JSON = r"{form:(\.json)?}"
-PATHS = (r"{command:plan}{form:(\.csv|\.json)?}", r"{command:picture}{form:\.svg}", r"{command:load}" + JSON,
-         r"{command:load}/{name:[A-Z0-9]{1,3}}" + JSON, r"{command:why}/{name:[A-Z0-9]{1,7}}" + JSON,
-         r"{command:(next|warnings|causes)}" + JSON)
+PATHS = (r"{command:plan}{form:(\.csv|\.json)?}", r"{command:picture}{form:\.svg}", "{command:(load|next|warnings|causes)}" + JSON,
+         "{command:load}/{name:[A-Z0-9]{1,3}}" + JSON, "{command:why}/{name:[A-Z0-9]{1,7}}" + JSON)
 BY_POST = ("{command:what-if}", "{command:compare}", "{command:compare}/{name:[A-Z0-9][A-Z0-9-]{0,15}}")
 OPTIONS: dict[str, tuple[str, ...]] = {"minutes": (), "by": ("--by",), "scenario": ("--scenario",)}
 ARGUMENT = re.compile("[A-Za-z0-9][A-Za-z0-9-]{0,15}")
 UNKNOWN = ("cdmseq: no flight ", "cdmseq: no runway ", "cdmseq: no scenario ")
 # What may be said once alone: of two, the next program on the way might read the other one.
-ONCE = ("Host", "Origin", "Authorization", "Idempotency-Key", "Cdm-Role", "Cdm-After", "Content-Length",
-        "Transfer-Encoding", "Content-Type")
-COUNT = prometheus.Counter("cdm_records", "Records with a reply", ["role", "reply"])
+ONCE = ("Host", "Origin", "Authorization", "Idempotency-Key", "Cdm-Role", "Cdm-After", "Content-Length", "Transfer-Encoding",
+        "Content-Type")
+SAFE = {"X-Content-Type-Options": "nosniff", "Cache-Control": "no-cache", "Cross-Origin-Resource-Policy": "same-origin"}
 SECONDS = prometheus.Histogram("cdm_reply_seconds", "Seconds of a reply")
+GAUGES = [prometheus.Gauge(f"cdm_{name}", text) for name, text in (
+    ("displays", "Displays"), ("accepted_updates", "Accepted updates"), ("position", "The last record with a reply"),
+    ("restarts", "Restarts of the sequencer"))]
 Handler = Callable[[web.Request], Awaitable[web.StreamResponse]]
+
+
+def has(request: web.Request, tag: str) -> bool:
+    """Whether who asks has what bears this tag."""
+    return tag in [f'"{had.value}"' for had in request.if_none_match or ()]
+
+
+@functools.lru_cache(16)
+def gzipped(body: bytes) -> bytes:
+    """A body by gzip, if it is small. What many ask for is made once."""
+    return gzip.compress(body, 4, mtime=0)
+
+
+async def pack(request: web.Request, response: web.Response) -> web.Response:
+    """An answer by gzip, if that is wanted and worth while."""
+    body = response.body
+    if "gzip" in request.headers.get("Accept-Encoding", "") and isinstance(body, bytes) and len(body) > PACKED:
+        is_small = len(body) <= MOST_FOUND
+        response.body = await (asyncio.to_thread(gzipped, body) if is_small else asyncio.to_thread(gzip.compress, body, 4, mtime=0))
+        response.headers["Content-Encoding"] = "gzip"
+    return response
 
 
 @dataclass
@@ -62,21 +86,10 @@ class Board:
     is_closing: bool = False
     paces: defaultdict[str, Pace] = field(default_factory=lambda: defaultdict(Pace))
     unsent: Counter[str] = field(default_factory=Counter)
-    turns: WeakValueDictionary[str, asyncio.Lock] = field(default_factory=WeakValueDictionary)
 
-    def __post_init__(self) -> None:
-        self.day.on_reply.append(lambda record: COUNT.labels(record.role, record.word or "ACCEPTED").inc())
-        gauges: dict[tuple[str, str], Callable[[], float]] = {
-            ("cdm_displays", "Displays"): lambda: len(self.events.streams),
-            ("cdm_accepted_updates", "Accepted updates"): lambda: len(self.day.lines),
-            ("cdm_position", "The last record with a reply"): lambda: len(self.day.records),
-            ("cdm_restarts", "Restarts of the sequencer"): lambda: self.sequencer.starts - 1}
-        for words, value in gauges.items():
-            prometheus.Gauge(*words).set_function(value)
-
-    def are_waiting(self) -> bool:
-        """Whether somebody waits for a reply."""
-        return any(pace.waiting for pace in self.paces.values())
+    def waiting(self) -> int:
+        """How many records wait for their replies."""
+        return sum(pace.waiting for pace in self.paces.values())
 
     def address(self, request: web.Request) -> str:
         """The address of who asks; a proxy on this machine says it."""
@@ -88,24 +101,21 @@ class Board:
 
     def asker(self, request: web.Request) -> str:
         """Who asks, for what each may have: a desk, or @ and an address."""
-        desk = request["desk"].name if "desk" in request else ""
-        return desk or f"@{self.address(request)}"
+        return request.get("desk", READER).name or f"@{self.address(request)}"
 
     def desk_of(self, request: web.Request) -> Desk:
         """The desk that asks; who may read without a token is a display without a name. Raises Problem."""
-        role, said = request.headers.get("Cdm-Role"), request.headers.get("Authorization")
-        reader, desk = Desk("", "READ"), None
+        role, said, cookie = request.headers.get("Cdm-Role"), request.headers.get("Authorization"), f"cdm-{self.log.id}"
         if self.desks.is_open:
-            desk = reader if role is None else self.desks.by_name.get(role)
+            desk = READER if role is None else self.desks.by_name.get(role)
         elif said is not None:
             desk = self.desks.by_token(said[7:]) if said[:7].lower() == "bearer " else None
-        elif (cookie := request.cookies.get(f"cdm-{self.log.id}")) is not None:
-            desk = self.desks.by_cookie(cookie, self.log.id)
-        elif self.desks.anyone_reads:
-            desk = reader
-        if desk is None and self.desks.is_open:
-            raise Problem(403, "Cdm-Role is one of AO, GH, AP, ATC, NM")
+        elif cookie in request.cookies:
+            desk = self.desks.by_cookie(request.cookies[cookie], self.log.id)
+        else:
+            desk = READER if self.desks.anyone_reads else None
         if desk is None:
+            refuse(self.desks.is_open, 403, "Cdm-Role is one of AO, GH, AP, ATC, NM")
             raise Problem(401, "a token of a desk is needed", WWW_Authenticate="Bearer")
         return desk
 
@@ -124,83 +134,86 @@ class Board:
         """Checks where a request comes from and who speaks, and waits for the position that it wants."""
         headers = request.headers
         is_framed_twice = "Transfer-Encoding" in headers and "Content-Length" in headers
-        if is_framed_twice or any(len(headers.getall(name, ())) > 1 for name in ONCE):
-            raise Problem(400, "the request can be read in two ways")
+        is_double = is_framed_twice or any(len(headers.getall(name, ())) > 1 for name in ONCE)
+        refuse(is_double, 400, "the request can be read in two ways")
         host, after = headers.get("Host", ""), headers.get("Cdm-After", "0")
-        if request.path != "/health" and re.sub(r":[0-9]*$", "", host).strip("[]").lower() not in self.names:
-            raise Problem(421, "this server has another name (--name HOST adds one)")
-        if headers.get("Origin", f"{self.scheme}://{host}") != f"{self.scheme}://{host}":
-            raise Problem(403, "a page of another site speaks")
+        is_ours = re.sub(r":[0-9]*$", "", host).strip("[]").lower() in self.names
+        refuse(request.path != "/health" and not is_ours, 421, "this server has another name (--name HOST adds one)")
+        origin = f"{self.scheme}://{host}"
+        refuse(headers.get("Origin", origin) != origin, 403, "a page of another site speaks")
         if request.path.startswith("/v1/") and request.path != "/v1/session" or request.path == "/metrics":
             request["desk"] = self.desk_of(request)
-        if self.unsent[self.asker(request)] > MOST_UNSENT:
-            raise Problem(429, "read the answers that wait first", Retry_After="5")
-        if not re.fullmatch("[0-9]{1,9}", after):
-            raise Problem(400, "Cdm-After is a position")
+        self.check_unsent(request, 1)
+        refuse(not POSITION.fullmatch(after), 400, "Cdm-After is a position")
         if request.method == "GET":
             try:
                 async with asyncio.timeout(AFTER):
                     await self.day.reached(int(after))
             except TimeoutError:
                 raise Problem(503, "this position isn't here yet", Retry_After="1") from None
-        tags, had = self.tags(len(self.day.records)), request.if_none_match or ()
-        if request.method in ("GET", "HEAD") and tags["ETag"] in [f'"{tag.value}"' for tag in had]:
+        tags = self.tags(len(self.day.records))
+        if request.method in ("GET", "HEAD") and has(request, tags["ETag"]):
             return web.Response(status=304, headers=tags)
         return await handler(request)
+
+    def check_unsent(self, request: web.Request, more: int) -> None:
+        """Raises Problem if too much of what whoever asks was sent isn't read yet."""
+        unsent = self.unsent[self.asker(request)]
+        refuse(unsent and unsent + more > MOST_UNSENT, 429, "read the answers that wait first", Retry_After="5")
 
     @web.middleware
     async def answered(self, request: web.Request, handler: Handler) -> web.StreamResponse:
         """Says what was raised, and sends the answer, if it is taken in time."""
         try:
             response = await handler(request)
-        except Problem as problem:
-            response = self.told(request, problem)
-        except web.HTTPException as fault:
-            allow = {"Allow": fault.headers["Allow"]} if "Allow" in fault.headers else {}
-            response = self.told(request, Problem(fault.status, fault.reason, None, **allow))
-        except (web.RequestPayloadError, CookieError):
-            response = self.told(request, Problem(400, "the request is malformed"))
-        except (asyncio.CancelledError, ConnectionError):
+        except ConnectionError:
             raise
         except Exception as fault:
-            tell(f"cdmboard: {type(fault).__name__}: {fault}")
-            response = self.told(request, Problem(500, "a fault of the server"))
-        if not response.prepared:
-            if response.status in (400, 408, 413):
-                response.force_close()
-            own = "'none'; style-src 'unsafe-inline'" if response.content_type == TYPES["svg"] else "'self'"
-            response.headers["Content-Security-Policy"] = f"default-src {own}; frame-ancestors 'self'"
-            response.headers.update({"X-Content-Type-Options": "nosniff", "Cache-Control": "no-cache",
-                                     "Cross-Origin-Resource-Policy": "same-origin"})
-            asker, size = self.asker(request), response.content_length or 0
-            self.unsent[asker] += size
-            try:
-                async with asyncio.timeout(ANSWER):
-                    await response.prepare(request)
-                    await response.write_eof()
-            except (TimeoutError, ConnectionError):
-                if request.transport is not None:
-                    request.transport.abort()
-            finally:
-                self.unsent[asker] -= size
-                if not self.unsent[asker]:
-                    del self.unsent[asker]
+            response = self.told(request, fault)
+        if response.prepared:
+            return response
+        if response.status in (400, 408, 413):
+            response.force_close()
+        own = "'none'; style-src 'unsafe-inline'" if response.content_type == TYPES["svg"] else "'self'"
+        response.headers.update(SAFE | {"Content-Security-Policy": f"default-src {own}; frame-ancestors 'self'"})
+        asker, size = self.asker(request), response.content_length or 0
+        self.unsent[asker] += size
+        try:
+            async with asyncio.timeout(ANSWER):
+                await response.prepare(request)
+                await response.write_eof()
+        except (TimeoutError, ConnectionError):
+            if request.transport is not None:
+                request.transport.abort()
+        finally:
+            self.unsent[asker] -= size
+            if not self.unsent[asker]:
+                del self.unsent[asker]
         return response
 
-    def told(self, request: web.Request, problem: Problem) -> web.Response:
-        """A problem as an answer (RFC 9457)."""
+    def told(self, request: web.Request, fault: Exception) -> web.Response:
+        """What was raised, as an answer (RFC 9457)."""
+        problem = Problem(500, "a fault of the server")
+        if isinstance(fault, Problem):
+            problem = fault
+        elif isinstance(fault, web.HTTPException):
+            problem = Problem(fault.status, fault.reason, None, **{name: fault.headers[name] for name in fault.headers if name == "Allow"})
+        elif isinstance(fault, web.RequestPayloadError | CookieError):
+            problem = Problem(400, "the request is malformed")
+        else:
+            tell(f"cdmboard: {type(fault).__name__}: {fault}")
         if problem.status in (401, 403):
-            desk, address = request["desk"].name if "desk" in request else "", ascii(self.address(request))
-            tell(f"{now_text()} {address[1:-1]} {desk or '-'} {request.path[:100]!a} {problem.status}")
-        told = {"type": "about:blank", "title": HTTPStatus(problem.status).phrase, "status": problem.status,
-                "detail": str(problem)} | ({"line": problem.line} if problem.line else {})
+            desk, address = request.get("desk", READER).name or "-", ascii(self.address(request))[1:-1]
+            tell(f"{now_text()} {address} {desk} {request.path[:100]!a} {problem.status}")
+        told = {"type": "about:blank", "title": HTTPStatus(problem.status).phrase, "status": problem.status, "detail": str(problem)}
+        told |= {"line": problem.line} if problem.line else {}
         return web.Response(status=problem.status, body=json.dumps(told).encode(), headers=problem.headers,
                             content_type="application/problem+json")
 
     async def body(self, request: web.Request) -> bytes:
         """A body, if it comes in time, as it stands."""
-        if "Content-Encoding" in request.headers or "Upgrade" in request.headers:
-            raise Problem(400, "a body is sent as it is, without Content-Encoding or Upgrade")
+        is_coded = "Content-Encoding" in request.headers or "Upgrade" in request.headers
+        refuse(is_coded, 400, "a body is sent as it is, without Content-Encoding or Upgrade")
         try:
             async with asyncio.timeout(BODY):
                 return await request.read()
@@ -211,15 +224,15 @@ class Board:
         """A cookie for who has a token."""
         try:
             said = json.loads(await self.body(request))
-            desk, token = self.desks.by_token(said["token"]), said["token"]
+            name, token = said["desk"], said["token"]
+            desk = self.desks.by_token(token)
         except (ValueError, TypeError, AttributeError, LookupError, RecursionError):
             raise Problem(400, 'the body is {"desk":"..","token":".."}') from None
-        if desk is None or desk.name != said.get("desk"):
+        if desk is None or desk.name != name:
             raise Problem(401, "wrong desk or token", WWW_Authenticate="Bearer")
         response = web.Response(status=204)
-        cookie = self.desks.cookie(desk, self.log.id, token)
-        response.set_cookie(f"cdm-{self.log.id}", cookie, max_age=SESSION, httponly=True, samesite="Strict",
-                            secure=self.scheme == "https")
+        response.set_cookie(f"cdm-{self.log.id}", self.desks.cookie(desk, self.log.id, token), max_age=SESSION, httponly=True,
+                            samesite="Strict", secure=self.scheme == "https")
         return response
 
     async def delete_session(self, request: web.Request) -> web.Response:
@@ -232,24 +245,21 @@ class Board:
         """Who asks, and what it may send."""
         desk: Desk = request["desk"]
         kinds = [kind for kind, roles in self.day.kinds.roles.items() if desk.role in roles]
-        left = desk.records - self.day.count_of(desk.name) if kinds else 0
         return web.json_response({
-            "desk": desk.name or None, "role": desk.role, "kinds": kinds, "flights": desk.flights,
-            "clock": desk.clock is not None, "left": max(0, left), "log": self.log.id,
+            "desk": desk.name or None, "role": desk.role, "kinds": kinds, "flights": desk.flights, "clock": desk.clock is not None,
+            "left": max(0, desk.records - self.day.count_of(desk.name)) if kinds else 0, "log": self.log.id,
             "roles": sorted(self.desks.by_name) if self.desks.is_open else []})
 
     async def take(self, desk: Desk, lines: list[str], key: str | None) -> bytes:
         """Records into the log, and their replies out of the sequencer. Raises Problem."""
-        if self.is_closing:
-            raise Problem(503, "the server is ending; nothing was taken", Retry_After="5")
-        accepted, flying = len(self.day.lines), sum(pace.waiting for pace in self.paces.values())
+        refuse(self.is_closing, 503, "the server is ending; nothing was taken", Retry_After="5")
+        accepted, waiting, starts = len(self.day.lines), self.waiting(), self.day.starts
         is_full = accepted >= TOWERS or len(self.day.records) >= MOST_RECORDS - RESERVED
-        if desk.role != "ATC" and not is_full and flying and accepted + flying >= TOWERS:
-            raise Problem(429, "the last updates are taken one desk after the other", Retry_After="1")
-        batch = Batch(desk.name, [(desk.role, line) for line in lines], key, desk.records,
-                      f"from {TOWERS} accepted updates, or {MOST_RECORDS - RESERVED} records, on ATC alone sends"
-                      if is_full and desk.role != "ATC" else None)
-        starts = self.day.starts
+        is_rush = desk.role != "ATC" and not is_full and waiting and accepted + waiting >= TOWERS
+        refuse(is_rush, 429, "the last updates are taken one desk after the other", Retry_After="1")
+        batch = Batch(desk.name, [(desk.role, line) for line in lines], key, desk.records)
+        if is_full and desk.role != "ATC":
+            batch.closed = f"from {TOWERS} accepted updates, or {MOST_RECORDS - RESERVED} records, on ATC alone sends"
         with self.paces[desk.name].of(len(lines)), SECONDS.time():
             try:
                 async with asyncio.timeout(REPLY):
@@ -257,8 +267,7 @@ class Board:
                     await self.day.reached(positions[-1])
             except TimeoutError:
                 raise Problem(504, "no reply yet; send again with the same key") from None
-        if starts != self.day.starts:
-            raise Problem(504, NOT_KNOWN)
+        refuse(starts != self.day.starts, 504, NOT_KNOWN)
         return self.day.texts(self.day.records[positions[0] - 1:positions[-1]])
 
     async def post_records(self, request: web.Request) -> web.Response:
@@ -266,17 +275,15 @@ class Board:
         lines, key = lines_of(await self.body(request)), request.headers.get("Idempotency-Key")
         # Who lost the right while the body came speaks no more.
         desk = self.desk_of(request)
-        if key is not None and not KEY.fullmatch(key):
-            raise Problem(400, "Idempotency-Key has 1 to 64 printable bytes")
+        refuse(key is not None and not KEY.fullmatch(key), 400, "Idempotency-Key has 1 to 64 printable bytes")
         desk.check(lines, self.day.kinds)
         return web.Response(body=await self.take(desk, lines, key), content_type=TYPES["json"])
 
     async def get_records(self, request: web.Request) -> web.Response:
         """The log, with the replies."""
         since, desk = request.query.get("since", "0"), request.query.get("desk")
-        if not re.fullmatch("[0-9]{1,9}", since) or desk is not None and not DESK.fullmatch(desk):
-            raise Problem(400, "since is a position, desk is a desk's name")
-        async with self.turn(request):
+        refuse(not POSITION.fullmatch(since), 400, "since is a position")
+        async with self.answers.turn(("log", self.asker(request))):
             now, found = len(self.day.records), self.day.found(int(since), request.query.get("flight"), desk)
             return await self.of_moment(request, now, "json", self.day.texts(found, MOST_FOUND))
 
@@ -286,74 +293,57 @@ class Board:
         record = self.day.records[position - 1] if 0 < position <= now else None
         if record is None or record.word is None:
             raise Problem(404, "no refused record stands there")
-        last = f"{record.role},{record.line}\n"
-        question = Question("check", ("--format", "json"), None, record.accepted, last)
+        question = Question("check", ("--format", "json"), None, record.accepted, f"{record.role},{record.line}\n")
         _, ran = await self.answers.ask(self.asker(request), question)
-        for found in map(json.loads, ran.output.splitlines() if ran.status in (0, 4) else []):
-            if found.get("record") == record.accepted + 1:
-                text = f"{record.word}: {found['sentence']}\n".encode()
-                return await self.of_moment(request, now, "", text)
-        raise Problem(503, ran.told or "the program says nothing of it")
+        found = [json.loads(line) for line in ran.output.splitlines() if ran.status in (0, 4)]
+        sentence = next((one["sentence"] for one in found if one.get("record") == record.accepted + 1), None)
+        refuse(sentence is None, 504 if ran.status == 504 else 503, ran.told or "the program says nothing of it")
+        return await self.of_moment(request, now, "", f"{record.word}: {sentence}\n".encode())
 
     def tags(self, position: int) -> dict[str, str]:
         """The headers that say of which moment an answer is."""
         stale = {"Cdm-Stale-Since": self.log.stale_since} if self.log.stale_since else {}
-        return {"Cdm-Position": str(position), "ETag": f'"{self.log.id}-{position}"',
-                "Vary": "Accept, Accept-Encoding", **stale}
+        return {"Cdm-Position": str(position), "ETag": f'"{self.log.id}-{position}"', "Vary": "Accept, Accept-Encoding", **stale}
 
-    def turn(self, request: web.Request) -> asyncio.Lock:
-        """Long answers are made one after the other for each who asks, so that nobody takes all the time."""
-        return self.turns.setdefault(self.asker(request), asyncio.Lock())
-
-    async def of_moment(self, request: web.Request, position: int, form: str, body: bytes,
-                        packed: bytes | None = None) -> web.Response:
-        """An answer about the day at one moment, by gzip where that is wanted; it may be there already."""
-        response = web.Response(body=body, content_type=TYPES[form], headers=self.tags(position))
-        if "gzip" in request.headers.get("Accept-Encoding", ""):
-            packed = packed or await pack(body)
-            if packed is not None:
-                response.body = packed
-                response.headers["Content-Encoding"] = "gzip"
-        unsent = self.unsent[self.asker(request)]
-        if unsent and unsent + (response.content_length or 0) > MOST_UNSENT:
-            raise Problem(429, "read the answers that wait first", Retry_After="5")
+    async def of_moment(self, request: web.Request, position: int, form: str, body: bytes) -> web.Response:
+        """An answer about the day at one moment."""
+        response = await pack(request, web.Response(body=body, content_type=TYPES[form], headers=self.tags(position)))
+        self.check_unsent(request, response.content_length or 0)
         return response
 
     async def question(self, request: web.Request) -> web.StreamResponse:
         """A command of the program over the day as it stands, or over a scenario."""
         found, is_post = request.match_info, request.method == "POST"
         command, form = found["command"].replace("what-if", "plan"), found.get("form", "")[1:]
-        if is_post and not form:
-            forms = ("csv", "json") if command in ("plan", "compare") else ("json",)
-            form = next((form for form in forms if form in request.headers.get("Accept", "")), "")
-        words, scenario = [found["name"]] if "name" in found else [], "scenarios.csv"
+        words = [found["name"]] if "name" in found else []
         if is_post:
-            words = [scenario, *words] if command == "compare" else [*words, "--scenarios", scenario]
+            forms = ("csv", "json") if command in ("plan", "compare") else ("json",)
+            form = form or next((form for form in forms if form in request.headers.get("Accept", "")), "")
+            words = ["scenarios.csv", *words] if command == "compare" else [*words, "--scenarios", "scenarios.csv"]
         for name, option in OPTIONS.items():
-            if not ARGUMENT.fullmatch(request.query.get(name, "0")):
-                raise Problem(400, f"{name} isn't well-formed")
-            words += [*option, request.query[name]] if name in request.query else []
+            said = request.query.get(name, "0")
+            refuse(not ARGUMENT.fullmatch(said), 400, f"{name} isn't well-formed")
+            words += [*option, said] if name in request.query else []
         words += ["--format", form] if form in ("csv", "json") else []
         scenarios = await self.body(request) if is_post else None
         now, ran = await self.answers.ask(self.asker(request), Question(command, tuple(words), scenarios))
-        if ran.status == 0:
-            return await self.of_moment(request, now, form, ran.output, ran.packed)
-        status = 404 if ran.told.startswith(UNKNOWN) else {2: 400, 3: 422}.get(ran.status, 503)
-        raise Problem(status, ran.told or "the program ended")
+        status = 404 if ran.told.startswith(UNKNOWN) else {2: 400, 3: 422, 504: 504}.get(ran.status, 503)
+        refuse(ran.status != 0, status, ran.told or "the program ended")
+        return await self.of_moment(request, now, form, ran.output)
 
     async def file(self, request: web.Request) -> web.Response:
-        """The table of kinds, the airport file, or the accepted records as a feed."""
-        if request.path == "/v1/kinds":
-            return web.Response(body=self.day.kinds.text, content_type=TYPES["json"])
-        if request.path == "/v1/airport.csv":
-            return web.Response(body=self.log.airport, content_type=TYPES["csv"])
-        async with self.turn(request):
+        """The table of kinds, or the airport file."""
+        text, form = (self.day.kinds.text, "json") if request.path == "/v1/kinds" else (self.log.airport, "csv")
+        return web.Response(body=text, content_type=TYPES[form])
+
+    async def journal(self, request: web.Request) -> web.Response:
+        """The accepted records as a feed."""
+        async with self.answers.turn(("log", self.asker(request))):
             return await self.of_moment(request, len(self.day.records), "csv", self.day.feed().encode())
 
     async def get_events(self, request: web.Request) -> web.StreamResponse:
         """Server-sent events."""
-        if request.version < HttpVersion11:
-            raise Problem(505, "events come in chunks")
+        refuse(request.version < HttpVersion11, 505, "events come in chunks")
         self.events.check(request["desk"])
         guard, transport = request.protocol, request.transport
         assert isinstance(guard, Guard)
@@ -379,40 +369,36 @@ class Board:
     async def health(self, request: web.Request) -> web.Response:
         """Whether records get replies."""
         is_ready = self.sequencer.is_ready.is_set() and not self.is_closing
-        told: dict[str, object] = {"ready": is_ready, "accepted": len(self.day.lines),
-                                   "position": len(self.day.records)}
-        if self.log.stale_since:
-            told["stale_since"] = self.log.stale_since
+        told: dict[str, object] = {"ready": is_ready, "accepted": len(self.day.lines), "position": len(self.day.records)}
+        told |= {"stale_since": self.log.stale_since} if self.log.stale_since else {}
         return web.json_response(told, status=200 if is_ready else 503)
 
     async def metrics(self, request: web.Request) -> web.Response:
         """What to watch, for Prometheus."""
-        return web.Response(body=prometheus.generate_latest(),
-                            headers={"Content-Type": prometheus.CONTENT_TYPE_LATEST})
+        now = len(self.events.streams), len(self.day.lines), len(self.day.records), self.sequencer.starts - 1
+        for gauge, value in zip(GAUGES, now):
+            gauge.set(value)
+        return web.Response(body=prometheus.generate_latest(), headers={"Content-Type": prometheus.CONTENT_TYPE_LATEST})
 
     async def page(self, request: web.Request) -> web.StreamResponse:
-        """A file of the page, compressed where that is taken."""
-        path = PAGE / (request.match_info.get("file") or "index.html")
-        if not path.is_file() or path.suffix not in FILES:
-            raise Problem(404, "there is no such file")
+        """A file of the page, compressed if that is taken."""
+        path = PAGE / request.match_info.get("file", "index.html")
+        refuse(path.suffix not in FILES or not path.is_file(), 404, "there is no such file")
         body = path.read_bytes()
-        tag = f'"{zlib.crc32(body):08x}-{len(body)}"'
-        headers = {"ETag": tag, "Vary": "Accept-Encoding", "Content-Type": FILES[path.suffix]}
-        if tag in [f'"{had.value}"' for had in request.if_none_match or ()]:
+        headers = {"ETag": f'"{zlib.crc32(body):08x}-{len(body)}"', "Vary": "Accept-Encoding", "Content-Type": FILES[path.suffix]}
+        if has(request, headers["ETag"]):
             return web.Response(status=304, headers=headers)
-        packed = await pack(body) if "gzip" in request.headers.get("Accept-Encoding", "") else None
-        return web.Response(body=packed or body, headers=headers | ({"Content-Encoding": "gzip"} if packed else {}))
+        return await pack(request, web.Response(body=body, headers=headers))
 
     def application(self) -> web.Application:
         """All paths."""
-        checks = [self.answered, self.checked]
-        application = web.Application(middlewares=checks, client_max_size=MOST_BODY + 1)
+        application = web.Application(middlewares=[self.answered, self.checked], client_max_size=MOST_BODY + 1)
         application.add_routes([
             web.post("/v1/records", self.post_records), web.get("/v1/records", self.get_records),
             web.get(r"/v1/records/{position:[0-9]{1,9}}/sentence", self.sentence),
             web.post("/v1/session", self.post_session), web.delete("/v1/session", self.delete_session),
             web.get("/v1/who", self.who), web.get("/v1/events", self.get_events, allow_head=False),
-            *(web.get(f"/v1/{file}", self.file) for file in ("kinds", "airport.csv", "journal.csv")),
+            web.get("/v1/kinds", self.file), web.get("/v1/airport.csv", self.file), web.get("/v1/journal.csv", self.journal),
             *(web.get(f"/v1/{path}", self.question) for path in PATHS),
             *(web.post(f"/v1/{path}", self.question) for path in (*PATHS, *BY_POST)),
             web.get("/health", self.health), web.get("/metrics", self.metrics),

@@ -7,8 +7,8 @@ from datetime import datetime, timedelta, timezone
 ROLES = ("AO", "GH", "AP", "ATC", "NM")
 MOST_LINES, MOST_BYTES = 256, 100
 # Printable ASCII without the double quote: such a line is one record of CSV, whatever it holds.
-LINE = re.compile(rb"(?=.*[^ ])[\x20\x21\x23-\x7e]+")
-KEY = re.compile(r"[\x20-\x7e]{1,64}")
+LINE = re.compile(r"(?=.*[^ ])[\x20\x21\x23-\x7e]+")
+KEY, POSITION = re.compile(r"[\x20-\x7e]{1,64}"), re.compile("[0-9]{1,9}")
 
 
 class Fault(Exception):
@@ -28,6 +28,12 @@ class Problem(Exception):
         self.headers = {name.replace("_", "-"): value for name, value in headers.items()}
 
 
+def refuse(is_so: object, status: int, why: str, line: int | None = None, **headers: str) -> None:
+    """Raises Problem if something is so."""
+    if is_so:
+        raise Problem(status, why, line, **headers)
+
+
 def tell(text: object) -> None:
     """A line on standard error."""
     print(text, file=sys.stderr, flush=True)
@@ -35,13 +41,12 @@ def tell(text: object) -> None:
 
 def lines_of(body: bytes, most: int = MOST_LINES, most_bytes: int = MOST_BYTES) -> list[str]:
     """The lines of a body, each of which is one record whatever role is put before it. Raises Problem."""
-    lines = [line.removesuffix(b"\r") for line in body.removesuffix(b"\n").split(b"\n")]
-    if len(lines) > most:
-        raise Problem(400, f"at most {most} records are taken together", most + 1)
+    lines = [line.removesuffix("\r") for line in body.decode("latin-1").removesuffix("\n").split("\n")]
+    refuse(len(lines) > most, 400, f"at most {most} records are taken together", most + 1)
     for number, line in enumerate(lines, 1):
-        if len(line) > most_bytes or not LINE.fullmatch(line):
-            raise Problem(400, f'no record of 1 to {most_bytes} bytes of printable ASCII without "', number)
-    return [line.decode("ascii") for line in lines]
+        is_wrong = len(line) > most_bytes or not LINE.fullmatch(line)
+        refuse(is_wrong, 400, f'no record of 1 to {most_bytes} bytes of printable ASCII without "', number)
+    return lines
 
 
 def minute_text(ahead: timedelta = timedelta()) -> str:
@@ -63,6 +68,6 @@ class Kinds:
         self._of_flight = {row["kind"] for row in rows if row["of"] == "flight"}
 
     def flight_of(self, line: str) -> str | None:
-        """The flight of a record, which is the first field behind its kind; None where its kind has none."""
+        """The flight of a record, which is the first field behind its kind; None if its kind has none."""
         kind, _, fields = line.partition(",")
         return fields.partition(",")[0] if kind in self._of_flight else None

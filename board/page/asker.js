@@ -53,10 +53,11 @@ export class Asker {
     this.isRunning = false;
   }
 
-  /** Asks all that is due; after how many seconds to come again, where the server says so. */
+  /** Asks all that is due; after how many seconds to come again, where the server says so. One that gets no answer doesn't stop the others. */
   async round() {
+    let retry = 0;
     for (const question of this.questions) {
-      if (this.isStopped) return 0;
+      if (this.isStopped) return retry;
       if (!this.isDue(question)) continue;
       const path = question.path();
       try {
@@ -69,13 +70,13 @@ export class Asker {
         question.show(list, position);
       } catch (problem) {
         if (problem.status === undefined) throw problem;
-        if (problem.status >= 503) question.fail?.(problem);
-        if (problem.status === 429 || problem.status >= 503) return problem.retry || 1;
         if (problem.status === 0 || problem.status === 401) return 1;
-        this.shown.set(question.name, this.wanted);
+        if (problem.status === 429) return problem.retry || 1;
         question.fail?.(problem);
+        if (problem.status >= 503) retry = Math.max(retry, problem.retry || 1);
+        else this.shown.set(question.name, this.wanted);
       }
     }
-    return 0;
+    return retry;
   }
 }

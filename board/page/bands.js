@@ -17,7 +17,7 @@ export class Bands {
     this.show();
   }
 
-  /** The loads of a what-if, as a second row; null: none. */
+  /** The loads of a what-if, as a second row; []: not known yet; null: none. */
   beside(runways) {
     this.other = runways;
     this.show();
@@ -28,12 +28,12 @@ export class Bands {
     const withFlights = this.runways.length <= 4;
     for (const runway of this.runways) {
       const cells = cellsOf(runway, this.day.date);
-      const other = this.other?.find((one) => one.runway === runway.runway);
-      const text = JSON.stringify([cells, runway.now, other && likeOf(other, cells), withFlights]);
+      const other = this.other && likeOf(this.other.find((one) => one.runway === runway.runway), cells);
+      const text = JSON.stringify([cells, runway.now, other, withFlights]);
       const band = this.bands.get(runway.runway) ?? this.make(runway.runway);
       if (band.text === text) continue;
       band.text = text;
-      this.draw(band, runway, cells, other && likeOf(other, cells), withFlights);
+      this.draw(band, runway, cells, other, withFlights);
     }
     for (const [name, band] of this.bands) {
       if (!this.runways.some((one) => one.runway === name)) {
@@ -46,7 +46,7 @@ export class Bands {
 
   make(name) {
     const head = el('h3', { id: `rw-${name}` });
-    const table = el('table');
+    const table = el('table', { 'aria-labelledby': `rw-${name}` });
     const scroll = el('div', { class: 'scroll', tabindex: 0, role: 'region', 'aria-label': `Runway ${name}, hours from NOW` }, table);
     const band = { root: el('section', { class: 'band', 'aria-labelledby': `rw-${name}` }, head, scroll), head, table, text: '' };
     this.bands.set(name, band);
@@ -74,7 +74,7 @@ function cellOf({ cells }, from) {
   return cells.find((cell) => cell.from === from) ?? { from, placed: 0, cap: null, closed: 0, flights: [] };
 }
 
-const likeOf = (runway, cells) => cells.map((cell) => cellOf(runway, cell.from));
+const likeOf = (runway, cells) => cells.map(({ from }) => (runway ? cellOf(runway, from) : { from, placed: null, cap: null, closed: 0, flights: [] }));
 
 /** The cells of the axis, from the one that has NOW on, up to the end of the two days. */
 function cellsOf(runway, date) {
@@ -103,7 +103,7 @@ function rowsOf(title, cells, { cell: length }, withFlights, before = null) {
     const name = [at === 0 && 'at', cell.closed && 'shut', isOver && 'over', cell.cap !== null && cell.placed === cell.cap && 'full'];
     const shut = isShut && !cell.placed;
     return el('td', { class: name.filter(Boolean).join(' ') || null }, el('span', { class: 'st', 'aria-hidden': 'true' }, ...blocks(cell, shut)),
-      el('span', { class: 'num' }, shut ? 'shut' : cell.cap === null ? '0' : `${cell.placed}/${cell.cap}${isOver ? '!' : ''}`),
+      el('span', { class: 'num' }, shut ? 'shut' : cell.placed === null ? '–' : cell.cap === null ? '0' : `${cell.placed}/${cell.cap}${isOver ? '!' : ''}`),
       cell.closed && !shut ? el('span', { class: 'vh' }, `, ${cell.closed} min closed`) : null);
   });
   const rows = [el('tr', {}, el('th', { scope: 'row' }, title), ...loads)];

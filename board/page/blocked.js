@@ -1,5 +1,5 @@
 // The flights without a start-up time, with their rule; the first CTOT first.
-import { $, cloned, known, say } from './dom.js';
+import { $, cloned, known, named, say } from './dom.js';
 import { whenFree } from './hold.js';
 import { Sorted } from './sorted.js';
 import { hm } from './times.js';
@@ -31,7 +31,7 @@ export class Blocked {
     const { date } = this.day;
     const mark = this.moves.mark(name);
     say(item.rule, row.rule);
-    say(item.was, mark ?? '');
+    say(item.since, this.moves.sinceText(name) || (mark ?? ''));
     item.row.classList.toggle('moved', mark !== null);
     [row.runway, hm(row.tobt, date), hm(row.ctot, date)].forEach((value, at) => say(item.cells[at + 2], known(value)));
     this.list.set(item, `${row.ctot ?? '~'} ${name}`);
@@ -39,10 +39,9 @@ export class Blocked {
 
   make(name) {
     const { row, cells } = cloned(this.template);
-    const item = { name, row, cells, key: '', list: null, rule: $('b', cells[1]), was: $('.mv', cells[1]) };
+    const item = { name, row, cells, key: '', list: null, rule: $('b', cells[1]), since: $('small', cells[0]) };
     const link = $('a', cells[0]);
-    say(link, name);
-    link.setAttribute('href', `#${name}`);
+    named(link, name);
     row.dataset.flight = name;
     this.items.set(name, item);
     return item;

@@ -28,3 +28,10 @@ export function cloned(template) {
   const row = template.content.firstElementChild.cloneNode(true);
   return { row, cells: [...row.children] };
 }
+
+/** Makes a link a flight's; a name of wide letters is a little smaller, so that it fits. */
+export function named(link, name) {
+  say(link, name);
+  link.setAttribute('href', `#${name}`);
+  link.classList.toggle('wide', name.length > 5 && /[MW].*[MW]/.test(name));
+}

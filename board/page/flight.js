@@ -9,6 +9,8 @@ import { hm, later, minutesFrom } from './times.js';
 const LETTERS = { ICE: 'I', NOW: 'N', CTOT: 'C', CLOSURE: 'X', SPACING: 'S', RATE: 'R' };
 const LATER = 10;
 const DRAWN = 180;
+const BEHIND = 30; // minutes that are drawn behind a window that has ended
+const LISTED = 12;
 const STATUS = { PLANNED: 'planned', BLOCKED: 'blocked', OFFBLOCK: 'off-block', AIRBORNE: 'airborne', CANCELLED: 'cancelled' };
 
 export class FlightPanel {
@@ -18,7 +20,7 @@ export class FlightPanel {
   }
 
   open(name) {
-    Object.assign(this, { name, form: null, answered: '', why: null });
+    Object.assign(this, { name, form: null, answered: '', why: '', isWhole: false });
     say($('h2 span', this.root), name);
     $('.x-close', this.root).setAttribute('aria-label', `Close ${name}`);
     for (const id of ['waits', 'f-later', 'f-form', 'f-records']) $(`#${id}`).replaceChildren();
@@ -95,6 +97,9 @@ export class FlightPanel {
 
   /** The program's `why`. */
   takeWhy([why]) {
+    const told = JSON.stringify([why.row, why.waits, this.isWhole]);
+    if (told === this.why) return;
+    this.why = told;
     const { row, waits } = why;
     const { date } = this.day;
     const times = ({ from, to }) => (from === to ? hm(from, date) : `${hm(from, date)}–${hm(to, date)}`);
@@ -102,21 +107,36 @@ export class FlightPanel {
     say($('#why-note'), !waits.length ? { PLANNED: 'It doesn’t wait.', BLOCKED: `It is blocked by ${row.rule}: it lacks what that rule asks for.` }[row.status] ?? 'It has left, or was cancelled.'
       : row.status === 'BLOCKED' ? `Blocked by ${row.rule}: no minute from ${hm(first.from, date)} to ${hm(last.to, date)} is free.`
         : `${row.delay} min, take-off ${hm(first.from, date)} to ${hm(row.ttot, date)}`);
-    $('#waits').replaceChildren(...waits.map((wait) => el('li', {}, el('b', { class: `k${LETTERS[wait.reason]}`, 'aria-hidden': 'true' }, LETTERS[wait.reason]),
+    const listed = this.isWhole ? waits : waits.slice(0, LISTED);
+    $('#waits').replaceChildren(...listed.map((wait) => el('li', { tabindex: this.isWhole && -1 }, el('b', { class: `k${LETTERS[wait.reason]}`, 'aria-hidden': 'true' }, LETTERS[wait.reason]),
       el('span', {}, times(wait)), el('span', {}, el('b', {}, wait.reason), wait.cap === null ? '' : ` ${wait.flights.length}/${wait.cap}`,
         wait.reason === 'SPACING' ? ' to' : '', ...wait.flights.flatMap((name) => [' ', el('a', { href: `#${name}` }, name)])),
-      el('span', {}, `${minutesFrom(wait.from, wait.to) + 1} min`))));
+      el('span', {}, `${minutesFrom(wait.from, wait.to) + 1} min`))), waits.length > listed.length ? this.rest(why, waits.length - LISTED) : '');
     this.draw(waits, row);
   }
 
-  /** The waiting minutes as a bar of at most three hours. */
+  /** How many more waits there are, to which time; a press lists them. */
+  rest(why, count) {
+    const button = el('button', { type: 'button', class: 'quiet' }, `${count} more, to ${hm(why.waits.at(-1).to, this.day.date)}`);
+    button.addEventListener('click', () => {
+      this.isWhole = true;
+      this.takeWhy([why]);
+      $(`#waits li:nth-child(${LISTED + 1})`).focus({ preventScroll: true });
+    });
+    return el('li', { class: 'rest' }, button);
+  }
+
+  /** The waiting minutes as a bar: of a blocked flight to half an hour behind its window, of any at most three hours. */
   draw(waits, row) {
     const bar = $('#wait');
     bar.replaceChildren();
     bar.toggleAttribute('hidden', !waits.length);
     say($('#wait-ends'), '');
     if (!waits.length) return;
-    const whole = Math.min(DRAWN, minutesFrom(waits[0].from, waits.at(-1).to) + 1);
+    const last = waits.at(-1);
+    const end = row.status === 'BLOCKED' && last.reason === 'CTOT' && waits.length > 1
+      ? minutesFrom(waits[0].from, last.from) + BEHIND : minutesFrom(waits[0].from, last.to) + 1;
+    const whole = Math.min(DRAWN, end);
     const shape = (tag, attributes, text = '') => {
       const node = document.createElementNS('http://www.w3.org/2000/svg', tag);
       for (const [name, value] of Object.entries(attributes)) node.setAttribute(name, value);

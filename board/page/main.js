@@ -15,6 +15,7 @@ import { Moves } from './moves.js';
 import { Problem, clock, heard, objects } from './net.js';
 import { Next } from './next.js';
 import { Panels } from './panels.js';
+import { Picture } from './picture.js';
 import { showRecords } from './records.js';
 import { Stream } from './stream.js';
 import { startTheme } from './theme.js';
@@ -23,7 +24,7 @@ import { Warnings } from './warnings.js';
 import { WhatIf } from './whatif.js';
 
 const RECENT = 20;
-const MOST_RECENT = 100;
+const MOST_RECENT = 2000; // of older ones the server doesn't know what they changed
 const LOG = 50;
 const root = document.documentElement;
 const day = new Day();
@@ -34,7 +35,7 @@ const [all, next, blocked] = [new All(day, moves, filter), new Next(day, moves, 
 const warnings = new Warnings(day, filter, (words) => head.warn(words));
 const bands = new Bands(day);
 const runways = () => bands.runways.map((one) => one.runway);
-const whatIf = new WhatIf(day, bands);
+const whatIf = new WhatIf(day, bands, new Picture());
 const causes = new Causes(() => asker.again('causes'));
 const desk = new Desk((isIn) => restart(isIn));
 const sent = (reply) => asker.changed(reply.position);
@@ -66,7 +67,7 @@ const boxed = (id, question) => ({ ...question, fail: (problem) => fault(id, `No
 const isOpen = () => flight.name !== null;
 
 const asker = new Asker([
-  boxed('next', { name: 'next', path: () => '/v1/next.json', isWanted: () => true, show: (list) => next.take(list) }),
+  boxed('next', { name: 'next', path: () => '/v1/next.json', isWanted: () => true, show: (list, position) => next.take(list, position) }),
   { name: 'why', path: () => `/v1/why/${flight.name}.json`, isWanted: () => isOpen() && Boolean(flight.row), show: (list) => flight.takeWhy(list),
     fail: (problem) => flight.failed(problem) },
   { name: 'records', path: () => `/v1/records?flight=${flight.name}`, isWanted: isOpen, show: (list) => flight.takeRecords(list) },
@@ -98,7 +99,7 @@ function fault(id, words) {
   say(node, words);
 }
 
-/** Flights whose rows are to be written again. */
+/** Flights whose rows are to be written again, as a record changed them, or as they are no longer marked. */
 function show(names) {
   next.changed(names);
   blocked.changed(names);
@@ -150,11 +151,11 @@ async function plan(isFirst) {
     if (!isFirst) moves.note(changed, null);
     head.now();
     head.totals(told);
-    const names = [...changed.keys()];
-    next.changed(names);
-    blocked.changed(names);
     flight.changed();
-    await all.build(isFirst ? [...day.rows.keys()] : names);
+    await all.build(isFirst ? [...day.rows.keys()] : [...changed.keys()], (names) => {
+      next.changed(names);
+      blocked.changed(names);
+    });
   } finally {
     const replies = early;
     early = null;
@@ -177,9 +178,15 @@ async function reset() {
 /** The last records: when a CLOCK came, and why what moved since it was looked at has moved. */
 async function recent() {
   const { position } = day;
-  const since = Math.max(0, Math.max(Math.min(moves.seen?.position ?? position, position - RECENT), position - MOST_RECENT));
-  const { list } = await objects(`/v1/records?since=${since}`);
-  for (const reply of list) if (reply.position <= position) moves.tell(reply);
+  const list = [];
+  let since = Math.max(0, Math.max(Math.min(moves.seen?.position ?? position, position - RECENT), position - MOST_RECENT));
+  while (since < position) {
+    const found = (await objects(`/v1/records?since=${since}`)).list.filter((reply) => reply.position <= position);
+    if (!found.length) break;
+    for (const reply of found) moves.tell(reply);
+    list.push(...found);
+    since = found.at(-1).position;
+  }
   const last = list.findLast((reply) => reply.reply === 'ACCEPTED' && reply.line.startsWith('CLOCK,'));
   head.clockTaken(last?.at ?? null);
   return list.at(-1);

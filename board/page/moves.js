@@ -3,10 +3,15 @@ import { hm, hms } from './times.js';
 
 const SHOWN = 10000;
 const KEPT = 'cdm-seen';
+const SHOWN_COLUMNS = ['runway', 'stand', 'tobt', 'exot', 'ctot', 'ttot', 'delay'];
 
 /** What a flight's Row says of its start-up: its TSAT, or why it has none. */
 export const startUp = (row, date) => (!row ? 'unknown' : row.tsat ? hm(row.tsat, date)
   : row.status === 'BLOCKED' ? row.rule : row.status.toLowerCase());
+
+/** The same to keep: a TSAT of a planned flight with its day, else the words. */
+const kept = (row, date) => (row.status === 'PLANNED' ? row.tsat : startUp(row, date));
+const isTime = (text) => /^\d{4}-/.test(text);
 
 /** Earlier, later, or another kind of entry. */
 const arrow = (before, after) => (!before?.tsat || !after.tsat ? '◆' : after.tsat < before.tsat ? '▲' : after.tsat > before.tsat ? '▼' : '◆');
@@ -16,7 +21,8 @@ export class Moves {
     this.day = day;
     this.onExpired = onExpired;
     this.recent = new Map(); // name: {before, until}
-    this.causes = new Map(); // name: in words, the last record that changed its start-up
+    this.causes = new Map(); // name: [position, in words] of the last record that changed its start-up
+    this.told = new Map(); // name: its start-up by the last record that came before the page was opened
     this.seen = null;
     this.timer = 0;
   }
@@ -30,7 +36,7 @@ export class Moves {
       this.recent.set(name, { before: this.recent.get(name)?.before ?? before, until });
       if (before.tsat === after.tsat && before.status === after.status && before.rule === after.rule) continue;
       count += 1;
-      if (reply) this.causes.set(name, cause(reply, name));
+      if (reply) this.moved(name, reply);
     }
     this.arm();
     return count;
@@ -58,9 +64,15 @@ export class Moves {
     return was === startUp(row, this.day.date) ? '' : `${arrow(move.before, row)} was ${was}`;
   }
 
+  /** The columns that changed of a flight that just moved, but whose start-up stays. */
+  columns(name) {
+    const row = this.day.rows.get(name);
+    return this.mark(name) === '' ? SHOWN_COLUMNS.filter((column) => this.recent.get(name).before[column] !== row[column]) : [];
+  }
+
   /** From now on everything counts as seen. */
   look(at) {
-    const entries = [...this.day.rows.values()].map((row) => [row.flight, startUp(row, this.day.date)]);
+    const entries = [...this.day.rows.values()].map((row) => [row.flight, kept(row, this.day.date)]);
     this.seen = { at, log: this.day.moment.replace(/-[0-9]+$/, ''), position: this.day.position, rows: Object.fromEntries(entries) };
     try {
       sessionStorage.setItem(KEPT, JSON.stringify(this.seen));
@@ -81,17 +93,45 @@ export class Moves {
     const row = this.day.rows.get(name);
     if (!this.seen || !row) return null;
     const was = this.seen.rows[name] ?? null;
-    return was === startUp(row, this.day.date) ? null : was ?? 'new';
+    if (was === kept(row, this.day.date)) return null;
+    return was === null ? 'new' : isTime(was) ? hm(was, this.day.date) : was;
   }
 
-  /** A record that came before the page was opened: why the flights that it changed are what they are. */
+  /** The same in words, with the record that moved it; '' where nothing moved. */
+  sinceText(name) {
+    const since = this.since(name);
+    const why = this.why(name);
+    return since === null ? '' : `${since === 'new' ? 'new' : `was ${since}`}${why && `: ${why}`}`;
+  }
+
+  /** The flights that were to start up before a moment when last looked at, and now aren't, but haven't left. */
+  out(isBefore) {
+    return Object.entries(this.seen?.rows ?? {}).filter(([name, was]) => {
+      const row = this.day.rows.get(name);
+      return isTime(was) && isBefore(was) && row
+        && (row.status === 'PLANNED' ? !isBefore(row.tsat) : row.status === 'BLOCKED' || row.status === 'CANCELLED');
+    }).map(([name]) => name);
+  }
+
+  /** A record that came before the page was opened: why the flights whose start-up it moved are what they are. */
   tell(reply) {
-    for (const row of reply.changes ?? []) this.causes.set(row.flight, cause(reply, row.flight));
+    const isSince = this.seen !== null && reply.position > this.seen.position;
+    for (const row of reply.changes ?? []) {
+      const is = kept(row, this.day.date);
+      const was = this.told.get(row.flight) ?? (isSince ? this.seen.rows[row.flight] : undefined);
+      if (is !== was) this.moved(row.flight, reply);
+      this.told.set(row.flight, is);
+    }
+  }
+
+  /** A record moved a flight. */
+  moved(name, reply) {
+    if (!(this.causes.get(name)?.[0] > reply.position)) this.causes.set(name, [reply.position, cause(reply, name)]);
   }
 
   /** The last record that moved a flight, in words. */
   why(name) {
-    return this.causes.get(name) ?? '';
+    return this.causes.get(name)?.[1] ?? '';
   }
 }
 

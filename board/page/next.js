@@ -1,5 +1,5 @@
 // The start-ups ahead: which flights, in which order and what each waits for is the program's `next`.
-import { $, cloned, known, say } from './dom.js';
+import { $, cloned, el, known, named, say } from './dom.js';
 import { isLate } from './day.js';
 import { anchored, whenFree } from './hold.js';
 import { Sorted } from './sorted.js';
@@ -7,25 +7,29 @@ import { hm, minutesFrom } from './times.js';
 
 const REASONS = { ICE: 'de-icing', CTOT: 'CTOT', CLOSURE: 'closure', SPACING: 'spacing', RATE: 'rate', NOW: 'now' };
 const AHEAD = 30;
+const MOST_OUT = 3;
+const CHUNK = 60;
 
 export class Next {
   constructor(day, moves, filter) {
-    Object.assign(this, { day, moves, filter, items: new Map(), tags: new Map(), isKnown: false });
+    Object.assign(this, { day, moves, filter, items: new Map(), tags: new Map(), named: new Map(), position: -1, isKnown: false, said: '' });
     this.template = $('#t-next');
-    this.list = new Sorted($('#next tbody'));
+    this.list = new Sorted($('#next tbody'), CHUNK);
   }
 
-  /** The program's answer. */
-  take(flights) {
-    this.isKnown = true;
-    const named = new Map(flights.map((one) => [one.flight, one]));
-    for (const name of [...this.items.keys()]) if (!named.has(name)) this.drop(name);
-    for (const [name, one] of named) {
-      if (this.day.rows.get(name)?.status !== 'PLANNED') continue;
-      const item = this.items.get(name) ?? this.make(name);
-      item.cause = one.cause;
-    }
+  /** The program's answer, of a moment that the events may not have reached yet. */
+  take(flights, position) {
+    Object.assign(this, { isKnown: true, position, named: new Map(flights.map((one) => [one.flight, one])) });
+    for (const name of [...this.items.keys()]) if (!this.named.has(name)) this.drop(name);
+    for (const name of this.named.keys()) this.admit(name);
     this.show([...this.items.keys()]);
+  }
+
+  /** Takes in a flight of the answer. */
+  admit(name) {
+    if (!this.named.has(name) || this.day.rows.get(name)?.status !== 'PLANNED') return;
+    const item = this.items.get(name) ?? this.make(name);
+    item.cause = this.named.get(name).cause;
   }
 
   make(name) {
@@ -33,8 +37,7 @@ export class Next {
     const item = { name, row, cells, key: '', list: null, cause: null, cells_: {
       tsat: $('b', cells[0]), in: $('.in', cells[0]), link: $('a', cells[1]), late: $('.late', cells[8]),
       delay: $('span', cells[8]), cause: $('span', cells[9]), tag: $('.tag', cells[9]), since: $('small', cells[9]) } };
-    say(item.cells_.link, name);
-    item.cells_.link.setAttribute('href', `#${name}`);
+    named(item.cells_.link, name);
     row.dataset.flight = name;
     this.items.set(name, item);
     return item;
@@ -46,11 +49,14 @@ export class Next {
     this.list.remove(item);
   }
 
-  /** What changed by a record: its cause isn't known until the program is asked again. */
+  /** What records changed. Where they are newer than the answer, the cause isn't known until the program is asked again. */
   changed(names) {
-    const mine = names.filter((name) => this.items.has(name));
-    for (const name of mine) this.items.get(name).cause = null;
-    this.show(mine);
+    const isNewer = this.day.position > this.position;
+    for (const name of names) {
+      if (!isNewer) this.admit(name);
+      else if (this.items.has(name)) this.items.get(name).cause = null;
+    }
+    this.show(names);
   }
 
   /** Writes these flights' rows, and puts them in their places. */
@@ -91,15 +97,15 @@ export class Next {
     item.row.classList.toggle('late', isLate(row));
     [row.runway, row.stand, hm(row.tobt, date), row.exot, hm(row.ctot, date), hm(row.ttot, date)]
       .forEach((value, at) => say(item.cells[at + 2], known(value)));
+    const columns = this.moves.columns(item.name);
+    COLUMNS.forEach((column, at) => item.cells[at + 2].classList.toggle('mv', columns.includes(column)));
     part.late.hidden = !isLate(row);
     say(part.delay, known(row.delay));
     say(part.cause, item.cause === null ? (row.delay ? '…' : '–') : REASONS[item.cause] ?? item.cause ?? '–');
     say(part.tag, (this.tags.get(item.name) ?? []).join(' '));
     part.tag.hidden = !this.tags.has(item.name);
-    const since = this.moves.since(item.name);
-    const why = this.moves.why(item.name);
-    say(part.since, since === null ? '' : `${since === 'new' ? 'new' : `was ${since}`}${why && `: ${why}`}`);
-    item.row.classList.toggle('since', since !== null);
+    say(part.since, this.moves.sinceText(item.name));
+    item.row.classList.toggle('since', part.since.textContent !== '');
   }
 
   /** `in 13`, or `now` from the TSAT on. */
@@ -114,11 +120,15 @@ export class Next {
     this.divide();
   }
 
+  isSoon(tsat) {
+    return minutesFrom(this.day.now, tsat) < AHEAD;
+  }
+
   /** A line between the flights of the next 30 minutes and the others. */
   divide() {
     let was = true;
     for (const { row, name } of this.list.items) {
-      const is = minutesFrom(this.day.now, this.day.rows.get(name).tsat) < AHEAD;
+      const is = this.isSoon(this.day.rows.get(name).tsat);
       row.classList.toggle('beyond', was && !is);
       was = is;
     }
@@ -127,15 +137,28 @@ export class Next {
   head() {
     const shown = this.list.length;
     say($('#next h2 b'), this.isKnown ? shown : '…');
+    $('#seen').hidden = !this.moves.seen;
+    $('#next .empty').hidden = !this.isKnown || shown > 0;
+    if (this.moves.seen) this.since(this.moves.seen.at);
+  }
+
+  /** How many of the next 30 minutes moved since one looked, and which moved out of them. */
+  since(at) {
     const soon = [...this.items.keys()].filter((name) => {
       const row = this.day.rows.get(name);
-      return row?.tsat && minutesFrom(this.day.now, row.tsat) < AHEAD && this.moves.since(name) !== null && this.filter.takes(row);
+      return row?.tsat && this.isSoon(row.tsat) && this.moves.since(name) !== null && this.filter.takes(row);
     }).length;
-    const at = this.moves.seen?.at;
-    say($('#since'), at ? `${soon} of the next ${AHEAD} min moved since ${at}` : '');
-    $('#seen').hidden = !at;
-    $('#next .empty').hidden = !this.isKnown || shown > 0;
+    const out = this.moves.out((tsat) => this.isSoon(tsat)).filter((name) => this.filter.takes(this.day.rows.get(name)));
+    const said = `${soon} ${at} ${out}`;
+    if (said === this.said) return;
+    this.said = said;
+    const names = out.slice(0, MOST_OUT).flatMap((name) => [' ', el('a', { href: `#${name}` }, name)]);
+    $('#since').replaceChildren(`${soon} of the next ${AHEAD} min moved since ${at}`, ...(out.length ? [`, ${out.length} moved out:`, ...names] : []),
+      out.length > MOST_OUT ? ` +${out.length - MOST_OUT}` : '');
   }
 }
+
+/** The columns of the third to the ninth cell. */
+const COLUMNS = ['runway', 'stand', 'tobt', 'exot', 'ctot', 'ttot', 'delay'];
 
 const keyOf = (row) => `${row.tsat} ${row.flight}`;

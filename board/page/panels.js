@@ -2,6 +2,9 @@
 import { $, $$ } from './dom.js';
 
 const FLIGHT = /^[A-Z0-9]{1,7}$/;
+/** Where a panel covers the page, what is below it has no focus; what the connection is stays in sight. */
+const covers = matchMedia('(max-width:1219px)');
+const BELOW = ['.skip', 'nav', '#warnings', '#runways', '#filtered', '#attention', '#next', '#all'];
 
 export class Panels {
   /** panels: the name of each to {open(flight), close()}. */
@@ -11,6 +14,7 @@ export class Panels {
     this.flight = null;
     this.from = null;
     addEventListener('hashchange', () => this.follow());
+    covers.addEventListener('change', () => this.cover());
     document.addEventListener('keydown', (event) => {
       if (event.key === 'Escape' && this.open && !event.defaultPrevented) this.close();
     });
@@ -48,6 +52,7 @@ export class Panels {
     [this.open, this.flight] = [name, flight];
     for (const panel of $$('.panel')) panel.hidden = panel.id !== `p-${name}`;
     document.documentElement.classList.toggle('has-panel', name !== null);
+    this.cover();
     for (const button of $$('[data-panel]')) button.setAttribute('aria-expanded', String(button.dataset.panel === name));
     this.mark();
     if (name) {
@@ -58,6 +63,10 @@ export class Panels {
       this.from.focus({ preventScroll: true });
       this.from = null;
     }
+  }
+
+  cover() {
+    for (const below of BELOW) $(below).inert = covers.matches && this.open !== null;
   }
 
   focus() {

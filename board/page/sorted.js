@@ -1,13 +1,12 @@
 // The rows of a table in the order of their keys. Only a row whose key changed is moved. A long table is in chunks, each a table
 // of its own with the same columns, so that the browser lays out those alone that are in sight.
+import { $ } from './dom.js';
 import { put } from './hold.js';
 
-const MOST = 200;
-
 export class Sorted {
-  /** body: where the rows are; more(body): makes the body of another chunk behind a body's; without it there is one chunk. */
-  constructor(body, more = null) {
-    this.more = more;
+  /** body: where the rows are, in a table in a .chunk of its own; most: how many rows a chunk has, or 0: all. */
+  constructor(body, most = 0) {
+    this.most = most;
     this.chunks = [{ body, items: [] }];
     this.empty = [];
   }
@@ -43,14 +42,14 @@ export class Sorted {
     const at = placeOf(items, key);
     items.splice(at, 0, item);
     put(body, item.row, items[at + 1]?.row ?? null);
-    if (this.more && items.length > MOST) this.split(number, at === items.length - 1 ? at : items.length >> 1);
+    if (this.most && items.length > this.most) this.split(number, at === items.length - 1 ? at : items.length >> 1);
     from?.tidy();
   }
 
   /** Makes the items of a chunk from a place on another chunk. */
   split(number, from) {
     const { body, items } = this.chunks[number];
-    const chunk = { body: this.more(body), items: items.splice(from) };
+    const chunk = { body: another(body), items: items.splice(from) };
     for (const item of chunk.items) put(chunk.body, item.row, null);
     this.chunks.splice(number + 1, 0, chunk);
   }
@@ -84,4 +83,16 @@ function placeOf(items, key) {
     else high = middle;
   }
   return low;
+}
+
+/** The body of another table with the same columns, behind the one of a body. */
+function another(body) {
+  const table = body.parentNode;
+  const chunk = table.closest('.chunk');
+  chunk.classList.add('many');
+  const [next, copy, rows] = [chunk.cloneNode(false), table.cloneNode(false), document.createElement('tbody')];
+  copy.append($('colgroup', table).cloneNode(true), $('thead', table).cloneNode(true), rows);
+  next.append(copy);
+  chunk.after(next);
+  return rows;
 }

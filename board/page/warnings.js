@@ -15,7 +15,7 @@ const FACTS = {
 
 export class Warnings {
   constructor(day, filter, onNew) {
-    Object.assign(this, { day, filter, onNew, first: null, shown: [], written: -PAUSE, timer: 0, tags: new Map() });
+    Object.assign(this, { day, filter, onNew, first: null, written: -PAUSE, timer: 0, tags: new Map(), whole: new Set() });
   }
 
   /** The program's answer. */
@@ -53,10 +53,10 @@ export class Warnings {
         for (const one of mine) items.push(el('li', { class: `w ${kind}` }, el('b', {}, kind), ' ', fresh?.cloneNode(true), ' ', link(one), ` ${FACTS[kind](one, at)}`));
         continue;
       }
-      const rest = mine.length - MOST;
+      const rest = this.whole.has(kind) ? 0 : mine.length - MOST;
       items.push(el('li', { class: `w ${kind}` }, el('b', {}, kind), ' ', el('b', { class: 'n' }, String(mine.length)), ' ', fresh, ' ',
-        ...mine.slice(0, MOST).flatMap((one) => (one.flight ? [link(one), ' '] : [`${FACTS[kind](one, at)}, `])),
-        rest > 0 && (kind === 'BLOCKED' ? this.more(rest) : `+${rest}`)));
+        ...(rest > 0 ? mine.slice(0, MOST) : mine).flatMap((one) => (one.flight ? [link(one), ' '] : [`${FACTS[kind](one, at)}, `])),
+        rest > 0 && this.more(kind, rest)));
     }
     const none = KINDS.filter((kind) => !this.list.some((one) => one.kind === kind));
     if (none.length) items.push(el('li', { class: 'w none' }, `${none.join(', ')}: none`));
@@ -72,9 +72,18 @@ export class Warnings {
     this.timer ||= setTimeout(() => this.write(), NEW / 4);
   }
 
-  more(rest) {
-    const button = el('button', { type: 'button' }, `+${rest}`, el('span', { class: 'vh' }, ' more blocked flights'));
-    button.addEventListener('click', () => this.filter.set({ status: 'blocked' }));
+  /** The others: of those that are blocked the tables show all, of another kind its warning names all. */
+  more(kind, rest) {
+    const button = el('button', { type: 'button' }, `+${rest}`, el('span', { class: 'vh' }, ` more ${kind}`));
+    button.addEventListener('click', () => {
+      if (kind === 'BLOCKED') {
+        this.filter.set({ status: 'blocked' });
+        return;
+      }
+      this.whole.add(kind);
+      this.write();
+      $(`#warnings .${kind} a`)?.focus({ preventScroll: true });
+    });
     return button;
   }
 }

@@ -1,29 +1,28 @@
 // What-if: a box for scenarios, their comparison, what moves, and the picture of both. Nothing of it changes the day.
 import { $, el, say } from './dom.js';
+import { anchored } from './hold.js';
 import { startUp } from './moves.js';
-import { Problem, ask, objects } from './net.js';
-import { showPicture } from './picture.js';
+import { Problem, objects } from './net.js';
 import { minutesFrom } from './times.js';
 
-const PICTURES = 10000;
 const COLUMNS = ['placed', 'delay', 'max', 'late', 'blocked', 'moved'];
 
 export class WhatIf {
-  constructor(day, bands) {
-    Object.assign(this, { day, bands, body: '', asked: 0, pictured: -PICTURES });
+  constructor(day, bands, picture) {
+    Object.assign(this, { day, bands, picture, asked: 0 });
     this.box = $('#scenario');
     $('#p-what-if form').addEventListener('submit', (event) => {
       event.preventDefault();
       this.compare();
     });
-    $('#b-pictures').addEventListener('click', () => this.pictures());
+    $('#b-pictures').addEventListener('click', () => this.picture.show(this.names.length ? this.box.value : '', this.names));
   }
 
   open() {
     if (!this.box.value) this.box.value = 'SCENARIO,NAME\n';
     this.hint();
     say($('#wi-at'), `over the day at record ${this.day.position}`);
-    document.documentElement.classList.toggle('is-whatif', this.bands.other !== null);
+    this.beside([]);
   }
 
   /** How a scenario is written, with a runway and the date of this day. */
@@ -31,14 +30,17 @@ export class WhatIf {
     const { date } = this.day;
     if (!date) return;
     const record = `CLOSE,${this.bands.runways[0]?.runway ?? '27L'},${date}T06:20Z,${date}T06:40Z`;
-    say($('#scenario-h'), `SCENARIO,name, then records as desks send them, one a line, as ${record}. Times are UTC.`);
+    $('#scenario-h').replaceChildren('SCENARIO,name, then records as desks send them, one a line; times are UTC:', el('code', {}, record));
   }
 
   close() {
-    this.bands.beside(null);
-    document.documentElement.classList.remove('is-whatif');
+    this.beside(null);
     $('#wi-answer').hidden = true;
-    $('#wi-picture').hidden = true;
+  }
+
+  /** The second row of the bands: its place is there as long as the panel is open. */
+  beside(loads) {
+    anchored(() => this.bands.beside(loads));
   }
 
   fault(words) {
@@ -62,23 +64,19 @@ export class WhatIf {
       const options = { method: 'POST', body, accept: 'application/json' };
       const { list, position } = await objects(`/v1/compare/${name}`, options);
       if (number !== this.asked) return;
-      this.body = body;
       say($('#wi-at'), `over the day at record ${position}`);
       this.table(list.filter((one) => 'scenario' in one), name);
       this.moved(list.filter((one) => 'flight' in one), name);
       $('#wi-answer').hidden = false;
-      $('#wi-picture').hidden = true;
       $('#wi-head').focus({ preventScroll: true });
       const refused = list.find((one) => one.scenario === name && 'word' in one);
       if (refused) {
-        this.bands.beside(null);
-        document.documentElement.classList.remove('is-whatif');
+        this.beside([]);
         return;
       }
       const loads = await objects(`/v1/load.json?scenario=${name}`, { method: 'POST', body });
       if (number !== this.asked) return;
-      this.bands.beside(loads.list);
-      document.documentElement.classList.add('is-whatif');
+      this.beside(loads.list);
     } catch (problem) {
       if (!(problem instanceof Problem)) throw problem;
       if (number === this.asked) this.fault(`${problem.message}.`);
@@ -119,24 +117,6 @@ export class WhatIf {
         el('td', {}, startUp(after, date)), el('td', {}, change));
     }));
     say($('#wi-note'), `In the runways’ bands the second row is ${name}; * marks a flight that isn’t in that cell now.`);
-  }
-
-  /** The day's picture with the scenarios' below it: asked for at most every ten seconds. */
-  async pictures() {
-    const pause = this.pictured + PICTURES - performance.now();
-    if (pause > 0) return this.fault(`A picture can be drawn again in ${Math.ceil(pause / 1000)} s.`);
-    this.pictured = performance.now();
-    this.fault('');
-    try {
-      const body = this.names.length ? this.box.value : '';
-      const text = await (await ask('/v1/picture.svg', { method: 'POST', body })).text();
-      $('#wi-picture').hidden = false;
-      showPicture($('#wi-drawn'), text, `The day, and ${this.names.join(', ') || 'no scenario'}, as timelines`);
-      $('#wi-picture').focus({ preventScroll: true });
-    } catch (problem) {
-      if (!(problem instanceof Problem)) throw problem;
-      this.fault(`${problem.message}.`);
-    }
   }
 }
 

@@ -6,9 +6,8 @@ from importlib.util import find_spec
 from urllib.parse import urlsplit
 
 import pytest
-from conftest import PROGRAM, objects, until
+from conftest import FACTOR, PROGRAM, objects, until
 
-FACTOR = float(os.environ.get("BOARD_PAGE_FACTOR", "4"))
 WAIT = 5 * FACTOR
 BINARY, DRIVER = "/usr/bin/chromium", "/usr/bin/chromedriver"
 
@@ -35,9 +34,8 @@ def missing():
     return "the program lacks the commands that the page shows" if PROGRAM.endswith("standin.py") else ""
 
 
-@pytest.fixture(scope="session")
-def chromium():
-    """The one browser of a run."""
+def driven():
+    """A browser, as long as it is wanted."""
     from selenium import webdriver
     from selenium.webdriver.chrome.service import Service
     options = webdriver.ChromeOptions()
@@ -142,8 +140,7 @@ class Page:
         return [message["params"]["request"]["url"] for message in messages if message["method"] == "Network.requestWillBeSent"]
 
 
-@pytest.fixture
-def page(request, board):
+def pages(request, board):
     """Makes a page over a server; afterwards there is no error in its console, and it asked no other host."""
     made, why = [], missing()
     if why:
@@ -175,11 +172,12 @@ def page(request, board):
 
 
 def fill(server, day, are_desks=False):
-    """Posts a day's records; each is accepted."""
+    """Posts a day's records, not faster than a desk may; each is accepted."""
     for role, lines in day.items():
         for at in range(0, len(lines), 256):
             headers = {} if are_desks else {"Cdm_Role": role}
-            replies = server.post(lines[at:at + 256], desk=role.lower() if are_desks else None, **headers)
+            while getattr(replies := server.post(lines[at:at + 256], desk=role.lower() if are_desks else None, **headers), "status", 200) == 429:
+                time.sleep(int(replies.headers["Retry-After"]))
             assert all(reply["reply"] == "ACCEPTED" for reply in replies), replies
 
 
@@ -188,4 +186,4 @@ def size(driver, width, height):
                            {"width": width, "height": height, "deviceScaleFactor": 1, "mobile": False})
 
 
-__all__ = ["AIRPORT", "DAY", "FACTOR", "WAIT", "Page", "chromium", "fill", "objects", "page", "size", "until"]
+__all__ = ["AIRPORT", "DAY", "FACTOR", "WAIT", "Page", "driven", "fill", "objects", "pages", "size", "until"]

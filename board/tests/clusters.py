@@ -7,6 +7,7 @@ import glob
 import os
 import pathlib
 import pwd
+import random
 import shutil
 import signal
 import socket
@@ -45,9 +46,12 @@ def as_user(*words):
 
 
 def free_port():
-    with socket.socket() as own:
-        own.bind(("127.0.0.1", 0))
-        return own.getsockname()[1]
+    """A port that nobody has, and that the system gives to nobody who doesn't name it."""
+    while True:
+        port = random.randrange(10_000, 32_000)
+        with socket.socket() as own, contextlib.suppress(OSError):
+            own.bind(("127.0.0.1", port))
+            return port
 
 
 class Cluster:
@@ -56,7 +60,7 @@ class Cluster:
     def __init__(self, folder, name, settings=""):
         self.data, self.name, self.port, self.process = pathlib.Path(folder, name), name, free_port(), None
         self.settings = f"""listen_addresses = '127.0.0.1'\nport = {self.port}\nunix_socket_directories = ''\nshared_buffers = '32MB'
-max_wal_senders = 4\ndynamic_shared_memory_type = mmap\nmax_connections = 100\nwal_keep_size = '64MB'\nlog_line_prefix = '%m [%p] %a '\n{settings}\n"""
+max_wal_senders = 4\ndynamic_shared_memory_type = mmap\nmax_connections = 100\nwal_keep_size = '64MB'\nwal_retrieve_retry_interval = '200ms'\nlog_line_prefix = '%m [%p] %a '\n{settings}\n"""
 
     def make(self):
         """A new cluster with a database `cdm`, which runs."""

@@ -17,6 +17,8 @@ import pytest
 TESTS = pathlib.Path(__file__).resolve().parent
 ROOT = TESTS.parent.parent
 ROLES = ("AO", "GH", "AP", "ATC", "NM")
+# A busy machine has more time: what each limit of time is multiplied by.
+FACTOR = float(os.environ.get("BOARD_PAGE_FACTOR", "1"))
 Reply = namedtuple("Reply", "status headers body")
 
 
@@ -190,7 +192,7 @@ def objects(body):
 
 def until(is_so, seconds=10):
     """Waits until something is so."""
-    end = time.monotonic() + seconds
+    end = time.monotonic() + seconds * FACTOR
     while not is_so():
         assert time.monotonic() < end, "it never was so"
         time.sleep(0.02)
@@ -258,6 +260,20 @@ def board(tmp_path, log_engine):
             assert "Traceback" not in server.told()
 
 
+@pytest.fixture(scope="session")
+def chromium():
+    """The one browser of a run."""
+    import browser
+    yield from browser.driven()
+
+
+@pytest.fixture
+def page(request, board):
+    """Makes a page over a server; afterwards there is no error in its console, and it asked no other host."""
+    import browser
+    yield from browser.pages(request, board)
+
+
 @pytest.fixture
 def chance(request):
     """A seed of its own for each run, told where the test fails."""
@@ -272,8 +288,8 @@ def count(name, gate):
 
 
 def figure(text):
-    """A figure for who asks for figures."""
+    """A figure for who asks for figures, with the load of the machine."""
     if os.environ.get("BOARD_FIGURES"):
         with open(os.environ["BOARD_FIGURES"], "a") as file:
-            file.write(text + "\n")
+            file.write(f"{text}; load of the machine {os.getloadavg()[0]:.1f}\n")
     print(text)

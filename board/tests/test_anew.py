@@ -1,10 +1,13 @@
 """A day that begins anew, since the log's database lost rows: nothing is left of the day before."""
 import asyncio
+from unittest import mock
 
 import pytest
 
 from board.answers import Answers, Question
 from board.day import Day
+from board.desks import Desk
+from board.events import Events, Stream
 from board.log import Record
 from board.words import Kinds, Problem
 
@@ -24,6 +27,19 @@ def test_what_is_found_is_of_the_day_that_began_anew():
     assert (day.count_of("desk-AB1"), day.count_of("desk-AB3")) == (0, 1)
     day.add(Record(2, "desk-AB3", "AP", "FLT,AB4,5"), None, [])
     assert day.count_of("desk-AB3") == 2 and day.found(0, "AB4", None)[0].position == 2
+
+
+def test_displays_are_reset():
+    """Also where the day that began anew has as many records."""
+    day, transport = day_of("AB1"), mock.Mock()
+    transport.get_write_buffer_size.return_value, transport.is_closing.return_value = 0, False
+    events = Events("0", day)
+    events.open(Stream(None, Desk("screen", "READ"), transport, None), "")
+    asyncio.run(events._write())
+    assert all(b"event: " not in call.args[0] for call in transport.write.call_args_list)
+    day.restart(day_of("AB2"))
+    asyncio.run(events._write())
+    assert b"id: 0-1\nevent: reset\ndata: {}\n\n" in transport.write.call_args.args[0]
 
 
 def test_an_answer_is_not_of_the_day_before(tmp_path):
@@ -46,5 +62,4 @@ def test_an_answer_is_not_of_the_day_before(tmp_path):
         for command in ("plan", "load"):
             position, ran = await answers.ask("tower", Question(command))
             assert (position, ran.output) == (1, b"AP,FLT,AB2,5\n")
-        await answers.close()
     asyncio.run(talk())

@@ -1,6 +1,7 @@
 """What a stranger, a desk gone wrong or a broken machine may try: each of these fails without a line of the server."""
 import asyncio
 import concurrent.futures
+import contextlib
 import gzip
 import http.client
 import json
@@ -198,7 +199,7 @@ def test_displays_share_what_may_be_unsent():
             pass
 
     class Day:
-        records, on_reply, on_restart, kept_behind = [], [], [], staticmethod(lambda position: [])
+        records, starts, kept_behind = [], 0, staticmethod(lambda position: [])
     for count, are_cut in ((5000, True), (100, False)):
         events = Events("0", Day())
         transports = [Transport(900_000 if number % 2 else 10) for number in range(count)]
@@ -207,6 +208,25 @@ def test_displays_share_what_may_be_unsent():
         asyncio.run(events._write())
         assert [transport.is_cut for transport in transports] == [are_cut and transport.unsent > 10 for transport in transports]
         assert not are_cut or sum(transport.unsent for transport in transports if not transport.is_cut) < MOST_OF_ALL
+
+
+def test_an_end_at_the_moment_of_a_reply():
+    """What writes events ends when it is told to, however close a reply comes."""
+    from board.events import Events
+
+    async def ended(steps):
+        class Day:
+            records, starts, changed = [], 0, asyncio.Event()
+        task = asyncio.create_task(Events("0", Day()).run())
+        await asyncio.sleep(0.02)
+        Day.changed.set()
+        for _ in range(steps):
+            await asyncio.sleep(0)
+        task.cancel()
+        done, _ = await asyncio.wait([task], timeout=1)
+        task.cancel()
+        return bool(done)
+    assert [asyncio.run(ended(steps)) for steps in range(6)] == [True] * 6
 
 
 # What can be read in two ways
@@ -338,7 +358,8 @@ def test_the_tower_s_last_updates_are_not_taken_in_a_rush(board, tmp_path):
     body = [f"TOBT,F1,{moment(400)}"] * 200
     with concurrent.futures.ThreadPoolExecutor(6) as pool:
         first = pool.submit(server.post, body, "gh0")
-        time.sleep(0.5)
+        with contextlib.closing(sqlite3.connect(server.log)) as log:
+            until(lambda: log.execute("SELECT count(*) FROM cdm_record").fetchone() == (18_199,))
         assert [server.post(body, f"gh{number}").status for number in range(1, 6)] == [429] * 5
         os.kill(server.sequencers()[0], signal.SIGCONT)
         assert first.result()[-1]["accepted"] == 18_199

@@ -3,7 +3,6 @@ import asyncio
 import contextlib
 import itertools
 import json
-import os
 import subprocess
 import sys
 import threading
@@ -72,9 +71,8 @@ def test_replies_with_each_log(board, engine):
             thread.start()
         for thread in threads:
             thread.join()
-        figure(f"Replies with {engine}: one desk {times_text(alone)} ({len(alone)}); 16 desks {times_text(together)} ({len(together)}); "
-               f"load of the machine {os.getloadavg()[0]:.1f}")
-        assert not wrong and len(server.records("desk-0")) == min(1000, 100 + len(alone) + len(together))
+        figure(f"Replies with {engine}: one desk {times_text(alone)} ({len(alone)}); 16 desks {times_text(together)} ({len(together)})")
+        assert not wrong and len(server.records("desk-0")) == 100 + len(alone) + len(together)
         assert server.end() == 0
 
 
@@ -106,7 +104,7 @@ def test_a_day_s_log_is_ready_with_each_log(board, engine):
         lines, reading = asyncio.run(read(server.log, server.airport.read_bytes(), version))
         assert "".join(f"{line}\n" for line in lines) == feed.read_text()
         figure(f"Start with {engine}: a log of {records} records is ready in {sorted(times)[1]:.2f} s (the middle of 3), of which its rows are read in "
-               f"{1000 * reading:.0f} ms; `plan` of it alone takes {took:.2f} s; load of the machine {os.getloadavg()[0]:.1f}")
+               f"{1000 * reading:.0f} ms; `plan` of it alone takes {took:.2f} s")
 
 
 def test_the_middle_and_the_99th():

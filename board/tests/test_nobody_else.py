@@ -1,10 +1,12 @@
 """Nobody else: who hasn't the right is refused before the log, and says nothing for anybody."""
+import collections
+import concurrent.futures
 import json
 import socket
 import time
 
 import pytest
-from conftest import count, moment, objects
+from conftest import FACTOR, count, moment, objects
 
 DESKS = {"ao": 'role = "AO"\nflights = ["DLH", "EWG"]', "gh": 'role = "GH"', "ap": 'role = "AP"', "atc": 'role = "ATC"\nclock = true',
          "nm": 'role = "NM"', "screen": 'role = "READ"', "small": 'role = "AP"\nrecords = 5'}
@@ -101,7 +103,7 @@ def test_a_cookie_is_of_one_desk_and_ends(server):
 def hang_up(server):
     import signal
     server.process.send_signal(signal.SIGHUP)
-    time.sleep(0.3)
+    time.sleep(0.3 * FACTOR)
 
 
 PATHS = ["/../desks.toml", "/..%2fdesks.toml", "/%2e%2e/log.py", "/page/../log.py", "//etc/passwd", "/.hidden", "/v1/why/..%2f..", "/v1/why/--help",
@@ -129,38 +131,47 @@ def test_an_address_that_cannot_be_read_ends_the_connection(server):
     assert server.get("/health").status == 200 and "CONNECT" not in server.told()
 
 
+PIECES = [b"FLT,", b"DLH9", b",5", b"\n", b"\r\n", b"\0", b'"', b"\xff", b"GH,", b" ", b"A" * 101, b"TOBT", b"\x1f"]
+NAMES = [b"Host", b"Origin", b"Cookie", b"Content-Length", b"Transfer-Encoding", b"Idempotency-Key", b"Cdm-After", b"Cdm-Role", b"Upgrade",
+         b"Content-Encoding", b"Last-Event-ID", b"If-None-Match", b"X-Forwarded-For", b"Expect", b"Connection", b"Range", b"Accept"]
+ANYWHERE = [b"/v1/records", b"/v1/session", b"/v1/plan", b"/v1/what-if", b"/v1/why/DLH1?scenario=X", b"/v1/records?since=", b"/v1/records/1/sentence",
+            b"/", b"/metrics", b"/v1/who", b"/v1/compare/X", b"/v1/records?flight=DLH1&desk=ap", b"*", b"/v1/records?desk=\xff\xfe",
+            b"/v1/records?desk=%ff%00", b"/v1/why/\xff", b"/\xff", b"http://localhost/v1/plan"]
+
+
+def random_request(chance, number):
+    """One that is meant, of 50, as its text."""
+    if chance.random() < 0.02:
+        method, path, token, junk, body = b"POST", b"/v1/records", b"ap", b"", b"FLT,DLH%d,5" % (number + 10)
+    else:
+        method, path = chance.choice([b"POST", b"POST", b"GET", b"PUT", b"DELETE", b"HEAD", b"FOO"]), chance.choice(ANYWHERE)
+        token, body = chance.choice([b"ap", b"ao", b"atc"]), b"".join(chance.choice(PIECES) for _ in range(chance.randrange(8))) + b'"'
+        signs = [range(256) if chance.random() < 0.3 else range(33, 127) for _ in range(chance.randrange(4))]
+        junk = b"".join(b"%s: %s\r\n" % (chance.choice(NAMES), bytes(chance.choices(some, k=chance.randrange(30))).replace(b"\n", b"")) for some in signs)
+    return b"%s %s HTTP/1.1\r\nHost: localhost\r\nAuthorization: Bearer token-%s\r\nConnection: close\r\n%sContent-Length: %d\r\n\r\n%s" % (
+        method, path, token, junk, len(body), body)
+
+
 def test_random_bodies_and_headers(server, chance):
     """Never a 500, never a record that wasn't meant."""
-    meant, pieces = 2, [b"FLT,", b"DLH9", b",5", b"\n", b"\r\n", b"\0", b'"', b"\xff", b"GH,", b" ", b"A" * 101, b"TOBT", b"\x1f"]
-    names = [b"Host", b"Origin", b"Cookie", b"Content-Length", b"Transfer-Encoding", b"Idempotency-Key", b"Cdm-After", b"Cdm-Role", b"Upgrade",
-             b"Content-Encoding", b"Last-Event-ID", b"If-None-Match", b"X-Forwarded-For", b"Expect", b"Connection", b"Range", b"Accept"]
-    paths = [b"/v1/records", b"/v1/session", b"/v1/plan", b"/v1/what-if", b"/v1/why/DLH1?scenario=X", b"/v1/records?since=", b"/v1/records/1/sentence",
-             b"/", b"/metrics", b"/v1/who", b"/v1/compare/X", b"/v1/records?flight=DLH1&desk=ap", b"*", b"/v1/records?desk=\xff\xfe", b"/v1/records?desk=%ff%00", b"/v1/why/\xff", b"/\xff", b"http://localhost/v1/plan"]
-    good, seen = b"FLT,DLH%d,5", {}
-    for number in range(count("BOARD_RANDOM", 2000)):
-        is_good = chance.random() < 0.02
-        body = good % (number + 10) if is_good else b"".join(chance.choice(pieces) for _ in range(chance.randrange(8))) + b'"'
-        junk = b"".join(chance.choice(names) + b": " + bytes(chance.choices(range(256) if chance.random() < 0.3 else range(33, 127), k=chance.randrange(
-            30))).replace(b"\n", b"") + b"\r\n" for _ in range(0 if is_good else chance.randrange(4)))
-        method, path = chance.choice([b"POST", b"POST", b"GET", b"PUT", b"DELETE", b"HEAD", b"FOO"]), chance.choice(paths)
-        if is_good:
-            method, path = b"POST", b"/v1/records"
-        token = chance.choice([b"ap", b"ao", b"atc"]) if not is_good else b"ap"
+    def status_of(request):
         with socket.create_connection(("127.0.0.1", server.port)) as own:
-            own.settimeout(1)
-            own.sendall(b"%s %s HTTP/1.1\r\nHost: localhost\r\nAuthorization: Bearer token-%s\r\nConnection: close\r\n%sContent-Length: %d\r\n\r\n%s" % (
-                method, path, token, junk, len(body), body))
+            own.settimeout(1 if request.endswith(b'"') else 30)
+            own.sendall(request)
             try:
                 answer = own.recv(65536)
             except OSError:
                 answer = b""
         status = answer.split()[1] if answer else b"none"
-        seen[status] = seen.get(status, 0) + 1
-        assert status[:2] != b"50" or status == b"503", (method, path, junk, body, answer)
-        meant += is_good and status == b"200"
-        if is_good:
-            time.sleep(0.02)
-    print(seen)
+        assert status[:2] != b"50" or status in (b"503", b"504"), (request, answer)
+        return status
+    requests = [random_request(chance, number) for number in range(count("BOARD_RANDOM", 2000))]
+    # Some wait a second for an answer that never comes.
+    with concurrent.futures.ThreadPoolExecutor(16) as pool:
+        statuses = list(pool.map(status_of, requests))
+    print(collections.Counter(statuses))
+    meant = [number for number, request in enumerate(requests) if request.endswith(b"FLT,DLH%d,5" % (number + 10))]
     records = server.records("ap")
-    assert len(records) == meant and all(record["line"].startswith("FLT,DLH") or record["line"] == "FLT,BAW1,5" for record in records)
+    assert meant and [statuses[number] for number in meant] == [b"200"] * len(meant)
+    assert sorted(record["line"] for record in records) == sorted(["FLT,BAW1,5", "FLT,DLH1,5", *(f"FLT,DLH{number + 10},5" for number in meant)])
     assert server.told().count("cdmboard: ") == 0

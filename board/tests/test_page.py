@@ -2,7 +2,7 @@
 import json
 
 import pytest
-from browser import FACTOR, WAIT, chromium, fill, page, until  # noqa: F401
+from browser import FACTOR, WAIT, fill, until
 from selenium_or_none import Keys
 
 EARLY = [flight for flight in ("BAW3", "DLH1", "DLH2", "RYR6")]
@@ -71,6 +71,7 @@ def test_a_record_that_is_sent_elsewhere(page):
     assert shown.text("#since").startswith("1 of the next 30 min moved since ")
     shown.until("return document.querySelectorAll('#next tr.moved').length === 0", seconds=10 + WAIT)
     assert shown.row("next", "DLH1")[0] == "06:20 in 30" and "was 06:00: TOBT 06:20, AO " in shown.row("next", "DLH1")[9]
+    assert "…" not in shown.text("#next")
     assert shown.row("next", "DLH2")[0] == "06:00 in 10" and "was 06:05: TOBT DLH1 06:20, AO " in shown.row("next", "DLH2")[9]
     shown.says("header dl", "41")  # the delays are 28 and 13 now
     shown.click("#seen")
@@ -93,6 +94,8 @@ def test_the_mark_stays_ten_seconds(page):
 def test_now_and_no_clock(page):
     shown = page().open()
     assert shown.js("return document.querySelector('#no-clock').hidden")
+    # The last answer has come, which says what the server's clock is.
+    shown.until("return document.querySelector('#operators option') !== null")
     # Three minutes pass, for the page; it doesn't count on.
     shown.js("const real = Date.now; Date.now = () => real.call(Date) + 180000;")
     shown.until("return !document.querySelector('#no-clock').hidden")
@@ -235,10 +238,10 @@ def test_what_if(page):
     assert shown.js("return getComputedStyle(document.querySelector('.wi')).display") == "table-row-group"
     # Its picture beside the day's, drawn by the program.
     shown.click("#b-pictures")
-    shown.until("return document.querySelector('#wi-drawn').shadowRoot?.querySelector('svg') != null")
-    words = shown.js("return [...document.querySelector('#wi-drawn').shadowRoot.querySelectorAll('text')].map((t) => t.textContent).join(' ')")
+    shown.until("return document.querySelector('#drawn').shadowRoot?.querySelector('svg') != null")
+    words = shown.js("return [...document.querySelector('#drawn').shadowRoot.querySelectorAll('text')].map((t) => t.textContent).join(' ')")
     assert "OPEN-0630" in words and words.count("RYR6") >= 2
-    assert shown.js("return document.querySelector('#wi-drawn').shadowRoot.querySelectorAll('script, a, image, foreignObject, style').length") == 0
+    assert shown.js("return document.querySelector('#drawn').shadowRoot.querySelectorAll('script, a, image, foreignObject, style').length") == 0
     # A scenario that is refused, and a file that is wrong.
     shown.js("document.querySelector('#scenario').value = 'SCENARIO,BAD\\nTOBT,XY9,2025-03-10T06:30Z'")
     shown.click("#p-what-if form button")
@@ -330,7 +333,7 @@ def test_the_rows_are_those_of_the_plan(page, chance):
     until(lambda: shown.texts("header dd") == first, WAIT)
     shown.until("return document.querySelectorAll('#next .why span').length > 0 && ![...document.querySelectorAll('#next .why span')].some((s) => s.innerText === '…')")
     asked = [row["flight"] for row in json.loads("[" + ",".join(shown.server.get("/v1/next.json").body.decode().splitlines()) + "]")]
-    assert shown.flights("next") == asked
+    until(lambda: shown.flights("next") == asked, WAIT)
 
 
 @pytest.mark.parametrize("name", ["light", "dark"])

@@ -1,6 +1,6 @@
-"""The page by keyboard, by a screen reader, at each size and in each theme."""
+"""The page by keyboard, by a screen reader, at each size and in each theme. The day by hand is in browser.py."""
 import pytest
-from browser import WAIT, chromium, page, size  # noqa: F401
+from browser import WAIT, size
 from selenium_or_none import Keys
 
 # The contrast of each text over its ground, from what the browser computes. Under 4.5 it is told, but for what is disabled.
@@ -28,6 +28,14 @@ while (walker.nextNode()) {
   if (ratio < 4.5) bad.push(`${walker.currentNode.data.trim()} ${ratio.toFixed(2)} ${node.className}`);
 }
 return [count, bad];
+"""
+SHAPES = CONTRAST.partition("const bad")[0] + r"""
+const ratio = (name, ground) => { const probe = document.createElement('i'); document.body.append(probe);
+  probe.style.color = `var(${name})`; probe.style.backgroundColor = `var(${ground})`;
+  const style = getComputedStyle(probe), [a, b] = [light(channels(style.color)), light(channels(style.backgroundColor))].sort((x, y) => y - x);
+  probe.remove(); return (a + 0.05) / (b + 0.05); };
+return [['--focus', '--pane'], ['--focus', '--bg'], ['--edge', '--pane'], ['--fill', '--pane'], ['--hole', '--pane'], ['--alarm', '--pane'], ['--move', '--move-bg'],
+  ['--link', '--pane'], ['--warn', '--warn-bg']].filter(([name, ground]) => ratio(name, ground) < 3).map(String);
 """
 # What has no name for a screen reader.
 NAMES = r"""
@@ -65,6 +73,22 @@ def test_contrast(page, theme):
         shown.click("#p-what-if form button")
         shown.says("#rw-09 + .scroll .wi", "RYR6*")
         assert shown.js(CONTRAST)[1] == []
+        shown.click("#b-pictures")
+        shown.says("#picture", "OPEN-0630")
+        assert shown.js(CONTRAST)[1] == []
+        # Each kind of warning, each letter, a reply that is refused, a fault, and what is said of the clock and of the log.
+        shown.js("""document.querySelector('#warnings ul').innerHTML = ['OVERDUE', 'MISSED', 'BLOCKED', 'EDGE', 'PAST', 'AHEAD', 'FULL', 'SHUT', 'none']
+            .map((kind) => `<li class="w ${kind}"><b>${kind}</b> <em>new</em> <a href="#A">A</a> 06:00 <button>+2</button></li>`).join('');
+            document.querySelector('#wi-flights').innerHTML = [...'INCXSR'].map((letter) => `<tr><td><b class="k${letter}">${letter}</b></td></tr>`).join('')
+              + '<tr class="moved"><td class="mv">06:20</td><td><b class="tag">EDGE</b> <b class="refused">refused</b> <small>AO</small></td></tr>';
+            for (const id of ['no-clock', 'stale', 'wi-fault']) { const e = document.getElementById(id); e.hidden = false; e.textContent = 'words'; }
+            for (const e of document.querySelectorAll('.fault')) { e.hidden = false; e.textContent = 'words'; }""")
+        assert shown.js(CONTRAST)[1] == []
+        shown.js("location.hash = '#sign-in'; document.querySelector('#sign-fault').hidden = false; document.querySelector('#sign-fault').textContent = 'wrong'")
+        shown.until("return document.querySelector('#sign-fault').checkVisibility()")
+        assert shown.js(CONTRAST)[1] == []
+        # What has no text: the ring of the focus, blocks, edges, bars; 3 is enough.
+        assert shown.js(SHAPES) == []
         assert (shown.js("return getComputedStyle(document.body).backgroundColor") == "rgb(14, 18, 22)") == (theme == "dark")
     finally:
         shown.driver.execute_cdp_cmd("Emulation.setEmulatedMedia", {"features": []})
@@ -80,6 +104,49 @@ def test_every_control_has_a_name(page):
         shown.until("return [...document.querySelectorAll('.panel')].filter((p) => !p.hidden).length === 1")
         shown.until("return document.querySelectorAll('.panel:not([hidden]) form').length > 0")
         assert shown.js(NAMES) == [], path
+
+
+def tree(shown):
+    """What the browser tells a screen reader: role and name of each node that isn't ignored."""
+    nodes = shown.driver.execute_cdp_cmd("Accessibility.getFullAXTree", {})["nodes"]
+    return [(node["role"]["value"], node.get("name", {}).get("value", "").strip()) for node in nodes if not node.get("ignored") and "role" in node]
+
+
+NAMED = {"button", "link", "textbox", "combobox", "searchbox", "listbox", "DisclosureTriangle", "table", "form", "region", "navigation", "complementary",
+         "search", "columnheader", "rowheader", "image", "option", "MenuListPopup", "heading"} - {"MenuListPopup"}
+
+
+def test_what_a_screen_reader_is_told(page):
+    """By the browser's own tree: whatever can be used or jumped to has a name, and the tables are tables with rows and heads."""
+    shown = page().open()
+    shown.choose("#role", "ATC")
+    shown.until("return document.querySelector('#b-send').hidden === false")
+    for path in ("", "#RYR6", "#what-if", "#send"):
+        shown.js("location.hash = arguments[0]", path)
+        shown.until("return [...document.querySelectorAll('.panel')].filter((p) => !p.hidden).length === (arguments[0] ? 1 : 0)", path)
+        if path == "#RYR6":
+            shown.says("#waits", "CLOSURE")
+        told = tree(shown)
+        assert [role for role, name in told if role in NAMED and not name] == [], path
+        roles = [role for role, _ in told]
+        assert {"banner", "navigation", "main", "search", "status"} <= set(roles)
+        if not path:
+            # Blocked, Next, All's two groups, and a band for each runway.
+            assert roles.count("table") == 6 and roles.count("rowheader") >= 2 + 4 + 7 + 4 and roles.count("columnheader") >= 5 + 10 + 20
+            assert ("heading", "Next start-ups 4 60 min, UTC") in told and ("button", "Seen") in told
+
+
+def test_long_tables_are_tables(page):
+    """A group of more than 200 flights is in tables of its own with the same heads, each with all its rows: nothing is left out of sight."""
+    names = [f"X{number:03}" for number in range(450)]
+    day = {"AP": [f"FLT,{name},5" for name in names], "ATC": [f"RWY,{name},27L" for name in names]}
+    shown = page(day=day).open()
+    shown.until("return document.querySelectorAll('#all tbody tr').length === 450")
+    shown.js("for (const e of document.querySelectorAll('.chunk')) e.style.contentVisibility = 'visible'")
+    told = [role for role, _ in tree(shown)]
+    assert told.count("rowheader") >= 450 + 450 and told.count("columnheader") >= 30
+    assert shown.js("return [...document.querySelectorAll('#all .chunk')].map((c) => c.querySelectorAll('thead th[scope=col]').length)") == [10] * shown.js(
+        "return document.querySelectorAll('#all .chunk').length")
 
 
 def test_landmarks_and_tables(page):
@@ -112,7 +179,7 @@ def test_by_keyboard_alone(page):
     where = "const a = document.activeElement; return [a.id || a.name || a.textContent.trim(), a.tagName]"
     visible = "const s = getComputedStyle(document.activeElement); return s.outlineStyle !== 'none' && parseFloat(s.outlineWidth) >= 2"
     shown.keys(Keys.TAB)
-    assert shown.js(where)[0] == "To the next start-ups" and shown.js(visible)
+    assert shown.js(where)[0] == "Next start-ups" and shown.js(visible)
     order = []
     for _ in range(40):
         shown.keys(Keys.TAB)
@@ -121,7 +188,7 @@ def test_by_keyboard_alone(page):
         order.append(shown.js(where)[0])
         assert shown.js(visible), order
     # Header, warnings, runways, blocked, next, filter, all: as they are read.
-    at = [order.index(name) for name in ("role", "b-what-if", "Picture", "b-theme", "EZY7", "KLM5", "seen", "BAW3", "RYR6", "flight", "runway", "op")]
+    at = [order.index(name) for name in ("role", "b-what-if", "b-picture", "b-theme", "EZY7", "KLM5", "seen", "BAW3", "RYR6", "flight", "runway", "op")]
     assert at == sorted(at), order
     shown.js("document.querySelector('#next tr[data-flight=DLH2] a').focus()")
     shown.keys(Keys.ENTER)
@@ -137,6 +204,71 @@ def test_by_keyboard_alone(page):
     shown.js("document.querySelector('.skip').focus()")
     shown.keys(Keys.ENTER)
     assert shown.js("return location.hash") == "#h-next"
+
+
+def test_a_panel_that_covers_the_page(page):
+    """On a narrow screen nothing below the panel has the focus, and a lost connection is said over it."""
+    shown = page()
+    size(shown.driver, 320, 640)
+    shown.open("#RYR6")
+    shown.says("#waits", "CLOSURE")
+    for _ in range(6):
+        shown.keys(Keys.TAB)
+        assert shown.js("const a = document.activeElement; return a === document.body || a.closest('#p-flight') !== null")
+    shown.allowed += ["ERR_CONNECTION_REFUSED", "ERR_INCOMPLETE_CHUNKED_ENCODING", "ERR_CONNECTION_RESET", "ERR_EMPTY_RESPONSE"]
+    shown.server.kill()
+    shown.says("#conn", "CONNECTION LOST")
+    seen = "const r = document.querySelector('#conn').getBoundingClientRect(); const at = document.elementFromPoint(r.left + 20, r.top + r.height / 2);" \
+        "return at !== null && at.closest('.conn') !== null"
+    assert shown.js(seen)
+    size(shown.driver, 1280, 900)
+    shown.until("return !document.querySelector('#next').inert && !document.querySelector('nav').inert")
+
+
+def test_in_print_and_in_forced_colours(page):
+    """Words and frames stay: the late one says so, warnings their kind, a closed cell that it is shut."""
+    shown = page().open()
+    words = lambda: (shown.row("next", "RYR6")[8], shown.texts("#warnings li")[0], "shut" in shown.text("#rw-09 + .scroll"))
+    try:
+        for media in ({"media": "print"}, {"media": "", "features": [{"name": "forced-colors", "value": "active"}]}):
+            shown.driver.execute_cdp_cmd("Emulation.setEmulatedMedia", media)
+            assert words() == ("late 28", "BLOCKED EZY7", True), media
+            assert shown.js("return parseFloat(getComputedStyle(document.querySelector('#warnings .BLOCKED')).borderLeftWidth)") >= 1
+        shown.driver.execute_cdp_cmd("Emulation.setEmulatedMedia", {"media": "print", "features": [{"name": "prefers-color-scheme", "value": "dark"}]})
+        assert shown.js("return getComputedStyle(document.querySelector('#next')).color") == "rgb(18, 23, 28)"
+    finally:
+        shown.driver.execute_cdp_cmd("Emulation.setEmulatedMedia", {"media": "", "features": []})
+
+
+def test_nothing_moves_by_itself(page):
+    shown = page().open()
+    shown.server.post("TOBT,DLH1,2025-03-10T06:20Z", Cdm_Role="AO")
+    shown.until("return document.querySelectorAll('#next tr.moved').length >= 2")
+    assert shown.js("return document.getAnimations().length") == 0
+    assert shown.js("return [...document.querySelectorAll('*')].every((e) => { const s = getComputedStyle(e); return s.animationName === 'none' && s.transitionDuration === '0s'; })")
+
+
+# From two metres: rem at 1280 and on a wall.
+SIZES = {".now time": (4, 5.25), "header dd": (2.375, 3.25), "#next .big b": (1.625, 2.125), "#next th a": (1.3125, 1.625), ".band h3": (1.375, 1.375),
+         "#next": (1.0625, 1.25), "body": (1, 1)}
+
+
+@pytest.mark.parametrize("width,root", [(1280, 16), (1920, 16), (3840, 32)])
+def test_type(page, width, root):
+    shown = page()
+    size(shown.driver, width, 1080)
+    shown.open()
+    sizes = shown.js("return arguments[0].map((s) => parseFloat(getComputedStyle(document.querySelector(s)).fontSize))", list(SIZES))
+    assert shown.js("return parseFloat(getComputedStyle(document.documentElement).fontSize)") == root
+    assert [found / root for found in sizes] == [wanted[width >= 1800] for wanted in SIZES.values()]
+    # Figures have one width; rows have one height, whatever is said in them.
+    assert "tabular-nums" in shown.js("return getComputedStyle(document.body).fontVariantNumeric")
+    heights = "return [...new Set([...document.querySelectorAll('#next tbody tr')].map((r) => Math.round(r.getBoundingClientRect().height)))]"
+    before = shown.js(heights)
+    shown.server.post("TOBT,DLH1,2025-03-10T06:20Z", Cdm_Role="AO")
+    shown.says('#next tr[data-flight="DLH2"] .why', "was 06:05: TOBT DLH1 06:20, AO ")
+    after = shown.js(heights)
+    assert max(before + after) - min(before + after) <= 2
 
 
 def test_a_row_isn_t_moved_under_a_finger(page):
@@ -175,7 +307,9 @@ def test_sizes(page, width, height):
         .filter((e) => e.checkVisibility() && e.innerText.trim()).map((e) => parseFloat(getComputedStyle(e).fontSize)).reduce((a, b) => Math.min(a, b))""")
     assert small >= (12 if width < 1920 else 12 * width / 1920)
     if width <= 700:
-        # Fingers: rows of 44 px, controls of 28 px at least.
+        # Fingers: rows of 44 px, controls of 40 px.
+        assert shown.js("""return [...document.querySelectorAll('button, .btn, input, select, .skip')].filter((e) => e.checkVisibility())
+            .filter((e) => e.getBoundingClientRect().height < 39.5).map((e) => e.outerHTML)""") == []
         assert shown.js("return Math.min(...[...document.querySelectorAll('#next tbody tr')].map((r) => r.getBoundingClientRect().height))") >= 44
         assert shown.texts("#next thead th") == ["TSAT", "Flight", "Rwy", "CTOT", "Delay"]
     shown.js("location.hash = '#RYR6'")
@@ -184,18 +318,35 @@ def test_sizes(page, width, height):
     assert shown.js("const r = document.querySelector('#p-flight').getBoundingClientRect(); return r.left >= 0 && r.right <= innerWidth + 1")
 
 
-def test_cells_hold_their_texts(page):
-    """The widest that may be there: no text runs into the next cell."""
-    names = ["WMM8888", "WWWW888", "MMM9999"]
+# The page's own, those that may stand in for it, and a wide one, in which times of the second day and delays of four digits may be cut.
+FONTS = ["", "Liberation Sans", "DejaVu Sans Condensed", "DejaVu Sans"]
+
+
+@pytest.mark.parametrize("width", [320, 700, 701, 861, 1100, 1219, 1220, 1280, 1899, 1900, 3840])
+def test_cells_hold_their_texts(page, width):
+    """The widest that may be there, in narrow and in wide fonts: no text runs into the next cell."""
+    names = ["WMM8888", "WWWW888", "MMM9999", "BAW70AC"]
     day = {"AP": [f"FLT,{name},5" for name in names] + [f"STAND,{name},WM888" for name in names], "ATC": [f"RWY,{name},27L" for name in names]
            + ["CLOSE,27L,2025-03-10T00:00Z,2025-03-11T22:00Z", "CLOCK,2025-03-10T05:50Z"], "AO": [f"TOBT,{name},2025-03-10T06:00Z" for name in names]}
-    day["AP"] += ["FLT,WWM8888,5"]
-    day["AO"] += ["CNL,WWM8888"]
+    day["AP"] += ["FLT,WWM8888,5", "FLT,WMW8888,5"]
+    day["ATC"] += ["RWY,WMW8888,27L"]
+    day["NM"] = ["CTOT,WMW8888,2025-03-11T12:00Z"]
+    day["AO"] += ["CNL,WWM8888", "TOBT,WMW8888,2025-03-11T11:00Z"]
     shown = page(day=day)
-    for width in (320, 1280, 3840):
-        size(shown.driver, width, 900)
-        shown.open()
-        shown.says("#all", "cancelled")
-        wide = shown.js("""return [...document.querySelectorAll('#next th, #next td, #all th, #all td, #blocked th, #blocked td')]
-            .filter((c) => c.checkVisibility() && c.scrollWidth > c.clientWidth + 1).map((c) => `${c.innerText} ${c.scrollWidth}/${c.clientWidth}`)""")
-        assert wide == [], width
+    size(shown.driver, width, 900)
+    shown.open()
+    shown.says("#all", "cancelled")
+    # One that just was placed and now is blocked says its rule and what it was; one in the next minutes its cause and what moved it.
+    shown.server.post("CTOT,WWWW888,2025-03-11T23:00Z", Cdm_Role="NM")
+    shown.server.post("CTOT,WWWW888,2025-03-10T12:00Z", Cdm_Role="NM")
+    shown.says('#all tr[data-flight="WWWW888"]', "CLOSURE")
+    for font in FONTS:
+        shown.js("document.documentElement.style.fontFamily = arguments[0] && `'${arguments[0]}'`", font)
+        wide = shown.js("""return [...document.querySelectorAll('#next th, #next td, #all th, #all td, #blocked td, .facts dd')]
+            .filter((c) => c.checkVisibility() && c.scrollWidth > c.clientWidth + 1 && !(c.matches('.moved td:nth-child(3)') && getComputedStyle(c).textOverflow === 'ellipsis'))
+            .filter((c) => arguments[0] !== 'DejaVu Sans' || !/^11 |\\d{4}$/.test(c.innerText)).map((c) => `${c.className} ${c.innerText} ${c.scrollWidth}/${c.clientWidth}`)""", font)
+        assert wide == [], font
+        # A name leaves a gap to the next column.
+        assert font == "DejaVu Sans" or shown.js("""return [...document.querySelectorAll('#next tbody th a, #all tbody th a, #blocked tbody th a')].filter((a) => a.checkVisibility())
+            .filter((a) => a.getBoundingClientRect().right > a.parentElement.getBoundingClientRect().right - 1).map((a) => a.textContent)""") == [], font
+        assert shown.js("return document.documentElement.scrollWidth") <= width, font

@@ -3,7 +3,7 @@ import hashlib
 import re
 import signal
 
-from browser import DAY, FACTOR, chromium, page, until  # noqa: F401
+from browser import DAY, FACTOR, until
 
 DESKS = {"ap": 'role = "AP"', "atc": 'role = "ATC"\nclock = true', "ao": 'role = "AO"', "nm": 'role = "NM"',
          "ground-2": 'role = "GH"', "dlh-ops": 'role = "AO"\nflights = ["DLH"]', "wall": 'role = "READ"'}
@@ -13,6 +13,7 @@ DENIED = ["401 (Unauthorized)", "403 (Forbidden)", "ERR_INCOMPLETE_CHUNKED_ENCOD
 
 
 def sign_in(shown, desk, token=None):
+    shown.until("return document.querySelector('#p-sign-in [name=desk]').checkVisibility()")
     shown.type("#p-sign-in [name=desk]", desk)
     shown.type("#p-sign-in [name=token]", token or f"token-{desk}")
     shown.click("#p-sign-in form button")
@@ -69,7 +70,8 @@ def test_a_token_that_is_taken_away(page):
     assert shown.text("#desk") == "wall" and not shown.find("#b-send").is_displayed()
 
 
-def test_a_new_token_ends_a_session_at_its_next_record(page):
+def test_a_new_token_ends_a_session_at_once(page):
+    """The server ends the display of the old token; the page comes back, isn't let in, and shows nothing of the day any more."""
     shown = page(DESKS, day=QUIET)
     shown.allowed += DENIED
     shown.open("#DLH2", ready=False)
@@ -80,11 +82,30 @@ def test_a_new_token_ends_a_session_at_its_next_record(page):
     digest = lambda token: hashlib.sha256(token.encode()).hexdigest()
     (shown.server.folder / "desks.toml").write_text(text.replace(digest("token-ground-2"), digest("another")))
     shown.server.process.send_signal(signal.SIGHUP)
-    until(lambda: shown.server.get("/v1/who", "ground-2").status == 401)
-    before = len(shown.server.records("wall"))
-    shown.click('#all tr[data-flight="DLH2"] a')
+    shown.says("#conn", "Signed out. ground-2’s token isn’t taken any more.", seconds=3 * FACTOR)
+    assert not shown.find("#all").is_displayed() and not shown.find("#p-flight").is_displayed()
+    sign_in(shown, "ground-2", "another")
+    shown.until("return document.querySelector('#desk').textContent === 'ground-2'")
+    assert shown.find("#all").is_displayed()
+
+
+def test_a_session_that_ended_is_told_at_its_next_record(page):
+    """Its twelve hours end while the page is open: the record isn't taken, and the page says so."""
+    shown = page(DESKS, day=QUIET)
+    shown.allowed += DENIED
+    shown.open(ready=False)
     shown.says("#conn", "Signed out.")
-    assert len(shown.server.records("wall")) == before
+    sign_in(shown, "ground-2")
+    shown.is_ready()
+    shown.click('#all tr[data-flight="DLH2"] a')
+    # All that is asked by itself has come.
+    shown.until("return document.querySelector('#f-later button') && document.querySelector('#f-records tr') && document.querySelector('#operators option')")
+    before = len(shown.server.records("wall"))
+    shown.type("#p-flight form [name=time]", "06:30")
+    shown.driver.execute_cdp_cmd("Network.clearBrowserCookies", {})
+    shown.click("#p-flight form button")
+    shown.says("#conn", "Signed out. ground-2’s token isn’t taken any more.")
+    assert len(shown.server.records("wall")) == before and not shown.find("#all").is_displayed()
 
 
 def test_who_may_read_without_a_token(page):

@@ -18,8 +18,8 @@ QUICK = "fsync = off"
 ENVIRONMENT = dict(os.environ, CDMSEQ=PROGRAM)
 
 
-def cdmboard(*words):
-    return subprocess.run([str(ROOT / "cdmboard"), *map(str, words)], env=ENVIRONMENT, capture_output=True, text=True, timeout=60)
+def cdmboard(*words, **environment):
+    return subprocess.run([str(ROOT / "cdmboard"), *map(str, words)], env=ENVIRONMENT | environment, capture_output=True, text=True, timeout=60)
 
 
 @pytest.fixture(scope="module")
@@ -119,6 +119,11 @@ def test_another_server_of_another_airport_or_program_is_refused(board, primary,
     (tmp_path / "airport.csv").write_text(AIRPORT + "RUNWAY,36,10,2\n")
     ended = cdmboard(tmp_path / "airport.csv", primary.url())
     assert ended.returncode == 3 and "another airport file" in ended.stderr
+    program = tmp_path / "program"
+    program.write_text("#!/bin/sh\necho cdmseq 0.0.1\n")
+    program.chmod(0o755)
+    ended = cdmboard(server.airport, primary.url(), CDMSEQ=str(program))
+    assert ended.returncode == 3 and "another program" in ended.stderr
     assert board(log=primary.url()).records() == [record | {"changes": None} for record in server.records()]
 
 
@@ -292,28 +297,40 @@ def test_no_timeout_cancels_a_commit(board):
         began = time.monotonic()
         with concurrent.futures.ThreadPoolExecutor(2) as pool:
             answers = [pool.submit(server.post, ["FLT,AB2,5"], None, "k", Cdm_Role="AP") for server in (one, two)]
-            assert [answer.result().status for answer in answers] == [504, 504] and 15 < time.monotonic() - began < 29
-        until(lambda: one.post(["FLT,AB3,5"], Cdm_Role="AP", key="other").status == 503)
-        # Each server has one commit that waits, and reads that don't.
-        assert primary.sql("SELECT count(*) FROM pg_stat_activity WHERE usename = 'cdm' AND wait_event IN ('SyncRep', 'advisory')") == "2"
+            assert [answer.result().status for answer in answers] == [504, 504] and time.monotonic() - began > 4
+        # A new link is made, and on it reads are answered again, but no record is taken behind the commit that waits.
+        for server in (one, two):
+            until(lambda: "Cdm-Stale-Since" not in server.get("/v1/plan").headers, 30)
+            assert len(server.records()) == 1 and server.post(["FLT,AB3,5"], Cdm_Role="AP", key="other").status == 503
+        # Each server has one commit that waits.
+        until(lambda: primary.sql("SELECT count(*) FROM pg_stat_activity WHERE usename = 'cdm' AND wait_event IN ('SyncRep', 'advisory')") == "2")
         assert primary.sql("SELECT count(*) FROM cdm_record") == "1"
-        assert len(one.records()) == len(two.records()) == 1 and "Cdm-Stale-Since" not in one.get("/v1/plan").headers
         # After a start of its own the primary has the record, and still not the standby.
         primary.kill()
         primary.start()
-        until(lambda: len(one.records()) == len(two.records()) == 2, 20)
+        until(lambda: len(one.records()) == len(two.records()) == 2, 30)
         with concurrent.futures.ThreadPoolExecutor(1) as pool:
             answer = pool.submit(one.post, ["FLT,AB2,5"], None, "k", Cdm_Role="AP")
             with pytest.raises(concurrent.futures.TimeoutError):
                 answer.result(4)
             standby.start()
-            assert [reply["position"] for reply in answer.result(20)] == [2]
-        assert two.post(["FLT,AB2,5"], Cdm_Role="AP", key="k")[0]["position"] == 2
+            answer.result()
+        for server in (one, two):
+            until(lambda: [reply["position"] for reply in taken(server, "FLT,AB2,5", "k")] == [2], 30)
         assert standby.sql("SELECT position, line FROM cdm_record ORDER BY position") == "1|FLT,AB1,5\n2|FLT,AB2,5"
 
 
-def test_a_commit_that_somebody_cancels_is_not_known(board):
-    """The database counts it as done without the standby, and only warns: 504, not a reply."""
+def taken(server, line, key):
+    """The replies to a record; none yet where it has to be sent again."""
+    answer = server.post([line], Cdm_Role="AP", key=key)
+    assert isinstance(answer, list) or answer.status in (503, 504)
+    return answer if isinstance(answer, list) else []
+
+
+@pytest.mark.parametrize("how", ["cancel", "terminate"])
+def test_a_commit_whose_answer_is_lost_is_not_known(board, how):
+    """A database that cancels it counts it as done without the standby, and only warns; one that ends its connection says nothing. The desk
+    gets 504, not a reply; then, with the same key, the position that the record has."""
     with clusters.clusters(True, QUICK) as (primary, standby):
         server = board(log=primary.url())
         assert server.post(["FLT,AB1,5"], Cdm_Role="AP")[0]["position"] == 1
@@ -322,9 +339,13 @@ def test_a_commit_that_somebody_cancels_is_not_known(board):
             answer = pool.submit(server.post, ["FLT,AB2,5"], None, "k", Cdm_Role="AP")
             waiting = "FROM pg_stat_activity WHERE usename = 'cdm' AND wait_event = 'SyncRep'"
             until(lambda: primary.sql(f"SELECT count(*) {waiting}") == "1")
-            primary.sql(f"SELECT pg_cancel_backend(pid) {waiting}")
+            primary.sql(f"SELECT pg_{how}_backend(pid) {waiting}")
             assert answer.result().status == 504
-        assert "canceling" in server.told() or "cancel" in server.told()
+        assert how != "cancel" or "cancel" in server.told()
+        standby.start()
+        until(lambda: [reply["position"] for reply in taken(server, "FLT,AB2,5", "k")] == [2], 30)
+        assert [record["line"] for record in server.records()] == ["FLT,AB1,5", "FLT,AB2,5"]
+        assert standby.sql("SELECT position, line FROM cdm_record ORDER BY position") == "1|FLT,AB1,5\n2|FLT,AB2,5"
 
 
 def test_a_database_of_the_past_is_not_used(board):

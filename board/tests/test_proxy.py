@@ -12,7 +12,7 @@ import urllib.error
 import urllib.request
 
 import pytest
-from conftest import ROOT, certificates, objects, until
+from conftest import FACTOR, ROOT, certificates, objects, until
 
 DESKS = {"ap": 'role = "AP"', "screen": 'role = "READ"'}
 NGINX = shutil.which("nginx", path="/usr/sbin:/usr/bin")
@@ -75,7 +75,7 @@ def test_the_site_of_the_page(site):
         site("/v1/records", b"FLT,AB3,5", "ap").read()
         while not (line := events.readline()).startswith(b"data: "):
             pass
-        assert b"AB3" in line and time.monotonic() - began < 8
+        assert b"AB3" in line and time.monotonic() - began < 8 * FACTOR
     assert site("/v1/plan", desk="nobody", X_Forwarded_For="10.6.6.6").status == 401
     assert " 127.0.0.1 - '/v1/plan' 401" in site.server.told() and "10.6.6.6" not in site.server.told()
     assert site("/v1/what-if", b"A" * 66_000, "ap").status == 413

@@ -11,7 +11,7 @@ import time
 import urllib.request
 
 import pytest
-from conftest import AIRPORT, PROGRAM, ROOT, certificates, figure, moment, objects, until
+from conftest import AIRPORT, FACTOR, PROGRAM, ROOT, certificates, figure, moment, objects, until
 
 ENVIRONMENT = dict(os.environ, CDMSEQ=PROGRAM)
 DESKS = {"ap": 'role = "AP"', "screen": 'role = "READ"'}
@@ -104,7 +104,7 @@ def test_an_end_answers_what_waits(board):
         os.kill(sequencer, signal.SIGSTOP)
         posts = [pool.submit(server.post, [f"FLT,F{number}X{line},5" for line in range(100)], None, f"k{number}", Cdm_Role=role)
                  for number, role in enumerate(("AP", "AO", "GH", "NM", "ATC"))]
-        time.sleep(0.5)
+        time.sleep(0.5 * FACTOR)
         server.process.send_signal(signal.SIGTERM)
         time.sleep(0.3)
         assert server.post(["FLT,LATE,5"], Cdm_Role="AP").status == 503
@@ -183,8 +183,8 @@ def test_the_clock_is_taken(board):
     time.sleep(0.5)
     assert len({record["line"] for record in server.records()}) == len(server.records()) <= 2
     other = board(options=["--clock"])
-    time.sleep(0.5)
-    assert other.records() == [] and other.told().count("outside the two days") == 1
+    until(lambda: other.told().count("outside the two days") == 1)
+    assert other.records() == []
 
 
 def test_sealed_by_tls(board):
@@ -206,14 +206,14 @@ def test_sealed_by_tls(board):
     for kind in ("crt", "key"):
         (server.folder / f"used.{kind}").write_bytes((server.folder / f"two.{kind}").read_bytes())
     server.process.send_signal(signal.SIGHUP)
-    time.sleep(0.3)
+    time.sleep(0.3 * FACTOR)
     assert "Secure" in talk("two")
-    silent.settimeout(15)
+    silent.settimeout(10 + 5 * FACTOR)
     try:
         assert silent.recv(1) == b""
     except ConnectionError:
         pass
-    assert 9 < time.monotonic() - began < 14
+    assert 9 < time.monotonic() - began < 10 + 4 * FACTOR
     silent.close()
 
 

@@ -5,7 +5,7 @@ import socket
 import threading
 import time
 
-from conftest import count, figure, moment
+from conftest import count, figure, moment, until
 
 SECONDS = count("BOARD_FLOOD_SECONDS", 10)
 HEAD = b"Host: localhost\r\nAuthorization: Bearer token-gh\r\n"
@@ -69,7 +69,8 @@ def test_the_tower_is_answered(board):
         memory = max(memory, server.memory())
         if not asked and time.monotonic() > end - SECONDS / 2:
             began = time.monotonic()
-            assert server.get("/v1/plan.json", "atc").status == 200
+            # On a busy machine the program, which is asked at nice 10, may take longer than a server waits for it.
+            until(lambda: server.get("/v1/plan.json", "atc").status == 200, 30)
             asked = time.monotonic() - began
         time.sleep(0.05)
     statuses = told.get(timeout=60)

@@ -7,7 +7,7 @@ import socket
 import time
 
 import pytest
-from conftest import PROGRAM, ROOT, has, moment, objects, until
+from conftest import FACTOR, PROGRAM, ROOT, has, moment, objects, until
 
 DESKS = {"gh": 'role = "GH"', "ap": 'role = "AP"', "screen": 'role = "READ"'}
 
@@ -17,7 +17,7 @@ class Display:
 
     def __init__(self, server, desk=None, query="", last=None):
         self.own = socket.create_connection(("127.0.0.1", server.port))
-        self.own.settimeout(5)
+        self.own.settimeout(5 * FACTOR)
         head = f"GET /v1/events{query} HTTP/1.1\r\nHost: localhost\r\n"
         head += f"Authorization: Bearer token-{desk}\r\n" if desk else ""
         self.own.sendall((head + (f"Last-Event-ID: {last}\r\n" if last else "") + "\r\n").encode())
@@ -27,15 +27,18 @@ class Display:
             pass
 
     def ends(self):
-        """Whether the server ends it."""
-        try:
-            while self.file.read1(65536):
+        """Whether the server ends it soon."""
+        end = time.monotonic() + 3 * FACTOR
+        self.own.settimeout(0.2)
+        while time.monotonic() < end:
+            try:
+                if not self.own.recv(65536):
+                    return True
+            except TimeoutError:
                 pass
-        except TimeoutError:
-            return False
-        except ConnectionError:
-            pass
-        return True
+            except ConnectionError:
+                return True
+        return False
 
 
 def events(server, count, **words):
@@ -190,12 +193,11 @@ def test_one_running_question_a_desk_and_equal_ones_once(board):
         until(lambda: running() >= 1)
         most = max((running(), time.sleep(0.05))[0] for _ in range(8))
         statuses = [answer.result().status for answer in asked]
-        began = time.monotonic()
         assert {answer.result().status for answer in same} == {200} and most <= 2
     assert statuses.count(429) >= 1 and statuses.count(200) == 40 - statuses.count(429) >= 16, statuses
     # Asked again at the same moment it is there already.
     began = time.monotonic()
-    assert server.get("/v1/why/AB0", "screen").status == 200 and time.monotonic() - began < 0.3
+    assert server.get("/v1/why/AB0", "screen").status == 200 and time.monotonic() - began < 0.3 * FACTOR
 
 
 def test_a_question_that_takes_too_long_is_ended(board):
@@ -205,7 +207,7 @@ def test_a_question_that_takes_too_long_is_ended(board):
     (server.folder / "slow").chmod(0o755)
     server.start()
     began = time.monotonic()
-    assert server.get("/v1/why/AB1").status == 504 and 9 < time.monotonic() - began < 13
+    assert server.get("/v1/why/AB1").status == 504 and 9 < time.monotonic() - began < 10 + 3 * FACTOR
     assert not any("sleep" in words for words in server.processes().values())
 
 
