@@ -1,4 +1,4 @@
-"""The completions for bash: the program's, made from its helps, and the board server's, made from the program's manual."""
+"""The completions for bash: for the program, from its help texts, and for the board server, from the program's manual."""
 import re
 
 from tools.manual_page import board_parts
@@ -38,7 +38,7 @@ complete -F _cdmseq cdmseq
 
 
 def completion(program):
-    """The completion as a script of bash."""
+    """The program's completion as a bash script."""
     names, of_commands, of_values = list(commands(program)), [], []
     for name in names:
         found = options(program, name)
@@ -67,7 +67,7 @@ complete -F _cdmboard cdmboard
 
 
 def board_completion(program):
-    """The board server's completion as a script of bash."""
+    """The board server's completion as a bash script."""
     usage = "\n".join(board_parts(program)[1])
     names = re.findall(r"^cdmboard ([a-z]+)", usage, re.M)
     return BOARD_TEXT % {"commands": " ".join(names), "options": " ".join(sorted({*re.findall("--[a-z-]+", usage), "--help"}))}

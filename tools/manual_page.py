@@ -1,4 +1,4 @@
-"""The manual pages of the program and of the board server, made from the program's manual and its helps."""
+"""The manual pages of the program and of the board server, made from the program's manual and help texts."""
 import re
 
 from tools.program import commands, printed
@@ -8,25 +8,25 @@ ESCAPES = {"\\": r"\e", "-": r"\-", "'": r"\(aq", "`": r"\(ga", "^": r"\(ha", "~
 
 
 def escaped(line):
-    """A line as roff prints it: each byte as it is."""
+    """A line, escaped so that roff prints each byte as it is."""
     text = "".join(ESCAPES.get(letter, letter) for letter in line)
     return rf"\&{text}" if text.startswith((".", "'", r"\(aq")) else text
 
 
 def shown(lines, indent=2):
-    """Lines that are printed as they are, without the blank ones round them."""
+    """Lines that are printed as they are, without blank lines before and after them."""
     text = "\n".join(lines).strip("\n").splitlines()
     return [".nf", f".in {indent}n", *(escaped(line.rstrip()) for line in text), ".in", ".fi"]
 
 
 def sections(manual):
-    """The sections of the manual, each by its heading: a line in capitals that begins at the margin."""
+    """The sections of the manual, each with its heading, which is a line in capitals without indentation."""
     parts = re.split(r"^([A-Z][A-Z ]+)$", manual, flags=re.M)
     return zip(parts[1::2], parts[2::2])
 
 
 def unindented(text):
-    """Text without the two spaces before most lines; lines at the margin, which are examples of files, stay there."""
+    """The lines of a text without the two spaces before most of them; the others are examples of files."""
     return [line.removeprefix("  ") for line in text.splitlines()]
 
 
@@ -37,12 +37,12 @@ def beginning(name, what, version, day):
 
 
 def ending(other):
-    """The end of a page, which names the other page."""
+    """The end of a page, which refers to the other page."""
     return [".SH SEE ALSO", rf".BR {other} (1).", "The pages and the worked days are in", ".IR /usr/share/doc/cdmseq ."]
 
 
 def manual_page(program, version, day):
-    """The page of the program as roff: all of its manual but the section on the board, and its helps."""
+    """The page of the program as roff: its manual except the section on the board, and its help texts."""
     helps = {name: printed(program, name, "--help") for name in commands(program)}
     page = [
         *beginning("cdmseq", "pre-departure sequencer for Airport CDM", version, day),
@@ -60,14 +60,14 @@ def manual_page(program, version, day):
 
 
 def board_page(program, version, day):
-    """The page of the board server as roff: the section on the board of the program's manual."""
+    """The page of the board server as roff: the section on the board in the program's manual."""
     about, usage, words = board_parts(program)
     page = [*beginning("cdmboard", "board server of cdmseq, over HTTP", version, day), *shown(usage), ".SH DESCRIPTION", *shown(about)]
     return "\n".join([*page, ".SH ARGUMENTS, OPTIONS AND COMMANDS", *shown(words), *ending("cdmseq")]) + "\n"
 
 
 def board_parts(program):
-    """The section on the board in its three parts: what it is, how it is called, and what its words mean."""
+    """The section on the board in its three parts: the description, the usage, and the meaning of the arguments."""
     text = "\n".join(unindented(dict(sections(printed(program, "manual")))[BOARD]))
     about, usage, words = re.split(r"\n\n(?=  cdmboard|LOG )", text.strip("\n"))
     return [part.splitlines() for part in (about, re.sub("^  ", "", usage, flags=re.M), words)]
