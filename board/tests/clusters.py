@@ -54,6 +54,14 @@ def free_port():
             return port
 
 
+def state(process):
+    """The state of a process and its parent; X where there is none."""
+    try:
+        return pathlib.Path(f"/proc/{process}/stat").read_text().rpartition(")")[2].split()[:2]
+    except OSError:
+        return ["X"]
+
+
 class Cluster:
     """One cluster, in a folder of its own."""
 
@@ -98,18 +106,19 @@ max_wal_senders = 4\ndynamic_shared_memory_type = mmap\nmax_connections = 100\nw
         return (self.data.parent / f"{self.name}.log").read_text()
 
     def kill(self):
-        """KILL to each of its processes, as a power cut would end them."""
-        own = str(self.process.pid)
-        children = []
-        for path in pathlib.Path("/proc").glob("[0-9]*/stat"):
-            with contextlib.suppress(OSError):
-                if path.read_text().rpartition(")")[2].split()[1] == own:
-                    children.append(int(path.parent.name))
-        self.process.kill()
-        for child in children:
+        """KILL to each of its processes, as a power cut would end them. All are gone then: one that is left keeps the next start away."""
+        own, end = self.process.pid, time.monotonic() + 30
+        self.process.send_signal(signal.SIGSTOP)  # So that it makes no more.
+        while state(own)[0] not in "TZX":
+            time.sleep(0.001)
+        every = [own, *(int(path.name) for path in pathlib.Path("/proc").glob("[0-9]*") if state(path.name)[1:2] == [str(own)])]
+        for process in every:
             with contextlib.suppress(ProcessLookupError):
-                os.kill(child, signal.SIGKILL)
+                os.kill(process, signal.SIGKILL)
         self.process.wait()
+        while any(state(process)[0] not in "ZX" for process in every):
+            assert time.monotonic() < end, "a process that was killed is still there"
+            time.sleep(0.01)
 
     def stop(self):
         if self.process is not None and self.process.poll() is None:
