@@ -341,7 +341,7 @@ def test_a_commit_whose_answer_is_lost_is_not_known(board, how):
             until(lambda: primary.sql(f"SELECT count(*) {waiting}") == "1")
             primary.sql(f"SELECT pg_{how}_backend(pid) {waiting}")
             assert answer.result().status == 504
-        assert how != "cancel" or "cancel" in server.told()
+        until(lambda: how != "cancel" or "cancel" in server.told())
         standby.start()
         until(lambda: [reply["position"] for reply in taken(server, "FLT,AB2,5", "k")] == [2], 30)
         assert [record["line"] for record in server.records()] == ["FLT,AB1,5", "FLT,AB2,5"]
