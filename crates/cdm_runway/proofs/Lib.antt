@@ -3,3 +3,4 @@ pub mod LoadLemmas
 pub mod IntervalLemmas
 pub mod RangeLemmas
 pub mod RulesLemmas
+pub mod PassedLemmas

@@ -8,7 +8,9 @@
 
 mod intervals;
 mod load;
+mod passed;
 mod runway;
 
 pub use load::{Blocked, MOST_FLIGHTS, RunwayLoad, Taken};
+pub use passed::PassedOver;
 pub use runway::{Runway, RunwayFault};

@@ -1,8 +1,9 @@
 //! The minutes that are taken on a runway.
-ghost use Rattle.std.specs.Prelude.{◌≡◌, ℕ, ◌+◌, ◌-◌, ◌<◌, ◌≤◌, ◌/◌, ◌++◌, [], ◌∷◌, length, max, min, slice_index, MatchOption};
+ghost use Rattle.std.specs.Prelude.{◌≡◌, ℕ, ◌+◌, ◌-◌, ◌<◌, ◌≤◌, ◌/◌, ◌++◌, [], ◌∷◌, length, max, min, slice_index, Err, MatchOption};
 ghost use Rattle.cdm_runway.specs.inner.Tally.{EndsBy, IsReach};
 
-use crate::Runway;
+use crate::passed::{Passed, Stretch};
+use crate::{PassedOver, Runway};
 use cdm_flight::{CellLength, Group, Occupancy};
 use cdm_time::{HORIZON_MINUTES, Minute, Window};
 use std::marker::Model;
@@ -105,6 +106,8 @@ fn no_counts() -> [u16; MOST_CELLS]
 
 impl RunwayLoad {
     ghost use Rattle.cdm_runway.specs.Room.{held_in_cell, taken_by, Gives, IsSpaced};
+    ghost use Rattle.cdm_runway.specs.Passed.{ArePassed, IsPassed, NoneFree, NoneSpaced};
+    ghost use Rattle.cdm_runway.specs.inner.Search.{IsFirstFree, IsFirstSpaced};
 
     /// A load of the runway's cells with no minute taken.
     pub fn empty(runway: &Runway) -> RunwayLoad
@@ -158,6 +161,97 @@ impl RunwayLoad {
         reach_beyond(&self.longest, minute, occupancy)
     }
 
+    // The first minute from one up to another at which the runway is open and a flight of the group
+    // meets no other one.
+    fn first_spaced(
+        &self,
+        runway: &Runway,
+        group: Group,
+        from: u16,
+        end: u16,
+        met: Stretch,
+    ) -> Option<Minute>
+        requires within { end ≤ 2880 }
+        requires met { NoneSpaced runway.now self.now.taken group met.from met.to }
+        ensures { MatchOption result (NoneSpaced runway.now self.now.taken group from end)
+            (IsFirstSpaced runway.now self.now.taken group from end) }
+    {
+        let mut number = met.past(from);
+        while let Some(minute) = runway.first_open(number, end) {
+            let Some(free) = self.met_until(runway, minute, group) else {
+                return Some(minute);
+            };
+            number = met.past(free);
+        }
+        None
+    }
+
+    // The first of them whose cell has taken fewer flights than it may.
+    fn first_free(
+        &self,
+        runway: &Runway,
+        group: Group,
+        from: u16,
+        end: u16,
+        passed: Passed,
+    ) -> Option<Minute>
+        requires cell { self.now.cell ≡ runway.now.cell }
+        requires within { end ≤ 2880 }
+        requires passed { IsPassed runway.now self.now.taken group passed }
+        ensures { MatchOption result (NoneFree runway.now self.now.taken group from end)
+            (IsFirstFree runway.now self.now.taken group from end) }
+    {
+        let mut number = passed.unfree.past(from);
+        while let Some(minute) = self.first_spaced(runway, group, number, end, passed.met) {
+            if self.held(minute) < runway.cap_at(minute).get() {
+                return Some(minute);
+            }
+            number = passed.unfree.past(next_cell(minute, self.cell));
+        }
+        None
+    }
+
+    // Why a window has no minute for a flight of the group.
+    fn reason(&self, runway: &Runway, window: Window, group: Group, met: &mut Stretch) -> Blocked
+        requires none { NoneFree runway.now self.now.taken group window.start window.end }
+        requires met { NoneSpaced runway.now self.now.taken group met.old.from met.old.to }
+        ensures reason { Gives runway.now self.now.taken group window.start window.end (Err result) }
+        ensures met { NoneSpaced runway.now self.now.taken group met.new.from met.new.to }
+    {
+        let (from, end) = (window.from().get(), window.to().get());
+        let Some(minute) = self.first_spaced(runway, group, from, end, *met) else {
+            *met = met.joined(from, end);
+            return match runway.first_open(from, end) {
+                Some(_) => Blocked::Spacing,
+                None => Blocked::Closure,
+            };
+        };
+        *met = met.joined(from, minute.get());
+        Blocked::Rate
+    }
+
+    // The earliest minute of the window for a flight of the group, with what was passed over for it.
+    fn earliest_of_group(
+        &self,
+        runway: &Runway,
+        window: Window,
+        group: Group,
+        passed: &mut Passed,
+    ) -> Result<Minute, Blocked>
+        requires cell { self.now.cell ≡ runway.now.cell }
+        requires passed { IsPassed runway.now self.now.taken group passed.old }
+        ensures gives { Gives runway.now self.now.taken group window.start window.end result }
+        ensures passed { IsPassed runway.now self.now.taken group passed.new }
+    {
+        let (from, end) = (window.from().get(), window.to().get());
+        let Some(minute) = self.first_free(runway, group, from, end, *passed) else {
+            passed.unfree = passed.unfree.joined(from, end);
+            return Err(self.reason(runway, window, group, &mut passed.met));
+        };
+        passed.unfree = passed.unfree.joined(from, minute.get());
+        Ok(minute)
+    }
+
     /// The earliest minute of the window at which the runway is open, a flight of the group meets no
     /// other one, and the cell has taken fewer flights than it may; else the first of the three
     /// reasons for which there is none.
@@ -165,32 +259,26 @@ impl RunwayLoad {
         requires { self.now.cell ≡ runway.now.cell }
         ensures { Gives runway.now self.now.taken group window.start window.end result }
     {
-        let end = window.to().get();
-        let mut number = window.from().get();
-        let (mut some_open, mut some_spaced) = (false, false);
-        while number < end {
-            let minute = Minute::at(number);
-            if let Some(opening) = runway.closed_until(minute) {
-                number = opening;
-                continue;
-            }
-            some_open = true;
-            if let Some(free) = self.met_until(runway, minute, group) {
-                number = free;
-                continue;
-            }
-            some_spaced = true;
-            if self.held(minute) < runway.cap_at(minute).get() {
-                return Ok(minute);
-            }
-            number = next_cell(minute, self.cell);
-        }
-        if some_spaced {
-            Err(Blocked::Rate)
-        } else if some_open {
-            Err(Blocked::Spacing)
-        } else {
-            Err(Blocked::Closure)
-        }
+        self.earliest_past(runway, window, group, &mut PassedOver::none())
+    }
+
+    /// The same where searches have passed over some minutes. It visits none of these, and adds those
+    /// that it passes over itself. All of them stay so, whatever minutes are taken.
+    pub fn earliest_past(
+        &self,
+        runway: &Runway,
+        window: Window,
+        group: Group,
+        passed: &mut PassedOver,
+    ) -> Result<Minute, Blocked>
+        requires cell { self.now.cell ≡ runway.now.cell }
+        requires passed { ArePassed runway.now self.now.taken passed.old }
+        ensures gives { Gives runway.now self.now.taken group window.start window.end result }
+        ensures passed { ArePassed runway.now self.now.taken passed.new }
+    {
+        let mut of_group = passed.of(group);
+        let outcome = self.earliest_of_group(runway, window, group, &mut of_group);
+        passed.set(group, of_group);
+        outcome
     }
 }

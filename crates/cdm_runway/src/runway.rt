@@ -58,6 +58,7 @@ impl Model for Runway {
 impl Runway {
     ghost use Rattle.cdm_runway.specs.Rules.{plain_rules, is_rate_window, with_rate, with_closed};
     ghost use Rattle.cdm_runway.specs.Room.{cap_at, is_closed, AllClosed};
+    ghost use Rattle.cdm_runway.specs.inner.Search.{IsFirstOpen};
 
     /// A runway with one capacity everywhere, no closure, and no minute of occupancy for any group.
     pub fn new(
@@ -132,6 +133,22 @@ impl Runway {
         } else {
             None
         }
+    }
+
+    // The first minute from one up to another at which the runway is open.
+    pub(crate) fn first_open(&self, from: u16, end: u16) -> Option<Minute>
+        requires { end ≤ 2880 }
+        ensures { MatchOption result (AllClosed self.now from end) (IsFirstOpen self.now from end) }
+    {
+        let mut number = from;
+        while number < end {
+            let minute = Minute::at(number);
+            let Some(opening) = self.closed_until(minute) else {
+                return Some(minute);
+            };
+            number = opening;
+        }
+        None
     }
 
     /// Whether the window has a minute and cuts no cell, so that a rate may be set for it.

@@ -2,13 +2,14 @@
 ghost use Rattle.std.specs.Prelude.{◌≡◌, ◌+◌, ◌<◌, ◌≤◌, ◌++◌, length, map, IfOk, IsPermutation, IsSortedByKey};
 ghost use Rattle.std.specs.Option.{option_to_list};
 ghost use Rattle.cdm_flight.specs.Order.{key_cmp};
+ghost use Rattle.cdm_runway.specs.Passed.{ArePassed};
 ghost use Rattle.cdm_sequence.specs.Fixed.{takeoffs};
 ghost use Rattle.cdm_sequence.specs.inner.Turns.{taken_in, IsDecided, AreDecided};
 
 use crate::decision::Decision;
 use crate::{Slot, Target};
 use cdm_flight::push_last;
-use cdm_runway::{Runway, RunwayLoad};
+use cdm_runway::{PassedOver, Runway, RunwayLoad};
 use std::alloc::{AllocError, Global};
 
 /// The targets in the order of sequence.
@@ -34,14 +35,21 @@ pub(crate) fn load_of(runway: &Runway, fixed: &[Slot]) -> RunwayLoad
 }
 
 // One flight's turn.
-fn decide(runway: &Runway, load: &mut RunwayLoad, target: &Target) -> Decision
+fn decide(
+    runway: &Runway,
+    load: &mut RunwayLoad,
+    passed: &mut PassedOver,
+    target: &Target,
+) -> Decision
     requires cell { load.old.cell ≡ runway.now.cell }
     requires room { length load.old.taken < 2000 }
+    requires passed { ArePassed runway.now load.old.taken passed.old }
     ensures target { result.target ≡ target.now }
     ensures decided { IsDecided runway.now load.old.taken result }
     ensures taken { load.new ≡ record load.old { taken = load.old.taken ++ option_to_list (taken_in runway.now result) } }
+    ensures passed { ArePassed runway.now load.new.taken passed.new }
 {
-    let outcome = load.earliest(runway, target.window, target.group);
+    let outcome = load.earliest_past(runway, target.window, target.group, passed);
     if let Ok(minute) = outcome {
         load.take(runway, minute, target.group);
     }
@@ -64,8 +72,9 @@ pub(crate) fn decide_all(
     ensures decided { IfOk result (λ ds. AreDecided runway.now load.taken ds.items) }
 {
     let mut decisions = Vec::new(alloc);
+    let mut passed = PassedOver::none();
     for target in targets {
-        let decision = decide(runway, &mut load, target);
+        let decision = decide(runway, &mut load, &mut passed, target);
         push_last(&mut decisions, decision)?;
     }
     Ok(decisions)

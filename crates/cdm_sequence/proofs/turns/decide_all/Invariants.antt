@@ -1,5 +1,6 @@
 use Rattle.std.proofs.Common.{◌≡◌, ◌≤◌, ◌+◌, ◌++◌, take, map, length}
 use Rattle.std.specs.List.{filter_map}
+use Rattle.cdm_runway.specs.Passed.{ArePassed}
 use Rattle.cdm_sequence.specs.inner.Turns.{taken_in, AreDecided}
 use Rattle.cdm_sequence.proofs.turns.decide_all.Given as goal
 
@@ -9,5 +10,6 @@ invariant-loop-target l = record {
   room : length l.load.taken ≤ length l.fn.load.taken + l.target-index;
   targets : map (λ d. d.target) l.decisions.items ≡ take l.target-index l.targets;
   taken : l.load.taken ≡ l.fn.load.taken ++ filter_map (taken_in l.runway) l.decisions.items;
+  passed : ArePassed l.runway l.load.taken l.passed;
   decided : AreDecided l.runway l.fn.load.taken l.decisions.items;
 }
