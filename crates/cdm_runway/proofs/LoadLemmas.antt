@@ -1,5 +1,5 @@
 -- What a load keeps of the minutes that were taken, and whom a flight meets.
-use Rattle.std.proofs.Common.{◌≡◌, ◌≢◌, ◌⊎◌, ℕ, ◌+◌, ◌-◌, ◌<◌, ◌≤◌, max, min, Bool, true, false, MatchBool, MatchOption, Option, None, Some, List, [], ◌∷◌, ◌++◌, length, set, get_or, subst, sym, ap, ◌∙◌, inl, inr, arith}
+use Rattle.std.proofs.Common.{◌≡◌, ◌≢◌, ◌⊎◌, ℕ, ◌+◌, ◌-◌, ◌<◌, ◌≤◌, max, min, false, MatchOption, Option, None, Some, List, [], ◌∷◌, ◌++◌, length, set, get_or, subst, sym, ap, ◌∙◌, inl, inr, arith}
 use Rattle.std.specs.Prelude.{slice_index}
 use Rattle.std.specs.List.{Contains}
 use Rattle.std.proofs.lemmas.Bool.Decides.{nat_tests}
@@ -95,8 +95,3 @@ module _ (r : RunwayRules) (taken : List Taken) (longest : List ℕ) (group : Gr
       → MatchOption found (IsSpaced r taken group m) (λ end. (m < end) × ((k : ℕ) → m ≤ k → k < end → IsSpaced r taken group k → ⊥))
   met_either some None ends = met_none ends
   met_either some (Some end) reach = met_one end some reach
-
--- what holds without a flag may be more
-pub unless_more : (P Q R : Type 0) (b : Bool) → (Q → R) → MatchBool b P Q → MatchBool b P R
-unless_more P Q R true more h = h
-unless_more P Q R false more h = more h

@@ -1,6 +1,6 @@
 //! The minutes that searches for a free minute passed over, so that the next search need not
 //! visit them again.
-ghost use Rattle.std.specs.Prelude.{◌≡◌, ◌⊎◌, ℕ, ◌≤◌, ◌<◌, if◌then◌else◌};
+ghost use Rattle.std.specs.Prelude.{◌≡◌, ◌⊎◌, ℕ, ◌≤◌, ◌<◌};
 
 use cdm_flight::Group;
 
