@@ -1,4 +1,5 @@
 pub mod ListLemmas
+mod EarlierLemmas
 pub mod RangeLemmas
 pub mod LoadLemmas
 pub mod ReasonLemmas

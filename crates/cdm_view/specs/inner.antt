@@ -3,3 +3,4 @@ pub mod Known
 pub mod Parts
 pub mod Passed
 pub mod Left
+pub mod Earlier

@@ -1,9 +1,11 @@
 //! What holds a flight apart from the clock.
 ghost use Rattle.std.specs.Prelude.{◌≡◌, length};
 ghost use Rattle.cdm_view.specs.Causes.{cause_at};
-ghost use Rattle.cdm_view.specs.Reasons.{held_at, met_at};
+ghost use Rattle.cdm_view.specs.inner.Earlier.{met_among};
+ghost use Rattle.cdm_view.specs.Reasons.{met_at};
 
 use crate::waiting::Waiting;
+use cdm_sequence::Slot;
 use cdm_time::Minute;
 
 /// What holds a planned flight at a minute, in the order in which it is asked (local profile): as a
@@ -25,26 +27,18 @@ pub enum Cause {
 }
 
 impl Waiting<'_> {
+    // How many flights of the slots it would meet, if it took off at the minute.
+    fn count_among(&self, minute: Minute, slots: &[Slot]) -> usize
+        ensures { result ≡ length (met_among self.now minute slots.now) }
+    {
+        slots.iter().filter(|slot| self.meets(minute, slot)).count()
+    }
+
     // How many flights it would meet, if it took off at the minute.
     fn count_met(&self, minute: Minute) -> usize
         ensures { result ≡ length (met_at self.now minute) }
     {
-        self.earlier
-            .iter()
-            .filter(|slot| self.meets(minute, slot))
-            .count()
-    }
-
-    // How many flights the cell of the minute has.
-    fn count_held(&self, minute: Minute) -> usize
-        ensures { result ≡ length (held_at self.now minute) }
-    {
-        let cell = self.runway.cell().get();
-        let own = minute.get() / cell;
-        self.earlier
-            .iter()
-            .filter(|slot| slot.ttot.get() / cell == own)
-            .count()
+        self.count_among(minute, self.near(minute))
     }
 
     /// What holds the flight at the minute apart from the clock, and the clock where nothing else does. There is a
@@ -67,7 +61,7 @@ impl Waiting<'_> {
         if self.count_met(minute) > 0 {
             return Some(Cause::Spacing);
         }
-        if usize::from(self.runway.cap_at(minute).get()) <= self.count_held(minute) {
+        if usize::from(self.runway.cap_at(minute).get()) <= self.held_at(minute).len() {
             return Some(Cause::Rate);
         }
         if number < self.values.clock.get() + self.exot {

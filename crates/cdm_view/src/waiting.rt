@@ -1,16 +1,22 @@
 //! What a planned flight waits for.
-ghost use Rattle.std.specs.Prelude.{◌≡◌, ◌≤◌, ◌+◌, IfOk, filter, true};
+ghost use Rattle.std.specs.Prelude.{◌≡◌, ◌≤◌, ◌+◌, IfOk, IsSorted, filter, true};
 ghost use Rattle.std.specs.Option.{ForSome, option_map_or};
-ghost use Rattle.cdm_time.specs.Windows.{is_in_tolerance};
+ghost use Rattle.cdm_time.specs.Windows.{is_in_tolerance, window_has};
 ghost use Rattle.cdm_flight.specs.Journal.{taxi_of};
+ghost use Rattle.cdm_flight.specs.Spacing.{occupancy_of};
+ghost use Rattle.cdm_flight.specs.declared.group.Group.{Group};
 ghost use Rattle.cdm_runway.specs.Room.{meets, taken_by};
 ghost use Rattle.cdm_sequence.specs.Aims.{exot_to};
+ghost use Rattle.cdm_sequence.specs.Slots.{slot_cmp};
+ghost use Rattle.cdm_view.specs.inner.Earlier.{IsByTakeOff, met_among};
 ghost use Rattle.cdm_view.specs.Reasons.{held_at, is_earlier, met_at, names_of, reason_at, waiting_of};
 
 use crate::reason::Reason;
-use crate::slots::slots_on;
+use crate::slots::sorted_slots;
 use cdm_day::runway_named;
-use cdm_flight::{DayValues, Flight, FlightName, Key, Listed, RunwayName, before, push_last};
+use cdm_flight::{
+    DayValues, Flight, FlightName, Group, Key, Listed, RunwayName, before, push_last,
+};
 use cdm_plan::Records;
 use cdm_runway::Runway;
 use cdm_sequence::{Mark, Plan, Slot};
@@ -31,7 +37,6 @@ pub struct Waiting<'a> {
 }
 
 impl<'a> Model for Waiting<'a> {
-    ghost use Rattle.std.specs.Prelude.{◌≤◌};
     ghost use Rattle.cdm_view.specs.Reasons.{Waiting};
 
     ghost Value = { Waiting };
@@ -45,7 +50,9 @@ impl<'a> Model for Waiting<'a> {
       earlier = w.earlier.items;
     } };
 
-    ghost invariant = { λ w. w.exot ≤ 180 };
+    ghost use Rattle.cdm_view.specs.inner.Earlier.{KeepsEarlier};
+
+    ghost invariant = { λ w. KeepsEarlier w.exot w.earlier.items };
 }
 
 impl Waiting<'_> {
@@ -78,25 +85,63 @@ impl Waiting<'_> {
         own.max(other) < own_end.min(other_end)
     }
 
+    // The slots at the minutes from one up to another: one part of them, since they stand by take-off.
+    fn earlier_in(&self, from: u16, to: u16) -> &[Slot]
+        ensures { result.now ≡ filter (λ s. window_has from to s.ttot) self.now.earlier }
+    {
+        let first = self.earlier.partition_point(|slot| slot.ttot.get() < from);
+        let later = &self.earlier[first..];
+        let count = later.partition_point(|slot| slot.ttot.get() < to);
+        &later[..count]
+    }
+
+    // For how many minutes a flight of any group occupies the runway at most.
+    fn longest(&self) -> u16
+        ensures { (g : Group) → occupancy_of self.now.rules.spacing g ≤ result }
+    {
+        let light = self.runway.occupancy(Group::Light).get();
+        let medium = self.runway.occupancy(Group::Medium).get();
+        let heavy = self.runway.occupancy(Group::Heavy).get();
+        light.max(medium).max(heavy)
+    }
+
+    // The slots near the minute: all those whose flights it would meet, if it took off at it, are among them.
+    pub(crate) fn near(&self, minute: Minute) -> &[Slot]
+        ensures { met_among self.now minute result.now ≡ met_at self.now minute }
+    {
+        let flight = self.flight;
+        let own = minute.get();
+        let end = own + self.runway.occupancy(flight.group).get();
+        self.earlier_in(own.saturating_sub(self.longest()), end)
+    }
+
+    // The flights of the slots that it would meet, if it took off at the minute.
+    fn met_among(
+        &self,
+        alloc: Global,
+        minute: Minute,
+        slots: &[Slot],
+    ) -> Result<Vec<FlightName>, AllocError>
+        ensures { IfOk result (λ names. names.items ≡ names_of (met_among self.now minute slots.now)) }
+    {
+        let met = slots.iter().filter(|slot| self.meets(minute, slot));
+        met.map(|slot| slot.name).collect(alloc)
+    }
+
     // The flights that it would meet, if it took off at the minute.
     fn met_at(&self, alloc: Global, minute: Minute) -> Result<Vec<FlightName>, AllocError>
         ensures { IfOk result (λ names. names.items ≡ names_of (met_at self.now minute)) }
     {
-        let met = self.earlier.iter().filter(|slot| self.meets(minute, slot));
-        met.map(|slot| slot.name).collect(alloc)
+        self.met_among(alloc, minute, self.near(minute))
     }
 
-    // The flights in the cell of the minute.
-    fn held_at(&self, alloc: Global, minute: Minute) -> Result<Vec<FlightName>, AllocError>
-        ensures { IfOk result (λ names. names.items ≡ names_of (held_at self.now minute)) }
+    // The slots in the cell of the minute.
+    pub(crate) fn held_at(&self, minute: Minute) -> &[Slot]
+        ensures { result.now ≡ held_at self.now minute }
     {
         let cell = self.runway.cell().get();
-        let own = minute.get() / cell;
-        let held = self
-            .earlier
-            .iter()
-            .filter(|slot| slot.ttot.get() / cell == own);
-        held.map(|slot| slot.name).collect(alloc)
+        let first = minute.get() / cell * cell;
+        self.earlier_in(first, first + cell)
     }
 
     /// Why the flight can't take off at the minute: the first reason that holds.
@@ -127,12 +172,20 @@ impl Waiting<'_> {
             return Ok(Some(Reason::Spacing(Listed::new(met))));
         }
         let cap = self.runway.cap_at(minute);
-        let held = self.held_at(alloc, minute)?;
+        let held = self.held_at(minute);
         if usize::from(cap.get()) <= held.len() {
-            return Ok(Some(Reason::Rate(cap, Listed::new(held))));
+            let names = names_of(alloc, held)?;
+            return Ok(Some(Reason::Rate(cap, Listed::new(names))));
         }
         Ok(None)
     }
+}
+
+// The names of the flights of slots.
+fn names_of(alloc: Global, slots: &[Slot]) -> Result<Vec<FlightName>, AllocError>
+    ensures { IfOk result (λ names. names.items ≡ names_of slots.now) }
+{
+    slots.iter().map(|slot| slot.name).collect(alloc)
 }
 
 /// The flight's taxi-out time to the runway as it is known now, in minutes, if it is known.
@@ -166,7 +219,9 @@ fn earlier_slots<R: Records>(
     key: &Key,
     slots: &[Slot],
 ) -> Result<Vec<Slot>, AllocError>
-    ensures { IfOk result (λ v. v.items ≡ filter (is_earlier (R.day records.now) key.now) slots.now) }
+    requires { IsSorted slot_cmp slots.now }
+    ensures slots { IfOk result (λ v. v.items ≡ filter (is_earlier (R.day records.now) key.now) slots.now) }
+    ensures order { IfOk result (λ v. IsByTakeOff v.items) }
 {
     let mut earlier = Vec::new(alloc);
     for slot in slots {
@@ -199,7 +254,7 @@ pub(crate) fn waiting_of<'a, R: Records>(
     let Some(exot) = exot_to(records, flight, name) else {
         return Ok(None);
     };
-    let earlier = earlier_slots(alloc, records, &key, slots_on(plan, name))?;
+    let earlier = earlier_slots(alloc, records, &key, sorted_slots(plan, name))?;
     Ok(Some(Waiting {
         flight,
         tobt: key.tobt,

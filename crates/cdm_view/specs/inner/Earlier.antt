@@ -1,0 +1,19 @@
+-- The slots that are taken when a flight's turn comes.
+use Rattle.std.specs.Prelude.{ℕ, ◌≤◌, List, filter}
+use Rattle.std.specs.List.Sorted.{IsNonDecreasingBy}
+use Rattle.cdm_runway.specs.Room.{meets, taken_by}
+use Rattle.cdm_sequence.specs.declared.slot.Slot.{Slot}
+use Rattle.cdm_view.specs.Reasons.{Waiting}
+
+-- slots stand by take-off
+abbrev pub IsByTakeOff : List Slot → Type 0
+IsByTakeOff slots = IsNonDecreasingBy (λ s. s.ttot) slots
+
+-- what a flight that waits keeps: the range of its taxi-out time, and the order of the slots
+pub record KeepsEarlier (exot : ℕ) (earlier : List Slot) : Type 0 where
+  pub taxi_range : exot ≤ 180
+  pub in_order : IsByTakeOff earlier
+
+-- those of some slots whose flights the flight would meet if it took off at the minute
+abbrev pub met_among : Waiting → ℕ → List Slot → List Slot
+met_among w m slots = filter (λ s. meets (taken_by w.rules w.flight.group m) (taken_by w.rules s.group s.ttot)) slots
