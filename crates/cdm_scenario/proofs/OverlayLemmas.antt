@@ -25,13 +25,16 @@ use Rattle.cdm_flight.proofs.JournalLemmas.{same_name-refl}
 use Rattle.cdm_runway.specs.Rules.{RunwayRules}
 use Rattle.cdm_plan.specs.Day.{DayRecord, flights_in, rules_of}
 use Rattle.cdm_plan.specs.DayPlan.{IsRunwayAt}
+use Rattle.cdm_plan.specs.Kept.{IsSince, is_touched, is_untouched}
 use Rattle.cdm_plan.specs.Sound.{IsSound, TellTaxi}
+use Rattle.cdm_plan.specs.declared.touched.Touched.{Touched}
 use Rattle.cdm_day.specs.Changes.{ChangesRunway, IsChange, has_window, with_change}
 use Rattle.cdm_day.specs.declared.change.Change.{Change}
 use Rattle.cdm_day.specs.declared.change.Change.TheVariants.{NewFlight, NextRecord, Runway, TaxiRow}
 use Rattle.cdm_day.specs.declared.change.RunwayChange.{RunwayChange}
 use Rattle.cdm_day.specs.inner.Put.{flight_with, made_known, rows_with, rules_with, values_with}
 use Rattle.cdm_day.specs.inner.Tables.{Flights}
+use Rattle.cdm_plan.proofs.AskedLemmas.{untouched_on, untouched_runway}
 use Rattle.cdm_plan.proofs.DayPlanLemmas.{record_name}
 use Rattle.cdm_plan.proofs.JournalFacts.{known-among}
 use Rattle.cdm_plan.proofs.NameLemmas.{find_some, rows_by_name, rows_permutation, rules_by_name, rules_in, runway_is}
@@ -70,6 +73,22 @@ name_at_place d sound i o at = ap (option_map (λ (r : Flight). r.name)) at ∙ 
     by None e = refl
     by (Some k) e =
         by_record k (flight_of d.airport d.journal k) refl (sym (known_is d sound k) ∙ (known-among d.journal k ∙ any_passes_from_place (same_name k) (flights_in d.journal) i k e (same_name-refl k)))
+
+-- With more runways noted.
+
+pub since_noted : (first d next : DayRecord) (s t : Touched) → next ≡ d → ((r : List ℕ) → is_touched t r ≡ false → is_touched s r ≡ false)
+    → IsSince first s d → IsSince first t next
+since_noted first d next s t is less since =
+    let off : (f : Flight) → is_untouched t f ≡ true → is_untouched s f ≡ true = λ f h.
+    let at = untouched_runway t f h in untouched_on s f at.0 at.1 (less at.0 at.2) in
+    subst (IsSince first t) (sym is) (record {
+      airport = since.airport;
+      flight = λ test among k. since.flight test (λ f h. off f (among f h)) k;
+      flights = λ test among. since.flights test (λ f h. off f (among f h));
+      rules = λ row h. since.rules row (less row.name h);
+      taxi = λ r h place. since.taxi r (less r h) place;
+      values = λ r h. since.values r (less r h);
+    })
 
 -- Nothing laid over.
 
@@ -144,6 +163,27 @@ module _ {g : AirportRows} {a e : List Update} {m : Flights} {new : List (List �
       → slice_get new k ≡ slice_get (flights_in d.journal) i
   new_name is i k past at =
       ap (slice_get new) at ∙ (sym (ap (λ l. slice_get l i) told.order ∙ slice_get-back (flights_in a) new i past) ∙ ap (λ (d : DayRecord). slice_get (flights_in d.journal) i) is)
+
+  -- The flight at a place, which has a record of its own or the base's.
+
+  pub old_flight : {d : DayRecord} → record { airport = g; journal = e } ≡ d → IsSound (record { airport = g; journal = a }) → (i : ℕ) → i < length (flights_in a)
+      → (r : Flight) → Some r ≡ option_and_then (flight_of g a) (slice_get (flights_in a) i) → (o : Option Flight) → o ≡ get same_name m r.name
+      → Some (unwrap_or o r) ≡ option_and_then (flight_of d.airport d.journal) (slice_get (flights_in d.journal) i)
+  old_flight {d} is sound i below r at o mine =
+      let first : Some r.name ≡ slice_get (flights_in a) i = name_at_place (record { airport = g; journal = a }) sound i (Some r) at in
+      let known : flight_of g a r.name ≡ Some r = ap (option_and_then (flight_of g a)) first ∙ sym at in
+      let now : flight_of g e r.name ≡ Some (unwrap_or o r) = told.flights r.name ∙ ((λ j. option_or (sym mine j) (known j)) ∙ either o) in
+      sym now ∙ (ap (λ (x : DayRecord). flight_of x.airport x.journal r.name) is
+      ∙ ap (option_and_then (flight_of d.airport d.journal)) (old_name is sound i below (Some r) at))
+    where
+      either : (o : Option Flight) → option_or o (Some r) ≡ Some (unwrap_or o r)
+      either None = refl
+      either (Some x) = refl
+
+  pub no_old_flight : {d : DayRecord} → record { airport = g; journal = e } ≡ d → IsSound (record { airport = g; journal = a }) → (i : ℕ) → i < length (flights_in a)
+      → None ≡ option_and_then (flight_of g a) (slice_get (flights_in a) i)
+      → None ≡ option_and_then (flight_of d.airport d.journal) (slice_get (flights_in d.journal) i)
+  no_old_flight {d} is sound i below at = ap (option_and_then (flight_of d.airport d.journal)) (old_name is sound i below None at)
 
   -- What a change that is put in leaves.
 

@@ -8,7 +8,7 @@ ghost use Rattle.cdm_scenario.specs.Outcome.{IsOutcome};
 ghost use Rattle.cdm_scenario.specs.inner.OneOutcome.{one_outcome};
 
 use crate::{Outcome, Overlay, Scenario};
-use cdm_day::{DayState, Records, plan_of};
+use cdm_day::{DayState, Records};
 use cdm_phase::{Gate, Job, PhaseName, Workers, run_phase};
 use cdm_report::indicators;
 use std::alloc::{AllocError, Global};
@@ -25,7 +25,7 @@ pub fn answer(alloc: Global, base: &DayState, scenario: &Scenario) -> Result<Out
     match Overlay::after(alloc, base, scenario.updates())? {
         Err((number, word)) => Ok(Outcome::Refused(number, word)),
         Ok(day) => {
-            let plan = plan_of(alloc, &day)?;
+            let plan = day.plan(alloc)?;
             let counts = indicators(&plan);
             Ok(Outcome::Planned(plan, counts))
         }

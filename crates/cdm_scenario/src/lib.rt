@@ -3,6 +3,7 @@
 
 mod answers;
 mod changes;
+mod laid;
 mod name;
 mod outcome;
 mod overlay;

@@ -1,41 +1,45 @@
 //! Further updates laid over the state of a day.
 ghost use Rattle.std.specs.Prelude.{◌≡◌, IfOk, OnOk, OnErr};
 ghost use Rattle.cdm_flight.specs.Accepted.{refusal_of};
+ghost use Rattle.cdm_flight.specs.Reach.{reach_of};
+ghost use Rattle.cdm_plan.specs.DayPlan.{IsDayPlan};
+ghost use Rattle.cdm_plan.specs.Kept.{Adds, is_noted};
+ghost use Rattle.cdm_sequence.specs.declared.plan.Plan.{Plan as APlan};
 ghost use Rattle.cdm_day.specs.Replies.{reply_of};
 ghost use Rattle.cdm_scenario.specs.Outcome.{IsLaid};
 ghost use Rattle.cdm_scenario.specs.Overlay.{after_judged};
 
 mod records;
 
-use crate::changes::{change_over, set_over};
-use crate::scenario::push_reserved;
-use cdm_day::{Change, DayState, Records, Reply, Takes, judge, runway_named};
-use cdm_flight::{DayValues, Flight, FlightName, RefusalWord, RunwayName, Update};
-use cdm_runway::Runway;
-use cdm_taxi::TaxiTable;
-use indexmap::IndexMap;
+use crate::laid::Laid;
+use cdm_day::{Change, DayState, Records, Reply, Takes, judge};
+use cdm_flight::{RefusalWord, Update};
+use cdm_plan::{Kept, Touched, plan_keeping};
+use cdm_sequence::Plan;
 use std::alloc::{AllocError, Global};
 use std::marker::Model;
 
-/// The state of a day with further updates. It borrows the state and leaves it as it is: it has a
-/// record of its own for each flight and each runway that these updates changed, and taxi times of its
-/// own once one of them is a TAXI. A contract sees the airport and the longer journal alone.
+// Notes what an update touches; where there is no memory for the name of a runway, that is all of them.
+fn note<R: Records>(touched: &mut Touched, records: &R, update: &Update)
+    ensures { Adds touched.old (is_noted (R.day records.now) (reach_of update.now)) touched.new }
+{
+    match touched.note(records, update) {
+        Ok(()) => {}
+        Err(_) => *touched = Touched::All,
+    }
+}
+
+/// The state of a day with further updates. It borrows the state and leaves it as it is, and knows which runways the
+/// updates touch: on the others the plan of the day stands. A contract sees the airport and the longer journal alone.
 #[derive(Drop)]
 pub struct Overlay<'a> {
     base: &'a DayState,
-    accepted: Vec<Update>,
-    values: DayValues,
-    // The flights that were changed or made known.
-    flights: IndexMap<FlightName, Flight>,
-    // Those that were made known, which stand behind the base's.
-    new_flights: Vec<FlightName>,
-    // The runways that were changed.
-    runways: IndexMap<RunwayName, Runway>,
-    taxi: Option<TaxiTable>,
+    laid: Laid<'a>,
+    // The runways that the updates touched.
+    touched: Touched,
 }
 
 impl<'a> Model for Overlay<'a> {
-    ghost use Rattle.std.specs.Prelude.{◌++◌};
     ghost use Rattle.std.specs.Coded.{codes};
     ghost use Rattle.cdm_day.specs.inner.AirportCode.{airport_code};
     ghost use Rattle.cdm_plan.specs.Day.{DayRecord};
@@ -44,13 +48,11 @@ impl<'a> Model for Overlay<'a> {
 
     ghost coded = { Prim.hlevel (codes, airport_code) };
 
-    ghost use Rattle.cdm_scenario.specs.Overlay.{with_updates};
-    ghost use Rattle.cdm_scenario.specs.inner.Changed.{TellChanged};
+    ghost use Rattle.cdm_plan.specs.Kept.{IsSince};
 
-    ghost view = { λ o. with_updates o.base.now o.accepted.items };
+    ghost view = { λ o. o.laid };
 
-    ghost invariant = { λ o. TellChanged o.base.now.airport o.base.now.journal (o.base.now.journal ++ o.accepted.items)
-        o.flights o.new_flights.items o.runways o.taxi o.values };
+    ghost invariant = { λ o. IsSince o.base.now o.touched o.laid };
 }
 
 impl<'a> Overlay<'a> {
@@ -60,12 +62,8 @@ impl<'a> Overlay<'a> {
     {
         Overlay {
             base,
-            accepted: Vec::new(alloc),
-            values: base.values(),
-            flights: IndexMap::new(alloc),
-            new_flights: Vec::new(alloc),
-            runways: IndexMap::new(alloc),
-            taxi: None,
+            laid: Laid::over(alloc, base),
+            touched: Touched::none(alloc),
         }
     }
 
@@ -103,33 +101,32 @@ impl<'a> Overlay<'a> {
             }
         }
     }
+
+    /// The plan of the day. On the runways that no update touched it is that of the day without the updates; the others are
+    /// planned anew, all of them after a CLOCK or a TOL. No other plan is the day's.
+    pub fn plan(&self, alloc: Global) -> Result<Plan, AllocError>
+        ensures of_day { IfOk result (λ plan. IsDayPlan self.now plan) }
+        ensures only { IfOk result (λ plan. (other : APlan) → IsDayPlan self.now other → other ≡ plan) }
+    {
+        // What the base's records tell is sound, which makes its plan the only one.
+        let _values = self.base.values();
+        let before = self.base.plan();
+        let kept = Kept {
+            plans: before.runways.as_slice(),
+            blocked: before.blocked.as_slice(),
+            touched: &self.touched,
+        };
+        let plan = plan_keeping(alloc, self, &kept)?;
+        Ok(plan)
+    }
 }
 
 impl Takes for Overlay<'_> {
-    // What must grow grows before anything changes.
+    // A flight may have another runway after the update, so what it touches is noted before and after.
     fn take(&mut self, alloc: Global, update: Update, change: Change) -> Result<(), AllocError> {
-        self.accepted.reserve(1)?;
-        match change {
-            Change::NewFlight(flight) => {
-                self.new_flights.reserve(1)?;
-                self.flights.insert(flight.name, flight)?;
-                push_reserved(&mut self.new_flights, flight.name);
-            }
-            Change::NextRecord(flight) => {
-                self.flights.insert(flight.name, flight)?;
-            }
-            Change::Runway(name, change) => {
-                let Some(base) = runway_named(self.base, name) else {
-                    unreachable!()
-                };
-                change_over(alloc, &mut self.runways, name, base, change)?;
-            }
-            Change::TaxiRow(place, runway, minutes) => {
-                set_over(&mut self.taxi, self.base.taxi(), place, runway, minutes)?;
-            }
-            Change::Values(values) => self.values = values,
-        }
-        push_reserved(&mut self.accepted, update);
+        note(&mut self.touched, &self.laid, &update);
+        self.laid.take(alloc, update, change)?;
+        note(&mut self.touched, &self.laid, &update);
         Ok(())
     }
 }

@@ -4,7 +4,7 @@ use Rattle.indexmap.specs.IndexMap.{get}
 use Rattle.cdm_flight.specs.Names.{same_name}
 use Rattle.cdm_plan.specs.DayPlan.{IsRunwayAt}
 use Rattle.cdm_scenario.proofs.OverlayLemmas.{over_no_runway, over_runway}
-use Rattle.cdm_scenario.proofs.overlay.records.OverlayRecords.runway_at.Goals as goal
+use Rattle.cdm_scenario.proofs.laid.records.LaidRecords.runway_at.Goals as goal
 
 pub returns-in-Some-clause-value : goal.returns-in-Some-clause-value
 returns-in-Some-clause-value c =
