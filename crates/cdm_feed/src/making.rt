@@ -16,7 +16,7 @@ use crate::asked::{Asked, DayText};
 use crate::counted::Counted;
 use crate::runs::RunCounts;
 use cdm_check::{Checked, check_of};
-use cdm_day::{DayState, Records, plan_of};
+use cdm_day::{DayState, Records};
 use cdm_files::{AskedDay, CommonFault, Inputs, Lent, RunError, asked_day};
 use cdm_flight::FlightName;
 use cdm_kinds::Format;
@@ -158,7 +158,7 @@ fn answer_over(
     let Asking { question, format } = asking;
     match Overlay::after(alloc, base, scenario.updates())? {
         Ok(day) => {
-            let plan = plan_of(alloc, &day)?;
+            let plan = day.plan(alloc)?;
             match day_answer(alloc, format, base.airport(), &day, &plan, question) {
                 Ok(text) => Ok(text),
                 Err(fault) => Err(view_error(fault)),

@@ -2,7 +2,7 @@
 ghost use Rattle.std.specs.Prelude.{◌≡◌, IfOk};
 ghost use Rattle.cdm_table.specs.Comparison.{IsChanged};
 
-use cdm_day::{DayState, plan_of};
+use cdm_day::DayState;
 use cdm_flight::{Listed, RefusalWord};
 use cdm_report::{Counts, indicators};
 use cdm_scenario::{Overlay, Scenario};
@@ -24,7 +24,7 @@ pub(crate) fn changed_by(
 {
     match Overlay::after(alloc, base, scenario.updates())? {
         Ok(day) => {
-            let plan = plan_of(alloc, &day)?;
+            let plan = day.plan(alloc)?;
             let after = Standings::of(alloc, &day, &plan)?;
             let changed = after.changes(alloc, base.day(), before)?;
             Ok(Ok((indicators(&plan), Listed::new(changed))))

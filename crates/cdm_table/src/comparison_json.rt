@@ -9,7 +9,7 @@ ghost use Rattle.cdm_table.specs.ComparisonJson.{AreChangeLines, AreChangeLinesI
 use crate::line::{Line, Summary};
 use crate::plans::push_refusal;
 use crate::ranking::{Ranking, ranked_lines};
-use cdm_day::{DayState, plan_of};
+use cdm_day::DayState;
 use cdm_flight::FlightName;
 use cdm_json::{begin_line, end_line, push_counts};
 use cdm_phase::Gate;
@@ -162,10 +162,11 @@ fn told_of(
 {
     match Overlay::after(alloc, base, scenario.updates())? {
         Ok(day) => {
-            let plan = plan_of(alloc, &day)?;
+            let plan = day.plan(alloc)?;
             let stands = Standings::of(alloc, &day, &plan)?;
             let changed = stands.changes(alloc, base.day(), stood)?;
-            let before = Rows::of(alloc, base, base.plan())?;
+            let known = base.plan();
+            let before = Rows::of(alloc, base, known)?;
             let after = Rows::of(alloc, &day, &plan)?;
             let sides = Sides {
                 day: *base.day(),

@@ -11,7 +11,7 @@ use crate::answers::push_all;
 use crate::own_row::{OwnRow, from_flight, text_of_same};
 use crate::row::{FlightWriter, column_names, refused_row};
 use crate::row_text::{Fields, RowWriter};
-use cdm_day::{DayState, Records, plan_of};
+use cdm_day::{DayState, Records};
 use cdm_flight::{Listed, RefusalWord};
 use cdm_phase::{Gate, Job, PhaseName, run_phase};
 use cdm_plan::Runner;
@@ -106,7 +106,7 @@ fn scenario_rows(
     let name = scenario.name();
     match Overlay::after(alloc, base, scenario.updates())? {
         Ok(day) => {
-            let plan = plan_of(alloc, &day)?;
+            let plan = day.plan(alloc)?;
             let sheet = Sheet {
                 day: *base.day(),
                 scenario: name,

@@ -11,7 +11,7 @@ ghost use Rattle.cdm_table.specs.inner.OwnRows.{IsOwnRow, json_row};
 use crate::answers::push_all;
 use crate::json_rows::{flights_text, own_rows};
 use crate::own_row::OwnRow;
-use cdm_day::{DayState, Records, plan_of};
+use cdm_day::{DayState, Records};
 use cdm_flight::{Listed, RefusalWord};
 use cdm_json::{PlanOf, begin_line, end_line, plan_line_around};
 use cdm_phase::{Gate, Job, PhaseName, run_phase};
@@ -67,7 +67,7 @@ fn scenario_line(
     let name = scenario.name();
     match Overlay::after(alloc, base, scenario.updates())? {
         Ok(day) => {
-            let plan = plan_of(alloc, &day)?;
+            let plan = day.plan(alloc)?;
             let rows = Rows::of(alloc, &day, &plan)?;
             let date = *base.day();
             let flights = flights_text(alloc, date, &rows, own)?;

@@ -26,7 +26,7 @@ returns-in_ok-text-in-Ok c =
     let rows : AreRows next plan moved = rw laid.1 at c.in_ok-after-in-Ok.ensures.all in
     let differ : changed ≡ changes base.airport.day stood stands =
     c.in_ok-changed-in-Ok.ensures ∙ (λ i. changes (c.day-in-Ok.ensures i) stood stands) in
-    let before : AreDayRows base own = record { plan = c.plan-in-Ok.result.now; of_day = c.plan-in-Ok.ensures.of_day; are_rows = c.in_ok-before-in-Ok.ensures.all } in
+    let before : AreDayRows base own = record { plan = c.plan-known.result.now; of_day = c.plan-known.ensures.of_day; are_rows = c.in_ok-before-in-Ok.ensures.all } in
     let after : AreDayRows next moved = record { plan = plan; of_day = of_day; are_rows = rows } in
     let text : c.in_ok-text-in-Ok.text.items ≡ flat_map (change_line base.airport.day own moved) changed =
     c.in_ok-text-in-Ok.ensures ∙ (λ i. flat_map (change_line (c.day-in-Ok-2.ensures i) own moved) (c.deref.ensures.value i)) in
