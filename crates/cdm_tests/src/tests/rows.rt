@@ -2,7 +2,7 @@
 use crate::tests::days::{THREE_FLIGHTS, day_of};
 use crate::tests::memory::is_planned;
 use crate::tests::memory::runway::two_in_ten;
-use cdm_day::{Change, Records, Reply, judge, plan_of};
+use cdm_day::{Change, Records, Reply, judge};
 use cdm_flight::{Cap, FlightName, Group, RefusalWord, Update};
 use cdm_runway::{Blocked, RunwayFault, RunwayLoad};
 use cdm_scenario::{Overlay, Scenario, ScenarioName};
@@ -93,7 +93,7 @@ fn tobt(overlay: &Overlay) -> Option<u16> {
 
 // Whether AB1 takes off last, at 06:30.
 fn is_last(alloc: Global, overlay: &Overlay) -> Option<bool> {
-    let plan = plan_of(alloc, overlay).ok()?;
+    let plan = overlay.plan(alloc).ok()?;
     let last = plan.runways.as_slice().first()?.slots.as_slice().last()?;
     Some(last.name.text() == "AB1" && is_planned(&plan, (&[375, 375, 390], 0)))
 }

@@ -20,6 +20,14 @@ fn accepts(alloc: Global, overlay: &mut Overlay, update: &Update, before: Planne
     replied == Some(Reply::Accepted)
 }
 
+// Whether the plan over the day is such a one.
+fn is_planned_over(alloc: Global, overlay: &Overlay, wanted: Planned) -> bool {
+    match again!(overlay.plan(alloc), AllocError, true) {
+        Some(plan) => is_planned(&plan, wanted),
+        None => false,
+    }
+}
+
 /// Each update of a morning is laid over a day, which stays.
 #[test]
 fn refused_memory_leaves_an_overlay(rt: HostRuntime) -> Result<(), Fail> {
@@ -30,6 +38,7 @@ fn refused_memory_leaves_an_overlay(rt: HostRuntime) -> Result<(), Fail> {
     for (place, (_, update)) in updates.iter().enumerate() {
         let (before, after) = plans_around(place).ok_or("no plan")?;
         assert!(rt; accepts(alloc, &mut overlay, update, before), "{place}");
+        assert!(rt; is_planned_over(alloc, &overlay, after), "{place}");
         assert!(rt; is_planned_anew(alloc, &overlay, after), "{place}");
     }
     assert_eq!(rt; overlay.accepted(), 18);
