@@ -1,14 +1,14 @@
 // Loaded before a program (LD_PRELOAD): logs its calls on files in the file FAULTS_LOG, one per line, and lets call number
-// FAULTS_AT end as FAULTS_KIND says: as a short write, interrupted by a signal, with an error of the device, or without space
-// left. It needs no header, and at run time only the C library.
+// FAULTS_AT end as FAULTS_KIND says: as a short read or write, interrupted by a signal, with an error of the device, or without
+// space left. Or another appends a record to journal.csv just before that call. It needs no header, and at run time only the C
+// library.
 typedef unsigned long size;
 extern long syscall(long, ...), atol(const char *);
 extern char *getenv(const char *);
 extern int *__errno_location(void);
 
-enum { sys_write = 1, sys_open = 2, sys_close = 3, sys_fsync = 74, sys_fdatasync = 75, sys_ftruncate = 77, sys_rename = 82 };
-enum { sys_readlink = 89 };
-enum { interrupted = 4, device = 5, no_room = 28 };
+enum { sys_read = 0, sys_write = 1, sys_open = 2, sys_close = 3, sys_flock = 73, sys_fsync = 74, sys_fdatasync = 75 };
+enum { sys_ftruncate = 77, sys_rename = 82, sys_unlink = 87, sys_readlink = 89, sys_fchmod = 91 };
 enum { append_made = 02101, all_may = 0644 };
 
 static long calls;
@@ -72,11 +72,21 @@ static void told(const char *name, long file, const char *path, long result, con
     tell(line, at);
 }
 
+// Appends a record to the journal, as another process could.
+static void append_other(void) {
+    static const char record[] = "AP,FLT,ZZ9,5\n";
+    long file = syscall(sys_open, "journal.csv", append_made, all_may);
+    if (file < 0) return;
+    syscall(sys_write, file, record, sizeof record - 1);
+    syscall(sys_close, file);
+}
+
 // How this call ends: 0 as usual, -1 short, otherwise with this error.
 static long fault(void) {
     const char *at = getenv("FAULTS_AT"), *kind = getenv("FAULTS_KIND");
     calls++;
     if (!at || !kind || calls != atol(at)) return 0;
+    if (kind[0] == 'a') return append_other(), 0;
     return kind[0] == 's' ? -1 : atol(kind);
 }
 
@@ -93,6 +103,14 @@ long write(int file, const char *bytes, size count) {
     return result;
 }
 
+long read(int file, char *bytes, size count) {
+    long how = fault();
+    if (how < 0 && count > 1) count = 1;
+    long result = how > 0 ? refused(how) : syscall(sys_read, (long)file, bytes, count);
+    told("read", file, 0, result, 0);
+    return result;
+}
+
 static int plain(const char *name, long number, long first, long second, const char *path) {
     long how = fault();
     long result = how > 0 ? refused(how) : syscall(number, first, second);
@@ -100,7 +118,17 @@ static int plain(const char *name, long number, long first, long second, const c
     return (int)result;
 }
 
+int open(const char *path, int flags, unsigned mode) {
+    long how = fault();
+    long result = how > 0 ? refused(how) : syscall(sys_open, path, (long)flags, (long)mode);
+    told("open", 0, path, result, 0);
+    return (int)result;
+}
+
 int fsync(int file) { return plain("sync", sys_fsync, file, 0, 0); }
 int fdatasync(int file) { return plain("sync", sys_fdatasync, file, 0, 0); }
 int ftruncate(int file, long length) { return plain("cut", sys_ftruncate, file, length, 0); }
+int fchmod(int file, unsigned mode) { return plain("mode", sys_fchmod, file, mode, 0); }
+int flock(int file, int how) { return plain("lock", sys_flock, file, how, 0); }
 int rename(const char *from, const char *to) { return plain("rename", sys_rename, (long)from, (long)to, to); }
+int unlink(const char *path) { return plain("remove", sys_unlink, (long)path, 0, path); }

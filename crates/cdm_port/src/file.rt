@@ -17,11 +17,12 @@ pub trait JournalFile: Read + Write {
     fn is_marked(&self) -> bool
         ensures { result ≡ marked self.now };
 
-    /// Whether the journal's name still has the file that was opened or renamed, as long as what was written.
+    /// Whether the journal's name still has the file that was opened or renamed, as long as what was written, or still
+    /// has none.
     fn is_own(&self) -> bool;
 
-    /// Renames a new file of these bytes, which are on the disk, over the journal. Writes go to its end from then on. At
-    /// an `Err` the journal is as it was.
+    /// Renames a new file of these bytes, which are on the disk, over the journal, where `is_own`. Writes go to its end from
+    /// then on. At an `Err` the journal is as it was.
     fn rename(&mut self, bytes: &[u8]) -> io::Result<()>
         ensures { OnOk result (IfSome (Self.Write.contents self.old) (λ _. Self.Write.contents self.new ≡ Some bytes.now)) };
 

@@ -114,13 +114,10 @@ impl<'a, R: Files<File = File>> Lock<'a, R> {
         Err(OpenFault::InUse)
     }
 
-    /// The path of the lock's file.
-    pub(crate) fn path(&self) -> &str {
-        &self.path
-    }
-
     /// Removes the lock's file where this process has made it and it has no mark.
-    pub(crate) fn give_up(&mut self) {
+    pub(crate) fn give_up(&mut self)
+        ensures { self.new ≡ self.old }
+    {
         if self.made && !self.marked {
             let _ = fs::remove_file(self.files, &self.path);
         }

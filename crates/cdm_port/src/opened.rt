@@ -1,6 +1,6 @@
 //! The journal of a day in the file system, with its lock. Of a file of the system no clause knows the bytes, so all
 //! that is said here is to be read here.
-ghost use Rattle.std.specs.Prelude.{None, false};
+ghost use Rattle.std.specs.Prelude.{◌≡◌, None};
 
 use crate::file::JournalFile;
 use crate::lock::{Lock, again, named};
@@ -31,15 +31,15 @@ pub struct OpenJournal<'a, R> {
     mode: Option<u32>,
 }
 
-// The journal's path, behind all links. A file that isn't there has the path that was given, unless that is a link.
+// The journal's path, behind all links. A file that isn't there has the path that was given, unless that is a link or empty.
 fn real_path<R: Files>(files: &R, alloc: Global, path: &str) -> Result<String, OpenFault> {
     match files.canonicalize(alloc, path) {
         Ok(real) => Ok(real.into_string()),
         Err(error) if error.kind() == ErrorKind::NotFound => match fs::symlink_metadata(
             files, path,
         ) {
-            Ok(_) => Err(OpenFault::Journal(ErrorKind::NotFound)),
-            Err(_) => Ok(String::from_str(alloc, path)?),
+            Err(_) if path != "" => Ok(String::from_str(alloc, path)?),
+            _ => Err(OpenFault::Journal(ErrorKind::NotFound)),
         },
         Err(error) => Err(OpenFault::of_journal(&error)),
     }
@@ -85,8 +85,9 @@ impl<'a, R: Files<File = File>> OpenJournal<'a, R> {
     pub fn open(files: &'a R, alloc: Global, path: &str) -> Result<OpenJournal<'a, R>, OpenFault> {
         let path = real_path(files, alloc, path)?;
         is_there(files, &path)?;
+        // Behind the lock nothing needs memory: where that runs out, the lock's file isn't made.
+        let fresh = format!(in alloc; "{path}.lock.new")?;
         let lock = Lock::take(files, alloc, &path)?;
-        let fresh = format!(in alloc; "{}.new", lock.path())?;
         let mut journal = OpenJournal {
             files,
             lock,
@@ -137,13 +138,15 @@ impl<'a, R: Files<File = File>> OpenJournal<'a, R> {
 
     /// Removes the lock's file where this process has made it and the journal isn't marked: a start that was refused leaves
     /// everything as it was.
-    pub fn give_up(&mut self) {
+    pub fn give_up(&mut self)
+        ensures { self.new ≡ self.old }
+    {
         self.lock.give_up();
     }
 
     // A new file of these bytes beside the journal, on the disk. What an earlier start has left there goes.
     fn make_fresh(&self, bytes: &[u8]) -> io::Result<File> {
-        match fs::remove_file(self.files, &self.fresh) {
+        match again(|| fs::remove_file(self.files, &self.fresh)) {
             Err(error) if error.kind() != ErrorKind::NotFound => return Err(error),
             _ => {}
         }
@@ -160,10 +163,13 @@ impl<'a, R: Files<File = File>> OpenJournal<'a, R> {
         Ok(file)
     }
 
-    // Renames a new file of these bytes over the journal.
+    // Renames a new file of these bytes over the journal, where that is still the one that was opened.
     fn put_fresh(&mut self, bytes: &[u8]) -> io::Result<()> {
         let file = self.make_fresh(bytes)?;
         let made = file.metadata()?;
+        if !self.is_own() {
+            return Err(ErrorKind::Other.into());
+        }
         again(|| fs::rename(self.files, &self.fresh, &self.path))?;
         self.hold(file, &made, bytes.len() as u64);
         Ok(())
@@ -204,7 +210,8 @@ impl<R: Files<File = File>> JournalFile for OpenJournal<'_, R> {
     }
 
     fn is_own(&self) -> bool {
-        named(self.files, &self.path) == Some((self.device, self.inode, self.written))
+        let own = (self.device, self.inode, self.written);
+        named(self.files, &self.path) == self.file.as_ref().map(|_| own)
     }
 
     fn rename(&mut self, bytes: &[u8]) -> io::Result<()> {

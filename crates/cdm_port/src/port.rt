@@ -42,6 +42,7 @@ pub trait Port {
     /// Renames a new file of these bytes, which are on the disk, over the journal, and puts the new name on the disk.
     /// What is appended later goes to its end.
     ///
+    /// `JournalChanged` where the journal isn't the file that was opened, as long as it was then; and
     /// `CannotWriteJournal`.
     fn replace(&mut self, bytes: &[u8]) -> Result<(), PortFault>
         ensures ok { OnOk result (events self.new ≡ events self.old ++ Renamed bytes.now ∷ Synced ∷ []) }

@@ -1,4 +1,7 @@
 //! Why the system has not done a call.
+ghost use Rattle.std.specs.Prelude.{◌≡◌};
+ghost use Rattle.std.specs.IoError.{error_kind};
+
 use std::fmt;
 use std::fmt::{Display, Formatter, Write};
 use std::io::{Error, ErrorKind};
@@ -10,7 +13,9 @@ pub struct Reason(pub ErrorKind);
 
 impl Reason {
     /// What the system says of an error.
-    pub(crate) fn of(error: &Error) -> Reason {
+    pub(crate) fn of(error: &Error) -> Reason
+        ensures { result.0 ≡ error_kind error.now }
+    {
         Reason(error.kind())
     }
 }

@@ -129,7 +129,12 @@ impl<I: Read, O: Write, E: Write, J: JournalFile> Port for Streams<I, O, E, J> {
             ⊎ (map noted self.new.notes ≡ map noted self.old.notes ++ Renamed bytes.now ∷ [])) }
     {
         if let Err(error) = self.journal.rename(bytes) {
-            return self.answer(Err(PortFault::CannotWriteJournal(Reason::of(&error))));
+            let fault = if self.journal.is_own() {
+                PortFault::CannotWriteJournal(Reason::of(&error))
+            } else {
+                PortFault::JournalChanged
+            };
+            return self.answer(Err(fault));
         }
         self.history.note(&Happening::Renamed, bytes);
         let named = self.journal.sync_name();

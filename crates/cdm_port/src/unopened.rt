@@ -1,4 +1,9 @@
 //! Why a journal isn't opened.
+ghost use Rattle.std.specs.Prelude.{◌≡◌, ◌≢◌};
+ghost use Rattle.std.specs.IoError.{error_kind};
+ghost use Rattle.std.specs.declared.io.ErrorKind.TheVariants.{NotFound, OutOfMemory};
+ghost use Rattle.cdm_port.specs.declared.unopened.OpenFault.TheVariants as fault;
+
 use std::alloc::AllocError;
 use std::io;
 use std::io::ErrorKind;
@@ -21,6 +26,8 @@ pub enum OpenFault {
 }
 
 impl From<AllocError> for OpenFault {
+    ghost from_gives = { λ _ e. e ≡ fault.Memory };
+
     fn from(_error: AllocError) -> OpenFault {
         OpenFault::Memory
     }
@@ -28,7 +35,10 @@ impl From<AllocError> for OpenFault {
 
 impl OpenFault {
     /// Why the system refuses to open the journal.
-    pub(crate) fn of_journal(error: &io::Error) -> OpenFault {
+    pub(crate) fn of_journal(error: &io::Error) -> OpenFault
+        ensures memory { error_kind error.now ≡ OutOfMemory → result ≡ fault.Memory }
+        ensures other { error_kind error.now ≢ OutOfMemory → result ≡ fault.Journal (error_kind error.now) }
+    {
         match error.kind() {
             ErrorKind::OutOfMemory => OpenFault::Memory,
             kind => OpenFault::Journal(kind),
@@ -36,7 +46,11 @@ impl OpenFault {
     }
 
     /// Why the system refuses to open the journal's lock, or to make it. Where its folder isn't there, no journal can be.
-    pub(crate) fn of_lock(error: &io::Error) -> OpenFault {
+    pub(crate) fn of_lock(error: &io::Error) -> OpenFault
+        ensures memory { error_kind error.now ≡ OutOfMemory → result ≡ fault.Memory }
+        ensures folder { error_kind error.now ≡ NotFound → result ≡ fault.Journal NotFound }
+        ensures other { error_kind error.now ≢ OutOfMemory → error_kind error.now ≢ NotFound → result ≡ fault.Lock (error_kind error.now) }
+    {
         match error.kind() {
             ErrorKind::OutOfMemory => OpenFault::Memory,
             ErrorKind::NotFound => OpenFault::Journal(ErrorKind::NotFound),

@@ -106,6 +106,13 @@ fn faults_of_a_port_have_lines(rt: HostRuntime) {
 }
 
 #[test]
+fn faults_of_a_served_day_have_lines(rt: HostRuntime) {
+    let unknown = ServeError::Journal(4, RefusalWord::Unknown);
+    check_line(&rt, Fault::Serve(unknown), "JOURNAL record 4: UNKNOWN");
+    check_line(&rt, Fault::Serve(ServeError::TooMany), "too many records");
+}
+
+#[test]
 fn unopened_files_are_told_by_path_and_reason(rt: HostRuntime) {
     use ErrorKind::{NotADirectory, NotFound, PermissionDenied, Uncategorized};
     let table = [
