@@ -12,6 +12,7 @@ macro_rules! again {
 }
 
 mod agreeing;
+mod asserts;
 mod board;
 mod day;
 mod days;

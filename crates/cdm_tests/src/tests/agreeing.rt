@@ -1,11 +1,12 @@
 //! Runways and taxi times against plain lists.
 ghost use Rattle.std.specs.Prelude.{◌<◌};
 
-use crate::tests::memory::runway::{set_window, two_in_ten};
-use cdm_flight::{Cap, Ice, Place, RunwayName, StandName, TaxiMinutes};
+use crate::tests::asserts::{assert_found, assert_holds};
+use crate::tests::memory::runway::{set_window, two_in_ten, window_of};
+use cdm_flight::{Ice, Place, RunwayName, StandName, TaxiMinutes};
+use cdm_runway::Runway;
 use cdm_taxi::TaxiTable;
-use cdm_time::{Bound, Minute};
-use std::test::Fail;
+use cdm_time::Minute;
 
 /// How many changes are made.
 const CHANGES: usize = 500;
@@ -70,37 +71,55 @@ fn window(numbers: &mut Numbers, word: &str) -> (u16, u16) {
     }
 }
 
+/// A rate, a closure or an opening from a minute up to another, with a capacity.
+type Changed = (&'static str, u16, u16, u16);
+
+// The next one.
+fn next_change(numbers: &mut Numbers) -> Changed {
+    let word = match numbers.below(3) {
+        0 => "RATE",
+        1 => "CLOSE",
+        _ => "OPEN",
+    };
+    let (from, to) = window(numbers, word);
+    (word, from, to, numbers.below(5))
+}
+
+// Makes it on a runway.
+fn change_runway(runway: &mut Runway, changed: Changed) -> Option<()> {
+    let (word, from, to, number) = changed;
+    let (first, end, cap) = window_of(from, to, number)?;
+    set_window(runway, word, first, end, cap).ok()
+}
+
+// Whether a runway and a list allow the same at a minute.
+fn agree_at(runway: &Runway, minutes: &Minutes, minute: Minute) -> bool {
+    let place = usize::from(minute.get());
+    minutes.caps.get(place) == Some(&runway.cap_at(minute).get())
+        && minutes.closed.get(place) == Some(&runway.closed(minute))
+}
+
+// Whether they do so at each minute.
+fn agree_always(runway: &Runway, minutes: &Minutes) -> bool {
+    let mut all = (0..2880).filter_map(Minute::new);
+    all.all(|minute| agree_at(runway, minutes, minute))
+}
+
 /// After each of 500 rates, closures and openings a runway allows at each minute what a list of minutes says.
 #[test]
-fn a_runway_agrees_with_a_list_of_minutes(rt: HostRuntime) -> Result<(), Fail> {
-    let mut runway = two_in_ten(rt.alloc()).ok_or("no runway")?;
+fn a_runway_agrees_with_a_list_of_minutes(rt: HostRuntime) {
+    let mut runway = two_in_ten(rt.alloc()).expect(&rt, "no runway");
     let mut numbers = Numbers { last: 27 };
     let mut minutes = Minutes {
         caps: [2; 2880],
         closed: [false; 2880],
     };
-    for change in 0..CHANGES {
-        let kind = usize::from(numbers.below(3));
-        let word = ["RATE", "CLOSE", "OPEN"]
-            .get(kind)
-            .copied()
-            .unwrap_or("RATE");
-        let (from, to) = window(&mut numbers, word);
-        let cap = numbers.below(5);
-        minutes.set(word, from, to, cap);
-        let first = Minute::new(from).ok_or("no minute")?;
-        let end = Bound::new(to).ok_or("no bound")?;
-        let cap = Cap::new(cap).ok_or("no capacity")?;
-        set_window(&mut runway, word, first, end, cap).map_err(|_| "not set")?;
-        let mut all = (0..2880).filter_map(Minute::new);
-        let agree = all.all(|minute| {
-            let place = usize::from(minute.get());
-            minutes.caps.get(place) == Some(&runway.cap_at(minute).get())
-                && minutes.closed.get(place) == Some(&runway.closed(minute))
-        });
-        assert!(rt; agree, "change {change}: {word} {from} {to}");
+    for number in 0..CHANGES {
+        let changed = next_change(&mut numbers);
+        minutes.set(changed.0, changed.1, changed.2, changed.3);
+        change_runway(&mut runway, changed).expect(&rt, "not set");
+        assert_holds(&rt, agree_always(&runway, &minutes), (number, changed));
     }
-    Ok(())
 }
 
 /// A taxi time from a place to a runway.
@@ -171,15 +190,14 @@ fn agree(table: &TaxiTable, rows: &[Row]) -> Option<bool> {
 
 /// After each of 500 taxi times a table has, for each place and runway, the last one that a list of rows has.
 #[test]
-fn a_taxi_table_agrees_with_a_list_of_rows(rt: HostRuntime) -> Result<(), Fail> {
+fn a_taxi_table_agrees_with_a_list_of_rows(rt: HostRuntime) {
     let mut table = TaxiTable::empty(rt.alloc());
     let mut rows = Vec::new(rt.alloc());
     let mut numbers = Numbers { last: 9 };
     for change in 0..CHANGES {
-        let row = row(&mut numbers).ok_or("no row")?;
-        set_row(&mut table, &row).ok_or("not set")?;
-        rows.push(row)?;
-        assert_eq!(rt; agree(&table, &rows), Some(true), "change {change}");
+        let row = row(&mut numbers).expect(&rt, "no row");
+        set_row(&mut table, &row).expect(&rt, "not set");
+        rows.push(row).expect(&rt, "no memory");
+        assert_found(&rt, agree(&table, &rows), Some(true), change);
     }
-    Ok(())
 }

@@ -37,38 +37,65 @@ pub const PLANS: [Planned; 10] = [
     (&[465, 465, 470, 470], 0),
 ];
 
+// 45 minutes from a place to the runway.
+fn taxi_from(place: Place) -> Option<Update> {
+    let (runway, minutes) = (RunwayName::new(b"27L")?, TaxiMinutes::new(45)?);
+    Some(Update::Taxi {
+        place,
+        runway,
+        minutes,
+    })
+}
+
+// A closure and two taxi times.
+fn closure_and_taxi() -> Option<[Update; 3]> {
+    let stand = Place::Stand(StandName::new(b"A1")?);
+    Some([closed()?, taxi_from(Place::Default)?, taxi_from(stand)?])
+}
+
+// The cell of 06:40.
+fn cell() -> Option<(RunwayName, Minute, Bound)> {
+    Some((
+        RunwayName::new(b"27L")?,
+        Minute::new(400)?,
+        Bound::new(410)?,
+    ))
+}
+
+// A rate of one flight in that cell, its opening, and the clock at 07:00.
+fn rate_and_clock() -> Option<[Update; 3]> {
+    let (runway, from, to) = cell()?;
+    let (cap, now) = (Cap::new(1)?, Minute::new(420)?);
+    let rate = Update::Rate {
+        runway,
+        from,
+        to,
+        cap,
+    };
+    Some([
+        rate,
+        Update::Reopen { runway, from, to },
+        Update::Clock { now },
+    ])
+}
+
 /// A fourth flight in three updates, a closure, two taxi times, a rate of one flight in the cell of 06:40, its opening, and
 /// the clock at 07:00.
 pub fn morning() -> Option<[(Role, Update); 9]> {
     let [known, on_runway, ready] = planned("CD4")?;
-    let runway = RunwayName::new(b"27L")?;
-    let (place, stand) = (Place::Default, Place::Stand(StandName::new(b"A1")?));
-    let (from, to) = (Minute::new(400)?, Bound::new(410)?);
-    let (cap, minutes, now) = (Cap::new(1)?, TaxiMinutes::new(45)?, Minute::new(420)?);
-    let by_control = |update| (Role::AirTrafficControl, update);
+    let [closure, default, stand] = closure_and_taxi()?;
+    let [rate, opening, clock] = rate_and_clock()?;
+    let control = Role::AirTrafficControl;
     Some([
         known,
         on_runway,
         ready,
-        by_control(closed()?),
-        by_control(Update::Taxi {
-            place,
-            runway,
-            minutes,
-        }),
-        by_control(Update::Taxi {
-            place: stand,
-            runway,
-            minutes,
-        }),
-        by_control(Update::Rate {
-            runway,
-            from,
-            to,
-            cap,
-        }),
-        by_control(Update::Reopen { runway, from, to }),
-        by_control(Update::Clock { now }),
+        (control, closure),
+        (control, default),
+        (control, stand),
+        (control, rate),
+        (control, opening),
+        (control, clock),
     ])
 }
 

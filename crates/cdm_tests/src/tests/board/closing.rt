@@ -1,11 +1,11 @@
 //! Desks whose receipts aren't the calls of the history.
 use super::days::two_desks;
 use super::desks::withheld;
+use crate::tests::asserts::assert_found;
 use crate::tests::days::planned;
 use cdm_board::{Board, Closed, Desk};
 use std::alloc::Global;
 use std::sync::Wait;
-use std::test::Fail;
 
 // Whether the desk can post a flight's updates.
 fn posts<R: Wait>(rt: &R, alloc: Global, board: &Board, desk: &mut Desk) -> bool {
@@ -91,10 +91,11 @@ fn is_missing(alloc: Global) -> Option<bool> {
 /// The desks of another board differ in the first receipt that isn't a call of the history, and two desks
 /// of one number aren't taken.
 #[test]
-fn desks_of_another_board_are_told(rt: HostRuntime) -> Result<(), Fail> {
+fn desks_of_another_board_are_told(rt: HostRuntime) {
     let alloc = rt.alloc();
-    assert_eq!(rt; mismatch_at_the_end(&rt, alloc), Some((4, 2, 2, 2)));
-    assert_eq!(rt; mismatch_of_others(&rt, alloc), Some((3, 2, 1, 1)));
-    assert_eq!(rt; is_missing(alloc), Some(true));
-    Ok(())
+    let found = mismatch_at_the_end(&rt, alloc);
+    assert_found(&rt, found, Some((4, 2, 2, 2)), "the last call");
+    let found = mismatch_of_others(&rt, alloc);
+    assert_found(&rt, found, Some((3, 2, 1, 1)), "no calls");
+    assert_found(&rt, is_missing(alloc), Some(true), "one number");
 }

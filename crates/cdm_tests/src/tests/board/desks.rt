@@ -1,12 +1,12 @@
 //! Two desks on two threads.
 use super::days::two_desks;
+use crate::tests::asserts::{assert_found, assert_holds};
 use crate::tests::days::planned;
 use cdm_board::{Board, Closed, Desk};
 use cdm_day::Reply;
 use cdm_flight::{Role, Update};
 use std::alloc::Global;
 use std::sync::Wait;
-use std::test::Fail;
 use std::thread::{Threads, join};
 
 /// Whether all updates of the batch are accepted.
@@ -77,14 +77,14 @@ pub fn entries(board: Board, desks: Vec<Desk>) -> Option<usize> {
 /// Each desk finds in its snapshot what it posted, both are in the history, and the board isn't closed
 /// without one of them.
 #[test]
-fn two_desks_share_a_day(rt: HostRuntime) -> Result<(), Fail> {
+fn two_desks_share_a_day(rt: HostRuntime) {
     let alloc = rt.alloc();
-    let (board, mut first, mut second) = two_desks(alloc, &[]).ok_or("not opened")?;
-    assert!(rt; work_side_by_side(&rt, alloc, &board, &mut first, &mut second));
+    let (board, mut first, mut second) = two_desks(alloc, &[]).expect(&rt, "not opened");
+    let works = work_side_by_side(&rt, alloc, &board, &mut first, &mut second);
+    assert_holds(&rt, works, "side by side");
     let mut desks = Vec::new(alloc);
-    desks.push(first)?;
-    let (board, mut desks) = withheld(board, desks).ok_or("not withheld")?;
-    desks.push(second)?;
-    assert_eq!(rt; entries(board, desks), Some(4));
-    Ok(())
+    desks.push(first).expect(&rt, "no memory");
+    let (board, mut desks) = withheld(board, desks).expect(&rt, "not withheld");
+    desks.push(second).expect(&rt, "no memory");
+    assert_found(&rt, entries(board, desks), Some(4), "entries");
 }

@@ -1,13 +1,14 @@
 //! The limits of a board.
 use super::days::opened;
 use super::desks::entries;
+use crate::tests::asserts::{assert_found, assert_holds};
 use crate::tests::days::{day_of, planned};
 use cdm_board::{Board, BoardError, BoardState, Desk, OpenFault};
 use cdm_flight::{Role, Update};
 use cdm_time::Minute;
 use std::alloc::Global;
+use std::process::Abort;
 use std::sync::Wait;
-use std::test::Fail;
 use std::thread::{Threads, join};
 
 // How many updates the day has that comes back where no board has so many desks.
@@ -119,43 +120,54 @@ fn calls_alone(alloc: Global) -> Option<usize> {
     }
 }
 
-/// A board has 1 to 16 desks, and a batch 0 to 256 updates. A board of one thread takes posts and looks.
-#[test]
-fn desks_and_batches_are_counted(rt: HostRuntime) -> Result<(), Fail> {
-    let alloc = rt.alloc();
-    assert_eq!(rt; calls_alone(alloc), Some(2));
-    assert_eq!(rt; not_opened(alloc, 0), Some(3));
-    assert_eq!(rt; not_opened(alloc, 17), Some(3));
-    let (board, mut desks) = opened(alloc, &["AB1"], 1).ok_or("not opened")?;
-    let mut desk = desks.pop().ok_or("no desk")?;
+// Asserts that a new desk's batches are answered, that of 257 updates by a refusal, and that refused calls aren't counted.
+fn assert_counted<R: Wait + Abort>(rt: &R, alloc: Global, board: &Board, desk: &mut Desk) {
     for (count, answer) in [
         (0, Ok(0)),
         (257, Err(BoardError::BatchSize)),
         (256, Ok(256)),
     ] {
-        assert_eq!(rt; replies(&rt, alloc, &board, &mut desk, count), answer);
+        let found = replies(rt, alloc, board, desk, count);
+        assert_found(rt, found, answer, (count, "updates"));
     }
-    assert_eq!(rt; (desk.number(), desk.calls()), (1, 2));
-    let answer = replies(&rt, alloc, &board, &mut desk, 257);
-    assert_eq!(rt; answer, Err(BoardError::BatchSize));
-    assert_eq!(rt; look_refusal(&rt, alloc, &board, &mut desk), None);
-    assert_eq!(rt; desk.calls(), 3);
-    Ok(())
+    assert_found(rt, (desk.number(), desk.calls()), (1, 2), "two posts");
+    let found = replies(rt, alloc, board, desk, 257);
+    assert_found(rt, found, Err(BoardError::BatchSize), "once more");
+    assert_found(rt, look_refusal(rt, alloc, board, desk), None, "a look");
+    assert_found(rt, desk.calls(), 3, "three calls");
+}
+
+/// A board has 1 to 16 desks, and a batch 0 to 256 updates. A board of one thread takes posts and looks.
+#[test]
+fn desks_and_batches_are_counted(rt: HostRuntime) {
+    let alloc = rt.alloc();
+    assert_found(&rt, calls_alone(alloc), Some(2), "alone");
+    for desks in [0, 17] {
+        assert_found(&rt, not_opened(alloc, desks), Some(3), (desks, "desks"));
+    }
+    let (board, mut desks) = opened(alloc, &["AB1"], 1).expect(&rt, "not opened");
+    let mut desk = desks.pop().expect(&rt, "no desk");
+    assert_counted(&rt, alloc, &board, &mut desk);
+}
+
+// Asserts that a look and a post of a desk which made its calls are refused.
+fn assert_full<R: Wait + Abort>(rt: &R, alloc: Global, board: &Board, desk: &mut Desk) {
+    let full = Some(BoardError::HistoryFull(4_096));
+    assert_found(rt, look_refusal(rt, alloc, board, desk), full, "a look");
+    let refusal = replies(rt, alloc, board, desk, 0).err();
+    assert_found(rt, refusal, full, "a post");
+    assert_found(rt, desk.calls(), 256, "calls");
 }
 
 /// Sixteen desks on two threads make 4,096 calls, and one more is refused, a look or a post.
 #[test]
-fn a_history_is_full(rt: HostRuntime) -> Result<(), Fail> {
+fn a_history_is_full(rt: HostRuntime) {
     let alloc = rt.alloc();
-    let (board, mut desks) = opened(alloc, &["AB1"], 16).ok_or("not opened")?;
-    assert!(rt; make_calls_side_by_side(&rt, alloc, &board, &mut desks));
-    let mut last = desks.pop().ok_or("no desk")?;
-    let refusal = look_refusal(&rt, alloc, &board, &mut last);
-    assert_eq!(rt; refusal, Some(BoardError::HistoryFull(4_096)));
-    let refusal = replies(&rt, alloc, &board, &mut last, 0).err();
-    assert_eq!(rt; refusal, Some(BoardError::HistoryFull(4_096)));
-    assert_eq!(rt; last.calls(), 256);
-    desks.push(last)?;
-    assert_eq!(rt; entries(board, desks), Some(4_096));
-    Ok(())
+    let (board, mut desks) = opened(alloc, &["AB1"], 16).expect(&rt, "not opened");
+    let made = make_calls_side_by_side(&rt, alloc, &board, &mut desks);
+    assert_holds(&rt, made, "4,096 calls");
+    let mut last = desks.pop().expect(&rt, "no desk");
+    assert_full(&rt, alloc, &board, &mut last);
+    desks.push(last).expect(&rt, "no memory");
+    assert_found(&rt, entries(board, desks), Some(4_096), "entries");
 }

@@ -1,6 +1,7 @@
 //! What-if questions while another desk posts.
 use super::days::two_desks;
 use super::desks::is_accepted;
+use crate::tests::asserts::{assert_found, assert_holds};
 use crate::tests::days::{THREE_FLIGHTS, closed};
 use cdm_board::{Board, Desk, Snapshot, what_if};
 use cdm_day::DayState;
@@ -10,7 +11,6 @@ use cdm_scenario::{Outcome, Scenario, ScenarioName};
 use std::alloc::Global;
 use std::sync::Wait;
 use std::sync::atomic::{AtomicBool, Ordering};
-use std::test::Fail;
 use std::thread;
 use std::thread::{Threads, join};
 
@@ -140,13 +140,16 @@ fn ask_meanwhile<R: Threads + Sync + Wait>(
 /// A question is answered over the snapshot while another desk posts, and after 100 posts the snapshot
 /// has its plan and its journal. The next look has the closure.
 #[test]
-fn a_snapshot_keeps_its_moment(rt: HostRuntime) -> Result<(), Fail> {
+fn a_snapshot_keeps_its_moment(rt: HostRuntime) {
     let alloc = rt.alloc();
-    let (board, mut first, mut second) = two_desks(alloc, &THREE_FLIGHTS).ok_or("not opened")?;
-    let snapshot = board.look(&rt, alloc, &mut first)?;
+    let opened = two_desks(alloc, &THREE_FLIGHTS);
+    let (board, mut first, mut second) = opened.expect(&rt, "not opened");
+    let looked = board.look(&rt, alloc, &mut first);
+    let snapshot = looked.expect(&rt, "no look");
     let answered = ask_meanwhile(&rt, alloc, &board, &snapshot, &mut second);
-    assert_eq!(rt; answered, Some(true));
-    assert!(rt; is_day(snapshot.state(), 9, &[375, 375, 380]));
-    assert!(rt; finds_day(&rt, alloc, &board, &mut first, 109, &[390, 390, 400]));
-    Ok(())
+    assert_found(&rt, answered, Some(true), "meanwhile");
+    let stays = is_day(snapshot.state(), 9, &[375, 375, 380]);
+    assert_holds(&rt, stays, "the snapshot");
+    let found = finds_day(&rt, alloc, &board, &mut first, 109, &[390, 390, 400]);
+    assert_holds(&rt, found, "the next look");
 }

@@ -1,13 +1,13 @@
 //! A day that many workers plan: that the pieces of a phase run side by side, and which pieces there
 //! are.
 use super::updates::{Short, batch_of};
+use crate::tests::asserts::assert_found;
 use crate::tests::days::day_with;
 use cdm_day::DayState;
 use cdm_flight::{FlightName, Priority, Role, Update};
 use cdm_phase::{Gate, PhaseName, Workers};
 use std::alloc::Global;
 use std::sync::atomic::{AtomicBool, AtomicUsize, Ordering};
-use std::test::Fail;
 use std::thread;
 use std::thread::Threads;
 
@@ -153,7 +153,7 @@ fn meet_twice<R: Threads + Sync>(
 fn pieces_run_side_by_side(rt: HostRuntime) {
     for (phase, others) in [(PhaseName::Runways, 0), (PhaseName::Targets, 63)] {
         let met = meet_twice(&rt, rt.alloc(), phase, others);
-        assert_eq!(rt; met, Some(true), "{phase:?}");
+        assert_found(&rt, met, Some(true), phase);
     }
 }
 
@@ -172,21 +172,20 @@ fn passes<R: Threads + Sync>(
 
 /// 64 flights on their stands are one piece, and 65 are two. They have no runway, so they touch none.
 #[test]
-fn each_piece_passes_once(rt: HostRuntime) -> Result<(), Fail> {
+fn each_piece_passes_once(rt: HostRuntime) {
     for (flights, second) in [(64, 0), (65, 1)] {
-        let batch = other_flights(rt.alloc(), flights).ok_or("no batch")?;
+        let batch = other_flights(rt.alloc(), flights).expect(&rt, "no batch");
         for workers in [1, 2, 7, 64] {
             let counts = passes(&rt, rt.alloc(), &[], &batch, workers);
-            assert_eq!(rt; counts, Some([1, second, 0, 0, 0]), "{workers} workers");
+            assert_found(&rt, counts, Some([1, second, 0, 0, 0]), (flights, workers));
         }
     }
-    Ok(())
 }
 
 /// Only touched runways are pieces: that of a flight, those before and after its move, all after a
 /// CLOCK. A batch of which nothing is accepted, and one without updates, plan nothing.
 #[test]
-fn touched_runways_are_the_pieces(rt: HostRuntime) -> Result<(), Fail> {
+fn touched_runways_are_the_pieces(rt: HostRuntime) {
     let table: [(&[Short], [usize; 5]); 5] = [
         (&[("PRIO", "AB1", "27L", 1)], [1, 0, 1, 0, 0]),
         (&[("RWY", "AB2", "27L", 0)], [1, 0, 1, 1, 0]),
@@ -194,13 +193,12 @@ fn touched_runways_are_the_pieces(rt: HostRuntime) -> Result<(), Fail> {
         (&[("TOBT", "AB3", "27L", 300)], [0, 0, 0, 0, 0]),
         (&[], [0, 0, 0, 0, 0]),
     ];
-    let before = batch_of(rt.alloc(), &ON_TWO_RUNWAYS).ok_or("no batch")?;
+    let before = batch_of(rt.alloc(), &ON_TWO_RUNWAYS).expect(&rt, "no batch");
     for (updates, wanted) in table {
-        let batch = batch_of(rt.alloc(), updates).ok_or("no batch")?;
+        let batch = batch_of(rt.alloc(), updates).expect(&rt, "no batch");
         for workers in [1, 2, 7, 64] {
             let counts = passes(&rt, rt.alloc(), &before, &batch, workers);
-            assert_eq!(rt; counts, Some(wanted), "{workers} workers");
+            assert_found(&rt, counts, Some(wanted), workers);
         }
     }
-    Ok(())
 }

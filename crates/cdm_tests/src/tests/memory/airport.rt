@@ -1,9 +1,9 @@
 //! Airports row by row.
+use crate::tests::asserts::assert_found;
 use cdm_day::{Airport, AirportFault, DayState};
 use cdm_flight::{Cap, CellLength, Group, Occupancy, Place, RunwayName, StandName, TaxiMinutes};
 use cdm_time::Day;
 use std::alloc::{AllocError, Global};
-use std::test::Fail;
 
 /// A row of an airport file in short: a runway, a taxi time from a stand or by default, or how long a group occupies it.
 #[derive(Clone, Copy)]
@@ -13,26 +13,65 @@ enum Row {
     Space(&'static str),
 }
 
+/// The answer to a row, if it is one.
+type Added = Option<Result<(), AirportFault>>;
+
+// Adds a runway.
+fn add_runway(airport: &mut Airport, runway: RunwayName) -> Added {
+    let (cell, cap) = (CellLength::new(10)?, Cap::new(2)?);
+    Some(airport.add_runway(runway, cell, cap))
+}
+
+// Adds a taxi time by default.
+fn add_default(airport: &mut Airport, runway: RunwayName) -> Added {
+    let minutes = TaxiMinutes::new(15)?;
+    Some(airport.add_taxi(Place::Default, runway, minutes))
+}
+
+// Adds a taxi time from a stand.
+fn add_stand(airport: &mut Airport, runway: RunwayName, stand: &str) -> Added {
+    let (stand, minutes) = (StandName::new(stand.as_bytes())?, TaxiMinutes::new(10)?);
+    Some(airport.add_taxi(Place::Stand(stand), runway, minutes))
+}
+
+// Adds how long a group occupies the runway.
+fn add_space(airport: &mut Airport, runway: RunwayName, group: &str) -> Added {
+    let (group, occupancy) = (Group::new(group.as_bytes())?, Occupancy::new(3)?);
+    Some(airport.add_space(runway, group, occupancy))
+}
+
 // Adds the row of a runway, if it is one.
-fn add(airport: &mut Airport, row: Row, runway: &str) -> Option<Result<(), AirportFault>> {
+fn add(airport: &mut Airport, row: Row, runway: &str) -> Added {
     let runway = RunwayName::new(runway.as_bytes())?;
-    Some(match row {
-        Row::Runway => airport.add_runway(runway, CellLength::new(10)?, Cap::new(2)?),
-        Row::Taxi("*") => airport.add_taxi(Place::Default, runway, TaxiMinutes::new(15)?),
-        Row::Taxi(stand) => {
-            let stand = StandName::new(stand.as_bytes())?;
-            airport.add_taxi(Place::Stand(stand), runway, TaxiMinutes::new(10)?)
-        }
-        Row::Space(group) => {
-            let group = Group::new(group.as_bytes())?;
-            airport.add_space(runway, group, Occupancy::new(3)?)
-        }
-    })
+    match row {
+        Row::Runway => add_runway(airport, runway),
+        Row::Taxi("*") => add_default(airport, runway),
+        Row::Taxi(stand) => add_stand(airport, runway, stand),
+        Row::Space(group) => add_space(airport, runway, group),
+    }
 }
 
 // The answer to the row of a runway.
 fn answer(airport: &mut Airport, row: Row, runway: &str) -> Result<(), AirportFault> {
     add(airport, row, runway).unwrap_or(Err(AirportFault::Unknown))
+}
+
+// The airport once more.
+fn copied(alloc: Global, airport: &Airport) -> Option<Airport> {
+    again!(airport.copy(alloc), AllocError, true)
+}
+
+// The answer to the row, which is given anew where memory was refused and the airport was as before.
+fn answer_again(
+    airport: &mut Airport,
+    before: &Airport,
+    row: Row,
+    runway: &str,
+) -> Result<(), AirportFault> {
+    match answer(airport, row, runway) {
+        Err(AirportFault::Memory) if airport.is_same(before) => answer(airport, row, runway),
+        answer => answer,
+    }
 }
 
 // The answer to the row, and whether the airport is as before, which it is where memory is refused.
@@ -42,33 +81,37 @@ fn answered(
     row: Row,
     runway: &str,
 ) -> Option<(Result<(), AirportFault>, bool)> {
-    let before = again!(airport.copy(alloc), AllocError, true)?;
-    let first = answer(airport, row, runway);
-    let is_refused = first == Err(AirportFault::Memory) && airport.is_same(&before);
-    let last = if is_refused {
-        answer(airport, row, runway)
-    } else {
-        first
-    };
+    let before = copied(alloc, airport)?;
+    let last = answer_again(airport, &before, row, runway);
     Some((last, airport.is_same(&before)))
 }
 
-// How many runways are planned on the day that begins at the airport, which comes back where memory is refused.
+// The day that begins at the airport, which comes back where memory is refused.
+fn begun(alloc: Global, airport: Airport, before: &Airport) -> Option<DayState> {
+    match DayState::new(alloc, airport) {
+        Ok(day) => Some(day),
+        Err(airport) => {
+            if airport.is_same(before) {
+                DayState::new(alloc, airport).ok()
+            } else {
+                None
+            }
+        }
+    }
+}
+
+// How many runways are planned on it.
 fn runways_begun(alloc: Global, airport: Airport) -> Option<usize> {
-    let copied = again!(airport.copy(alloc), AllocError, true)?;
-    let day = match DayState::new(alloc, airport) {
-        Ok(day) => day,
-        Err(airport) if airport.is_same(&copied) => DayState::new(alloc, airport).ok()?,
-        Err(_) => return None,
-    };
+    let before = copied(alloc, &airport)?;
+    let day = begun(alloc, airport, &before)?;
     Some(day.plan().runways.len())
 }
 
 /// A refused row leaves no trace, and the airport comes back where its day can't begin.
 #[test]
-fn refused_memory_leaves_an_airport(rt: HostRuntime) -> Result<(), Fail> {
+fn refused_memory_leaves_an_airport(rt: HostRuntime) {
     let alloc = rt.alloc();
-    let day = Day::of_text(b"2025-03-10").map_err(|_| "no day")?;
+    let day = Day::of_text(b"2025-03-10").expect(&rt, "no day");
     let mut airport = Airport::new(alloc, day);
     for (row, runway, wanted) in [
         (Row::Taxi("*"), "01", Err(AirportFault::Unknown)),
@@ -90,8 +133,7 @@ fn refused_memory_leaves_an_airport(rt: HostRuntime) -> Result<(), Fail> {
         (Row::Runway, "09", Err(AirportFault::Full)),
     ] {
         let found = answered(alloc, &mut airport, row, runway);
-        assert_eq!(rt; found, Some((wanted, wanted.is_err())), "{runway}");
+        assert_found(&rt, found, Some((wanted, wanted.is_err())), runway);
     }
-    assert_eq!(rt; runways_begun(alloc, airport), Some(8));
-    Ok(())
+    assert_found(&rt, runways_begun(alloc, airport), Some(8), "the day");
 }

@@ -1,5 +1,6 @@
 //! Boards, desks and snapshots.
 use super::{Planned, is_day, made};
+use crate::tests::asserts::{assert_found, assert_holds};
 use crate::tests::board::desks::entries;
 use crate::tests::days::{closed, planned};
 use cdm_board::{Board, BoardError, BoardState, Desk, OpenFault, Snapshot, what_if};
@@ -7,7 +8,6 @@ use cdm_phase::{OpenGate, Workers};
 use cdm_scenario::{Outcome, Scenario, ScenarioFault, ScenarioName};
 use std::alloc::{AllocError, Global};
 use std::sync::Wait;
-use std::test::Fail;
 use std::thread::Threads;
 
 /// With one flight, and with two.
@@ -41,13 +41,13 @@ fn looks_alone(alloc: Global, state: &mut BoardState) -> bool {
 
 /// The board of one thread, with a post and a look.
 #[test]
-fn refused_memory_leaves_a_board_of_one_thread(rt: HostRuntime) -> Result<(), Fail> {
+fn refused_memory_leaves_a_board_of_one_thread(rt: HostRuntime) {
     let alloc = rt.alloc();
-    let mut state = BoardState::new(alloc, made(alloc, &["AB1"]).ok_or("no day")?);
-    assert_eq!(rt; replies_alone(alloc, &mut state), Some(3));
-    assert!(rt; looks_alone(alloc, &mut state));
-    assert_eq!(rt; state.calls(), 2);
-    Ok(())
+    let day = made(alloc, &["AB1"]).expect(&rt, "no day");
+    let mut state = BoardState::new(alloc, day);
+    assert_found(&rt, replies_alone(alloc, &mut state), Some(3), "replies");
+    assert_holds(&rt, looks_alone(alloc, &mut state), "a look");
+    assert_found(&rt, state.calls(), 2, "calls");
 }
 
 // A board with two desks on the day that plans AB1, which comes back where memory is refused.
@@ -93,16 +93,16 @@ fn looks<R: Wait>(rt: &R, alloc: Global, board: &Board, desk: &mut Desk) -> Opti
 /// A board is opened, its desks post and look, and it is closed with the answered calls alone. The second post of a flight
 /// is refused in the update that makes it known.
 #[test]
-fn refused_memory_leaves_desks(rt: HostRuntime) -> Result<(), Fail> {
+fn refused_memory_leaves_desks(rt: HostRuntime) {
     let alloc = rt.alloc();
-    let (board, mut desks) = opened(alloc).ok_or("not opened")?;
+    let (board, mut desks) = opened(alloc).expect(&rt, "not opened");
     let mut updates = [6, 8].iter();
     for desk in &mut desks {
-        assert!(rt; posts(&rt, alloc, &board, desk));
-        assert_eq!(rt; looks(&rt, alloc, &board, desk), updates.next().copied());
+        let wanted = updates.next().copied();
+        assert_holds(&rt, posts(&rt, alloc, &board, desk), wanted);
+        assert_found(&rt, looks(&rt, alloc, &board, desk), wanted, "updates");
     }
-    assert_eq!(rt; entries(board, desks), Some(4));
-    Ok(())
+    assert_found(&rt, entries(board, desks), Some(4), "entries");
 }
 
 // The scenario that closes the runway.
@@ -137,14 +137,18 @@ fn late<R: Threads + Sync>(rt: &R, alloc: Global, snapshot: &Snapshot) -> Option
     Some(outcomes.iter().filter(|outcome| is_late(outcome)).count())
 }
 
+// The snapshot of the first desk's first look.
+fn seen(alloc: Global, state: &mut BoardState) -> Option<Snapshot> {
+    again!(state.look(alloc, 1), BoardError::Memory, state.calls() == 0)
+}
+
 /// Questions over a snapshot, which stays.
 #[test]
-fn refused_memory_leaves_a_snapshot(rt: HostRuntime) -> Result<(), Fail> {
+fn refused_memory_leaves_a_snapshot(rt: HostRuntime) {
     let alloc = rt.alloc();
-    let mut state = BoardState::new(alloc, made(alloc, &["AB1"]).ok_or("no day")?);
-    let seen = again!(state.look(alloc, 1), BoardError::Memory, state.calls() == 0);
-    let snapshot = seen.ok_or("no snapshot")?;
-    assert_eq!(rt; late(&rt, alloc, &snapshot), Some(2));
-    assert!(rt; is_day(snapshot.state(), 3, ONE));
-    Ok(())
+    let day = made(alloc, &["AB1"]).expect(&rt, "no day");
+    let mut state = BoardState::new(alloc, day);
+    let snapshot = seen(alloc, &mut state).expect(&rt, "no snapshot");
+    assert_found(&rt, late(&rt, alloc, &snapshot), Some(2), "late");
+    assert_holds(&rt, is_day(snapshot.state(), 3, ONE), "the snapshot");
 }

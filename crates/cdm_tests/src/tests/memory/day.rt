@@ -1,11 +1,12 @@
 //! Days, and their plans.
 use super::{PLANS, Planned, is_day, is_planned, is_planned_anew, made, morning, plans_around};
+use crate::tests::asserts::{assert_found, assert_holds};
 use crate::tests::days::THREE_FLIGHTS;
 use cdm_day::{DayState, Reply};
 use cdm_flight::{Role, Update};
 use cdm_phase::{OpenGate, Workers};
 use std::alloc::{AllocError, Global};
-use std::test::Fail;
+use std::process::Abort;
 use std::thread::Threads;
 
 // The reply to an update that so many workers plan, or the caller alone.
@@ -50,33 +51,60 @@ fn is_copied(alloc: Global, day: &DayState, wanted: Planned) -> bool {
     }
 }
 
-// Whether a copy of the whole day after the morning, its airport and its journal are alike.
-fn is_shared(alloc: Global, day: &DayState) -> Option<bool> {
-    let copied = again!(day.copy(alloc), AllocError, is_day(day, 18, PLANS[9]))?;
-    let airport = again!(day.share_airport(), AllocError, true)?;
+// Whether a copy of the whole day after the morning is alike.
+fn is_copied_whole(alloc: Global, day: &DayState) -> bool {
+    match again!(day.copy(alloc), AllocError, is_day(day, 18, PLANS[9])) {
+        Some(copied) => is_day(&copied, 18, PLANS[9]),
+        None => false,
+    }
+}
+
+// Whether the airport that it shares is its own.
+fn shares_airport(day: &DayState) -> bool {
+    match again!(day.share_airport(), AllocError, true) {
+        Some(airport) => airport.is_same(day.airport()),
+        None => false,
+    }
+}
+
+// How many updates the journal that it shares has.
+fn shared_updates(day: &DayState) -> Option<usize> {
     let journal = again!(day.share_journal(), AllocError, true)?;
-    let alike = airport.is_same(day.airport()) && journal.len() == 18;
-    Some(alike && is_day(&copied, 18, PLANS[9]))
+    Some(journal.len())
+}
+
+// Asserts that the day has so many updates, and is planned like this, also anew and in a copy.
+fn assert_day(rt: &impl Abort, alloc: Global, day: &DayState, updates: usize, after: Planned) {
+    assert_holds(rt, is_day(day, updates, after), (updates, "the day"));
+    assert_holds(rt, is_planned_anew(alloc, day, after), (updates, "anew"));
+    assert_holds(rt, is_copied(alloc, day, after), (updates, "a copy"));
+}
+
+// Asserts that the day takes each update of a morning by so many workers, or alone.
+fn assert_takes_all<R: Threads + Sync + Abort>(
+    rt: &R,
+    alloc: Global,
+    day: &mut DayState,
+    count: usize,
+) {
+    let updates = morning().expect(rt, "no updates");
+    for (place, update) in updates.iter().enumerate() {
+        let (before, after) = plans_around(place).expect(rt, "no plan");
+        let accepted = accepts(rt, alloc, day, update, count, before);
+        assert_holds(rt, accepted, (place, count));
+        assert_day(rt, alloc, day, 10 + place, after);
+    }
 }
 
 /// A day takes each update of a morning, alone and by two workers; its plan made anew and a copy of it are alike.
 #[test]
-fn refused_memory_leaves_a_day(rt: HostRuntime) -> Result<(), Fail> {
+fn refused_memory_leaves_a_day(rt: HostRuntime) {
     let alloc = rt.alloc();
     for count in [0, 2] {
-        let mut day = made(alloc, &THREE_FLIGHTS).ok_or("no day")?;
-        let updates = morning().ok_or("no updates")?;
-        for (place, update) in updates.iter().enumerate() {
-            let (before, after) = plans_around(place).ok_or("no plan")?;
-            assert!(rt;
-                accepts(&rt, alloc, &mut day, update, count, before),
-                "{place}"
-            );
-            assert!(rt; is_day(&day, 10 + place, after), "{place}");
-            assert!(rt; is_planned_anew(alloc, &day, after), "{place}");
-            assert!(rt; is_copied(alloc, &day, after), "{place}");
-        }
-        assert_eq!(rt; is_shared(alloc, &day), Some(true));
+        let mut day = made(alloc, &THREE_FLIGHTS).expect(&rt, "no day");
+        assert_takes_all(&rt, alloc, &mut day, count);
+        assert_holds(&rt, is_copied_whole(alloc, &day), (count, "a copy"));
+        assert_holds(&rt, shares_airport(&day), (count, "the airport"));
+        assert_found(&rt, shared_updates(&day), Some(18), count);
     }
-    Ok(())
 }

@@ -1,10 +1,10 @@
 //! Records that are posted to a day.
 use super::{Planned, is_day, made, morning, plans_around};
+use crate::tests::asserts::{assert_found, assert_holds};
 use crate::tests::days::THREE_FLIGHTS;
 use cdm_desk::{DeskDay, DeskReply, push_reply};
 use cdm_flight::{Role, Update};
 use std::alloc::{AllocError, Global};
-use std::test::Fail;
 
 /// How many lines each reply of the morning has: its own, and one for each flight that changes. CD4 becomes known, has a
 /// runway, and a slot; the closure and the first taxi time move all four, the one from a stand none; the rate moves two, the
@@ -39,15 +39,16 @@ fn lines(alloc: Global, desk: &DeskDay, reply: &DeskReply) -> Option<usize> {
 
 /// Each record of a morning is answered, the day then has it, and it has a reply of a line for each flight.
 #[test]
-fn refused_memory_leaves_a_posted_day(rt: HostRuntime) -> Result<(), Fail> {
+fn refused_memory_leaves_a_posted_day(rt: HostRuntime) {
     let alloc = rt.alloc();
-    let mut desk = DeskDay::new(made(alloc, &THREE_FLIGHTS).ok_or("no day")?);
-    let updates = morning().ok_or("no updates")?;
+    let day = made(alloc, &THREE_FLIGHTS).expect(&rt, "no day");
+    let mut desk = DeskDay::new(day);
+    let updates = morning().expect(&rt, "no updates");
     for (place, (update, count)) in updates.iter().zip(&LINES).enumerate() {
-        let (before, after) = plans_around(place).ok_or("no plan")?;
-        let reply = posted(alloc, &mut desk, *update, before).ok_or("not posted")?;
-        assert!(rt; is_day(desk.state(), 10 + place, after), "{place}");
-        assert_eq!(rt; lines(alloc, &desk, &reply), Some(*count), "{place}");
+        let (before, after) = plans_around(place).expect(&rt, "no plan");
+        let posted = posted(alloc, &mut desk, *update, before);
+        let reply = posted.expect(&rt, "not posted");
+        assert_holds(&rt, is_day(desk.state(), 10 + place, after), place);
+        assert_found(&rt, lines(alloc, &desk, &reply), Some(*count), place);
     }
-    Ok(())
 }

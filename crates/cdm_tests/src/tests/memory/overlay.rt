@@ -1,12 +1,12 @@
 //! Updates that are laid over a day, and scenarios.
 use super::{PLANS, Planned, is_day, is_planned, is_planned_anew, made, morning, plans_around};
+use crate::tests::asserts::{assert_found, assert_holds};
 use crate::tests::days::THREE_FLIGHTS;
 use cdm_day::{DayState, Records, Reply};
 use cdm_flight::Update;
 use cdm_phase::{OpenGate, Workers};
 use cdm_scenario::{Outcome, Overlay, Scenario, ScenarioFault, ScenarioName, answer, answer_all};
 use std::alloc::{AllocError, Global};
-use std::test::Fail;
 use std::thread::Threads;
 
 // Whether the update is accepted over a day that is planned like this.
@@ -30,20 +30,19 @@ fn is_planned_over(alloc: Global, overlay: &Overlay, wanted: Planned) -> bool {
 
 /// Each update of a morning is laid over a day, which stays.
 #[test]
-fn refused_memory_leaves_an_overlay(rt: HostRuntime) -> Result<(), Fail> {
+fn refused_memory_leaves_an_overlay(rt: HostRuntime) {
     let alloc = rt.alloc();
-    let base = made(alloc, &THREE_FLIGHTS).ok_or("no day")?;
+    let base = made(alloc, &THREE_FLIGHTS).expect(&rt, "no day");
     let mut overlay = Overlay::over(alloc, &base);
-    let updates = morning().ok_or("no updates")?;
+    let updates = morning().expect(&rt, "no updates");
     for (place, (_, update)) in updates.iter().enumerate() {
-        let (before, after) = plans_around(place).ok_or("no plan")?;
-        assert!(rt; accepts(alloc, &mut overlay, update, before), "{place}");
-        assert!(rt; is_planned_over(alloc, &overlay, after), "{place}");
-        assert!(rt; is_planned_anew(alloc, &overlay, after), "{place}");
+        let (before, after) = plans_around(place).expect(&rt, "no plan");
+        assert_holds(&rt, accepts(alloc, &mut overlay, update, before), place);
+        assert_holds(&rt, is_planned_over(alloc, &overlay, after), place);
+        assert_holds(&rt, is_planned_anew(alloc, &overlay, after), place);
     }
-    assert_eq!(rt; overlay.accepted(), 18);
-    assert!(rt; is_day(&base, 9, PLANS[0]));
-    Ok(())
+    assert_found(&rt, overlay.accepted(), 18, "accepted");
+    assert_holds(&rt, is_day(&base, 9, PLANS[0]), "the day");
 }
 
 // Adds an update to a scenario.
@@ -108,14 +107,14 @@ fn answered<R: Threads + Sync>(
 
 /// A scenario takes each update of a morning, and is answered over a day, which stays.
 #[test]
-fn refused_memory_leaves_a_scenario(rt: HostRuntime) -> Result<(), Fail> {
+fn refused_memory_leaves_a_scenario(rt: HostRuntime) {
     let alloc = rt.alloc();
-    let base = made(alloc, &THREE_FLIGHTS).ok_or("no day")?;
-    let first = of_morning(alloc).ok_or("no scenario")?;
-    let second = of_morning(alloc).ok_or("no scenario")?;
-    assert!(rt; is_answered_alone(alloc, &base, &first));
+    let base = made(alloc, &THREE_FLIGHTS).expect(&rt, "no day");
+    let first = of_morning(alloc).expect(&rt, "no scenario");
+    let second = of_morning(alloc).expect(&rt, "no scenario");
+    assert_holds(&rt, is_answered_alone(alloc, &base, &first), "alone");
     let scenarios = [first, second];
-    assert_eq!(rt; answered(&rt, alloc, &base, &scenarios), Some(2));
-    assert!(rt; is_day(&base, 9, PLANS[0]));
-    Ok(())
+    let found = answered(&rt, alloc, &base, &scenarios);
+    assert_found(&rt, found, Some(2), "two workers");
+    assert_holds(&rt, is_day(&base, 9, PLANS[0]), "the day");
 }

@@ -3,11 +3,15 @@ ghost use Rattle.std.specs.Prelude.{◌≡◌, ◌+◌, [], ◌∷◌, IfOk};
 ghost use Rattle.std.proofs.Common.{sym, ◌∙◌};
 ghost use Rattle.cdm_phase.specs.declared.job.PhaseName.TheVariants.{Targets};
 
+use crate::tests::asserts::assert_holds;
 use cdm_phase::{Job, OpenGate, PhaseName, Piece, Workers, assemble, run_here, run_phase};
 use std::alloc::{AllocError, Global};
 use std::thread::Threads;
 
 const ITEMS: [u32; 3] = [10, 20, 30];
+
+/// What is made of them.
+const OUTS: [u64; 3] = [11, 21, 31];
 
 /// One more than the item.
 struct AddOne;
@@ -59,20 +63,32 @@ fn by_workers<R: Threads + Sync>(rt: &R, alloc: Global, count: usize) -> Option<
     )
 }
 
+// What a double and a gap make.
+fn by_pieces(alloc: Global) -> Option<Vec<u64>> {
+    again!(double_and_gap(alloc), AllocError, true)
+}
+
+// What the caller alone makes.
+fn by_caller(alloc: Global) -> Option<Vec<u64>> {
+    again!(run_here(alloc, &AddOne, &ITEMS), AllocError, true)
+}
+
+// Whether it is the list.
+fn is_list(outs: Option<Vec<u64>>) -> bool {
+    match outs {
+        Some(outs) => outs.as_slice() == OUTS.as_slice(),
+        None => false,
+    }
+}
+
 /// A double and a gap make the list, and so do a phase of many workers and the caller alone.
 #[test]
 fn refused_memory_in_pieces(rt: HostRuntime) {
     let alloc = rt.alloc();
-    let wanted = Some([11u64, 21, 31].as_slice());
-    let outs = again!(double_and_gap(alloc), AllocError, true);
-    assert_eq!(rt; outs.as_deref(), wanted);
-    let outs = again!(run_here(alloc, &AddOne, &ITEMS), AllocError, true);
-    assert_eq!(rt; outs.as_deref(), wanted);
+    assert_holds(&rt, is_list(by_pieces(alloc)), "a double and a gap");
+    assert_holds(&rt, is_list(by_caller(alloc)), "the caller alone");
     for count in [1, 2, 7] {
-        assert_eq!(rt;
-            by_workers(&rt, alloc, count).as_deref(),
-            wanted,
-            "{count} workers"
-        );
+        let outs = by_workers(&rt, alloc, count);
+        assert_holds(&rt, is_list(outs), (count, "workers"));
     }
 }

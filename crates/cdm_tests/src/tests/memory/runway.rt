@@ -1,9 +1,9 @@
 //! Runways.
+use crate::tests::asserts::assert_found;
 use cdm_flight::{Cap, CellLength, RunwayName};
 use cdm_runway::{Runway, RunwayFault};
 use cdm_time::{Bound, Minute};
 use std::alloc::{AllocError, Global};
-use std::test::Fail;
 
 /// A runway with 2 flights in each cell of 10 minutes. Nothing for want of memory.
 pub fn two_in_ten(alloc: Global) -> Option<Runway> {
@@ -11,8 +11,8 @@ pub fn two_in_ten(alloc: Global) -> Option<Runway> {
     Runway::new(alloc, name, CellLength::new(10)?, Cap::new(2)?).ok()
 }
 
-// A window and a capacity.
-fn window_of(from: u16, to: u16, cap: u16) -> Option<(Minute, Bound, Cap)> {
+/// A window and a capacity.
+pub fn window_of(from: u16, to: u16, cap: u16) -> Option<(Minute, Bound, Cap)> {
     Some((Minute::new(from)?, Bound::new(to)?, Cap::new(cap)?))
 }
 
@@ -49,6 +49,22 @@ fn copied(alloc: Global, runway: &Runway) -> Option<Runway> {
     agree(runway, &copied).then_some(copied)
 }
 
+// Changes a window of a runway, which is as before where memory is refused.
+fn change(
+    runway: &mut Runway,
+    before: &Runway,
+    word: &str,
+    window: (u16, u16),
+    number: u16,
+) -> Option<()> {
+    let (from, to, cap) = window_of(window.0, window.1, number)?;
+    again!(
+        set_window(runway, word, from, to, cap),
+        RunwayFault::Memory,
+        agree(runway, before)
+    )
+}
+
 // What the runway allows at the first minute of a changed window.
 fn changed(
     alloc: Global,
@@ -58,24 +74,23 @@ fn changed(
     number: u16,
 ) -> Option<(u16, bool)> {
     let before = copied(alloc, runway)?;
-    let (from, to, cap) = window_of(window.0, window.1, number)?;
-    again!(
-        set_window(runway, word, from, to, cap),
-        RunwayFault::Memory,
-        agree(runway, &before)
-    )?;
-    Some(allowed(runway, from))
+    change(runway, &before, word, window, number)?;
+    Some(allowed(runway, Minute::new(window.0)?))
+}
+
+// A runway, made anew where memory was refused.
+fn made(alloc: Global) -> Option<Runway> {
+    match two_in_ten(alloc) {
+        Some(runway) => Some(runway),
+        None => two_in_ten(alloc),
+    }
 }
 
 /// With each change stands what the runway then allows at the first minute of its window.
 #[test]
-fn refused_memory_leaves_a_runway(rt: HostRuntime) -> Result<(), Fail> {
+fn refused_memory_leaves_a_runway(rt: HostRuntime) {
     let alloc = rt.alloc();
-    let made = match two_in_ten(alloc) {
-        Some(runway) => Some(runway),
-        None => two_in_ten(alloc),
-    };
-    let mut runway = made.ok_or("no runway")?;
+    let mut runway = made(alloc).expect(&rt, "no runway");
     for (word, from, to, number, after) in [
         ("CLOSE", 372, 391, 0, (2, true)),
         ("RATE", 370, 400, 1, (1, false)),
@@ -86,7 +101,6 @@ fn refused_memory_leaves_a_runway(rt: HostRuntime) -> Result<(), Fail> {
         ("RATE", 0, 2880, 0, (0, true)),
     ] {
         let found = changed(alloc, &mut runway, word, (from, to), number);
-        assert_eq!(rt; found, Some(after), "{word} {from} {to}");
+        assert_found(&rt, found, Some(after), (word, from, to));
     }
-    Ok(())
 }

@@ -1,8 +1,8 @@
 //! Taxi times.
+use crate::tests::asserts::{assert_found, assert_holds};
 use cdm_flight::{Ice, IceMinutes, Place, RunwayName, StandName, TaxiMinutes};
 use cdm_taxi::{TaxiFault, TaxiTable};
 use std::alloc::{AllocError, Global};
-use std::test::Fail;
 
 // One of a thousand stands, and minutes of its own.
 fn row(number: u16) -> Option<(Place, TaxiMinutes)> {
@@ -59,32 +59,43 @@ fn set(table: &mut TaxiTable, place: &Place, runway: RunwayName, number: u16) ->
     )
 }
 
+// What the row of a stand is answered.
+fn wanted(number: u16) -> Option<Result<(), TaxiFault>> {
+    if number == 400 {
+        Some(Err(TaxiFault::Full))
+    } else {
+        Some(Ok(()))
+    }
+}
+
+// The table once more.
+fn copied(table: &TaxiTable) -> Option<TaxiTable> {
+    again!(table.copy(), AllocError, true)
+}
+
 /// With rows of 400 stands the table is full for another stand, but not for one of them, nor for the default.
 #[test]
-fn refused_memory_leaves_taxi_times(rt: HostRuntime) -> Result<(), Fail> {
-    let runway = RunwayName::new(b"27L").ok_or("no runway")?;
+fn refused_memory_leaves_taxi_times(rt: HostRuntime) {
+    let runway = RunwayName::new(b"27L").expect(&rt, "no runway");
     let mut table = TaxiTable::empty(rt.alloc());
     for number in 0..401u16 {
-        let wanted = if number == 400 {
-            Err(TaxiFault::Full)
-        } else {
-            Ok(())
-        };
-        assert_eq!(rt;
-            answer(&mut table, runway, number),
-            Some(wanted),
-            "{number}"
+        let found = answer(&mut table, runway, number);
+        assert_found(&rt, found, wanted(number), number);
+    }
+    let mut copied = copied(&table).expect(&rt, "not copied");
+    assert_holds(&rt, copied.is_same(&table), "a copy");
+    let (stand, _) = row(7).expect(&rt, "no row");
+    for place in [stand, Place::Default] {
+        let found = set(&mut copied, &place, runway, 120);
+        assert_found(&rt, found, Some(()), "set");
+        assert_found(
+            &rt,
+            minutes_from(&copied, &place, runway),
+            Some(120),
+            "minutes",
         );
     }
-    let mut copied = again!(table.copy(), AllocError, true).ok_or("not copied")?;
-    assert!(rt; copied.is_same(&table));
-    let (stand, _) = row(7).ok_or("no row")?;
-    for place in [stand, Place::Default] {
-        assert_eq!(rt; set(&mut copied, &place, runway, 120), Some(()));
-        assert_eq!(rt; minutes_from(&copied, &place, runway), Some(120));
-    }
-    assert!(rt; !copied.is_same(&table));
-    Ok(())
+    assert_holds(&rt, !copied.is_same(&table), "a changed copy");
 }
 
 // EXOT from a stand to a runway, with minutes of remote de-icing or none.
@@ -105,15 +116,15 @@ fn two_rows(alloc: Global) -> Option<TaxiTable> {
 
 /// A stand's own time, that of the default, de-icing on top, and a runway without times.
 #[test]
-fn refused_memory_in_two_rows(rt: HostRuntime) -> Result<(), Fail> {
-    let table = two_rows(rt.alloc()).ok_or("not set")?;
+fn refused_memory_in_two_rows(rt: HostRuntime) {
+    let table = two_rows(rt.alloc()).expect(&rt, "not set");
     for (stand, runway, ice, wanted) in [
         ("A1", "27L", 0, Some(10)),
         ("A1", "27L", 12, Some(22)),
         ("A2", "27L", 0, Some(15)),
         ("A1", "09", 0, None),
     ] {
-        assert_eq!(rt; exot(&table, stand, runway, ice), wanted, "{stand} {ice}");
+        let found = exot(&table, stand, runway, ice);
+        assert_found(&rt, found, wanted, (stand, ice));
     }
-    Ok(())
 }

@@ -1,12 +1,12 @@
 //! Texts of a day.
 use super::{PLANS, is_day, made};
+use crate::tests::asserts::{assert_found, assert_holds};
 use crate::tests::days::THREE_FLIGHTS;
 use cdm_day::DayState;
 use cdm_flight::{FlightName, RefusalWord};
 use cdm_report::{delta_text, indicators, refused_text, report_text};
 use cdm_view::{Question, Standings, ViewFault, answer};
 use std::alloc::{AllocError, Global};
-use std::test::Fail;
 
 const REPORT: &str = "\
 DAY 2025-03-10 NOW 100000
@@ -45,6 +45,15 @@ fn is_text(found: Option<Vec<u8>>, wanted: &str) -> bool {
     }
 }
 
+// The line of a refused record.
+fn line(alloc: Global) -> Option<Vec<u8>> {
+    again!(
+        refused_text(alloc, 7, RefusalWord::Exists),
+        AllocError,
+        true
+    )
+}
+
 // The report of a day.
 fn report(alloc: Global, state: &DayState) -> Option<Vec<u8>> {
     let refused = [(7, RefusalWord::Exists), (1000, RefusalWord::Full)];
@@ -79,21 +88,17 @@ fn standings(alloc: Global, state: &DayState) -> Option<(usize, usize)> {
 
 /// The report of a day, a growth, the line of a refused record, and what holds a flight.
 #[test]
-fn refused_memory_in_texts(rt: HostRuntime) -> Result<(), Fail> {
+fn refused_memory_in_texts(rt: HostRuntime) {
     let alloc = rt.alloc();
-    let state = made(alloc, &THREE_FLIGHTS).ok_or("no day")?;
-    let flight = FlightName::new(b"AB3").ok_or("no name")?;
-    let line = again!(
-        refused_text(alloc, 7, RefusalWord::Exists),
-        AllocError,
-        true
-    );
-    assert!(rt; is_text(line, "REFUSED 7 EXISTS\n"));
-    assert!(rt; is_text(report(alloc, &state), REPORT));
-    assert!(rt; is_text(growth(alloc, &state), DELTA));
-    assert!(rt; is_text(answered(alloc, &state, &Question::Why(flight)), WHY));
-    assert!(rt; is_text(answered(alloc, &state, &Question::Load(None)), LOAD));
-    assert_eq!(rt; standings(alloc, &state), Some((3, 0)));
-    assert!(rt; is_day(&state, 9, PLANS[0]));
-    Ok(())
+    assert_holds(&rt, is_text(line(alloc), "REFUSED 7 EXISTS\n"), "a line");
+    let state = made(alloc, &THREE_FLIGHTS).expect(&rt, "no day");
+    assert_holds(&rt, is_text(report(alloc, &state), REPORT), "a report");
+    assert_holds(&rt, is_text(growth(alloc, &state), DELTA), "a growth");
+    let why = Question::Why(FlightName::new(b"AB3").expect(&rt, "no name"));
+    for (question, wanted) in [(why, WHY), (Question::Load(None), LOAD)] {
+        let found = answered(alloc, &state, &question);
+        assert_holds(&rt, is_text(found, wanted), wanted);
+    }
+    assert_found(&rt, standings(alloc, &state), Some((3, 0)), "standings");
+    assert_holds(&rt, is_day(&state, 9, PLANS[0]), "the day");
 }

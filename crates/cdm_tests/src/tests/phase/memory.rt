@@ -4,11 +4,12 @@ ghost use Rattle.std.proofs.Common.{sym, ◌∙◌};
 ghost use Rattle.cdm_phase.specs.declared.job.PhaseName.TheVariants.{Runways};
 
 use super::{WORKERS, numbers};
+use crate::tests::asserts::{assert_found, assert_holds};
 use cdm_phase::{Job, OpenGate, PhaseName, Workers, run_phase};
 use std::alloc::{AllocError, Global};
 use std::sync::atomic::{AtomicBool, AtomicUsize, Ordering};
-use std::test::Fail;
 use std::thread;
+use std::thread::Threads;
 
 /// Has no memory for item 5 when it is first run.
 #[derive(Drop)]
@@ -42,21 +43,30 @@ impl Job for FailsAtFive {
     ghost one_value = { λ _ _ x y _ a b. a ∙ sym b };
 }
 
+// Whether so many workers answer that there is no memory, and how many items were begun and ended.
+fn answered<R: Threads + Sync>(
+    rt: &R,
+    alloc: Global,
+    count: usize,
+) -> Option<(bool, usize, usize)> {
+    let workers = Workers::new(count)?;
+    let items = numbers(alloc, 20).ok()?;
+    let job = FailsAtFive {
+        failed: AtomicBool::new(false),
+        begun: AtomicUsize::new(0),
+        ended: AtomicUsize::new(0),
+    };
+    let is_refused = run_phase(rt, alloc, workers, 1, &job, &items, &OpenGate).is_err();
+    let begun = job.begun.load(Ordering::SeqCst);
+    Some((is_refused, begun, job.ended.load(Ordering::SeqCst)))
+}
+
 #[test]
-fn want_of_memory_in_one_worker_is_the_answer(rt: HostRuntime) -> Result<(), Fail> {
-    let alloc = rt.alloc();
-    let items = numbers(alloc, 20)?;
+fn want_of_memory_in_one_worker_is_the_answer(rt: HostRuntime) {
     for count in WORKERS {
-        let workers = Workers::new(count).ok_or("workers")?;
-        let job = FailsAtFive {
-            failed: AtomicBool::new(false),
-            begun: AtomicUsize::new(0),
-            ended: AtomicUsize::new(0),
-        };
-        let outs = run_phase(&rt, alloc, workers, 1, &job, items.as_slice(), &OpenGate);
-        assert!(rt; outs.is_err(), "{count} workers");
-        let begun = job.begun.load(Ordering::SeqCst);
-        assert_eq!(rt; begun, job.ended.load(Ordering::SeqCst), "{count} workers");
+        let found = answered(&rt, rt.alloc(), count);
+        let (is_refused, begun, ended) = found.expect(&rt, "not run");
+        assert_holds(&rt, is_refused, (count, "workers"));
+        assert_found(&rt, begun, ended, (count, "workers"));
     }
-    Ok(())
 }

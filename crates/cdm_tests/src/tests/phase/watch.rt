@@ -4,10 +4,11 @@ ghost use Rattle.std.proofs.Common.{sym, ◌∙◌};
 ghost use Rattle.cdm_phase.specs.declared.job.PhaseName.TheVariants.{Scenarios};
 
 use super::{WORKERS, numbers};
+use crate::tests::asserts::assert_found;
 use cdm_phase::{Gate, Job, PhaseName, Workers, run_phase};
 use std::alloc::{AllocError, Global};
 use std::sync::atomic::{AtomicUsize, Ordering};
-use std::test::Fail;
+use std::thread::Threads;
 
 /// A job that is its own gate. It counts how often each piece passes and how many items are run. A
 /// pass in another phase or of no piece is a fault, and so is an item that is run before its piece
@@ -40,6 +41,11 @@ impl Watch {
             Some(passes) => passes.load(Ordering::SeqCst),
             None => 0,
         }
+    }
+
+    // Whether each piece has passed once.
+    fn passed_once(&self) -> bool {
+        self.passes.iter().all(|n| n.load(Ordering::SeqCst) == 1)
     }
 }
 
@@ -77,24 +83,36 @@ impl Job for Watch {
     ghost one_value = { λ _ _ x y _ a b. a ∙ sym b };
 }
 
+// Whether so many workers give each of so many items as it is, each piece having passed once; how many items were run, and
+// how many faults there were. Nothing for a grain of none.
+fn watched<R: Threads + Sync>(
+    rt: &R,
+    alloc: Global,
+    count: usize,
+    len: u32,
+    grain: usize,
+    pieces: usize,
+) -> Option<(bool, usize, usize)> {
+    if grain == 0 {
+        return None;
+    }
+    let workers = Workers::new(count)?;
+    let items = numbers(alloc, len).ok()?;
+    let watch = Watch::new(alloc, grain, pieces).ok()?;
+    let outs = run_phase(rt, alloc, workers, grain, &watch, &items, &watch).ok()?;
+    let runs = watch.runs.load(Ordering::SeqCst);
+    let faults = watch.faults.load(Ordering::SeqCst);
+    Some((outs == items && watch.passed_once(), runs, faults))
+}
+
 #[test]
-fn each_piece_passes_once_before_its_items_run(rt: HostRuntime) -> Result<(), Fail> {
-    let alloc = rt.alloc();
+fn each_piece_passes_once_before_its_items_run(rt: HostRuntime) {
     let table = [(1000, 1, 1000), (1000, 64, 16), (1000, 2000, 1), (0, 1, 0)];
     for count in WORKERS {
-        let workers = Workers::new(count).ok_or("workers")?;
         for (len, grain, pieces) in table {
-            let items = numbers(alloc, len)?;
-            let watch = Watch::new(alloc, grain, pieces)?;
-            let outs = run_phase(&rt, alloc, workers, grain, &watch, items.as_slice(), &watch)?;
-            assert!(rt;
-                outs.as_slice() == items.as_slice(),
-                "{count} workers, {len} items, grain {grain}"
-            );
-            assert!(rt; watch.passes.iter().all(|n| n.load(Ordering::SeqCst) == 1));
-            assert_eq!(rt; watch.runs.load(Ordering::SeqCst), items.len());
-            assert_eq!(rt; watch.faults.load(Ordering::SeqCst), 0);
+            let found = watched(&rt, rt.alloc(), count, len, grain, pieces);
+            let wanted = Some((true, len as usize, 0));
+            assert_found(&rt, found, wanted, (count, len, grain));
         }
     }
-    Ok(())
 }

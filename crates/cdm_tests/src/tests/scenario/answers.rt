@@ -1,5 +1,6 @@
 //! What becomes of a day by scenarios, by one worker and by many.
 use super::meeting::Meeting;
+use crate::tests::asserts::assert_found;
 use crate::tests::days::{THREE_FLIGHTS, closed, day_of};
 use cdm_flight::Update;
 use cdm_phase::Workers;
@@ -33,6 +34,6 @@ fn is_missed<R: Threads + Sync>(rt: &R, alloc: Global, count: usize, turns: usiz
 fn scenarios_are_answered_side_by_side(rt: HostRuntime) {
     for (count, turns) in [(1, 1_000), (2, 1_000_000), (7, 1_000_000), (64, 1_000_000)] {
         let missed = is_missed(&rt, rt.alloc(), count, turns);
-        assert_eq!(rt; missed, Some(count == 1), "{count} workers");
+        assert_found(&rt, missed, Some(count == 1), (count, "workers"));
     }
 }
