@@ -3,7 +3,7 @@ use Rattle.std.proofs.Common.{◌≡◌, ℕ, Bool, true, false, not, List, ◌+
 use Rattle.std.proofs.lemmas.Bool.{not-true}
 use Rattle.cdm_plan.proofs.ListWords.{option_map_or, filter_map, filter_map-append, filter_map-filter, if_so}
 use Rattle.cdm_plan.proofs.ListWords.{IsPermutation, IsPermutation-filter_both, IsPermutation-filter_map, false_from_ne_true, false≢true}
-use Rattle.cdm_plan.proofs.PlanWords.{DayValues, Flight, TaxiTimes}
+use Rattle.cdm_plan.proofs.PlanWords.{DayValues, Flight, TaxiTimes, fixed_on, fixed_slot}
 use Rattle.cdm_plan.proofs.PlanWords.{asked_of, is_on, is_touched, is_untouched, kept_of, targets_on}
 use Rattle.cdm_plan.specs.declared.touched.Touched.{Touched}
 use Rattle.cdm_plan.proofs.JournalFacts.{some_named}
@@ -21,6 +21,30 @@ untouched_runway t f h = by f.runway h
 pub untouched_on : (t : Touched) (f : Flight) (r : List ℕ) → f.runway ≡ Some r → is_touched t r ≡ false → is_untouched t f ≡ true
 untouched_on t f r e h = ap (λ o. option_map_or (λ s. not (is_touched t s)) o false) e ∙ ap not h
 
+-- a flight that need not be asked is on no touched runway
+off_touched : (t : Touched) (r : List ℕ) → is_touched t r ≡ true → (f : Flight) → is_untouched t f ≡ true → is_on r f ≡ false
+off_touched t r h f k =
+    let at = untouched_runway t f k in
+    false_from_ne_true (is_on r f) (λ on.
+    let own = some_named f.runway r on in
+    let same : at.0 ≡ r = cc (at.1, own) in
+    false≢true (sym at.2 ∙ (ap (is_touched t) same ∙ h)))
+
+-- the fixed flights of a touched runway are among the flights that are asked
+pub fixed-asked : (t : Touched) (r : List ℕ) → is_touched t r ≡ true → (fs : List Flight) → fixed_on r (asked_of t fs) ≡ fixed_on r fs
+unfolding fixed_on
+fixed-asked t r h fs =
+    filter_map-filter fixed_slot (is_on r) (asked_of t fs)
+    ∙ (filter_map-filter (λ f. if_so (is_on r f) (fixed_slot f)) (λ f. not (is_untouched t f)) fs
+    ∙ ((λ i. filter_map (λ f. all f i) fs) ∙ sym (filter_map-filter fixed_slot (is_on r) fs)))
+  where
+    by : (f : Flight) (b : Bool) → is_untouched t f ≡ b → if_so (not b) (if_so (is_on r f) (fixed_slot f)) ≡ if_so (is_on r f) (fixed_slot f)
+    by f false k = refl
+    by f true k = sym (ap (λ on. if_so on (fixed_slot f)) (off_touched t r h f k))
+
+    all : (f : Flight) → if_so (not (is_untouched t f)) (if_so (is_on r f) (fixed_slot f)) ≡ if_so (is_on r f) (fixed_slot f)
+    all f = by f (is_untouched t f) refl
+
 -- the targets of a touched runway are those of the flights that are asked
 pub targets-asked : (t : Touched) (r : List ℕ) → is_touched t r ≡ true → (times : TaxiTimes) (values : DayValues) (fs : List Flight)
     → targets_on r (targets_of (asked_of t fs) times values) ≡ targets_on r (targets_of fs times values)
@@ -29,17 +53,9 @@ targets-asked t r h times values fs =
     ∙ (filter_map-filter (target_at r times values) (λ f. not (is_untouched t f)) fs
     ∙ ((λ i. filter_map (λ f. all f i) fs) ∙ sym (targets_on-given r times values fs)))
   where
-    off : (f : Flight) → is_untouched t f ≡ true → is_on r f ≡ false
-    off f k =
-        let at = untouched_runway t f k in
-        false_from_ne_true (is_on r f) (λ on.
-        let own = some_named f.runway r on in
-        let same : at.0 ≡ r = cc (at.1, own) in
-        false≢true (sym at.2 ∙ (ap (is_touched t) same ∙ h)))
-
     by : (f : Flight) (b : Bool) → is_untouched t f ≡ b → if_so (not b) (target_at r times values f) ≡ target_at r times values f
     by f false k = refl
-    by f true k = sym (no_target_at r times values f (off f k))
+    by f true k = sym (no_target_at r times values f (off_touched t r h f k))
 
     all : (f : Flight) → if_so (not (is_untouched t f)) (target_at r times values f) ≡ target_at r times values f
     all f = by f (is_untouched t f) refl

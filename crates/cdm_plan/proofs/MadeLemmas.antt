@@ -13,7 +13,7 @@ use Rattle.cdm_plan.specs.declared.aimed.Aimed.{Aimed}
 use Rattle.cdm_plan.specs.declared.touched.Touched.{Touched}
 use Rattle.cdm_plan.specs.declared.work.Work.{Work}
 use Rattle.cdm_plan.specs.inner.Work.{IsWork}
-use Rattle.cdm_plan.proofs.AskedLemmas.{early-parted, targets-asked}
+use Rattle.cdm_plan.proofs.AskedLemmas.{early-parted, fixed-asked, targets-asked}
 use Rattle.cdm_plan.proofs.DayPlanLemmas.{HasSequence, day_plan, few_records, has_sequence, record_names_differ, targets_at}
 use Rattle.cdm_plan.proofs.NameLemmas.{by_name_differ}
 use Rattle.cdm_plan.proofs.OnePlanLemmas.{one_day_plan}
@@ -122,7 +122,7 @@ module _ {d : DayRecord} {t : Touched} {w : Work} (is : IsWork d t w) where
     pub work_can : All (λ r. CanSequence (fixed_on r.now.name (map now w.flights.items)) (filter_map (target_for r.now.name) aims)) w.left.items
     work_can = All-weaker (λ (r : Bor RunwayRules). is_touched t r.now.name ≡ true)
         (λ r. CanSequence (fixed_on r.now.name (map now w.flights.items)) (filter_map (target_for r.now.name) aims)) (λ r h.
-        rw (targets_are r.now.name h, is.flights)
+        rw (targets_are r.now.name h, is.flights, fixed-asked t r.now.name h (flights_of d))
         (can_sequence (times_of d) (values_of d.journal) (flights_of d) (record_names_differ d is.sound.names) (few_records d is.sound) r.now.name))
         w.left.items left_touched
 
@@ -157,7 +157,8 @@ module _ {d : DayRecord} {t : Touched} {w : Work} (is : IsWork d t w) where
         is.left ∙ filter_same (λ r. is_touched t r.now.name) (λ r. is_none (stands r)) runways (λ r i. none_stands t old r.now.name (kept.all r.now (of_day r i))) in
         let right : (r : Bor RunwayRules) (p : RunwayPlan) → Contains w.left.items r → IsSequence r.now (fixed_on r.now.name (map now w.flights.items))
         (filter_map (target_for r.now.name) aims) p → R r p = λ r p i h.
-        rw (targets_are r.now.name (All-contains (λ (r : Bor RunwayRules). is_touched t r.now.name ≡ true) w.left.items r left_touched i), is.flights) at h in
+        let is_left = All-contains (λ (r : Bor RunwayRules). is_touched t r.now.name ≡ true) w.left.items r left_touched i in
+        rw (targets_are r.now.name is_left, is.flights, fixed-asked t r.now.name is_left (flights_of d)) at h in
         let new = rw left at (AllZip-weaker_at _ R w.left.items made right each) in
         let zip = merged R stands runways made (λ r p i e. has_sequence d r.now p (kept.right r.now p (of_day r i) e)) new in
         let whole : AllZip (HasSequence d) rules zip.0 = AllZip-lent (HasSequence d) runways zip.0 zip.1 in

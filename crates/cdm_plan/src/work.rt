@@ -14,8 +14,8 @@ use cdm_flight::{Flight, Status, push_last};
 use cdm_runway::Runway;
 use std::alloc::{AllocError, Global};
 
-/// The flights and the runways of a day, the planned flights that are asked when they could take off, and
-/// the runways that were touched.
+/// The flights of a day without a runway or of a touched one, the planned flights among them, which are asked when
+/// they could take off, all runways, and those that were touched.
 #[derive(Drop)]
 pub(crate) struct Work<'a> {
     pub(crate) flights: Vec<&'a Flight>,
@@ -34,34 +34,55 @@ fn push_known<'a, T>(items: &mut Vec<&'a T>, item: Option<&'a T>) -> Result<(), 
     }
 }
 
-// All flights in the order of first appearance.
-fn all_flights<R: Records>(alloc: Global, records: &R) -> Result<Vec<&Flight>, AllocError>
+// Puts a flight behind the others, if there is one and its runway was touched or it has none.
+fn push_touched<'a>(
+    flights: &mut Vec<&'a Flight>,
+    touched: &Touched,
+    flight: Option<&'a Flight>,
+) -> Result<(), AllocError>
+    ensures { OnOk result (map (λ f. f.now) flights.new.items
+        ≡ map (λ f. f.now) flights.old.items ++ asked_of touched.now (cons_option (option_copied flight.entry) [])) }
+{
+    match flight {
+        Some(flight) => {
+            if touched.keeps(flight) {
+                return Ok(());
+            }
+            push_last(flights, flight)
+        }
+        None => Ok(()),
+    }
+}
+
+// The flights without a runway and those of the touched runways, in the order of first appearance.
+fn touched_flights<'a, R: Records>(
+    alloc: Global,
+    records: &'a R,
+    touched: &Touched,
+) -> Result<Vec<&'a Flight>, AllocError>
     ensures sound { IsSound (R.day records.now) }
-    ensures all { IfOk result (λ v. let d = R.day records.now in map (λ f. f.now) v.items ≡ records_in d.airport d.journal) }
+    ensures touched { IfOk result (λ v. let d = R.day records.now in
+        map (λ f. f.now) v.items ≡ asked_of touched.now (records_in d.airport d.journal)) }
 {
     let mut flights = Vec::new(alloc);
     for place in 0..records.flights() {
-        push_known(&mut flights, records.flight_at(place))?;
+        push_touched(&mut flights, touched, records.flight_at(place))?;
     }
     Ok(flights)
 }
 
-// The flights on their stands that are asked, in order: those without a runway, and those of the touched runways.
-fn asked_flights<'a>(
-    alloc: Global,
-    flights: &[&'a Flight],
-    touched: &Touched,
-) -> Result<Vec<&'a Flight>, AllocError>
-    ensures { IfOk result (λ v. map (λ f. f.now) v.items ≡ planned_of (asked_of touched.now (map (λ f. f.now) flights.now))) }
+// The flights on their stands, in order.
+fn planned_flights<'a>(alloc: Global, flights: &[&'a Flight]) -> Result<Vec<&'a Flight>, AllocError>
+    ensures { IfOk result (λ v. map (λ f. f.now) v.items ≡ planned_of (map (λ f. f.now) flights.now)) }
 {
-    let mut asked = Vec::new(alloc);
+    let mut planned = Vec::new(alloc);
     for flight in flights {
         let flight: &'a Flight = flight;
-        if flight.status == Status::Planned && !touched.keeps(flight) {
-            push_last(&mut asked, flight)?;
+        if flight.status == Status::Planned {
+            push_last(&mut planned, flight)?;
         }
     }
-    Ok(asked)
+    Ok(planned)
 }
 
 // All runways by name.
@@ -101,8 +122,8 @@ pub(crate) fn work_of<'a, R: Records>(
 ) -> Result<Work<'a>, AllocError>
     ensures { IfOk result (λ work. IsWork (R.day records.now) touched.now work) }
 {
-    let flights = all_flights(alloc, records)?;
-    let asked = asked_flights(alloc, &flights, touched)?;
+    let flights = touched_flights(alloc, records, touched)?;
+    let asked = planned_flights(alloc, &flights)?;
     let runways = all_runways(alloc, records)?;
     let left = touched_runways(alloc, &runways, touched)?;
     Ok(Work {

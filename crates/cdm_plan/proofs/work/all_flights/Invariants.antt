@@ -1,9 +1,0 @@
-use Rattle.std.proofs.Common.{◌≡◌, take, map}
-use Rattle.cdm_plan.proofs.ListWords.{filter_map}
-use Rattle.cdm_plan.proofs.PlanWords.{flight_of, flights_in}
-use Rattle.cdm_plan.proofs.work.all_flights.Given as goal
-
--- those so far
-abbrev pub invariant-loop-place : goal.invariant-loop-place
-invariant-loop-place g l =
-    let d = g.R.Records.day l.records in map (λ f. f.now) l.flights.items ≡ filter_map (flight_of d.airport d.journal) (take l.place (flights_in d.journal))
