@@ -11,10 +11,10 @@ ghost use Rattle.cdm_sequence.specs.declared.target.Target.{Target as ATarget};
 ghost use Rattle.cdm_sequence.specs.inner.Turns.{blocked_from, placed_at};
 
 use crate::decision::Decision;
-use crate::turns::{decide_all, in_order, load_of};
+use crate::turns::{decide_all, in_order, take_fixed};
 use crate::{BlockedFlight, RunwayPlan, Slot, Target};
 use cdm_flight::{Listed, RunwayName};
-use cdm_runway::Runway;
+use cdm_runway::{Runway, RunwayLoad};
 use std::alloc::{AllocError, Global};
 
 // The slot of the flight, if it got a minute.
@@ -134,8 +134,9 @@ pub fn sequence(
         (f : ATarget) → Contains targets.now f → other f ≡ placing f) }
 {
     let ordered = in_order(alloc, targets)?;
-    let load = load_of(runway, fixed);
-    let decisions = decide_all(alloc, runway, load, &ordered)?;
+    let mut load = RunwayLoad::empty(runway);
+    take_fixed(&mut load, runway, fixed);
+    let decisions = decide_all(alloc, runway, &mut load, &ordered)?;
     let plan = shown(alloc, runway.name(), fixed, &decisions)?;
     Ok(plan)
 }

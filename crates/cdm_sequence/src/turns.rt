@@ -1,5 +1,5 @@
 //! The targets one by one, in the order of sequence.
-ghost use Rattle.std.specs.Prelude.{◌≡◌, ◌+◌, ◌<◌, ◌≤◌, ◌++◌, length, map, IfOk, IsPermutation, IsSortedByKey};
+ghost use Rattle.std.specs.Prelude.{◌≡◌, ◌+◌, ◌<◌, ◌≤◌, ◌++◌, [], length, map, IfOk, IsPermutation, IsSortedByKey};
 ghost use Rattle.std.specs.Option.{option_to_list};
 ghost use Rattle.cdm_flight.specs.Order.{key_cmp};
 ghost use Rattle.cdm_runway.specs.Passed.{ArePassed};
@@ -22,16 +22,16 @@ pub(crate) fn in_order(alloc: Global, targets: &[Target]) -> Result<Vec<Target>,
     Ok(sorted)
 }
 
-/// A load of the runway on which the fixed flights have taken their minutes.
-pub(crate) fn load_of(runway: &Runway, fixed: &[Slot]) -> RunwayLoad
-    requires { length fixed.now ≤ 2000 }
-    ensures { result ≡ record { cell = runway.now.cell; taken = takeoffs runway.now fixed.now } }
+/// The fixed flights take their minutes of the runway. A load is large, so it stays where it is.
+pub(crate) fn take_fixed(load: &mut RunwayLoad, runway: &Runway, fixed: &[Slot])
+    requires cell { load.old.cell ≡ runway.now.cell }
+    requires none { load.old.taken ≡ [] }
+    requires room { length fixed.now ≤ 2000 }
+    ensures { load.new ≡ record { cell = runway.now.cell; taken = takeoffs runway.now fixed.now } }
 {
-    let mut load = RunwayLoad::empty(runway);
     for flight in fixed {
         load.take(runway, flight.ttot, flight.group);
     }
-    load
 }
 
 // One flight's turn.
@@ -63,18 +63,18 @@ fn decide(
 pub(crate) fn decide_all(
     alloc: Global,
     runway: &Runway,
-    mut load: RunwayLoad,
+    load: &mut RunwayLoad,
     targets: &[Target],
 ) -> Result<Vec<Decision>, AllocError>
-    requires cell { load.cell ≡ runway.now.cell }
-    requires room { length load.taken + length targets.now ≤ 2000 }
+    requires cell { load.old.cell ≡ runway.now.cell }
+    requires room { length load.old.taken + length targets.now ≤ 2000 }
     ensures targets { IfOk result (λ ds. map (λ d. d.target) ds.items ≡ targets.now) }
-    ensures decided { IfOk result (λ ds. AreDecided runway.now load.taken ds.items) }
+    ensures decided { IfOk result (λ ds. AreDecided runway.now load.old.taken ds.items) }
 {
     let mut decisions = Vec::new(alloc);
     let mut passed = PassedOver::none();
     for target in targets {
-        let decision = decide(runway, &mut load, &mut passed, target);
+        let decision = decide(runway, load, &mut passed, target);
         push_last(&mut decisions, decision)?;
     }
     Ok(decisions)

@@ -19,7 +19,7 @@ use Rattle.cdm_sequence.proofs.sequencing.sequence.Goals as goal
 pub decide_all-requires-clause-room : goal.decide_all-requires-clause-room
 decide_all-requires-clause-room c =
     let few = length-map c.args.fixed.now (λ (x : Slot). taken_by c.args.runway.now x.group x.ttot) in
-    let taken = ap (λ (l : Load). length l.taken) c.load_of-load.ensures in
+    let taken = ap (λ (l : Load). length l.taken) c.take_fixed.ensures in
     omega (arith, length_permutation _ _ c.in_ok-ordered.ensures.same, ap length c.deref.ensures.value)
 
 pub shown-requires : goal.shown-requires
@@ -31,7 +31,7 @@ shown-requires c =
 made : (c : goal.After-drop-ordered-2) → IsMade c.args.runway.now c.args.fixed.now c.args.targets.now c.in_ok-decisions.decisions.items c.in_ok-plan.plan
 made c =
     let targets : targets_of c.in_ok-decisions.decisions.items ≡ c.in_ok-ordered.ordered.items = c.in_ok-decisions.ensures.targets ∙ c.deref.ensures.value in
-    let taken : c.load_of-load.result.taken ≡ takeoffs c.args.runway.now c.args.fixed.now = ap (λ (l : Load). l.taken) c.load_of-load.ensures in
+    let taken : c.take_fixed.new.load.taken ≡ takeoffs c.args.runway.now c.args.fixed.now = ap (λ (l : Load). l.taken) c.take_fixed.ensures in
     record {
       names = c.requires.names;
       same = rw targets c.in_ok-ordered.ensures.same;

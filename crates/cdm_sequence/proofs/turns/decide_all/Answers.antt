@@ -13,7 +13,7 @@ use Rattle.cdm_sequence.proofs.turns.decide_all.Goals as goal
 pub loop-target-init : goal.loop-target-init
 loop-target-init c =
     let none : c.new-decisions.result.items ≡ [] = c.new-decisions.ensures.items in
-    let taken = c.args.load.taken in
+    let taken = c.args.load.now.taken in
     record {
       cell = c.requires.cell;
       room = omega arith;
@@ -35,7 +35,7 @@ loop-target-preserved c =
       cell = ap (λ (l : Load). l.cell) c.decide-decision.ensures.taken ∙ inv.cell;
       room = omega (arith, ap length taken, length-append c.loop-target.load.taken now, at_most_one (taken_in c.args.runway.now d));
       targets = grind (arith, common_steps);
-      taken = rw (items, minutes_push c.args.runway.now ds d) (taken ∙ ap (λ (xs : List Taken). xs ++ now) inv.taken ∙ append_assoc c.args.load.taken (minutes_of c.args.runway.now ds) now);
+      taken = rw (items, minutes_push c.args.runway.now ds d) (taken ∙ ap (λ (xs : List Taken). xs ++ now) inv.taken ∙ append_assoc c.args.load.now.taken (minutes_of c.args.runway.now ds) now);
       passed = c.decide-decision.ensures.passed;
-      decided = rw items (decided_push c.args.runway.now c.args.load.taken ds d inv.decided (rw (← inv.taken) c.decide-decision.ensures.decided));
+      decided = rw items (decided_push c.args.runway.now c.args.load.now.taken ds d inv.decided (rw (← inv.taken) c.decide-decision.ensures.decided));
     }
