@@ -11,7 +11,7 @@ use Rattle.cdm_plan.proofs.PlanWords.{RunwayRules, TaxiTimes, Slot, fixed_slot, 
 use Rattle.cdm_plan.proofs.PlanWords.{Plan, RunwayPlan, Target, AimResult, BlockedFlight, aim_means, aim_of, aim_with, aim_with_exot}
 use Rattle.cdm_plan.proofs.PlanWords.{is_same, same_flips, same_is, if_on, if_passes, DayRecord, flights_in, new_flight, rules_of, with_update, IsDayPlan}
 use Rattle.cdm_plan.proofs.PlanWords.{day_rules, records_in, is_on, blocked_in, early_in, planned_of, target_in, targets_in, targets_on, fixed_on, Adds, AreAims}
-use Rattle.cdm_plan.proofs.PlanWords.{AreKept, IsMade, IsPlanOn, IsSince, fixed_in, is_early, is_kept_blocked, is_noted, is_touched, is_untouched}
+use Rattle.cdm_plan.proofs.PlanWords.{AreKept, AreSameElsewhere, IsMade, IsPlanOn, IsSince, fixed_in, is_early, is_kept_blocked, is_noted, is_touched, is_untouched}
 use Rattle.cdm_plan.proofs.PlanWords.{kept_blocked, kept_of, kept_plan, Flt, Early, Ready}
 use Rattle.cdm_flight.specs.declared.reach.Reach.{Reach}
 use Rattle.cdm_flight.specs.declared.reach.Reach.TheVariants as reach
@@ -24,11 +24,12 @@ use Rattle.cdm_plan.specs.declared.touched.Touched.{Touched}
 use Rattle.cdm_plan.specs.declared.touched.Touched.TheVariants as touched
 use Rattle.cdm_plan.proofs.AskedLemmas.{untouched_on, untouched_runway}
 use Rattle.cdm_plan.proofs.JournalFacts.{flight_named, flights_in-push, some_named}
-use Rattle.cdm_plan.proofs.DayPlanLemmas.{has_sequence, is_plan_on, record_name, targets_at}
+use Rattle.cdm_sequence.proofs.OneLemmas.{sequence_one}
+use Rattle.cdm_plan.proofs.DayPlanLemmas.{has_sequence, is_plan_on, record_name, record_names_differ, targets_at}
 use Rattle.cdm_plan.proofs.NameLemmas.{day_rules_differ, find_none, find_some}
 use Rattle.cdm_plan.proofs.OnePlanLemmas.{partner}
 use Rattle.cdm_plan.proofs.PlanningLemmas.{AllZip-weaker, aims_are, all_zipped, blocked_early, early-aims, early-given, early_at, filter-filter_map}
-use Rattle.cdm_plan.proofs.PlanningLemmas.{if_so-keeps, made_named, no_target_at, target_at, targets_of, targets_on-given}
+use Rattle.cdm_plan.proofs.PlanningLemmas.{if_so-keeps, made_named, names_on, no_target_at, target_at, targets_of, targets_on-given}
 use Rattle.cdm_plan.proofs.RunwayLemmas.{rules-same}
 
 -- What an update that is not of a runway leaves there.
@@ -72,7 +73,9 @@ none_passes d what k test off e = by (flight_of d.airport d.journal k) refl
     by None h = refl
     by (Some f) h = passes f h (test f) refl
 
-module _ (d : DayRecord) (u : Update) (test : Flight → Bool) (before : IsOff d (reach_of u) test) (after : IsOff (with_update d u) (reach_of u) test) where
+-- where the flight that is touched does not pass, neither before nor after
+module _ (d : DayRecord) (u : Update) (test : Flight → Bool) (before : (k : List ℕ) → reach_of u ≡ reach.Flight k → if_passes test (flight_of d.airport d.journal k) ≡ None)
+    (after : (k : List ℕ) → reach_of u ≡ reach.Flight k → if_passes test (flight_of d.airport (d.journal ++ u ∷ []) k) ≡ None) where
   -- the flights that pass are the same after the update
   flight_same : (k : List ℕ) → if_passes test (flight_of d.airport d.journal k) ≡ if_passes test (flight_of d.airport (d.journal ++ u ∷ []) k)
   flight_same k = by (same_reach (reach_of u) (reach.Flight k)) refl
@@ -82,9 +85,9 @@ module _ (d : DayRecord) (u : Update) (test : Flight → Bool) (before : IsOff d
       by false h = ap (if_passes test) (sym (flight_of-untouched k d.airport d.journal u h))
       by true h =
           let of_it = flight_named (reach_of u) k h in
-          none_passes d (reach_of u) k test before of_it ∙ sym (none_passes (with_update d u) (reach_of u) k test after of_it)
+          before k of_it ∙ sym (after k of_it)
 
-  flights_same : filter test (records_in d.airport d.journal) ≡ filter test (records_in d.airport (d.journal ++ u ∷ []))
+  pub flights_same : filter test (records_in d.airport d.journal) ≡ filter test (records_in d.airport (d.journal ++ u ∷ []))
   flights_same =
       let later : List ℕ → Option Flight = λ k. if_passes test (flight_of d.airport (d.journal ++ u ∷ []) k) in
       let old = flights_in d.journal in
@@ -97,7 +100,7 @@ module _ (d : DayRecord) (u : Update) (test : Flight → Bool) (before : IsOff d
     where
       new : (o : Option (List ℕ)) → new_flight u ≡ o → filter_map (λ k. if_passes test (flight_of d.airport (d.journal ++ u ∷ []) k)) (cons_option o []) ≡ []
       new None e = refl
-      new (Some f) e = ap (λ (x : Option Flight). cons_option x []) (none_passes (with_update d u) (reach_of u) f test after (fresh_is u f e))
+      new (Some f) e = ap (λ (x : Option Flight). cons_option x []) (after f (fresh_is u f e))
 
 -- since the first day, after one more update
 pub since_taken : (first d next : DayRecord) (s m t : Touched) (u : Update) → next ≡ with_update d u → Adds s (is_noted d (reach_of u)) m
@@ -110,14 +113,17 @@ since_taken first d next s m t u is more later since =
     let at = untouched_runway t f h in untouched_on s f at.0 at.1 (earlier at.0 at.2).0 in
     let off : (f : Flight) → is_untouched t f ≡ true → (r : List ℕ) × (f.runway ≡ Some r) × (is_noted d what r ≡ false) = λ f h.
     let at = untouched_runway t f h in (at.0, at.1, (earlier at.0 at.2).1) in
+    let none : (test : Flight → Bool) → ((f : Flight) → test f ≡ true → is_untouched t f ≡ true) → (k : List ℕ) → what ≡ reach.Flight k
+        → if_passes test (flight_of d.airport d.journal k) ≡ None = λ test among k. none_passes d what k test (λ f h. off f (among f h)) in
     let still_off : (f : Flight) → is_untouched t f ≡ true → (r : List ℕ) × (f.runway ≡ Some r) × (is_noted (with_update d u) what r ≡ false) = λ f h.
     let at = untouched_runway t f h in (at.0, at.1, (further at.0 at.2).1) in
+    let still_none : (test : Flight → Bool) → ((f : Flight) → test f ≡ true → is_untouched t f ≡ true) → (k : List ℕ) → what ≡ reach.Flight k
+        → if_passes test (flight_of d.airport (d.journal ++ u ∷ []) k) ≡ None =
+        λ test among k. none_passes (with_update d u) what k test (λ f h. still_off f (among f h)) in
     subst (IsSince first t) (sym is) (record {
       airport = since.airport;
-      flight = λ test among k.
-          since.flight test (λ f h. standing f (among f h)) k ∙ flight_same d u test (λ f h. off f (among f h)) (λ f h. still_off f (among f h)) k;
-      flights = λ test among.
-          since.flights test (λ f h. standing f (among f h)) ∙ flights_same d u test (λ f h. off f (among f h)) (λ f h. still_off f (among f h));
+      flight = λ test among k. since.flight test (λ f h. standing f (among f h)) k ∙ flight_same d u test (none test among) (still_none test among) k;
+      flights = λ test among. since.flights test (λ f h. standing f (among f h)) ∙ flights_same d u test (none test among) (still_none test among);
       rules = λ row h.
           since.rules row (earlier row.name h).0 ∙ rules-same d.airport d.journal row u (no_rule d row.name what (earlier row.name h).1);
       taxi = λ r h place.
@@ -335,28 +341,34 @@ module _ (first d : DayRecord) (t : Touched) (since : IsSince first t d) where
             absurd (true≢false (sym (is_same at.0.runway r.name (at.2 ∙ row.1))
             ∙ find_none (λ (p : RunwayPlan). same_name p.runway r.name) plan.runways k at.0 there))
 
-    plan_stands : (r : RunwayRules) (p : RunwayPlan) → Contains (day_rules d) r → kept_plan t plan.runways r.name ≡ Some p → IsPlanOn d r p
+    -- the plan of a runway that was not touched is its plan on the day
+    named_stands : (r : RunwayRules) (p : RunwayPlan) → Contains (day_rules d) r → Contains plan.runways p → p.runway ≡ r.name → is_touched t r.name ≡ false
+        → IsPlanOn d r p
     unfolding IsDayPlan rules_of
+    named_stands r p i among named h =
+        let placing = made.of_day.0 in
+        let aims = made.of_day.1 in
+        let day = made.of_day.2 in
+        let rules : RunwayRow → RunwayRules = rules_of first.airport first.journal in
+        let R : RunwayRules → RunwayPlan → Type 0 = λ x p. IsSequenceBy placing x (fixed_in first x.name) (targets_on x.name (targets_in aims)) p in
+        let old = partner R (day_rules first) day.made p day.sequences
+        (Contains-permutation plan.runways day.made p (IsPermutation-sym day.made plan.runways day.parts.runways) among) in
+        let row = its_row r i in
+        let name : old.0.name ≡ row.0.name = sym old.1.runway ∙ (named ∙ sym row.1) in
+        let one : old.0 ≡ rules row.0 = one_of_key same_name same_flips (λ (x : RunwayRules). x.name) (day_rules first) old.0 (rules row.0)
+        (day_rules_differ first made.sound.airport.names) old.2 row.2 (is_same old.0.name (rules row.0).name name) in
+        let here : IsPlanOn first (rules row.0) p = subst (λ (x : RunwayRules). IsPlanOn first x p) one
+        (record { aims = aims; aimed = day.aimed; sequence = (placing, old.1) }) in
+        subst (λ (x : RunwayRules). IsPlanOn d x p) row.3 (still_planned row.0 p (ap (is_touched t) row.1 ∙ h) here)
+
+    plan_stands : (r : RunwayRules) (p : RunwayPlan) → Contains (day_rules d) r → kept_plan t plan.runways r.name ≡ Some p → IsPlanOn d r p
     plan_stands r p i e = by (is_touched t r.name) refl e
       where
         by : (b : Bool) → is_touched t r.name ≡ b → (if b then None else find (λ p. same_name p.runway r.name) plan.runways) ≡ Some p → IsPlanOn d r p
         by true h k = cc
         by false h k =
-            let placing = made.of_day.0 in
-            let aims = made.of_day.1 in
-            let day = made.of_day.2 in
-            let rules : RunwayRow → RunwayRules = rules_of first.airport first.journal in
-            let R : RunwayRules → RunwayPlan → Type 0 = λ x p. IsSequenceBy placing x (fixed_in first x.name) (targets_on x.name (targets_in aims)) p in
             let found = find_some (λ (p : RunwayPlan). same_name p.runway r.name) plan.runways p k in
-            let old = partner R (day_rules first) day.made p day.sequences
-            (Contains-permutation plan.runways day.made p (IsPermutation-sym day.made plan.runways day.parts.runways) found.0) in
-            let row = its_row r i in
-            let name : old.0.name ≡ row.0.name = sym old.1.runway ∙ (same_is p.runway r.name found.1 ∙ sym row.1) in
-            let one : old.0 ≡ rules row.0 = one_of_key same_name same_flips (λ (x : RunwayRules). x.name) (day_rules first) old.0 (rules row.0)
-            (day_rules_differ first made.sound.airport.names) old.2 row.2 (is_same old.0.name (rules row.0).name name) in
-            let here : IsPlanOn first (rules row.0) p = subst (λ (x : RunwayRules). IsPlanOn first x p) one
-            (record { aims = aims; aimed = day.aimed; sequence = (placing, old.1) }) in
-            subst (λ (x : RunwayRules). IsPlanOn d x p) row.3 (still_planned row.0 p (ap (is_touched t) row.1 ∙ h) here)
+            named_stands r p i found.0 (same_is p.runway r.name found.1) h
 
     early_stands : (aims : List AimResult) → AreAims (kept_of t flights_now) times_now values_now aims
         → IsPermutation (early_in (kept_of t flights_now) aims) (kept_blocked d t plan.blocked)
@@ -390,6 +402,25 @@ kept_since first d t plan made since = record {
   right = plan_stands first d t since plan made;
   early = early_stands first d t since plan made;
 }
+
+-- a runway that was not touched has the same plan on both days
+pub same_elsewhere : (first d : DayRecord) (t : Touched) (plan next : Plan) → IsMade first plan → IsMade d next → IsSince first t d
+    → AreSameElsewhere t plan.runways next.runways
+unfolding IsDayPlan
+same_elsewhere first d t plan next made next_made since p q i j same h =
+    let placing = next_made.of_day.0 in
+    let aims = next_made.of_day.1 in
+    let day = next_made.of_day.2 in
+    let R : RunwayRules → RunwayPlan → Type 0 = λ x p. IsSequenceBy placing x (fixed_in d x.name) (targets_on x.name (targets_in aims)) p in
+    let at = partner R (day_rules d) day.made q day.sequences
+    (Contains-permutation next.runways day.made q (IsPermutation-sym day.made next.runways day.parts.runways) j) in
+    let r = at.0 in
+    let named : p.runway ≡ r.name = same ∙ at.1.runway in
+    let one = has_sequence d r p (named_stands first d t since plan made r p at.2 i named (ap (is_touched t) (sym named) ∙ h)) in
+    let other = has_sequence d r q (record { aims = aims; aimed = day.aimed; sequence = (placing, at.1) }) in
+    let own = names_on r.name (taxi_of d.airport d.journal) (values_of d.journal) (records_in d.airport d.journal) (record_names_differ d next_made.sound.names) in
+    sequence_one r (fixed_in d r.name) (fixed_in d r.name) (targets_at d r.name) (targets_at d r.name) p q own
+    (IsPermutation-refl (fixed_in d r.name)) (IsPermutation-refl (targets_at d r.name)) one other
 
 -- where all was touched, nothing stands
 pub none_kept : (d : DayRecord) → AreKept d touched.All [] []

@@ -105,6 +105,11 @@ pub record AreKept (d : DayRecord) (t : Touched) (plans : List RunwayPlan) (bloc
       → AreAims (kept_of t (records_in d.airport d.journal)) (taxi_of d.airport d.journal) (values_of d.journal) aims
       → IsPermutation (early_in (kept_of t (records_in d.airport d.journal)) aims) (kept_blocked d t blocked)
 
+-- a runway that was not touched has the same plan in both lists
+abbrev pub AreSameElsewhere : Touched → List RunwayPlan → List RunwayPlan → Type 0
+AreSameElsewhere t before after = (p q : RunwayPlan) → Contains before p → Contains after q → p.runway ≡ q.runway → is_touched t p.runway ≡ false
+    → p ≡ q
+
 -- the day is sound, the plan is its plan, and no other is
 pub record IsMade (d : DayRecord) (plan : Plan) : Type 0 where
   pub sound : IsSound d
