@@ -1,16 +1,19 @@
 -- An update that is posted, and its reply.
-use Rattle.std.proofs.Common.{◌≡◌, ◌∙◌, List, [], ◌∷◌, ◌++◌, map, Option, None, Some, refl, sym, subst}
+use Rattle.std.proofs.Common.{◌≡◌, ◌∙◌, Bool, true, false, List, [], ◌∷◌, ◌++◌, map, Option, None, Some, refl, sym, subst}
 use Rattle.std.specs.Prelude.{if◌then◌else◌, is_none}
 use Rattle.cdm_day.specs.Replies.{reply_of}
 use Rattle.cdm_day.specs.declared.reply.Reply.{Reply}
-use Rattle.cdm_flight.specs.Accepted.{accepted, after_one, refusal, replies_to}
+use Rattle.cdm_flight.specs.Accepted.{accepted, after_one, refusal, refusal_of, replies_to}
+use Rattle.cdm_flight.specs.Authority.{may_make}
+use Rattle.cdm_flight.specs.declared.word.RefusalWord.TheVariants as word
 use Rattle.cdm_flight.specs.declared.role.Role.{Role}
 use Rattle.cdm_flight.specs.declared.update.Update.{Update}
 use Rattle.cdm_flight.specs.declared.word.RefusalWord.{RefusalWord}
-use Rattle.cdm_plan.specs.Day.{DayRecord}
+use Rattle.cdm_plan.specs.Day.{DayRecord, with_update}
 use Rattle.cdm_view.specs.declared.standing.Standing.{Standing}
 use Rattle.cdm_row.specs.declared.row.Row.{Row}
-use Rattle.cdm_desk.specs.Replies.{AreChangedRows, IsChangedTo, IsReplyBy, IsRowReplyBy}
+use Rattle.cdm_view.specs.Standings.{IsChangedTo}
+use Rattle.cdm_desk.specs.Replies.{AreChangedRows, IsReplyBy, IsRowReplyBy}
 use Rattle.cdm_desk.specs.declared.reply.DeskReply.TheVariants.{Accepted, Refused}
 use Rattle.cdm_desk.specs.declared.reply.RowReply.TheVariants as row_reply
 
@@ -20,6 +23,18 @@ module _ (d : DayRecord) (u : Role × Update) where
 
   abbrev pub with_it : DayRecord
   with_it = record d { journal = after_one d.airport d.journal u }
+
+  -- what is not refused is not refused by the journal, and is added to it
+  pub by_journal : said ≡ None → refusal_of d.airport d.journal u.1 ≡ None
+  unfolding refusal
+  by_journal = by (may_make u.0 u.1)
+    where
+      by : (b : Bool) → (if b then refusal_of d.airport d.journal u.1 else Some word.Authority) ≡ None → refusal_of d.airport d.journal u.1 ≡ None
+      by true h = h
+      by false h = cc
+
+  pub day_added : said ≡ None → with_it ≡ with_update d u.1
+  day_added none = λ i. record d { journal = if is_none (none i) then d.journal ++ u.1 ∷ [] else d.journal }
 
   -- the word that the replies to the update alone have is its word
   pub word_said : (copy : DayRecord) (replies : List Reply) (word : Option RefusalWord) → copy ≡ d

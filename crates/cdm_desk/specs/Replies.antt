@@ -15,7 +15,7 @@ use Rattle.cdm_sequence.specs.declared.plan.Plan.{Plan}
 use Rattle.cdm_row.specs.Changed.{changed_rows}
 use Rattle.cdm_row.specs.Rows.{AreRows}
 use Rattle.cdm_row.specs.declared.row.Row.{Row}
-use Rattle.cdm_view.specs.Standings.{AreChanges, standing_line}
+use Rattle.cdm_view.specs.Standings.{IsChangedTo, standing_line}
 use Rattle.cdm_view.specs.declared.standing.Standing.{Standing}
 use Rattle.cdm_desk.specs.declared.reply.DeskReply.{DeskReply}
 use Rattle.cdm_desk.specs.declared.reply.DeskReply.TheVariants.{Accepted, Refused}
@@ -35,14 +35,6 @@ with_one d update = record d { journal = after_one d.airport d.journal update }
 abbrev pub day_after : DayRecord → Result (Role × Update) RefusalWord → DayRecord
 day_after d (Ok update) = with_one d update
 day_after d (Err word) = d
-
--- these are the changes from a day to another, by their plans
-pub record IsChangedTo (d next : DayRecord) (changed : List Standing) : Type 0 where
-  pub plan : Plan
-  pub next_plan : Plan
-  pub of_day : IsDayPlan d plan
-  pub of_next : IsDayPlan next next_plan
-  pub changes : AreChanges d plan next next_plan changed
 
 -- the reply where this word refuses the record, or none does
 abbrev pub IsReplyBy : Option RefusalWord → DayRecord → DayRecord → DeskReply → Type 0

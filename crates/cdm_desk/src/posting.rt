@@ -2,7 +2,7 @@
 ghost use Rattle.std.specs.Prelude.{◌≡◌, ◌∷◌, [], Option, IfOk, OnErr, OnOk};
 ghost use Rattle.cdm_day.specs.Replies.{reply_of};
 ghost use Rattle.cdm_flight.specs.Accepted.{accepted, refusal};
-ghost use Rattle.cdm_desk.specs.Replies.{AreChangedRows, IsChangedTo, IsReply, IsReplyBy, IsRowReply, IsRowReplyBy, day_after, with_one};
+ghost use Rattle.cdm_desk.specs.Replies.{AreChangedRows, IsReply, IsReplyBy, IsRowReply, IsRowReplyBy, day_after, with_one};
 ghost use Rattle.cdm_desk.specs.inner.Next.{IsNextBy};
 ghost use Rattle.cdm_flight.specs.declared.word.RefusalWord.{RefusalWord as AWord};
 
@@ -11,28 +11,9 @@ use crate::reply::{DeskReply, RowReply};
 use cdm_day::{DayState, Reply};
 use cdm_flight::{Listed, RefusalWord, Role, Update};
 use cdm_row::{Row, Rows};
-use cdm_view::{Standing, changes_between};
+use cdm_view::changes_by;
 use std::alloc::{AllocError, Global};
 use std::mem;
-
-// The changes from a day to another one of its airport.
-fn changes_of(
-    alloc: Global,
-    before: &DayState,
-    after: &DayState,
-) -> Result<Vec<Standing>, AllocError>
-    ensures changed { IfOk result (λ changed. IsChangedTo before.now after.now changed.items) }
-{
-    let changed = changes_between(
-        alloc,
-        before.day(),
-        before,
-        before.plan(),
-        after,
-        after.plan(),
-    )?;
-    Ok(changed)
-}
 
 // The Rows that changed from a day to another one of its airport.
 fn changed_rows_of(
@@ -115,7 +96,7 @@ impl DeskDay {
             Ok(next) => next,
             Err(word) => return Ok(DeskReply::Refused(word)),
         };
-        let changed = changes_of(alloc, &self.state, &next)?;
+        let changed = changes_by(alloc, &update.1, &self.state, &next)?;
         self.take(alloc, update, next);
         Ok(DeskReply::Accepted(Listed::new(changed)))
     }
@@ -140,8 +121,8 @@ impl DeskDay {
     }
 
     /// Posts a record, as its fields spell it: the update is judged, and taken into the journal unless a word refuses
-    /// it. The reply is that word, or the flights that stand otherwise since, of which only those are looked for whose
-    /// runways have other slots than before. Where there is no memory nothing changes.
+    /// it. The reply is that word, or the flights that stand otherwise since. Only the runways that the update touches are
+    /// gone through. Where there is no memory nothing changes.
     pub fn post(
         &mut self,
         alloc: Global,

@@ -114,12 +114,12 @@ since_taken first d next s m t u is more later since =
     let off : (f : Flight) → is_untouched t f ≡ true → (r : List ℕ) × (f.runway ≡ Some r) × (is_noted d what r ≡ false) = λ f h.
     let at = untouched_runway t f h in (at.0, at.1, (earlier at.0 at.2).1) in
     let none : (test : Flight → Bool) → ((f : Flight) → test f ≡ true → is_untouched t f ≡ true) → (k : List ℕ) → what ≡ reach.Flight k
-        → if_passes test (flight_of d.airport d.journal k) ≡ None = λ test among k. none_passes d what k test (λ f h. off f (among f h)) in
+    → if_passes test (flight_of d.airport d.journal k) ≡ None = λ test among k. none_passes d what k test (λ f h. off f (among f h)) in
     let still_off : (f : Flight) → is_untouched t f ≡ true → (r : List ℕ) × (f.runway ≡ Some r) × (is_noted (with_update d u) what r ≡ false) = λ f h.
     let at = untouched_runway t f h in (at.0, at.1, (further at.0 at.2).1) in
     let still_none : (test : Flight → Bool) → ((f : Flight) → test f ≡ true → is_untouched t f ≡ true) → (k : List ℕ) → what ≡ reach.Flight k
-        → if_passes test (flight_of d.airport (d.journal ++ u ∷ []) k) ≡ None =
-        λ test among k. none_passes (with_update d u) what k test (λ f h. still_off f (among f h)) in
+    → if_passes test (flight_of d.airport (d.journal ++ u ∷ []) k) ≡ None =
+    λ test among k. none_passes (with_update d u) what k test (λ f h. still_off f (among f h)) in
     subst (IsSince first t) (sym is) (record {
       airport = since.airport;
       flight = λ test among k. since.flight test (λ f h. standing f (among f h)) k ∙ flight_same d u test (none test among) (still_none test among) k;

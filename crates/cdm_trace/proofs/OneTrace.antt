@@ -23,7 +23,8 @@ use Rattle.cdm_row.specs.Changed.{changed_rows}
 use Rattle.cdm_row.specs.Rows.{AreRows}
 use Rattle.cdm_row.specs.declared.row.Row.{Row}
 use Rattle.cdm_row.proofs.RowLemmas.{one_rows}
-use Rattle.cdm_desk.specs.Replies.{AreChangedRows, IsChangedTo, IsReply, IsReplyBy, IsRowReply, IsRowReplyBy, day_after}
+use Rattle.cdm_view.specs.Standings.{IsChangedTo}
+use Rattle.cdm_desk.specs.Replies.{AreChangedRows, IsReply, IsReplyBy, IsRowReply, IsRowReplyBy, day_after}
 use Rattle.cdm_desk.specs.declared.reply.DeskReply.{DeskReply}
 use Rattle.cdm_desk.specs.declared.reply.DeskReply.TheVariants.{Accepted, Refused}
 use Rattle.cdm_desk.specs.declared.reply.RowReply.{RowReply}

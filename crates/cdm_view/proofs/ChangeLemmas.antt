@@ -23,7 +23,7 @@ use Rattle.cdm_plan.proofs.ListWords.{list_any-append, map-append, IsPermutation
 use Rattle.cdm_plan.proofs.ListWords.{IsPermutation-append_right, IsPermutation-map, IsPermutation-sym}
 use Rattle.cdm_plan.proofs.ListWords.{IsPermutation-trans}
 use Rattle.cdm_plan.proofs.PlanWords.{is_same, name_cmp, same_is, same_name, tied_names, DayRecord, IsDayPlan}
-use Rattle.cdm_plan.proofs.PlanWords.{Plan, same_flips}
+use Rattle.cdm_plan.proofs.PlanWords.{IsSound, Plan, same_flips}
 use Rattle.cdm_time.specs.declared.calendar.CalendarDate.{CalendarDate}
 use Rattle.cdm_view.specs.declared.standing.Standing.{Standing}
 use Rattle.cdm_view.specs.Standings.{KeepsFlights, changes, flight_name, is_same_told, is_told, standing_line}
@@ -34,7 +34,6 @@ use Rattle.std.proofs.lemmas.List.Kept.{IsSortedBy-filter}
 use Rattle.std.specs.List.Sorted.{IsSortedByKey}
 use Rattle.cdm_view.proofs.StandingLemmas.{standings_apart}
 use Rattle.cdm_view.specs.declared.differing.Differing.{Differing}
-use Rattle.cdm_view.specs.inner.Known.{AllSound}
 use Rattle.cdm_view.specs.inner.Left.{AreLeft}
 use Rattle.cdm_view.specs.inner.Parts.{AreParts}
 
@@ -198,11 +197,11 @@ AreParts-all one other = record { start = []; rest = []; of_one = sym (append-ni
 -- Names.
 
 -- what is left of the standings of a day is of flights of its own
-pub left_apart : (d : DayRecord) (plan : Plan) (same rest : List Standing) → AllSound d → IsDayPlan d plan
+pub left_apart : (d : DayRecord) (plan : Plan) (same rest : List Standing) → IsSound d → IsDayPlan d plan
     → IsPermutation (same ++ rest) (standings_of d plan) → IsDistinct same_name (map flight_name rest)
 left_apart d plan same rest sound of_day is =
     let whole = standings_of d plan in
-    let apart = standings_apart d plan sound.day.airport.names sound.day.names of_day in
+    let apart = standings_apart d plan sound.airport.names sound.names of_day in
     let all = IsDistinct-IsPermutation same_name same_flips _ _
     (IsPermutation-map flight_name whole (same ++ rest) (IsPermutation-sym (same ++ rest) whole is)) apart in
     distinct_right same_name (map flight_name same) (map flight_name rest) (subst (IsDistinct same_name) (map-append flight_name same rest) all)

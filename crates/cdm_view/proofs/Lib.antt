@@ -4,6 +4,7 @@ pub mod RangeLemmas
 pub mod LoadLemmas
 pub mod ReasonLemmas
 mod CauseLemmas
+pub mod CancelledLemmas
 pub mod TurnLemmas
 pub mod WaitingLemmas
 pub mod OutcomeLemmas

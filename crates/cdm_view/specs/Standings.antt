@@ -12,7 +12,7 @@ use Rattle.cdm_sequence.specs.declared.plan.Plan.{Plan}
 use Rattle.cdm_sequence.specs.declared.plan.RunwayPlan.{RunwayPlan}
 use Rattle.cdm_sequence.specs.Words.{rule_text}
 use Rattle.cdm_plan.specs.Day.{DayRecord, flights_in}
-use Rattle.cdm_plan.specs.DayPlan.{records_in}
+use Rattle.cdm_plan.specs.DayPlan.{IsDayPlan, records_in}
 use Rattle.cdm_report.specs.Columns.{flight_line, left_in}
 use Rattle.cdm_view.specs.declared.standing.Standing.{Standing}
 use Rattle.cdm_view.specs.declared.standing.Standing.TheVariants.{OnRunway, Blocked, Cancelled}
@@ -77,3 +77,11 @@ changes day before after = filter (λ s. not (is_told day before s)) after
 pub record AreChanges (d : DayRecord) (plan : Plan) (next : DayRecord) (next_plan : Plan) (changed : List Standing) : Type 0 where
   pub all : IsPermutation (changes d.airport.day (standings_of d plan) (standings_of next next_plan)) changed
   pub by_name : IsSortedByKey flight_name name_cmp changed
+
+-- these are the changes from a day to another, by their plans
+pub record IsChangedTo (d next : DayRecord) (changed : List Standing) : Type 0 where
+  pub plan : Plan
+  pub next_plan : Plan
+  pub of_day : IsDayPlan d plan
+  pub of_next : IsDayPlan next next_plan
+  pub changes : AreChanges d plan next next_plan changed

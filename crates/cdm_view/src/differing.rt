@@ -1,11 +1,14 @@
-//! Where the standings of two days differ.
-ghost use Rattle.std.specs.Prelude.{◌≡◌, ◌++◌, List, true, map, IfOk, OnOk};
+//! Where the standings of a day differ from those of the day before an update.
+ghost use Rattle.std.specs.Prelude.{◌≡◌, ◌++◌, List, Contains, None, true, false, map, IfOk, OnOk};
 ghost use Rattle.std.specs.List.{filter_map, flat_map};
-ghost use Rattle.cdm_plan.specs.DayPlan.{IsDayPlan, records_in};
+ghost use Rattle.cdm_flight.specs.Accepted.{refusal_of};
+ghost use Rattle.cdm_flight.specs.Journal.{is_cancel};
+ghost use Rattle.cdm_plan.specs.Day.{with_update};
+ghost use Rattle.cdm_plan.specs.DayPlan.{records_in};
+ghost use Rattle.cdm_plan.specs.Kept.{AreSameElsewhere, IsMade, IsSince, is_touched};
 ghost use Rattle.cdm_view.specs.declared.standing.Standing.{Standing as Stood};
 ghost use Rattle.cdm_view.specs.declared.standing.Standing.TheVariants.{Blocked, OnRunway};
-ghost use Rattle.cdm_view.specs.Standings.{AreChanges, cancelled, on_runway, standings_of};
-ghost use Rattle.cdm_view.specs.inner.Known.{AllSound};
+ghost use Rattle.cdm_view.specs.Standings.{IsChangedTo, cancelled, on_runway, standings_of};
 ghost use Rattle.cdm_view.specs.inner.Left.{AreLeft};
 ghost use Rattle.cdm_view.specs.inner.Parts.{AreParts};
 
@@ -13,9 +16,10 @@ use crate::gathering::{push_blocked, push_cancelled, push_runways, push_slots};
 use crate::parts::differing_parts;
 use crate::standing::Standing;
 use crate::standings::Standings;
-use cdm_plan::Records;
+use cdm_day::DayState;
+use cdm_flight::Update;
+use cdm_plan::{Records, Touched};
 use cdm_sequence::{BlockedFlight, Plan, RunwayPlan, Slot};
-use cdm_time::Day;
 use std::alloc::{AllocError, Global};
 
 /// Standings of two days, in no order, without some that both days have.
@@ -58,12 +62,31 @@ fn push_runway(
     Ok(())
 }
 
+// The slots of a runway behind the others, as above, unless it was not touched: then they are the same on both days.
+fn push_if_touched(
+    differing: &mut Differing,
+    touched: &Touched,
+    before: &RunwayPlan,
+    after: &RunwayPlan,
+) -> Result<(), AllocError>
+    requires { before.now.runway ≡ after.now.runway → is_touched touched.now before.now.runway ≡ false → before.now ≡ after.now }
+    ensures { OnOk result ((first second : List Stood) → AreLeft first second differing.old
+        → AreLeft (first ++ on_runway before.now) (second ++ on_runway after.now) differing.new) }
+{
+    if before.runway == after.runway && !touched.has(before.runway) {
+        return Ok(());
+    }
+    push_runway(differing, before, after)
+}
+
 // The slots of the runways, but those of a runway that has the same on both days.
 fn differing_slots(
     alloc: Global,
+    touched: &Touched,
     before: &[RunwayPlan],
     after: &[RunwayPlan],
 ) -> Result<Differing, AllocError>
+    requires { AreSameElsewhere touched.now before.now after.now }
     ensures { IfOk result (λ left. AreLeft (flat_map on_runway before.now) (flat_map on_runway after.now) left) }
 {
     let mut differing = Differing {
@@ -76,7 +99,7 @@ fn differing_slots(
         return Ok(differing);
     }
     for place in 0..before.len() {
-        push_runway(&mut differing, &before[place], &after[place])?;
+        push_if_touched(&mut differing, touched, &before[place], &after[place])?;
     }
     Ok(differing)
 }
@@ -98,8 +121,7 @@ fn push_blocked_of(
 
 // The cancelled flights of a day.
 fn cancelled_of<R: Records>(alloc: Global, records: &R) -> Result<Vec<Standing>, AllocError>
-    ensures all { let d = R.day records.now in IfOk result (λ v. v.items ≡ filter_map cancelled (records_in d.airport d.journal)) }
-    ensures sound { OnOk result (AllSound (R.day records.now)) }
+    ensures { let d = R.day records.now in IfOk result (λ v. v.items ≡ filter_map cancelled (records_in d.airport d.journal)) }
 {
     let mut standings = Vec::new(alloc);
     push_cancelled(&mut standings, records)?;
@@ -123,48 +145,97 @@ fn push_cancelled_of(
     Ok(())
 }
 
-// The standings of two days with their plans, without some that both have.
-fn differing_of<B: Records, A: Records>(
+// Whether the update cancels a flight.
+fn is_cancel(update: &Update) -> bool
+    ensures { result ≡ is_cancel update.now }
+{
+    matches!(update, Update::Cnl { .. })
+}
+
+// The cancelled flights behind the others, as above, if the update cancels one: otherwise they are the same on both days.
+fn push_cancelled_by(
     alloc: Global,
-    before: &B,
+    differing: &mut Differing,
+    update: &Update,
+    before: &DayState,
+    after: &DayState,
+) -> Result<(), AllocError>
+    requires accepted { refusal_of before.now.airport before.now.journal update.now ≡ None }
+    requires after { after.now ≡ with_update before.now update.now }
+    ensures { OnOk result ((first second : List Stood) → AreLeft first second differing.old
+        → AreLeft (first ++ filter_map cancelled (records_in before.now.airport before.now.journal))
+        (second ++ filter_map cancelled (records_in after.now.airport after.now.journal)) differing.new) }
+{
+    if !is_cancel(update) {
+        return Ok(());
+    }
+    let cancelled = cancelled_of(alloc, before)?;
+    let cancelled_after = cancelled_of(alloc, after)?;
+    push_cancelled_of(differing, &cancelled, &cancelled_after)
+}
+
+// The runways that an update touches, on the day before it and on the day after it.
+fn touched_by(
+    alloc: Global,
+    update: &Update,
+    before: &DayState,
+    after: &DayState,
+) -> Result<Touched, AllocError>
+    requires { after.now ≡ with_update before.now update.now }
+    ensures { IfOk result (λ touched. IsSince before.now touched after.now) }
+{
+    let mut touched = Touched::none(alloc);
+    touched.note(before, update)?;
+    touched.note(after, update)?;
+    Ok(touched)
+}
+
+// The standings of the days before an update and after it, without some that both have.
+fn differing_by(
+    alloc: Global,
+    update: &Update,
+    before: &DayState,
     plan: &Plan,
-    after: &A,
+    after: &DayState,
     next: &Plan,
 ) -> Result<Differing, AllocError>
-    ensures left { IfOk result (λ left. AreLeft (standings_of (B.day before.now) plan.entry.now) (standings_of (A.day after.now) next.entry.now) left) }
-    ensures before { OnOk result (AllSound (B.day before.now)) }
-    ensures after { OnOk result (AllSound (A.day after.now)) }
+    requires accepted { refusal_of before.now.airport before.now.journal update.now ≡ None }
+    requires after { after.now ≡ with_update before.now update.now }
+    requires of_day { IsMade before.now plan.now }
+    requires of_next { IsMade after.now next.now }
+    ensures { IfOk result (λ left. AreLeft (standings_of before.now plan.entry.now) (standings_of after.now next.entry.now) left) }
 {
-    let mut differing = differing_slots(alloc, plan.runways.as_slice(), next.runways.as_slice())?;
+    let touched = touched_by(alloc, update, before, after)?;
+    let mut differing = differing_slots(
+        alloc,
+        &touched,
+        plan.runways.as_slice(),
+        next.runways.as_slice(),
+    )?;
     push_blocked_of(
         &mut differing,
         plan.blocked.as_slice(),
         next.blocked.as_slice(),
     )?;
-    let cancelled = cancelled_of(alloc, before)?;
-    let cancelled_after = cancelled_of(alloc, after)?;
-    push_cancelled_of(&mut differing, &cancelled, &cancelled_after)?;
+    push_cancelled_by(alloc, &mut differing, update, before, after)?;
     Ok(differing)
 }
 
-/// The changes from a day with its plan to another day of its airport: by name, the standings of the flights that
-/// stand otherwise there, or were not known before. Only the runways whose slots differ are gone through.
-pub fn changes_between<B: Records, A: Records>(
+/// The changes that an update makes to a day which does not refuse it: by name, the standings of the flights that stand
+/// otherwise after it, or were not known before. Only the runways that it touches are gone through.
+pub fn changes_by(
     alloc: Global,
-    day: &Day,
-    before: &B,
-    plan: &Plan,
-    after: &A,
-    next: &Plan,
+    update: &Update,
+    before: &DayState,
+    after: &DayState,
 ) -> Result<Vec<Standing>, AllocError>
-    requires day { day.now ≡ (B.day before.now).airport.day }
-    requires before { IsDayPlan (B.day before.now) plan.now }
-    requires after { IsDayPlan (A.day after.now) next.now }
-    ensures { IfOk result (λ changed. AreChanges (B.day before.now) plan.entry.now (A.day after.now) next.entry.now changed.items) }
+    requires accepted { refusal_of before.now.airport before.now.journal update.now ≡ None }
+    requires after { after.now ≡ with_update before.now update.now }
+    ensures { IfOk result (λ changed. IsChangedTo before.now after.now changed.items) }
 {
-    let differing = differing_of(alloc, before, plan, after, next)?;
+    let differing = differing_by(alloc, update, before, before.plan(), after, after.plan())?;
     let told = Standings::by_name(differing.before);
     let standings = Standings::by_name(differing.after);
-    let changed = standings.changes(alloc, day, &told)?;
+    let changed = standings.changes(alloc, before.day(), &told)?;
     Ok(changed)
 }

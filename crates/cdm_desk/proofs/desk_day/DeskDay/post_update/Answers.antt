@@ -1,8 +1,22 @@
 use Rattle.std.proofs.Common.{◌∙◌, refl, subst}
 use Rattle.cdm_plan.specs.Day.{DayRecord}
-use Rattle.cdm_desk.specs.Replies.{IsChangedTo}
-use Rattle.cdm_desk.proofs.PostLemmas.{accepted_reply, day_with}
+use Rattle.cdm_view.specs.Standings.{IsChangedTo}
+use Rattle.cdm_desk.proofs.PostLemmas.{accepted_reply, by_journal, day_added, day_with}
 use Rattle.cdm_desk.proofs.desk_day.DeskDay.post_update.Goals as goal
+
+pub changes_by-requires-clause-accepted : goal.changes_by-requires-clause-accepted
+changes_by-requires-clause-accepted c =
+    let taken = rw c.in-Ok.is at c.in_ok-next.ensures.next in
+    let d = c.self.view_is ∙ c.in_ok-next.ensures.same in
+    rw d (by_journal c.args.self.now c.args.update.now taken.0)
+
+pub changes_by-requires-clause-after : goal.changes_by-requires-clause-after
+changes_by-requires-clause-after c =
+    let taken = rw c.in-Ok.is at c.in_ok-next.ensures.next in
+    let d = c.args.self.now in
+    let u = c.args.update.now in
+    let own = c.self.view_is ∙ c.in_ok-next.ensures.same in
+    rw own (day_with d u d c.in-Ok.next refl taken.1 ∙ day_added d u taken.0)
 
 pub returns-clause-reply : goal.returns-clause-reply
 returns-clause-reply c =
@@ -11,7 +25,7 @@ returns-clause-reply c =
     let next = c.in-Ok.next in
     let changed = c.in_ok-changed.changed.items in
     let taken = rw c.in-Ok.is at c.in_ok-next.ensures.next in
-    let was = subst (λ (x : DayRecord). IsChangedTo x next changed) (c.self.view_is ∙ c.in_ok-next.ensures.same) c.in_ok-changed.ensures.changed in
+    let was = subst (λ (x : DayRecord). IsChangedTo x next changed) (c.self.view_is ∙ c.in_ok-next.ensures.same) c.in_ok-changed.ensures in
     accepted_reply d u next changed c.new.result taken.0 (day_with d u d next refl taken.1) c.new.ensures was
 
 pub returns-clause-ok : goal.returns-clause-ok
