@@ -297,7 +297,7 @@ class PostgresLog(Log):
                 positions.set_exception(Problem(403, batch.closed or "") if told["closed"] else batch.full())
             else:
                 positions.set_exception(Problem(told["status"], WRONG[told["status"]]))
-        self.wake()
+        self.grown.set()
 
     # The link.
 
@@ -333,7 +333,7 @@ class PostgresLog(Log):
             (last,), = await link.read(LAST, self._board)
             self._looked, self._looked_at = began, at
             if last > (self._last.position if self._last else 0):
-                self.wake()
+                self.grown.set()
             if self._is_committing:
                 self._is_committing = await link.is_committing(self._writer_name)
             with contextlib.suppress(TimeoutError):
@@ -344,7 +344,7 @@ class PostgresLog(Log):
     def _use(self, link: Link) -> None:
         self._link = link
         self._linked.set()
-        self.wake()
+        self.grown.set()
 
     async def _to(self, url: str) -> Link:
         """A link to a host, checked. Raises Away, Fault."""
@@ -355,7 +355,7 @@ class PostgresLog(Log):
             opened.callback(writer.terminate)
             link = Link(reader, writer)
             try:
-                await link.listen(lambda _, pid, channel, board: self.wake() if board == self._board else None)
+                await link.listen(lambda _, pid, channel, board: self.grown.set() if board == self._board else None)
                 await self._check(link)
             except Refused as why:
                 raise Away(why) from None

@@ -57,7 +57,7 @@ class Sequencer:
             self._program, *words, cwd=folder, stdin=PIPE, stdout=PIPE, limit=MOST_REPLY, start_new_session=True)
         lines, replies, ended = process.stdin, process.stdout, asyncio.create_task(process.wait())
         assert lines is not None and replies is not None
-        ended.add_done_callback(lambda _: self._log.wake())
+        ended.add_done_callback(lambda _: self._log.grown.set())
         try:
             await self._hand_on(process, lines, replies)
         except (Ended, OSError):
@@ -85,7 +85,8 @@ class Sequencer:
                 raise Ended(f"it ended with {process.returncode}")
             records = await self._log.rows(len(self._day.records), MOST_AHEAD)
             if not records:
-                await self._log.grown()
+                await self._log.grown.wait()
+                self._log.grown.clear()
             lines.write("".join(f"{record.role},{record.line}\n" for record in records).encode("ascii"))
             for asked, record in enumerate(records, asked + 1):
                 self._take(record, asked, await _reply(replies, SECONDS))

@@ -1,5 +1,7 @@
 """Start and end: words, files, locks, the clock, TLS, a proxy, import and export."""
+import asyncio
 import concurrent.futures
+import datetime
 import json
 import os
 import signal
@@ -9,6 +11,7 @@ import ssl
 import subprocess
 import time
 import urllib.request
+from unittest import mock
 
 import pytest
 from conftest import AIRPORT, FACTOR, PROGRAM, ROOT, certificates, figure, moment, objects, until
@@ -185,6 +188,29 @@ def test_the_clock_is_taken(board):
     other = board(options=["--clock"])
     until(lambda: other.told().count("outside the two days") == 1)
     assert other.records() == []
+
+
+def test_a_log_that_is_away_stops_no_clock(capsys):
+    """Records aren't taken for nine minutes, and then they are; a clock that jumps is told, and not taken."""
+    from board import clock
+    from board.words import Problem
+    now, taken = [datetime.datetime(2025, 3, 10, 6)], []
+
+    async def take(desk, lines, key):
+        if 0 < now[0].minute < 10:
+            raise Problem(503, "the log is away")
+        taken.append((desk.name, lines, key))
+
+    async def sleep(seconds):
+        now[0] += datetime.timedelta(minutes=1 if now[0].minute < 12 else 6)
+        if now[0].minute > 20:
+            raise asyncio.CancelledError
+    with mock.patch.object(clock, "now_text", lambda _, ahead=datetime.timedelta(): f"{now[0] + ahead:%Y-%m-%dT%H:%MZ}"), \
+            mock.patch.object(clock.asyncio, "sleep", sleep), pytest.raises(asyncio.CancelledError):
+        asyncio.run(clock.run("2025-03-10", take))
+    assert taken == [("clock", [f"CLOCK,2025-03-10T06:{minute}Z"], f"2025-03-10T06:{minute}Z") for minute in ("00", 10, 11, 12)]
+    told = capsys.readouterr().err
+    assert told.count("no CLOCK was taken: the log is away") == 1 and "2025-03-10T06:18Z is more than 5 minutes" in told
 
 
 def test_sealed_by_tls(board):
