@@ -10,6 +10,7 @@ import contextlib
 import json
 import secrets
 import time
+from argparse import Namespace
 from collections import deque
 from collections.abc import AsyncIterator, Awaitable, Callable
 from itertools import chain, repeat
@@ -53,6 +54,11 @@ class Away(Exception):
 
 class Refused(Exception):
     """The database refused a statement, and took nothing of it."""
+
+
+def is_url(log: str) -> bool:
+    """Whether a log is in PostgreSQL."""
+    return log.startswith(("postgresql:", "postgres:"))
 
 
 def hosts_of(url: str) -> list[str]:
@@ -407,9 +413,11 @@ async def database_of(url: str) -> AsyncIterator[Any]:
         raise Fault(f"{name_of(url)}: {why}", 1) from None
 
 
-async def init(url: str) -> None:
-    """Makes the tables, the function and the roles. Raises Fault."""
-    async with database_of(url) as database:
+async def init(options: Namespace) -> None:
+    """`log init`: makes the tables, the function and the roles. Raises Fault."""
+    if not is_url(options.log):
+        raise Fault("a log in a file needs no init", 2)
+    async with database_of(options.log) as database:
         await database.execute(SCHEMA.read_text())
 
 

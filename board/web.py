@@ -149,7 +149,7 @@ class Board:
             try:
                 async with asyncio.timeout(AFTER):
                     await self.day.reached(int(after))
-            except TimeoutError:
+            except (TimeoutError, Problem):
                 raise Problem(503, "this position isn't here yet", Retry_After="1") from None
         tags = self.tags(len(self.day.records))
         if request.method in ("GET", "HEAD") and has(request, tags["ETag"]):

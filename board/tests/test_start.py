@@ -2,8 +2,10 @@
 import asyncio
 import concurrent.futures
 import datetime
+import fcntl
 import json
 import os
+import pathlib
 import signal
 import socket
 import sqlite3
@@ -122,6 +124,32 @@ def test_an_end_answers_what_waits(board):
             assert {**log[reply["position"] - 1], "changes": 0} == {**reply, "changes": 0}
     left = [name for name in os.listdir("/dev/shm") if name.startswith(f"cdmboard-{json.loads(server.get('/v1/who').body)['log']}")]
     assert len(left) == 1
+
+
+def test_a_folder_that_is_being_made_is_left_alone():
+    """Another server of the same log starts at the very moment."""
+    import board.__main__ as start
+    calls, flock = [], fcntl.flock
+
+    def flocked(file, how):
+        calls.append(how)
+        if len(calls) == 1:
+            with start.folder_of("0123456789abcdef", b"other") as other:
+                assert pathlib.Path(other, "airport.csv").read_bytes() == b"other"
+        flock(file, how)
+    with mock.patch.object(start.fcntl, "flock", flocked), start.folder_of("0123456789abcdef", b"own") as folder:
+        assert pathlib.Path(folder, "airport.csv").read_bytes() == b"own" and len(calls) >= 2
+    assert not os.path.exists(folder)
+
+
+def test_an_end_ends_who_waits_for_a_position(board):
+    """Nothing was sent, so there is nothing to send again."""
+    server = board()
+    with concurrent.futures.ThreadPoolExecutor(1) as pool:
+        waiting = pool.submit(server.get, "/v1/plan", Cdm_After="5")
+        time.sleep(0.5)
+        assert server.end() == 0
+        assert waiting.result().status == 503
 
 
 def test_import_and_export(files, board):
