@@ -24,7 +24,7 @@ from board.answers import Answers, asked, day_of
 from board.desks import digest, read_desks
 from board.events import Events
 from board.guard import HEADERS, Door, Guard, is_loopback
-from board.log import MOST_RECORDS, Batch, Log, Record
+from board.log import MOST_RECORDS, Batch, Record
 from board.sequencer import Sequencer
 from board.web import Board
 from board.words import Fault, Problem, lines_of, tell
@@ -89,10 +89,11 @@ def folder_of(name: str, airport: bytes) -> Iterator[str]:
 
 
 @contextlib.asynccontextmanager
-async def log_of(options: argparse.Namespace) -> AsyncIterator[tuple[Log, str]]:
+async def log_of(options: argparse.Namespace) -> AsyncIterator[tuple[postgres.Log, str]]:
     """The log and its folder, while they are used. Raises Fault."""
     airport, version = read(options.airport), await asked("/", PROGRAM, "--version")
-    log: Log = (postgres.PostgresLog if postgres.is_url(options.log) else sqlite.FileLog)(options.log, options.board)
+    place = options.log, options.board
+    log: postgres.Log = postgres.PostgresLog(*place) if postgres.is_url(options.log) else sqlite.FileLog(*place)
     await log.open(airport, version.decode("ascii", "replace").strip())
     try:
         with folder_of(log.id, log.airport) as folder:
@@ -199,7 +200,7 @@ async def run(board: Board, address: str, date: str) -> None:
         board.is_closing = True
         async with asyncio.timeout(20):
             # What another server takes from now on gets its reply there.
-            rest = [] if board.log.stale_since else await board.log.rows(len(board.day.records), MOST_RECORDS)
+            rest = [] if board.log.stale_since else await board.log.rows(len(board.day.records))
             last = rest[-1].position if rest else 0
             while len(board.day.records) < last and not board.log.stale_since or board.waiting():
                 await asyncio.sleep(0.02)

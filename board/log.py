@@ -2,7 +2,7 @@
 import asyncio
 from collections.abc import Sequence
 from dataclasses import dataclass, field
-from typing import Any, NamedTuple, Protocol
+from typing import Any, NamedTuple
 
 from board.words import LINE, MOST_BYTES, ROLES, Fault, Problem, now_text
 
@@ -41,44 +41,13 @@ class Batch:
         return Problem(403, f"a log takes {MOST_RECORDS} records, and {self.most} of {self.desk}")
 
 
-class Changed(Exception):
-    """The database hasn't the last row that was handed on: the day begins anew."""
-
-
-class Log(Protocol):
-    """A log in an engine. All calls are made by one event loop. `grown` is set when there may be more records than before."""
+class Kept:
+    """What the logs of all engines have. `grown` is set when there may be more records than before."""
     id: str
     airport: bytes
-    name: str
-    _board: str
-    grown: asyncio.Event
 
     def __init__(self, name: str, board: str) -> None:
         self.name, self._board, self.grown = name, board, asyncio.Event()
-
-    async def open(self, airport: bytes, version: str) -> None:
-        """Opens the log, and makes it if it isn't there. Raises Fault."""
-
-    async def append(self, batch: Batch) -> range:
-        """The records' positions, once they are in the log. Raises Problem; 503: nothing was taken; 504: not known."""
-
-    async def rows(self, after: int, most: int) -> list[Record]:
-        """The first records behind a position; none while the database is away. Raises Changed, Fault."""
-
-    async def whole(self) -> list[Record]:
-        """All records, as soon as the database is there. Raises Fault."""
-        return await self.rows(0, MOST_RECORDS)
-
-    async def ended(self) -> None:
-        """Raises what ended the log."""
-
-    async def close(self) -> None:
-        """Ends what is open."""
-
-    @property
-    def stale_since(self) -> str | None:
-        """Since when there may be records that aren't known here; None if all are."""
-        return None
 
     def check(self, airport: bytes, made_by: str, version: str) -> None:
         """Raises Fault if the log is another airport's or program's."""

@@ -18,7 +18,8 @@ from pathlib import Path
 from typing import Any, TypeVar
 from urllib.parse import parse_qsl, urlencode, urlsplit
 
-from board.log import MOST_RECORDS, NOT_KNOWN, Batch, Changed, Log, Record, records_of
+from board.log import MOST_RECORDS, NOT_KNOWN, Batch, Kept, Record, records_of
+from board.sqlite import FileLog
 from board.words import Fault, Problem, now_text, tell
 
 try:
@@ -50,6 +51,10 @@ FAULTS = LOST if asyncpg is None else (*LOST, asyncpg.PostgresError)
 
 class Away(Exception):
     """The database can't be asked at present."""
+
+
+class Changed(Exception):
+    """The database hasn't the last row that was handed on: the day begins anew."""
 
 
 class Refused(Exception):
@@ -182,8 +187,8 @@ class Link:
         self._writer.terminate()
 
 
-class PostgresLog(Log):
-    """A log in PostgreSQL. Rows are handed on only from a database that has the last row that was handed on."""
+class PostgresLog(Kept):
+    """A log in PostgreSQL, with the calls that a log in a file has. Rows are handed on only from a database that has the last row that was handed on."""
 
     def __init__(self, url: str, board: str) -> None:
         super().__init__(name_of(url), board)
@@ -225,7 +230,8 @@ class PostgresLog(Log):
 
     # What is read.
 
-    async def rows(self, after: int, most: int) -> list[Record]:
+    async def rows(self, after: int, most: int = MOST_RECORDS) -> list[Record]:
+        """As of a file; none while the database is away. Raises Changed too."""
         if self._is_other:
             raise Changed(f"{self.name} hasn't the last row that was read; it is read anew")
         self._is_anew = False
@@ -392,6 +398,10 @@ class PostgresLog(Log):
             self._is_other = self._is_other or not kept or Record(*kept[0]) != last
         self._is_committing = await link.is_committing(self._writer_name)
         self._timeline, self._looked, self._looked_at = timeline, began, at
+
+
+# A log in either engine.
+Log = FileLog | PostgresLog
 
 
 def _answer(waiting: list["asyncio.Future[range]"], problem: Problem) -> None:

@@ -12,7 +12,8 @@ import prometheus_client as prometheus
 
 from board.answers import day_of
 from board.day import Day
-from board.log import Changed, Log, Record
+from board.log import Record
+from board.postgres import Changed, Log
 from board.words import Fault, tell
 
 MOST_REPLY, MOST_AHEAD, SECONDS, START = 8 << 20, 256, 10.0, 60.0
@@ -95,15 +96,14 @@ class Sequencer:
         """Keeps a reply, if it is the one to this record."""
         if reply.get("record") != asked:
             raise Ended(f"a reply to record {reply.get('record')} instead of {asked}")
-        said, word, changes = reply.get("reply"), reply.get("word"), reply.get("changes")
-        is_next = reply.get("accepted") == len(self._day.lines) + 1
-        if said == "REFUSED" and isinstance(word, str):
-            self._day.add(record, word, [])
-        elif said == "ACCEPTED" and isinstance(changes, list) and is_next:
-            self._day.add(record, None, changes)
-        else:
-            raise Ended("a reply that no record has")
-        COUNT.labels(record.role, word or said).inc()
+        match reply:
+            case {"reply": "REFUSED", "word": str(word)}:
+                self._day.add(record, word, [])
+            case {"reply": "ACCEPTED", "accepted": number, "changes": list(changes)} if number == len(self._day.lines) + 1:
+                self._day.add(record, None, changes)
+            case _:
+                raise Ended("a reply that no record has")
+        COUNT.labels(record.role, reply.get("word", "ACCEPTED")).inc()
 
 
 async def _reply(replies: asyncio.StreamReader, seconds: float) -> dict[str, object]:

@@ -9,7 +9,7 @@ from collections import deque
 from concurrent.futures import ThreadPoolExecutor
 from urllib.parse import quote
 
-from board.log import MOST_RECORDS, NOT_KNOWN, Batch, Log, Record, records_of
+from board.log import MOST_RECORDS, NOT_KNOWN, Batch, Kept, Record, records_of
 from board.words import Fault, Problem
 
 SCHEMA = """
@@ -24,8 +24,9 @@ CREATE TABLE IF NOT EXISTS cdm_record (
 ROWS = "SELECT position, desk, role, line, at FROM cdm_record WHERE board = ? AND position > ? ORDER BY position LIMIT ?"
 
 
-class FileLog(Log):
-    """A log in a file, which has a thread of its own."""
+class FileLog(Kept):
+    """A log in a file, which has a thread of its own. `stale_since`: since when there may be records that aren't known here."""
+    stale_since: str | None = None
 
     def __init__(self, path: str, board: str) -> None:
         super().__init__(os.path.realpath(path), board)
@@ -33,6 +34,7 @@ class FileLog(Log):
         self._waiting, self._locks, self._faults = deque[Batch](), list[int](), asyncio.Queue[sqlite3.Error]()
 
     async def open(self, airport: bytes, version: str) -> None:
+        """Opens the log, and makes it if it isn't there. Raises Fault."""
         log = (self._board, secrets.token_hex(8), airport, version)
         try:
             # Another name of the file has another lock, but is the same file.
@@ -51,6 +53,7 @@ class FileLog(Log):
         self.check(airport, made_by, version)
 
     async def append(self, batch: Batch) -> range:
+        """The records' positions, once they are in the log. Raises Problem; 503: nothing was taken; 504: not known."""
         self._waiting.append(batch)
         await self._loop.run_in_executor(self._thread, self._commit)
         if isinstance(batch.answer, range):
@@ -92,16 +95,23 @@ class FileLog(Log):
             [(self._board, last + 1 + n, batch.desk, batch.key, n, count, *record, batch.at) for n, record in enumerate(batch.records)])
         return range(last + 1, last + 1 + count)
 
-    async def rows(self, after: int, most: int) -> list[Record]:
+    async def rows(self, after: int, most: int = MOST_RECORDS) -> list[Record]:
+        """The first records behind a position. Raises Fault."""
         try:
             return await self._loop.run_in_executor(self._thread, _rows, self._database, self.name, self._board, after, most)
         except sqlite3.Error as fault:
             raise Fault(f"{self.name}: {fault}", 1) from None
 
+    async def whole(self) -> list[Record]:
+        """All records. Raises Fault."""
+        return await self.rows(0)
+
     async def ended(self) -> None:
+        """Raises what ended the log."""
         raise Fault(f"{self.name}: {await self._faults.get()}", 1)
 
     async def close(self) -> None:
+        """Ends what is open."""
         self._thread.shutdown()
         self._database.close()
         for lock in self._locks:
