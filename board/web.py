@@ -149,7 +149,7 @@ class Board:
                     await self.day.reached(int(after))
             refuse(int(after) > len(self.day.records), 503, "this position isn't here yet", Retry_After="1")
         tags = self.tags(len(self.day.records))
-        if request.method in ("GET", "HEAD") and has(request, tags["ETag"]):
+        if request.method in ("GET", "HEAD") and len(self.day.records) > self.day.doubtful and has(request, tags["ETag"]):
             return web.Response(status=304, headers=tags)
         return await handler(request)
 
