@@ -10,13 +10,13 @@ from pathlib import Path
 
 import prometheus_client as prometheus
 
-from board.answers import day_of
+from board.answers import START, day_of
 from board.day import Day
 from board.log import Record
 from board.postgres import Changed, Log
 from board.words import Fault, tell
 
-MOST_REPLY, MOST_AHEAD, SECONDS, START = 8 << 20, 256, 10.0, 60.0
+MOST_REPLY, MOST_AHEAD, SECONDS = 8 << 20, 256, 10.0
 COUNT = prometheus.Counter("cdm_records", "Records with a reply", ["role", "reply"])
 
 
