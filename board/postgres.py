@@ -188,7 +188,7 @@ class Link:
 
 
 class PostgresLog(Kept):
-    """A log in PostgreSQL, with the calls that a log in a file has. Rows are handed on only from a database that has the last row that was handed on."""
+    """A log in PostgreSQL, with the calls of one in a file. Rows are handed on only from a database that has the last one handed on."""
 
     def __init__(self, url: str, board: str) -> None:
         super().__init__(name_of(url), board)

@@ -250,7 +250,7 @@ class Board:
     async def take(self, desk: Desk, lines: list[str], key: str | None) -> bytes:
         """Records into the log, and their replies out of the sequencer. Raises Problem."""
         refuse(self.is_closing, 503, "the server is ending; nothing was taken", Retry_After="5")
-        accepted, waiting, starts = len(self.day.lines), self.waiting(), self.day.starts
+        accepted, waiting = len(self.day.lines), self.waiting()
         is_full = accepted >= TOWERS or len(self.day.records) >= MOST_RECORDS - RESERVED
         is_rush = desk.role != "ATC" and not is_full and waiting and accepted + waiting >= TOWERS
         refuse(is_rush, 429, "the last updates are taken one desk after the other", Retry_After="1")
@@ -264,8 +264,10 @@ class Board:
                     await self.day.reached(positions[-1])
             except TimeoutError:
                 raise Problem(504, "no reply yet; send again with the same key") from None
-        refuse(starts != self.day.starts, 504, NOT_KNOWN)
-        return self.day.texts(self.day.records[positions[0] - 1:positions[-1]])
+        records = self.day.records[positions[0] - 1:positions[-1]]
+        # A fail-over that lost them may have given their positions to others.
+        refuse([(record.desk, record.line) for record in records] != [(desk.name, line) for line in lines], 504, NOT_KNOWN)
+        return self.day.texts(records)
 
     async def post_records(self, request: web.Request) -> web.Response:
         """The lines of the body are records of this desk."""

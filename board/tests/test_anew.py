@@ -1,5 +1,6 @@
 """A day that begins anew, since the log's database lost rows: nothing is left of the day before."""
 import asyncio
+import json
 from unittest import mock
 
 import pytest
@@ -79,6 +80,26 @@ def test_a_tag_is_not_of_the_day_before():
     assert status() == 200
     day.add(Record(2, "desk", "AP", "FLT,AB3,5"), None, [])
     assert status() == 304
+
+
+def test_a_reply_is_to_what_was_sent():
+    """A fail-over gave the position to another's record, before this server had read it: it isn't known whether the own one is kept."""
+    day = day_of()
+
+    class Log:
+        async def append(self, batch):
+            day.add(Record(1, "other", "AP", "FLT,AB1,5"), None, [])
+            day.add(Record(2, "own", "AP", "FLT,AB2,5"), None, [])
+            return range(self.position, self.position + 1)
+    log, own = Log(), Desk("own", "AP")
+    board = Board(Desks([own], True), log, day, None, None, None, {"localhost"}, "http", False)
+    log.position = 1
+    with pytest.raises(Problem, match="not known") as why:
+        asyncio.run(board.take(own, ["FLT,AB2,5"], None))
+    assert why.value.status == 504
+    log.position = 2
+    day.restart(day_of())
+    assert json.loads(asyncio.run(board.take(own, ["FLT,AB2,5"], None)))["position"] == 2
 
 
 def test_an_answer_is_not_of_the_day_before(tmp_path):

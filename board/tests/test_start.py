@@ -236,7 +236,8 @@ def test_a_log_that_is_away_stops_no_clock(capsys):
     with mock.patch.object(clock, "now_text", lambda _, ahead=datetime.timedelta(): f"{now[0] + ahead:%Y-%m-%dT%H:%MZ}"), \
             mock.patch.object(clock.asyncio, "sleep", sleep), pytest.raises(asyncio.CancelledError):
         asyncio.run(clock.run("2025-03-10", take))
-    assert taken == [("clock", [f"CLOCK,2025-03-10T06:{minute}Z"], f"2025-03-10T06:{minute}Z") for minute in ("00", 10, 11, 12)]
+    minutes = [f"2025-03-10T06:{minute}Z" for minute in ("00", 10, 11, 12)]
+    assert taken == [("clock", [f"CLOCK,{minute}"], minute) for minute in minutes]
     told = capsys.readouterr().err
     assert told.count("no CLOCK was taken: the log is away") == 1 and "2025-03-10T06:18Z is more than 5 minutes" in told
 
