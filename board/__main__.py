@@ -24,7 +24,7 @@ from board.answers import Answers, asked, day_of
 from board.desks import digest, read_desks
 from board.events import Events
 from board.guard import HEADERS, Door, Guard, is_loopback
-from board.log import MOST_RECORDS, Batch, Log, Record
+from board.log import MOST_RECORDS, Batch, Record
 from board.sequencer import Sequencer
 from board.web import Board
 from board.words import Fault, Problem, lines_of, tell
@@ -46,6 +46,7 @@ def words() -> argparse.Namespace:
         if "log" in files:
             made.add_argument("--board", default="", help="the board's name in the log")
         return made
+
     server = command("serve", serve, "airport", "log")
     server.epilog = "Also: cdmboard import | export | log init | token, each with --help."
     server.add_argument("--desks", metavar="FILE")
@@ -57,7 +58,7 @@ def words() -> argparse.Namespace:
     sealed.add_argument("--behind-proxy", action="store_true")
     command("import", take_in, "airport", "log", "feed")
     command("export", give_out, "log").add_argument("--all", action="store_true", help="every record, with desk, time and reply")
-    command("log", init).add_argument("init", choices=["init"])
+    command("log", postgres.init).add_argument("init", choices=["init"])
     commands.choices["log"].add_argument("log", metavar="postgresql://..")
     command("token", token)
     said = sys.argv[1:]
@@ -73,37 +74,26 @@ def read(path: str) -> bytes:
 
 @contextlib.contextmanager
 def folder_of(name: str, airport: bytes) -> Iterator[str]:
-    """A folder in memory with the airport file. What a killed server of the same log left is removed; another
-    that runs keeps its own, by a lock that ends with it."""
-    for old in glob.glob(f"{MEMORY}/cdmboard-{name}-*"):
-        with contextlib.suppress(OSError), locked(old):
-            shutil.rmtree(old, ignore_errors=True)
-    with tempfile.TemporaryDirectory("", f"cdmboard-{name}-", MEMORY, ignore_cleanup_errors=True) as folder, locked(folder):
-        Path(folder, "airport.csv").write_bytes(airport)
-        yield folder
-
-
-@contextlib.contextmanager
-def locked(folder: str) -> Iterator[None]:
-    """A lock on a folder. Raises OSError if another process has it."""
-    held = os.open(folder, os.O_RDONLY | os.O_DIRECTORY)
-    try:
-        fcntl.flock(held, fcntl.LOCK_EX | fcntl.LOCK_NB)
-        yield
-    finally:
-        os.close(held)
-
-
-def is_url(log: str) -> bool:
-    """Whether a log is in PostgreSQL."""
-    return log.startswith(("postgresql:", "postgres:"))
+    """A folder in memory with the airport file. What a killed server of the same log left is removed; another that runs keeps
+    its own, by a lock on that file, which has its name only once it is locked."""
+    for old in glob.glob(f"{MEMORY}/cdmboard-{name}-*/airport.csv"):
+        with contextlib.suppress(OSError), open(old) as left:
+            fcntl.flock(left, fcntl.LOCK_EX | fcntl.LOCK_NB)
+            shutil.rmtree(os.path.dirname(old))
+    with tempfile.TemporaryDirectory("", f"cdmboard-{name}-", MEMORY, ignore_cleanup_errors=True) as folder:
+        with open(f"{folder}/airport", "wb", 0) as held:
+            fcntl.flock(held, fcntl.LOCK_EX)
+            held.write(airport)
+            os.rename(f"{folder}/airport", f"{folder}/airport.csv")
+            yield folder
 
 
 @contextlib.asynccontextmanager
-async def log_of(options: argparse.Namespace) -> AsyncIterator[tuple[Log, str]]:
+async def log_of(options: argparse.Namespace) -> AsyncIterator[tuple[postgres.Log, str]]:
     """The log and its folder, while they are used. Raises Fault."""
     airport, version = read(options.airport), await asked("/", PROGRAM, "--version")
-    log: Log = (postgres.PostgresLog if is_url(options.log) else sqlite.FileLog)(options.log, options.board)
+    place = options.log, options.board
+    log: postgres.Log = postgres.PostgresLog(*place) if postgres.is_url(options.log) else sqlite.FileLog(*place)
     await log.open(airport, version.decode("ascii", "replace").strip())
     try:
         with folder_of(log.id, log.airport) as folder:
@@ -131,17 +121,10 @@ async def take_in(options: argparse.Namespace) -> None:
         await log.append(Batch("import", [(role, line) for role, _, line in feed], end=len(feed)))
 
 
-async def init(options: argparse.Namespace) -> None:
-    """`log init`: the tables, the function and the roles of a log in PostgreSQL."""
-    if not is_url(options.log):
-        raise Fault("a log in a file needs no init", 2)
-    await postgres.init(options.log)
-
-
 async def give_out(options: argparse.Namespace) -> None:
     """`export`: the accepted records, or all."""
-    airport, records = await (postgres if is_url(options.log) else sqlite).read_log(options.log, options.board)
-    with folder_of(f"export{os.getpid()}", airport) as folder:
+    airport, records = await (postgres if postgres.is_url(options.log) else sqlite).read_log(options.log, options.board)
+    with folder_of("export", airport) as folder:
         _, day = await day_of(folder, PROGRAM, records)
     print(day.texts(day.records).decode() if options.all else day.feed(), end="")
 
@@ -217,7 +200,7 @@ async def run(board: Board, address: str, date: str) -> None:
         board.is_closing = True
         async with asyncio.timeout(20):
             # What another server takes from now on gets its reply there.
-            rest = [] if board.log.stale_since else await board.log.rows(len(board.day.records), MOST_RECORDS)
+            rest = [] if board.log.stale_since else await board.log.rows(len(board.day.records))
             last = rest[-1].position if rest else 0
             while len(board.day.records) < last and not board.log.stale_since or board.waiting():
                 await asyncio.sleep(0.02)
@@ -256,7 +239,7 @@ def main() -> int:
     except asyncio.CancelledError:
         return 0
     except (Fault, Problem, OSError) as fault:
-        tell(fault if str(fault).startswith("cdmseq: ") else f"cdmboard: {fault}")
+        tell(fault if str(fault).startswith("cdmseq: ") else f"cdmboard: {str(fault) or type(fault).__name__}")
         return fault.status if isinstance(fault, Fault) else 1 if isinstance(fault, OSError) else 3
 
 

@@ -21,13 +21,6 @@ MOST_OUTPUT, SECONDS, START = 40 << 20, 10.0, 60.0
 BESIDE = ("/usr/bin/setpriv", "--pdeathsig", "KILL", "/usr/bin/nice", "-n", "10")
 
 
-class Ran(NamedTuple):
-    """How a run of the program ended: its status, or 504 if it took too long; standard output, the first line of standard error."""
-    status: int
-    output: bytes
-    told: str
-
-
 class Question(NamedTuple):
     """Words of the program, over the day of the moment at which it is run, or over the first `accepted` records and one more, `last`."""
     command: str
@@ -38,12 +31,15 @@ class Question(NamedTuple):
 
 
 class Answer(NamedTuple):
-    """An answer, when it was begun, and of which moment of the day it is."""
-    began: float
-    starts: int
-    accepted: int
-    position: int
-    ran: Ran
+    """How a run of the program ended: its status, or 504 if it took too long; standard output, the first line of standard error;
+    and, of an answer about the day, when it was begun, and of which moment it is."""
+    status: int
+    output: bytes
+    told: str
+    began: float = 0.0
+    starts: int = 0
+    accepted: int = 0
+    position: int = 0
 
 
 class Answers:
@@ -60,7 +56,7 @@ class Answers:
         """What takes long is made one after the other for each who asks, so that nobody takes all the time."""
         return self._turns.setdefault(what, asyncio.Lock())
 
-    async def ask(self, asker: str, question: Question) -> tuple[int, Ran]:
+    async def ask(self, asker: str, question: Question) -> tuple[int, Answer]:
         """The position at which it was asked, and the program's answer. The asker is a desk, or @ and an address. Raises Problem."""
         asked, waits, answer = time.monotonic(), (asker, question), self._kept.get(question)
         if answer is None or not self._is_now(answer):
@@ -76,34 +72,34 @@ class Answers:
             finally:
                 self._waiting -= Counter([waits])
         refuse(answer.starts != self._day.starts, 503, "the day began anew; ask again", Retry_After="1")
-        return len(self._day.records) if self._is_now(answer) else answer.position, answer.ran
+        return len(self._day.records) if self._is_now(answer) else answer.position, answer
 
     def _is_now(self, answer: Answer) -> bool:
         """Whether an answer is of the day as it is now, and would be the same again."""
         is_same = (answer.starts, answer.accepted) == (self._day.starts, len(self._day.lines))
-        return is_same and answer.ran.status in (0, 2, 3)
+        return is_same and answer.status in (0, 2, 3)
 
     async def _made(self, question: Question) -> Answer:
         """A new answer, which is kept."""
         async with self._pool:
             accepted = len(self._day.lines) if question.accepted is None else question.accepted
-            moment = time.monotonic(), self._day.starts, accepted, len(self._day.records)
+            began, starts, position = time.monotonic(), self._day.starts, len(self._day.records)
             try:
                 with tempfile.TemporaryDirectory(dir=self._folder) as folder:
                     Path(folder, "feed.csv").write_text(self._day.feed(accepted) + question.last, "ascii")
                     Path(folder, "scenarios.csv").write_bytes(question.scenarios or b"")
                     words = (question.command, "../airport.csv", "feed.csv", *question.words)
-                    answer = Answer(*moment, await run(folder, SECONDS, *BESIDE, self._program, *words))
+                    ran = await run(folder, SECONDS, *BESIDE, self._program, *words)
             except OSError as fault:
                 raise Problem(503, f"no room for a question: {fault.strerror}", Retry_After="5") from None
         self._kept = {one: kept for one, kept in self._kept.items() if self._is_now(kept)}
-        if len(self._kept) >= KEPT or sum(len(kept.ran.output) for kept in self._kept.values()) > KEPT_BYTES:
+        if len(self._kept) >= KEPT or sum(len(kept.output) for kept in self._kept.values()) > KEPT_BYTES:
             self._kept.clear()
-        self._kept[question] = answer
+        answer = self._kept[question] = ran._replace(began=began, starts=starts, accepted=accepted, position=position)
         return answer
 
 
-async def run(folder: str, seconds: float, *words: str) -> Ran:
+async def run(folder: str, seconds: float, *words: str) -> Answer:
     """Runs the program once in a folder."""
     process = await asyncio.create_subprocess_exec(*words, cwd=folder, stdin=DEVNULL, stdout=PIPE, stderr=PIPE, start_new_session=True)
     assert process.stdout is not None and process.stderr is not None
@@ -112,12 +108,12 @@ async def run(folder: str, seconds: float, *words: str) -> Ran:
             output, told = await asyncio.gather(_all(process.stdout), _all(process.stderr))
             status = await process.wait()
     except TimeoutError:
-        return Ran(504, b"", f"the program took longer than {seconds:.0f} seconds")
+        return Answer(504, b"", f"the program took longer than {seconds:.0f} seconds")
     finally:
         with contextlib.suppress(ProcessLookupError):
             process.kill()
         await process.wait()
-    return Ran(status, output, told.decode("ascii", "replace").partition("\n")[0])
+    return Answer(status, output, told.decode("ascii", "replace").partition("\n")[0])
 
 
 async def _all(stream: asyncio.StreamReader) -> bytes:

@@ -5,7 +5,7 @@ from collections.abc import Awaitable, Callable
 from datetime import date, timedelta
 
 from board.desks import ANY, Desk
-from board.words import Problem, minute_text, tell
+from board.words import Problem, now_text, tell
 
 CLOCK = Desk("clock", "ATC", (), 60_000, None, ANY)
 JUMP = timedelta(minutes=5)
@@ -13,17 +13,18 @@ JUMP = timedelta(minutes=5)
 
 async def run(day: str, take: Callable[[Desk, list[str], str], Awaitable[object]]) -> None:
     """Takes a CLOCK each minute, the first at once, with the minute as its key. Returns never."""
-    days, latest, told = (day, str(date.fromisoformat(day) + timedelta(days=1))), "", ""
+    days, limit, told = (day, str(date.fromisoformat(day) + timedelta(days=1))), "", ""
     while True:
-        now, limit, why = minute_text(), minute_text(JUMP), ""
+        now, why = now_text("minutes"), ""
         if now[:10] not in days:
             why = f"no CLOCK is taken outside the two days from {day} on"
-        elif latest and now > latest:
+        elif limit and now > limit:
             why = f"no CLOCK is taken: {now} is more than 5 minutes after the last; a new start takes it"
         else:
+            # Also where it isn't taken, since a log that is away for long is no jump.
+            limit = now_text("minutes", JUMP)
             try:
                 await take(CLOCK, [f"CLOCK,{now}"], now)
-                latest = limit
             except Problem as problem:
                 why = f"no CLOCK was taken: {problem}"
         if why and why != told:

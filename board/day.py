@@ -13,11 +13,11 @@ KEPT, KEPT_BYTES, MOST_FOUND = 2000, 64 << 20, 1000
 
 
 class Day:
-    """All records by position, from the first to the moment that is now; `lines` are the accepted ones. `starts`: how
-    often it began anew. `changed` is set at each reply, and when it begins anew."""
+    """All records by position, from the first to the moment that is now; `lines` are the accepted ones. `starts`: how often it began
+    anew; up to `doubtful` it may have had other records before. `changed` is set at each reply, and when it begins anew."""
 
     def __init__(self, kinds: Kinds, records: Iterable[Record], refused: Mapping[int, str]) -> None:
-        self.kinds, self.starts, self.changed = kinds, 0, asyncio.Event()
+        self.kinds, self.starts, self.doubtful, self.changed = kinds, 0, -1, asyncio.Event()
         self.records, self.lines = list[Record](), list[str]()
         self._texts, self._bytes = OrderedDict[int, bytes](), 0
         self._waited_for: WeakValueDictionary[int, asyncio.Event] = WeakValueDictionary()
@@ -27,6 +27,7 @@ class Day:
 
     def restart(self, day: "Day") -> None:
         """Begins anew with the records of another day. Whoever waits is told."""
+        self.doubtful = max(self.doubtful, len(self.records))
         self.records, self.lines, self._of, self._bytes = day.records, day.lines, day._of, 0
         self._texts.clear()
         self.starts += 1

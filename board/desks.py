@@ -11,10 +11,9 @@ from dataclasses import dataclass, field
 from datetime import timedelta
 from typing import Any
 
-from board.words import ROLES, Fault, Kinds, minute_text, refuse
+from board.words import ROLES, Fault, Kinds, now_text, refuse
 
 DESK, TOKEN = re.compile(r"[A-Za-z0-9-]{1,32}"), re.compile(r"sha256:[0-9a-f]{64}")
-COOKIE = re.compile(r"([A-Za-z0-9-]{1,32})\.([0-9]{1,12})\.([0-9a-f]{64})")
 TIME = re.compile(r"[0-9]{4}-[0-9]{2}-[0-9]{2}T[0-9]{2}:[0-9]{2}Z")
 AHEAD, ANY, SESSION = timedelta(minutes=5), timedelta(days=36_500), 12 * 3600
 MOST_WAITING, MOST_A_SECOND, SECONDS = 256, 50, 10
@@ -39,7 +38,7 @@ class Desk:
             refuse(is_other, 403, f"{self.name} sends records of its own flights alone", number)
             if kind == "CLOCK":
                 refuse(self.clock is None, 403, f"{self.name} sends no CLOCK", number)
-                is_ahead = self.clock and TIME.fullmatch(at) and at > minute_text(self.clock)
+                is_ahead = self.clock and TIME.fullmatch(at) and at > now_text("minutes", self.clock)
                 refuse(is_ahead, 403, "a CLOCK is at most 5 minutes ahead", number)
 
 
@@ -79,15 +78,15 @@ class Desks:
 
     def cookie(self, desk: Desk, log_id: str, token: str) -> str:
         """A session of twelve hours, which any server of the board can check and a new token ends."""
-        expiry = str(int(time.time()) + SESSION)
-        return f"{desk.name}.{expiry}.{_sign(digest(token), log_id, desk.name, expiry)}"
+        return _signed(digest(token), log_id, desk.name, str(int(time.time()) + SESSION))
 
     def by_cookie(self, cookie: str, log_id: str) -> Desk | None:
         """The desk of a session that hasn't ended."""
-        name, expiry, signed = parts.groups() if (parts := COOKIE.fullmatch(cookie)) else ("", "0", "")
-        desk = self.by_name.get(name) if int(expiry) >= time.time() else None
-        signs = [_sign(kept, log_id, name, expiry) for kept in desk.tokens] if desk else []
-        return desk if any([hmac.compare_digest(signed, sign) for sign in signs]) else None
+        name, expiry, _ = (*cookie.split("."), "", "")[:3]
+        desk = self.by_name.get(name)
+        cookies = [_signed(kept, log_id, name, expiry) for kept in desk.tokens] if desk else []
+        is_ours = any([hmac.compare_digest(digest(cookie), digest(ours)) for ours in cookies])
+        return desk if is_ours and int(expiry) >= time.time() else None
 
 
 def digest(token: str) -> bytes:
@@ -95,8 +94,9 @@ def digest(token: str) -> bytes:
     return hashlib.sha256(token.encode("utf-8", "surrogateescape")).digest()
 
 
-def _sign(key: bytes, log_id: str, name: str, expiry: str) -> str:
-    return hmac.new(key, f"{log_id}.{name}.{expiry}".encode(), "sha256").hexdigest()
+def _signed(key: bytes, log_id: str, name: str, expiry: str) -> str:
+    sign = hmac.new(key, f"{log_id}.{name}.{expiry}".encode("utf-8", "surrogateescape"), "sha256")
+    return f"{name}.{expiry}.{sign.hexdigest()}"
 
 
 def read_desks(path: str | None) -> Desks:

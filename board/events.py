@@ -89,7 +89,7 @@ class Events:
     def open(self, stream: Stream, said: str) -> None:
         """Begins with what came since an event, if one is said."""
         log_id, _, position = said.strip('"').rpartition("-")
-        is_known = log_id.encode() == self._log_id and POSITION.fullmatch(position)
+        is_known = log_id.encode() == self._log_id and POSITION.fullmatch(position) and int(position) > self._day.doubtful
         stream.had = self._day.starts, len(self._day.records)
         stream.write(self._text(stream.desk.name, int(position) if is_known else -1 if said else stream.had[1]))
         self.streams.add(stream)

@@ -22,8 +22,7 @@ def is_loopback(address: str) -> bool:
 
 
 class Door(socket.socket):
-    """A socket that listens, and lets so many connections in, of one address and in all. They count from
-    the first, also before TLS is agreed on. A proxy on this machine may have any number."""
+    """A socket that lets so many connections in, of one address (but of a proxy here) and in all, also before TLS is agreed on."""
 
     def __init__(self, host: str, port: int, is_for_proxy: bool) -> None:
         family, *_, address = socket.getaddrinfo(host, port, type=socket.SOCK_STREAM)[0]
@@ -51,11 +50,11 @@ class Guest(socket.socket):
         guests[address] += 1
 
     def close(self) -> None:
+        if self.fileno() >= 0:
+            self._guests[self._address] -= 1
+            if not self._guests[self._address]:
+                del self._guests[self._address]
         super().close()
-        self._guests.subtract([self._address])
-        if self._guests[self._address] <= 0:
-            del self._guests[self._address]
-        self._guests = Counter()
 
 
 class Guard(web.RequestHandler):

@@ -1,6 +1,5 @@
 """The log: all records in the order in which they were taken, in a database. A record is never changed."""
 import asyncio
-from abc import ABC, abstractmethod
 from collections.abc import Sequence
 from dataclasses import dataclass, field
 from typing import Any, NamedTuple
@@ -12,8 +11,7 @@ NOT_KNOWN = "not known whether the records are in the log; send again with the s
 
 
 class Record(NamedTuple):
-    """A record of the log, and what the day adds: the `word` that refuses it, None if it is accepted; how
-    many are `accepted` up to it; how many Rows it `changes`; its `flight`."""
+    """A record of the log, and what the day adds: the `word` that refuses it, if any, how many are accepted up to it, and so on."""
     position: int
     desk: str
     role: str
@@ -27,9 +25,8 @@ class Record(NamedTuple):
 
 @dataclass
 class Batch:
-    """Records of one desk, each with its role, that are to stand together. `most`: how many the desk may have
-    in the log. `end`: the last position that they may take. `closed`: why the desk sends nothing new. `answer`: where
-    they are, once committed."""
+    """Records of one desk, each with its role, that are to stand together. `most`: how many the desk may have in the log.
+    `end`: the last position that they may take. `closed`: why the desk sends nothing new. `answer`: where they are, once committed."""
     desk: str
     records: list[tuple[str, str]]
     key: str | None = None
@@ -44,55 +41,13 @@ class Batch:
         return Problem(403, f"a log takes {MOST_RECORDS} records, and {self.most} of {self.desk}")
 
 
-class Changed(Exception):
-    """The database hasn't the last row that was handed on: the day begins anew."""
-
-
-class Log(ABC):
-    """A log in an engine. All calls are made by one event loop."""
+class Kept:
+    """What the logs of all engines have. `grown` is set when there may be more records than before."""
     id: str
     airport: bytes
 
     def __init__(self, name: str, board: str) -> None:
-        self.name, self._board, self._grown = name, board, asyncio.Event()
-
-    @abstractmethod
-    async def open(self, airport: bytes, version: str) -> None:
-        """Opens the log, and makes it if it isn't there. Raises Fault."""
-
-    @abstractmethod
-    async def append(self, batch: Batch) -> range:
-        """The records' positions, once they are in the log. Raises Problem; 503: nothing was taken; 504: not known."""
-
-    @abstractmethod
-    async def rows(self, after: int, most: int) -> list[Record]:
-        """The first records behind a position; none while the database is away. Raises Changed, Fault."""
-
-    async def whole(self) -> list[Record]:
-        """All records, as soon as the database is there. Raises Fault."""
-        return await self.rows(0, MOST_RECORDS)
-
-    @abstractmethod
-    async def ended(self) -> None:
-        """Raises what ended the log."""
-
-    @abstractmethod
-    async def close(self) -> None:
-        """Ends what is open."""
-
-    @property
-    def stale_since(self) -> str | None:
-        """Since when there may be records that aren't known here; None if all are."""
-        return None
-
-    async def grown(self) -> None:
-        """Returns when there may be more records than at its last return."""
-        await self._grown.wait()
-        self._grown.clear()
-
-    def wake(self) -> None:
-        """Lets `grown` return."""
-        self._grown.set()
+        self.name, self._board, self.grown = name, board, asyncio.Event()
 
     def check(self, airport: bytes, made_by: str, version: str) -> None:
         """Raises Fault if the log is another airport's or program's."""

@@ -10,6 +10,7 @@ import contextlib
 import json
 import secrets
 import time
+from argparse import Namespace
 from collections import deque
 from collections.abc import AsyncIterator, Awaitable, Callable
 from itertools import chain, repeat
@@ -17,7 +18,8 @@ from pathlib import Path
 from typing import Any, TypeVar
 from urllib.parse import parse_qsl, urlencode, urlsplit
 
-from board.log import MOST_RECORDS, NOT_KNOWN, Batch, Changed, Log, Record, records_of
+from board.log import MOST_RECORDS, NOT_KNOWN, Batch, Kept, Record, records_of
+from board.sqlite import FileLog
 from board.words import Fault, Problem, now_text, tell
 
 try:
@@ -51,8 +53,17 @@ class Away(Exception):
     """The database can't be asked at present."""
 
 
+class Changed(Exception):
+    """The database hasn't the last row that was handed on: the day begins anew."""
+
+
 class Refused(Exception):
     """The database refused a statement, and took nothing of it."""
+
+
+def is_url(log: str) -> bool:
+    """Whether a log is in PostgreSQL."""
+    return log.startswith(("postgresql:", "postgres:"))
 
 
 def hosts_of(url: str) -> list[str]:
@@ -176,8 +187,8 @@ class Link:
         self._writer.terminate()
 
 
-class PostgresLog(Log):
-    """A log in PostgreSQL. Rows are handed on only from a database that has the last row that was handed on."""
+class PostgresLog(Kept):
+    """A log in PostgreSQL, with the calls of one in a file. Rows are handed on only from a database that has the last one handed on."""
 
     def __init__(self, url: str, board: str) -> None:
         super().__init__(name_of(url), board)
@@ -219,7 +230,8 @@ class PostgresLog(Log):
 
     # What is read.
 
-    async def rows(self, after: int, most: int) -> list[Record]:
+    async def rows(self, after: int, most: int = MOST_RECORDS) -> list[Record]:
+        """As of a file; none while the database is away. Raises Changed too."""
         if self._is_other:
             raise Changed(f"{self.name} hasn't the last row that was read; it is read anew")
         self._is_anew = False
@@ -297,7 +309,7 @@ class PostgresLog(Log):
                 positions.set_exception(Problem(403, batch.closed or "") if told["closed"] else batch.full())
             else:
                 positions.set_exception(Problem(told["status"], WRONG[told["status"]]))
-        self.wake()
+        self.grown.set()
 
     # The link.
 
@@ -333,7 +345,7 @@ class PostgresLog(Log):
             (last,), = await link.read(LAST, self._board)
             self._looked, self._looked_at = began, at
             if last > (self._last.position if self._last else 0):
-                self.wake()
+                self.grown.set()
             if self._is_committing:
                 self._is_committing = await link.is_committing(self._writer_name)
             with contextlib.suppress(TimeoutError):
@@ -344,7 +356,7 @@ class PostgresLog(Log):
     def _use(self, link: Link) -> None:
         self._link = link
         self._linked.set()
-        self.wake()
+        self.grown.set()
 
     async def _to(self, url: str) -> Link:
         """A link to a host, checked. Raises Away, Fault."""
@@ -355,7 +367,7 @@ class PostgresLog(Log):
             opened.callback(writer.terminate)
             link = Link(reader, writer)
             try:
-                await link.listen(lambda _, pid, channel, board: self.wake() if board == self._board else None)
+                await link.listen(lambda _, pid, channel, board: self.grown.set() if board == self._board else None)
                 await self._check(link)
             except Refused as why:
                 raise Away(why) from None
@@ -388,6 +400,10 @@ class PostgresLog(Log):
         self._timeline, self._looked, self._looked_at = timeline, began, at
 
 
+# A log in either engine.
+Log = FileLog | PostgresLog
+
+
 def _answer(waiting: list["asyncio.Future[range]"], problem: Problem) -> None:
     for positions in waiting:
         if not positions.done():
@@ -407,9 +423,11 @@ async def database_of(url: str) -> AsyncIterator[Any]:
         raise Fault(f"{name_of(url)}: {why}", 1) from None
 
 
-async def init(url: str) -> None:
-    """Makes the tables, the function and the roles. Raises Fault."""
-    async with database_of(url) as database:
+async def init(options: Namespace) -> None:
+    """`log init`: makes the tables, the function and the roles. Raises Fault."""
+    if not is_url(options.log):
+        raise Fault("a log in a file needs no init", 2)
+    async with database_of(options.log) as database:
         await database.execute(SCHEMA.read_text())
 
 

@@ -10,12 +10,13 @@ from pathlib import Path
 
 import prometheus_client as prometheus
 
-from board.answers import day_of
+from board.answers import START, day_of
 from board.day import Day
-from board.log import Changed, Log, Record
+from board.log import Record
+from board.postgres import Changed, Log
 from board.words import Fault, tell
 
-MOST_REPLY, MOST_AHEAD, SECONDS, START = 8 << 20, 256, 10.0, 60.0
+MOST_REPLY, MOST_AHEAD, SECONDS = 8 << 20, 256, 10.0
 COUNT = prometheus.Counter("cdm_records", "Records with a reply", ["role", "reply"])
 
 
@@ -57,7 +58,7 @@ class Sequencer:
             self._program, *words, cwd=folder, stdin=PIPE, stdout=PIPE, limit=MOST_REPLY, start_new_session=True)
         lines, replies, ended = process.stdin, process.stdout, asyncio.create_task(process.wait())
         assert lines is not None and replies is not None
-        ended.add_done_callback(lambda _: self._log.wake())
+        ended.add_done_callback(lambda _: self._log.grown.set())
         try:
             await self._hand_on(process, lines, replies)
         except (Ended, OSError):
@@ -85,7 +86,8 @@ class Sequencer:
                 raise Ended(f"it ended with {process.returncode}")
             records = await self._log.rows(len(self._day.records), MOST_AHEAD)
             if not records:
-                await self._log.grown()
+                await self._log.grown.wait()
+                self._log.grown.clear()
             lines.write("".join(f"{record.role},{record.line}\n" for record in records).encode("ascii"))
             for asked, record in enumerate(records, asked + 1):
                 self._take(record, asked, await _reply(replies, SECONDS))
@@ -94,15 +96,14 @@ class Sequencer:
         """Keeps a reply, if it is the one to this record."""
         if reply.get("record") != asked:
             raise Ended(f"a reply to record {reply.get('record')} instead of {asked}")
-        said, word, changes = reply.get("reply"), reply.get("word"), reply.get("changes")
-        is_next = reply.get("accepted") == len(self._day.lines) + 1
-        if said == "REFUSED" and isinstance(word, str):
-            self._day.add(record, word, [])
-        elif said == "ACCEPTED" and isinstance(changes, list) and is_next:
-            self._day.add(record, None, changes)
-        else:
-            raise Ended("a reply that no record has")
-        COUNT.labels(record.role, word or said).inc()
+        match reply:
+            case {"reply": "REFUSED", "word": str(word)}:
+                self._day.add(record, word, [])
+            case {"reply": "ACCEPTED", "accepted": number, "changes": list(changes)} if number == len(self._day.lines) + 1:
+                self._day.add(record, None, changes)
+            case _:
+                raise Ended("a reply that no record has")
+        COUNT.labels(record.role, reply.get("word", "ACCEPTED")).inc()
 
 
 async def _reply(replies: asyncio.StreamReader, seconds: float) -> dict[str, object]:

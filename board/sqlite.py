@@ -6,15 +6,12 @@ import os
 import secrets
 import sqlite3
 from collections import deque
-from collections.abc import Callable
 from concurrent.futures import ThreadPoolExecutor
-from typing import TypeVar
 from urllib.parse import quote
 
-from board.log import MOST_RECORDS, NOT_KNOWN, Batch, Log, Record, records_of
+from board.log import MOST_RECORDS, NOT_KNOWN, Batch, Kept, Record, records_of
 from board.words import Fault, Problem
 
-T = TypeVar("T")
 SCHEMA = """
 PRAGMA journal_mode = WAL;
 PRAGMA synchronous = FULL;
@@ -27,41 +24,38 @@ CREATE TABLE IF NOT EXISTS cdm_record (
 ROWS = "SELECT position, desk, role, line, at FROM cdm_record WHERE board = ? AND position > ? ORDER BY position LIMIT ?"
 
 
-class FileLog(Log):
-    """A log in a file, which has a thread of its own."""
+class FileLog(Kept):
+    """A log in a file, which has a thread of its own. `stale_since`: since when there may be records that aren't known here."""
+    stale_since: str | None = None
 
     def __init__(self, path: str, board: str) -> None:
         super().__init__(os.path.realpath(path), board)
         self._loop, self._thread = asyncio.get_running_loop(), ThreadPoolExecutor(1, "log")
         self._waiting, self._locks, self._faults = deque[Batch](), list[int](), asyncio.Queue[sqlite3.Error]()
 
-    async def _in_thread(self, call: Callable[[], T]) -> T:
-        return await self._loop.run_in_executor(self._thread, call)
-
     async def open(self, airport: bytes, version: str) -> None:
+        """Opens the log, and makes it if it isn't there. Raises Fault."""
+        log = (self._board, secrets.token_hex(8), airport, version)
         try:
-            await self._in_thread(lambda: self._open(airport, version))
+            # Another name of the file has another lock, but is the same file.
+            for path in (f"{self.name}.lock", self.name):
+                self._locks.append(os.open(path, os.O_CREAT | os.O_RDWR | os.O_CLOEXEC, 0o600))
+                fcntl.flock(self._locks[-1], fcntl.LOCK_EX | fcntl.LOCK_NB)
+            self._database = sqlite3.connect(self.name, timeout=10, isolation_level=None, check_same_thread=False)
+            self._database.executescript(SCHEMA)
+            self._database.execute("INSERT OR IGNORE INTO cdm_log VALUES (?, ?, ?, ?)", log)
+            row = self._database.execute("SELECT id, airport, version FROM cdm_log WHERE board = ?", log[:1]).fetchone()
         except BlockingIOError:
             raise Fault(f"{self.name} is served by another") from None
         except (OSError, sqlite3.Error) as fault:
             raise Fault(f"{self.name}: {fault}") from None
-
-    def _open(self, airport: bytes, version: str) -> None:
-        # Another name of the file has another lock, but is the same file.
-        for path in (f"{self.name}.lock", self.name):
-            self._locks.append(os.open(path, os.O_CREAT | os.O_RDWR | os.O_CLOEXEC, 0o600))
-            fcntl.flock(self._locks[-1], fcntl.LOCK_EX | fcntl.LOCK_NB)
-        self._database = sqlite3.connect(self.name, timeout=10, isolation_level=None)
-        self._database.executescript(SCHEMA)
-        log = (self._board, secrets.token_hex(8), airport, version)
-        self._database.execute("INSERT OR IGNORE INTO cdm_log VALUES (?, ?, ?, ?)", log)
-        row = self._database.execute("SELECT id, airport, version FROM cdm_log WHERE board = ?", log[:1]).fetchone()
         self.id, self.airport, made_by = row
         self.check(airport, made_by, version)
 
     async def append(self, batch: Batch) -> range:
+        """The records' positions, once they are in the log. Raises Problem; 503: nothing was taken; 504: not known."""
         self._waiting.append(batch)
-        await self._in_thread(self._commit)
+        await self._loop.run_in_executor(self._thread, self._commit)
         if isinstance(batch.answer, range):
             return batch.answer
         raise batch.answer or Problem(504, NOT_KNOWN)
@@ -78,7 +72,7 @@ class FileLog(Log):
             return
         for batch, answer in zip(batches, answers):
             batch.answer = answer
-        self._loop.call_soon_threadsafe(self.wake)
+        self._loop.call_soon_threadsafe(self.grown.set)
 
     def _take(self, batch: Batch) -> range | Problem:
         """The records' positions: those that their key has already, or new ones."""
@@ -101,15 +95,25 @@ class FileLog(Log):
             [(self._board, last + 1 + n, batch.desk, batch.key, n, count, *record, batch.at) for n, record in enumerate(batch.records)])
         return range(last + 1, last + 1 + count)
 
-    async def rows(self, after: int, most: int) -> list[Record]:
-        return await self._in_thread(lambda: _rows(self._database, self.name, self._board, after, most))
+    async def rows(self, after: int, most: int = MOST_RECORDS) -> list[Record]:
+        """The first records behind a position. Raises Fault."""
+        try:
+            return await self._loop.run_in_executor(self._thread, _rows, self._database, self.name, self._board, after, most)
+        except sqlite3.Error as fault:
+            raise Fault(f"{self.name}: {fault}", 1) from None
+
+    async def whole(self) -> list[Record]:
+        """All records. Raises Fault."""
+        return await self.rows(0)
 
     async def ended(self) -> None:
+        """Raises what ended the log."""
         raise Fault(f"{self.name}: {await self._faults.get()}", 1)
 
     async def close(self) -> None:
-        await self._in_thread(self._database.close)
+        """Ends what is open."""
         self._thread.shutdown()
+        self._database.close()
         for lock in self._locks:
             os.close(lock)
 

@@ -1,5 +1,6 @@
 """HTTP: requests in, answers out."""
 import asyncio
+import contextlib
 import functools
 import gzip
 import json
@@ -21,14 +22,14 @@ from board.day import Day
 from board.desks import SESSION, Desk, Desks, Pace
 from board.events import Events, Stream
 from board.guard import Guard, is_loopback
-from board.log import MOST_RECORDS, NOT_KNOWN, Batch, Log
+from board.log import MOST_RECORDS, NOT_KNOWN, Batch
+from board.postgres import Log
 from board.sequencer import Sequencer
 from board.words import KEY, POSITION, Problem, lines_of, now_text, refuse, tell
 
 MOST_BODY, MOST_FOUND, MOST_UNSENT, PACKED, TOWERS, RESERVED = 64 << 10, 1 << 20, 64 << 20, 1024, 18_000, 2000
 REPLY, AFTER, BODY, ANSWER = 30.0, 2.0, 20.0, 60.0
-FILES = {".html": "text/html; charset=utf-8", ".css": "text/css; charset=utf-8", ".js": "text/javascript; charset=utf-8",
-         ".svg": "image/svg+xml"}
+FILES = {".html": "text/html", ".css": "text/css", ".js": "text/javascript", ".svg": "image/svg+xml"}
 PAGE, READER = Path(__file__).parent / "page", Desk("", "READ")
 TYPES = {"": "text/plain", "csv": "text/csv", "json": "application/x-ndjson", "svg": "image/svg+xml"}
 # The program's commands as paths. Those that want a scenario are asked by POST alone, in a format by Accept.
@@ -40,8 +41,8 @@ OPTIONS: dict[str, tuple[str, ...]] = {"minutes": (), "by": ("--by",), "scenario
 ARGUMENT = re.compile("[A-Za-z0-9][A-Za-z0-9-]{0,15}")
 UNKNOWN = ("cdmseq: no flight ", "cdmseq: no runway ", "cdmseq: no scenario ")
 # What may be said once alone: of two, the next program on the way might read the other one.
-ONCE = ("Host", "Origin", "Authorization", "Idempotency-Key", "Cdm-Role", "Cdm-After", "Content-Length", "Transfer-Encoding",
-        "Content-Type")
+ONCE = "Host Origin Authorization Idempotency-Key Cdm-Role Cdm-After Content-Length Transfer-Encoding Content-Type".split()
+STREAM = {"Content-Type": "text/event-stream", "Cache-Control": "no-store", "X-Accel-Buffering": "no"}
 SAFE = {"X-Content-Type-Options": "nosniff", "Cache-Control": "no-cache", "Cross-Origin-Resource-Policy": "same-origin"}
 SECONDS = prometheus.Histogram("cdm_reply_seconds", "Seconds of a reply")
 GAUGES = [prometheus.Gauge(f"cdm_{name}", text) for name, text in (
@@ -56,19 +57,17 @@ def has(request: web.Request, tag: str) -> bool:
 
 
 @functools.lru_cache(16)
-def gzipped(body: bytes) -> bytes:
-    """A body by gzip, if it is small. What many ask for is made once."""
+def packed(body: bytes) -> bytes:
+    """A body by gzip. What many ask for is made once, if it is small."""
     return gzip.compress(body, 4, mtime=0)
 
 
-async def pack(request: web.Request, response: web.Response) -> web.Response:
-    """An answer by gzip, if that is wanted and worth while."""
-    body = response.body
-    if "gzip" in request.headers.get("Accept-Encoding", "") and isinstance(body, bytes) and len(body) > PACKED:
-        is_small = len(body) <= MOST_FOUND
-        response.body = await (asyncio.to_thread(gzipped, body) if is_small else asyncio.to_thread(gzip.compress, body, 4, mtime=0))
-        response.headers["Content-Encoding"] = "gzip"
-    return response
+async def pack(request: web.Request, body: bytes, headers: dict[str, str]) -> web.Response:
+    """An answer, by gzip if that is wanted and worth while."""
+    if "gzip" in request.headers.get("Accept-Encoding", "") and len(body) > PACKED:
+        is_small, headers = len(body) <= MOST_FOUND, headers | {"Content-Encoding": "gzip"}
+        body = await (asyncio.to_thread(packed, body) if is_small else asyncio.to_thread(packed.__wrapped__, body))
+    return web.Response(body=body, headers=headers)
 
 
 @dataclass
@@ -122,12 +121,11 @@ class Board:
     def check_displays(self) -> None:
         """Ends each display that wouldn't be let in any more as the desk that it was."""
         for stream in self.events.streams:
-            try:
+            with contextlib.suppress(Problem):
                 desk = self.desk_of(stream.request)
-            except Problem:
-                desk = Desk("", "")
-            if (desk.name, desk.role) != (stream.desk.name, stream.desk.role):
-                stream.transport.abort()
+                if (desk.name, desk.role) == (stream.desk.name, stream.desk.role):
+                    continue
+            stream.transport.abort()
 
     @web.middleware
     async def checked(self, request: web.Request, handler: Handler) -> web.StreamResponse:
@@ -146,13 +144,12 @@ class Board:
         self.check_unsent(request, 1)
         refuse(not POSITION.fullmatch(after), 400, "Cdm-After is a position")
         if request.method == "GET":
-            try:
+            with contextlib.suppress(TimeoutError, Problem):
                 async with asyncio.timeout(AFTER):
                     await self.day.reached(int(after))
-            except TimeoutError:
-                raise Problem(503, "this position isn't here yet", Retry_After="1") from None
+            refuse(int(after) > len(self.day.records), 503, "this position isn't here yet", Retry_After="1")
         tags = self.tags(len(self.day.records))
-        if request.method in ("GET", "HEAD") and has(request, tags["ETag"]):
+        if request.method in ("GET", "HEAD") and len(self.day.records) > self.day.doubtful and has(request, tags["ETag"]):
             return web.Response(status=304, headers=tags)
         return await handler(request)
 
@@ -253,7 +250,7 @@ class Board:
     async def take(self, desk: Desk, lines: list[str], key: str | None) -> bytes:
         """Records into the log, and their replies out of the sequencer. Raises Problem."""
         refuse(self.is_closing, 503, "the server is ending; nothing was taken", Retry_After="5")
-        accepted, waiting, starts = len(self.day.lines), self.waiting(), self.day.starts
+        accepted, waiting = len(self.day.lines), self.waiting()
         is_full = accepted >= TOWERS or len(self.day.records) >= MOST_RECORDS - RESERVED
         is_rush = desk.role != "ATC" and not is_full and waiting and accepted + waiting >= TOWERS
         refuse(is_rush, 429, "the last updates are taken one desk after the other", Retry_After="1")
@@ -267,8 +264,10 @@ class Board:
                     await self.day.reached(positions[-1])
             except TimeoutError:
                 raise Problem(504, "no reply yet; send again with the same key") from None
-        refuse(starts != self.day.starts, 504, NOT_KNOWN)
-        return self.day.texts(self.day.records[positions[0] - 1:positions[-1]])
+        records = self.day.records[positions[0] - 1:positions[-1]]
+        # A fail-over that lost them may have given their positions to others.
+        refuse([(record.desk, record.line) for record in records] != [(desk.name, line) for line in lines], 504, NOT_KNOWN)
+        return self.day.texts(records)
 
     async def post_records(self, request: web.Request) -> web.Response:
         """The lines of the body are records of this desk."""
@@ -307,7 +306,7 @@ class Board:
 
     async def of_moment(self, request: web.Request, position: int, form: str, body: bytes) -> web.Response:
         """An answer about the day at one moment."""
-        response = await pack(request, web.Response(body=body, content_type=TYPES[form], headers=self.tags(position)))
+        response = await pack(request, body, self.tags(position) | {"Content-Type": TYPES[form]})
         self.check_unsent(request, response.content_length or 0)
         return response
 
@@ -350,19 +349,17 @@ class Board:
         if transport is None:
             raise ConnectionResetError("the display is gone")
         transport.get_extra_info("socket").setsockopt(socket.SOL_SOCKET, socket.SO_SNDBUF, 1 << 18)
-        response = web.StreamResponse(headers={
-            "Content-Type": "text/event-stream", "Cache-Control": "no-store", "X-Accel-Buffering": "no"})
+        response = web.StreamResponse(headers=STREAM)
         await response.prepare(request)
         stream = Stream(request, request["desk"], transport, guard.lost)
         # A browser that comes back sends both, of which the header is the newer one.
         self.events.open(stream, request.headers.get("Last-Event-ID") or request.query.get("since") or "")
+        # Not longer than a cookie; a display comes back by itself.
+        too_long = asyncio.get_running_loop().call_later(SESSION, transport.abort)
         try:
-            # Not longer than a cookie; a display comes back by itself.
-            async with asyncio.timeout(SESSION):
-                await stream.ended.wait()
-        except TimeoutError:
-            transport.abort()
+            await stream.ended.wait()
         finally:
+            too_long.cancel()
             self.events.streams.discard(stream)
         return response
 
@@ -385,10 +382,9 @@ class Board:
         path = PAGE / request.match_info.get("file", "index.html")
         refuse(path.suffix not in FILES or not path.is_file(), 404, "there is no such file")
         body = path.read_bytes()
-        headers = {"ETag": f'"{zlib.crc32(body):08x}-{len(body)}"', "Vary": "Accept-Encoding", "Content-Type": FILES[path.suffix]}
-        if has(request, headers["ETag"]):
-            return web.Response(status=304, headers=headers)
-        return await pack(request, web.Response(body=body, headers=headers))
+        headers = {"ETag": f'"{zlib.crc32(body):08x}-{len(body)}"', "Vary": "Accept-Encoding",
+                   "Content-Type": f"{FILES[path.suffix]}; charset=utf-8"}
+        return web.Response(status=304, headers=headers) if has(request, headers["ETag"]) else await pack(request, body, headers)
 
     def application(self) -> web.Application:
         """All paths."""

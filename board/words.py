@@ -36,7 +36,7 @@ def refuse(is_so: object, status: int, why: str, line: int | None = None, **head
 
 def tell(text: object) -> None:
     """A line on standard error."""
-    print(text, file=sys.stderr, flush=True)
+    print(text, file=sys.stderr)
 
 
 def lines_of(body: bytes, most: int = MOST_LINES, most_bytes: int = MOST_BYTES) -> list[str]:
@@ -49,14 +49,9 @@ def lines_of(body: bytes, most: int = MOST_LINES, most_bytes: int = MOST_BYTES) 
     return lines
 
 
-def minute_text(ahead: timedelta = timedelta()) -> str:
-    """The UTC minute that is so far ahead, as the program writes it."""
-    return (datetime.now(timezone.utc) + ahead).strftime("%Y-%m-%dT%H:%MZ")
-
-
-def now_text() -> str:
-    """The time now, in UTC with milliseconds."""
-    return datetime.now(timezone.utc).isoformat(timespec="milliseconds").replace("+00:00", "Z")
+def now_text(unit: str = "milliseconds", ahead: timedelta = timedelta()) -> str:
+    """The time that is so far ahead, in UTC, as the program writes it."""
+    return (datetime.now(timezone.utc) + ahead).isoformat(timespec=unit).replace("+00:00", "Z")
 
 
 class Kinds:

@@ -1,14 +1,18 @@
 """A day that begins anew, since the log's database lost rows: nothing is left of the day before."""
 import asyncio
+import json
 from unittest import mock
 
 import pytest
+from aiohttp import web
+from aiohttp.test_utils import make_mocked_request
 
 from board.answers import Answers, Question
 from board.day import Day
-from board.desks import Desk
+from board.desks import Desk, Desks
 from board.events import Events, Stream
 from board.log import Record
+from board.web import Board
 from board.words import Kinds, Problem
 
 KINDS = b'{"kind":"FLT","roles":["AP"],"of":"flight"}'
@@ -40,6 +44,62 @@ def test_displays_are_reset():
     day.restart(day_of("AB2"))
     asyncio.run(events._write())
     assert b"id: 0-1\nevent: reset\ndata: {}\n\n" in transport.write.call_args.args[0]
+
+
+def test_a_display_that_comes_back_is_reset():
+    """The records that it had may be another day's, unless they are behind all of those."""
+    day, texts = day_of(), []
+    day.add(Record(1, "desk", "AP", "FLT,AB1,5"), None, [])
+    events = Events("0", day)
+
+    def come_back(said):
+        transport = mock.Mock()
+        transport.get_write_buffer_size.return_value, transport.is_closing.return_value = 0, False
+        events.open(Stream(None, Desk("screen", "READ"), transport, None), said)
+        texts.append(transport.write.call_args.args[0])
+        return b"event: reset" in texts[-1]
+    assert not come_back("0-0") and not come_back("0-1")
+    day.restart(day_of("AB2"))
+    for number in (2, 3):
+        day.add(Record(number, "desk", "AP", f"FLT,CD{number},5"), None, [])
+    assert [come_back(f"0-{number}") for number in range(4)] == [True, True, False, False] and b"FLT,CD3,5" in texts[-2]
+
+
+def test_a_tag_is_not_of_the_day_before():
+    """Where the day that began anew has as many records, what a browser has of that position is another plan."""
+    day = day_of("AB1")
+    board = Board(Desks([], True), mock.Mock(id="0", stale_since=None), day, None, None, None, {"localhost"}, "http", False)
+
+    def status():
+        async def handler(request):
+            return web.Response(status=200)
+        request = make_mocked_request("GET", "/v1/plan", headers={"Host": "localhost", "If-None-Match": f'"0-{len(day.records)}"'})
+        return asyncio.run(board.checked(request, handler)).status
+    assert status() == 304
+    day.restart(day_of("AB2"))
+    assert status() == 200
+    day.add(Record(2, "desk", "AP", "FLT,AB3,5"), None, [])
+    assert status() == 304
+
+
+def test_a_reply_is_to_what_was_sent():
+    """A fail-over gave the position to another's record, before this server had read it: it isn't known whether the own one is kept."""
+    day = day_of()
+
+    class Log:
+        async def append(self, batch):
+            day.add(Record(1, "other", "AP", "FLT,AB1,5"), None, [])
+            day.add(Record(2, "own", "AP", "FLT,AB2,5"), None, [])
+            return range(self.position, self.position + 1)
+    log, own = Log(), Desk("own", "AP")
+    board = Board(Desks([own], True), log, day, None, None, None, {"localhost"}, "http", False)
+    log.position = 1
+    with pytest.raises(Problem, match="not known") as why:
+        asyncio.run(board.take(own, ["FLT,AB2,5"], None))
+    assert why.value.status == 504
+    log.position = 2
+    day.restart(day_of())
+    assert json.loads(asyncio.run(board.take(own, ["FLT,AB2,5"], None)))["position"] == 2
 
 
 def test_an_answer_is_not_of_the_day_before(tmp_path):

@@ -97,14 +97,14 @@ def test_a_question_does_not_outlive_the_server(board):
     """KILL the server: what runs for it ends."""
     server = board(start=False)
     slow = server.folder / "slow"
-    slow.write_text(f'#!/bin/sh\ncase $1 in why) exec sleep 8.125;; esac\nexec {PROGRAM} "$@"\n')
+    slow.write_text(f'#!/bin/sh\ncase $1 in why) exec sleep 98.125;; esac\nexec {PROGRAM} "$@"\n')
     slow.chmod(0o755)
     server.environment["CDMSEQ"] = str(slow)
     server.start()
     with concurrent.futures.ThreadPoolExecutor(1) as pool:
         pool.submit(server.get, "/v1/why/AB1")
-        until(lambda: any("8.125" in words for words in server.processes().values()))
-        asked = next(number for number, words in server.processes().items() if "8.125" in words)
+        until(lambda: any("98.125" in words for words in server.processes().values()))
+        asked = next(number for number, words in server.processes().items() if "98.125" in words)
         server.kill()
         until(lambda: not os.path.exists(f"/proc/{asked}"), 3)
 

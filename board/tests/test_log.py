@@ -153,6 +153,24 @@ def test_a_row_that_is_missing_is_a_fault(log_at):
         talk(open_log, lambda log: log.rows(0, 10))
 
 
+def test_a_log_that_can_t_be_read_is_a_fault(log_at):
+    """While it is served: the server ends with a line, or it is as if the database were away."""
+    from board.words import Fault
+    open_log, force = log_at
+
+    async def what(log):
+        await log.append(batch("A"))
+        force("ALTER TABLE cdm_record RENAME TO other_record")
+        try:
+            return await log.rows(0, 10)
+        except Fault as fault:
+            return str(fault)
+        finally:
+            force("ALTER TABLE other_record RENAME TO cdm_record")
+    found = talk(open_log, what)
+    assert found == [] if force.__name__ == "sql" else "day.db: no such table" in found
+
+
 def test_ten_boards_of_one_database(log_at):
     """Each has its own records and positions; nobody waits for another board."""
     open_log, force = log_at

@@ -209,7 +209,7 @@ def test_a_database_that_is_away(board):
         server.post(["FLT,AB1,5"], Cdm_Role="AP")
         fresh = server.get("/v1/plan")
         assert "Cdm-Stale-Since" not in fresh.headers
-        before = time.strftime("%Y-%m-%dT%H:%M:%S", time.gmtime())
+        before = time.strftime("%Y-%m-%dT%H:%M:%S", time.gmtime(time.time() - 10))
         primary.kill()
         after = time.strftime("%Y-%m-%dT%H:%M:%S", time.gmtime(time.time() + 1))
         until(lambda: "Cdm-Stale-Since" in server.get("/v1/plan").headers)

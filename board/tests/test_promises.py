@@ -236,6 +236,8 @@ def test_a_display_that_never_reads_is_cut_off(board):
         while server.metric("cdm_displays") == 1 and number < 150:
             server.post([f"CLOSE,{window}", f"OPEN,{window}"], Cdm_Role="ATC")
             number += 1
+            # So much at once would be a `reset`, which is short.
+            time.sleep(0.02)
         until(lambda: server.metric("cdm_displays") == 0)
     assert server.memory() < before + 40
 

@@ -1,7 +1,11 @@
 """Start and end: words, files, locks, the clock, TLS, a proxy, import and export."""
+import asyncio
 import concurrent.futures
+import datetime
+import fcntl
 import json
 import os
+import pathlib
 import signal
 import socket
 import sqlite3
@@ -9,6 +13,7 @@ import ssl
 import subprocess
 import time
 import urllib.request
+from unittest import mock
 
 import pytest
 from conftest import AIRPORT, FACTOR, PROGRAM, ROOT, certificates, figure, moment, objects, until
@@ -121,6 +126,32 @@ def test_an_end_answers_what_waits(board):
     assert len(left) == 1
 
 
+def test_a_folder_that_is_being_made_is_left_alone():
+    """Another server of the same log starts at the very moment."""
+    import board.__main__ as start
+    calls, flock = [], fcntl.flock
+
+    def flocked(file, how):
+        calls.append(how)
+        if len(calls) == 1:
+            with start.folder_of("0123456789abcdef", b"other") as other:
+                assert pathlib.Path(other, "airport.csv").read_bytes() == b"other"
+        flock(file, how)
+    with mock.patch.object(start.fcntl, "flock", flocked), start.folder_of("0123456789abcdef", b"own") as folder:
+        assert pathlib.Path(folder, "airport.csv").read_bytes() == b"own" and len(calls) >= 2
+    assert not os.path.exists(folder)
+
+
+def test_an_end_ends_who_waits_for_a_position(board):
+    """Nothing was sent, so there is nothing to send again."""
+    server = board()
+    with concurrent.futures.ThreadPoolExecutor(1) as pool:
+        waiting = pool.submit(server.get, "/v1/plan", Cdm_After="5")
+        time.sleep(0.5)
+        assert server.end() == 0
+        assert waiting.result().status == 503
+
+
 def test_import_and_export(files, board):
     feed = files / "feed.csv"
     feed.write_text(f"AP,FLT,AB1,5\nAO,TOBT,AB1,{moment(400)}\n")
@@ -185,6 +216,30 @@ def test_the_clock_is_taken(board):
     other = board(options=["--clock"])
     until(lambda: other.told().count("outside the two days") == 1)
     assert other.records() == []
+
+
+def test_a_log_that_is_away_stops_no_clock(capsys):
+    """Records aren't taken for nine minutes, and then they are; a clock that jumps is told, and not taken."""
+    from board import clock
+    from board.words import Problem
+    now, taken = [datetime.datetime(2025, 3, 10, 6)], []
+
+    async def take(desk, lines, key):
+        if 0 < now[0].minute < 10:
+            raise Problem(503, "the log is away")
+        taken.append((desk.name, lines, key))
+
+    async def sleep(seconds):
+        now[0] += datetime.timedelta(minutes=1 if now[0].minute < 12 else 6)
+        if now[0].minute > 20:
+            raise asyncio.CancelledError
+    with mock.patch.object(clock, "now_text", lambda _, ahead=datetime.timedelta(): f"{now[0] + ahead:%Y-%m-%dT%H:%MZ}"), \
+            mock.patch.object(clock.asyncio, "sleep", sleep), pytest.raises(asyncio.CancelledError):
+        asyncio.run(clock.run("2025-03-10", take))
+    minutes = [f"2025-03-10T06:{minute}Z" for minute in ("00", 10, 11, 12)]
+    assert taken == [("clock", [f"CLOCK,{minute}"], minute) for minute in minutes]
+    told = capsys.readouterr().err
+    assert told.count("no CLOCK was taken: the log is away") == 1 and "2025-03-10T06:18Z is more than 5 minutes" in told
 
 
 def test_sealed_by_tls(board):
