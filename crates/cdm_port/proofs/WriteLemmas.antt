@@ -2,7 +2,6 @@
 use Rattle.std.proofs.Common.{◌≡◌, ℕ, List, [], ◌∷◌, ◌++◌, ◌∙◌, map, take, drop, refl, sym, ap, inl, inr, Option, None, Some, Result, Ok, Err, OnErr}
 use Rattle.std.specs.Io.KnownBytes.{Appends, Keeps}
 use Rattle.std.proofs.lemmas.List.{map-append, take-append-drop}
-use Rattle.cdm_port.specs.Event.{Event}
 use Rattle.cdm_port.specs.Event.Event.{Appended, Renamed, Replied, Synced}
 use Rattle.cdm_port.specs.Notes.{noted}
 use Rattle.cdm_port.specs.Stop.{Stops}

@@ -64,7 +64,7 @@ pub struct Memory {
     alloc: Global,
     script: &'static [Row],
     stop: Stop,
-    history: History,
+    history: History<Happening>,
     /// Whether the journal is marked as served.
     pub marked: bool,
     /// The journal as it was synced.
