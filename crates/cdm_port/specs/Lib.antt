@@ -4,4 +4,6 @@ pub mod Stop
 pub mod Fault
 pub mod Notes
 pub mod Parts
+pub mod Reasons
+pub mod Torn
 pub mod inner
