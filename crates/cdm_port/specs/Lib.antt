@@ -1,3 +1,4 @@
+pub mod Disk
 pub mod Event
 pub mod Heard
 pub mod Stop
