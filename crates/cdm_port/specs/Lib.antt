@@ -4,6 +4,7 @@ pub mod Heard
 pub mod Stop
 pub mod Fault
 pub mod Notes
+pub mod Opened
 pub mod Parts
 pub mod Reasons
 pub mod Torn

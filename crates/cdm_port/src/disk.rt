@@ -1,8 +1,9 @@
 //! The system's calls on the files of a journal. What the system has done is noted, and why it has not done a call is kept.
 //! What it really does no clause can say: that each function here makes the one call that it notes is to be read here.
-ghost use Rattle.std.specs.Prelude.{◌≡◌, ◌≤◌, [], ◌∷◌, ◌++◌, length, take, IfOk, None};
+ghost use Rattle.std.specs.Prelude.{◌≡◌, ◌≤◌, [], ◌∷◌, ◌++◌, length, take, IfErr, IfOk, None};
 ghost use Rattle.std.specs.Fd.{file_raw_fd};
 ghost use Rattle.std.specs.IoError.{error_kind};
+ghost use Rattle.std.specs.declared.io.ErrorKind.TheVariants.{Other};
 ghost use Rattle.cdm_port.specs.Disk.{Did};
 ghost use Rattle.cdm_port.specs.declared.disk.FileCall.TheVariants as call;
 
@@ -158,7 +159,11 @@ impl<'a, R> Disk<'a, R> {
         let mut writer = file;
         let written = writer.write(bytes);
         let count = written.as_ref().map_or(0, |count| *count);
-        self.answer(written, FileCall::Written(file.as_raw_fd()), &bytes[..count])
+        self.answer(
+            written,
+            FileCall::Written(file.as_raw_fd()),
+            &bytes[..count],
+        )
     }
 
     /// Writes all these bytes at the end of an open file.
@@ -199,6 +204,7 @@ impl<R: Files<File = File>> Disk<'_, R> {
     /// `Other` where it isn't this one, as long as it is here, or isn't there though it is here.
     pub(crate) fn stands(&mut self, path: &str, own: Option<Standing>) -> io::Result<()>
         ensures did { Did self.old self.new (λ _. (call.Found own, path.now) ∷ []) result }
+        ensures other { IfErr result (λ error. error_kind error ≡ Other) }
     {
         let stands = if named(self.files, path) == own {
             Ok(())
@@ -234,7 +240,8 @@ impl<R: Files<File = File>> Disk<'_, R> {
     {
         match make_file(self.files, path, mode) {
             Ok(file) => {
-                self.done.note(&FileCall::Made(file.as_raw_fd()), path.as_bytes());
+                self.done
+                    .note(&FileCall::Made(file.as_raw_fd()), path.as_bytes());
                 Ok(file)
             }
             Err(error) => {
