@@ -22,7 +22,7 @@ abbrev pub grown : ℕ → Option Standing → Option Standing
 grown count None = None
 grown count (Some own) = Some (record own { length = min (own.length + count) (2 ^ 64 - 1) })
 
--- what stands there after a rename of a new file of these bytes: the new file is written and on the disk before it is renamed
+-- a new file of these bytes is written and put on the disk, the journal is looked for, and then the new file is renamed over it
 abbrev pub renaming : {R : Type 0} → OpenJournal R → ℤ → List ℕ → FileCalls
 renaming journal new bytes =
     (Removed, string_bytes journal.fresh)

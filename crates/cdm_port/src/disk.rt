@@ -37,8 +37,8 @@ impl Standing {
     }
 }
 
-/// What the system has done with the files of a journal. An open file is told by its number. Beside each call stand the bytes that
-/// it read or wrote, or else the path that it was made for.
+/// What the system has done with the files of a journal. An open file is told by its number. A note of a call has the bytes that
+/// it read or wrote, or the path that it was made for.
 #[derive(Clone, Copy, Debug)]
 pub(crate) enum FileCall {
     /// Nothing stands at the path any more.
