@@ -1,6 +1,5 @@
 //! The file that carries a journal's lock, and marks the journal as served. How the lock is taken is to be read here.
-ghost use Rattle.std.specs.Prelude.{◌≡◌, ◌++◌, ◌∷◌, [], true, Some, IfErr, OnOk, codes};
-ghost use Rattle.std.specs.Fd.{file_raw_fd};
+ghost use Rattle.std.specs.Prelude.{◌≡◌, ◌++◌, true, Some, IfErr, OnOk};
 ghost use Rattle.std.specs.IoError.{error_kind};
 ghost use Rattle.cdm_port.specs.Opened.{giving_up, marking};
 

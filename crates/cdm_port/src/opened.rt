@@ -1,6 +1,6 @@
 //! The journal of a day in the file system, with its lock. What is done with it once it is open is told by the calls that its
 //! disk notes; how it is opened is to be read here.
-ghost use Rattle.std.specs.Prelude.{◌≡◌, ◌≤◌, ◌∷◌, ◌++◌, [], Bool, true, false, Option, None, Some, Ok, IsErrAnd, IfErr, IfOk, IfSome, IsNone, OnErr, OnOk, length, string_bytes, take};
+ghost use Rattle.std.specs.Prelude.{◌≡◌, ◌∷◌, ◌++◌, [], true, false, None, Some, Ok, IsErrAnd, IfErr, IfOk, IfSome, IsNone, OnErr, OnOk, string_bytes, take};
 ghost use Rattle.std.specs.Fd.{file_raw_fd};
 ghost use Rattle.std.specs.Io.{ReadsAtMost, WritesAtMost};
 ghost use Rattle.std.specs.Io.KnownBytes.{ReadConsumes, WriteAppends};
