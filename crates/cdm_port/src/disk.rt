@@ -1,5 +1,5 @@
 //! The system's calls on the files of a journal. What the system has done is noted, and why it has not done a call is kept.
-//! What it really does no clause can say: that each function here makes the one call that it notes is to be read here.
+//! What it really does no clause can say: that each function does what it notes is to be read here.
 ghost use Rattle.std.specs.Prelude.{◌≡◌, ◌≤◌, [], ◌∷◌, ◌++◌, length, take, IfErr, IfOk, None};
 ghost use Rattle.std.specs.Fd.{file_raw_fd};
 ghost use Rattle.std.specs.IoError.{error_kind};
