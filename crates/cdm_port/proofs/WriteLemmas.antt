@@ -1,8 +1,7 @@
 -- Writes that stopped in their midst.
-use Rattle.std.proofs.Common.{◌≡◌, ℕ, List, [], ◌∷◌, ◌++◌, ◌∙◌, map, take, drop, refl, sym, ap, inl, inr, Option, None, Some, Result, Ok, Err, OnErr}
+use Rattle.std.proofs.Common.{◌≡◌, ℕ, List, [], ◌∷◌, ◌++◌, ◌∙◌, map, take, drop, refl, sym, ap, inl, inr, Option, None, Some, Result, Ok, Err, OnErr, OnOk}
 use Rattle.std.specs.Io.KnownBytes.{Appends, Keeps}
 use Rattle.std.proofs.lemmas.List.{map-append, take-append-drop}
-use Rattle.cdm_port.specs.Event.{Event}
 use Rattle.cdm_port.specs.Event.Event.{Appended, Renamed, Replied, Synced}
 use Rattle.cdm_port.specs.Notes.{noted}
 use Rattle.cdm_port.specs.Stop.{Stops}
@@ -42,3 +41,7 @@ appends_kept (Some xs) (Some ys) (Some zs) bytes written kept = kept ∙ written
 pub on_err : {T E P : Type 0} (r : Result T E) → P → OnErr r P
 on_err (Ok x) p = tt
 on_err (Err y) p = p
+
+pub on_ok : {T E P : Type 0} (r : Result T E) → P → OnOk r P
+on_ok (Ok x) p = p
+on_ok (Err y) p = tt

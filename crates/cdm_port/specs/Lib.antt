@@ -1,7 +1,11 @@
+pub mod Disk
 pub mod Event
 pub mod Heard
 pub mod Stop
 pub mod Fault
 pub mod Notes
+pub mod Opened
 pub mod Parts
+pub mod Reasons
+pub mod Torn
 pub mod inner

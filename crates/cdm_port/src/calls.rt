@@ -69,7 +69,7 @@ pub(crate) fn next_line<R: Read>(alloc: Global, input: &mut R) -> Result<Heard, 
             Err(error) => return Err(PortFault::CannotReadInput(Reason::of(&error))),
         }
     }
-    Err(PortFault::CannotReadInput(Reason(ErrorKind::Interrupted)))
+    Err(PortFault::CannotReadInput(Reason::Told(ErrorKind::Interrupted)))
 }
 
 // Puts a byte behind a line, unless that is too long already.
@@ -94,13 +94,13 @@ pub(crate) fn write_counted<W: Write>(writer: &mut W, bytes: &[u8]) -> (usize, R
             return (count, Ok(()));
         }
         match writer.write(&bytes[count..]) {
-            Ok(0) => return (count, Err(Reason(ErrorKind::WriteZero))),
+            Ok(0) => return (count, Err(Reason::Told(ErrorKind::WriteZero))),
             Ok(more) => count += more,
             Err(error) if error.kind() == ErrorKind::Interrupted => {}
             Err(error) => return (count, Err(Reason::of(&error))),
         }
     }
-    (count, Err(Reason(ErrorKind::Interrupted)))
+    (count, Err(Reason::Told(ErrorKind::Interrupted)))
 }
 
 /// Writes bytes at a journal's end, and answers how many of them were written, and why not all.

@@ -19,7 +19,11 @@ pub trait JournalFile: Read + Write {
 
     /// Whether the journal's name still has the file that was opened or renamed, as long as what was written, or still
     /// has none.
-    fn is_own(&self) -> bool;
+    fn is_own(&mut self) -> bool
+        ensures left { Self.Read.remaining self.new ≡ Self.Read.remaining self.old }
+        ensures bytes { Self.Write.contents self.new ≡ Self.Write.contents self.old }
+        ensures on_disk { on_disk self.new ≡ on_disk self.old }
+        ensures mark { marked self.new ≡ marked self.old };
 
     /// Renames a new file of these bytes, which are on the disk, over the journal, where `is_own`. Writes go to its end from
     /// then on. At an `Err` the journal is as it was.

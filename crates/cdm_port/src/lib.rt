@@ -2,6 +2,7 @@
 #![tactic(auto)]
 
 mod calls;
+mod disk;
 mod fault;
 mod file;
 mod happening;

@@ -1,11 +1,14 @@
-//! The file that carries a journal's lock, and marks the journal as served.
-ghost use Rattle.std.specs.Prelude.{◌≡◌, true, OnOk};
+//! The file that carries a journal's lock, and marks the journal as served. How the lock is taken is to be read here.
+ghost use Rattle.std.specs.Prelude.{◌≡◌, ◌++◌, true, Some, IfErr, OnOk};
+ghost use Rattle.std.specs.IoError.{error_kind};
+ghost use Rattle.cdm_port.specs.Opened.{giving_up, marking};
 
+use crate::disk::{Disk, Standing, named};
 use crate::unopened::OpenFault;
 use std::alloc::Global;
 use std::fs::{File, Files, OpenOptions, TryLockError};
-use std::io::{ErrorKind, Write};
-use std::os::unix::fs::{MetadataExt, OpenOptionsExt};
+use std::io::ErrorKind;
+use std::os::unix::fs::OpenOptionsExt;
 use std::{fs, io};
 
 /// Only the owner may open a lock.
@@ -18,31 +21,11 @@ const MARK: &[u8] = b"served\n";
 /// The lock of a journal, which this process has: an advisory one, of the whole file beside the journal. The file has bytes
 /// where the journal was served.
 #[derive(Drop)]
-pub(crate) struct Lock<'a, R> {
-    files: &'a R,
+pub(crate) struct Lock {
     path: String,
     file: File,
     made: bool,
     pub(crate) marked: bool,
-}
-
-/// What stands at a path: its device, its number there and its length, or nothing where the system doesn't tell them.
-pub(crate) fn named<R: Files>(files: &R, path: &str) -> Option<(u64, u64, u64)> {
-    let found = fs::symlink_metadata(files, path).ok()?;
-    Some((found.dev(), found.ino(), found.len()))
-}
-
-/// Makes a call again as long as a signal interrupts it.
-pub(crate) fn again<F: FnMut() -> io::Result<()>>(mut call: F) -> io::Result<()>
-    requires { F.IsAlwaysCallable call }
-{
-    for _ in 0..u64::MAX {
-        match call() {
-            Err(error) if error.kind() == ErrorKind::Interrupted => {}
-            done => return done,
-        }
-    }
-    Err(ErrorKind::Interrupted.into())
 }
 
 // Opens a lock, or makes it: then the answer's second part is true. None where it was removed meanwhile.
@@ -72,20 +55,19 @@ fn open_lock<R: Files<File = File>>(files: &R, path: &str) -> io::Result<Option<
 
 // How many bytes a lock has that was locked, or none where its path has another file by now.
 fn length_of<R: Files>(files: &R, path: &str, file: &File) -> io::Result<Option<u64>> {
-    let found = file.metadata()?;
-    let own = (found.dev(), found.ino(), found.len());
-    Ok((named(files, path) == Some(own)).then_some(found.len()))
+    let own = Standing::of(&file.metadata()?);
+    Ok((named(files, path) == Some(own)).then_some(own.length))
 }
 
-impl<'a, R: Files<File = File>> Lock<'a, R> {
+impl Lock {
     /// Takes the lock of a journal at this path, behind all links, and makes its file where it isn't there. It isn't waited for.
     ///
     /// `InUse` where another process has it, `Lock` where the system refuses it, and `Memory`.
-    pub(crate) fn take(
-        files: &'a R,
+    pub(crate) fn take<R: Files<File = File>>(
+        files: &R,
         alloc: Global,
         journal: &str,
-    ) -> Result<Lock<'a, R>, OpenFault> {
+    ) -> Result<Lock, OpenFault> {
         let path = format!(in alloc; "{journal}.lock")?;
         for _ in 0..LOCK_TRIES {
             let opened = open_lock(files, &path).map_err(|error| OpenFault::of_lock(&error))?;
@@ -103,7 +85,6 @@ impl<'a, R: Files<File = File>> Lock<'a, R> {
             if let Some(length) = length {
                 let marked = length > 0;
                 return Ok(Lock {
-                    files,
                     path,
                     file,
                     made,
@@ -115,16 +96,15 @@ impl<'a, R: Files<File = File>> Lock<'a, R> {
     }
 
     /// Removes the lock's file where this process has made it and it has no mark.
-    pub(crate) fn give_up(&mut self)
-        ensures { self.new ≡ self.old }
+    pub(crate) fn give_up<R: Files<File = File>>(&self, disk: &mut Disk<'_, R>)
+        ensures notes { disk.new.done.notes ≡ disk.old.done.notes ++ giving_up self.now }
+        ensures fault { disk.new.fault ≡ disk.old.fault }
     {
         if self.made && !self.marked {
-            let _ = fs::remove_file(self.files, &self.path);
+            disk.clear(&self.path);
         }
     }
-}
 
-impl<R> Lock<'_, R> {
     /// Whether the journal is marked as served.
     pub(crate) fn is_marked(&self) -> bool
         ensures { result ≡ self.now.marked }
@@ -134,11 +114,13 @@ impl<R> Lock<'_, R> {
 
     /// Marks the journal as served, and puts the mark on the disk, also where it is there already: the system may have it in
     /// memory alone.
-    pub(crate) fn mark(&mut self) -> io::Result<()>
-        ensures { OnOk result (self.new.marked ≡ true) }
+    pub(crate) fn mark<R>(&mut self, disk: &mut Disk<'_, R>) -> io::Result<()>
+        ensures mark { self.new ≡ record self.old { marked = true } }
+        ensures ok { OnOk result (disk.new.done.notes ≡ disk.old.done.notes ++ marking self.old) }
+        ensures err { IfErr result (λ error. disk.new.fault ≡ Some (error_kind error)) }
     {
         self.marked = true;
-        self.file.write_all(MARK)?;
-        self.file.sync_all()
+        disk.write_all(&self.file, MARK)?;
+        disk.sync(&self.file)
     }
 }

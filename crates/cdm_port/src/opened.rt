@@ -1,33 +1,37 @@
-//! The journal of a day in the file system, with its lock. Of a file of the system no clause knows the bytes, so all
-//! that is said here is to be read here.
-ghost use Rattle.std.specs.Prelude.{◌≡◌, None};
+//! The journal of a day in the file system, with its lock. What is done with it once it is open is told by the calls that its
+//! disk notes; how it is opened is to be read here.
+ghost use Rattle.std.specs.Prelude.{◌≡◌, ◌∷◌, ◌++◌, [], true, false, None, Some, Ok, IsErrAnd, IfErr, IfOk, IfSome, IsNone, OnErr, OnOk, string_bytes, take};
+ghost use Rattle.std.specs.Fd.{file_raw_fd};
+ghost use Rattle.std.specs.Io.{ReadsAtMost, WritesAtMost};
+ghost use Rattle.std.specs.Io.KnownBytes.{ReadConsumes, WriteAppends};
+ghost use Rattle.std.specs.IoError.{error_kind};
+ghost use Rattle.std.specs.declared.io.ErrorKind.TheVariants.{NotFound, Other};
+ghost use Rattle.cdm_port.specs.Disk.{Did};
+ghost use Rattle.cdm_port.specs.Opened.{IsRenamed, giving_up, grown, marking};
+ghost use Rattle.cdm_port.specs.declared.disk.FileCall.TheVariants as call;
 
+use crate::disk::{Disk, Standing};
 use crate::file::JournalFile;
-use crate::lock::{Lock, again, named};
+use crate::lock::Lock;
 use crate::unopened::OpenFault;
 use std::alloc::Global;
-use std::fs::{File, Files, Metadata, OpenOptions, Permissions};
+use std::fs::{File, Files, Metadata, OpenOptions};
 use std::io::{ErrorKind, Read, Write};
-use std::os::unix::fs::{MetadataExt, OpenOptionsExt, PermissionsExt};
-use std::path::Path;
+use std::os::unix::fs::MetadataExt;
 use std::{fs, io};
 
-/// Who may read and write a journal that is made, before the process's mask is taken away.
-const MADE_MODE: u32 = 0o666;
 /// What of a file's mode says who may read and write it.
 const MODE_BITS: u32 = 0o7777;
 
 /// The journal of a day in the file system, for this process alone: its file, if it is there, and its lock.
 #[derive(Drop)]
 pub struct OpenJournal<'a, R> {
-    files: &'a R,
-    lock: Lock<'a, R>,
+    disk: Disk<'a, R>,
+    lock: Lock,
     path: String,
     fresh: String,
     file: Option<File>,
-    device: u64,
-    inode: u64,
-    written: u64,
+    own: Option<Standing>,
     mode: Option<u32>,
 }
 
@@ -66,16 +70,6 @@ fn open_file<R: Files<File = File>>(files: &R, path: &str) -> io::Result<(File, 
     Ok((file, found))
 }
 
-// Puts the names of the folder that a path lies in on the disk.
-fn sync_folder_of<R: Files<File = File>>(files: &R, path: &str) -> io::Result<()> {
-    let folder = match Path::new(path).parent() {
-        Some(folder) if folder.as_str() != "" => folder.as_str(),
-        _ => ".",
-    };
-    let folder = fs::open(files, folder)?;
-    folder.sync_all()
-}
-
 impl<'a, R: Files<File = File>> OpenJournal<'a, R> {
     /// Takes the lock of the journal at a path, and opens its file, if it is there. The lock's file, beside the journal behind all
     /// links, is made where it isn't there; it is removed again where the journal isn't opened.
@@ -89,14 +83,12 @@ impl<'a, R: Files<File = File>> OpenJournal<'a, R> {
         let fresh = format!(in alloc; "{path}.lock.new")?;
         let lock = Lock::take(files, alloc, &path)?;
         let mut journal = OpenJournal {
-            files,
+            disk: Disk::new(files),
             lock,
             path,
             fresh,
             file: None,
-            device: 0,
-            inode: 0,
-            written: 0,
+            own: None,
             mode: None,
         };
         match journal.find() {
@@ -110,17 +102,18 @@ impl<'a, R: Files<File = File>> OpenJournal<'a, R> {
 
     // Opens the journal's file, if it is there.
     fn find(&mut self) -> Result<(), OpenFault> {
-        if !is_there(self.files, &self.path)? {
+        if !is_there(self.disk.files, &self.path)? {
             return if self.lock.is_marked() {
                 Err(OpenFault::Missing)
             } else {
                 Ok(())
             };
         }
-        match open_file(self.files, &self.path) {
+        match open_file(self.disk.files, &self.path) {
             Ok((file, found)) if found.is_file() => {
                 self.mode = Some(found.mode() & MODE_BITS);
-                self.hold(file, &found, found.len());
+                self.file = Some(file);
+                self.own = Some(Standing::of(&found));
                 Ok(())
             }
             Ok(_) => Err(OpenFault::NoFile),
@@ -128,74 +121,81 @@ impl<'a, R: Files<File = File>> OpenJournal<'a, R> {
         }
     }
 
-    // Has this file as the journal's, with so many bytes.
-    fn hold(&mut self, file: File, found: &Metadata, length: u64) {
-        self.file = Some(file);
-        self.device = found.dev();
-        self.inode = found.ino();
-        self.written = length;
-    }
-
     /// Removes the lock's file where this process has made it and the journal isn't marked: a start that was refused leaves
     /// everything as it was.
     pub fn give_up(&mut self)
-        ensures { self.new ≡ self.old }
+        ensures notes { self.new.disk.done.notes ≡ self.old.disk.done.notes ++ giving_up self.old.lock }
+        ensures same { self.new ≡ record self.old { disk = self.new.disk } }
+        ensures fault { self.new.disk.fault ≡ self.old.disk.fault }
     {
-        self.lock.give_up();
+        self.lock.give_up(&mut self.disk);
     }
 
-    // A new file of these bytes beside the journal, on the disk. What an earlier start has left there goes.
-    fn make_fresh(&self, bytes: &[u8]) -> io::Result<File> {
-        match again(|| fs::remove_file(self.files, &self.fresh)) {
-            Err(error) if error.kind() != ErrorKind::NotFound => return Err(error),
-            _ => {}
-        }
-        let mut options = OpenOptions::new();
-        options.append(true);
-        options.create_new(true);
-        options.mode(self.mode.unwrap_or(MADE_MODE));
-        let mut file = options.open(self.files, &self.fresh)?;
-        if let Some(mode) = self.mode {
-            file.set_permissions(Permissions::from_mode(mode))?;
-        }
-        file.write_all(bytes)?;
-        file.sync_all()?;
-        Ok(file)
-    }
-
-    // Renames a new file of these bytes over the journal, where that is still the one that was opened.
-    fn put_fresh(&mut self, bytes: &[u8]) -> io::Result<()> {
-        let file = self.make_fresh(bytes)?;
-        let made = file.metadata()?;
-        if !self.is_own() {
-            return Err(ErrorKind::Other.into());
-        }
-        again(|| fs::rename(self.files, &self.fresh, &self.path))?;
-        self.hold(file, &made, bytes.len() as u64);
+    // Renames a new file of these bytes over the journal, where that is still the one that was opened. What an earlier
+    // start has left beside it goes.
+    fn put_fresh(&mut self, bytes: &[u8]) -> io::Result<()>
+        ensures ok { OnOk result (IsRenamed self.old self.new bytes.now) }
+        ensures err { OnErr result (self.new ≡ record self.old { disk = self.new.disk }) }
+        ensures fault { IfErr result (λ error. self.new.disk.fault ≡ Some (error_kind error)) }
+    {
+        self.disk.remove(&self.fresh)?;
+        let file = self.disk.make(&self.fresh, self.mode)?;
+        self.disk.write_all(&file, bytes)?;
+        self.disk.sync(&file)?;
+        let made = self.disk.see(&file)?;
+        self.disk.stands(&self.path, self.own)?;
+        self.disk.rename(&self.fresh, &self.path)?;
+        self.file = Some(file);
+        self.own = Some(Standing {
+            length: bytes.len() as u64,
+            ..made
+        });
         Ok(())
     }
 }
 
 impl<R> Read for OpenJournal<'_, R> {
-    fn read(&mut self, buf: &mut [u8]) -> io::Result<usize> {
-        match &mut self.file {
-            Some(file) => file.read(buf),
+    fn read(&mut self, buf: &mut [u8]) -> io::Result<usize>
+        ensures bound { ReadsAtMost result buf.new }
+        ensures bytes { ReadConsumes None None result buf.new }
+        ensures same { self.new ≡ record self.old { disk = self.new.disk } }
+
+        // Bytes of the journal were read, if it is there.
+        ensures did { IfSome self.old.file (λ file. Did self.old.disk self.new.disk (λ n. (call.Read (file_raw_fd file), take n buf.new) ∷ []) result) }
+        ensures none { IsNone self.old.file → (result ≡ Ok 0) × (self.new ≡ self.old) }
+    {
+        match &self.file {
+            Some(file) => self.disk.read(file, buf),
             None => Ok(0),
         }
     }
 }
 
 impl<R> Write for OpenJournal<'_, R> {
-    fn write(&mut self, buf: &[u8]) -> io::Result<usize> {
-        let Some(file) = &mut self.file else {
+    fn write(&mut self, buf: &[u8]) -> io::Result<usize>
+        ensures bound { WritesAtMost result buf.now }
+        ensures bytes { WriteAppends None None result buf.now }
+        ensures same { self.new ≡ record self.old { disk = self.new.disk; own = self.new.own } }
+
+        // Bytes were written at the journal's end, if it is there, and it is known to be longer.
+        ensures did { IfSome self.old.file (λ file. Did self.old.disk self.new.disk (λ n. (call.Written (file_raw_fd file), take n buf.now) ∷ []) result) }
+        ensures own { IfOk result (λ n. self.new.own ≡ grown n self.old.own) }
+        ensures same_own { OnErr result (self.new.own ≡ self.old.own) }
+        ensures none { IsNone self.old.file → IsErrAnd result (λ error. error_kind error ≡ NotFound) × (self.new ≡ self.old) }
+    {
+        let Some(file) = &self.file else {
             return Err(ErrorKind::NotFound.into());
         };
-        let count = file.write(buf)?;
-        self.written = self.written.saturating_add(count as u64);
+        let count = self.disk.write(file, buf)?;
+        if let Some(own) = &mut self.own {
+            own.length = own.length.saturating_add(count as u64);
+        }
         Ok(count)
     }
 
-    fn flush(&mut self) -> io::Result<()> {
+    fn flush(&mut self) -> io::Result<()>
+        ensures { (result ≡ Ok tt) × (self.new ≡ self.old) }
+    {
         Ok(())
     }
 }
@@ -209,31 +209,51 @@ impl<R: Files<File = File>> JournalFile for OpenJournal<'_, R> {
         self.lock.is_marked()
     }
 
-    fn is_own(&self) -> bool {
-        let own = (self.device, self.inode, self.written);
-        named(self.files, &self.path) == self.file.as_ref().map(|_| own)
+    fn is_own(&mut self) -> bool
+        ensures same { self.new ≡ record self.old { disk = self.new.disk } }
+
+        // It was looked for at its path.
+        ensures own { result ≡ true → self.new.disk.done.notes ≡ self.old.disk.done.notes ++ (call.Found self.old.own, string_bytes self.old.path) ∷ [] }
+        ensures other { result ≡ false → self.new.disk.fault ≡ Some Other }
+    {
+        self.disk.stands(&self.path, self.own).is_ok()
     }
 
-    fn rename(&mut self, bytes: &[u8]) -> io::Result<()> {
+    fn rename(&mut self, bytes: &[u8]) -> io::Result<()>
+        ensures ok { OnOk result (IsRenamed self.old self.new bytes.now) }
+        ensures err { OnErr result (self.new ≡ record self.old { disk = self.new.disk }) }
+        ensures fault { IfErr result (λ error. self.new.disk.fault ≡ Some (error_kind error)) }
+    {
         let done = self.put_fresh(bytes);
         if done.is_err() {
-            let _ = fs::remove_file(self.files, &self.fresh);
+            self.disk.clear(&self.fresh);
         }
         done
     }
 
-    fn sync_name(&mut self) -> io::Result<()> {
-        sync_folder_of(self.files, &self.path)
+    fn sync_name(&mut self) -> io::Result<()>
+        ensures same { self.new ≡ record self.old { disk = self.new.disk } }
+        ensures did { Did self.old.disk self.new.disk (λ _. (call.NameSynced, string_bytes self.old.path) ∷ []) result }
+    {
+        self.disk.sync_name(&self.path)
     }
 
-    fn sync(&mut self) -> io::Result<()> {
+    fn sync(&mut self) -> io::Result<()>
+        ensures same { self.new ≡ record self.old { disk = self.new.disk } }
+        ensures did { IfSome self.old.file (λ file. Did self.old.disk self.new.disk (λ _. (call.Synced (file_raw_fd file), []) ∷ []) result) }
+        ensures none { IsNone self.old.file → IsErrAnd result (λ error. error_kind error ≡ NotFound) × (self.new ≡ self.old) }
+    {
         match &self.file {
-            Some(file) => file.sync_data(),
+            Some(file) => self.disk.sync_data(file),
             None => Err(ErrorKind::NotFound.into()),
         }
     }
 
-    fn mark(&mut self) -> io::Result<()> {
-        self.lock.mark()
+    fn mark(&mut self) -> io::Result<()>
+        ensures same { self.new ≡ record self.old { disk = self.new.disk; lock = record self.old.lock { marked = true } } }
+        ensures ok { OnOk result (self.new.disk.done.notes ≡ self.old.disk.done.notes ++ marking self.old.lock) }
+        ensures err { IfErr result (λ error. self.new.disk.fault ≡ Some (error_kind error)) }
+    {
+        self.lock.mark(&mut self.disk)
     }
 }

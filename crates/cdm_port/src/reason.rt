@@ -1,31 +1,42 @@
 //! Why the system has not done a call.
 ghost use Rattle.std.specs.Prelude.{◌≡◌};
 ghost use Rattle.std.specs.IoError.{error_kind};
+ghost use Rattle.cdm_port.specs.Reasons.{reason_for};
 
-use std::fmt;
-use std::fmt::{Display, Formatter, Write};
 use std::io::{Error, ErrorKind};
 
 /// Why the system has not done a call. It is shown behind a fault's words, in brackets, where the system tells it, and
 /// else as nothing.
-#[derive(Clone, Copy, PartialEq, Eq, Hash, Debug)]
-pub struct Reason(pub ErrorKind);
+#[derive(Clone, Copy, PartialEq, Eq, Hash, Debug, thiserror::Error)]
+pub enum Reason {
+    /// The system doesn't tell why.
+    #[error("")]
+    Untold,
+    /// The device is full.
+    #[error(" (no space left on device)")]
+    NoSpace,
+    /// What the system tells.
+    #[error(" ({0})")]
+    Told(ErrorKind),
+}
 
 impl Reason {
     /// What the system says of an error.
     pub(crate) fn of(error: &Error) -> Reason
-        ensures { result.0 ≡ error_kind error.now }
+        ensures { result ≡ reason_for (error_kind error.now) }
     {
-        Reason(error.kind())
+        Reason::from(error.kind())
     }
 }
 
-impl Display for Reason {
-    fn fmt<W: Write>(&self, f: &mut Formatter<W>) -> fmt::Result {
-        match self.0 {
-            ErrorKind::Other | ErrorKind::Uncategorized => Ok(()),
-            ErrorKind::StorageFull => f.write_str(" (no space left on device)"),
-            kind => write!(f, " ({kind})"),
+impl From<ErrorKind> for Reason {
+    ghost from_gives = { λ kind reason. reason ≡ reason_for kind };
+
+    fn from(kind: ErrorKind) -> Reason {
+        match kind {
+            ErrorKind::Other | ErrorKind::Uncategorized => Reason::Untold,
+            ErrorKind::StorageFull => Reason::NoSpace,
+            kind => Reason::Told(kind),
         }
     }
 }

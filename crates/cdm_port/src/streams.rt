@@ -34,7 +34,7 @@ pub struct Streams<I, O, E, J> {
     errors: E,
     journal: J,
     marked: bool,
-    history: History,
+    history: History<Happening>,
     fault: Option<PortFault>,
 }
 

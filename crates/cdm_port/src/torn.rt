@@ -1,4 +1,7 @@
 //! The line that tells a torn last line.
+ghost use Rattle.std.specs.Prelude.{Some};
+ghost use Rattle.cdm_port.specs.Torn.{byte_told, torn_told};
+
 use std::fmt;
 use std::fmt::{Display, Formatter, Write};
 
@@ -10,14 +13,32 @@ const TOLD_LIMIT: usize = 80;
 pub(crate) struct TornText<'a>(pub(crate) &'a [u8]);
 
 impl Display for TornText<'_> {
+    ghost output = { λ torn. Some (torn_told torn.0.now) };
+
     fn fmt<W: Write>(&self, f: &mut Formatter<W>) -> fmt::Result {
-        for byte in self.0.iter().take(TOLD_LIMIT) {
-            if matches!(*byte, b' '..=b'~') {
-                f.write_char(char::from(*byte))?;
-            } else {
-                write!(f, "\\x{byte:02x}")?;
-            }
+        let told = TOLD_LIMIT.min(self.0.len());
+        for byte in &self.0[..told] {
+            let byte = ByteText(*byte);
+            write!(f, "{byte}")?;
         }
         Ok(())
+    }
+}
+
+/// A byte of a torn line, as it is told.
+#[derive(Clone, Copy, Debug)]
+struct ByteText(u8);
+
+impl Display for ByteText {
+    ghost output = { λ byte. Some (byte_told byte.0) };
+
+    fn fmt<W: Write>(&self, f: &mut Formatter<W>) -> fmt::Result {
+        if b' ' <= self.0 && self.0 <= b'~' {
+            f.write_char(char::from(self.0))
+        } else {
+            let high = self.0 / 16;
+            let low = self.0 % 16;
+            write!(f, "\\x{high:x}{low:x}")
+        }
     }
 }

@@ -78,7 +78,7 @@ fn faults_of_a_port_have_lines(rt: HostRuntime) {
     let (denied, full) = (ErrorKind::PermissionDenied, ErrorKind::StorageFull);
     let ports = [
         (
-            PortFault::CannotReadJournal(Reason(denied)),
+            PortFault::CannotReadJournal(Reason::from(denied)),
             "cannot read JOURNAL (permission denied)",
         ),
         (
@@ -86,15 +86,15 @@ fn faults_of_a_port_have_lines(rt: HostRuntime) {
             "JOURNAL is longer than 8388608 bytes",
         ),
         (
-            PortFault::CannotReadInput(Reason(ErrorKind::Other)),
+            PortFault::CannotReadInput(Reason::from(ErrorKind::Other)),
             "cannot read standard input",
         ),
         (
-            PortFault::CannotWriteJournal(Reason(full)),
+            PortFault::CannotWriteJournal(Reason::from(full)),
             "cannot write JOURNAL (no space left on device)",
         ),
         (
-            PortFault::CannotWrite(Reason(ErrorKind::Uncategorized)),
+            PortFault::CannotWrite(Reason::from(ErrorKind::Uncategorized)),
             "cannot write",
         ),
         (PortFault::JournalChanged, "JOURNAL was changed by another"),

@@ -10,10 +10,9 @@ ghost use Rattle.cdm_port.specs.Stop.{Stops};
 use super::script::Row;
 use cdm_port::{Happening, Heard, History, JOURNAL_LIMIT, LINE_LIMIT, Port, PortFault, Reason};
 use std::alloc::{AllocError, Global};
-use std::io::ErrorKind;
 
 /// Why each call fails.
-pub const REASON: Reason = Reason(ErrorKind::StorageFull);
+pub const REASON: Reason = Reason::NoSpace;
 
 /// The calls of a port that can fail.
 #[derive(Clone, Copy, PartialEq, Eq, Debug)]
@@ -64,7 +63,7 @@ pub struct Memory {
     alloc: Global,
     script: &'static [Row],
     stop: Stop,
-    history: History,
+    history: History<Happening>,
     /// Whether the journal is marked as served.
     pub marked: bool,
     /// The journal as it was synced.
