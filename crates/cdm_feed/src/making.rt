@@ -11,7 +11,7 @@ ghost use Rattle.cdm_feed.specs.Made.{IsAskedOf, IsKnown, IsMade, IsPlanIn, IsTe
 ghost use Rattle.cdm_feed.specs.Output.{IsReport};
 ghost use Rattle.cdm_feed.specs.inner.Over.{IsUntoldOver};
 
-use crate::answers::push_answers;
+use crate::answers::{BaseTold, push_answers};
 use crate::asked::{Asked, DayText};
 use crate::counted::Counted;
 use crate::runs::RunCounts;
@@ -23,7 +23,7 @@ use cdm_kinds::Format;
 use cdm_phase::Gate;
 use cdm_picture::picture;
 use cdm_plan::Runner;
-use cdm_report::{indicators, report_text};
+use cdm_report::{indicators, made_lines, report_over};
 use cdm_scenario::{Overlay, Scenario, ScenarioName, scenario_named};
 use cdm_shift::{DayQuestion, day_answer};
 use cdm_table::{Table, TableFault, plans_json, tabulate};
@@ -57,8 +57,13 @@ fn report_of<R: Threads + Sync, G: Gate>(
 {
     let state = &day.state;
     let plan = state.plan();
-    let mut text = report_text(lent.alloc, state.day(), plan, &day.refused)?;
-    push_answers(lent, state, indicators(plan), &day.scenarios, &mut text)?;
+    let made = made_lines(lent.alloc, state.day(), plan.runways.as_slice())?;
+    let mut text = report_over(lent.alloc, state.day(), plan, &day.refused, &made)?;
+    let told = BaseTold {
+        counts: indicators(plan),
+        made: &made,
+    };
+    push_answers(lent, state, &told, &day.scenarios, &mut text)?;
     Ok(text)
 }
 

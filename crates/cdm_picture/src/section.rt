@@ -1,5 +1,6 @@
 //! What is drawn of one day.
 ghost use Rattle.std.specs.Prelude.{◌≡◌, ◌++◌, IfOk, OnOk, map, flat_map};
+ghost use Rattle.cdm_view.specs.Turns.{AreTurns};
 ghost use Rattle.cdm_picture.specs.Places.{HaveTakeOffs, runway_places, slot_place};
 ghost use Rattle.cdm_picture.specs.Sections.{ShowsPlan, place_of};
 
@@ -16,7 +17,7 @@ use cdm_flight::{FlightName, RunwayName, push_last};
 use cdm_report::indicators;
 use cdm_sequence::{BlockedFlight, Plan, RunwayPlan, Slot};
 use cdm_time::Day;
-use cdm_view::{Run, Standing, Standings, waits_of};
+use cdm_view::{Run, Standing, Standings, Turns, waits_among};
 use std::alloc::{AllocError, Global};
 
 /// From a section's top to its bands, and from one band to the next.
@@ -59,19 +60,24 @@ fn is_moved(before: Option<&Standings>, runway: RunwayName, slot: &Slot) -> bool
     }
 }
 
-// What the flight of a slot waits for, if it has a delay.
+// What the flight of a slot of these turns waits for, if it has a delay.
 fn runs_of<R: Records>(
     alloc: Global,
     records: &R,
-    plan: &Plan,
+    turns: &Turns<'_>,
     slot: &Slot,
-) -> Result<Vec<Run>, AllocError> {
+) -> Result<Vec<Run>, AllocError>
+    requires { AreTurns (R.day records.now) turns.now }
+{
     if slot.delay.unwrap_or(0) == 0 {
         return Ok(Vec::new(alloc));
     }
-    match records.flight(slot.name) {
-        Some(flight) => Ok(waits_of(alloc, records, plan, flight)?),
-        None => Ok(Vec::new(alloc)),
+    let Some(flight) = records.flight(slot.name) else {
+        return Ok(Vec::new(alloc));
+    };
+    match flight.runway {
+        Some(runway) if runway == turns.runway() => waits_among(alloc, records, turns, flight),
+        _ => Ok(Vec::new(alloc)),
     }
 }
 
@@ -87,16 +93,16 @@ fn flight_mark<R: Records>(
     alloc: Global,
     page: &Page<'_>,
     records: &R,
-    plan: &Plan,
-    runway: RunwayName,
+    turns: &Turns<'_>,
     slot: &Slot,
     lanes: &mut Lanes,
     top: u32,
 ) -> Result<FlightMark, AllocError>
-    ensures { IfOk result (λ mark. place_of mark ≡ slot_place page.now.hours runway slot.now) }
+    requires { AreTurns (R.day records.now) turns.now }
+    ensures { IfOk result (λ mark. place_of mark ≡ slot_place page.now.hours turns.now.runway slot.now) }
 {
-    let hours = page.hours;
-    let runs = runs_of(alloc, records, plan, slot)?;
+    let (hours, runway) = (page.hours, turns.runway());
+    let runs = runs_of(alloc, records, turns, slot)?;
     let waits = Words::waits(alloc, page.day, &runs)?;
     let x = hours.x_of(slot.ttot.get());
     let end = x.saturating_add(name_width(slot.name));
@@ -133,17 +139,9 @@ fn push_flights<R: Records>(
         ≡ map place_of flights.old.items ++ runway_places page.now.hours runway.now) }
 {
     let mut lanes = Lanes::new(alloc);
+    let turns = Turns::of(alloc, records, plan, runway.runway)?;
     for slot in runway.slots.as_slice() {
-        let mark = flight_mark(
-            alloc,
-            page,
-            records,
-            plan,
-            runway.runway,
-            slot,
-            &mut lanes,
-            top,
-        )?;
+        let mark = flight_mark(alloc, page, records, &turns, slot, &mut lanes, top)?;
         flights.push(mark)?;
     }
     Ok(lanes.count())

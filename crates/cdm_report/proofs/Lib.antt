@@ -2,3 +2,4 @@ pub mod Widths
 pub mod Lengths
 pub mod CountLemmas
 pub mod Pairs
+mod EqualSlots

@@ -1,12 +1,14 @@
 //! The text of a report.
-ghost use Rattle.std.specs.Prelude.{◌≡◌, ◌++◌, codes, IfOk, OnOk, flat_map, zip};
+ghost use Rattle.std.specs.Prelude.{◌≡◌, ◌++◌, All, codes, IfOk, OnOk, flat_map, zip};
 ghost use Rattle.std.specs.Fmt.{decimal};
 ghost use Rattle.std.specs.String.{string_bytes};
 ghost use Rattle.cdm_sequence.specs.Words.{all_rules};
+ghost use Rattle.cdm_report.specs.Made.{AreLines};
 ghost use Rattle.cdm_report.specs.Report.{blocked_line, day_line, indicators_told, refused_line, report_bytes, rule_count, runway_lines, total_line};
 
 use crate::counts::{Counts, indicators};
 use crate::line::{FlightLine, TimeColumn};
+use crate::made::{RunwayLines, lines_of_same};
 use cdm_flight::RefusalWord;
 use cdm_sequence::{BlockedFlight, Plan, Rule, RunwayPlan};
 use cdm_time::{Day, Minute};
@@ -20,7 +22,6 @@ use std::str;
 /// Its lines, each ended by LF, are the day and the minute that it is now, each runway with its
 /// flights, the blocked flights, the indicators and the refused records. Only want of memory makes
 /// it fail.
-#[tactic(auto, unfolding(crate::specs::Report::report_bytes))]
 pub fn report_text(
     alloc: Global,
     day: &Day,
@@ -29,9 +30,24 @@ pub fn report_text(
 ) -> Result<Vec<u8>, AllocError>
     ensures { IfOk result (λ text. text.items ≡ report_bytes day.now plan.entry.now refused.now) }
 {
+    report_over(alloc, day, plan, refused, &[])
+}
+
+/// The report, as [`report_text`] makes it: a runway whose lines are among those made already gets them as they stand.
+#[tactic(auto, unfolding(crate::specs::Report::report_bytes))]
+pub fn report_over(
+    alloc: Global,
+    day: &Day,
+    plan: &Plan,
+    refused: &[(u32, RefusalWord)],
+    made: &[RunwayLines<'_>],
+) -> Result<Vec<u8>, AllocError>
+    requires { All (AreLines day.now) made.now }
+    ensures { IfOk result (λ text. text.items ≡ report_bytes day.now plan.entry.now refused.now) }
+{
     let mut text = String::new(alloc);
     push_day(&mut text, *day, plan.clock)?;
-    push_runways(&mut text, *day, plan.runways.as_slice())?;
+    push_runways(&mut text, *day, plan.runways.as_slice(), made)?;
     push_blocked(&mut text, plan.blocked.as_slice())?;
     push_total(&mut text, &indicators(plan))?;
     push_refused(&mut text, refused)?;
@@ -53,18 +69,32 @@ pub fn push_day(text: &mut String, day: Day, now: Minute) -> Result<(), AllocErr
     writeln!(text, "DAY {date} NOW {now}")
 }
 
-fn push_runways(text: &mut String, day: Day, runways: &[RunwayPlan]) -> Result<(), AllocError>
+// The lines of the runways. Those that are made already are put there as they stand.
+fn push_runways(
+    text: &mut String,
+    day: Day,
+    runways: &[RunwayPlan],
+    made: &[RunwayLines<'_>],
+) -> Result<(), AllocError>
+    requires { All (AreLines day) made.now }
     ensures { OnOk result (string_bytes text.new ≡ string_bytes text.old ++ flat_map (runway_lines day) runways.now) }
 {
     for runway in runways {
-        push_runway(text, day, runway)?;
+        match lines_of_same(made, runway) {
+            Some(lines) => text.push_str(lines)?,
+            None => push_runway(text, day, runway)?,
+        }
     }
     Ok(())
 }
 
-// A runway's heading and the lines of its flights.
+/// Puts a runway's heading and the lines of its flights behind a text.
 #[tactic(auto, unfolding(crate::specs::Report::runway_lines))]
-fn push_runway(text: &mut String, day: Day, runway: &RunwayPlan) -> Result<(), AllocError>
+pub(crate) fn push_runway(
+    text: &mut String,
+    day: Day,
+    runway: &RunwayPlan,
+) -> Result<(), AllocError>
     ensures { OnOk result (string_bytes text.new ≡ string_bytes text.old ++ runway_lines day runway.now) }
 {
     let name = runway.runway.text();

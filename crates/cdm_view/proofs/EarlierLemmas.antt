@@ -1,6 +1,6 @@
 -- Slots that stand by take-off: those at some minutes are one part of them.
 use Rattle.std.proofs.Common.{◌≡◌, ℕ, ◌+◌, ◌-◌, ◌*◌, ◌/◌, ◌==◌, ◌≤◌, max, min, Bool, true, false, List, [], ◌∷◌, ◌++◌, length, take, drop, filter}
-use Rattle.std.proofs.Common.{get_or, ltb, refl, sym, subst, ◌∙◌, ap, arith}
+use Rattle.std.proofs.Common.{get_or, ltb, map, refl, sym, subst, ◌∙◌, ap, arith}
 use Rattle.std.specs.List.{All}
 use Rattle.std.specs.List.Sorted.{IsPartitionPoint, IsSorted}
 use Rattle.std.specs.Ordering.{is_lt}
@@ -10,16 +10,21 @@ use Rattle.std.proofs.lemmas.Bool.Decides.{nat_tests}
 use Rattle.std.proofs.lemmas.Nat.{div-add-mod', div_below, le-div}
 use Rattle.std.proofs.lemmas.List.{append-nil, get_or-drop, get_or-take, length-drop, length-take, take-append-drop, take_rest}
 use Rattle.std.proofs.lemmas.List.Elements.{All-contains, All-take, filter-append, filter_agree}
+use Rattle.std.proofs.lemmas.Grind.{common_steps}
+use Rattle.std.proofs.lemmas.List.Kept.{IsNonDecreasingBy-filter}
 use Rattle.std.proofs.lemmas.List.Sorted.{IsNonDecreasingBy-from_all_adjacent}
 use Rattle.cdm_time.specs.Windows.{window_has}
 use Rattle.cdm_sequence.specs.Slots.{slot_cmp}
 use Rattle.cdm_sequence.specs.declared.slot.Slot.{Slot}
-use Rattle.cdm_view.specs.inner.Earlier.{IsByTakeOff, met_among}
+use Rattle.cdm_view.specs.inner.Earlier.{IsByTakeOff, met_among, taken_slots}
+use Rattle.cdm_view.specs.Turns.{turn_in}
 use Rattle.cdm_view.proofs.ListLemmas.{filter_all, filter_none}
 use Rattle.cdm_flight.specs.Spacing.{occupancy_of}
 use Rattle.cdm_flight.specs.declared.group.Group.{Group}
 use Rattle.cdm_runway.specs.Room.{meets, taken_by}
-use Rattle.cdm_view.specs.Reasons.{Waiting, held_at, met_at}
+use Rattle.cdm_view.specs.Reasons.{Waiting, held_at, is_earlier, met_at}
+use Rattle.cdm_flight.specs.declared.key.Key.{Key}
+use Rattle.cdm_plan.specs.Day.{DayRecord}
 
 -- The order.
 
@@ -133,3 +138,15 @@ module _ (w : Waiting) (m : ℕ) where
   cell_part c n positive same at =
       filter_agree (λ (s : Slot). window_has (n / c * c) (n / c * c + c) s.ttot) (λ (s : Slot). s.ttot / w.rules.cell == m / w.rules.cell)
       (λ s. in_cell c n s.ttot positive ∙ (ap (λ k. s.ttot / k == n / k) same ∙ ap (λ k. s.ttot / w.rules.cell == k / w.rules.cell) at)) w.earlier
+
+-- The slots that are taken when a flight's turn comes.
+
+module _ (d : DayRecord) (key : Key) where
+  -- they are found by the keys that stand with them
+  pub taken_earlier : (slots : List Slot) → taken_slots key (map (turn_in d) slots) ≡ filter (is_earlier d key) slots
+  taken_earlier [] = refl
+  taken_earlier (s ∷ slots) = let rest = taken_earlier slots in grind (arith, common_steps)
+
+  -- and stand by take-off
+  pub taken_by_take_off : (slots : List Slot) → IsSorted slot_cmp slots → IsByTakeOff (filter (is_earlier d key) slots)
+  taken_by_take_off slots sorted = IsNonDecreasingBy-filter (λ (s : Slot). s.ttot) _ _ (by_take_off slots sorted)

@@ -1,5 +1,7 @@
 -- What a flight waits for, and flights with their slots, targets and keys.
-use Rattle.std.proofs.Common.{◌≡◌, ℕ, true, false, List, filter, Some, sym, ◌∙◌, ap, arith}
+use Rattle.std.proofs.Common.{◌≡◌, ℕ, Bool, true, false, List, filter, Option, None, Some, refl, sym, ◌∙◌, ap, arith}
+use Rattle.std.specs.Prelude.{if◌then◌else◌}
+use Rattle.std.specs.Option.{option_and_then}
 use Rattle.std.proofs.lemmas.Option.{option_and_then_some, same_Some}
 use Rattle.cdm_plan.proofs.ListWords.{Contains, contains_all}
 use Rattle.cdm_plan.proofs.PlanWords.{AimResult, DayRecord, DayValues, IsAim, Plan, Flight}
@@ -14,6 +16,7 @@ use Rattle.cdm_flight.specs.declared.key.Key.{Key}
 use Rattle.cdm_sequence.specs.Aims.{IsTarget, exot_to}
 use Rattle.cdm_sequence.specs.Slots.{is_fixed}
 use Rattle.cdm_view.specs.Reasons.{Waiting, is_earlier, slots_on, waiting_of}
+use Rattle.cdm_view.specs.Why.{waits_for}
 use Rattle.cdm_view.proofs.ListLemmas.{option_map_some}
 
 -- What a flight waits for.
@@ -59,6 +62,19 @@ made_of d plan f w h =
       taxi = taxi;
       same = same;
     })))
+
+none_for_all : {K X : Type 0} (g : K → Option X) → ((key : K) → g key ≡ None) → (k : Option K) → option_and_then g k ≡ None
+none_for_all g none None = refl
+none_for_all g none (Some key) = none key
+
+either_none : {X : Type 0} (b : Bool) (x : Option X) → x ≡ None → (if b then x else None) ≡ None
+either_none true x none = none
+either_none false x none = refl
+
+-- without a runway a flight waits for nothing
+pub no_runway : (d : DayRecord) (plan : Plan) (f : Flight) → f.runway ≡ None → waits_for d plan f ≡ None
+unfolding waiting_of
+no_runway d plan f none = either_none (is_planned f.status) (waiting_of d plan f) (none_for_all _ (λ key. rw none refl) (key_of f))
 
 -- Flights and their slots.
 

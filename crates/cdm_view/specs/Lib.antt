@@ -6,4 +6,5 @@ pub mod Why
 pub mod Load
 pub mod Questions
 pub mod Standings
+pub mod Turns
 pub mod inner

@@ -18,6 +18,7 @@ mod runs;
 mod slots;
 mod standing;
 mod standings;
+mod turns;
 mod waiting;
 mod waiting_laws;
 mod whys;
@@ -38,9 +39,10 @@ pub use runs::Run;
 pub use slots::slots_on;
 pub use standing::{Standing, push_standing};
 pub use standings::Standings;
+pub use turns::{Turn, Turns};
 pub use waiting::{Waiting, exot_to};
 pub use waiting_laws::{
     a_blocked_flight_waits_always, a_placed_flight_waits_its_delay, a_reason_has_a_cause,
     a_waiting_flight_is_placed_or_blocked,
 };
-pub use whys::{own_slot, waits_for, waits_of, why};
+pub use whys::{own_slot, waits_among, waits_for, waits_of, why};

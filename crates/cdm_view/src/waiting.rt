@@ -1,5 +1,5 @@
 //! What a planned flight waits for.
-ghost use Rattle.std.specs.Prelude.{◌≡◌, ◌≤◌, ◌+◌, IfOk, IsSorted, filter, true};
+ghost use Rattle.std.specs.Prelude.{◌≡◌, ◌≤◌, ◌+◌, IfOk, Some, filter, true};
 ghost use Rattle.std.specs.Option.{ForSome, option_map_or};
 ghost use Rattle.cdm_time.specs.Windows.{is_in_tolerance, window_has};
 ghost use Rattle.cdm_flight.specs.Journal.{taxi_of};
@@ -7,19 +7,19 @@ ghost use Rattle.cdm_flight.specs.Spacing.{occupancy_of};
 ghost use Rattle.cdm_flight.specs.declared.group.Group.{Group};
 ghost use Rattle.cdm_runway.specs.Room.{meets, taken_by};
 ghost use Rattle.cdm_sequence.specs.Aims.{exot_to};
-ghost use Rattle.cdm_sequence.specs.Slots.{slot_cmp};
-ghost use Rattle.cdm_view.specs.inner.Earlier.{IsByTakeOff, met_among};
-ghost use Rattle.cdm_view.specs.Reasons.{held_at, is_earlier, met_at, names_of, reason_at, waiting_of};
+ghost use Rattle.cdm_view.specs.inner.Earlier.{is_taken, met_among, taken_slots};
+ghost use Rattle.cdm_view.specs.Reasons.{held_at, met_at, names_of, reason_at, waiting_of};
+ghost use Rattle.cdm_view.specs.Turns.{AreTurns};
 
 use crate::reason::Reason;
-use crate::slots::sorted_slots;
+use crate::turns::{Turn, Turns};
 use cdm_day::runway_named;
 use cdm_flight::{
     DayValues, Flight, FlightName, Group, Key, Listed, RunwayName, before, push_last,
 };
 use cdm_plan::Records;
 use cdm_runway::Runway;
-use cdm_sequence::{Mark, Plan, Slot};
+use cdm_sequence::{Mark, Slot};
 use cdm_time::{Minute, ctot_window};
 use std::alloc::{AllocError, Global};
 use std::marker::Model;
@@ -197,55 +197,45 @@ pub fn exot_to<R: Records>(records: &R, flight: &Flight, runway: RunwayName) -> 
 }
 
 // Whether the slot is taken when the turn of the flight with this key comes.
-fn is_earlier<R: Records>(records: &R, key: &Key, slot: &Slot) -> bool
-    ensures { result ≡ is_earlier (R.day records.now) key.now slot.now }
+fn is_taken(key: &Key, turn: &Turn) -> bool
+    ensures { result ≡ is_taken key.now turn.now }
 {
-    if slot.mark != Mark::Planned {
+    if turn.slot.mark != Mark::Planned {
         return true;
     }
-    let Some(flight) = records.flight(slot.name) else {
-        return false;
-    };
-    match flight.key() {
+    match turn.key {
         Some(other) => before(&other, key),
         None => false,
     }
 }
 
 // The slots that are taken when the turn of the flight with this key comes.
-fn earlier_slots<R: Records>(
-    alloc: Global,
-    records: &R,
-    key: &Key,
-    slots: &[Slot],
-) -> Result<Vec<Slot>, AllocError>
-    requires { IsSorted slot_cmp slots.now }
-    ensures slots { IfOk result (λ v. v.items ≡ filter (is_earlier (R.day records.now) key.now) slots.now) }
-    ensures order { IfOk result (λ v. IsByTakeOff v.items) }
+fn taken_slots(alloc: Global, key: &Key, turns: &[Turn]) -> Result<Vec<Slot>, AllocError>
+    ensures { IfOk result (λ v. v.items ≡ taken_slots key.now turns.now) }
 {
-    let mut earlier = Vec::new(alloc);
-    for slot in slots {
-        if is_earlier(records, key, slot) {
-            push_last(&mut earlier, *slot)?;
+    let mut taken = Vec::new(alloc);
+    for turn in turns {
+        if is_taken(key, turn) {
+            push_last(&mut taken, turn.slot)?;
         }
     }
-    Ok(earlier)
+    Ok(taken)
 }
 
-/// What the flight waits for, if it has a TOBT, a runway of the airport and a taxi-out time to it.
-#[tactic(auto, unfolding(crate::specs::Reasons::waiting_of))]
+/// What a flight of the runway of these turns waits for, if it has a TOBT and a taxi-out time to the runway.
+#[tactic(auto, using(crate::proofs::EarlierLemmas::taken_earlier, crate::proofs::EarlierLemmas::taken_by_take_off), unfolding(crate::specs::Reasons::waiting_of))]
 pub(crate) fn waiting_of<'a, R: Records>(
     alloc: Global,
     records: &'a R,
-    plan: &Plan,
+    turns: &Turns<'_>,
     flight: &'a Flight,
 ) -> Result<Option<Waiting<'a>>, AllocError>
-    ensures { IfOk result (λ waiting. waiting ≡ waiting_of (R.day records.now) plan.entry.now flight.now) }
+    requires turns { AreTurns (R.day records.now) turns.now }
+    requires on { flight.now.runway ≡ Some turns.now.runway }
+    ensures { IfOk result (λ waiting. waiting ≡ waiting_of (R.day records.now) turns.now.plan.now flight.now) }
 {
+    let name = turns.runway;
     let Some(key) = flight.key() else {
-        return Ok(None);
-    };
-    let Some(name) = flight.runway else {
         return Ok(None);
     };
     let Some(runway) = runway_named(records, name) else {
@@ -254,7 +244,7 @@ pub(crate) fn waiting_of<'a, R: Records>(
     let Some(exot) = exot_to(records, flight, name) else {
         return Ok(None);
     };
-    let earlier = earlier_slots(alloc, records, &key, sorted_slots(plan, name))?;
+    let earlier = taken_slots(alloc, &key, &turns.items)?;
     Ok(Some(Waiting {
         flight,
         tobt: key.tobt,

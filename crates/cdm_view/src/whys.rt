@@ -1,16 +1,18 @@
 //! What holds a flight.
-ghost use Rattle.std.specs.Prelude.{◌≡◌, ◌++◌, IfErr, IfOk, OnOk};
+ghost use Rattle.std.specs.Prelude.{◌≡◌, ◌++◌, IfErr, IfOk, OnOk, Some};
 ghost use Rattle.std.specs.List.{find};
 ghost use Rattle.std.specs.Option.{IsSomeAnd, option_copied, option_map_or};
 ghost use Rattle.std.specs.String.{string_bytes};
 ghost use Rattle.cdm_flight.specs.Journal.{flight_of};
 ghost use Rattle.cdm_flight.specs.Names.{same_name};
+ghost use Rattle.cdm_view.specs.Turns.{AreTurns};
 ghost use Rattle.cdm_view.specs.Why.{AreWaits, IsWhy, IsWhyFault, exot_known, outcome_line, own_slot, waits_for};
 
 use crate::fault::ViewFault;
 use crate::lines::{push_flight, push_left, push_planned, push_runs, push_times};
 use crate::runs::{Run, runs_of};
 use crate::slots::slots_on;
+use crate::turns::Turns;
 use crate::waiting::{Waiting, exot_to, waiting_of};
 use cdm_flight::{Flight, FlightName, Status};
 use cdm_plan::Records;
@@ -73,10 +75,32 @@ pub fn waits_for<'a, R: Records>(
 ) -> Result<Option<Waiting<'a>>, AllocError>
     ensures { IfOk result (λ waiting. waiting ≡ waits_for (R.day records.now) plan.entry.now flight.now) }
 {
+    let Some(runway) = flight.runway else {
+        return Ok(None);
+    };
+    waits_by(
+        alloc,
+        records,
+        &Turns::of(alloc, records, plan, runway)?,
+        flight,
+    )
+}
+
+// What a flight of the runway of these turns waits for on its stand.
+fn waits_by<'a, R: Records>(
+    alloc: Global,
+    records: &'a R,
+    turns: &Turns<'_>,
+    flight: &'a Flight,
+) -> Result<Option<Waiting<'a>>, AllocError>
+    requires turns { AreTurns (R.day records.now) turns.now }
+    requires on { flight.now.runway ≡ Some turns.now.runway }
+    ensures { IfOk result (λ waiting. waiting ≡ waits_for (R.day records.now) turns.now.plan.now flight.now) }
+{
     if flight.status != Status::Planned {
         return Ok(None);
     }
-    waiting_of(alloc, records, plan, flight)
+    waiting_of(alloc, records, turns, flight)
 }
 
 /// The runs of minutes for which a planned flight waits for the same, from its TOBT and taxi-out time up to its
@@ -89,8 +113,28 @@ pub fn waits_of<R: Records>(
 ) -> Result<Vec<Run>, AllocError>
     ensures { IfOk result (λ runs. AreWaits (R.day records.now) plan.entry.now flight.now runs.items) }
 {
-    match waits_for(alloc, records, plan, flight)? {
-        Some(waiting) => runs_of(alloc, &waiting, end_of_wait(own_slot(plan, flight))),
+    match flight.runway {
+        Some(runway) => {
+            let turns = Turns::of(alloc, records, plan, runway)?;
+            waits_among(alloc, records, &turns, flight)
+        }
+        None => Ok(Vec::new(alloc)),
+    }
+}
+
+/// The runs of minutes for which a flight of the runway of these turns waits, as [`waits_of`] tells them by their plan.
+pub fn waits_among<R: Records>(
+    alloc: Global,
+    records: &R,
+    turns: &Turns<'_>,
+    flight: &Flight,
+) -> Result<Vec<Run>, AllocError>
+    requires turns { AreTurns (R.day records.now) turns.now }
+    requires on { flight.now.runway ≡ Some turns.now.runway }
+    ensures { IfOk result (λ runs. AreWaits (R.day records.now) turns.now.plan.now flight.now runs.items) }
+{
+    match waits_by(alloc, records, turns, flight)? {
+        Some(waiting) => runs_of(alloc, &waiting, end_of_wait(own_slot(turns.plan, flight))),
         None => Ok(Vec::new(alloc)),
     }
 }
