@@ -9,9 +9,9 @@ use cdm_flight::RefusalWord;
 use std::alloc::Global;
 use std::io::Write;
 
-// Whether a device gives this text, or why it gives none.
-fn gives(alloc: Global, device: &mut Device<Source<'_>>, text: &[u8]) -> Result<bool, InputFault> {
-    match read_input(alloc, device) {
+// Whether what was read is this text, or why nothing was.
+fn compared(read: Result<Vec<u8>, InputFault>, text: &[u8]) -> Result<bool, InputFault> {
+    match read {
         Ok(input) => Ok(input.as_slice() == text),
         Err(fault) => Err(fault),
     }
@@ -24,7 +24,7 @@ fn read_text(
     fails_at: usize,
 ) -> (Result<bool, InputFault>, bool, usize) {
     let mut device = Device::new(Source::new(b"abc", at_a_time, fails_at));
-    let is_read = gives(alloc, &mut device, b"abc");
+    let is_read = compared(read_input(alloc, &mut device), b"abc");
     let failed = device.failed();
     (is_read, failed, device.into_inner().reads)
 }
