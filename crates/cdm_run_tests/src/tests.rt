@@ -10,6 +10,7 @@ macro_rules! again {
     };
 }
 
+mod asserts;
 mod command;
 mod devices;
 mod feed;

@@ -4,6 +4,7 @@ mod faults;
 mod help;
 mod memory;
 
+use crate::tests::asserts::assert_holds;
 use cdm_command::{Command, CommandFault, DayFiles, command_of};
 use cdm_feed::{Ahead, DayQuestion, DayText, GroupBy, ShiftQuestion, Since};
 use cdm_flight::{FlightName, RunwayName};
@@ -81,7 +82,7 @@ fn plans_with_one_worker_or_as_many_as_asked_for(rt: HostRuntime) {
     for (words, scenarios, count) in table {
         let plan = DayText::Plan(Format::Text);
         let told = is_told(rt.alloc(), words, scenarios, plan, count);
-        assert!(rt; told, "{words:?}");
+        assert_holds(&rt, told, words);
     }
 }
 
@@ -127,7 +128,15 @@ fn questions_name_a_flight_or_a_runway(rt: HostRuntime) {
     ];
     for (words, question) in table {
         let text = DayText::Answer(question, None, Format::Text);
-        assert!(rt; is_told(rt.alloc(), words, None, text, 1), "{words:?}");
+        assert_holds(&rt, is_told(rt.alloc(), words, None, text, 1), words);
+    }
+}
+
+// Whether a line, with one space between two words, asks that this is told of the files and of s.csv.
+fn is_line_told(alloc: Global, line: &str, text: DayText, count: usize) -> bool {
+    match line.split(' ').collect::<Vec<&str>>(alloc) {
+        Ok(words) => is_told(alloc, &words, Some("s.csv"), text, count),
+        Err(_) => false,
     }
 }
 
@@ -168,12 +177,8 @@ fn questions_are_asked_of_a_scenario(rt: HostRuntime) {
         ),
     ];
     for (line, question) in table {
-        let words = line.split(' ').collect::<Vec<&str>>(rt.alloc());
-        let words = words.expect(&rt, "words");
-        let format = format_in(line);
-        let text = DayText::Answer(question, Some(name), format);
-        let told = is_told(rt.alloc(), words.as_slice(), Some("s.csv"), text, 1);
-        assert!(rt; told, "{line}");
+        let text = DayText::Answer(question, Some(name), format_in(line));
+        assert_holds(&rt, is_line_told(rt.alloc(), line, text, 1), line);
     }
 }
 
@@ -210,11 +215,8 @@ fn scenarios_are_compared_or_printed_as_rows(rt: HostRuntime) {
             DayText::Picture,
         ),
     ];
-    for (words, wanted) in table {
-        let words = words.split(' ').collect::<Vec<&str>>(rt.alloc());
-        let words = words.expect(&rt, "words");
-        let told = is_told(rt.alloc(), words.as_slice(), Some("s.csv"), wanted, 2);
-        assert!(rt; told, "{words:?}");
+    for (line, wanted) in table {
+        assert_holds(&rt, is_line_told(rt.alloc(), line, wanted, 2), line);
     }
 }
 
@@ -226,32 +228,49 @@ fn is_command(alloc: Global, words: &[&str], wanted: &Command<'_>) -> bool {
     }
 }
 
-#[test]
-fn traces_checks_and_served_days_have_a_format(rt: HostRuntime) {
-    let alloc = rt.alloc();
+// Whether a trace in the format of this word is told.
+fn is_traced(alloc: Global, word: &str, format: Format) -> bool {
+    let words = ["trace", "a.csv", "f.csv", "--format", word];
+    is_told(alloc, &words, None, DayText::Trace(None, None, format), 1)
+}
+
+// Whether one from a time on is.
+fn is_traced_since(alloc: Global, word: &str, format: Format) -> bool {
+    let words = ["trace", "a.csv", "f.csv", "--since", TIME, "--format", word];
+    let told = DayText::Trace(None, Since::new(TIME.as_bytes()), format);
+    is_told(alloc, &words, None, told, 1)
+}
+
+// Whether the files are checked in the format of this word.
+fn is_checked(alloc: Global, word: &str, format: Format) -> bool {
     let files = DayFiles {
         airport: "a.csv",
         feed: "f.csv",
         scenarios: None,
     };
-    let (airport, journal) = ("a.csv", "j.csv");
+    let words = ["check", "--format", word, "a.csv", "f.csv"];
+    is_command(alloc, &words, &Command::Check { files, format })
+}
+
+// Whether the day of a journal is served in the format of this word.
+fn is_served(alloc: Global, word: &str, format: Format) -> bool {
+    let wanted = Command::Serve {
+        airport: "a.csv",
+        journal: "j.csv",
+        format,
+    };
+    let words = ["serve", "a.csv", "j.csv", "--format", word];
+    is_command(alloc, &words, &wanted)
+}
+
+#[test]
+fn traces_checks_and_served_days_have_a_format(rt: HostRuntime) {
+    let alloc = rt.alloc();
     for (word, format) in [("text", Format::Text), ("json", Format::Json)] {
-        let trace = ["trace", "a.csv", "f.csv", "--format", word];
-        let told = DayText::Trace(None, None, format);
-        assert!(rt; is_told(alloc, &trace, None, told, 1), "{word}");
-        let later = ["trace", "a.csv", "f.csv", "--since", TIME, "--format", word];
-        let told = DayText::Trace(None, Since::new(TIME.as_bytes()), format);
-        assert!(rt; is_told(alloc, &later, None, told, 1), "{word}");
-        let check = ["check", "--format", word, "a.csv", "f.csv"];
-        let wanted = Command::Check { files, format };
-        assert!(rt; is_command(alloc, &check, &wanted), "{word}");
-        let serve = ["serve", "a.csv", "j.csv", "--format", word];
-        let wanted = Command::Serve {
-            airport,
-            journal,
-            format,
-        };
-        assert!(rt; is_command(alloc, &serve, &wanted), "{word}");
+        assert_holds(&rt, is_traced(alloc, word, format), ("trace", word));
+        assert_holds(&rt, is_traced_since(alloc, word, format), ("since", word));
+        assert_holds(&rt, is_checked(alloc, word, format), ("check", word));
+        assert_holds(&rt, is_served(alloc, word, format), ("serve", word));
     }
 }
 
@@ -290,7 +309,7 @@ fn wrong_words_of_a_plan_are_told(rt: HostRuntime) {
         ),
     ];
     for (words, cause) in table {
-        assert!(rt; is_wrong(rt.alloc(), words, cause), "{words}");
+        assert_holds(&rt, is_wrong(rt.alloc(), words, cause), words);
     }
 }
 
@@ -347,6 +366,6 @@ fn other_wrong_words_are_told(rt: HostRuntime) {
         ("help plan live", "unexpected argument 'live'"),
     ];
     for (words, cause) in table {
-        assert!(rt; is_wrong(rt.alloc(), words, cause), "{words}");
+        assert_holds(&rt, is_wrong(rt.alloc(), words, cause), words);
     }
 }

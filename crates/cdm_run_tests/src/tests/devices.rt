@@ -6,6 +6,9 @@ use std::io::{Error, ErrorKind, Read, Write};
 use std::sync::atomic::{AtomicBool, AtomicUsize, Ordering};
 use std::thread::yield_now;
 
+/// A text, how many bytes of it come at a time, and the number of the read that fails, from 1, or 0 for none.
+pub type Given<'a> = (&'a [u8], usize, usize);
+
 /// A reader of a text, which fails at one of its reads, the first of which is number 1.
 #[derive(Drop)]
 pub struct Source<'a> {
@@ -27,9 +30,9 @@ impl<'a> Source<'a> {
         }
     }
 
-    /// The same, which fails at the read of this number.
-    pub fn failing(self, read: usize) -> Source<'a> {
-        Source::new(self.left, self.at_a_time, read)
+    /// Gives the text so.
+    pub fn of((text, at_a_time, fails_at): Given<'a>) -> Source<'a> {
+        Source::new(text, at_a_time, fails_at)
     }
 
     /// Gives the text whole.

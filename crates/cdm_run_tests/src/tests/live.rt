@@ -1,7 +1,8 @@
 //! Live runs: two desks that meet, what a desk has done at its gate, and devices that fail.
 mod gate;
 
-use super::devices::{Meeting, Sink, Source, Stop};
+use super::asserts::{assert_found, assert_holds};
+use super::devices::{Given, Meeting, Sink, Source, Stop};
 use cdm_feed::{CommonFault, Device, Input};
 use cdm_live::{LiveCounts, LiveError, run_live};
 use cdm_phase::{Gate, OpenGate, PhaseName};
@@ -42,15 +43,19 @@ DESK 1 POSTS 1 REFUSED 0
 DESK 2 POSTS 1 REFUSED 0
 ";
 
-// The files of two desks.
-fn files() -> [Source<'static>; 3] {
-    [AIRPORT, FEED1, FEED2].map(|text| Source::new(text.as_bytes(), 1, 0))
+// The files of two desks, a byte at a time, each of which fails at one of its reads.
+fn files(fails_at: [usize; 3]) -> [Given<'static>; 3] {
+    [
+        (AIRPORT.as_bytes(), 1, fails_at[0]),
+        (FEED1.as_bytes(), 1, fails_at[1]),
+        (FEED2.as_bytes(), 1, fails_at[2]),
+    ]
 }
 
 // What a live run answers, and what it has written.
 fn run_of<R: AllocGlobal + Threads + Wait + Sync + Abort>(
     rt: &R,
-    files: [Source<'_>; 3],
+    files: [Given<'_>; 3],
     gate: &impl Gate,
     stop: Stop,
 ) -> (Result<LiveCounts, LiveError>, Vec<u8>) {
@@ -59,46 +64,53 @@ fn run_of<R: AllocGlobal + Threads + Wait + Sync + Abort>(
     let answer = run_live(
         rt,
         rt.alloc(),
-        &mut Device::new(airport),
-        &mut Device::new(feed1),
-        &mut Device::new(feed2),
+        &mut Device::new(Source::of(airport)),
+        &mut Device::new(Source::of(feed1)),
+        &mut Device::new(Source::of(feed2)),
         gate,
         &mut out,
     );
     (answer, out.into_inner().text)
 }
 
+// What a live run counts: the accepted and the refused updates, and the calls.
+fn counted(counts: LiveCounts) -> (usize, usize, usize) {
+    (counts.accepted, counts.refused, counts.calls)
+}
+
+// What a live run of two desks counts, or why it ends, and whether it has written the text of both.
+fn told<R: AllocGlobal + Threads + Wait + Sync + Abort>(
+    rt: &R,
+    gate: &impl Gate,
+) -> (Result<(usize, usize, usize), LiveError>, bool) {
+    let (answer, text) = run_of(rt, files([0; 3]), gate, Stop::Never);
+    (answer.map(counted), text.as_slice() == TEXT.as_bytes())
+}
+
 // Desks that ran one after the other, on one thread or under one lock, would meet every clause.
 #[test]
 fn desks_meet(rt: HostRuntime) {
     let gate = Meeting::new(PhaseName::Desks, 1_000_000);
-    let (answer, text) = run_of(&rt, files(), &gate, Stop::Never);
-    let counts = answer.map(|counts| (counts.accepted, counts.refused, counts.calls));
-    assert_eq!(rt; counts, Ok((6, 0, 4)));
-    assert_eq!(rt; text.as_slice(), TEXT.as_bytes());
-    let came = gate.came();
-    assert!(rt; came[0] == 1 && came[1] == 1);
-    assert_eq!(rt; gate.others(), 0);
-    assert!(rt; !gate.is_missed());
+    assert_found(&rt, told(&rt, &gate), (Ok((6, 0, 4)), true), "told");
+    let found = (gate.came(), gate.others(), gate.is_missed());
+    assert_found(&rt, found, ([1, 1], 0, false), "pieces");
 }
 
-// The fault of a run whose read of this number fails in this input, before which nothing was written.
-// Without one, the desks' text was.
+// The fault of a run whose read of this number fails in this input, and whether nothing was written before it. Without one,
+// whether the desks' text was.
 fn fault_at<R: AllocGlobal + Threads + Wait + Sync + Abort>(
     rt: &R,
     input: Input,
     read: usize,
-) -> Option<LiveError> {
-    let [airport, feed1, feed2] = files();
-    let files = match input {
-        Input::Airport => [airport.failing(read), feed1, feed2],
-        Input::Feed1 => [airport, feed1.failing(read), feed2],
-        _ => [airport, feed1, feed2.failing(read)],
+) -> (Option<LiveError>, bool) {
+    let fails_at = match input {
+        Input::Airport => [read, 0, 0],
+        Input::Feed1 => [0, read, 0],
+        _ => [0, 0, read],
     };
-    let (answer, text) = run_of(rt, files, &OpenGate, Stop::Never);
+    let (answer, text) = run_of(rt, files(fails_at), &OpenGate, Stop::Never);
     let wanted = if answer.is_ok() { TEXT } else { "" };
-    assert_eq!(rt; text.as_slice(), wanted.as_bytes());
-    answer.err()
+    (answer.err(), text.as_slice() == wanted.as_bytes())
 }
 
 // Each read of each input fails in turn, the one at its end too.
@@ -112,27 +124,29 @@ fn failing_reads(rt: HostRuntime) {
     for (input, len) in table {
         for read in 0..=len.saturating_add(1) {
             let fault = (read > 0).then_some(LiveError::Common(CommonFault::Read(input)));
-            assert_eq!(rt; fault_at(&rt, input, read), fault, "at read {read}");
+            let found = fault_at(&rt, input, read);
+            assert_found(&rt, found, (fault, true), (input, read));
         }
     }
 }
 
-// Asserts that a run on a writer that stops here leaves this text, whole or a prefix.
-fn assert_writes<R: AllocGlobal + Threads + Wait + Sync + Abort>(rt: &R, stop: Stop, text: &[u8]) {
-    let (answer, written) = run_of(rt, files(), &OpenGate, stop);
+// Whether a run on a writer that stops here leaves this text, whole or a prefix.
+fn writes<R: AllocGlobal + Threads + Wait + Sync + Abort>(rt: &R, stop: Stop, text: &[u8]) -> bool {
+    let (answer, written) = run_of(rt, files([0; 3]), &OpenGate, stop);
     let fault = (stop != Stop::Never).then_some(LiveError::Common(CommonFault::Write));
-    assert_eq!(rt; answer.err(), fault, "{stop:?}");
-    assert_eq!(rt; written.as_slice(), text, "{stop:?}");
+    answer.err() == fault && written.as_slice() == text
 }
 
 // Each write fails in turn or takes no byte, and then the flush fails: a prefix was written.
 #[test]
 fn failing_writes(rt: HostRuntime) {
     let text = TEXT.as_bytes();
-    assert_writes(&rt, Stop::Never, text);
-    assert_writes(&rt, Stop::Flush, text);
+    assert_holds(&rt, writes(&rt, Stop::Never, text), "whole");
+    assert_holds(&rt, writes(&rt, Stop::Flush, text), "no flush");
     for at in 0..text.len() {
-        assert_writes(&rt, Stop::Error(at + 1), &text[..at]);
-        assert_writes(&rt, Stop::NoByte(at + 1), &text[..at]);
+        let prefix = &text[..at];
+        for stop in [Stop::Error(at + 1), Stop::NoByte(at + 1)] {
+            assert_holds(&rt, writes(&rt, stop, prefix), stop);
+        }
     }
 }

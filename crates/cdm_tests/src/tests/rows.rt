@@ -1,51 +1,79 @@
 //! Worked values, as calls.
+use crate::tests::asserts::{assert_found, assert_holds};
 use crate::tests::days::{THREE_FLIGHTS, day_of};
 use crate::tests::memory::is_planned;
-use crate::tests::memory::runway::two_in_ten;
-use cdm_day::{Change, Records, Reply, judge};
-use cdm_flight::{Cap, FlightName, Group, RefusalWord, Update};
-use cdm_runway::{Blocked, RunwayFault, RunwayLoad};
+use crate::tests::memory::runway::{two_in_ten, window_of};
+use cdm_day::{Change, DayState, Records, Reply, judge};
+use cdm_flight::{FlightName, Group, RefusalWord, Update};
+use cdm_runway::{Blocked, Runway, RunwayFault, RunwayLoad};
 use cdm_scenario::{Overlay, Scenario, ScenarioName};
 use cdm_time::{Bound, Minute, Tolerance, Window, ctot_window};
 use std::alloc::Global;
-use std::test::Fail;
 
 // The minutes from one up to another.
 fn window(from: u16, to: u16) -> Option<Window> {
     Window::new(Minute::new(from)?, Bound::new(to)?)
 }
 
+/// The earliest minute of a window, or why there is none.
+type Earliest = Result<Minute, Blocked>;
+
+// Those of a wide and a narrow window behind two flights at a minute, and that of the narrow one when a window is closed.
+fn earliest(
+    runway: &mut Runway,
+    taken: Minute,
+    wide: Window,
+    narrow: Window,
+    closed: (Minute, Bound),
+) -> Option<(Earliest, Earliest, Earliest)> {
+    let mut load = RunwayLoad::empty(runway);
+    load.take(runway, taken, Group::Medium);
+    load.take(runway, taken, Group::Medium);
+    let in_wide = load.earliest(runway, wide, Group::Medium);
+    let in_narrow = load.earliest(runway, narrow, Group::Medium);
+    runway.close(closed.0, closed.1).ok()?;
+    let in_closed = load.earliest(runway, narrow, Group::Medium);
+    Some((in_wide, in_narrow, in_closed))
+}
+
+// Those of the windows from 06:15 to 06:30 and to 06:20 behind two flights at 06:15, with a closure from 06:10 to 06:20.
+fn earliest_of(runway: &mut Runway) -> Option<(Earliest, Earliest, Earliest)> {
+    let closed = (Minute::new(370)?, Bound::new(380)?);
+    let (wide, narrow) = (window(375, 390)?, window(375, 380)?);
+    earliest(runway, Minute::new(375)?, wide, narrow, closed)
+}
+
+// Whether a window off the grid is one of a rate, and the answer to such a rate.
+fn off_grid(runway: &mut Runway) -> Option<(bool, Result<(), RunwayFault>)> {
+    let (from, to, cap) = window_of(365, 380, 2)?;
+    let is_ordered = runway.ordered_rate(from, to);
+    Some((is_ordered, runway.rate(from, to, cap)))
+}
+
 /// Two flights in the cell of 06:10, a closure of its second half, and a rate off the grid.
 #[test]
-fn a_load_fills_its_cells(rt: HostRuntime) -> Result<(), Fail> {
-    let mut runway = two_in_ten(rt.alloc()).ok_or("no runway")?;
-    let mut load = RunwayLoad::empty(&runway);
-    let quarter = Minute::new(375).ok_or("no minute")?;
-    let wide = window(375, 390).ok_or("no window")?;
-    let narrow = window(375, 380).ok_or("no window")?;
-    load.take(&runway, quarter, Group::Medium);
-    load.take(&runway, quarter, Group::Medium);
-    let found = load.earliest(&runway, wide, Group::Medium).map(Minute::get);
-    assert_eq!(rt; found, Ok(380));
-    let found = load.earliest(&runway, narrow, Group::Medium);
-    assert_eq!(rt; found, Err(Blocked::Rate));
-    let (from, to) = (Minute::new(370), Bound::new(380));
-    let (from, to) = (from.ok_or("no minute")?, to.ok_or("no bound")?);
-    runway.close(from, to).map_err(|_| "not closed")?;
-    let found = load.earliest(&runway, narrow, Group::Medium);
-    assert_eq!(rt; found, Err(Blocked::Closure));
-    let off_grid = Minute::new(365).ok_or("no minute")?;
-    let cap = Cap::new(2).ok_or("no capacity")?;
-    assert!(rt; !runway.ordered_rate(off_grid, to));
-    assert_eq!(rt; runway.rate(off_grid, to, cap), Err(RunwayFault::Order));
-    Ok(())
+fn a_load_fills_its_cells(rt: HostRuntime) {
+    let free = Minute::new(380).expect(&rt, "no minute");
+    let mut runway = two_in_ten(rt.alloc()).expect(&rt, "no runway");
+    let found = earliest_of(&mut runway);
+    let wanted = (Ok(free), Err(Blocked::Rate), Err(Blocked::Closure));
+    assert_found(&rt, found, Some(wanted), "earliest");
+    let found = off_grid(&mut runway);
+    let wanted = (false, Err(RunwayFault::Order));
+    assert_found(&rt, found, Some(wanted), "off the grid");
+}
+
+// From where to where the window of a CTOT is.
+fn window_around(ctot: u16, tolerance: Tolerance) -> Option<(u16, u16)> {
+    let window = ctot_window(Minute::new(ctot)?, tolerance);
+    Some((window.from().get(), window.to().get()))
 }
 
 /// The tolerance of a CTOT near both ends of the horizon, the usual one and a wider one.
 #[test]
-fn a_ctot_window_is_cut_to_the_horizon(rt: HostRuntime) -> Result<(), Fail> {
+fn a_ctot_window_is_cut_to_the_horizon(rt: HostRuntime) {
     let usual = Tolerance::usual();
-    let wide = Tolerance::new(15, 30).ok_or("no tolerance")?;
+    let wide = Tolerance::new(15, 30).expect(&rt, "no tolerance");
     for (ctot, tolerance, from, to) in [
         (0, usual, 0, 11),
         (3, usual, 0, 14),
@@ -58,12 +86,9 @@ fn a_ctot_window_is_cut_to_the_horizon(rt: HostRuntime) -> Result<(), Fail> {
         (0, wide, 0, 31),
         (2879, wide, 2864, 2880),
     ] {
-        let minute = Minute::new(ctot).ok_or("no minute")?;
-        let window = ctot_window(minute, tolerance);
-        let found = (window.from().get(), window.to().get());
-        assert_eq!(rt; found, (from, to), "CTOT {ctot}");
+        let found = window_around(ctot, tolerance);
+        assert_found(&rt, found, Some((from, to)), ("CTOT", ctot));
     }
-    Ok(())
 }
 
 // Whether a TOBT of an unknown flight is refused, which leaves nine updates accepted.
@@ -98,19 +123,29 @@ fn is_last(alloc: Global, overlay: &Overlay) -> Option<bool> {
     Some(last.name.text() == "AB1" && is_planned(&plan, (&[375, 375, 390], 0)))
 }
 
+/// Whether a TOBT of an unknown flight is refused over a day, whether a later one of AB1 is taken, which TOBT it then has, and
+/// whether it takes off last.
+type Laid = (Option<bool>, Option<bool>, Option<u16>, Option<bool>);
+
+// What is found so over this day.
+fn laid_over(alloc: Global, base: &DayState) -> Laid {
+    let mut overlay = Overlay::over(alloc, base);
+    let is_refused = refuses_unknown(alloc, &mut overlay);
+    let is_taken = takes_later(alloc, &mut overlay);
+    let later = tobt(&overlay);
+    (is_refused, is_taken, later, is_last(alloc, &overlay))
+}
+
 /// Over the day of three flights a TOBT of an unknown flight is refused, and a later one of AB1 is taken: then AB1 takes off
 /// at 06:30. The day itself still has it at 06:15.
 #[test]
-fn an_overlay_is_judged_and_planned(rt: HostRuntime) -> Result<(), Fail> {
-    let alloc = rt.alloc();
-    let base = day_of(alloc, &THREE_FLIGHTS).ok_or("no day")?;
-    let mut overlay = Overlay::over(alloc, &base);
-    assert_eq!(rt; refuses_unknown(alloc, &mut overlay), Some(true));
-    assert_eq!(rt; takes_later(alloc, &mut overlay), Some(true));
-    assert_eq!(rt; tobt(&overlay), Some(375));
-    assert_eq!(rt; is_last(alloc, &overlay), Some(true));
-    assert!(rt; is_planned(base.plan(), (&[375, 375, 380], 0)));
-    Ok(())
+fn an_overlay_is_judged_and_planned(rt: HostRuntime) {
+    let base = day_of(rt.alloc(), &THREE_FLIGHTS).expect(&rt, "no day");
+    let found = laid_over(rt.alloc(), &base);
+    let wanted = (Some(true), Some(true), Some(375), Some(true));
+    assert_found(&rt, found, wanted, "over the day");
+    let stays = is_planned(base.plan(), (&[375, 375, 380], 0));
+    assert_holds(&rt, stays, "the day");
 }
 
 // How many updates a scenario of so many has, if there is one.
@@ -129,10 +164,9 @@ fn scenario_of(alloc: Global, count: usize) -> Option<Option<usize>> {
 
 /// A scenario has 64 updates at most, however it is made.
 #[test]
-fn a_scenario_has_64_updates(rt: HostRuntime) -> Result<(), Fail> {
+fn a_scenario_has_64_updates(rt: HostRuntime) {
     for (count, is_one) in [(0, true), (64, true), (65, false)] {
         let found = scenario_of(rt.alloc(), count);
-        assert_eq!(rt; found, Some(is_one.then_some(count)), "{count} updates");
+        assert_found(&rt, found, Some(is_one.then_some(count)), count);
     }
-    Ok(())
 }

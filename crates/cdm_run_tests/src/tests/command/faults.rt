@@ -1,4 +1,5 @@
 //! The lines of faults. Their statuses are told by clauses.
+use crate::tests::asserts::assert_holds;
 use crate::tests::devices::Page;
 use cdm_fault::{Fault, UnopenedFile, report_fault};
 use cdm_feed::{CommonFault, Device, RunError};
@@ -7,17 +8,27 @@ use cdm_live::LiveError;
 use cdm_port::{PortFault, Reason};
 use cdm_scenario::ScenarioName;
 use cdm_serve::ServeError;
+use std::alloc::Global;
 use std::io::ErrorKind;
 use std::process::Abort;
 
-// The fault has this line.
-fn check_line(rt: &impl Abort, fault: Fault, line: &str) {
-    let mut device = Device::new(Page::new());
-    report_fault(&fault, &mut device);
-    let page = device.into_inner();
-    let told = page.text().strip_prefix(b"cdmseq: ".as_slice());
+// Whether the text is this line of the program.
+fn is_line(text: &[u8], line: &str) -> bool {
+    let told = text.strip_prefix(b"cdmseq: ".as_slice());
     let told = told.and_then(|text| text.strip_suffix(b"\n".as_slice()));
-    assert_eq!(rt; told, Some(line.as_bytes()));
+    told == Some(line.as_bytes())
+}
+
+// Whether the fault has this line.
+fn has_line(fault: &Fault, line: &str) -> bool {
+    let mut device = Device::new(Page::new());
+    report_fault(fault, &mut device);
+    is_line(device.into_inner().text(), line)
+}
+
+// Asserts that the fault has this line.
+fn check_line(rt: &impl Abort, fault: Fault, line: &str) {
+    assert_holds(rt, has_line(&fault, line), line);
 }
 
 #[test]
@@ -48,29 +59,29 @@ fn faults_have_lines(rt: HostRuntime) {
     let disordered = RunError::Scenario(1, RefusalWord::Order);
     let night = ScenarioName::new(b"NIGHT").expect(&rt, "scenario");
     let update = RunError::Update(night, 2, RefusalWord::Unknown);
-    let cases = [
-        (NoMemory, "out of memory"),
-        (Run(disordered), "SCENARIOS record 1: ORDER"),
-        (Run(RunError::NoScenario(night)), "no scenario NIGHT"),
+    let runs = [
+        (disordered, "SCENARIOS record 1: ORDER"),
+        (RunError::NoScenario(night), "no scenario NIGHT"),
         (
-            Run(RunError::OtherDay),
+            RunError::OtherDay,
             "--since names a time outside the airport's two days",
         ),
-        (Run(update), "SCENARIOS scenario NIGHT: update 2: UNKNOWN"),
-        (
-            Live(LiveError::HistoryFull),
-            "board is full after 4096 calls",
-        ),
-        (Live(LiveError::Mismatch), "board and desk differ"),
-        (Fault::JournalInUse, "JOURNAL is in use"),
-        (
-            Fault::JournalMissing,
-            "JOURNAL is missing, and was served before",
-        ),
+        (update, "SCENARIOS scenario NIGHT: update 2: UNKNOWN"),
     ];
-    for (fault, line) in cases {
-        check_line(&rt, fault, line);
+    for (fault, line) in runs {
+        check_line(&rt, Run(fault), line);
     }
+    let live_runs = [
+        (LiveError::HistoryFull, "board is full after 4096 calls"),
+        (LiveError::Mismatch, "board and desk differ"),
+    ];
+    for (fault, line) in live_runs {
+        check_line(&rt, Live(fault), line);
+    }
+    check_line(&rt, NoMemory, "out of memory");
+    check_line(&rt, Fault::JournalInUse, "JOURNAL is in use");
+    let missing = "JOURNAL is missing, and was served before";
+    check_line(&rt, Fault::JournalMissing, missing);
 }
 
 #[test]
@@ -112,6 +123,13 @@ fn faults_of_a_served_day_have_lines(rt: HostRuntime) {
     check_line(&rt, Fault::Serve(ServeError::TooMany), "too many records");
 }
 
+// The fault of a feed at this path that can't be opened for this reason.
+fn unopened(alloc: Global, path: &str, kind: ErrorKind) -> Option<Fault> {
+    let path = String::from_str(alloc, path).ok()?;
+    let file = UnopenedFile { path, kind };
+    Some(Fault::CannotOpen(cdm_feed::Input::Feed, file))
+}
+
 #[test]
 fn unopened_files_are_told_by_path_and_reason(rt: HostRuntime) {
     use ErrorKind::{NotADirectory, NotFound, PermissionDenied, Uncategorized};
@@ -135,8 +153,7 @@ fn unopened_files_are_told_by_path_and_reason(rt: HostRuntime) {
         ),
     ];
     for (path, kind, line) in table {
-        let path = String::from_str(rt.alloc(), path).expect(&rt, "path");
-        let file = UnopenedFile { path, kind };
-        check_line(&rt, Fault::CannotOpen(cdm_feed::Input::Feed, file), line);
+        let fault = unopened(rt.alloc(), path, kind).expect(&rt, "path");
+        check_line(&rt, fault, line);
     }
 }

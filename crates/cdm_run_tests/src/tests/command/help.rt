@@ -1,4 +1,5 @@
 //! The help and the version.
+use crate::tests::asserts::assert_holds;
 use cdm_command::{Command, CommandFault, command_of};
 use std::alloc::Global;
 
@@ -98,7 +99,7 @@ fn help_of_a_command_is_a_screen(rt: HostRuntime) {
         (&["help", "help"], HELP),
     ];
     for (words, usage) in table {
-        assert!(rt; prints_help(rt.alloc(), words, usage), "{words:?}");
+        assert_holds(&rt, prints_help(rt.alloc(), words, usage), words);
     }
 }
 
@@ -119,15 +120,19 @@ fn prints_manual(alloc: Global, words: &[&str]) -> bool {
     })
 }
 
+// Whether the word prints the version.
+fn prints_version(alloc: Global, word: &str) -> bool {
+    printed(alloc, &[word]).as_deref() == Some("cdmseq 1.0.0\n")
+}
+
 #[test]
 fn the_manual_and_the_version_are_printed(rt: HostRuntime) {
     let alloc = rt.alloc();
-    assert!(rt; asks_for_a_command(alloc));
-    for words in [["help"], ["manual"]] {
-        assert!(rt; prints_manual(alloc, &words), "{words:?}");
+    assert_holds(&rt, asks_for_a_command(alloc), "no words");
+    for word in ["help", "manual"] {
+        assert_holds(&rt, prints_manual(alloc, &[word]), word);
     }
-    for words in [["--version"], ["-V"]] {
-        let version = printed(alloc, &words);
-        assert_eq!(rt; version.as_deref(), Some("cdmseq 1.0.0\n"), "{words:?}");
+    for word in ["--version", "-V"] {
+        assert_holds(&rt, prints_version(alloc, word), word);
     }
 }

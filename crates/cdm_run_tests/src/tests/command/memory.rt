@@ -1,5 +1,6 @@
 //! Words of which one request for memory may be refused.
 use super::TRY;
+use crate::tests::asserts::assert_holds;
 use cdm_command::{Command, CommandFault, command_of};
 use std::alloc::Global;
 
@@ -43,6 +44,6 @@ fn refused_memory_tells_no_half_text(rt: HostRuntime) {
         (&["plan", "a.csv", "f.csv", "--workers", "65"], TRY),
     ];
     for (words, end) in table {
-        assert!(rt; is_told(rt.alloc(), words, end), "{end}");
+        assert_holds(&rt, is_told(rt.alloc(), words, end), end);
     }
 }

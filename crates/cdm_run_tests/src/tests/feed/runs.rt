@@ -1,5 +1,6 @@
 //! Whole runs, from the bytes of files to the bytes of a report.
-use crate::tests::devices::{Meeting, Sink, Source, Stop};
+use crate::tests::asserts::{assert_found, assert_holds};
+use crate::tests::devices::{Given, Meeting, Sink, Source, Stop};
 use cdm_feed::{CommonFault, Device, Input, RunCounts, RunError, run};
 use cdm_phase::{Gate, OpenGate, PhaseName, Workers};
 use std::process::Abort;
@@ -62,32 +63,62 @@ REFUSED 2 UNKNOWN
 // A scenario file without a scenario.
 const BLANK: &str = "\n\r\n\n";
 
-// The files of a day without scenarios, a byte at a time.
-fn files() -> [Source<'static>; 3] {
-    [AIRPORT, FEED, BLANK].map(|text| Source::new(text.as_bytes(), 1, 0))
+// The files of a day without scenarios, a byte at a time, each of which fails at one of its reads.
+fn files(fails_at: [usize; 3]) -> [Given<'static>; 3] {
+    [
+        (AIRPORT.as_bytes(), 1, fails_at[0]),
+        (FEED.as_bytes(), 1, fails_at[1]),
+        (BLANK.as_bytes(), 1, fails_at[2]),
+    ]
 }
 
 // What a run with so many workers answers, and its writer, which stops here.
 fn run_of<R: AllocGlobal + Threads + Sync + Abort>(
     rt: &R,
-    files: [Source<'_>; 3],
-    workers: usize,
+    files: [Given<'_>; 3],
+    count: usize,
     gate: &impl Gate,
     stop: Stop,
 ) -> (Result<RunCounts, RunError>, Device<Sink>) {
+    let workers = Workers::new(count).expect(rt, "workers");
     let [airport, feed, scenarios] = files;
     let mut out = Device::new(Sink::new(rt.alloc(), stop));
     let answer = run(
         rt,
         rt.alloc(),
-        &mut Device::new(airport),
-        &mut Device::new(feed),
-        &mut Device::new(scenarios),
-        Workers::new(workers).expect(rt, "workers"),
+        &mut Device::new(Source::of(airport)),
+        &mut Device::new(Source::of(feed)),
+        &mut Device::new(Source::of(scenarios)),
+        workers,
         gate,
         &mut out,
     );
     (answer, out)
+}
+
+// What a run with scenarios counts, or why it ends, and whether it has written the report and the answers.
+type Told = (Result<(usize, usize, usize), RunError>, bool);
+
+// Those of a run with so many workers.
+fn told<R: AllocGlobal + Threads + Sync + Abort>(rt: &R, count: usize, gate: &impl Gate) -> Told {
+    let files = [AIRPORT, FEED, SCENARIOS].map(|text| (text.as_bytes(), usize::MAX, 0));
+    let (answer, out) = run_of(rt, files, count, gate, Stop::Never);
+    let text = out.into_inner().text;
+    let answers = text.strip_prefix(REPORT.as_bytes());
+    let counts = answer.map(|counts| (counts.accepted, counts.refused, counts.scenarios));
+    (counts, answers == Some(ANSWERS.as_bytes()))
+}
+
+// The same, how often each of the first two pieces of the phase came, and whether one waited in vain.
+fn meet<R: AllocGlobal + Threads + Sync + Abort>(
+    rt: &R,
+    phase: PhaseName,
+    count: usize,
+) -> (Told, [usize; 2], bool) {
+    let turns = if count == 1 { 2_000 } else { 1_000_000 };
+    let gate = Meeting::new(phase, turns);
+    let told = told(rt, count, &gate);
+    (told, gate.came(), gate.is_missed())
 }
 
 // One worker takes one runway after the other, and one scenario after the other, and more meet.
@@ -104,44 +135,27 @@ fn workers_meet_and_write_one_text(rt: HostRuntime) {
         (PhaseName::Scenarios, 64),
     ];
     for (phase, workers) in table {
-        let turns = if workers == 1 { 2_000 } else { 1_000_000 };
-        let gate = Meeting::new(phase, turns);
-        let files = [AIRPORT, FEED, SCENARIOS].map(|text| Source::whole(text.as_bytes()));
-        let (answer, out) = run_of(&rt, files, workers, &gate, Stop::Never);
-        let counts = answer.map(|counts| (counts.accepted, counts.refused, counts.scenarios));
-        assert_eq!(rt; counts, Ok((6, 1, 2)), "{phase:?}, {workers} workers");
-        let text = out.into_inner().text;
-        assert_eq!(rt;
-            text.strip_prefix(REPORT.as_bytes()),
-            Some(ANSWERS.as_bytes())
-        );
-        let came = gate.came();
-        assert!(rt;
-            came[0] == 1 && came[1] == 1,
-            "{phase:?}, {workers} workers"
-        );
-        let is_missed = gate.is_missed();
-        assert_eq!(rt; is_missed, workers == 1, "{phase:?}, {workers} workers");
+        let wanted = ((Ok((6, 1, 2)), true), [1, 1], workers == 1);
+        assert_found(&rt, meet(&rt, phase, workers), wanted, (phase, workers));
     }
 }
 
-// The fault of a run whose read of this number fails in this input, before which nothing was written.
-// Without one, the day's report was.
+// The fault of a run whose read of this number fails in this input, and whether nothing was written before it. Without one,
+// whether the day's report was.
 fn fault_at<R: AllocGlobal + Threads + Sync + Abort>(
     rt: &R,
     input: Input,
     read: usize,
-) -> Option<RunError> {
-    let [airport, feed, scenarios] = files();
-    let files = match input {
-        Input::Airport => [airport.failing(read), feed, scenarios],
-        Input::Feed => [airport, feed.failing(read), scenarios],
-        _ => [airport, feed, scenarios.failing(read)],
+) -> (Option<RunError>, bool) {
+    let fails_at = match input {
+        Input::Airport => [read, 0, 0],
+        Input::Feed => [0, read, 0],
+        _ => [0, 0, read],
     };
-    let (answer, out) = run_of(rt, files, 1, &OpenGate, Stop::Never);
+    let (answer, out) = run_of(rt, files(fails_at), 1, &OpenGate, Stop::Never);
     let text = if answer.is_ok() { REPORT } else { "" };
-    assert_eq!(rt; out.into_inner().text.as_slice(), text.as_bytes());
-    answer.err()
+    let is_told = out.into_inner().text.as_slice() == text.as_bytes();
+    (answer.err(), is_told)
 }
 
 // A byte comes at a time, and each read in turn fails, the one at the end too.
@@ -155,32 +169,42 @@ fn failing_reads(rt: HostRuntime) {
     for (input, len) in table {
         for read in 0..=len.saturating_add(1) {
             let fault = (read > 0).then_some(RunError::Common(CommonFault::Read(input)));
-            assert_eq!(rt; fault_at(&rt, input, read), fault, "at read {read}");
+            let found = fault_at(&rt, input, read);
+            assert_found(&rt, found, (fault, true), (input, read));
         }
     }
 }
 
-// Asserts that a run on a writer that stops here leaves this text, whole and flushed or a prefix.
-fn assert_writes<R: AllocGlobal + Threads + Sync + Abort>(rt: &R, stop: Stop, text: &[u8]) {
-    let is_whole = stop == Stop::Never;
-    let (answer, out) = run_of(rt, files(), 1, &OpenGate, stop);
-    assert_eq!(rt;
-        answer.err(),
-        (!is_whole).then_some(RunError::Common(CommonFault::Write))
-    );
-    assert_eq!(rt; out.failed(), !is_whole);
+// The fault of a run on a writer that stops here, whether its device has failed then, whether it has this text, and how
+// often it was flushed since its last write.
+fn write_to<R: AllocGlobal + Threads + Sync + Abort>(
+    rt: &R,
+    stop: Stop,
+    text: &[u8],
+) -> (Option<RunError>, bool, bool, usize) {
+    let (answer, out) = run_of(rt, files([0; 3]), 1, &OpenGate, stop);
+    let failed = out.failed();
     let sink = out.into_inner();
-    assert_eq!(rt; sink.text.as_slice(), text, "{stop:?}");
-    assert_eq!(rt; sink.flushes_since_write, usize::from(is_whole));
+    let has_text = sink.text.as_slice() == text;
+    (answer.err(), failed, has_text, sink.flushes_since_write)
+}
+
+// Whether a run on a writer that stops here leaves this text, whole and flushed or a prefix.
+fn writes<R: AllocGlobal + Threads + Sync + Abort>(rt: &R, stop: Stop, text: &[u8]) -> bool {
+    let is_whole = stop == Stop::Never;
+    let fault = (!is_whole).then_some(RunError::Common(CommonFault::Write));
+    write_to(rt, stop, text) == (fault, !is_whole, true, usize::from(is_whole))
 }
 
 #[test]
 fn failing_writes(rt: HostRuntime) {
     let report = REPORT.as_bytes();
-    assert_writes(&rt, Stop::Never, report);
-    assert_writes(&rt, Stop::Flush, report);
+    assert_holds(&rt, writes(&rt, Stop::Never, report), "whole");
+    assert_holds(&rt, writes(&rt, Stop::Flush, report), "no flush");
     for at in 0..report.len() {
-        assert_writes(&rt, Stop::Error(at + 1), &report[..at]);
-        assert_writes(&rt, Stop::NoByte(at + 1), &report[..at]);
+        let prefix = &report[..at];
+        for stop in [Stop::Error(at + 1), Stop::NoByte(at + 1)] {
+            assert_holds(&rt, writes(&rt, stop, prefix), stop);
+        }
     }
 }

@@ -1,13 +1,16 @@
 //! What a desk of a live run has done when it passes its gate.
-use super::{AIRPORT, run_of};
-use crate::tests::devices::{Source, Stop};
+use super::{AIRPORT, counted, run_of};
+use crate::tests::asserts::{assert_found, assert_holds};
+use crate::tests::devices::Stop;
+use cdm_live::LiveError;
 use cdm_phase::{Gate, PhaseName};
-use std::alloc::AllocGlobal;
+use std::alloc::{AllocGlobal, Global};
 use std::fs;
+use std::process::Abort;
 use std::rt::Files;
+use std::sync::Wait;
 use std::sync::atomic::{AtomicBool, Ordering};
-use std::test::Fail;
-use std::thread::yield_now;
+use std::thread::{Threads, yield_now};
 
 // How many threads the program has, as Linux tells it, or 0 where it doesn't.
 fn thread_count<R: AllocGlobal + Files>(rt: &R) -> usize {
@@ -47,26 +50,42 @@ impl<R: AllocGlobal + Files + Sync> Gate for AfterDesk1<'_, R> {
     }
 }
 
+// The feed of desk 1, a hundred full batches and a clock.
+fn long_feed(alloc: Global) -> Option<Vec<u8>> {
+    let mut feed = Vec::new(alloc);
+    for _ in 0..25_600 {
+        feed.extend_from_slice(b"AO,CNL,A\n").ok()?;
+    }
+    let clock = b"ATC,CLOCK,2025-03-10T06:10Z\n";
+    feed.extend_from_slice(clock).ok()?;
+    Some(feed)
+}
+
+// What a live run of this feed and an earlier clock counts, or why it ends, and whether desk 2's clock is refused.
+fn told<R: AllocGlobal + Threads + Wait + Sync + Abort>(
+    rt: &R,
+    feed: &[u8],
+    gate: &impl Gate,
+) -> (Result<(usize, usize, usize), LiveError>, bool) {
+    let clock = b"ATC,CLOCK,2025-03-10T06:05Z\n".as_slice();
+    let files = [AIRPORT.as_bytes(), feed, clock].map(|text| (text, usize::MAX, 0));
+    let (answer, text) = run_of(rt, files, gate, Stop::Never);
+    let is_refused = text.ends_with(b"DESK 2 POSTS 1 REFUSED 1\nREFUSED 1 ORDER\n");
+    (answer.map(counted), is_refused)
+}
+
 // A desk that posted before it passed its gate would set the clock while desk 1 is at its first batches.
 #[test]
-fn a_desk_that_is_held_has_posted_nothing(rt: HostRuntime) -> Result<(), Fail> {
+fn a_desk_that_is_held_has_posted_nothing(rt: HostRuntime) {
     let gate = AfterDesk1 {
         rt: &rt,
         threads: thread_count(&rt),
         came: AtomicBool::new(false),
         missed: AtomicBool::new(false),
     };
-    let mut feed1 = Vec::new(rt.alloc());
-    for _ in 0..25_600 {
-        feed1.extend_from_slice(b"AO,CNL,A\n")?;
-    }
-    feed1.extend_from_slice(b"ATC,CLOCK,2025-03-10T06:10Z\n")?;
-    let feed2 = b"ATC,CLOCK,2025-03-10T06:05Z\n";
-    let files = [AIRPORT.as_bytes(), &feed1, feed2].map(|text| Source::whole(text));
-    let (answer, text) = run_of(&rt, files, &gate, Stop::Never);
-    let counts = answer.map(|counts| (counts.accepted, counts.refused, counts.calls));
-    assert_eq!(rt; counts, Ok((1, 25_601, 104)));
-    assert!(rt; text.ends_with(b"DESK 2 POSTS 1 REFUSED 1\nREFUSED 1 ORDER\n"));
-    assert!(rt; gate.threads > 0 && !gate.missed.load(Ordering::SeqCst));
-    Ok(())
+    let feed = long_feed(rt.alloc()).expect(&rt, "no memory");
+    let told = told(&rt, &feed, &gate);
+    assert_found(&rt, told, (Ok((1, 25_601, 104)), true), "told");
+    let is_met = gate.threads > 0 && !gate.missed.load(Ordering::SeqCst);
+    assert_holds(&rt, is_met, "the gate");
 }

@@ -1,4 +1,5 @@
 //! Readers of files, of lines and of journals.
+use crate::tests::asserts::{assert_found, assert_holds};
 use crate::tests::devices::Source;
 use cdm_day::{Airport, DayState};
 use cdm_feed::{
@@ -9,7 +10,6 @@ use cdm_journal::{LineRead, journal_line, own_lines, read_journal, read_line};
 use cdm_phase::{OpenGate, Workers};
 use cdm_time::Day;
 use std::alloc::{AllocError, Global};
-use std::test::Fail;
 use std::thread::Threads;
 
 const AIRPORT: &[u8] =
@@ -82,29 +82,56 @@ fn scenarios(
     }
 }
 
-/// An airport file, a feed and a scenario file are read whole, or the first faulty record is told.
-#[test]
-fn refused_memory_in_files(rt: HostRuntime) -> Result<(), Fail> {
-    let alloc = rt.alloc();
-    assert!(rt; is_read(alloc, AIRPORT));
-    let airport = airport_of(alloc, AIRPORT).map_err(|_| "no airport")?;
-    assert_eq!(rt; airport.runways().len(), 1);
-    let fault = airport_fault(alloc, UNKNOWN);
-    assert_eq!(rt; fault, Some((3, RefusalWord::Unknown)));
-    let day = airport.day();
-    assert_eq!(rt; records(alloc, day, FEED), Some((4, true)));
-    assert_eq!(rt; scenarios(alloc, day, SCENARIOS), Some(Ok((2, 0))));
-    let orphan = scenarios(alloc, day, b"CNL,AB1\n");
-    assert_eq!(rt; orphan, Some(Err((1, RefusalWord::Order))));
-    Ok(())
+// The day of the airport file, and how many runways it has.
+fn day_and_runways(alloc: Global) -> Option<(Day, usize)> {
+    match airport_of(alloc, AIRPORT) {
+        Ok(airport) => Some((*airport.day(), airport.runways().len())),
+        Err(_) => None,
+    }
 }
 
-// The line of a journal that the record of a line makes.
-fn line_of(alloc: Global, line: &[u8]) -> Option<Vec<u8>> {
-    let LineRead::One(row) = again!(read_line(alloc, line), AllocError).ok()? else {
-        return None;
-    };
-    again!(journal_line(alloc, &row), AllocError).ok()
+/// An airport file, a feed and a scenario file are read whole, or the first faulty record is told.
+#[test]
+fn refused_memory_in_files(rt: HostRuntime) {
+    let alloc = rt.alloc();
+    assert_holds(&rt, is_read(alloc, AIRPORT), "the input");
+    let (day, runways) = day_and_runways(alloc).expect(&rt, "no airport");
+    assert_found(&rt, runways, 1, "runways");
+    let fault = airport_fault(alloc, UNKNOWN);
+    assert_found(&rt, fault, Some((3, RefusalWord::Unknown)), "an airport");
+    let feed = records(alloc, &day, FEED);
+    assert_found(&rt, feed, Some((4, true)), "a feed");
+    for (file, wanted) in [
+        (SCENARIOS, Ok((2, 0))),
+        (b"CNL,AB1\n".as_slice(), Err((1, RefusalWord::Order))),
+    ] {
+        let found = scenarios(alloc, &day, file);
+        assert_found(&rt, found, Some(wanted), "scenarios");
+    }
+}
+
+// The line of a journal that a record makes.
+fn line_of(alloc: Global, record: &LineRead) -> Option<Vec<u8>> {
+    match record {
+        LineRead::One(row) => again!(journal_line(alloc, row), AllocError).ok(),
+        _ => None,
+    }
+}
+
+// Whether the record of a line makes this line of a journal.
+fn is_line(alloc: Global, line: &[u8], wanted: &[u8]) -> bool {
+    match again!(read_line(alloc, line), AllocError) {
+        Ok(record) => line_of(alloc, &record).as_deref() == Some(wanted),
+        Err(_) => false,
+    }
+}
+
+// Whether a journal's own lines are these.
+fn has_lines(alloc: Global, journal: &[u8], wanted: &[u8]) -> bool {
+    match again!(own_lines(alloc, journal), AllocError) {
+        Ok(lines) => lines.as_slice() == wanted,
+        Err(_) => false,
+    }
 }
 
 /// The bytes of the longest journal of a test.
@@ -141,15 +168,14 @@ fn updates<R: Threads + Sync>(
 
 /// A line and the line of the journal that it makes, and the day of a journal.
 #[test]
-fn refused_memory_in_a_journal(rt: HostRuntime) -> Result<(), Fail> {
+fn refused_memory_in_a_journal(rt: HostRuntime) {
     let alloc = rt.alloc();
-    let line = line_of(alloc, b"AP,\"FLT\",AB1,5\r").ok_or("no line")?;
-    assert_eq!(rt; line.as_slice(), b"AP,FLT,AB1,5\n".as_slice());
-    let lines = again!(own_lines(alloc, UNTIDY), AllocError)?;
-    assert_eq!(rt; lines.as_slice(), JOURNAL);
-    let airport = airport_of(alloc, AIRPORT).map_err(|_| "no airport")?;
-    assert_eq!(rt; updates(&rt, alloc, &airport, JOURNAL), Some(Ok(3)));
-    let refused = updates(&rt, alloc, &airport, FEED);
-    assert_eq!(rt; refused, Some(Err((4, RefusalWord::Text))));
-    Ok(())
+    let is_line = is_line(alloc, b"AP,\"FLT\",AB1,5\r", b"AP,FLT,AB1,5\n");
+    assert_holds(&rt, is_line, "a line");
+    assert_holds(&rt, has_lines(alloc, UNTIDY, JOURNAL), "own lines");
+    let airport = airport_of(alloc, AIRPORT).ok().expect(&rt, "no airport");
+    for (journal, wanted) in [(JOURNAL, Ok(3)), (FEED, Err((4, RefusalWord::Text)))] {
+        let found = updates(&rt, alloc, &airport, journal);
+        assert_found(&rt, found, Some(wanted), "updates");
+    }
 }

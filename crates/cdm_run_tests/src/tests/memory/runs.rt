@@ -1,4 +1,5 @@
 //! Whole runs.
+use crate::tests::asserts::assert_found;
 use crate::tests::devices::{Page, Source};
 use cdm_feed::{CommonFault, Device, RunCounts, RunError, run};
 use cdm_live::{LiveCounts, LiveError, run_live};
@@ -75,6 +76,7 @@ fn plan<R: AllocGlobal + Threads + Sync + Abort>(
     rt: &R,
     count: usize,
 ) -> (Result<RunCounts, RunError>, Page) {
+    let workers = Workers::new(count).expect(rt, "workers");
     let mut out = Device::new(Page::new());
     let answer = run(
         rt,
@@ -82,48 +84,63 @@ fn plan<R: AllocGlobal + Threads + Sync + Abort>(
         &mut Device::new(Source::whole(AIRPORT.as_bytes())),
         &mut Device::new(Source::whole(FEED.as_bytes())),
         &mut Device::new(Source::whole(SCENARIOS.as_bytes())),
-        Workers::new(count).expect(rt, "workers"),
+        workers,
         &OpenGate,
         &mut out,
     );
     (answer, out.into_inner())
 }
 
-// The same, made once more where it was refused memory and had written nothing.
-fn plan_again<R: AllocGlobal + Threads + Sync + Abort>(
+/// What a run with scenarios writes.
+const PARTS: [&str; 8] = [
+    REPORT,
+    "SCENARIO SHUT\n",
+    SHUT,
+    "SCENARIO SHUT2\n",
+    SHUT,
+    "SCENARIO BAD\nREFUSED 2 UNKNOWN\nSCENARIO SAME\n",
+    REPORT,
+    "DELTA PLACED +0 DELAY +0 MAX +0 LATE +0 BLOCKED +0\n",
+];
+
+/// What it counts.
+const COUNTS: RunCounts = RunCounts {
+    accepted: 9,
+    refused: 0,
+    scenarios: 4,
+};
+
+// What such a run answers, and whether it has written its text. Nothing where it was refused memory and has written nothing.
+fn told<R: AllocGlobal + Threads + Sync + Abort>(
     rt: &R,
     count: usize,
-) -> (Result<RunCounts, RunError>, Page) {
+) -> Option<(Result<RunCounts, RunError>, bool)> {
     let (answer, out) = plan(rt, count);
-    if answer == Err(RunError::Common(CommonFault::Memory)) && out.text().is_empty() {
-        plan(rt, count)
+    let text = out.text();
+    if text.is_empty() && answer == Err(RunError::Common(CommonFault::Memory)) {
+        None
     } else {
-        (answer, out)
+        Some((answer, is_made_of(text, &PARTS)))
+    }
+}
+
+// The same, made once more where there is nothing.
+fn told_again<R: AllocGlobal + Threads + Sync + Abort>(
+    rt: &R,
+    count: usize,
+) -> Option<(Result<RunCounts, RunError>, bool)> {
+    match told(rt, count) {
+        Some(told) => Some(told),
+        None => told(rt, count),
     }
 }
 
 /// Runs of one text with 1, 2, 7 and 64 workers: nothing for want of memory, and then the whole text.
 #[test]
 fn refused_memory_in_a_run(rt: HostRuntime) {
-    let wanted = [
-        REPORT,
-        "SCENARIO SHUT\n",
-        SHUT,
-        "SCENARIO SHUT2\n",
-        SHUT,
-        "SCENARIO BAD\nREFUSED 2 UNKNOWN\nSCENARIO SAME\n",
-        REPORT,
-        "DELTA PLACED +0 DELAY +0 MAX +0 LATE +0 BLOCKED +0\n",
-    ];
     for count in [1, 2, 7, 64] {
-        let (answer, out) = plan_again(&rt, count);
-        let counts = RunCounts {
-            accepted: 9,
-            refused: 0,
-            scenarios: 4,
-        };
-        assert_eq!(rt; answer, Ok(counts), "{count} workers");
-        assert!(rt; is_made_of(out.text(), &wanted), "{count} workers");
+        let found = told_again(&rt, count);
+        assert_found(&rt, found, Some((Ok(COUNTS), true)), (count, "workers"));
     }
 }
 
@@ -156,17 +173,29 @@ fn live<R: AllocGlobal + Threads + Wait + Sync + Abort>(
     (answer, out.into_inner())
 }
 
-// The same, made once more where it was refused memory and had written nothing.
-fn live_again<R: AllocGlobal + Threads + Wait + Sync + Abort>(
+// What a live run of a feed and an empty one answers, and whether it has written its text. Nothing where it was refused
+// memory and has written nothing.
+fn live_told<R: AllocGlobal + Threads + Wait + Sync + Abort>(
     rt: &R,
-    feed1: &[u8],
-    feed2: &[u8],
-) -> (Result<LiveCounts, LiveError>, Page) {
-    let (answer, out) = live(rt, feed1, feed2);
-    if answer == Err(LiveError::Common(CommonFault::Memory)) && out.text().is_empty() {
-        live(rt, feed1, feed2)
+    feed: &[u8],
+) -> Option<(Result<LiveCounts, LiveError>, bool)> {
+    let (answer, out) = live(rt, feed, b"");
+    let text = out.text();
+    if text.is_empty() && answer == Err(LiveError::Common(CommonFault::Memory)) {
+        None
     } else {
-        (answer, out)
+        Some((answer, text == LIVE.as_bytes()))
+    }
+}
+
+// The same, made once more where there is nothing.
+fn live_told_again<R: AllocGlobal + Threads + Wait + Sync + Abort>(
+    rt: &R,
+    feed: &[u8],
+) -> Option<(Result<LiveCounts, LiveError>, bool)> {
+    match live_told(rt, feed) {
+        Some(told) => Some(told),
+        None => live_told(rt, feed),
     }
 }
 
@@ -174,12 +203,11 @@ fn live_again<R: AllocGlobal + Threads + Wait + Sync + Abort>(
 #[test]
 fn refused_memory_in_a_live_run(rt: HostRuntime) {
     let feed = FEED.get(..59).unwrap_or(FEED);
-    let (answer, out) = live_again(&rt, feed.as_bytes(), b"");
     let counts = LiveCounts {
         accepted: 3,
         refused: 0,
         calls: 3,
     };
-    assert_eq!(rt; answer, Ok(counts));
-    assert_eq!(rt; out.text(), LIVE.as_bytes());
+    let found = live_told_again(&rt, feed.as_bytes());
+    assert_found(&rt, found, Some((Ok(counts), true)), "a live run");
 }

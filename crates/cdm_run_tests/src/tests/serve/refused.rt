@@ -1,53 +1,29 @@
 //! Served days of which one request for memory may be refused.
 use super::memory::Memory;
-use super::script::{BEGUN, SCRIPT, TORN};
-use super::{NEVER, answer_of, goes_on, journal_after, replies_after};
+use super::{NEVER, all_go_on, answer_of, is_whole, port_of};
+use crate::tests::asserts::assert_holds;
 use cdm_feed::CommonFault;
 use cdm_port::PortFault;
 use cdm_serve::ServeError;
-use std::alloc::{AllocError, Global};
-use std::test::Fail;
+use std::alloc::AllocError;
 use std::thread::Threads;
 
-// The port of a day on a torn journal.
-fn port_of(alloc: Global) -> Result<Memory, AllocError> {
-    let mut journal = BEGUN.as_bytes().to_vec(alloc)?;
-    journal.extend_from_slice(TORN.as_bytes())?;
-    Memory::new(alloc, (true, journal.as_slice()), SCRIPT, NEVER)
-}
-
-// Whether the day has been served whole.
-fn is_whole(alloc: Global, port: &Memory) -> Option<bool> {
-    let count = SCRIPT.len();
-    let journal = journal_after(alloc, count).or_else(|| journal_after(alloc, count))?;
-    let replies = replies_after(alloc, count).or_else(|| replies_after(alloc, count))?;
-    Some(port.journal == journal && port.replies == replies)
-}
-
-// Whether a new start on each journal that the day may have left goes on.
-fn all_go_on<R: AllocGlobal + Threads + Sync>(rt: &R, port: &Memory) -> bool {
-    for left in port.lefts() {
-        if goes_on(rt, port, *left) != Some(true) {
-            return false;
+// Whether a day is served whole, or ends for want of memory and leaves what a new start goes on from.
+fn is_kept<R: AllocGlobal + Threads + Sync>(rt: &R, port: &mut Memory) -> bool {
+    match answer_of(rt, port) {
+        Ok(()) => is_whole(port),
+        Err(ServeError::Common(CommonFault::Memory) | ServeError::Port(PortFault::Memory)) => {
+            all_go_on(rt, port)
         }
+        Err(_) => false,
     }
-    true
 }
 
 /// A day that is refused memory ends, and a new start on each journal that it may have left has the records that were told
 /// and goes on to the journal of the whole day; else the day is served whole.
 #[test]
-fn refused_memory_ends_a_served_day(rt: HostRuntime) -> Result<(), Fail> {
-    let alloc = rt.alloc();
-    let mut port = again!(port_of(alloc), AllocError)?;
-    match answer_of(&rt, &mut port) {
-        Ok(()) => assert_eq!(rt; is_whole(alloc, &port), Some(true)),
-        Err(fault) => {
-            let is_memory = fault == ServeError::Common(CommonFault::Memory)
-                || fault == ServeError::Port(PortFault::Memory);
-            assert!(rt; is_memory, "{fault:?}");
-            assert!(rt; all_go_on(&rt, &port));
-        }
-    }
-    Ok(())
+fn refused_memory_ends_a_served_day(rt: HostRuntime) {
+    let port = again!(port_of(rt.alloc(), true, NEVER), AllocError);
+    let mut port = port.ok().expect(&rt, "no port");
+    assert_holds(&rt, is_kept(&rt, &mut port), "the day");
 }

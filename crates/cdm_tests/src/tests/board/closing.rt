@@ -63,28 +63,47 @@ fn mismatch(board: Board, desks: Vec<Desk>) -> Option<(usize, usize, usize, usiz
     }
 }
 
-// Where the desks of another board differ, which made the same calls but for the last.
-fn mismatch_at_the_end<R: Wait>(rt: &R, alloc: Global) -> Option<(usize, usize, usize, usize)> {
-    let (board, _, mut last) = worked(rt, alloc)?;
+// The desks of another board, which worked.
+fn worked_desks<R: Wait>(rt: &R, alloc: Global) -> Option<Vec<Desk>> {
     let (_, first, second) = worked(rt, alloc)?;
-    if looks(rt, alloc, &board, &mut last) {
-        mismatch(board, both(alloc, first, second)?)
-    } else {
-        None
-    }
+    both(alloc, first, second)
 }
 
-// Where the desks of another board differ, which made no calls.
-fn mismatch_of_others<R: Wait>(rt: &R, alloc: Global) -> Option<(usize, usize, usize, usize)> {
-    let (board, _, _) = worked(rt, alloc)?;
+// The board of two desks which worked, the second of which looks once more.
+fn worked_board<R: Wait>(rt: &R, alloc: Global) -> Option<Board> {
+    let (board, _, mut last) = worked(rt, alloc)?;
+    looks(rt, alloc, &board, &mut last).then_some(board)
+}
+
+// Where the desks of another board differ, which made the same calls but for the last.
+fn mismatch_at_the_end<R: Wait>(rt: &R, alloc: Global) -> Option<(usize, usize, usize, usize)> {
+    let desks = worked_desks(rt, alloc)?;
+    mismatch(worked_board(rt, alloc)?, desks)
+}
+
+// The desks of another board, which made no calls.
+fn idle_desks(alloc: Global) -> Option<Vec<Desk>> {
     let (_, first, second) = two_desks(alloc, &[])?;
-    mismatch(board, both(alloc, first, second)?)
+    both(alloc, first, second)
+}
+
+// Where they differ.
+fn mismatch_of_others<R: Wait>(rt: &R, alloc: Global) -> Option<(usize, usize, usize, usize)> {
+    let desks = idle_desks(alloc)?;
+    let (board, _, _) = worked(rt, alloc)?;
+    mismatch(board, desks)
+}
+
+// The first desk of a board.
+fn first_desk(alloc: Global) -> Option<Desk> {
+    let (_, first, _) = two_desks(alloc, &[])?;
+    Some(first)
 }
 
 // Whether a board isn't closed with two desks of one number.
 fn is_missing(alloc: Global) -> Option<bool> {
+    let again = first_desk(alloc)?;
     let (board, first, _) = two_desks(alloc, &[])?;
-    let (_, again, _) = two_desks(alloc, &[])?;
     Some(withheld(board, both(alloc, first, again)?).is_some())
 }
 

@@ -74,6 +74,18 @@ pub fn entries(board: Board, desks: Vec<Desk>) -> Option<usize> {
     }
 }
 
+// The desks with one more.
+fn with(mut desks: Vec<Desk>, desk: Desk) -> Option<Vec<Desk>> {
+    desks.push(desk).ok()?;
+    Some(desks)
+}
+
+// How many entries the history has of a board that isn't closed without its second desk.
+fn closed(alloc: Global, board: Board, first: Desk, second: Desk) -> Option<usize> {
+    let (board, desks) = withheld(board, with(Vec::new(alloc), first)?)?;
+    entries(board, with(desks, second)?)
+}
+
 /// Each desk finds in its snapshot what it posted, both are in the history, and the board isn't closed
 /// without one of them.
 #[test]
@@ -82,9 +94,6 @@ fn two_desks_share_a_day(rt: HostRuntime) {
     let (board, mut first, mut second) = two_desks(alloc, &[]).expect(&rt, "not opened");
     let works = work_side_by_side(&rt, alloc, &board, &mut first, &mut second);
     assert_holds(&rt, works, "side by side");
-    let mut desks = Vec::new(alloc);
-    desks.push(first).expect(&rt, "no memory");
-    let (board, mut desks) = withheld(board, desks).expect(&rt, "not withheld");
-    desks.push(second).expect(&rt, "no memory");
-    assert_found(&rt, entries(board, desks), Some(4), "entries");
+    let found = closed(alloc, board, first, second);
+    assert_found(&rt, found, Some(4), "entries");
 }

@@ -146,8 +146,8 @@ fn desks_and_batches_are_counted(rt: HostRuntime) {
         assert_found(&rt, not_opened(alloc, desks), Some(3), (desks, "desks"));
     }
     let (board, mut desks) = opened(alloc, &["AB1"], 1).expect(&rt, "not opened");
-    let mut desk = desks.pop().expect(&rt, "no desk");
-    assert_counted(&rt, alloc, &board, &mut desk);
+    let desk = desks.last_mut().expect(&rt, "no desk");
+    assert_counted(&rt, alloc, &board, desk);
 }
 
 // Asserts that a look and a post of a desk which made its calls are refused.
@@ -166,8 +166,7 @@ fn a_history_is_full(rt: HostRuntime) {
     let (board, mut desks) = opened(alloc, &["AB1"], 16).expect(&rt, "not opened");
     let made = make_calls_side_by_side(&rt, alloc, &board, &mut desks);
     assert_holds(&rt, made, "4,096 calls");
-    let mut last = desks.pop().expect(&rt, "no desk");
-    assert_full(&rt, alloc, &board, &mut last);
-    desks.push(last).expect(&rt, "no memory");
+    let last = desks.last_mut().expect(&rt, "no desk");
+    assert_full(&rt, alloc, &board, last);
     assert_found(&rt, entries(board, desks), Some(4_096), "entries");
 }

@@ -137,6 +137,19 @@ fn ask_meanwhile<R: Threads + Sync + Wait>(
     Some(answered && posted && !gate.is_missed())
 }
 
+// Whether a question over the first desk's snapshot is answered while the second posts, and whether the snapshot stays.
+fn seen<R: Threads + Sync + Wait>(
+    rt: &R,
+    alloc: Global,
+    board: &Board,
+    first: &mut Desk,
+    second: &mut Desk,
+) -> Option<(bool, bool)> {
+    let snapshot = board.look(rt, alloc, first).ok()?;
+    let answered = ask_meanwhile(rt, alloc, board, &snapshot, second)?;
+    Some((answered, is_day(snapshot.state(), 9, &[375, 375, 380])))
+}
+
 /// A question is answered over the snapshot while another desk posts, and after 100 posts the snapshot
 /// has its plan and its journal. The next look has the closure.
 #[test]
@@ -144,12 +157,8 @@ fn a_snapshot_keeps_its_moment(rt: HostRuntime) {
     let alloc = rt.alloc();
     let opened = two_desks(alloc, &THREE_FLIGHTS);
     let (board, mut first, mut second) = opened.expect(&rt, "not opened");
-    let looked = board.look(&rt, alloc, &mut first);
-    let snapshot = looked.expect(&rt, "no look");
-    let answered = ask_meanwhile(&rt, alloc, &board, &snapshot, &mut second);
-    assert_found(&rt, answered, Some(true), "meanwhile");
-    let stays = is_day(snapshot.state(), 9, &[375, 375, 380]);
-    assert_holds(&rt, stays, "the snapshot");
+    let found = seen(&rt, alloc, &board, &mut first, &mut second);
+    assert_found(&rt, found, Some((true, true)), "the snapshot");
     let found = finds_day(&rt, alloc, &board, &mut first, 109, &[390, 390, 400]);
     assert_holds(&rt, found, "the next look");
 }
