@@ -117,7 +117,8 @@ fn push_all(text: &mut Vec<u8>, answers: &[Listed<u8>]) -> Result<(), AllocError
 /// Puts what is written of each scenario behind the text, in the order of the scenarios: its name, and
 /// the report and the growth of the indicators, or the first update that is refused. Each scenario is
 /// answered over the base, of which `told` is told, by one of the workers in phase `Scenarios`, and
-/// every scenario is one piece. A runway that a scenario leaves as it is gets the base's lines. No plan of a scenario is kept longer than its text is made.
+/// every scenario is one piece. A runway that a scenario leaves as it is gets the base's lines. No plan of a
+/// scenario is kept longer than its text is made.
 pub(crate) fn push_answers<R: Threads + Sync, G: Gate>(
     lent: &Lent<'_, R, G>,
     base: &DayState,

@@ -1,6 +1,5 @@
 //! Runs whose text is lines of JSON.
 use super::runs::{AIRPORT, FEED, is_made_of};
-use crate::tests::asserts::assert_holds;
 use crate::tests::devices::{Page, Source};
 use cdm_check::FilePaths;
 use cdm_feed::{
@@ -64,11 +63,10 @@ fn ask<R: AllocGlobal + Threads + Sync + Abort>(
     asked: &Asked<'_>,
 ) -> (Result<Counted, RunError>, Page) {
     let feed = FEED.get(..59).unwrap_or(FEED);
-    let workers = Workers::new(1).expect(rt, "workers");
     let lent = Lent {
         rt,
         alloc: rt.alloc(),
-        workers,
+        workers: Workers::new(1).expect(rt, "workers"),
         gate: &OpenGate,
     };
     let mut out = Device::new(Page::new());
@@ -83,31 +81,21 @@ fn ask<R: AllocGlobal + Threads + Sync + Abort>(
     (answer, out.into_inner())
 }
 
-// Whether the run writes a text of these parts. Nothing where it was refused memory and has written nothing.
-fn writes<R: AllocGlobal + Threads + Sync + Abort>(
-    rt: &R,
-    asked: &Asked<'_>,
-    parts: &[&str],
-) -> Option<bool> {
-    let (answer, out) = ask(rt, asked);
-    let text = out.text();
-    if text.is_empty() && answer == Err(RunError::Common(CommonFault::Memory)) {
-        None
-    } else {
-        Some(answer.is_ok() && is_made_of(text, parts))
-    }
-}
-
-// Whether the run does so, made once more where it was refused memory and had written nothing.
+// Whether the run, made once more where it was refused memory and had written nothing, writes a text of these parts.
 fn is_written<R: AllocGlobal + Threads + Sync + Abort>(
     rt: &R,
     asked: &Asked<'_>,
     parts: &[&str],
 ) -> bool {
-    match writes(rt, asked, parts) {
-        Some(is_written) => is_written,
-        None => writes(rt, asked, parts) == Some(true),
-    }
+    let (answer, out) = ask(rt, asked);
+    let (answer, out) = if answer == Err(RunError::Common(CommonFault::Memory))
+        && out.text().is_empty()
+    {
+        ask(rt, asked)
+    } else {
+        (answer, out)
+    };
+    answer.is_ok() && is_made_of(out.text(), parts)
 }
 
 /// Each text in JSON: nothing for want of memory, and then the whole text.
@@ -153,9 +141,8 @@ fn refused_memory_in_lines_of_json(rt: HostRuntime) {
         ),
     ];
     for (text, parts) in table {
-        assert_holds(&rt, is_written(&rt, &Asked::Day(text), parts), text);
+        assert!(rt; is_written(&rt, &Asked::Day(text), parts), "{text:?}");
     }
     let found = [HINT, "{\"records\":9,\"refused\":0}\n"];
-    let is_checked = is_written(&rt, &Asked::Check(paths, json), &found);
-    assert_holds(&rt, is_checked, "a check");
+    assert!(rt; is_written(&rt, &Asked::Check(paths, json), &found));
 }

@@ -1,7 +1,6 @@
 //! Tables of a day.
 use super::readers::airport_of;
 use super::runs::{AIRPORT, FEED};
-use crate::tests::asserts::{assert_found, assert_holds};
 use cdm_day::{Airport, DayState};
 use cdm_feed::{FileFault, read_scenarios};
 use cdm_journal::read_journal;
@@ -10,6 +9,7 @@ use cdm_plan::Runner;
 use cdm_scenario::{Scenario, ScenarioName};
 use cdm_table::{Table, TableFault, tabulate};
 use std::alloc::Global;
+use std::test::Fail;
 use std::thread::Threads;
 
 const SCENARIO: &[u8] = b"SCENARIO,SHUT\nCLOSE,27L,2025-03-10T06:10Z,2025-03-10T06:30Z\n";
@@ -72,47 +72,28 @@ fn text_of<R: Threads + Sync>(
     tabulate(alloc, base, scenarios, *table, &runner)
 }
 
-// Whether the text of a table by so many workers is this one.
-fn is_told<R: AllocGlobal + Threads + Sync>(
-    rt: &R,
-    base: &DayState,
-    scenarios: &[Scenario],
-    (table, count, wanted): (Table, usize, &str),
-) -> bool {
-    let Some(workers) = Workers::new(count) else {
-        return false;
-    };
-    match again!(
-        text_of(rt, rt.alloc(), base, scenarios, &table, &workers),
-        TableFault::Memory
-    ) {
-        Ok(text) => text.as_slice() == wanted.as_bytes(),
-        Err(_) => false,
-    }
-}
-
-// The day of three flights and the scenarios over it.
-fn day_and_scenarios<R: AllocGlobal + Threads + Sync>(
-    rt: &R,
-) -> Result<(DayState, Vec<Scenario>), FileFault> {
-    let airport = airport_of(rt.alloc(), AIRPORT.as_bytes())?;
-    let scenarios = scenarios_of(rt.alloc(), &airport)?;
-    let base = again!(day_of(rt, rt.alloc(), &airport), FileFault::Memory)?;
-    Ok((base, scenarios))
-}
-
 /// Rows and a comparison of a day and a scenario over it, by one worker and by two.
 #[test]
-fn refused_memory_in_tables(rt: HostRuntime) {
-    let name = ScenarioName::new(b"SHUT").expect(&rt, "no name");
-    let made = day_and_scenarios(&rt);
-    let (base, scenarios) = made.ok().expect(&rt, "no day");
-    for told in [
+fn refused_memory_in_tables(rt: HostRuntime) -> Result<(), Fail> {
+    let alloc = rt.alloc();
+    let airport = airport_of(alloc, AIRPORT.as_bytes()).map_err(|_| "no airport")?;
+    let base = again!(day_of(&rt, alloc, &airport), FileFault::Memory);
+    let base = base.map_err(|_| "no day")?;
+    let scenarios = scenarios_of(alloc, &airport).map_err(|_| "no scenario")?;
+    let name = ScenarioName::new(b"SHUT").ok_or("no name")?;
+    for (table, count, wanted) in [
         (Table::Csv, 1, ROWS),
         (Table::Csv, 2, ROWS),
         (Table::Comparison(Some(name)), 2, COMPARED),
     ] {
-        assert_holds(&rt, is_told(&rt, &base, &scenarios, told), told);
+        let workers = Workers::new(count).ok_or("no workers")?;
+        let text = again!(
+            text_of(&rt, alloc, &base, &scenarios, &table, &workers),
+            TableFault::Memory
+        );
+        let text = text.map_err(|_| "no table")?;
+        assert_eq!(rt; text.as_slice(), wanted.as_bytes(), "{count} workers");
     }
-    assert_found(&rt, base.journal().len(), 9, "updates");
+    assert_eq!(rt; base.journal().len(), 9);
+    Ok(())
 }
