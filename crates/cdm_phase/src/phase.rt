@@ -64,7 +64,7 @@ pub fn run_here<J: Job>(
     requires { All (J.can_run job.now) items.now }
     ensures { IfOk result (λ outs. AllZip (J.gives job.now) items.now outs.items) }
 {
-    let mut outs = Vec::new(alloc);
+    let mut outs = Vec::with_capacity(alloc, items.len())?;
     for item in items {
         outs.push(job.run(alloc, item)?)?;
     }
