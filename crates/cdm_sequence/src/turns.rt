@@ -71,7 +71,7 @@ pub(crate) fn decide_all(
     ensures targets { IfOk result (λ ds. map (λ d. d.target) ds.items ≡ targets.now) }
     ensures decided { IfOk result (λ ds. AreDecided runway.now load.old.taken ds.items) }
 {
-    let mut decisions = Vec::new(alloc);
+    let mut decisions = Vec::with_capacity(alloc, targets.len())?;
     let mut passed = PassedOver::none();
     for target in targets {
         let decision = decide(runway, load, &mut passed, target);

@@ -12,7 +12,7 @@ use Rattle.cdm_sequence.proofs.turns.decide_all.Goals as goal
 
 pub loop-target-init : goal.loop-target-init
 loop-target-init c =
-    let none : c.new-decisions.result.items ≡ [] = c.new-decisions.ensures.items in
+    let none : c.in_ok-decisions.decisions.items ≡ [] = c.in_ok-decisions.ensures.items in
     let taken = c.args.load.now.taken in
     record {
       cell = c.requires.cell;
