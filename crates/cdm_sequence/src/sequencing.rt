@@ -133,9 +133,10 @@ pub fn sequence(
         IsFirst runway.now (takeoffs runway.now fixed.now) targets.now other →
         (f : ATarget) → Contains targets.now f → other f ≡ placing f) }
 {
-    let ordered = in_order(alloc, targets)?;
+    // A load is large: made first, it is filled once.
     let mut load = RunwayLoad::empty(runway);
     take_fixed(&mut load, runway, fixed);
+    let ordered = in_order(alloc, targets)?;
     let decisions = decide_all(alloc, runway, &mut load, &ordered)?;
     let plan = shown(alloc, runway.name(), fixed, &decisions)?;
     Ok(plan)
