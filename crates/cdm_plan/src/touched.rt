@@ -30,6 +30,7 @@ pub enum Touched {
 }
 
 // Whether the flight counts on its runway.
+#[inline(always)]
 fn counts(flight: &Flight) -> bool
     ensures { result ≡ counts flight.now }
 {
@@ -64,10 +65,22 @@ impl Noting {
 }
 
 // Whether the name is one of these.
-fn is_named(names: &[RunwayName], name: RunwayName) -> bool
+fn is_among(names: &[RunwayName], name: RunwayName) -> bool
     ensures { result ≡ list_any (λ n. same_name n name) names.now }
 {
     names.iter().any(|known| *known == name)
+}
+
+// The same, at once where there is no name or one.
+#[inline(always)]
+fn is_named(names: &[RunwayName], name: RunwayName) -> bool
+    ensures { result ≡ list_any (λ n. same_name n name) names.now }
+{
+    match names {
+        [] => false,
+        [only] => *only == name,
+        _ => is_among(names, name),
+    }
 }
 
 // Adds a name, where it isn't there yet.
@@ -100,6 +113,7 @@ impl Touched {
     }
 
     /// Whether the flight need not be asked anew: it counts on its runway, which is none of them.
+    #[inline(always)]
     pub(crate) fn keeps(&self, flight: &Flight) -> bool
         ensures { result ≡ is_untouched self.now flight.now }
     {
