@@ -10,14 +10,15 @@ use crate::reply::Reply;
 use crate::tables::Tables;
 use crate::takes::Takes;
 use cdm_flight::{Role, Update};
-use cdm_plan::Touched;
+use cdm_plan::{Noting, Touched};
 use std::alloc::{AllocError, Global};
 
-/// The tables of a day, and the runways that were touched since the batch began.
+/// The tables of a day, and the runways that were touched since the batch began, by the updates of such flights.
 #[derive(Drop)]
 pub(crate) struct Draft {
     pub(crate) tables: Tables,
     pub(crate) touched: Touched,
+    pub(crate) noting: Noting,
 }
 
 impl Draft {
@@ -30,9 +31,9 @@ impl Draft {
         match judge_as(&self.tables, role, update) {
             Err(word) => Ok(Reply::Refused(word)),
             Ok(change) => {
-                self.touched.note(&self.tables, update)?;
+                self.touched.note(&self.tables, update, self.noting)?;
                 self.tables.take(alloc, *update, change)?;
-                self.touched.note(&self.tables, update)?;
+                self.touched.note(&self.tables, update, self.noting)?;
                 Ok(Reply::Accepted)
             }
         }

@@ -11,7 +11,8 @@ use Rattle.cdm_plan.proofs.PlanWords.{RunwayRules, TaxiTimes, Slot, fixed_slot, 
 use Rattle.cdm_plan.proofs.PlanWords.{Plan, RunwayPlan, Target, AimResult, BlockedFlight, aim_means, aim_of, aim_with, aim_with_exot}
 use Rattle.cdm_plan.proofs.PlanWords.{is_same, same_flips, same_is, if_on, if_passes, DayRecord, flights_in, new_flight, rules_of, with_update, IsDayPlan}
 use Rattle.cdm_plan.proofs.PlanWords.{day_rules, records_in, is_on, blocked_in, early_in, planned_of, target_in, targets_in, targets_on, fixed_on, Adds, AreAims}
-use Rattle.cdm_plan.proofs.PlanWords.{AreKept, AreSameElsewhere, IsMade, IsPlanOn, IsSince, fixed_in, is_early, is_kept_blocked, is_noted, is_touched, is_untouched}
+use Rattle.cdm_plan.proofs.PlanWords.{AreKept, AreSameElsewhere, IsMade, IsPlanOn, IsSince, counts, fixed_in, is_counted, is_early, is_kept_blocked, is_noted}
+use Rattle.cdm_plan.proofs.PlanWords.{is_touched, is_untouched}
 use Rattle.cdm_plan.proofs.PlanWords.{kept_blocked, kept_of, kept_plan, Flt, Early, Ready}
 use Rattle.cdm_flight.specs.declared.reach.Reach.{Reach}
 use Rattle.cdm_flight.specs.declared.reach.Reach.TheVariants as reach
@@ -20,30 +21,33 @@ use Rattle.cdm_sequence.specs.Sequence.{Blocks, IsRightlyBlocked}
 use Rattle.cdm_runway.specs.declared.load.Taken.{Taken}
 use Rattle.cdm_sequence.specs.declared.rule.Rule.{Rule}
 use Rattle.cdm_sequence.specs.declared.rule.Rule.TheVariants.{Tobt, Runway, Exot, Horizon, Ctot, Closure, Spacing, Rate}
+use Rattle.cdm_plan.specs.declared.touched.Noting.{Noting}
+use Rattle.cdm_plan.specs.declared.touched.Noting.TheVariants.{EachFlight, CountedFlights}
 use Rattle.cdm_plan.specs.declared.touched.Touched.{Touched}
 use Rattle.cdm_plan.specs.declared.touched.Touched.TheVariants as touched
-use Rattle.cdm_plan.proofs.AskedLemmas.{untouched_on, untouched_runway}
+use Rattle.cdm_plan.proofs.AskedLemmas.{both, untouched_counts, untouched_on, untouched_runway}
 use Rattle.cdm_plan.proofs.JournalFacts.{flight_named, flights_in-push, some_named}
 use Rattle.cdm_sequence.proofs.OneLemmas.{sequence_one}
 use Rattle.cdm_plan.proofs.DayPlanLemmas.{has_sequence, is_plan_on, record_name, record_names_differ, targets_at}
 use Rattle.cdm_plan.proofs.NameLemmas.{day_rules_differ, find_none, find_some}
 use Rattle.cdm_plan.proofs.OnePlanLemmas.{partner}
 use Rattle.cdm_plan.proofs.PlanningLemmas.{AllZip-weaker, aims_are, all_zipped, blocked_early, early-aims, early-given, early_at, filter-filter_map}
-use Rattle.cdm_plan.proofs.PlanningLemmas.{if_so-keeps, made_named, names_on, no_target_at, target_at, targets_of, targets_on-given}
+use Rattle.cdm_plan.proofs.PlanningLemmas.{fixed_at, fixed_on-given, if_so-keeps, made_named, names_on, no_aim_at, no_fixed_at, no_target_at, target_at}
+use Rattle.cdm_plan.proofs.PlanningLemmas.{targets_of, targets_on-given}
 use Rattle.cdm_plan.proofs.RunwayLemmas.{rules-same}
 
 -- What an update that is not of a runway leaves there.
 
-module _ (d : DayRecord) (r : List ℕ) where
-  no_value : (what : Reach) → is_noted d what r ≡ false → same_reach what reach.Day ≡ false
+module _ (n : Noting) (d : DayRecord) (r : List ℕ) where
+  no_value : (what : Reach) → is_noted n d what r ≡ false → same_reach what reach.Day ≡ false
   no_value reach.Day h = cc
   no_value _ h = refl
 
-  no_taxi : (what : Reach) → is_noted d what r ≡ false → same_reach what (reach.Taxi r) ≡ false
+  no_taxi : (what : Reach) → is_noted n d what r ≡ false → same_reach what (reach.Taxi r) ≡ false
   no_taxi (reach.Taxi s) h = h
   no_taxi _ h = refl
 
-  no_rule : (what : Reach) → is_noted d what r ≡ false → same_reach what (reach.Runway r) ≡ false
+  no_rule : (what : Reach) → is_noted n d what r ≡ false → same_reach what (reach.Runway r) ≡ false
   no_rule (reach.Runway s) h = h
   no_rule _ h = refl
 
@@ -51,22 +55,28 @@ fresh_is : (u : Update) (f : List ℕ) → new_flight u ≡ Some f → reach_of 
 fresh_is (Flt g p) f e = let same : g ≡ f = cc in ap reach.Flight same
 fresh_is _ f e = cc
 
--- the flights that pass have runways that are not of what is touched
-abbrev IsOff : DayRecord → Reach → (Flight → Bool) → Type 0
-IsOff d what test = (f : Flight) → test f ≡ true → (r : List ℕ) × (f.runway ≡ Some r) × (is_noted d what r ≡ false)
+-- a flight that counts is among those whose updates touch their runway
+counted : (n : Noting) (f : Flight) → counts f ≡ true → is_counted n f ≡ true
+counted EachFlight f h = refl
+counted CountedFlights f h = h
+
+-- the flights that pass count on runways that are not of what is touched
+abbrev IsOff : Noting → DayRecord → Reach → (Flight → Bool) → Type 0
+IsOff n d what test = (f : Flight) → test f ≡ true → (r : List ℕ) × (f.runway ≡ Some r) × (is_noted n d what r ≡ false) × (counts f ≡ true)
 
 -- so the flight that is touched does not pass
-none_passes : (d : DayRecord) (what : Reach) (k : List ℕ) (test : Flight → Bool) → IsOff d what test → what ≡ reach.Flight k
+none_passes : (n : Noting) (d : DayRecord) (what : Reach) (k : List ℕ) (test : Flight → Bool) → IsOff n d what test → what ≡ reach.Flight k
     → if_passes test (flight_of d.airport d.journal k) ≡ None
-none_passes d what k test off e = by (flight_of d.airport d.journal k) refl
+none_passes n d what k test off e = by (flight_of d.airport d.journal k) refl
   where
     passes : (f : Flight) → flight_of d.airport d.journal k ≡ Some f → (b : Bool) → test f ≡ b → (if b then Some f else None) ≡ None
     passes f h false p = refl
     passes f h true p =
         let at = off f p in
-        let noted : is_noted d what at.0 ≡ true =
-        ap (λ w. is_noted d w at.0) e ∙ (ap (λ o. option_map_or (is_on at.0) o false) h
-        ∙ (ap (λ o. option_map_or (λ s. same_name s at.0) o false) at.1 ∙ is_same at.0 at.0 refl)) in
+        let on : is_on at.0 f ≡ true = ap (λ o. option_map_or (λ s. same_name s at.0) o false) at.1 ∙ is_same at.0 at.0 refl in
+        let noted : is_noted n d what at.0 ≡ true =
+        ap (λ w. is_noted n d w at.0) e ∙ (ap (λ o. option_map_or (λ x. is_counted n x && is_on at.0 x) o false) h
+        ∙ (λ i. counted n f at.3 i && on i)) in
         absurd (true≢false (sym noted ∙ at.2))
 
     by : (o : Option Flight) → flight_of d.airport d.journal k ≡ o → if_passes test o ≡ None
@@ -103,32 +113,32 @@ module _ (d : DayRecord) (u : Update) (test : Flight → Bool) (before : (k : Li
       new (Some f) e = ap (λ (x : Option Flight). cons_option x []) (after f (fresh_is u f e))
 
 -- since the first day, after one more update
-pub since_taken : (first d next : DayRecord) (s m t : Touched) (u : Update) → next ≡ with_update d u → Adds s (is_noted d (reach_of u)) m
-    → Adds m (is_noted next (reach_of u)) t → IsSince first s d → IsSince first t next
-since_taken first d next s m t u is more later since =
+pub since_taken : (n : Noting) (first d next : DayRecord) (s m t : Touched) (u : Update) → next ≡ with_update d u → Adds s (is_noted n d (reach_of u)) m
+    → Adds m (is_noted n next (reach_of u)) t → IsSince first s d → IsSince first t next
+since_taken n first d next s m t u is more later since =
     let what = reach_of u in
-    let further : Adds m (is_noted (with_update d u) what) t = subst (λ (x : DayRecord). Adds m (is_noted x what) t) is later in
-    let earlier : (r : List ℕ) → is_touched t r ≡ false → (is_touched s r ≡ false) × (is_noted d what r ≡ false) = λ r h. more r (further r h).0 in
+    let further : Adds m (is_noted n (with_update d u) what) t = subst (λ (x : DayRecord). Adds m (is_noted n x what) t) is later in
+    let earlier : (r : List ℕ) → is_touched t r ≡ false → (is_touched s r ≡ false) × (is_noted n d what r ≡ false) = λ r h. more r (further r h).0 in
     let standing : (f : Flight) → is_untouched t f ≡ true → is_untouched s f ≡ true = λ f h.
-    let at = untouched_runway t f h in untouched_on s f at.0 at.1 (earlier at.0 at.2).0 in
-    let off : (f : Flight) → is_untouched t f ≡ true → (r : List ℕ) × (f.runway ≡ Some r) × (is_noted d what r ≡ false) = λ f h.
-    let at = untouched_runway t f h in (at.0, at.1, (earlier at.0 at.2).1) in
+    let at = untouched_runway t f h in untouched_on s f at.0 (untouched_counts t f h) at.1 (earlier at.0 at.2).0 in
+    let off : IsOff n d what (is_untouched t) = λ f h.
+    let at = untouched_runway t f h in (at.0, at.1, (earlier at.0 at.2).1, untouched_counts t f h) in
     let none : (test : Flight → Bool) → ((f : Flight) → test f ≡ true → is_untouched t f ≡ true) → (k : List ℕ) → what ≡ reach.Flight k
-    → if_passes test (flight_of d.airport d.journal k) ≡ None = λ test among k. none_passes d what k test (λ f h. off f (among f h)) in
-    let still_off : (f : Flight) → is_untouched t f ≡ true → (r : List ℕ) × (f.runway ≡ Some r) × (is_noted (with_update d u) what r ≡ false) = λ f h.
-    let at = untouched_runway t f h in (at.0, at.1, (further at.0 at.2).1) in
+    → if_passes test (flight_of d.airport d.journal k) ≡ None = λ test among k. none_passes n d what k test (λ f h. off f (among f h)) in
+    let still_off : IsOff n (with_update d u) what (is_untouched t) = λ f h.
+    let at = untouched_runway t f h in (at.0, at.1, (further at.0 at.2).1, untouched_counts t f h) in
     let still_none : (test : Flight → Bool) → ((f : Flight) → test f ≡ true → is_untouched t f ≡ true) → (k : List ℕ) → what ≡ reach.Flight k
     → if_passes test (flight_of d.airport (d.journal ++ u ∷ []) k) ≡ None =
-    λ test among k. none_passes (with_update d u) what k test (λ f h. still_off f (among f h)) in
+    λ test among k. none_passes n (with_update d u) what k test (λ f h. still_off f (among f h)) in
     subst (IsSince first t) (sym is) (record {
       airport = since.airport;
       flight = λ test among k. since.flight test (λ f h. standing f (among f h)) k ∙ flight_same d u test (none test among) (still_none test among) k;
       flights = λ test among. since.flights test (λ f h. standing f (among f h)) ∙ flights_same d u test (none test among) (still_none test among);
       rules = λ row h.
-          since.rules row (earlier row.name h).0 ∙ rules-same d.airport d.journal row u (no_rule d row.name what (earlier row.name h).1);
+          since.rules row (earlier row.name h).0 ∙ rules-same d.airport d.journal row u (no_rule n d row.name what (earlier row.name h).1);
       taxi = λ r h place.
-          since.taxi r (earlier r h).0 place ∙ sym (taxi_of-untouched d.airport d.journal u place r (no_taxi d r what (earlier r h).1));
-      values = λ r h. since.values r (earlier r h).0 ∙ sym (values_of-untouched d.journal u (no_value d r what (earlier r h).1));
+          since.taxi r (earlier r h).0 place ∙ sym (taxi_of-untouched d.airport d.journal u place r (no_taxi n d r what (earlier r h).1));
+      values = λ r h. since.values r (earlier r h).0 ∙ sym (values_of-untouched d.journal u (no_value n d r what (earlier r h).1));
     })
 
 -- at first nothing changed
@@ -154,16 +164,29 @@ same_aim f r e s t values same = ap (aim_with f s values f.tobt) e ∙ (go f.tob
     go None = refl
     go (Some tobt) = λ i. aim_with_exot f values tobt r (taxi_out (λ place. same place i) f.stand f.ice)
 
--- the targets of a runway are those of its own flights
+-- the flights that count on a runway
+abbrev counts_on : List ℕ → Flight → Bool
+counts_on r f = counts f && is_on r f
+
+-- the fixed flights and the targets of a runway are those of the flights that count there
+fixed_on-own : (r : List ℕ) (fs : List Flight) → fixed_on r fs ≡ filter_map fixed_slot (filter (counts_on r) fs)
+fixed_on-own r fs =
+    fixed_on-given r fs ∙ ((λ i. filter_map (λ f. own f (counts f) refl i) fs) ∙ sym (filter_map-filter fixed_slot (counts_on r) fs))
+  where
+    own : (f : Flight) (b : Bool) → counts f ≡ b → fixed_at r f ≡ if_so (b && is_on r f) (fixed_slot f)
+    own f true e = refl
+    own f false e = no_fixed_at r f e
+
 targets_on-own : (r : List ℕ) (times : TaxiTimes) (values : DayValues) (fs : List Flight)
-    → targets_on r (targets_of fs times values) ≡ filter_map (target_at r times values) (filter (is_on r) fs)
+    → targets_on r (targets_of fs times values) ≡ filter_map (target_at r times values) (filter (counts_on r) fs)
 targets_on-own r times values fs =
     targets_on-given r times values fs
-    ∙ ((λ i. filter_map (λ f. own f (is_on r f) refl i) fs) ∙ sym (filter_map-filter (target_at r times values) (is_on r) fs))
+    ∙ ((λ i. filter_map (λ f. own f (counts f) (is_on r f) refl refl i) fs) ∙ sym (filter_map-filter (target_at r times values) (counts_on r) fs))
   where
-    own : (f : Flight) (b : Bool) → is_on r f ≡ b → target_at r times values f ≡ if_so b (target_at r times values f)
-    own f true e = refl
-    own f false e = no_target_at r times values f e
+    own : (f : Flight) (b c : Bool) → counts f ≡ b → is_on r f ≡ c → target_at r times values f ≡ if_so (b && c) (target_at r times values f)
+    own f true true h e = refl
+    own f true false h e = no_target_at r times values f e
+    own f false c h e = no_aim_at r times values f h
 
 -- what is blocked early has its flight's name, and an early rule
 abbrev IsEarlyOf : Flight → BlockedFlight → Type 0
@@ -224,12 +247,13 @@ module _ (first d : DayRecord) (t : Touched) (since : IsSince first t d) where
   -- a runway that was not touched keeps its sequence
   still_planned : (row : RunwayRow) (p : RunwayPlan) → is_touched t row.name ≡ false → IsPlanOn first (rules_of first.airport first.journal row) p
       → IsPlanOn d (rules_of d.airport d.journal row) p
-  unfolding rules_of fixed_on
+  unfolding rules_of
   still_planned row p h old =
       let r = row.name in
       let x = rules_of first.airport first.journal row in
-      let its : filter (is_on r) flights_first ≡ filter (is_on r) flights_now = since.flights (is_on r) (λ f on. untouched_on t f r (some_named f.runway r on) h) in
-      let fixed : fixed_in first r ≡ fixed_in d r = ap (filter_map fixed_slot) its in
+      let its : filter (counts_on r) flights_first ≡ filter (counts_on r) flights_now =
+      since.flights (counts_on r) (λ f on. let each = both (counts f) (is_on r f) on in untouched_on t f r each.0 (some_named f.runway r each.1) h) in
+      let fixed : fixed_in first r ≡ fixed_in d r = fixed_on-own r flights_first ∙ (ap (filter_map fixed_slot) its ∙ sym (fixed_on-own r flights_now)) in
       let targets : targets_at first r ≡ targets_at d r =
       targets_on-own r times_first values_first flights_first
       ∙ ((λ i. filter_map (λ f. target_same r h f i) (its i)) ∙ sym (targets_on-own r times_now values_now flights_now)) in
@@ -435,4 +459,4 @@ none_kept d = record {
 
   none : (fs : List Flight) → kept_of touched.All fs ≡ []
   none [] = refl
-  none (f ∷ fs) = ap (λ b. cond b (f ∷ kept_of touched.All fs) (kept_of touched.All fs)) (off f.runway) ∙ none fs
+  none (f ∷ fs) = ap (λ b. cond b (f ∷ kept_of touched.All fs) (kept_of touched.All fs)) (and_right (counts f) _ (off f.runway)) ∙ none fs

@@ -9,7 +9,7 @@ pub use Rattle.cdm_plan.specs.Planning.{AreAims, HasParts, IsPlanOf, blocked_in,
 unfoldable pub use Rattle.cdm_plan.specs.Planning.{fixed_on}
 pub use Rattle.cdm_plan.specs.Sound.{IsSound, TellTaxi}
 pub use Rattle.cdm_plan.specs.inner.Aimed.{CanSequence, IsAimed, early_among, if_on, if_passes, is_on, target_for}
-pub use Rattle.cdm_plan.specs.Kept.{Adds, AreKept, AreSameElsewhere, IsMade, IsPlanOn, IsSince, asked_of, fixed_in, is_early, is_kept_blocked, is_noted}
+pub use Rattle.cdm_plan.specs.Kept.{Adds, AreKept, AreSameElsewhere, IsMade, IsPlanOn, IsSince, asked_of, counts, fixed_in, is_counted, is_early, is_kept_blocked, is_noted}
 pub use Rattle.cdm_plan.specs.Kept.{is_touched, is_untouched, kept_blocked, kept_of, kept_plan}
 pub use Rattle.cdm_plan.specs.inner.Together.{Together}
 pub use Rattle.cdm_flight.proofs.JournalLemmas.{flight_of-untouched, status_of-record, taxi_of-untouched, values_of-untouched}

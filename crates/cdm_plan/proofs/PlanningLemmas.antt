@@ -8,7 +8,7 @@ use Rattle.cdm_plan.proofs.ListWords.{IsPermutation-append, IsPermutation-refl, 
 use Rattle.cdm_plan.proofs.ListWords.{IsPermutation-map, IsPermutation-sym, IsDistinct-IsPermutation}
 use Rattle.cdm_plan.proofs.ListWords.{IsDistinct-head, IsDistinct-tail, length-map, map-append, All-given, distinct_filter, filter_map-map}
 use Rattle.cdm_plan.proofs.ListWords.{filter_map-filter, if_so, length_permutation, AllZip, filter_passes}
-use Rattle.cdm_plan.proofs.PlanWords.{DayValues, same_name, Flight, is_planned, TaxiTimes, IsAim, aim_of, aim_is, aim_means, same_flips, same_is}
+use Rattle.cdm_plan.proofs.PlanWords.{DayValues, same_name, Flight, is_planned, TaxiTimes, IsAim, aim_of, aim_is, aim_means, aim_with, counts, same_flips, same_is}
 use Rattle.cdm_plan.proofs.PlanWords.{Slot, fixed_slot, slot_by, flight_names, IsSequence, Target}
 use Rattle.cdm_plan.proofs.PlanWords.{AimResult, BlockedFlight, early_in, planned_of}
 use Rattle.cdm_plan.proofs.PlanWords.{target_in, targets_in, blocked_in, is_on, fixed_on, targets_on, IsAimed, if_on, if_passes, target_for, CanSequence}
@@ -213,6 +213,34 @@ no_target_at r times values f h = in_any (is_planned f.status) (by (aim_of f tim
     in_any : (b : Bool) → if_on r (target_in (aim_of f times values)) ≡ None → if_so b (if_on r (target_in (aim_of f times values))) ≡ None
     in_any true e = e
     in_any false e = refl
+
+-- a flight that doesn't count on its runway gives it nothing
+uncounted : (f : Flight) → counts f ≡ false → (is_planned f.status ≡ true) × (f.tobt ≡ None)
+uncounted f h = by (is_planned f.status) f.tobt h
+  where
+    by : (b : Bool) (o : Option ℕ) → (not b || is_some o) ≡ false → (b ≡ true) × (o ≡ None)
+    by true None k = (refl, refl)
+    by true (Some tobt) k = cc
+    by false o k = cc
+
+nothing : {Y : Type 0} (b : Bool) → ◌≡◌ {A = Option Y} (if_so b None) None
+nothing true = refl
+nothing false = refl
+
+pub no_fixed_at : (r : List ℕ) (f : Flight) → counts f ≡ false → fixed_at r f ≡ None
+unfolding fixed_slot
+no_fixed_at r f h = ap (if_so (is_on r f)) (by f.status (uncounted f h).0) ∙ nothing (is_on r f)
+  where
+    by : (s : Status) → is_planned s ≡ true → slot_by f s ≡ None
+    by status.Planned k = refl
+    by (status.OffBlock aobt exot) k = cc
+    by (status.Airborne aobt atot) k = cc
+    by status.Cancelled k = refl
+
+pub no_aim_at : (r : List ℕ) (times : TaxiTimes) (values : DayValues) (f : Flight) → counts f ≡ false → target_at r times values f ≡ None
+unfolding aim_of
+no_aim_at r times values f h =
+    ap (λ o. if_so (is_planned f.status) (if_on r (target_in (aim_with f times values o f.runway)))) (uncounted f h).1 ∙ nothing (is_planned f.status)
 
 -- a flight stands on a runway as a fixed flight or with its target
 abbrev pub stands : TaxiTimes → DayValues → List ℕ → Flight → Bool

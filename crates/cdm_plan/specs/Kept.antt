@@ -1,5 +1,5 @@
 -- Which runways updates touch, and the plans of the others, which stand.
-use Rattle.std.specs.Prelude.{◌≡◌, ℕ, Bool, true, false, ◌&&◌, not, List, Contains, IsPermutation, Option, None, Some, filter, if◌then◌else◌}
+use Rattle.std.specs.Prelude.{◌≡◌, ℕ, Bool, true, false, ◌&&◌, ◌||◌, not, is_some, List, Contains, IsPermutation, Option, None, Some, filter, if◌then◌else◌}
 use Rattle.std.specs.List.{find, list_any}
 use Rattle.std.specs.Option.{option_map_or}
 use Rattle.cdm_flight.specs.declared.airport.RunwayRow.{RunwayRow}
@@ -7,6 +7,7 @@ use Rattle.cdm_flight.specs.declared.reach.Reach.{Reach}
 use Rattle.cdm_flight.specs.declared.reach.Reach.TheVariants as reach
 use Rattle.cdm_flight.specs.Names.{same_name}
 use Rattle.cdm_flight.specs.Journal.{flight_of, taxi_of, values_of}
+use Rattle.cdm_flight.specs.Record.{is_planned}
 use Rattle.cdm_flight.specs.declared.flight.Flight.{Flight}
 use Rattle.cdm_flight.specs.declared.place.Place.{Place}
 use Rattle.cdm_runway.specs.Rules.{RunwayRules}
@@ -18,6 +19,8 @@ use Rattle.cdm_sequence.specs.declared.aims.AimResult.{AimResult}
 use Rattle.cdm_sequence.specs.declared.rule.Rule.{Rule}
 use Rattle.cdm_sequence.specs.declared.rule.Rule.TheVariants.{Closure, Spacing, Rate}
 use Rattle.cdm_sequence.specs.declared.slot.BlockedFlight.{BlockedFlight}
+use Rattle.cdm_plan.specs.declared.touched.Noting.{Noting}
+use Rattle.cdm_plan.specs.declared.touched.Noting.TheVariants.{EachFlight, CountedFlights}
 use Rattle.cdm_plan.specs.declared.touched.Touched.{Touched}
 use Rattle.cdm_plan.specs.declared.touched.Touched.TheVariants.{All, Named}
 use Rattle.cdm_plan.specs.inner.Aimed.{if_passes, is_on}
@@ -31,12 +34,21 @@ abbrev pub is_touched : Touched → List ℕ → Bool
 is_touched All r = true
 is_touched (Named names) r = list_any (λ n. same_name n r) names.items
 
--- what an update touches is of the runway or of all, or is a flight that has the runway
-abbrev pub is_noted : DayRecord → Reach → List ℕ → Bool
-is_noted d (reach.Flight f) r = option_map_or (is_on r) (flight_of d.airport d.journal f) false
-is_noted d (reach.Runway s) r = same_name s r
-is_noted d (reach.Taxi s) r = same_name s r
-is_noted d reach.Day r = true
+-- the flight counts on its runway: it has left its stand, or it has a TOBT
+abbrev pub counts : Flight → Bool
+counts f = not (is_planned f.status) || is_some f.tobt
+
+-- the flights whose updates touch their runway: all, or those that count there
+abbrev pub is_counted : Noting → Flight → Bool
+is_counted EachFlight f = true
+is_counted CountedFlights f = counts f
+
+-- what an update touches is of the runway or of all, or is such a flight that has the runway
+abbrev pub is_noted : Noting → DayRecord → Reach → List ℕ → Bool
+is_noted n d (reach.Flight f) r = option_map_or (λ x. is_counted n x && is_on r x) (flight_of d.airport d.journal f) false
+is_noted n d (reach.Runway s) r = same_name s r
+is_noted n d (reach.Taxi s) r = same_name s r
+is_noted n d reach.Day r = true
 
 -- what is not touched any more was not touched before, and is none of the others
 abbrev pub Adds : Touched → (List ℕ → Bool) → Touched → Type 0
@@ -52,9 +64,9 @@ pub record IsPlanOn (d : DayRecord) (r : RunwayRules) (p : RunwayPlan) : Type 0 
   pub aimed : AreAims (records_in d.airport d.journal) (taxi_of d.airport d.journal) (values_of d.journal) aims
   pub sequence : IsSequence r (fixed_in d r.name) (targets_on r.name (targets_in aims)) p
 
--- the flight has a runway that was not touched, so that it need not be asked anew
+-- the flight counts on a runway that was not touched, so that it need not be asked anew
 abbrev pub is_untouched : Touched → Flight → Bool
-is_untouched t f = option_map_or (λ r. not (is_touched t r)) f.runway false
+is_untouched t f = counts f && option_map_or (λ r. not (is_touched t r)) f.runway false
 
 -- what was not touched since the first day is as it was then
 pub record IsSince (first : DayRecord) (t : Touched) (d : DayRecord) : Type 0 where

@@ -69,7 +69,7 @@ impl Kept<'_> {
     ) -> Result<Vec<RunwayPlan>, AllocError>
         ensures { IfOk result (λ v. v.items ≡ filter_map (λ r. kept_plan self.now.touched.now self.now.plans.now r.now.name) runways.now) }
     {
-        let mut copies = Vec::new(alloc);
+        let mut copies = Vec::with_capacity(alloc, runways.len())?;
         for runway in runways {
             push_copy(alloc, &mut copies, self.plan_on(runway.name()))?;
         }

@@ -19,4 +19,4 @@ pub use laws::{
 pub use planning::{plan_keeping, plan_of};
 pub use records::Records;
 pub use runner::Runner;
-pub use touched::Touched;
+pub use touched::{Noting, Touched};

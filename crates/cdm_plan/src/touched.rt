@@ -1,13 +1,24 @@
 //! Which runways updates touch.
 ghost use Rattle.std.specs.Prelude.{◌≡◌, ℕ, List, false, OnOk};
 ghost use Rattle.std.specs.List.{list_any};
+ghost use Rattle.std.specs.Option.{option_map_or};
 ghost use Rattle.cdm_flight.specs.Names.{same_name};
 ghost use Rattle.cdm_flight.specs.Reach.{reach_of};
-ghost use Rattle.cdm_plan.specs.Kept.{Adds, is_noted, is_touched, is_untouched};
+ghost use Rattle.cdm_flight.specs.declared.reach.Reach.TheVariants as reach;
+ghost use Rattle.cdm_plan.specs.Kept.{Adds, counts, is_counted, is_noted, is_touched, is_untouched};
 
 use crate::records::Records;
-use cdm_flight::{Flight, Reach, RunwayName, Update};
+use cdm_flight::{Flight, FlightName, Reach, RunwayName, Status, Update};
 use std::alloc::{AllocError, Global};
+
+/// The flights whose updates touch the runway that the flight has.
+#[derive(Clone, Copy, PartialEq, Eq, Debug)]
+pub enum Noting {
+    /// All of them.
+    EachFlight,
+    /// Those that count on their runway: they have left their stands, or have a TOBT. The others are in no sequence.
+    CountedFlights,
+}
 
 /// The runways that updates touched.
 #[derive(Drop)]
@@ -18,11 +29,58 @@ pub enum Touched {
     Named(Vec<RunwayName>),
 }
 
+// Whether the flight counts on its runway.
+#[inline(always)]
+fn counts(flight: &Flight) -> bool
+    ensures { result ≡ counts flight.now }
+{
+    match flight.status {
+        Status::Planned => flight.tobt.is_some(),
+        Status::OffBlock { .. } | Status::Airborne { .. } | Status::Cancelled => true,
+    }
+}
+
+impl Noting {
+    // Whether the flight is one of them.
+    fn has(self, flight: &Flight) -> bool
+        ensures { result ≡ is_counted self flight.now }
+    {
+        match self {
+            Noting::EachFlight => true,
+            Noting::CountedFlights => counts(flight),
+        }
+    }
+
+    // The runway that an update of the flight touches, if it touches one.
+    fn runway_of<R: Records>(self, records: &R, flight: FlightName) -> Option<RunwayName>
+        ensures { (r : List ℕ) → option_map_or (λ s. same_name s r) result false ≡ is_noted self (R.day records.now) (reach.Flight flight) r }
+    {
+        let record = records.flight(flight)?;
+        if self.has(record) {
+            record.runway
+        } else {
+            None
+        }
+    }
+}
+
 // Whether the name is one of these.
-fn is_named(names: &[RunwayName], name: RunwayName) -> bool
+fn is_among(names: &[RunwayName], name: RunwayName) -> bool
     ensures { result ≡ list_any (λ n. same_name n name) names.now }
 {
     names.iter().any(|known| *known == name)
+}
+
+// The same, at once where there is no name or one.
+#[inline(always)]
+fn is_named(names: &[RunwayName], name: RunwayName) -> bool
+    ensures { result ≡ list_any (λ n. same_name n name) names.now }
+{
+    match names {
+        [] => false,
+        [only] => *only == name,
+        _ => is_among(names, name),
+    }
 }
 
 // Adds a name, where it isn't there yet.
@@ -54,12 +112,13 @@ impl Touched {
         }
     }
 
-    /// Whether the flight need not be asked anew: it has a runway, which is none of them.
+    /// Whether the flight need not be asked anew: it counts on its runway, which is none of them.
+    #[inline(always)]
     pub(crate) fn keeps(&self, flight: &Flight) -> bool
         ensures { result ≡ is_untouched self.now flight.now }
     {
         match flight.runway {
-            Some(runway) => !self.has(runway),
+            Some(runway) => counts(flight) && !self.has(runway),
             None => false,
         }
     }
@@ -74,17 +133,20 @@ impl Touched {
         }
     }
 
-    /// Adds the runway of the update, or the runway that its flight has.
-    pub fn note<R: Records>(&mut self, records: &R, update: &Update) -> Result<(), AllocError>
-        ensures { OnOk result (Adds self.old (is_noted (R.day records.now) (reach_of update.now)) self.new) }
+    /// Adds the runway of the update, or the runway that its flight has, if the flight is one of those.
+    pub fn note<R: Records>(
+        &mut self,
+        records: &R,
+        update: &Update,
+        noting: Noting,
+    ) -> Result<(), AllocError>
+        ensures { OnOk result (Adds self.old (is_noted noting (R.day records.now) (reach_of update.now)) self.new) }
     {
         match update.reach() {
-            Reach::Flight(flight) => {
-                match records.flight(flight).and_then(|record| record.runway) {
-                    Some(runway) => self.add(runway),
-                    None => Ok(()),
-                }
-            }
+            Reach::Flight(flight) => match noting.runway_of(records, flight) {
+                Some(runway) => self.add(runway),
+                None => Ok(()),
+            },
             Reach::Runway(runway) | Reach::Taxi(runway) => self.add(runway),
             Reach::Day => {
                 *self = Touched::All;

@@ -1,5 +1,5 @@
 //! What there is to do for the plan of a day.
-ghost use Rattle.std.specs.Prelude.{◌≡◌, ◌++◌, [], filter, map, IfOk, OnOk};
+ghost use Rattle.std.specs.Prelude.{◌≡◌, ◌+◌, ◌<◌, ◌≤◌, ◌++◌, [], filter, map, IfOk, OnOk, vec_len, vec_capacity};
 ghost use Rattle.std.specs.List.{cons_option};
 ghost use Rattle.std.specs.Option.{option_copied};
 ghost use Rattle.cdm_plan.specs.DayPlan.{AreByName, records_in};
@@ -14,8 +14,8 @@ use cdm_flight::{Flight, Status, push_last};
 use cdm_runway::Runway;
 use std::alloc::{AllocError, Global};
 
-/// The flights of a day without a runway or of a touched one, the planned flights among them, which are asked when
-/// they could take off, all runways, and those that were touched.
+/// The flights of a day that count on no runway or have a touched one, the planned flights among them, which are asked
+/// when they could take off, all runways, and those that were touched.
 #[derive(Drop)]
 pub(crate) struct Work<'a> {
     pub(crate) flights: Vec<&'a Flight>,
@@ -34,27 +34,23 @@ fn push_known<'a, T>(items: &mut Vec<&'a T>, item: Option<&'a T>) -> Result<(), 
     }
 }
 
-// Puts a flight behind the others, if there is one and its runway was touched or it has none.
-fn push_touched<'a>(
-    flights: &mut Vec<&'a Flight>,
-    touched: &Touched,
-    flight: Option<&'a Flight>,
-) -> Result<(), AllocError>
-    ensures { OnOk result (map (λ f. f.now) flights.new.items
-        ≡ map (λ f. f.now) flights.old.items ++ asked_of touched.now (cons_option (option_copied flight.entry) [])) }
+// Puts a flight behind the others, for which there is room, if there is one that doesn't stand as it did.
+#[inline(always)]
+fn push_touched<'a>(flights: &mut Vec<&'a Flight>, touched: &Touched, flight: Option<&'a Flight>)
+    requires { vec_len flights.old < vec_capacity flights.old }
+    ensures items { map (λ f. f.now) flights.new.items
+        ≡ map (λ f. f.now) flights.old.items ++ asked_of touched.now (cons_option (option_copied flight.entry) []) }
+    ensures len { vec_len flights.new ≤ vec_len flights.old + 1 }
+    ensures capacity { vec_capacity flights.new ≡ vec_capacity flights.old }
 {
-    match flight {
-        Some(flight) => {
-            if touched.keeps(flight) {
-                return Ok(());
-            }
-            push_last(flights, flight)
+    if let Some(flight) = flight {
+        if !touched.keeps(flight) {
+            flights.push_reserved(flight);
         }
-        None => Ok(()),
     }
 }
 
-// The flights without a runway and those of the touched runways, in the order of first appearance.
+// The flights that count on no runway and those of the touched runways, in the order of first appearance.
 fn touched_flights<'a, R: Records>(
     alloc: Global,
     records: &'a R,
@@ -64,9 +60,10 @@ fn touched_flights<'a, R: Records>(
     ensures touched { IfOk result (λ v. let d = R.day records.now in
         map (λ f. f.now) v.items ≡ asked_of touched.now (records_in d.airport d.journal)) }
 {
-    let mut flights = Vec::new(alloc);
-    for place in 0..records.flights() {
-        push_touched(&mut flights, touched, records.flight_at(place))?;
+    let known = records.flights();
+    let mut flights = Vec::with_capacity(alloc, known)?;
+    for place in 0..known {
+        push_touched(&mut flights, touched, records.flight_at(place));
     }
     Ok(flights)
 }
@@ -75,11 +72,11 @@ fn touched_flights<'a, R: Records>(
 fn planned_flights<'a>(alloc: Global, flights: &[&'a Flight]) -> Result<Vec<&'a Flight>, AllocError>
     ensures { IfOk result (λ v. map (λ f. f.now) v.items ≡ planned_of (map (λ f. f.now) flights.now)) }
 {
-    let mut planned = Vec::new(alloc);
+    let mut planned = Vec::with_capacity(alloc, flights.len())?;
     for flight in flights {
         let flight: &'a Flight = flight;
         if flight.status == Status::Planned {
-            push_last(&mut planned, flight)?;
+            planned.push_reserved(flight);
         }
     }
     Ok(planned)
@@ -89,7 +86,7 @@ fn planned_flights<'a>(alloc: Global, flights: &[&'a Flight]) -> Result<Vec<&'a 
 fn all_runways<R: Records>(alloc: Global, records: &R) -> Result<Vec<&Runway>, AllocError>
     ensures { IfOk result (λ v. AreByName (R.day records.now) (map (λ r. r.now) v.items)) }
 {
-    let mut runways = Vec::new(alloc);
+    let mut runways = Vec::with_capacity(alloc, records.runways())?;
     for place in 0..records.runways() {
         push_known(&mut runways, records.runway_at(place))?;
     }
@@ -104,7 +101,7 @@ fn touched_runways<'a>(
 ) -> Result<Vec<&'a Runway>, AllocError>
     ensures { IfOk result (λ v. v.items ≡ filter (λ r. is_touched touched.now r.now.name) runways.now) }
 {
-    let mut left = Vec::new(alloc);
+    let mut left = Vec::with_capacity(alloc, runways.len())?;
     for runway in runways {
         let runway: &'a Runway = runway;
         if touched.has(runway.name()) {

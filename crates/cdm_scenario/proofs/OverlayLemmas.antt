@@ -34,7 +34,7 @@ use Rattle.cdm_day.specs.declared.change.Change.TheVariants.{NewFlight, NextReco
 use Rattle.cdm_day.specs.declared.change.RunwayChange.{RunwayChange}
 use Rattle.cdm_day.specs.inner.Put.{flight_with, made_known, rows_with, rules_with, values_with}
 use Rattle.cdm_day.specs.inner.Tables.{Flights}
-use Rattle.cdm_plan.proofs.AskedLemmas.{untouched_on, untouched_runway}
+use Rattle.cdm_plan.proofs.AskedLemmas.{untouched_counts, untouched_on, untouched_runway}
 use Rattle.cdm_plan.proofs.DayPlanLemmas.{record_name}
 use Rattle.cdm_plan.proofs.JournalFacts.{known-among}
 use Rattle.cdm_plan.proofs.NameLemmas.{find_some, rows_by_name, rows_permutation, rules_by_name, rules_in, runway_is}
@@ -80,7 +80,7 @@ pub since_noted : (first d next : DayRecord) (s t : Touched) → next ≡ d → 
     → IsSince first s d → IsSince first t next
 since_noted first d next s t is less since =
     let off : (f : Flight) → is_untouched t f ≡ true → is_untouched s f ≡ true = λ f h.
-    let at = untouched_runway t f h in untouched_on s f at.0 at.1 (less at.0 at.2) in
+    let at = untouched_runway t f h in untouched_on s f at.0 (untouched_counts t f h) at.1 (less at.0 at.2) in
     subst (IsSince first t) (sym is) (record {
       airport = since.airport;
       flight = λ test among k. since.flight test (λ f h. off f (among f h)) k;

@@ -4,6 +4,7 @@ ghost use Rattle.cdm_flight.specs.Accepted.{refusal_of};
 ghost use Rattle.cdm_flight.specs.Reach.{reach_of};
 ghost use Rattle.cdm_plan.specs.DayPlan.{IsDayPlan};
 ghost use Rattle.cdm_plan.specs.Kept.{Adds, is_noted};
+ghost use Rattle.cdm_plan.specs.declared.touched.Noting.TheVariants.{CountedFlights};
 ghost use Rattle.cdm_sequence.specs.declared.plan.Plan.{Plan as APlan};
 ghost use Rattle.cdm_day.specs.Replies.{reply_of};
 ghost use Rattle.cdm_scenario.specs.Outcome.{IsLaid};
@@ -14,16 +15,16 @@ mod records;
 use crate::laid::Laid;
 use cdm_day::{Change, DayState, Records, Reply, Takes, judge};
 use cdm_flight::{RefusalWord, Update};
-use cdm_plan::{Kept, Touched, plan_keeping};
+use cdm_plan::{Kept, Noting, Touched, plan_keeping};
 use cdm_sequence::Plan;
 use std::alloc::{AllocError, Global};
 use std::marker::Model;
 
 // Notes what an update touches; where there is no memory for the name of a runway, that is all of them.
 fn note<R: Records>(touched: &mut Touched, records: &R, update: &Update)
-    ensures { Adds touched.old (is_noted (R.day records.now) (reach_of update.now)) touched.new }
+    ensures { Adds touched.old (is_noted CountedFlights (R.day records.now) (reach_of update.now)) touched.new }
 {
-    match touched.note(records, update) {
+    match touched.note(records, update, Noting::CountedFlights) {
         Ok(()) => {}
         Err(_) => *touched = Touched::All,
     }

@@ -18,7 +18,7 @@ use crate::standing::Standing;
 use crate::standings::Standings;
 use cdm_day::DayState;
 use cdm_flight::Update;
-use cdm_plan::{Records, Touched};
+use cdm_plan::{Noting, Records, Touched};
 use cdm_sequence::{BlockedFlight, Plan, RunwayPlan, Slot};
 use std::alloc::{AllocError, Global};
 
@@ -185,8 +185,8 @@ fn touched_by(
     ensures { IfOk result (λ touched. IsSince before.now touched after.now) }
 {
     let mut touched = Touched::none(alloc);
-    touched.note(before, update)?;
-    touched.note(after, update)?;
+    touched.note(before, update, Noting::CountedFlights)?;
+    touched.note(after, update, Noting::CountedFlights)?;
     Ok(touched)
 }
 

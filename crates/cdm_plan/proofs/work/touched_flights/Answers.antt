@@ -11,13 +11,17 @@ loop-place-preserved g c =
     let t = c.args.touched.now in
     let flight = flight_of d.airport d.journal in
     let next = records-next flight (flights_in d.journal) c.loop-place.place in
-    c.in_ok-push_touched.ensures ∙ ((λ i. c.loop-place.invariant i ++ asked_of t (cons_option (c.flight_at.ensures.value i) []))
-    ∙ (sym (filter-append (λ f. not (is_untouched t f)) _ _) ∙ sym (ap (asked_of t) next)))
+    record {
+      told = c.push_touched.ensures.items ∙ ((λ i. c.loop-place.invariant.told i ++ asked_of t (cons_option (c.flight_at.ensures.value i) []))
+          ∙ (sym (filter-append (λ f. not (is_untouched t f)) _ _) ∙ sym (ap (asked_of t) next)));
+      few = omega (arith, c.push_touched.ensures.len, c.loop-place.invariant.few);
+      room = omega (arith, c.push_touched.ensures.capacity, c.loop-place.invariant.room);
+    }
 
 pub returns-clause-touched : goal.returns-clause-touched
 returns-clause-touched g c =
     let d = g.R.Records.day c.args.records.now in
     let t = c.args.touched.now in
-    let end : length (flights_in d.journal) ≤ c.loop-place.place = omega (arith, c.flights-place-end.ensures.value) in
-    c.loop-place.invariant
+    let end : length (flights_in d.journal) ≤ c.loop-place.place = omega (arith, c.flights-known.ensures.value) in
+    c.loop-place.invariant.told
     ∙ ap (λ ns. asked_of t (filter_map (flight_of d.airport d.journal) ns)) (all_taken (flights_in d.journal) c.loop-place.place end)

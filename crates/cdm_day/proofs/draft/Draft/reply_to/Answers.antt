@@ -9,5 +9,5 @@ take-requires-clause-accepted c = good_from c.args.self.now.tables c.args.role c
 
 pub returns-in_ok-note-in-Ok-2-clause-since : goal.returns-in_ok-note-in-Ok-2-clause-since
 returns-in_ok-note-in-Ok-2-clause-since c = λ first since.
-    since_taken first c.args.self.now.tables c.take.new.self c.args.self.now.touched c.note.new.self c.note-in-Ok.new.self c.args.update.now
+    since_taken c.args.self.now.noting first c.args.self.now.tables c.take.new.self c.args.self.now.touched c.note.new.self c.note-in-Ok.new.self c.args.update.now
     c.in_ok-take-in-Ok.ensures.ok c.in_ok-note-in-Ok.ensures c.in_ok-note-in-Ok-2.ensures since

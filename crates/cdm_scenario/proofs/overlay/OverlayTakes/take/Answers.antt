@@ -1,4 +1,5 @@
 use Rattle.cdm_plan.proofs.KeptLemmas.{since_taken}
+use Rattle.cdm_plan.specs.declared.touched.Noting.TheVariants.{CountedFlights}
 use Rattle.cdm_scenario.proofs.OverlayLemmas.{since_noted}
 use Rattle.cdm_scenario.proofs.overlay.OverlayTakes.take.Goals as goal
 
@@ -10,5 +11,5 @@ invariant_of-self c =
 pub invariant_of-self-2 : goal.invariant_of-self-2
 invariant_of-self-2 c =
     let o = c.self.inside in
-    since_taken o.base.now o.laid c.take.new.self o.touched c.note.new.touched c.note-2.new.touched c.args.update
+    since_taken CountedFlights o.base.now o.laid c.take.new.self o.touched c.note.new.touched c.note-2.new.touched c.args.update
     c.in_ok-take.ensures.ok c.note.ensures c.note-2.ensures c.self.invariant

@@ -3,7 +3,7 @@ use borrow.Author.Tests.{tests}
 use Rattle.cdm_plan.proofs.PlanWords.{same_name}
 use Rattle.std.proofs.lemmas.Iterator.{YieldsList-from_slice}
 use Rattle.std.proofs.lemmas.Iterator.Search.{any_from_yields_List}
-use Rattle.cdm_plan.proofs.touched.is_named.Goals as goal
+use Rattle.cdm_plan.proofs.touched.is_among.Goals as goal
 
 pub returns : goal.returns
 returns c =
