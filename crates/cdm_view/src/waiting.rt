@@ -7,7 +7,7 @@ ghost use Rattle.cdm_flight.specs.Spacing.{occupancy_of};
 ghost use Rattle.cdm_flight.specs.declared.group.Group.{Group};
 ghost use Rattle.cdm_runway.specs.Room.{meets, taken_by};
 ghost use Rattle.cdm_sequence.specs.Aims.{exot_to};
-ghost use Rattle.cdm_view.specs.inner.Earlier.{is_taken, met_among, taken_slots};
+ghost use Rattle.cdm_view.specs.inner.Earlier.{IsAhead, IsByTakeOff, is_passed, is_taken, met_among, not_passed, taken_slots};
 ghost use Rattle.cdm_view.specs.Reasons.{held_at, met_at, names_of, reason_at, waiting_of};
 ghost use Rattle.cdm_view.specs.Turns.{AreTurns};
 
@@ -115,6 +115,39 @@ impl Waiting<'_> {
         self.earlier_in(own.saturating_sub(self.longest()), end)
     }
 
+    // Whether the flight of the slot has left the runway by the minute.
+    fn is_passed(&self, minute: Minute, slot: &Slot) -> bool
+        ensures { result ≡ is_passed self.now minute slot.now }
+    {
+        let end = slot.ttot.get() + self.runway.occupancy(slot.group).get();
+        end <= minute.get()
+    }
+
+    // The slots from the first on whose flight hasn't left the runway by the minute.
+    pub(crate) fn not_passed<'s>(&self, minute: Minute, slots: &'s [Slot]) -> &'s [Slot]
+        ensures { result.now ≡ not_passed self.now minute slots.now }
+    {
+        let passed = slots
+            .iter()
+            .take_while(|slot| self.is_passed(minute, slot))
+            .count();
+        &slots[passed..]
+    }
+
+    // The slots up to the first that takes off when the flight has left the runway, if it took off at the minute.
+    fn before_end<'s>(&self, minute: Minute, slots: &'s [Slot]) -> &'s [Slot]
+        requires { IsByTakeOff slots.now }
+        ensures { met_among self.now minute result.now ≡ met_among self.now minute slots.now }
+    {
+        let flight = self.flight;
+        let end = minute.get() + self.runway.occupancy(flight.group).get();
+        let count = slots
+            .iter()
+            .take_while(|slot| slot.ttot.get() < end)
+            .count();
+        &slots[..count]
+    }
+
     // The flights of the slots that it would meet, if it took off at the minute.
     fn met_among(
         &self,
@@ -128,13 +161,6 @@ impl Waiting<'_> {
         met.map(|slot| slot.name).collect(alloc)
     }
 
-    // The flights that it would meet, if it took off at the minute.
-    fn met_at(&self, alloc: Global, minute: Minute) -> Result<Vec<FlightName>, AllocError>
-        ensures { IfOk result (λ names. names.items ≡ names_of (met_at self.now minute)) }
-    {
-        self.met_among(alloc, minute, self.near(minute))
-    }
-
     // The slots in the cell of the minute.
     pub(crate) fn held_at(&self, minute: Minute) -> &[Slot]
         ensures { result.now ≡ held_at self.now minute }
@@ -144,13 +170,15 @@ impl Waiting<'_> {
         self.earlier_in(first, first + cell)
     }
 
-    /// Why the flight can't take off at the minute: the first reason that holds.
+    /// Why the flight can't take off at the minute, by the slots that are ahead of it: the first reason that holds.
     #[tactic(auto, unfolding(crate::specs::Reasons::reason_at))]
     pub(crate) fn reason_at(
         &self,
         alloc: Global,
         minute: Minute,
+        ahead: &[Slot],
     ) -> Result<Option<Reason>, AllocError>
+        requires { IsAhead self.now minute ahead.now }
         ensures { IfOk result (λ reason. reason ≡ reason_at self.now minute) }
     {
         let flight = self.flight;
@@ -167,7 +195,7 @@ impl Waiting<'_> {
         if self.runway.closed(minute) {
             return Ok(Some(Reason::Closure));
         }
-        let met = self.met_at(alloc, minute)?;
+        let met = self.met_among(alloc, minute, self.before_end(minute, ahead))?;
         if !met.is_empty() {
             return Ok(Some(Reason::Spacing(Listed::new(met))));
         }
