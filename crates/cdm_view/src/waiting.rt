@@ -11,12 +11,11 @@ ghost use Rattle.cdm_view.specs.inner.Earlier.{IsAhead, IsByTakeOff, is_passed, 
 ghost use Rattle.cdm_view.specs.Reasons.{held_at, met_at, names_of, reason_at, waiting_of};
 ghost use Rattle.cdm_view.specs.Turns.{AreTurns};
 
+use crate::names::Names;
 use crate::reason::Reason;
 use crate::turns::{Turn, Turns};
 use cdm_day::runway_named;
-use cdm_flight::{
-    DayValues, Flight, FlightName, Group, Key, Listed, RunwayName, before, push_last,
-};
+use cdm_flight::{DayValues, Flight, FlightName, Group, Key, RunwayName, before, push_last};
 use cdm_plan::Records;
 use cdm_runway::Runway;
 use cdm_sequence::{Mark, Slot};
@@ -149,16 +148,16 @@ impl Waiting<'_> {
     }
 
     // The flights of the slots that it would meet, if it took off at the minute.
-    fn met_among(
-        &self,
-        alloc: Global,
-        minute: Minute,
-        slots: &[Slot],
-    ) -> Result<Vec<FlightName>, AllocError>
-        ensures { IfOk result (λ names. names.items ≡ names_of (met_among self.now minute slots.now)) }
+    fn met_among(&self, alloc: Global, minute: Minute, slots: &[Slot]) -> Result<Names, AllocError>
+        ensures { IfOk result (λ names. names ≡ names_of (met_among self.now minute slots.now)) }
     {
-        let met = slots.iter().filter(|slot| self.meets(minute, slot));
-        met.map(|slot| slot.name).collect(alloc)
+        let mut names = Names::none(alloc);
+        for slot in slots {
+            if self.meets(minute, slot) {
+                names.push(alloc, slot.name)?;
+            }
+        }
+        Ok(names)
     }
 
     // The slots in the cell of the minute.
@@ -196,14 +195,14 @@ impl Waiting<'_> {
             return Ok(Some(Reason::Closure));
         }
         let met = self.met_among(alloc, minute, self.before_end(minute, ahead))?;
-        if !met.is_empty() {
-            return Ok(Some(Reason::Spacing(Listed::new(met))));
+        if !met.as_slice().is_empty() {
+            return Ok(Some(Reason::Spacing(met)));
         }
         let cap = self.runway.cap_at(minute);
         let held = self.held_at(minute);
         if usize::from(cap.get()) <= held.len() {
             let names = names_of(alloc, held)?;
-            return Ok(Some(Reason::Rate(cap, Listed::new(names))));
+            return Ok(Some(Reason::Rate(cap, Names::of(names))));
         }
         Ok(None)
     }
