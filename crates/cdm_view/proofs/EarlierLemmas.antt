@@ -1,22 +1,23 @@
 -- Slots that stand by take-off: those at some minutes are one part of them.
-use Rattle.std.proofs.Common.{◌≡◌, ℕ, ◌+◌, ◌-◌, ◌*◌, ◌/◌, ◌==◌, ◌≤◌, max, min, Bool, true, false, List, [], ◌∷◌, ◌++◌, length, take, drop, filter}
+use Rattle.std.proofs.Common.{◌≡◌, ℕ, ◌+◌, ◌-◌, ◌*◌, ◌/◌, ◌==◌, ◌<◌, ◌≤◌, max, min, Bool, true, false, List, [], ◌∷◌, ◌++◌, length, take, drop, filter}
 use Rattle.std.proofs.Common.{get_or, ltb, map, refl, sym, subst, ◌∙◌, ap, arith}
-use Rattle.std.specs.List.{All}
+use Rattle.std.specs.List.{All, prefix_len}
 use Rattle.std.specs.List.Sorted.{IsPartitionPoint, IsSorted}
 use Rattle.std.specs.Ordering.{is_lt}
 use Rattle.std.specs.Prelude.{nat_le, nat_lt}
-use Rattle.std.proofs.lemmas.Bool.{and_from, le-leb, lt-ltb, ltb-true}
+use Rattle.std.proofs.lemmas.Bool.{and_from, false_from_ne_true, le-leb, leb-true, lt-ltb, ltb-false, ltb-true}
 use Rattle.std.proofs.lemmas.Bool.Decides.{nat_tests}
 use Rattle.std.proofs.lemmas.Nat.{div-add-mod', div_below, le-div}
 use Rattle.std.proofs.lemmas.List.{append-nil, get_or-drop, get_or-take, length-drop, length-take, take-append-drop, take_rest}
+use Rattle.std.proofs.lemmas.List.Sums.{prefix_len_passes, prefix_len_stops}
 use Rattle.std.proofs.lemmas.List.Elements.{All-contains, All-take, filter-append, filter_agree}
 use Rattle.std.proofs.lemmas.Grind.{common_steps}
 use Rattle.std.proofs.lemmas.List.Kept.{IsNonDecreasingBy-filter}
-use Rattle.std.proofs.lemmas.List.Sorted.{IsNonDecreasingBy-from_all_adjacent}
+use Rattle.std.proofs.lemmas.List.Sorted.{IsNonDecreasingBy-drop, IsNonDecreasingBy-from_all_adjacent}
 use Rattle.cdm_time.specs.Windows.{window_has}
 use Rattle.cdm_sequence.specs.Slots.{slot_cmp}
 use Rattle.cdm_sequence.specs.declared.slot.Slot.{Slot}
-use Rattle.cdm_view.specs.inner.Earlier.{IsByTakeOff, met_among, taken_slots}
+use Rattle.cdm_view.specs.inner.Earlier.{IsAhead, IsByTakeOff, is_passed, met_among, not_passed, taken_slots}
 use Rattle.cdm_view.specs.Turns.{turn_in}
 use Rattle.cdm_view.proofs.ListLemmas.{filter_all, filter_none}
 use Rattle.cdm_flight.specs.Spacing.{occupancy_of}
@@ -138,6 +139,72 @@ module _ (w : Waiting) (m : ℕ) where
   cell_part c n positive same at =
       filter_agree (λ (s : Slot). window_has (n / c * c) (n / c * c + c) s.ttot) (λ (s : Slot). s.ttot / w.rules.cell == m / w.rules.cell)
       (λ s. in_cell c n s.ttot positive ∙ (ap (λ k. s.ttot / k == n / k) same ∙ ap (λ k. s.ttot / w.rules.cell == k / w.rules.cell) at)) w.earlier
+
+-- The first slots, one after another.
+
+module _ {X : Type 0} (p q : X → Bool) (xs : List X) where
+  abbrev parted : filter q xs ≡ filter q (take (prefix_len p xs) xs) ++ filter q (drop (prefix_len p xs) xs)
+  parted = ap (filter q) (sym (take-append-drop (prefix_len p xs) xs)) ∙ filter-append q (take (prefix_len p xs) xs) (drop (prefix_len p xs) xs)
+
+  first_pass : All (λ x. p x ≡ true) (take (prefix_len p xs) xs)
+  first_pass k d l =
+      let short : k < prefix_len p xs = omega (arith, l, length-take (prefix_len p xs) xs) in
+      ap p (get_or-take (prefix_len p xs) xs k d short) ∙ prefix_len_passes p xs k d short
+
+  -- where a test fails for what passes another, the first that pass that one can be left out
+  kept_left : ((x : X) → p x ≡ true → q x ≡ false) → filter q (drop (prefix_len p xs) xs) ≡ filter q xs
+  kept_left apart =
+      let first = take (prefix_len p xs) xs in
+      let none : filter q first ≡ [] = filter_none q first (λ x c. apart x (All-contains (λ y. p y ≡ true) first x first_pass c)) in
+      sym (parted ∙ ap (λ l. l ++ filter q (drop (prefix_len p xs) xs)) none)
+
+  -- and where it fails for all behind them, only they are kept
+  kept_first : All (λ x. q x ≡ false) (drop (prefix_len p xs) xs) → filter q (take (prefix_len p xs) xs) ≡ filter q xs
+  kept_first fails =
+      let rest = drop (prefix_len p xs) xs in
+      let none : filter q rest ≡ [] = filter_none q rest (λ x c. All-contains (λ y. q y ≡ false) rest x fails c) in
+      sym (parted ∙ ap (λ l. filter q (take (prefix_len p xs) xs) ++ l) none ∙ append-nil (filter q (take (prefix_len p xs) xs)))
+
+-- a flight that has left the runway by a minute meets none that takes off at it or later
+apart_passed : (m k t own other : ℕ) → m ≤ k → nat_le (t + other) m ≡ true → nat_lt (max k t) (min (k + own) (t + other)) ≡ false
+apart_passed m k t own other later passed =
+    let end = leb-true (t + other) m passed in
+    false_from_ne_true _ (λ met. absurd (omega (arith, later, end, ltb-true (max k t) (min (k + own) (t + other)) met)))
+
+-- nor does one that takes off when the other has left it
+apart_behind : (m t own other end : ℕ) → end ≡ m + own → end ≤ t → nat_lt (max m t) (min (m + own) (t + other)) ≡ false
+apart_behind m t own other end same behind =
+    false_from_ne_true _ (λ met. absurd (omega (arith, same, behind, ltb-true (max m t) (min (m + own) (t + other)) met)))
+
+module _ (w : Waiting) (m : ℕ) (slots : List Slot) where
+  -- the slots ahead are left when those that are passed are not
+  pub ahead_left : IsAhead w m slots → IsAhead w m (not_passed w m slots)
+  ahead_left a = record {
+    in_order = IsNonDecreasingBy-drop (λ (s : Slot). s.ttot) (prefix_len (is_passed w m) slots) slots a.in_order;
+    met = λ k later. kept_left (is_passed w m) (λ (s : Slot). meets (taken_by w.rules w.flight.group k) (taken_by w.rules s.group s.ttot)) slots
+        (λ s passed. apart_passed m k s.ttot (occupancy_of w.rules.spacing w.flight.group) (occupancy_of w.rules.spacing s.group) later passed) ∙ a.met k later;
+  }
+
+  -- as it is read of minutes and slots that have two names
+  pub ahead_step : (n : ℕ) (rest : List Slot) → n ≡ m → rest ≡ not_passed w n slots → IsAhead w m slots → IsAhead w n rest
+  ahead_step n rest same left a = subst (λ k. IsAhead w k rest) (sym same) (subst (IsAhead w m) (sym (left ∙ ap (λ k. not_passed w k slots) same)) (ahead_left a))
+
+  -- and are ahead a minute later
+  pub ahead_next : IsAhead w m slots → IsAhead w (m + 1) slots
+  ahead_next a = record { in_order = a.in_order; met = λ k later. a.met k (omega (arith, later)) }
+
+  -- the flight meets none behind the first that takes off when it has left the runway
+  pub met_before : (end : ℕ) → end ≡ m + occupancy_of w.rules.spacing w.flight.group → IsByTakeOff slots
+      → met_among w m (take (prefix_len (λ s. ltb s.ttot end) slots) slots) ≡ met_among w m slots
+  met_before end same order =
+      let test = λ (s : Slot). ltb s.ttot end in
+      let n = prefix_len test slots in
+      kept_first test (λ (s : Slot). meets (taken_by w.rules w.flight.group m) (taken_by w.rules s.group s.ttot)) slots (λ k d l.
+      let long = length-drop n slots in
+      let stops = ltb-false (get_or slots n d).ttot end (prefix_len_stops test slots d (omega (arith, l, long))) in
+      let behind : end ≤ (get_or slots (n + k) d).ttot = omega (arith, stops, order n (n + k) d (omega arith) (omega (arith, l, long))) in
+      rw (get_or-drop n slots k d) (apart_behind m (get_or slots (n + k) d).ttot (occupancy_of w.rules.spacing w.flight.group)
+      (occupancy_of w.rules.spacing (get_or slots (n + k) d).group) end same behind))
 
 -- The slots that are taken when a flight's turn comes.
 

@@ -1,4 +1,5 @@
 pub mod Ends
+pub mod Kept
 pub mod Known
 pub mod Parts
 pub mod Passed

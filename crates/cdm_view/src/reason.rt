@@ -1,7 +1,8 @@
 //! Why a flight can't take off at a minute.
 ghost use Rattle.std.specs.Prelude.{◌≡◌, ◌↔◌, IsTrue};
 
-use cdm_flight::{Cap, FlightName, Listed};
+use crate::names::Names;
+use cdm_flight::Cap;
 
 /// Why a planned flight can't take off at a minute, in the order in which the reasons are asked
 /// (local profile). Names of flights stand by take-off and name.
@@ -16,13 +17,13 @@ pub enum Reason {
     /// The runway is closed.
     Closure,
     /// These flights occupy the runway at a minute at which it would.
-    Spacing(Listed<FlightName>),
+    Spacing(Names),
     /// The cell takes so many flights, and has taken these.
-    Rate(Cap, Listed<FlightName>),
+    Rate(Cap, Names),
 }
 
 // Whether both have the same names, in the same order.
-fn are_same_names(names: &Listed<FlightName>, others: &Listed<FlightName>) -> bool
+fn are_same_names(names: &Names, others: &Names) -> bool
     ensures { IsTrue result ↔ (names.now ≡ others.now) }
 {
     names.as_slice() == others.as_slice()

@@ -47,9 +47,11 @@ pub(crate) fn runs_of(alloc: Global, waiting: &Waiting, to: Bound) -> Result<Vec
     ensures { IfOk result (λ runs. AreRuns (reason_at waiting.now) (waiting.now.tobt + waiting.now.exot) to runs.items) }
 {
     let mut runs = Vec::new(alloc);
+    let mut ahead = waiting.earlier.as_slice();
     for number in waiting.tobt.get() + waiting.exot..to.get() {
         let minute = Minute::new(number).unwrap();
-        if let Some(reason) = waiting.reason_at(alloc, minute)? {
+        ahead = waiting.not_passed(minute, ahead);
+        if let Some(reason) = waiting.reason_at(alloc, minute, ahead)? {
             add_minute(&mut runs, minute, reason)?;
         }
     }

@@ -7,16 +7,15 @@ ghost use Rattle.cdm_flight.specs.Spacing.{occupancy_of};
 ghost use Rattle.cdm_flight.specs.declared.group.Group.{Group};
 ghost use Rattle.cdm_runway.specs.Room.{meets, taken_by};
 ghost use Rattle.cdm_sequence.specs.Aims.{exot_to};
-ghost use Rattle.cdm_view.specs.inner.Earlier.{is_taken, met_among, taken_slots};
+ghost use Rattle.cdm_view.specs.inner.Earlier.{IsAhead, IsByTakeOff, is_passed, is_taken, met_among, not_passed, taken_slots};
 ghost use Rattle.cdm_view.specs.Reasons.{held_at, met_at, names_of, reason_at, waiting_of};
 ghost use Rattle.cdm_view.specs.Turns.{AreTurns};
 
+use crate::names::Names;
 use crate::reason::Reason;
 use crate::turns::{Turn, Turns};
 use cdm_day::runway_named;
-use cdm_flight::{
-    DayValues, Flight, FlightName, Group, Key, Listed, RunwayName, before, push_last,
-};
+use cdm_flight::{DayValues, Flight, FlightName, Group, Key, RunwayName, before, push_last};
 use cdm_plan::Records;
 use cdm_runway::Runway;
 use cdm_sequence::{Mark, Slot};
@@ -115,24 +114,50 @@ impl Waiting<'_> {
         self.earlier_in(own.saturating_sub(self.longest()), end)
     }
 
-    // The flights of the slots that it would meet, if it took off at the minute.
-    fn met_among(
-        &self,
-        alloc: Global,
-        minute: Minute,
-        slots: &[Slot],
-    ) -> Result<Vec<FlightName>, AllocError>
-        ensures { IfOk result (λ names. names.items ≡ names_of (met_among self.now minute slots.now)) }
+    // Whether the flight of the slot has left the runway by the minute.
+    fn is_passed(&self, minute: Minute, slot: &Slot) -> bool
+        ensures { result ≡ is_passed self.now minute slot.now }
     {
-        let met = slots.iter().filter(|slot| self.meets(minute, slot));
-        met.map(|slot| slot.name).collect(alloc)
+        let end = slot.ttot.get() + self.runway.occupancy(slot.group).get();
+        end <= minute.get()
     }
 
-    // The flights that it would meet, if it took off at the minute.
-    fn met_at(&self, alloc: Global, minute: Minute) -> Result<Vec<FlightName>, AllocError>
-        ensures { IfOk result (λ names. names.items ≡ names_of (met_at self.now minute)) }
+    // The slots from the first on whose flight hasn't left the runway by the minute.
+    pub(crate) fn not_passed<'s>(&self, minute: Minute, slots: &'s [Slot]) -> &'s [Slot]
+        ensures { result.now ≡ not_passed self.now minute slots.now }
     {
-        self.met_among(alloc, minute, self.near(minute))
+        let passed = slots
+            .iter()
+            .take_while(|slot| self.is_passed(minute, slot))
+            .count();
+        &slots[passed..]
+    }
+
+    // The slots up to the first that takes off when the flight has left the runway, if it took off at the minute.
+    fn before_end<'s>(&self, minute: Minute, slots: &'s [Slot]) -> &'s [Slot]
+        requires { IsByTakeOff slots.now }
+        ensures { met_among self.now minute result.now ≡ met_among self.now minute slots.now }
+    {
+        let flight = self.flight;
+        let end = minute.get() + self.runway.occupancy(flight.group).get();
+        let count = slots
+            .iter()
+            .take_while(|slot| slot.ttot.get() < end)
+            .count();
+        &slots[..count]
+    }
+
+    // The flights of the slots that it would meet, if it took off at the minute.
+    fn met_among(&self, alloc: Global, minute: Minute, slots: &[Slot]) -> Result<Names, AllocError>
+        ensures { IfOk result (λ names. names ≡ names_of (met_among self.now minute slots.now)) }
+    {
+        let mut names = Names::none(alloc);
+        for slot in slots {
+            if self.meets(minute, slot) {
+                names.push(alloc, slot.name)?;
+            }
+        }
+        Ok(names)
     }
 
     // The slots in the cell of the minute.
@@ -144,13 +169,15 @@ impl Waiting<'_> {
         self.earlier_in(first, first + cell)
     }
 
-    /// Why the flight can't take off at the minute: the first reason that holds.
+    /// Why the flight can't take off at the minute, by the slots that are ahead of it: the first reason that holds.
     #[tactic(auto, unfolding(crate::specs::Reasons::reason_at))]
     pub(crate) fn reason_at(
         &self,
         alloc: Global,
         minute: Minute,
+        ahead: &[Slot],
     ) -> Result<Option<Reason>, AllocError>
+        requires { IsAhead self.now minute ahead.now }
         ensures { IfOk result (λ reason. reason ≡ reason_at self.now minute) }
     {
         let flight = self.flight;
@@ -167,15 +194,15 @@ impl Waiting<'_> {
         if self.runway.closed(minute) {
             return Ok(Some(Reason::Closure));
         }
-        let met = self.met_at(alloc, minute)?;
-        if !met.is_empty() {
-            return Ok(Some(Reason::Spacing(Listed::new(met))));
+        let met = self.met_among(alloc, minute, self.before_end(minute, ahead))?;
+        if !met.as_slice().is_empty() {
+            return Ok(Some(Reason::Spacing(met)));
         }
         let cap = self.runway.cap_at(minute);
         let held = self.held_at(minute);
         if usize::from(cap.get()) <= held.len() {
             let names = names_of(alloc, held)?;
-            return Ok(Some(Reason::Rate(cap, Listed::new(names))));
+            return Ok(Some(Reason::Rate(cap, Names::of(names))));
         }
         Ok(None)
     }

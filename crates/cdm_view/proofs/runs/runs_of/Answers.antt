@@ -2,6 +2,8 @@ use Rattle.std.proofs.Common.{◌≡◌, ℕ, ◌+◌, ◌⊎◌, ◌≤◌, inl
 use Rattle.std.proofs.lemmas.Grind.{common_steps}
 use Rattle.cdm_view.specs.Reasons.{Waiting, reason_at}
 use Rattle.cdm_view.specs.Runs.{AreRuns}
+use Rattle.cdm_view.specs.inner.Earlier.{IsAhead, IsByTakeOff, met_among}
+use Rattle.cdm_view.proofs.EarlierLemmas.{ahead_next, ahead_step}
 use Rattle.cdm_view.proofs.RunLemmas.{runs_end, runs_none, runs_start}
 use Rattle.cdm_view.proofs.runs.runs_of.Goals.{in-Some+in_ok-add_minute, in_default}
 use Rattle.cdm_view.proofs.runs.runs_of.Goals as goal
@@ -13,7 +15,22 @@ begins v w tobt same is = ap (λ t. t + v.exot) same ∙ ap (λ (x : Waiting). x
 pub loop-number-init : goal.loop-number-init
 loop-number-init c =
     let w = c.args.waiting.now in
-    record { runs = runs_start (reason_at w) (w.tobt + w.exot) _ _ c.new-runs.ensures.items (begins _ w _ c.get.ensures.value c.waiting.view_is); short = inr refl }
+    let all : c.as_slice-ahead.result.now ≡ w.earlier = c.as_slice-ahead.ensures.value ∙ ap (λ (v : Waiting). v.earlier) c.waiting.view_is in
+    record {
+      runs = runs_start (reason_at w) (w.tobt + w.exot) _ _ c.new-runs.ensures.items (begins _ w _ c.get.ensures.value c.waiting.view_is);
+      ahead = record {
+        in_order = subst IsByTakeOff (sym c.as_slice-ahead.ensures.value) c.waiting.invariant.in_order;
+        met = λ k later. ap (met_among w k) all;
+      };
+      short = inr refl;
+    }
+
+-- the slots ahead of a minute
+pub reason_at-requires : goal.reason_at-requires
+reason_at-requires c =
+    let at : c.unwrap-minute.result ≡ c.loop-number.number = grind (arith, common_steps) in
+    ahead_step c.args.waiting.now c.loop-number.number c.loop-number.ahead.now c.unwrap-minute.result c.not_passed-ahead.result.now at
+    c.not_passed-ahead.ensures c.loop-number.invariant.ahead
 
 pub loop-number-preserved : goal.loop-number-preserved
 loop-number-preserved c =
@@ -34,7 +51,10 @@ loop-number-preserved c =
           let here : told m ≡ None = ap told (sym at) ∙ sym c.in_ok-reason.ensures ∙ v.in_default.is in
           subst (λ runs. AreRuns told from (m + 1) runs.items) (sym v.runs-is) (runs_none told from m _ c.loop-number.invariant.runs here)
     ] in
-    record { runs = runs; short = inl (omega arith) }
+    let rest = c.not_passed-ahead.result.now in
+    let here = ahead_step w m c.loop-number.ahead.now c.unwrap-minute.result rest at c.not_passed-ahead.ensures c.loop-number.invariant.ahead in
+    let ahead = subst (λ k. IsAhead w (k + 1) rest) at (ahead_next w c.unwrap-minute.result rest here) in
+    record { runs = runs; ahead = ahead; short = inl (omega arith) }
 
 pub returns : goal.returns
 returns c =

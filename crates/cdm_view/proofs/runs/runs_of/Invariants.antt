@@ -1,4 +1,5 @@
 use Rattle.std.proofs.Common.{◌≡◌, ◌+◌, ◌≤◌, ◌⊎◌}
+use Rattle.cdm_view.specs.inner.Earlier.{IsAhead}
 use Rattle.cdm_view.specs.Reasons.{reason_at}
 use Rattle.cdm_view.specs.Runs.{AreRuns}
 use Rattle.cdm_view.proofs.runs.runs_of.Given as goal
@@ -6,5 +7,6 @@ use Rattle.cdm_view.proofs.runs.runs_of.Given as goal
 abbrev pub invariant-loop-number : goal.invariant-loop-number
 invariant-loop-number l = record {
   runs : AreRuns (reason_at l.waiting) (l.waiting.tobt + l.waiting.exot) l.number l.runs.items;
+  ahead : IsAhead l.waiting l.number l.ahead;
   short : (l.number ≤ l.number-end) ⊎ (l.number ≡ l.initial.number);
 }
