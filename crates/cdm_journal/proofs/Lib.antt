@@ -1,7 +1,6 @@
 pub mod TextLemmas
 pub mod LineLemmas
 pub mod WholeLemmas
-pub mod FieldLemmas
 pub mod RecordLemmas
 pub mod ReadLemmas
 pub mod LengthLemmas
