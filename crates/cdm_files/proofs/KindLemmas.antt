@@ -1,7 +1,8 @@
 -- A record is of the kind that it names, and has as many fields as that kind.
 use Rattle.std.proofs.Common.{◌≡◌, ◌≢◌, ◌+◌, ◌-◌, ◌≤◌, ◌==◌, ℕ, Bool, true, false, List, length, Option, Some, None, Result, Ok, Err, ap, refl, sym, subst, arith, if◌then◌else◌}
 use Rattle.std.specs.Prelude.{nat_lt}
-use Rattle.std.proofs.lemmas.Bool.{eqb-true, ltb-false}
+use Rattle.std.proofs.lemmas.Bool.{ltb-false}
+use Rattle.std.proofs.lemmas.Grind.{common_steps}
 use Rattle.cdm_time.specs.declared.calendar.CalendarDate.{CalendarDate}
 use Rattle.cdm_flight.specs.declared.role.Role.{Role}
 use Rattle.cdm_flight.specs.declared.update.Update.{Update}
@@ -18,11 +19,7 @@ use Rattle.cdm_files.specs.Roles.{role_of}
 -- The number of fields.
 
 counted-other : {X : Type 0} (wanted n : ℕ) (r : Result X RefusalWord) → n ≢ wanted → counted wanted n r ≡ Err word.Fields
-counted-other {X} wanted n r differs = by (n == wanted) (eqb-true n wanted)
-  where
-    by : (same : Bool) → (same ≡ true → n ≡ wanted) → (if same then r else Err word.Fields) ≡ Err word.Fields
-    by true so = absurd (differs (so refl))
-    by false so = refl
+counted-other wanted n r differs = grind (arith, common_steps)
 
 if-other : (day : CalendarDate) (found : Option Kind) (kind : Kind) (n : ℕ) (a b c d : List ℕ) → found ≡ Some kind
     → n ≢ length (fields_of kind) → update_if day found n a b c d ≡ Err word.Fields
@@ -57,22 +54,7 @@ made-of f k (Err w) u of is = cc
 
 by-kind : (day : CalendarDate) (k : Kind) (a b c d : List ℕ) (u : Update) → update_by day k a b c d ≡ Ok u → kind_of u ≡ k
 by-kind day kind.Flt a b c d u = made-of _ kind.Flt _ u (λ x. refl)
-by-kind day kind.Tobt a b c d u = made-of _ kind.Tobt _ u (λ x. refl)
-by-kind day kind.Stand a b c d u = made-of _ kind.Stand _ u (λ x. refl)
-by-kind day kind.Rwy a b c d u = made-of _ kind.Rwy _ u (λ x. refl)
-by-kind day kind.Ctot a b c d u = made-of _ kind.Ctot _ u (λ x. refl)
-by-kind day kind.Ice a b c d u = made-of _ kind.Ice _ u (λ x. refl)
-by-kind day kind.Prio a b c d u = made-of _ kind.Prio _ u (λ x. refl)
-by-kind day kind.Group a b c d u = made-of _ kind.Group _ u (λ x. refl)
-by-kind day kind.Off a b c d u = made-of _ kind.Off _ u (λ x. refl)
-by-kind day kind.Air a b c d u = made-of _ kind.Air _ u (λ x. refl)
-by-kind day kind.Cnl a b c d u = made-of _ kind.Cnl _ u (λ x. refl)
-by-kind day kind.Rate a b c d u = made-of _ kind.Rate _ u (λ x. refl)
-by-kind day kind.Close a b c d u = made-of _ kind.Close _ u (λ x. refl)
-by-kind day kind.Reopen a b c d u = made-of _ kind.Reopen _ u (λ x. refl)
-by-kind day kind.Taxi a b c d u = made-of _ kind.Taxi _ u (λ x. refl)
-by-kind day kind.Clock a b c d u = made-of _ kind.Clock _ u (λ x. refl)
-by-kind day kind.Tol a b c d u = made-of _ kind.Tol _ u (λ x. refl)
+by-kind day k a b c d u = made-of _ k _ u (λ x. refl)
 
 counted-made : {X : Type 0} (t : Bool) (r : Result X RefusalWord) (x : X) → (if t then r else Err word.Fields) ≡ Ok x → r ≡ Ok x
 counted-made true r x is = is

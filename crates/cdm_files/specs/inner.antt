@@ -1,3 +1,2 @@
 pub mod RecordFaults
 pub mod RecordsLeft
-pub mod Replied

@@ -40,6 +40,7 @@ pub fn day_of(alloc: Global, airport: Airport) -> Result<DayState, AllocError>
 }
 
 // Judges the next records of a feed.
+#[tactic(auto, using(crate::proofs::RefusedLemmas::refused_by_day))]
 fn judge_next<R: Threads + Sync, G: Gate>(
     rt: &R,
     alloc: Global,

@@ -1,8 +1,6 @@
 //! The updates of a feed, and its refused records.
-ghost use Rattle.std.specs.Prelude.{◌≡◌, ◌≤◌, ◌<◌, ◌+◌, ◌^◌, ◌++◌, IfOk, OnOk, length};
-ghost use Rattle.std.specs.List.{slice_get};
-ghost use Rattle.cdm_files.specs.Refused.{if_refused, refused_by_replies, updates_in};
-ghost use Rattle.cdm_files.specs.inner.Replied.{reply_count, word_here};
+ghost use Rattle.std.specs.Prelude.{◌≡◌, ◌≤◌, ◌<◌, ◌+◌, ◌^◌, ◌∷◌, ◌++◌, ℕ, List, IfOk, OnOk, length};
+ghost use Rattle.cdm_files.specs.Refused.{Spelled, if_refused, refused_by_replies, updates_in};
 
 use cdm_day::Reply;
 use cdm_flight::{RefusalWord, Role, Update, push_last};
@@ -25,34 +23,20 @@ pub fn updates_of(
     Ok(updates)
 }
 
-// The reply at this place, if there are so many.
-fn reply_at(replies: &[Reply], place: usize) -> Option<Reply>
-    ensures { result ≡ slice_get replies.now place }
-{
-    replies.get(place).copied()
-}
-
-// The word that refuses a record, in itself or by the reply to its update.
-fn word_here(
+// The word that refuses a record, in itself or by the next of the replies, and the replies to the records behind it.
+#[tactic(auto, unfolding(crate::specs::Refused::refused_by_replies))]
+fn next_word<'a>(
     spelled: &Result<(Role, Update), RefusalWord>,
-    reply: Option<Reply>,
-) -> Option<RefusalWord>
-    ensures { result ≡ word_here spelled.now reply }
+    replies: &'a [Reply],
+) -> (Option<RefusalWord>, &'a [Reply])
+    ensures { (number : ℕ) (later : List Spelled) → refused_by_replies number (spelled.now ∷ later) replies.now
+        ≡ if_refused number result.0 ++ refused_by_replies (number + 1) later result.1.now }
 {
-    match (spelled, reply) {
-        (Err(word), _) => Some(*word),
-        (Ok(_), Some(Reply::Refused(word))) => Some(word),
-        (Ok(_), _) => None,
-    }
-}
-
-// How many replies a record has: one if it spells an update.
-fn reply_count(spelled: &Result<(Role, Update), RefusalWord>) -> usize
-    ensures { result ≡ reply_count spelled.now }
-{
-    match spelled {
-        Ok(_) => 1,
-        Err(_) => 0,
+    match (spelled, replies) {
+        (Err(word), _) => (Some(*word), replies),
+        (Ok(_), [Reply::Refused(word), later @ ..]) => (Some(*word), later),
+        (Ok(_), [Reply::Accepted, later @ ..]) => (None, later),
+        (Ok(_), []) => (None, replies),
     }
 }
 
@@ -72,6 +56,7 @@ fn push_if_refused(
 
 /// The refused records of these by their numbers in the feed, where so many stand before them: those
 /// that spell no update, and those whose update has a reply that refuses it.
+#[tactic(auto, unfolding(crate::specs::Refused::refused_by_replies))]
 pub fn refusals_of(
     alloc: Global,
     before: u32,
@@ -84,12 +69,12 @@ pub fn refusals_of(
 {
     let mut refused = Vec::new(alloc);
     let mut number = before;
-    let mut answered = 0;
+    let mut left = replies;
     for spelled in parsed {
         number += 1;
-        let word = word_here(spelled, reply_at(replies, answered));
+        let (word, later) = next_word(spelled, left);
         push_if_refused(&mut refused, number, word)?;
-        answered += reply_count(spelled);
+        left = later;
     }
     Ok(refused)
 }

@@ -1,132 +1,75 @@
 -- A journal is read back.
-use Rattle.std.proofs.Common.{◌≡◌, ◌<◌, ◌≤◌, ◌+◌, ◌∙◌, ℕ, zero, suc, Bool, true, false, List, [], ◌∷◌, ◌++◌, length, map, Option, Some, None, Result, Ok, Err, refl, sym, ap, subst, arith, if◌then◌else◌}
-use Rattle.std.specs.Prelude.{bytes_eq, codes, is_ok, is_some, nat_lt}
-use Rattle.std.proofs.lemmas.Bool.{ltb-true}
+use Rattle.std.proofs.Common.{◌≡◌, ◌<◌, ◌≤◌, ◌+◌, ◌∙◌, ℕ, zero, suc, List, [], ◌∷◌, ◌++◌, length, map, Ok, refl, ap, arith}
+use Rattle.std.specs.Prelude.{nat_lt}
 use Rattle.std.proofs.lemmas.List.{length-append, map-append}
 use Rattle.std.proofs.lemmas.List.Concat.{flat_map-append}
 use Rattle.std.proofs.lemmas.List.{append-nil}
-use Rattle.std.proofs.lemmas.Slice.Eq.{bytes_eq-Decides}
 use Rattle.csv.specs.Reading.{default_config, records_from, strip_bom}
 use Rattle.csv.specs.Machine.{next_record}
 use Rattle.csv.specs.Records.{field_at}
 use Rattle.csv.specs.Writing.{fields_text, is_blank, read_back}
 use Rattle.csv.specs.declared.parser.State.TheVariants as st
 use Rattle.csv.proofs.RoundTrip.{read-write}
-use Rattle.cdm_flight.specs.Accepted.{accepted, after_one, refusal}
+use Rattle.cdm_flight.specs.Accepted.{accepted}
 use Rattle.cdm_flight.specs.Journal.{AirportRows}
-use Rattle.cdm_flight.specs.declared.role.Role.{Role}
 use Rattle.cdm_flight.specs.declared.update.Update.{Update}
-use Rattle.cdm_flight.specs.declared.word.RefusalWord.{RefusalWord}
-use Rattle.cdm_flight.specs.declared.word.RefusalWord.TheVariants as word
 use Rattle.cdm_files.specs.FeedDay.{accepted_in, refusals_in}
-use Rattle.cdm_files.specs.Parsing.{parse_of, with_role}
+use Rattle.cdm_files.specs.Parsing.{parse_of}
 use Rattle.cdm_files.specs.Records.{records_of}
-use Rattle.cdm_files.specs.Refused.{Spelled, if_refused, refused_in, updates_in}
+use Rattle.cdm_files.specs.Refused.{Spelled, refused_in, updates_in}
 use Rattle.cdm_files.specs.Roles.{role_of}
 use Rattle.cdm_files.proofs.StretchLemmas.{accepted-both, refused-both}
 use Rattle.cdm_journal.specs.Journal.{journal_line, journal_text}
 use Rattle.cdm_journal.specs.Laws.{IsTaken, Make}
+use Rattle.cdm_journal.proofs.RecordLemmas.{Spells, both-spelled, each-taken, of-role}
+use Rattle.std.specs.List.{All}
+use Rattle.std.proofs.lemmas.List.Elements.{All-head, All-tail}
+use Rattle.cdm_time.specs.declared.calendar.CalendarDate.{CalendarDate}
 
--- Rows, as csv reads what it wrote.
+-- Lines.
 
-line-some : (fields : List (List ℕ)) → 0 < length (journal_line fields)
-unfolding journal_line
-line-some fields = simp length-append (omega arith)
+-- the line of a record that spells an update begins with a role's word, and with no byte order mark
+line-unmarked : (day : CalendarDate) (fields : List (List ℕ)) (later : List ℕ) → Spells day fields → strip_bom (journal_line fields ++ later) ≡ journal_line fields ++ later
+unfolding parse_of field_at journal_line is_blank fields_text strip_bom
+line-unmarked day [] later is = cc
+line-unmarked day (x ∷ []) later is = cc
+line-unmarked day (x ∷ y ∷ fields) later is =
+    of-role (λ z. strip_bom (journal_line (z ∷ y ∷ fields) ++ later) ≡ journal_line (z ∷ y ∷ fields) ++ later) x refl refl refl refl refl
+    (both-spelled (nat_lt (length (x ∷ y ∷ fields)) 2) (role_of x) _ is).0
+
+-- and it is read back as it is
+line-back : (day : CalendarDate) (fields : List (List ℕ)) → Spells day fields → read_back fields ≡ fields
+unfolding parse_of
+line-back day [] is = cc
+line-back day (x ∷ fields) is = refl
+
+-- Journals.
 
 rows-few : (records : List (List (List ℕ))) → length records ≤ length (journal_text records)
-unfolding journal_text
+unfolding journal_text journal_line
 rows-few [] = omega arith
-rows-few (fields ∷ records) = simp length-append (omega (arith, line-some fields, rows-few records))
+rows-few (fields ∷ records) = simp length-append (omega (arith, rows-few records))
 
-rows-read : (n : ℕ) (records : List (List (List ℕ))) → length records < n → records_from default_config n st.StartRecord (journal_text records) ≡ map read_back records
+unmarked : (day : CalendarDate) (records : List (List (List ℕ))) → All (Spells day) records → strip_bom (journal_text records) ≡ journal_text records
+unfolding journal_text strip_bom
+unmarked day [] each = refl
+unmarked day (fields ∷ records) each = line-unmarked day fields (journal_text records) (All-head (Spells day) fields records each)
+
+rows-read : (day : CalendarDate) (n : ℕ) (records : List (List (List ℕ))) → length records < n → All (Spells day) records → records_from default_config n st.StartRecord (journal_text records) ≡ records
 unfolding records_from next_record journal_text journal_line
-rows-read zero records few = absurd (omega (arith, few))
-rows-read (suc n) [] few = refl
-rows-read (suc n) (fields ∷ records) few =
-    rw (read-write fields (journal_text records)) (ap (λ (rs : List (List (List ℕ))). read_back fields ∷ rs) (rows-read n records (omega (arith, few))))
-
--- Records that spell updates.
-
--- a role's word begins no byte order mark
-module _ (y : List ℕ) (fields : List (List ℕ)) (later : List ℕ) where
-  abbrev Begins : List ℕ → Type 0
-  Begins x = strip_bom (journal_line (x ∷ y ∷ fields) ++ later) ≡ journal_line (x ∷ y ∷ fields) ++ later
-
-  word-or : (x text : List ℕ) (role : Role) (other : Option Role) → Begins text → (is_some other ≡ true → Begins x)
-      → is_some (if bytes_eq x text then Some role else other) ≡ true → Begins x
-  word-or x text role other first second = by (bytes_eq x text) refl
-    where
-      by : (b : Bool) → bytes_eq x text ≡ b → is_some (if b then Some role else other) ≡ true → Begins x
-      by true same is = subst Begins (sym ((bytes_eq-Decides x text).0 same)) first
-      by false other is = second is
-
-  role-begins : (x : List ℕ) → is_some (role_of x) ≡ true → Begins x
-  unfolding role_of journal_line is_blank fields_text strip_bom
-  role-begins x =
-      word-or x (codes "AO") _ _ refl (word-or x (codes "GH") _ _ refl (word-or x (codes "AP") _ _ refl
-      (word-or x (codes "ATC") _ _ refl (word-or x (codes "NM") _ _ refl (λ is. cc)))))
-
-has-role : (role : Option Role) (r : Result Update RefusalWord) → is_ok (with_role role r) ≡ true → is_some role ≡ true
-has-role (Some role) r is = refl
-has-role None (Err word.Fields) is = cc
-has-role None r is = cc
+rows-read day zero records few each = absurd (omega (arith, few))
+rows-read day (suc n) [] few each = refl
+rows-read day (suc n) (fields ∷ records) few each =
+    let later = rows-read day n records (omega (arith, few)) (All-tail (Spells day) fields records each) in
+    rw (read-write fields (journal_text records), line-back day fields (All-head (Spells day) fields records each), later) refl
 
 module _ (g : AirportRows) where
-  abbrev refused : List Update → ℕ → List (List (List ℕ)) → List (ℕ × RefusalWord)
-  refused a number records = refused_in g a number (map (parse_of g.day) records)
-
-  first-ok : (a : List Update) (number : ℕ) (r : Spelled) (later : List Spelled) → refused_in g a number (r ∷ later) ≡ [] → is_ok r ≡ true
-  unfolding refused_in
-  first-ok a number (Ok p) later none = refl
-  first-ok a number (Err word) later none = cc
-
-  pub none-later : (number : ℕ) (word : Option RefusalWord) (later : List (ℕ × RefusalWord)) → if_refused number word ++ later ≡ [] → later ≡ []
-  none-later number None later none = none
-  none-later number (Some word) later none = cc
-
-  role-known : (x y : List ℕ) (fields : List (List ℕ)) → is_ok (parse_of g.day (x ∷ y ∷ fields)) ≡ true → is_some (role_of x) ≡ true
-  unfolding parse_of field_at
-  role-known x y fields = by (nat_lt (length (x ∷ y ∷ fields)) 2) refl _
-    where
-      by : (b : Bool) → nat_lt (length (x ∷ y ∷ fields)) 2 ≡ b → (r : Result Update RefusalWord)
-          → is_ok (if b then Err word.Fields else with_role (role_of x) r) ≡ true → is_some (role_of x) ≡ true
-      by true short r is = absurd (omega (arith, ltb-true _ _ short))
-      by false long r is = has-role (role_of x) r is
-
-  -- so the journal begins with no byte order mark
-  unmarked : (records : List (List (List ℕ))) → refused [] 1 records ≡ [] → strip_bom (journal_text records) ≡ journal_text records
-  unfolding journal_text parse_of refused_in strip_bom
-  unmarked [] none = refl
-  unmarked ([] ∷ records) none = cc
-  unmarked ((x ∷ []) ∷ records) none = cc
-  unmarked ((x ∷ y ∷ fields) ∷ records) none =
-      role-begins y fields (journal_text records) x (role-known x y fields (first-ok [] 1 (parse_of g.day (x ∷ y ∷ fields)) (map (parse_of g.day) records) none))
-
-  one-back : (fields : List (List ℕ)) → is_ok (parse_of g.day fields) ≡ true → read_back fields ≡ fields
-  unfolding parse_of
-  one-back [] is = cc
-  one-back (x ∷ fields) is = refl
-
-  -- and each record is read back as it is
-  all-back : (a : List Update) (number : ℕ) (records : List (List (List ℕ))) → refused a number records ≡ [] → map read_back records ≡ records
-  unfolding refused_in
-  all-back a number [] none = refl
-  all-back a number (fields ∷ records) none =
-      by (parse_of g.day fields) refl none (λ b later. all-back b (number + 1) records later)
-    where
-      by : (r : Spelled) → parse_of g.day fields ≡ r → refused_in g a number (r ∷ map (parse_of g.day) records) ≡ []
-          → ((b : List Update) → refused b (number + 1) records ≡ [] → map read_back records ≡ records) → map read_back (fields ∷ records) ≡ fields ∷ records
-      by (Err word) is none more = cc
-      by (Ok p) is none more =
-          let first = one-back fields (ap is_ok is) in
-          let later = more (after_one g a p) (none-later number (refusal g a p.0 p.1) _ none) in
-          λ i. first i ∷ later i
-
   pub reads-back : (records : List (List (List ℕ))) (updates : List Update) → Make g records updates → records_of (journal_text records) ≡ records
   unfolding records_of
   reads-back records updates make =
-      ap (λ (t : List ℕ). records_from default_config (length t + 1) st.StartRecord t) (unmarked records make.none_refused)
-      ∙ rows-read (length (journal_text records) + 1) records (omega (arith, rows-few records)) ∙ all-back [] 1 records make.none_refused
+      let each = (each-taken g [] 1 records make.none_refused (omega arith)).0 in
+      ap (λ (t : List ℕ). records_from default_config (length t + 1) st.StartRecord t) (unmarked g.day records each)
+      ∙ rows-read g.day (length (journal_text records) + 1) records (omega (arith, rows-few records)) each
 
   pub has-updates : (records : List (List (List ℕ))) (updates : List Update) → Make g records updates
       → (refusals_in g (journal_text records) ≡ []) × (accepted_in g (journal_text records) ≡ updates)

@@ -11,6 +11,7 @@ use std::alloc::{AllocError, Global};
 
 /// Puts a record behind a text: its fields as they stand, with a comma between each two. Only want of memory makes it
 /// fail.
+#[tactic(auto, using(crate::proofs::TextLemmas::first_text, crate::proofs::TextLemmas::more_text, std::proofs::lemmas::Grind::common_steps))]
 pub fn push_record_text(text: &mut Vec<u8>, row: &ByteRecord) -> Result<(), AllocError>
     ensures { OnOk result (text.new.items ≡ text.old.items ++ record_text (fields_of row.now)) }
 {
@@ -51,6 +52,7 @@ pub fn journal_line(alloc: Global, row: &ByteRecord) -> Result<Vec<u8>, AllocErr
 
 /// The records of a feed as a journal's own lines, without its blank lines, and with no more quotes than they need.
 /// Only want of memory makes it fail.
+#[tactic(auto, unfolding(crate::specs::Journal::journal_text), using(std::proofs::lemmas::Grind::common_steps))]
 pub fn own_lines(alloc: Global, feed: &[u8]) -> Result<Vec<u8>, AllocError>
     ensures { IfOk result (λ text. text.items ≡ journal_text (records_of feed.now)) }
 {

@@ -6,7 +6,6 @@ abbrev pub invariant-loop-spelled : goal.invariant-loop-spelled
 invariant-loop-spelled l = record {
   number : l.number ≡ l.before + l.spelled-index;
   all : refused_by_replies (l.before + 1) l.parsed l.replies
-      ≡ l.refused.items ++ refused_by_replies (l.number + 1) (drop l.spelled-index l.parsed) (drop l.answered l.replies);
+      ≡ l.refused.items ++ refused_by_replies (l.number + 1) (drop l.spelled-index l.parsed) l.left;
   few : length l.refused.items ≤ l.spelled-index;
-  answered : l.answered ≤ l.spelled-index;
 }

@@ -1,0 +1,94 @@
+-- Records that spell updates.
+use Rattle.std.proofs.Common.{◌≡◌, ◌<◌, ◌≤◌, ◌+◌, ℕ, Bool, true, false, List, [], ◌∷◌, ◌++◌, length, map, Option, Some, None, Result, Ok, Err, refl, sym, ap, subst, arith, if◌then◌else◌, inl, inr, length-append}
+use Rattle.std.specs.Prelude.{bytes_eq, codes, is_ok, is_some}
+use Rattle.std.specs.List.{All, find}
+use Rattle.std.proofs.lemmas.Bool.{cases_Bool, leb-false, or_parts}
+use Rattle.std.proofs.lemmas.List.Elements.{All-nil, All-cons}
+use Rattle.std.proofs.lemmas.Slice.Eq.{bytes_eq-Decides}
+use Rattle.cdm_time.specs.declared.calendar.CalendarDate.{CalendarDate}
+use Rattle.cdm_flight.specs.Accepted.{after_one, is_full, refusal}
+use Rattle.cdm_flight.specs.Journal.{AirportRows}
+use Rattle.cdm_flight.specs.declared.role.Role.{Role}
+use Rattle.cdm_flight.specs.declared.update.Update.{Update}
+use Rattle.cdm_flight.specs.declared.update.Update.TheVariants as update
+use Rattle.cdm_flight.specs.declared.word.RefusalWord.{RefusalWord}
+use Rattle.cdm_flight.specs.declared.word.RefusalWord.TheVariants as word
+use Rattle.cdm_plan.proofs.JournalFacts.{accepted_is}
+use Rattle.cdm_day.proofs.BatchLemmas.{good_from}
+use Rattle.cdm_kinds.specs.Kinds.{all_kinds, kind_name, kind_named}
+use Rattle.cdm_kinds.specs.declared.kind.Kind.{Kind}
+use Rattle.cdm_files.specs.Parsing.{parse_of, with_role}
+use Rattle.cdm_files.specs.Refused.{Spelled, if_refused, refused_in}
+use Rattle.cdm_files.specs.Roles.{role_of}
+
+-- Words.
+
+-- what holds of the words of all roles holds of a text that names one, and so with kinds
+module _ (P : List ℕ → Type 0) (x : List ℕ) where
+  or-word : (text : List ℕ) (role : Role) (other : Option Role) → P text → (is_some other ≡ true → P x) → is_some (if bytes_eq x text then Some role else other) ≡ true → P x
+  or-word text role other first later is = elim (cases_Bool (bytes_eq x text)) [
+    | inl same ↦ subst P (sym ((bytes_eq-Decides x text).0 same)) first
+    | inr differs ↦ later (rw differs at is)
+  ]
+
+  pub of-role : P (codes "AO") → P (codes "GH") → P (codes "AP") → P (codes "ATC") → P (codes "NM") → is_some (role_of x) ≡ true → P x
+  unfolding role_of
+  of-role ao gh ap atc nm =
+      or-word (codes "AO") _ _ ao (or-word (codes "GH") _ _ gh (or-word (codes "AP") _ _ ap (or-word (codes "ATC") _ _ atc (or-word (codes "NM") _ _ nm (λ is. cc)))))
+
+  found : ((kind : Kind) → P (kind_name kind)) → (kinds : List Kind) → is_some (find (λ kind. bytes_eq (kind_name kind) x) kinds) ≡ true → P x
+  found each [] is = cc
+  found each (kind ∷ kinds) is = elim (cases_Bool (bytes_eq (kind_name kind) x)) [
+    | inl same ↦ subst P ((bytes_eq-Decides (kind_name kind) x).0 same) (each kind)
+    | inr differs ↦ found each kinds (rw differs at is)
+  ]
+
+  pub of-kind : ((kind : Kind) → P (kind_name kind)) → is_some (kind_named x) ≡ true → P x
+  unfolding kind_named
+  of-kind each = found each all_kinds
+
+-- Records.
+
+-- a record spells an update
+abbrev pub Spells : CalendarDate → List (List ℕ) → Type 0
+Spells day fields = is_ok (parse_of day fields) ≡ true
+
+-- so its first field names a role, and the others make an update
+pub both-spelled : (short : Bool) (role : Option Role) (r : Result Update RefusalWord) → is_ok (if short then Err word.Fields else with_role role r) ≡ true
+    → (is_some role ≡ true) × (is_ok r ≡ true)
+both-spelled true role r is = cc
+both-spelled false (Some role) (Ok u) is = (refl, refl)
+both-spelled false (Some role) (Err w) is = cc
+both-spelled false None (Err word.Fields) is = cc
+both-spelled false None r is = cc
+
+none-refused : (number : ℕ) (word : Option RefusalWord) (later : List (ℕ × RefusalWord)) → if_refused number word ++ later ≡ [] → (word ≡ None) × (later ≡ [])
+none-refused number None later none = (refl, none)
+none-refused number (Some word) later none = cc
+
+-- Records of which none is refused.
+
+-- FULL refuses an update behind the 20,000th
+room : (g : AirportRows) (a : List Update) (u : Update) → is_full g a u ≡ false → length a < 20000
+room g a (update.Flt f p) free = leb-false 20000 (length a) (or_parts _ _ free).0
+room g a (update.Taxi place r minutes) free = leb-false 20000 (length a) (or_parts _ _ free).0
+room g a _ free = leb-false 20000 (length a) free
+
+-- where none of these records is refused, each spells an update, and the journal has room for them
+pub each-taken : (g : AirportRows) (a : List Update) (number : ℕ) (records : List (List (List ℕ))) → refused_in g a number (map (parse_of g.day) records) ≡ []
+    → length a ≤ 20000 → All (Spells g.day) records × (length a + length records ≤ 20000)
+unfolding refused_in
+each-taken g a number [] none few = (All-nil (Spells g.day), omega (arith, few))
+each-taken g a number (fields ∷ records) none few = by (parse_of g.day fields) refl none (λ b. each-taken g b (number + 1) records)
+  where
+    by : (r : Spelled) → parse_of g.day fields ≡ r → refused_in g a number (r ∷ map (parse_of g.day) records) ≡ []
+        → ((b : List Update) → refused_in g b (number + 1) (map (parse_of g.day) records) ≡ [] → length b ≤ 20000 → All (Spells g.day) records × (length b + length records ≤ 20000))
+        → All (Spells g.day) (fields ∷ records) × (length a + length (fields ∷ records) ≤ 20000)
+    by (Err word) is none more = cc
+    by (Ok p) is none more =
+        let parts = none-refused number (refusal g a p.0 p.1) _ none in
+        let below = room g a p.1 (accepted_is g a p.1 (good_from (record { airport = g; journal = a }) p.0 p.1 parts.0)).room in
+        let next : after_one g a p ≡ a ++ p.1 ∷ [] = rw parts.0 refl in
+        let one = length-append a (p.1 ∷ []) in
+        let later = more (a ++ p.1 ∷ []) (rw next at parts.1) (omega (arith, one, below)) in
+        (All-cons (Spells g.day) fields records (ap is_ok is) later.0, omega (arith, later.1, one))
