@@ -5,6 +5,7 @@ use crate::tests::days::THREE_FLIGHTS;
 use cdm_desk::{DeskDay, DeskReply, push_reply};
 use cdm_flight::{Role, Update};
 use std::alloc::{AllocError, Global};
+use std::process::Abort;
 
 /// How many lines each reply of the morning has: its own, and one for each flight that changes. CD4 becomes known, has a
 /// runway, and a slot; the closure and the first taxi time move all four, the one from a stand none; the rate moves two, the
@@ -37,18 +38,41 @@ fn lines(alloc: Global, desk: &DeskDay, reply: &DeskReply) -> Option<usize> {
     Some(text.lines().count())
 }
 
+// How many lines the reply of a day that is planned like this has.
+fn lines_posted(
+    alloc: Global,
+    desk: &mut DeskDay,
+    update: (Role, Update),
+    before: Planned,
+) -> Option<usize> {
+    let reply = posted(alloc, desk, update, before)?;
+    lines(alloc, desk, &reply)
+}
+
+// Asserts that the update at this place of a morning has a reply of so many lines, and that the day then has it.
+fn assert_posted(
+    rt: &impl Abort,
+    alloc: Global,
+    desk: &mut DeskDay,
+    place: usize,
+    update: (Role, Update),
+    count: usize,
+) {
+    let (before, after) = plans_around(place).expect(rt, "no plan");
+    let found = lines_posted(alloc, desk, update, before);
+    assert_found(rt, found, Some(count), place);
+    let updates = place.saturating_add(10);
+    assert_holds(rt, is_day(desk.state(), updates, after), place);
+}
+
 /// Each record of a morning is answered, the day then has it, and it has a reply of a line for each flight.
 #[test]
 fn refused_memory_leaves_a_posted_day(rt: HostRuntime) {
     let alloc = rt.alloc();
+    let updates = morning().expect(&rt, "no updates");
     let day = made(alloc, &THREE_FLIGHTS).expect(&rt, "no day");
     let mut desk = DeskDay::new(day);
-    let updates = morning().expect(&rt, "no updates");
     for (place, (update, count)) in updates.iter().zip(&LINES).enumerate() {
-        let (before, after) = plans_around(place).expect(&rt, "no plan");
-        let posted = posted(alloc, &mut desk, *update, before);
-        let reply = posted.expect(&rt, "not posted");
-        assert_holds(&rt, is_day(desk.state(), 10 + place, after), place);
-        assert_found(&rt, lines(alloc, &desk, &reply), Some(*count), place);
+        assert_posted(&rt, alloc, &mut desk, place, *update, *count);
     }
 }
