@@ -146,10 +146,15 @@ fn stand_of(place: Place) -> Option<StandName> {
     }
 }
 
-// A taxi time from one of the places to one of three runways.
+// One of three runways.
+fn runway(number: u16) -> Option<RunwayName> {
+    RunwayName::new(&[b'0', b'1' + (number % 3) as u8])
+}
+
+// A taxi time from one of the places to one of the runways.
 fn row(numbers: &mut Numbers) -> Option<Row> {
     let place = place(numbers.below(41))?;
-    let runway = RunwayName::new(&[b'0', b'1' + numbers.below(3) as u8])?;
+    let runway = runway(numbers.below(3))?;
     Some((place, runway, TaxiMinutes::new(1 + numbers.below(120))?))
 }
 
@@ -177,11 +182,20 @@ fn agree_on(table: &TaxiTable, rows: &[Row], place: &Place, runway: &RunwayName)
     found == last && exot == last.or(last_of(rows, &Place::Default, runway))
 }
 
-// Whether they agree on each place and the runway of the last row.
-fn agree(table: &TaxiTable, rows: &[Row]) -> Option<bool> {
-    let (_, runway, _) = rows.last()?;
+// Whether they agree on each place and a runway.
+fn agree_to(table: &TaxiTable, rows: &[Row], runway: &RunwayName) -> Option<bool> {
     for number in 0..=40u16 {
         if !agree_on(table, rows, &place(number)?, runway) {
+            return Some(false);
+        }
+    }
+    Some(true)
+}
+
+// Whether they agree on each place and each runway.
+fn agree(table: &TaxiTable, rows: &[Row]) -> Option<bool> {
+    for number in 0..3u16 {
+        if !agree_to(table, rows, &runway(number)?)? {
             return Some(false);
         }
     }

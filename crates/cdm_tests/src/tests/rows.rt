@@ -3,10 +3,11 @@ use crate::tests::asserts::{assert_found, assert_holds};
 use crate::tests::days::{THREE_FLIGHTS, day_of};
 use crate::tests::memory::is_planned;
 use crate::tests::memory::runway::{two_in_ten, window_of};
-use cdm_day::{Change, DayState, Records, Reply, judge};
+use cdm_day::{Change, DayState, Records, Reply, judge, plan_of};
 use cdm_flight::{FlightName, Group, RefusalWord, Update};
 use cdm_runway::{Blocked, Runway, RunwayFault, RunwayLoad};
 use cdm_scenario::{Overlay, Scenario, ScenarioName};
+use cdm_sequence::Plan;
 use cdm_time::{Bound, Minute, Tolerance, Window, ctot_window};
 use std::alloc::Global;
 
@@ -117,15 +118,26 @@ fn tobt(overlay: &Overlay) -> Option<u16> {
 }
 
 // Whether AB1 takes off last, at 06:30.
-fn is_last(alloc: Global, overlay: &Overlay) -> Option<bool> {
-    let plan = overlay.plan(alloc).ok()?;
+fn is_last(plan: &Plan) -> Option<bool> {
     let last = plan.runways.as_slice().first()?.slots.as_slice().last()?;
-    Some(last.name.text() == "AB1" && is_planned(&plan, (&[375, 375, 390], 0)))
+    Some(last.name.text() == "AB1" && is_planned(plan, (&[375, 375, 390], 0)))
+}
+
+// Whether it does so in the plan over the day, and in that which is made anew.
+fn is_last_over(alloc: Global, overlay: &Overlay) -> Option<(bool, bool)> {
+    let over = is_last(&overlay.plan(alloc).ok()?)?;
+    let anew = is_last(&plan_of(alloc, overlay).ok()?)?;
+    Some((over, anew))
 }
 
 /// Whether a TOBT of an unknown flight is refused over a day, whether a later one of AB1 is taken, which TOBT it then has, and
-/// whether it takes off last.
-type Laid = (Option<bool>, Option<bool>, Option<u16>, Option<bool>);
+/// whether it takes off last, also in a plan that is made anew.
+type Laid = (
+    Option<bool>,
+    Option<bool>,
+    Option<u16>,
+    Option<(bool, bool)>,
+);
 
 // What is found so over this day.
 fn laid_over(alloc: Global, base: &DayState) -> Laid {
@@ -133,7 +145,7 @@ fn laid_over(alloc: Global, base: &DayState) -> Laid {
     let is_refused = refuses_unknown(alloc, &mut overlay);
     let is_taken = takes_later(alloc, &mut overlay);
     let later = tobt(&overlay);
-    (is_refused, is_taken, later, is_last(alloc, &overlay))
+    (is_refused, is_taken, later, is_last_over(alloc, &overlay))
 }
 
 /// Over the day of three flights a TOBT of an unknown flight is refused, and a later one of AB1 is taken: then AB1 takes off
@@ -142,7 +154,8 @@ fn laid_over(alloc: Global, base: &DayState) -> Laid {
 fn an_overlay_is_judged_and_planned(rt: HostRuntime) {
     let base = day_of(rt.alloc(), &THREE_FLIGHTS).expect(&rt, "no day");
     let found = laid_over(rt.alloc(), &base);
-    let wanted = (Some(true), Some(true), Some(375), Some(true));
+    let last = Some((true, true));
+    let wanted = (Some(true), Some(true), Some(375), last);
     assert_found(&rt, found, wanted, "over the day");
     let stays = is_planned(base.plan(), (&[375, 375, 380], 0));
     assert_holds(&rt, stays, "the day");

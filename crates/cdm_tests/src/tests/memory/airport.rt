@@ -100,11 +100,15 @@ fn begun(alloc: Global, airport: Airport, before: &Airport) -> Option<DayState> 
     }
 }
 
+// How many runways are planned on the day that begins so.
+fn runways_of(day: Option<DayState>) -> Option<usize> {
+    Some(day?.plan().runways.len())
+}
+
 // How many runways are planned on it.
 fn runways_begun(alloc: Global, airport: Airport) -> Option<usize> {
     let before = copied(alloc, &airport)?;
-    let day = begun(alloc, airport, &before)?;
-    Some(day.plan().runways.len())
+    runways_of(begun(alloc, airport, &before))
 }
 
 /// A refused row leaves no trace, and the airport comes back where its day can't begin.

@@ -51,9 +51,14 @@ fn is_copied(alloc: Global, day: &DayState, wanted: Planned) -> bool {
     }
 }
 
-// Whether a copy of the whole day after the morning is alike.
+// The whole day after the morning once more.
+fn copied(alloc: Global, day: &DayState) -> Option<DayState> {
+    again!(day.copy(alloc), AllocError, is_day(day, 18, PLANS[9]))
+}
+
+// Whether it is alike.
 fn is_copied_whole(alloc: Global, day: &DayState) -> bool {
-    match again!(day.copy(alloc), AllocError, is_day(day, 18, PLANS[9])) {
+    match copied(alloc, day) {
         Some(copied) => is_day(&copied, 18, PLANS[9]),
         None => false,
     }

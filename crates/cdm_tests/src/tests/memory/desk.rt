@@ -2,14 +2,18 @@
 use super::{Planned, is_day, made, morning, plans_around};
 use crate::tests::asserts::{assert_found, assert_holds};
 use crate::tests::days::THREE_FLIGHTS;
-use cdm_desk::{DeskDay, DeskReply, push_reply};
+use cdm_desk::{DeskDay, DeskReply, RowReply, push_reply};
 use cdm_flight::{Role, Update};
 use std::alloc::{AllocError, Global};
+use std::process::Abort;
 
 /// How many lines each reply of the morning has: its own, and one for each flight that changes. CD4 becomes known, has a
 /// runway, and a slot; the closure and the first taxi time move all four, the one from a stand none; the rate moves two, the
 /// opening none, and the clock all.
 const LINES: [usize; 9] = [2, 1, 2, 5, 5, 1, 3, 1, 5];
+
+/// How many Rows change by each: with a runway CD4 has an EXOT too.
+const ROWS: [usize; 9] = [1, 1, 1, 4, 4, 0, 2, 0, 4];
 
 // The reply of a day that is planned like this.
 fn posted(
@@ -37,18 +41,88 @@ fn lines(alloc: Global, desk: &DeskDay, reply: &DeskReply) -> Option<usize> {
     Some(text.lines().count())
 }
 
+// How many lines the reply of a day that is planned like this has.
+fn lines_posted(
+    alloc: Global,
+    desk: &mut DeskDay,
+    update: (Role, Update),
+    before: Planned,
+) -> Option<usize> {
+    let reply = posted(alloc, desk, update, before)?;
+    lines(alloc, desk, &reply)
+}
+
+// Asserts that the update at this place of a morning has a reply of so many lines, and that the day then has it.
+fn assert_posted(
+    rt: &impl Abort,
+    alloc: Global,
+    desk: &mut DeskDay,
+    place: usize,
+    update: (Role, Update),
+    count: usize,
+) {
+    let (before, after) = plans_around(place).expect(rt, "no plan");
+    let found = lines_posted(alloc, desk, update, before);
+    assert_found(rt, found, Some(count), place);
+    let updates = place.saturating_add(10);
+    assert_holds(rt, is_day(desk.state(), updates, after), place);
+}
+
 /// Each record of a morning is answered, the day then has it, and it has a reply of a line for each flight.
 #[test]
 fn refused_memory_leaves_a_posted_day(rt: HostRuntime) {
     let alloc = rt.alloc();
+    let updates = morning().expect(&rt, "no updates");
     let day = made(alloc, &THREE_FLIGHTS).expect(&rt, "no day");
     let mut desk = DeskDay::new(day);
-    let updates = morning().expect(&rt, "no updates");
     for (place, (update, count)) in updates.iter().zip(&LINES).enumerate() {
-        let (before, after) = plans_around(place).expect(&rt, "no plan");
-        let posted = posted(alloc, &mut desk, *update, before);
-        let reply = posted.expect(&rt, "not posted");
-        assert_holds(&rt, is_day(desk.state(), 10 + place, after), place);
-        assert_found(&rt, lines(alloc, &desk, &reply), Some(*count), place);
+        assert_posted(&rt, alloc, &mut desk, place, *update, *count);
+    }
+}
+
+// How many Rows the reply of a day that is planned like this has.
+fn rows_posted(
+    alloc: Global,
+    desk: &mut DeskDay,
+    update: (Role, Update),
+    before: Planned,
+) -> Option<usize> {
+    let (record, updates) = (Ok(update), desk.state().journal().len());
+    let reply = again!(
+        desk.post_rows(alloc, &record),
+        AllocError,
+        is_day(desk.state(), updates, before)
+    )?;
+    match &reply {
+        RowReply::Accepted(rows) => Some(rows.as_slice().len()),
+        RowReply::Refused(_) => None,
+    }
+}
+
+// Asserts that the update at this place of a morning has a reply of so many Rows, and that the day then has it.
+fn assert_rows_posted(
+    rt: &impl Abort,
+    alloc: Global,
+    desk: &mut DeskDay,
+    place: usize,
+    update: (Role, Update),
+    count: usize,
+) {
+    let (before, after) = plans_around(place).expect(rt, "no plan");
+    let found = rows_posted(alloc, desk, update, before);
+    assert_found(rt, found, Some(count), place);
+    let updates = place.saturating_add(10);
+    assert_holds(rt, is_day(desk.state(), updates, after), place);
+}
+
+/// Each record of a morning is answered by the changed Rows, and the day then has it.
+#[test]
+fn refused_memory_leaves_a_day_told_by_rows(rt: HostRuntime) {
+    let alloc = rt.alloc();
+    let updates = morning().expect(&rt, "no updates");
+    let day = made(alloc, &THREE_FLIGHTS).expect(&rt, "no day");
+    let mut desk = DeskDay::new(day);
+    for (place, (update, count)) in updates.iter().zip(&ROWS).enumerate() {
+        assert_rows_posted(&rt, alloc, &mut desk, place, *update, *count);
     }
 }

@@ -7,6 +7,7 @@ use cdm_flight::Update;
 use cdm_phase::{OpenGate, Workers};
 use cdm_scenario::{Outcome, Overlay, Scenario, ScenarioFault, ScenarioName, answer, answer_all};
 use std::alloc::{AllocError, Global};
+use std::process::Abort;
 use std::thread::Threads;
 
 // Whether the update is accepted over a day that is planned like this.
@@ -28,20 +29,35 @@ fn is_planned_over(alloc: Global, overlay: &Overlay, wanted: Planned) -> bool {
     }
 }
 
+// Asserts that the update at this place of a morning is accepted, and that the plan over the day is then that of the place.
+fn assert_laid(
+    rt: &impl Abort,
+    alloc: Global,
+    overlay: &mut Overlay,
+    (place, update): (usize, &Update),
+) {
+    let (before, after) = plans_around(place).expect(rt, "no plan");
+    assert_holds(rt, accepts(alloc, overlay, update, before), place);
+    assert_holds(rt, is_planned_over(alloc, overlay, after), place);
+    assert_holds(rt, is_planned_anew(alloc, overlay, after), place);
+}
+
+// Asserts that each update of a morning is laid over the day.
+fn assert_all_laid(rt: &impl Abort, alloc: Global, base: &DayState) {
+    let mut overlay = Overlay::over(alloc, base);
+    let updates = morning().expect(rt, "no updates");
+    for (place, (_, update)) in updates.iter().enumerate() {
+        assert_laid(rt, alloc, &mut overlay, (place, update));
+    }
+    assert_found(rt, overlay.accepted(), 18, "accepted");
+}
+
 /// Each update of a morning is laid over a day, which stays.
 #[test]
 fn refused_memory_leaves_an_overlay(rt: HostRuntime) {
     let alloc = rt.alloc();
     let base = made(alloc, &THREE_FLIGHTS).expect(&rt, "no day");
-    let mut overlay = Overlay::over(alloc, &base);
-    let updates = morning().expect(&rt, "no updates");
-    for (place, (_, update)) in updates.iter().enumerate() {
-        let (before, after) = plans_around(place).expect(&rt, "no plan");
-        assert_holds(&rt, accepts(alloc, &mut overlay, update, before), place);
-        assert_holds(&rt, is_planned_over(alloc, &overlay, after), place);
-        assert_holds(&rt, is_planned_anew(alloc, &overlay, after), place);
-    }
-    assert_found(&rt, overlay.accepted(), 18, "accepted");
+    assert_all_laid(&rt, alloc, &base);
     assert_holds(&rt, is_day(&base, 9, PLANS[0]), "the day");
 }
 
@@ -105,16 +121,31 @@ fn answered<R: Threads + Sync>(
     )
 }
 
+// Asserts that the scenario is answered by the caller alone, and each of two scenarios by two workers.
+fn assert_answered<R: Threads + Sync + Abort>(
+    rt: &R,
+    alloc: Global,
+    base: &DayState,
+    scenarios: &[Scenario; 2],
+) {
+    let alone = is_answered_alone(alloc, base, &scenarios[0]);
+    assert_holds(rt, alone, "alone");
+    let found = answered(rt, alloc, base, scenarios);
+    assert_found(rt, found, Some(2), "two workers");
+}
+
+// Two scenarios of a morning's updates.
+fn two_of_morning(alloc: Global) -> Option<[Scenario; 2]> {
+    let first = of_morning(alloc)?;
+    Some([first, of_morning(alloc)?])
+}
+
 /// A scenario takes each update of a morning, and is answered over a day, which stays.
 #[test]
 fn refused_memory_leaves_a_scenario(rt: HostRuntime) {
     let alloc = rt.alloc();
     let base = made(alloc, &THREE_FLIGHTS).expect(&rt, "no day");
-    let first = of_morning(alloc).expect(&rt, "no scenario");
-    let second = of_morning(alloc).expect(&rt, "no scenario");
-    assert_holds(&rt, is_answered_alone(alloc, &base, &first), "alone");
-    let scenarios = [first, second];
-    let found = answered(&rt, alloc, &base, &scenarios);
-    assert_found(&rt, found, Some(2), "two workers");
+    let scenarios = two_of_morning(alloc).expect(&rt, "no scenario");
+    assert_answered(&rt, alloc, &base, &scenarios);
     assert_holds(&rt, is_day(&base, 9, PLANS[0]), "the day");
 }

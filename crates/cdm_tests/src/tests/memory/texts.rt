@@ -54,11 +54,15 @@ fn line(alloc: Global) -> Option<Vec<u8>> {
     )
 }
 
+// The report of a day with two refused records.
+fn reported(alloc: Global, state: &DayState) -> Result<Vec<u8>, AllocError> {
+    let refused = [(7, RefusalWord::Exists), (1000, RefusalWord::Full)];
+    report_text(alloc, state.day(), state.plan(), &refused)
+}
+
 // The report of a day.
 fn report(alloc: Global, state: &DayState) -> Option<Vec<u8>> {
-    let refused = [(7, RefusalWord::Exists), (1000, RefusalWord::Full)];
-    let (day, plan) = (state.day(), state.plan());
-    again!(report_text(alloc, day, plan, &refused), AllocError, true)
+    again!(reported(alloc, state), AllocError, true)
 }
 
 // The growth from a day without flights.
