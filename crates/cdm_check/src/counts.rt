@@ -1,7 +1,7 @@
 //! What a check counts.
 
 /// What a check counts.
-#[derive(Clone, Copy, PartialEq, Eq, Hash, Debug, Default)]
+#[derive(Clone, Copy, PartialEq, Eq, Debug, Default)]
 pub struct CheckCounts {
     /// The records of all files.
     pub records: usize,

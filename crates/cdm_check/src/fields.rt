@@ -9,7 +9,7 @@ use cdm_time::Day;
 use csv::ByteRecord;
 
 /// A field of a record.
-#[derive(Clone, Copy, Debug)]
+#[derive(Clone, Copy)]
 pub(crate) struct FieldOf<'a> {
     /// Its number in the record, from 1.
     pub number: usize,

@@ -14,7 +14,7 @@ use cdm_time::{Day, TimeFault};
 use std::alloc::{AllocError, Global};
 
 /// What a field holds.
-#[derive(Clone, Copy, Debug)]
+#[derive(Clone, Copy)]
 pub(crate) enum Form {
     /// The role of a feed's record.
     Role,

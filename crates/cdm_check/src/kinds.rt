@@ -7,7 +7,7 @@ use cdm_kinds::{Field, Kind};
 use std::alloc::{AllocError, Global};
 
 /// The files of a check.
-#[derive(Clone, Copy, PartialEq, Eq, Debug)]
+#[derive(Clone, Copy, PartialEq, Eq)]
 pub(crate) enum FileKind {
     /// An airport file.
     Airport,
@@ -18,7 +18,7 @@ pub(crate) enum FileKind {
 }
 
 /// A kind of records.
-#[derive(Clone, Copy, Debug)]
+#[derive(Clone, Copy)]
 pub(crate) enum RecordKind {
     /// An update, in a feed and in a scenario.
     Update(Kind),
@@ -27,7 +27,7 @@ pub(crate) enum RecordKind {
 }
 
 /// A kind of records that make no update.
-#[derive(Clone, Copy, Debug)]
+#[derive(Clone, Copy)]
 pub(crate) struct OtherKind {
     // The word of the kind.
     word: &'static str,

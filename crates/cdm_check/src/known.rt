@@ -7,7 +7,7 @@ use std::collections::BTreeMap;
 use std::fmt;
 
 /// Where an accepted update is.
-#[derive(Clone, Copy, PartialEq, Eq, Debug)]
+#[derive(Clone, Copy, PartialEq, Eq)]
 pub(crate) enum Source {
     /// The record of the feed that has this number.
     Record(u32),
@@ -25,7 +25,7 @@ impl fmt::Display for Source {
 }
 
 /// How a flight's day ended.
-#[derive(Clone, Copy, PartialEq, Eq, Debug)]
+#[derive(Clone, Copy, PartialEq, Eq)]
 pub(crate) enum Ending {
     /// It took off.
     Airborne,
@@ -42,7 +42,7 @@ fn remote_minutes(ice: Ice) -> u16 {
 }
 
 /// What is known of a flight.
-#[derive(Clone, Copy, Debug)]
+#[derive(Clone, Copy)]
 pub(crate) struct KnownFlight {
     /// Where its FLT is.
     pub since: Source,

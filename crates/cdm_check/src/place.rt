@@ -3,7 +3,7 @@
 use csv::ByteRecord;
 
 /// Why a record is refused.
-#[derive(Debug, Drop)]
+#[derive(Drop)]
 pub(crate) struct Cause {
     /// The line of the file on which the record begins, from 1.
     pub line: u64,

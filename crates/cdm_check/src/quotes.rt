@@ -1,7 +1,7 @@
 //! Quotes that nothing closes.
 
 /// Where a text stands, between two bytes of it.
-#[derive(Clone, Copy, PartialEq, Eq, Debug)]
+#[derive(Clone, Copy, PartialEq, Eq)]
 enum Within {
     /// At the beginning of a field.
     Begin,

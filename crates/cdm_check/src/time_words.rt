@@ -9,7 +9,7 @@ use std::alloc::{AllocError, Global};
 use std::str;
 
 /// A date, and whether it is written as YYYY-MM-DD.
-#[derive(Clone, Copy, Debug)]
+#[derive(Clone, Copy)]
 struct DatePart {
     year: u16,
     month: u16,
@@ -18,7 +18,7 @@ struct DatePart {
 }
 
 /// The hour and the minute of a time, and how they are written.
-#[derive(Clone, Copy, Debug)]
+#[derive(Clone, Copy)]
 struct ClockPart<'a> {
     hour: u16,
     minute: u16,
@@ -31,7 +31,7 @@ struct ClockPart<'a> {
 }
 
 /// The parts of a text that looks like a time.
-#[derive(Clone, Copy, Debug)]
+#[derive(Clone, Copy)]
 struct Parts<'a> {
     date: Option<DatePart>,
     // What is between the date and the hour.

@@ -42,7 +42,7 @@ impl fmt::Display for ClockText {
 }
 
 /// A time as YYYY-MM-DDTHH:MMZ, which may be the end of the two days.
-#[derive(Clone, Copy, Debug)]
+#[derive(Clone, Copy)]
 pub(crate) struct WrittenTime(pub [u8; 17]);
 
 impl WrittenTime {

@@ -17,7 +17,7 @@ use std::collections::BTreeMap;
 const MOST_FLIGHTS: usize = 2000;
 
 /// Where the FLT of a flight is: its record's number and the line on which it begins.
-#[derive(Clone, Copy, Debug)]
+#[derive(Clone, Copy)]
 struct FltPlace {
     number: u32,
     line: u64,

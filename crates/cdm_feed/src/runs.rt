@@ -19,7 +19,7 @@ use std::io::{Read, Write};
 use std::thread::Threads;
 
 /// What a run counts.
-#[derive(Clone, Copy, PartialEq, Eq, Hash, Debug, Default)]
+#[derive(Clone, Copy, PartialEq, Eq, Debug, Default)]
 pub struct RunCounts {
     /// The accepted updates of the feed.
     pub accepted: usize,

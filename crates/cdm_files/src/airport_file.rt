@@ -22,7 +22,7 @@ use csv::ByteRecord;
 use std::alloc::Global;
 
 /// What a record of the airport file says (local profile).
-#[derive(Clone, Copy, PartialEq, Eq, Debug)]
+#[derive(Clone, Copy, PartialEq, Eq)]
 pub(crate) enum AirportRecord {
     /// DAY: the horizon's first day.
     Day(Day),

@@ -10,7 +10,7 @@ use std::fmt;
 use thiserror::Error;
 
 /// The inputs of a run, by the names that its faults give them.
-#[derive(Clone, Copy, PartialEq, Eq, Hash, Debug)]
+#[derive(Clone, Copy, PartialEq, Eq, Debug)]
 pub enum Input {
     /// The airport file.
     Airport,
@@ -42,7 +42,7 @@ impl fmt::Display for Input {
 
 /// Why a run, whatever it reads beside an airport file, ends without its whole text. Records are
 /// numbered from 1.
-#[derive(Clone, Copy, PartialEq, Eq, Hash, Debug, Error)]
+#[derive(Clone, Copy, PartialEq, Eq, Debug, Error)]
 pub enum CommonFault {
     /// A read of this input failed.
     #[error("cannot read {0}")]

@@ -8,7 +8,7 @@ use std::alloc::AllocError;
 use thiserror::Error;
 
 /// Why a file is not read.
-#[derive(Clone, Copy, PartialEq, Eq, Hash, Debug, Error)]
+#[derive(Clone, Copy, PartialEq, Eq, Debug, Error)]
 pub enum FileFault {
     /// The number of the file's first faulty record, from 1, and the word that refuses it.
     #[error("record {0}: {1}")]
@@ -27,7 +27,7 @@ impl From<AllocError> for FileFault {
 }
 
 // Why a record of a file is not taken.
-#[derive(Clone, Copy, PartialEq, Eq, Debug)]
+#[derive(Clone, Copy, PartialEq, Eq)]
 pub(crate) enum RecordFault {
     Refused(RefusalWord),
     Memory,

@@ -16,7 +16,7 @@ pub const INPUT_LIMIT: usize = 8_388_608;
 const CHUNK: usize = 16_384;
 
 /// Why an input could not be read.
-#[derive(Clone, Copy, PartialEq, Eq, Hash, Debug, Error)]
+#[derive(Clone, Copy, PartialEq, Eq, Debug, Error)]
 pub enum InputFault {
     /// A read failed.
     #[error("the input cannot be read")]

@@ -7,7 +7,7 @@ use std::io::Write;
 use thiserror::Error;
 
 /// A text could not be written or flushed.
-#[derive(Clone, Copy, PartialEq, Eq, Hash, Debug, Error)]
+#[derive(Clone, Copy, PartialEq, Eq, Debug, Error)]
 #[error("the text cannot be written")]
 pub struct WriteFault;
 

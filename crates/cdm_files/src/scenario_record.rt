@@ -11,7 +11,7 @@ use cdm_time::Day;
 use csv::ByteRecord;
 
 /// What a record of the scenario file says (local profile).
-#[derive(Clone, Copy, PartialEq, Eq, Debug)]
+#[derive(Clone, Copy, PartialEq, Eq)]
 pub(crate) enum ScenarioLine {
     /// SCENARIO: a scenario of this name begins.
     Begin(ScenarioName),

@@ -4,7 +4,7 @@ use crate::{Cap, CellLength, RunwayName, Spacing};
 /// A runway as the airport file gives it: its name, the length of its cells, how many flights each
 /// cell takes where no rate says otherwise, and for how long a departure of each group occupies it
 /// (local profile).
-#[derive(Clone, Copy, Debug, PartialEq, Eq, Hash)]
+#[derive(Clone, Copy, Debug, PartialEq, Eq)]
 pub struct RunwayRow {
     pub name: RunwayName,
     pub cell: CellLength,

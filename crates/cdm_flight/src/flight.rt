@@ -11,7 +11,7 @@ use cdm_time::Minute;
 use std::marker::Model;
 
 /// How far a flight has come (the manual's flight states, cut to those that the sequence needs).
-#[derive(Clone, Copy, Debug, PartialEq, Eq, Hash)]
+#[derive(Clone, Copy, Debug, PartialEq, Eq)]
 pub enum Status {
     /// On its stand.
     Planned,
@@ -25,7 +25,7 @@ pub enum Status {
 
 /// What is known of a departure. Off-block or airborne it has a runway; off-block it takes off
 /// within the horizon; it never takes off before it leaves its stand.
-#[derive(Clone, Copy, Debug, PartialEq, Eq, Hash)]
+#[derive(Clone, Copy, Debug, PartialEq, Eq)]
 pub struct Flight {
     pub name: FlightName,
     pub priority: Priority,

@@ -6,7 +6,7 @@ use cdm_time::Minute;
 
 /// What the order of sequence compares: the priority, then the TOBT, then the name by bytes
 /// (local profile).
-#[derive(Clone, Copy, Debug, PartialEq, Eq, Hash, PartialOrd, Ord)]
+#[derive(Clone, Copy, Debug, PartialEq, Eq, PartialOrd, Ord)]
 pub struct Key {
     pub priority: Priority,
     pub tobt: Minute,

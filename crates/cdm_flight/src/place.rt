@@ -2,7 +2,7 @@
 use crate::StandName;
 
 /// The place of a taxi time: a stand, or all those that have none of their own.
-#[derive(Clone, Copy, Debug, PartialEq, Eq, Hash, PartialOrd, Ord)]
+#[derive(Clone, Copy, Debug, PartialEq, Eq, PartialOrd, Ord)]
 pub enum Place {
     /// The runway's default, written `*`.
     Default,

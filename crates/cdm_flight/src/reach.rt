@@ -2,7 +2,7 @@
 use crate::{FlightName, RunwayName};
 
 /// What an update touches.
-#[derive(Clone, Copy, Debug, PartialEq, Eq, Hash)]
+#[derive(Clone, Copy, Debug, PartialEq, Eq)]
 pub enum Reach {
     /// A flight.
     Flight(FlightName),

@@ -5,7 +5,7 @@ ghost use Rattle.cdm_flight.specs.Authority.{may_make};
 use crate::Update;
 
 /// A partner of Airport CDM.
-#[derive(Clone, Copy, Debug, PartialEq, Eq, Hash)]
+#[derive(Clone, Copy, Debug, PartialEq, Eq)]
 pub enum Role {
     /// AO, the aircraft operator.
     AircraftOperator,

@@ -6,7 +6,7 @@ use crate::{Group, Occupancy};
 
 /// For how many minutes from its take-off on a departure of each group occupies a runway
 /// (local profile).
-#[derive(Clone, Copy, Debug, PartialEq, Eq, Hash)]
+#[derive(Clone, Copy, Debug, PartialEq, Eq)]
 pub struct Spacing {
     pub light: Occupancy,
     pub medium: Occupancy,

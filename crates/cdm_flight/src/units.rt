@@ -4,7 +4,7 @@ ghost use Rattle.std.specs.Prelude.{◌≡◌, ℕ, ◌<◌, ◌≤◌, ◌&&◌
 use std::marker::Model;
 
 /// The priority of a flight, 0 to 9: the smaller number comes first in the sequence (local profile).
-#[derive(Clone, Copy, Debug, PartialEq, Eq, Hash, PartialOrd, Ord)]
+#[derive(Clone, Copy, Debug, PartialEq, Eq, PartialOrd, Ord)]
 pub struct Priority {
     number: u16,
 }
@@ -41,7 +41,7 @@ impl Priority {
 }
 
 /// How many flights a cell of a runway takes, 0 to 60 (local profile).
-#[derive(Clone, Copy, Debug, PartialEq, Eq, Hash, PartialOrd, Ord)]
+#[derive(Clone, Copy, Debug, PartialEq, Eq, PartialOrd, Ord)]
 pub struct Cap {
     number: u16,
 }
@@ -79,7 +79,7 @@ impl Cap {
 
 /// A taxi-out time from a stand to a runway, 1 to 120 minutes
 /// (the manual's variable taxi time).
-#[derive(Clone, Copy, Debug, PartialEq, Eq, Hash, PartialOrd, Ord)]
+#[derive(Clone, Copy, Debug, PartialEq, Eq, PartialOrd, Ord)]
 pub struct TaxiMinutes {
     number: u16,
 }
@@ -116,7 +116,7 @@ impl TaxiMinutes {
 }
 
 /// How long de-icing takes, 1 to 60 minutes (the manual's estimated de-icing time).
-#[derive(Clone, Copy, Debug, PartialEq, Eq, Hash, PartialOrd, Ord)]
+#[derive(Clone, Copy, Debug, PartialEq, Eq, PartialOrd, Ord)]
 pub struct IceMinutes {
     number: u16,
 }
@@ -154,7 +154,7 @@ impl IceMinutes {
 
 /// For how many minutes from its take-off on a departure occupies its runway, 0 to 5
 /// (local profile).
-#[derive(Clone, Copy, Debug, PartialEq, Eq, Hash, PartialOrd, Ord)]
+#[derive(Clone, Copy, Debug, PartialEq, Eq, PartialOrd, Ord)]
 pub struct Occupancy {
     number: u16,
 }
@@ -195,7 +195,7 @@ impl Occupancy {
 
 /// The length of a runway's cells, a divisor of the hour: 1, 2, 3, 4, 5, 6, 10, 12, 15, 20, 30
 /// or 60 minutes (local profile).
-#[derive(Clone, Copy, Debug, PartialEq, Eq, Hash, PartialOrd, Ord)]
+#[derive(Clone, Copy, Debug, PartialEq, Eq, PartialOrd, Ord)]
 pub struct CellLength {
     number: u16,
 }

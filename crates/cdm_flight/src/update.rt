@@ -9,7 +9,7 @@ use cdm_time::{Bound, Minute, Tolerance};
 
 /// An update that a partner makes, one variant for each kind of feed record. Windows run from a
 /// minute up to a bound, which is not among them.
-#[derive(Clone, Copy, Debug, PartialEq, Eq, Hash)]
+#[derive(Clone, Copy, Debug, PartialEq, Eq)]
 pub enum Update {
     /// FLT: a flight becomes known, planned, with this priority.
     Flt {

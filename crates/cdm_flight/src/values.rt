@@ -7,7 +7,7 @@ use crate::Update;
 use cdm_time::{Minute, Tolerance};
 
 /// The values of the whole day.
-#[derive(Clone, Copy, Debug, PartialEq, Eq, Hash)]
+#[derive(Clone, Copy, Debug, PartialEq, Eq)]
 pub struct DayValues {
     /// The minute that it is now.
     pub clock: Minute,

@@ -6,7 +6,7 @@ use std::fmt;
 
 /// Why a record of the feed is refused, in the order in which the reasons are tested
 /// (local profile).
-#[derive(Clone, Copy, Debug, PartialEq, Eq, Hash)]
+#[derive(Clone, Copy, Debug, PartialEq, Eq)]
 pub enum RefusalWord {
     /// A wrong number of fields.
     Fields,

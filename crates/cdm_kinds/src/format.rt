@@ -1,7 +1,7 @@
 //! Formats of output.
 
 /// How a table is written.
-#[derive(Clone, Copy, Debug, PartialEq, Eq, Hash)]
+#[derive(Clone, Copy, Debug, PartialEq, Eq)]
 pub enum Format {
     /// As lines for people.
     Text,

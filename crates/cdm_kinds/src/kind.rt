@@ -9,7 +9,7 @@ use crate::subject::Subject;
 use cdm_flight::{Role, Update};
 
 /// A kind of updates, and of the records that make them.
-#[derive(Clone, Copy, Debug, PartialEq, Eq, Hash)]
+#[derive(Clone, Copy, Debug, PartialEq, Eq)]
 pub enum Kind {
     /// FLT: a flight becomes known.
     Flt,

@@ -5,7 +5,7 @@ ghost use Rattle.cdm_phase.specs.declared.job.PhaseName.{PhaseName};
 use std::alloc::{AllocError, Global};
 
 /// The phases in which workers share the work, by which a gate tells them apart.
-#[derive(Clone, Copy, PartialEq, Eq, Hash, Debug)]
+#[derive(Clone, Copy, PartialEq, Eq, Debug)]
 pub enum PhaseName {
     /// The target of each planned flight.
     Targets,

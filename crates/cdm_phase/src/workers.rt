@@ -7,7 +7,7 @@ use std::marker::Model;
 pub const MOST_WORKERS: usize = 64;
 
 /// How many workers a phase has, 1 to 64. Each is a thread, and the caller is one of them.
-#[derive(Clone, Copy, PartialEq, Eq, PartialOrd, Ord, Hash, Debug)]
+#[derive(Clone, Copy, PartialEq, Eq, PartialOrd, Ord, Debug)]
 pub struct Workers {
     count: usize,
 }

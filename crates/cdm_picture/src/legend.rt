@@ -11,22 +11,48 @@ pub(crate) const LEGEND: u32 = 62;
 /// How wide an entry is, in tenths of a pixel.
 const ENTRY: u32 = 1700;
 
-// Draws a paint with what it means, at a place of the line at `y`.
-fn push_entry(
-    alloc: Global,
-    shapes: &mut Vec<Shape>,
+// A paint with its letter and what it means.
+#[derive(Clone, Copy)]
+struct Entry {
     paint: Paint,
     letter: &'static str,
     meaning: &'static str,
+}
+
+// Draws an entry at a place of the line at `y`.
+fn push_entry(
+    alloc: Global,
+    shapes: &mut Vec<Shape>,
+    entry: Entry,
     x: u32,
     y: u32,
 ) -> Result<(), AllocError> {
-    shapes.push(Shape::area(paint, x, y.saturating_sub(10), 240, 12))?;
-    push_letter(alloc, shapes, letter, x.saturating_add(120), y)?;
-    let words = Words::fixed(alloc, meaning)?;
+    shapes.push(Shape::area(entry.paint, x, y.saturating_sub(10), 240, 12))?;
+    push_letter(alloc, shapes, entry.letter, x.saturating_add(120), y)?;
+    let words = Words::fixed(alloc, entry.meaning)?;
     let right = x.saturating_add(290);
     shapes.push(Shape::label(Paint::Plain, right, y, words))?;
     Ok(())
+}
+
+// Draws entries side by side in the line at `y`, and answers where the next one would begin.
+fn push_entries(
+    alloc: Global,
+    shapes: &mut Vec<Shape>,
+    entries: &[(Paint, &'static str, &'static str)],
+    y: u32,
+) -> Result<u32, AllocError> {
+    let mut x: u32 = 1000;
+    for (paint, letter, meaning) in entries {
+        let entry = Entry {
+            paint: *paint,
+            letter,
+            meaning,
+        };
+        push_entry(alloc, shapes, entry, x, y)?;
+        x = x.saturating_add(ENTRY);
+    }
+    Ok(x)
 }
 
 // Draws a take-off of a paint with what it means.
@@ -59,11 +85,7 @@ fn push_reasons(alloc: Global, shapes: &mut Vec<Shape>, y: u32) -> Result<(), Al
     ];
     let words = Words::fixed(alloc, "Waits for")?;
     shapes.push(Shape::label(Paint::Plain, 100, y, words))?;
-    let mut x: u32 = 1000;
-    for (paint, letter, meaning) in reasons {
-        push_entry(alloc, shapes, paint, letter, meaning, x, y)?;
-        x = x.saturating_add(ENTRY);
-    }
+    push_entries(alloc, shapes, &reasons, y)?;
     Ok(())
 }
 
@@ -77,11 +99,7 @@ fn push_grounds(alloc: Global, shapes: &mut Vec<Shape>, y: u32) -> Result<(), Al
     ];
     let words = Words::fixed(alloc, "Runway")?;
     shapes.push(Shape::label(Paint::Plain, 100, y, words))?;
-    let mut x: u32 = 1000;
-    for (paint, letter, meaning) in grounds {
-        push_entry(alloc, shapes, paint, letter, meaning, x, y)?;
-        x = x.saturating_add(ENTRY);
-    }
+    let x = push_entries(alloc, shapes, &grounds, y)?;
     push_take_off(
         alloc,
         shapes,

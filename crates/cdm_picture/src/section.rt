@@ -5,7 +5,7 @@ ghost use Rattle.cdm_picture.specs.Places.{HaveTakeOffs, runway_places, slot_pla
 ghost use Rattle.cdm_picture.specs.Sections.{ShowsPlan, place_of};
 
 use crate::axis::{push_lines, push_now, push_times};
-use crate::bands::{CELLS, push_band};
+use crate::bands::{Band, CELLS};
 use crate::bars::{LANE, bar_of, first_of};
 use crate::hours::Hours;
 use crate::lanes::Lanes;
@@ -166,15 +166,14 @@ fn push_runway<R: Records>(
     let lanes = number_of(push_flights(alloc, page, records, plan, runway, flights, top)?);
     let height = lanes.max(1).saturating_mul(LANE).saturating_add(CELLS + 4);
     if let Some(rules) = runway_named(records, runway.runway) {
-        push_band(
-            alloc,
-            shapes,
-            page.hours,
-            rules,
-            runway.slots.as_slice(),
+        let band = Band {
+            hours: page.hours,
+            runway: rules,
+            slots: runway.slots.as_slice(),
             y,
             height,
-        )?;
+        };
+        band.push(alloc, shapes)?;
     }
     push_lines(shapes, page.hours, y, height)?;
     if lanes == 0 {

@@ -12,7 +12,7 @@ use cdm_taxi::TaxiTable;
 use std::alloc::{AllocError, Global};
 
 // A planned flight and what it could have.
-#[derive(Clone, Copy, PartialEq, Eq, Debug)]
+#[derive(Clone, Copy, PartialEq, Eq)]
 pub(crate) struct Aimed {
     pub(crate) name: FlightName,
     pub(crate) aim: AimResult,

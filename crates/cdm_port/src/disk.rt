@@ -19,7 +19,7 @@ use std::{fs, io};
 const MADE_MODE: u32 = 0o666;
 
 /// Which file stands at a path, and how long it is.
-#[derive(Clone, Copy, PartialEq, Eq, Debug)]
+#[derive(Clone, Copy, PartialEq, Eq)]
 pub(crate) struct Standing {
     pub(crate) device: u64,
     pub(crate) inode: u64,
@@ -39,7 +39,7 @@ impl Standing {
 
 /// What the system has done with the files of a journal. An open file is told by its number. A note of a call has the bytes that
 /// it read or wrote, or the path that it was made for.
-#[derive(Clone, Copy, Debug)]
+#[derive(Clone, Copy)]
 pub(crate) enum FileCall {
     /// Nothing stands at the path any more.
     Removed,

@@ -11,7 +11,7 @@ pub const JOURNAL_LIMIT: usize = 8_388_608;
 
 /// Why something outside a served day can't be done, in the words that a fault line ends with. What the system says of it
 /// stands behind them.
-#[derive(Clone, Copy, PartialEq, Eq, Hash, Debug, Error)]
+#[derive(Clone, Copy, PartialEq, Eq, Debug, Error)]
 pub enum PortFault {
     /// The journal can't be read.
     #[error("cannot read JOURNAL{0}")]

@@ -7,7 +7,7 @@ use std::io::{Error, ErrorKind};
 
 /// Why the system has not done a call. It is shown behind a fault's words, in brackets, where the system tells it, and
 /// else as nothing.
-#[derive(Clone, Copy, PartialEq, Eq, Hash, Debug, thiserror::Error)]
+#[derive(Clone, Copy, PartialEq, Eq, Debug, thiserror::Error)]
 pub enum Reason {
     /// The system doesn't tell why.
     #[error("")]

@@ -9,7 +9,7 @@ use std::fmt::{Display, Formatter, Write};
 const TOLD_LIMIT: usize = 80;
 
 /// A last line without its end, as it is told: its first [`TOLD_LIMIT`] bytes, with `\xHH` in place of each that isn't printable.
-#[derive(Clone, Copy, Debug)]
+#[derive(Clone, Copy)]
 pub(crate) struct TornText<'a>(pub(crate) &'a [u8]);
 
 impl Display for TornText<'_> {
@@ -26,7 +26,7 @@ impl Display for TornText<'_> {
 }
 
 /// A byte of a torn line, as it is told.
-#[derive(Clone, Copy, Debug)]
+#[derive(Clone, Copy)]
 struct ByteText(u8);
 
 impl Display for ByteText {

@@ -14,7 +14,7 @@ use thiserror::Error;
 pub const MOST_SCENARIO_UPDATES: usize = 64;
 
 /// Why an update is not added to a scenario.
-#[derive(Clone, Copy, PartialEq, Eq, Hash, Debug, Error)]
+#[derive(Clone, Copy, PartialEq, Eq, Debug, Error)]
 pub enum ScenarioFault {
     /// The scenario has 64 updates.
     #[error("64 updates")]

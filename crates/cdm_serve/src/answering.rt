@@ -19,7 +19,7 @@ use csv::ByteRecord;
 use std::alloc::{AllocError, Global};
 
 /// What is to be done for a line of the input.
-#[derive(Debug, Drop)]
+#[derive(Drop)]
 pub(crate) enum Answer {
     /// Nothing: the line is blank.
     Nothing,

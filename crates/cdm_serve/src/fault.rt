@@ -10,7 +10,7 @@ use std::alloc::AllocError;
 use thiserror::Error;
 
 /// Why a served day ends before its input does. Records are numbered from 1.
-#[derive(Clone, Copy, PartialEq, Eq, Hash, Debug, Error)]
+#[derive(Clone, Copy, PartialEq, Eq, Debug, Error)]
 pub enum ServeError {
     /// A fault that every run can have: of the airport file, or want of memory.
     #[error(transparent)]

@@ -11,7 +11,7 @@ use cdm_time::Day;
 use std::alloc::{AllocError, Global};
 
 /// The reply to a record, and whether no word refuses it.
-#[derive(Debug, Drop)]
+#[derive(Drop)]
 pub(crate) struct Posted {
     pub accepted: bool,
     pub text: Vec<u8>,

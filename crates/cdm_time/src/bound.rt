@@ -8,7 +8,7 @@ use std::marker::Model;
 pub const HORIZON_MINUTES: u16 = 2880;
 
 /// The minute at which a window ends, itself not in the window: 0 to 2880, the horizon's end.
-#[derive(Clone, Copy, PartialEq, Eq, PartialOrd, Ord, Hash, Debug)]
+#[derive(Clone, Copy, PartialEq, Eq, PartialOrd, Ord, Debug)]
 pub struct Bound {
     pub(crate) number: u16,
 }

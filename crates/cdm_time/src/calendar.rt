@@ -5,7 +5,7 @@ use crate::digits::{digit_pair, number_of};
 use jiff::civil;
 
 /// A year, a month and a day of the month, whether or not the calendar has that date.
-#[derive(Clone, Copy, PartialEq, Eq, Hash, Debug)]
+#[derive(Clone, Copy, PartialEq, Eq, Debug)]
 pub struct CalendarDate {
     pub year: u16,
     pub month: u8,

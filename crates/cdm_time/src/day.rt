@@ -18,7 +18,7 @@ pub enum TimeFault {
 
 /// The airport's day, a date of the years 2000 to 2099. The horizon begins at its 00:00 UTC and ends
 /// 48 hours later.
-#[derive(Clone, Copy, PartialEq, Eq, Hash, Debug)]
+#[derive(Clone, Copy, PartialEq, Eq, Debug)]
 pub struct Day {
     date: CalendarDate,
 }

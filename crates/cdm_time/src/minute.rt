@@ -5,7 +5,7 @@ use crate::bound::HORIZON_MINUTES;
 use std::marker::Model;
 
 /// A minute of the horizon: whole minutes after 00:00 UTC of the airport's day, 0 to 2879.
-#[derive(Clone, Copy, PartialEq, Eq, PartialOrd, Ord, Hash, Debug)]
+#[derive(Clone, Copy, PartialEq, Eq, PartialOrd, Ord, Debug)]
 pub struct Minute {
     pub(crate) number: u16,
 }

@@ -5,7 +5,7 @@ use std::marker::Model;
 
 /// How far from its CTOT a flight may take off, in minutes: up to 15 before it and up to 30 after
 /// it (local profile, after the manual's slot tolerance window).
-#[derive(Clone, Copy, PartialEq, Eq, Hash, Debug)]
+#[derive(Clone, Copy, PartialEq, Eq, Debug)]
 pub struct Tolerance {
     pub before: u16,
     pub after: u16,

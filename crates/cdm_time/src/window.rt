@@ -8,7 +8,7 @@ use crate::tolerance::Tolerance;
 use std::marker::Model;
 
 /// The minutes from one up to a bound, which is not among them. No window is empty.
-#[derive(Clone, Copy, PartialEq, Eq, Hash, Debug)]
+#[derive(Clone, Copy, PartialEq, Eq, Debug)]
 pub struct Window {
     from: Minute,
     to: Bound,
