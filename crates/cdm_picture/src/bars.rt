@@ -79,27 +79,26 @@ fn pieces_of(alloc: Global, slot: &Slot, runs: &[Run]) -> Result<Vec<Piece>, All
     Ok(pieces)
 }
 
+// The minutes of a run of waiting.
+fn piece_of(run: &Run) -> Piece {
+    Piece {
+        paint: paint_of(&run.reason),
+        first: run.first.get(),
+        end: run.last.get() + 1,
+    }
+}
+
 // The runs of waiting, those that are painted alike and follow one another as one.
 fn waits_in(alloc: Global, runs: &[Run]) -> Result<Vec<Piece>, AllocError> {
     let mut pieces: Vec<Piece> = Vec::new(alloc);
     for run in runs {
-        let piece = Piece {
-            paint: paint_of(&run.reason),
-            first: run.first.get(),
-            end: run.last.get() + 1,
-        };
-        let joined = match pieces.pop() {
-            Some(last) if last.paint == piece.paint && last.end == piece.first => Piece {
-                first: last.first,
-                ..piece
-            },
-            Some(last) => {
-                push_last(&mut pieces, last)?;
-                piece
+        let piece = piece_of(run);
+        match pieces.last_mut() {
+            Some(last) if last.paint == piece.paint && last.end == piece.first => {
+                last.end = piece.end;
             }
-            None => piece,
-        };
-        push_last(&mut pieces, joined)?;
+            _ => push_last(&mut pieces, piece)?,
+        }
     }
     Ok(pieces)
 }
