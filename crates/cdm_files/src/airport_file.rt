@@ -1,5 +1,5 @@
 //! Airport files: what their records spell, and the airport that they say.
-ghost use Rattle.std.specs.Prelude.{◌≡◌, Ok, Some, IfOk, IfErr};
+ghost use Rattle.std.specs.Prelude.{◌≡◌, Ok, Some, IfOk, IfErr, OnOk};
 ghost use Rattle.csv.specs.Records.{fields_of};
 ghost use Rattle.cdm_flight.specs.Cells.{is_cell_length};
 ghost use Rattle.cdm_files.specs.AirportFile.{airport_in, airport_record_of, with_record};
@@ -128,49 +128,56 @@ fn row_fault(fault: AirportFault) -> RecordFault
     }
 }
 
-// The airport after one more record.
+// Adds a record to an airport whose day is known.
 #[tactic(auto, unfolding(crate::specs::AirportFile::with_record), using(crate::proofs::RowLemmas::row_refused))]
+fn add_row(airport: &mut Airport, said: AirportRecord) -> Result<(), RecordFault>
+    ensures added { OnOk result (with_record (Some airport.old) said ≡ Ok (Some airport.new)) }
+    ensures refused { IfErr result (λ e. IsRecordFaultOf (with_record (Some airport.old) said) e) }
+{
+    match said {
+        AirportRecord::Day(_) => Err(RecordFault::Refused(RefusalWord::Order)),
+        AirportRecord::Runway { runway, cell, cap } => {
+            match airport.add_runway(runway, cell, cap) {
+                Ok(()) => Ok(()),
+                Err(fault) => Err(row_fault(fault)),
+            }
+        }
+        AirportRecord::Taxi {
+            place,
+            runway,
+            minutes,
+        } => match airport.add_taxi(place, runway, minutes) {
+            Ok(()) => Ok(()),
+            Err(fault) => Err(row_fault(fault)),
+        },
+        AirportRecord::Space {
+            runway,
+            group,
+            occupancy,
+        } => match airport.add_space(runway, group, occupancy) {
+            Ok(()) => Ok(()),
+            Err(fault) => Err(row_fault(fault)),
+        },
+    }
+}
+
+// The airport after one more record.
+#[tactic(auto, unfolding(crate::specs::AirportFile::with_record))]
 fn add(alloc: Global, airport: Option<Airport>, said: AirportRecord) -> Result<Airport, RecordFault>
     ensures added { IfOk result (λ g. with_record airport said ≡ Ok (Some g)) }
     ensures refused { IfErr result (λ e. IsRecordFaultOf (with_record airport said) e) }
 {
-    match (airport, said) {
-        (None, AirportRecord::Day(day)) => Ok(Airport::new(alloc, day)),
-        (None, AirportRecord::Taxi { .. } | AirportRecord::Space { .. }) => {
-            Err(RecordFault::Refused(RefusalWord::Unknown))
-        }
-        (None, AirportRecord::Runway { .. }) | (Some(_), AirportRecord::Day(_)) => {
-            Err(RecordFault::Refused(RefusalWord::Order))
-        }
-        (Some(mut airport), AirportRecord::Runway { runway, cell, cap }) => {
-            match airport.add_runway(runway, cell, cap) {
-                Ok(()) => Ok(airport),
-                Err(fault) => Err(row_fault(fault)),
+    let Some(mut airport) = airport else {
+        return match said {
+            AirportRecord::Day(day) => Ok(Airport::new(alloc, day)),
+            AirportRecord::Runway { .. } => Err(RecordFault::Refused(RefusalWord::Order)),
+            AirportRecord::Taxi { .. } | AirportRecord::Space { .. } => {
+                Err(RecordFault::Refused(RefusalWord::Unknown))
             }
-        }
-        (
-            Some(mut airport),
-            AirportRecord::Taxi {
-                place,
-                runway,
-                minutes,
-            },
-        ) => match airport.add_taxi(place, runway, minutes) {
-            Ok(()) => Ok(airport),
-            Err(fault) => Err(row_fault(fault)),
-        },
-        (
-            Some(mut airport),
-            AirportRecord::Space {
-                runway,
-                group,
-                occupancy,
-            },
-        ) => match airport.add_space(runway, group, occupancy) {
-            Ok(()) => Ok(airport),
-            Err(fault) => Err(row_fault(fault)),
-        },
-    }
+        };
+    };
+    add_row(&mut airport, said)?;
+    Ok(airport)
 }
 
 // The airport after one more record, as its fields spell it.
