@@ -1,4 +1,2 @@
 pub mod Keys
-pub mod Rows
 pub mod StandSet
-pub mod Writes

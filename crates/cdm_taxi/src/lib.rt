@@ -1,7 +1,6 @@
 //! Variable taxi times: the taxi-out minutes from each place to each runway.
 #![tactic(auto)]
 
-mod route;
 mod table;
 
 pub use table::{MOST_STANDS, TaxiFault, TaxiTable};

@@ -7,11 +7,9 @@ ghost use Rattle.cdm_flight.specs.Journal.{same_place};
 ghost use Rattle.cdm_flight.specs.Taxi.{is_new_stand, is_one_stand_too_many, stands_in, taxi_out};
 ghost use Rattle.cdm_taxi.specs.Stands.{has_row, stand_count};
 
-use crate::route::Route;
 use cdm_flight::{Ice, Place, RunwayName, StandName, TaxiMinutes};
-use indexmap::IndexMap;
 use std::alloc::{AllocError, Global};
-use std::collections::BTreeSet;
+use std::collections::{BTreeMap, BTreeSet};
 use std::marker::Model;
 
 /// How many stands may have taxi times (local profile).
@@ -40,7 +38,7 @@ impl From<AllocError> for TaxiFault {
 /// variable taxi times).
 #[derive(Debug, Drop)]
 pub struct TaxiTable {
-    minutes: IndexMap<Route, TaxiMinutes>,
+    minutes: BTreeMap<(Place, RunwayName), TaxiMinutes>,
     // The stands that have taxi times.
     stands: BTreeSet<StandName>,
 }
@@ -50,16 +48,25 @@ impl Model for TaxiTable {
     ghost use Rattle.std.specs.Coded.{coded_ℕ};
     ghost use Rattle.cdm_flight.specs.Taxi.{TaxiRows};
     ghost use Rattle.cdm_taxi.specs.inner.Keys.{key_code};
-    ghost use Rattle.cdm_taxi.specs.inner.Rows.{rows_of};
     ghost use Rattle.cdm_taxi.specs.inner.StandSet.{AreStandsOf};
 
     ghost Value = { TaxiRows };
 
     ghost coded = { map.code key_code coded_ℕ };
 
-    ghost view = { λ t. rows_of t.minutes.entries };
+    ghost view = { λ t. map.from_entries t.minutes.entries };
 
-    ghost invariant = { λ t. AreStandsOf (rows_of t.minutes.entries) t.stands };
+    ghost invariant = { λ t. AreStandsOf (map.from_entries t.minutes.entries) t.stands };
+}
+
+// Whether the taxi times are those of the other.
+fn is_same_times(
+    one: &BTreeMap<(Place, RunwayName), TaxiMinutes>,
+    other: &BTreeMap<(Place, RunwayName), TaxiMinutes>,
+) -> bool
+    ensures { IsTrue result ↔ (one.now.entries ≡ other.now.entries) }
+{
+    one == other
 }
 
 impl TaxiTable {
@@ -68,7 +75,7 @@ impl TaxiTable {
         ensures { result ≡ map.empty }
     {
         TaxiTable {
-            minutes: IndexMap::new(alloc),
+            minutes: BTreeMap::new(alloc),
             stands: BTreeSet::new(alloc),
         }
     }
@@ -77,7 +84,7 @@ impl TaxiTable {
     pub fn minutes(&self, place: Place, runway: RunwayName) -> Option<TaxiMinutes>
         ensures { result ≡ map.get self.now (place, runway) }
     {
-        self.minutes.get(&Route { place, runway }).copied()
+        self.minutes.get(&(place, runway)).copied()
     }
 
     // How many stands have rows.
@@ -124,7 +131,7 @@ impl TaxiTable {
         ensures new_row { OnErr result (map.get self.old (place, runway) ≡ None) }
     {
         if !self.is_new_stand(&place) {
-            self.minutes.insert(Route { place, runway }, minutes)?;
+            self.minutes.insert((place, runway), minutes)?;
             return Ok(());
         }
         let Place::Stand(stand) = place else {
@@ -145,9 +152,8 @@ impl TaxiTable {
         ensures err { OnErr result (self.new ≡ self.old) }
         ensures new_row { OnErr result (map.get self.old (place.Stand stand, runway) ≡ None) }
     {
-        let place = Place::Stand(stand);
         self.stands.insert(stand)?;
-        match self.minutes.insert(Route { place, runway }, minutes) {
+        match self.minutes.insert((Place::Stand(stand), runway), minutes) {
             Ok(_) => Ok(()),
             Err(_) => {
                 self.stands.remove(&stand);
@@ -206,7 +212,7 @@ impl TaxiTable {
     pub fn is_same(&self, other: &TaxiTable) -> bool
         ensures { IsTrue result ↔ (self.now ≡ other.now) }
     {
-        self.minutes == other.minutes
+        self.minutes.len() == other.minutes.len() && is_same_times(&self.minutes, &other.minutes)
     }
 
     /// A copy of the table. Its memory comes from where the table's own does.
