@@ -6,6 +6,7 @@ use super::devices::{Given, Meeting, Sink, Source, Stop};
 use cdm_feed::{CommonFault, Device, Input};
 use cdm_live::{LiveCounts, LiveError, run_live};
 use cdm_phase::{Gate, OpenGate, PhaseName};
+use std::alloc::Global;
 use std::process::Abort;
 use std::sync::Wait;
 use std::thread::Threads;
@@ -94,6 +95,33 @@ fn desks_meet(rt: HostRuntime) {
     assert_found(&rt, told(&rt, &gate), (Ok((6, 0, 4)), true), "told");
     let found = (gate.came(), gate.others(), gate.is_missed());
     assert_found(&rt, found, ([1, 1], 0, false), "pieces");
+}
+
+// The feed of so many cancellations of an unknown flight.
+fn cancellations(alloc: Global, count: usize) -> Option<Vec<u8>> {
+    let mut feed = Vec::new(alloc);
+    for _ in 0..count {
+        feed.extend_from_slice(b"AO,CNL,A\n").ok()?;
+    }
+    Some(feed)
+}
+
+// What a live run counts whose desks have the same feed, or why it ends.
+fn told_of_both<R: AllocGlobal + Threads + Wait + Sync + Abort>(
+    rt: &R,
+    feed: &[u8],
+) -> Result<(usize, usize, usize), LiveError> {
+    let files = [AIRPORT.as_bytes(), feed, feed].map(|text| (text, usize::MAX, 0));
+    let (answer, _) = run_of(rt, files, &OpenGate, Stop::Never);
+    answer.map(counted)
+}
+
+// Two desks that post 2,047 full batches each and look once have filled their board.
+#[test]
+fn a_full_board_is_counted(rt: HostRuntime) {
+    let feed = cancellations(rt.alloc(), 524_032).expect(&rt, "no memory");
+    let found = told_of_both(&rt, &feed);
+    assert_found(&rt, found, Ok((0, 1_048_064, 4_096)), "told");
 }
 
 // The fault of a run whose read of this number fails in this input, and whether nothing was written before it. Without one,

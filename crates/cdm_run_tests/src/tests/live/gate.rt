@@ -1,5 +1,5 @@
 //! What a desk of a live run has done when it passes its gate.
-use super::{AIRPORT, counted, run_of};
+use super::{AIRPORT, cancellations, counted, run_of};
 use crate::tests::asserts::{assert_found, assert_holds};
 use crate::tests::devices::Stop;
 use cdm_live::LiveError;
@@ -52,10 +52,7 @@ impl<R: AllocGlobal + Files + Sync> Gate for AfterDesk1<'_, R> {
 
 // The feed of desk 1, a hundred full batches and a clock.
 fn long_feed(alloc: Global) -> Option<Vec<u8>> {
-    let mut feed = Vec::new(alloc);
-    for _ in 0..25_600 {
-        feed.extend_from_slice(b"AO,CNL,A\n").ok()?;
-    }
+    let mut feed = cancellations(alloc, 25_600)?;
     let clock = b"ATC,CLOCK,2025-03-10T06:10Z\n";
     feed.extend_from_slice(clock).ok()?;
     Some(feed)
