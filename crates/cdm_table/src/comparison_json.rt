@@ -152,11 +152,7 @@ fn change_lines(
 }
 
 // What changes by a scenario.
-fn told_of(
-    alloc: Global,
-    base: &DayState,
-    scenario: &Scenario,
-) -> Result<Vec<u8>, AllocError>
+fn told_of(alloc: Global, base: &DayState, scenario: &Scenario) -> Result<Vec<u8>, AllocError>
     ensures { IfOk result (λ text. AreChangeLines base.now scenario.now text.items) }
 {
     match Overlay::after(alloc, base, scenario.updates())? {
@@ -179,11 +175,7 @@ fn told_of(
 }
 
 // What changes by the scenario, if one is asked for.
-fn told(
-    alloc: Global,
-    base: &DayState,
-    asked: Option<&Scenario>,
-) -> Result<Vec<u8>, AllocError>
+fn told(alloc: Global, base: &DayState, asked: Option<&Scenario>) -> Result<Vec<u8>, AllocError>
     ensures { IfOk result (λ text. AreChangeLinesIf base.now (option_copied asked.entry) text.items) }
 {
     match asked {
