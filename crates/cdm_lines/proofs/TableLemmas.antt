@@ -79,9 +79,9 @@ are_changes_by d s (Ok (counts, changed)) text (before, had, after, has, is) =
     (λ one. one_line _ (_, change_fits d.airport.day (flight_name one) (row_named before (flight_name one)) (row_named after (flight_name one)), refl)) changed)
 are_changes_by d s (Err refusal) text is = lines_same text [] is no_lines
 
-are_changes_if : (d : DayRecord) (stood : List Standing) (asked : Option ScenarioRecord) (text : List ℕ) → AreChangeLinesIf d stood asked text → AreLines text
-are_changes_if d stood None text is = lines_same text [] is no_lines
-are_changes_if d stood (Some s) text (by, changed, are) = are_changes_by d s by text are
+are_changes_if : (d : DayRecord) (asked : Option ScenarioRecord) (text : List ℕ) → AreChangeLinesIf d asked text → AreLines text
+are_changes_if d None text is = lines_same text [] is no_lines
+are_changes_if d (Some s) text (by, changed, are) = are_changes_by d s by text are
 
 is_summary : (line : Line) → AreLines (summary_line line)
 is_summary line = one_line _ (_, summary_fits line.name line.summary, refl)
@@ -89,4 +89,4 @@ is_summary line = one_line _ (_, summary_fits line.name line.summary, refl)
 pub is_comparison : (d : DayRecord) (scenarios : List ScenarioRecord) (asked : Option ScenarioRecord) (text : List ℕ) → IsComparisonJson d scenarios asked text → AreLines text
 is_comparison d scenarios asked text is =
     lines_same text _ is.bytes
-    (lines-append (flat_map summary_line is.ranked) is.told (lines-flat_map summary_line is_summary is.ranked) (are_changes_if d is.stood asked is.told is.of_asked))
+    (lines-append (flat_map summary_line is.ranked) is.told (lines-flat_map summary_line is_summary is.ranked) (are_changes_if d asked is.told is.of_asked))

@@ -137,10 +137,8 @@ module _ (d : DayRecord) (runways : IsDistinct same_name (runway_names d.airport
       let plans : a.plan ≡ b.plan = one_day_plan d a.plan b.plan runways flights a.of_day b.of_day in
       let stand : AreStandings d a.plan then = subst (λ (p : Plan). AreStandings d p then) (sym plans) b.stand in
       let same : before ≡ then = one_standings d a.plan runways flights a.of_day before then a.stand stand in
-      let of_scenarios : AllZip (IsSummary d before) scenarios b.summaries =
-      subst (λ (l : List Standing). AllZip (IsSummary d l) scenarios b.summaries) (sym same) b.of_scenarios in
       let summaries : a.summaries ≡ b.summaries =
-      one_each (IsSummary d before) (one_summary d runways flights before) scenarios a.summaries b.summaries a.of_scenarios of_scenarios in
+      one_each (IsSummary d) (one_summary d runways flights) scenarios a.summaries b.summaries a.of_scenarios b.of_scenarios in
       let ranking : IsRanking (all_lines (counts_of a.plan) scenarios a.summaries) y =
       rw (plans, summaries) b.ranking in
       (same, one_ranking (counts_of a.plan) scenarios a.summaries x y a.ranking ranking)
@@ -160,19 +158,16 @@ module _ (d : DayRecord) (runways : IsDistinct same_name (runway_names d.airport
       let same = one_ranked scenarios a.before b.before a.ranked b.ranked a.lines b.lines in
       a.bytes ∙ (ap (λ lines. csv_text (line_columns ∷ map line_fields lines)) same.1 ∙ sym b.bytes)
 
-  one_lines_if : (stood : List Standing) (asked : Option ScenarioRecord) (x y : List ℕ) → AreChangeLinesIf d stood asked x
-      → AreChangeLinesIf d stood asked y → x ≡ y
-  one_lines_if stood None x y a b = a ∙ sym b
-  one_lines_if stood (Some s) x y a b = one_change_lines d runways flights stood s x y a b
+  one_lines_if : (asked : Option ScenarioRecord) (x y : List ℕ) → AreChangeLinesIf d asked x → AreChangeLinesIf d asked y → x ≡ y
+  one_lines_if None x y a b = a ∙ sym b
+  one_lines_if (Some s) x y a b = one_change_lines d runways flights s x y a b
 
   one_comparison_json : (scenarios : List ScenarioRecord) (asked : Option ScenarioRecord) (x y : List ℕ) → IsComparisonJson d scenarios asked x
       → IsComparisonJson d scenarios asked y → x ≡ y
   one_comparison_json scenarios asked x y a b =
       let same = one_ranked scenarios a.stood b.stood a.ranked b.ranked a.lines b.lines in
       let ranked = same.1 in
-      let asked_for : AreChangeLinesIf d a.stood asked b.told =
-      subst (λ (l : List Standing). AreChangeLinesIf d l asked b.told) (sym same.0) b.of_asked in
-      let told : a.told ≡ b.told = one_lines_if a.stood asked a.told b.told a.of_asked asked_for in
+      let told : a.told ≡ b.told = one_lines_if asked a.told b.told a.of_asked b.of_asked in
       a.bytes ∙ ((λ i. flat_map summary_line (ranked i) ++ told i) ∙ sym b.bytes)
 
   pub one_table : (table : Table) (scenarios : List ScenarioRecord) (x y : List ℕ) → IsTable table d scenarios x → IsTable table d scenarios y → x ≡ y

@@ -16,7 +16,7 @@ use Rattle.cdm_report.specs.Report.{line_end, refused_line}
 use Rattle.cdm_report.specs.declared.counts.Counts.{Counts}
 use Rattle.cdm_plan.specs.Day.{DayRecord}
 use Rattle.cdm_plan.specs.DayPlan.{IsDayPlan}
-use Rattle.cdm_view.specs.Standings.{AreStandings, changes, flight_name, standing_line}
+use Rattle.cdm_view.specs.Standings.{AreStandings, IsChangedTo, flight_name, standing_line}
 use Rattle.cdm_view.specs.declared.standing.Standing.{Standing}
 use Rattle.cdm_scenario.specs.Outcome.{IsOutcome}
 use Rattle.cdm_scenario.specs.Overlay.{with_updates}
@@ -29,21 +29,20 @@ use Rattle.cdm_table.specs.declared.line.Summary.TheVariants as summary
 
 -- What comes of a scenario.
 
--- the indicators of the plan with all updates, and the standings that differ from those before; or the number of the
+-- the indicators of the plan with all updates, and the standings that differ from those of the day; or the number of the
 -- first update that is refused, and its word
-abbrev pub IsChanged : DayRecord → List Standing → ScenarioRecord → Result (Counts × List Standing) (ℕ × RefusalWord) → Type 0
-IsChanged d before s (Ok (counts, changed)) =
-    (plan : Plan) × (after : List Standing) × IsOutcome d s.updates (Planned plan counts)
-    × AreStandings (with_updates d s.updates) plan after × (changed ≡ changes d.airport.day before after)
-IsChanged d before s (Err (number, word)) = IsOutcome d s.updates (Refused number word)
+abbrev pub IsChanged : DayRecord → ScenarioRecord → Result (Counts × List Standing) (ℕ × RefusalWord) → Type 0
+IsChanged d s (Ok (counts, changed)) =
+    (plan : Plan) × IsOutcome d s.updates (Planned plan counts) × IsChangedTo d (with_updates d s.updates) changed
+IsChanged d s (Err (number, word)) = IsOutcome d s.updates (Refused number word)
 
 -- in numbers: how many standings differ
 abbrev pub summary_of : Result (Counts × List Standing) (ℕ × RefusalWord) → Summary
 summary_of (Ok (counts, changed)) = summary.Planned counts (length changed)
 summary_of (Err (number, word)) = summary.Refused number word
 
-abbrev pub IsSummary : DayRecord → List Standing → ScenarioRecord → Summary → Type 0
-IsSummary d before s is = (by : Result (Counts × List Standing) (ℕ × RefusalWord)) × IsChanged d before s by × (is ≡ summary_of by)
+abbrev pub IsSummary : DayRecord → ScenarioRecord → Summary → Type 0
+IsSummary d s is = (by : Result (Counts × List Standing) (ℕ × RefusalWord)) × IsChanged d s by × (is ≡ summary_of by)
 
 -- Lines and their order.
 
@@ -116,7 +115,7 @@ told_of day before (Err refusal) = refused_line refusal
 
 abbrev pub AreTold : DayRecord → List Standing → ScenarioRecord → List ℕ → Type 0
 AreTold d before s text =
-    (by : Result (Counts × List Standing) (ℕ × RefusalWord)) × IsChanged d before s by × (text ≡ told_of d.airport.day before by)
+    (by : Result (Counts × List Standing) (ℕ × RefusalWord)) × IsChanged d s by × (text ≡ told_of d.airport.day before by)
 
 -- what is told of the scenario asked for, if one is
 abbrev pub IsToldIf : DayRecord → List Standing → Option ScenarioRecord → List ℕ → Type 0
@@ -129,7 +128,7 @@ pub record AreRanked (d : DayRecord) (scenarios : List ScenarioRecord) (before :
   pub of_day : IsDayPlan d plan
   pub stand : AreStandings d plan before
   pub summaries : List Summary
-  pub of_scenarios : AllZip (IsSummary d before) scenarios summaries
+  pub of_scenarios : AllZip (IsSummary d) scenarios summaries
   pub ranking : IsRanking (all_lines (counts_of plan) scenarios summaries) ranked
 
 -- a line for the day and one for each scenario, the best first, and then what is told of the one asked for

@@ -61,14 +61,14 @@ AreChangeLinesBy d s (Ok (counts, changed)) text =
     × (text ≡ flat_map (change_line d.airport.day before after) changed)
 AreChangeLinesBy d s (Err refusal) text = text ≡ []
 
-abbrev pub AreChangeLines : DayRecord → List Standing → ScenarioRecord → List ℕ → Type 0
-AreChangeLines d stood s text =
-    (by : Result (Counts × List Standing) (ℕ × RefusalWord)) × IsChanged d stood s by × AreChangeLinesBy d s by text
+abbrev pub AreChangeLines : DayRecord → ScenarioRecord → List ℕ → Type 0
+AreChangeLines d s text =
+    (by : Result (Counts × List Standing) (ℕ × RefusalWord)) × IsChanged d s by × AreChangeLinesBy d s by text
 
 -- what changes by the scenario asked for, if one is
-abbrev pub AreChangeLinesIf : DayRecord → List Standing → Option ScenarioRecord → List ℕ → Type 0
-AreChangeLinesIf d stood None text = text ≡ []
-AreChangeLinesIf d stood (Some s) text = AreChangeLines d stood s text
+abbrev pub AreChangeLinesIf : DayRecord → Option ScenarioRecord → List ℕ → Type 0
+AreChangeLinesIf d None text = text ≡ []
+AreChangeLinesIf d (Some s) text = AreChangeLines d s text
 
 -- a line for the day and one for each scenario, the best first, and then what changes by the one asked for
 pub record IsComparisonJson (d : DayRecord) (scenarios : List ScenarioRecord) (asked : Option ScenarioRecord) (text : List ℕ) : Type 0 where
@@ -76,5 +76,5 @@ pub record IsComparisonJson (d : DayRecord) (scenarios : List ScenarioRecord) (a
   pub ranked : List Line
   pub lines : AreRanked d scenarios stood ranked
   pub told : List ℕ
-  pub of_asked : AreChangeLinesIf d stood asked told
+  pub of_asked : AreChangeLinesIf d asked told
   pub bytes : text ≡ flat_map summary_line ranked ++ told

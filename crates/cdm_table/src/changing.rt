@@ -1,32 +1,30 @@
 //! What changes by a scenario.
-ghost use Rattle.std.specs.Prelude.{◌≡◌, IfOk};
+ghost use Rattle.std.specs.Prelude.{IfOk};
 ghost use Rattle.cdm_table.specs.Comparison.{IsChanged};
 
 use cdm_day::DayState;
 use cdm_flight::{Listed, RefusalWord};
 use cdm_report::{Counts, indicators};
 use cdm_scenario::{Overlay, Scenario};
-use cdm_view::{Standing, Standings};
+use cdm_view::{Standing, changes_to};
 use std::alloc::{AllocError, Global};
 
 /// The indicators of the plan with all updates of a scenario, and the standings that differ from those of
 /// the day, by name; or the number of the first update that is refused, from 1, and its word.
 pub(crate) type Changed = Result<(Counts, Listed<Standing>), (usize, RefusalWord)>;
 
-/// What changes by a scenario over the base, where the flights stand so before.
+/// What changes by a scenario over the base.
 pub(crate) fn changed_by(
     alloc: Global,
     base: &DayState,
-    before: &Standings,
     scenario: &Scenario,
 ) -> Result<Changed, AllocError>
-    ensures { IfOk result (IsChanged base.now before.now scenario.now) }
+    ensures { IfOk result (IsChanged base.now scenario.now) }
 {
     match Overlay::after(alloc, base, scenario.updates())? {
         Ok(day) => {
             let plan = day.plan(alloc)?;
-            let after = Standings::of(alloc, &day, &plan)?;
-            let changed = after.changes(alloc, base.day(), before)?;
+            let changed = changes_to(alloc, base, &day, &plan)?;
             Ok(Ok((indicators(&plan), Listed::new(changed))))
         }
         Err(refusal) => Ok(Err(refusal)),

@@ -14,7 +14,6 @@ use cdm_phase::{Gate, Job, PhaseName, run_phase};
 use cdm_plan::Runner;
 use cdm_report::Counts;
 use cdm_scenario::Scenario;
-use cdm_view::Standings;
 use std::alloc::{AllocError, Global};
 use std::thread::Threads;
 
@@ -32,7 +31,6 @@ fn summary_of(changed: &Changed) -> Summary
 #[derive(Clone, Copy)]
 struct SummaryJob<'a> {
     base: &'a DayState,
-    before: &'a Standings,
 }
 
 impl Job for SummaryJob<'_> {
@@ -42,12 +40,12 @@ impl Job for SummaryJob<'_> {
 
     ghost can_run = { λ job _. IsSound job.base.now };
 
-    ghost gives = { λ job scenario is. IsSummary job.base.now job.before.now scenario is };
+    ghost gives = { λ job scenario is. IsSummary job.base.now scenario is };
 
     ghost phase_name = { Scenarios };
 
     fn run(&self, alloc: Global, scenario: &Scenario) -> Result<Summary, AllocError> {
-        let changed = changed_by(alloc, self.base, self.before, scenario)?;
+        let changed = changed_by(alloc, self.base, scenario)?;
         Ok(summary_of(&changed))
     }
 
@@ -55,23 +53,22 @@ impl Job for SummaryJob<'_> {
         PhaseName::Scenarios
     }
 
-    ghost one_value = { λ job scenario x y sound a b. one_summary job.base.now sound.airport.names sound.names job.before.now scenario x y a b };
+    ghost one_value = { λ job scenario x y sound a b. one_summary job.base.now sound.airport.names sound.names scenario x y a b };
 }
 
-/// What comes of each scenario over the base, in numbers, where the flights stand so before. Each is
-/// answered by one of the workers in phase `Scenarios`, and every scenario is one piece.
+/// What comes of each scenario over the base, in numbers. Each is answered by one of the workers in phase
+/// `Scenarios`, and every scenario is one piece.
 pub(crate) fn summaries<R: Threads + Sync, G: Gate>(
     alloc: Global,
     base: &DayState,
-    before: &Standings,
     scenarios: &[Scenario],
     runner: &Runner<'_, R, G>,
 ) -> Result<Vec<Summary>, AllocError>
-    ensures { IfOk result (λ summaries. AllZip (IsSummary base.now before.now) scenarios.now summaries.items) }
+    ensures { IfOk result (λ summaries. AllZip (IsSummary base.now) scenarios.now summaries.items) }
 {
     // What the base's records tell is sound, which makes each answer the only one.
     let _values = base.values();
-    let job = SummaryJob { base, before };
+    let job = SummaryJob { base };
     let (rt, workers, gate) = (runner.rt, runner.workers, runner.gate);
     run_phase(rt, alloc, workers, 1, &job, scenarios, gate)
 }

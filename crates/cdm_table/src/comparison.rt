@@ -169,7 +169,7 @@ fn told(
 {
     match asked {
         Some(scenario) => {
-            let changed = changed_by(alloc, base, before, scenario)?;
+            let changed = changed_by(alloc, base, scenario)?;
             told_of(alloc, *base.day(), before, &changed)
         }
         None => Ok(Vec::new(alloc)),

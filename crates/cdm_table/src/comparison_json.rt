@@ -17,7 +17,7 @@ use cdm_plan::Runner;
 use cdm_row::{Row, Rows, push_count, push_row, push_text};
 use cdm_scenario::{Overlay, Scenario, ScenarioName};
 use cdm_time::Day;
-use cdm_view::{Standing, Standings};
+use cdm_view::{Standing, changes_to};
 use json::Writer;
 use std::alloc::{AllocError, Global};
 use std::thread::Threads;
@@ -152,19 +152,13 @@ fn change_lines(
 }
 
 // What changes by a scenario.
-fn told_of(
-    alloc: Global,
-    base: &DayState,
-    stood: &Standings,
-    scenario: &Scenario,
-) -> Result<Vec<u8>, AllocError>
-    ensures { IfOk result (λ text. AreChangeLines base.now stood.now scenario.now text.items) }
+fn told_of(alloc: Global, base: &DayState, scenario: &Scenario) -> Result<Vec<u8>, AllocError>
+    ensures { IfOk result (λ text. AreChangeLines base.now scenario.now text.items) }
 {
     match Overlay::after(alloc, base, scenario.updates())? {
         Ok(day) => {
             let plan = day.plan(alloc)?;
-            let stands = Standings::of(alloc, &day, &plan)?;
-            let changed = stands.changes(alloc, base.day(), stood)?;
+            let changed = changes_to(alloc, base, &day, &plan)?;
             let known = base.plan();
             let before = Rows::of(alloc, base, known)?;
             let after = Rows::of(alloc, &day, &plan)?;
@@ -181,16 +175,11 @@ fn told_of(
 }
 
 // What changes by the scenario, if one is asked for.
-fn told(
-    alloc: Global,
-    base: &DayState,
-    stood: &Standings,
-    asked: Option<&Scenario>,
-) -> Result<Vec<u8>, AllocError>
-    ensures { IfOk result (λ text. AreChangeLinesIf base.now stood.now (option_copied asked.entry) text.items) }
+fn told(alloc: Global, base: &DayState, asked: Option<&Scenario>) -> Result<Vec<u8>, AllocError>
+    ensures { IfOk result (λ text. AreChangeLinesIf base.now (option_copied asked.entry) text.items) }
 {
     match asked {
-        Some(scenario) => told_of(alloc, base, stood, scenario),
+        Some(scenario) => told_of(alloc, base, scenario),
         None => Ok(Vec::new(alloc)),
     }
 }
@@ -207,8 +196,8 @@ pub(crate) fn comparison_json<R: Threads + Sync, G: Gate>(
 ) -> Result<Vec<u8>, AllocError>
     ensures { IfOk result (λ text. IsComparisonJson base.now scenarios.now (option_copied asked.entry) text.items) }
 {
-    let Ranking { before, lines } = ranked_lines(alloc, base, scenarios, runner)?;
+    let Ranking { before: _, lines } = ranked_lines(alloc, base, scenarios, runner)?;
     let mut text = lines_text(alloc, &lines)?;
-    text.extend_from_slice(&told(alloc, base, &before, asked)?)?;
+    text.extend_from_slice(&told(alloc, base, asked)?)?;
     Ok(text)
 }

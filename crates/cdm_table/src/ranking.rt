@@ -31,7 +31,7 @@ pub fn ranked_lines<R: Threads + Sync, G: Gate>(
     ensures { IfOk result (λ ranking. AreRanked base.now scenarios.now ranking.before ranking.lines.items) }
 {
     let before = Standings::of(alloc, base, base.plan())?;
-    let summaries = summaries(alloc, base, &before, scenarios, runner)?;
+    let summaries = summaries(alloc, base, scenarios, runner)?;
     let lines = lines_of(alloc, indicators(base.plan()), scenarios, &summaries)?;
     Ok(Ranking {
         before,

@@ -1,5 +1,5 @@
 -- A feed has one trace.
-use Rattle.std.proofs.Common.{◌≡◌, ◌∙◌, ◌+◌, ℕ, Bool, true, false, List, [], ◌∷◌, ◌++◌, Option, None, Some, Ok, Err, sym, ap, subst, length, not}
+use Rattle.std.proofs.Common.{◌≡◌, ◌∙◌, ◌+◌, ℕ, Bool, true, false, List, [], ◌∷◌, ◌++◌, Option, None, Some, Ok, Err, sym, ap, subst, length}
 use Rattle.std.specs.List.{IsDistinct}
 use Rattle.cdm_flight.specs.Accepted.{accepted, after_one, refusal}
 use Rattle.cdm_flight.specs.Journal.{AirportRows}
@@ -8,22 +8,16 @@ use Rattle.cdm_flight.specs.declared.role.Role.{Role}
 use Rattle.cdm_flight.specs.declared.update.Update.{Update}
 use Rattle.cdm_flight.specs.declared.word.RefusalWord.{RefusalWord}
 use Rattle.cdm_sequence.specs.declared.plan.Plan.{Plan}
-use Rattle.cdm_plan.specs.Airport.{IsAirport, runway_names}
+use Rattle.cdm_plan.specs.Airport.{IsAirport}
 use Rattle.cdm_plan.specs.Day.{DayRecord, flights_in}
-use Rattle.cdm_plan.specs.DayPlan.{IsDayPlan}
 use Rattle.cdm_plan.proofs.JournalFacts.{names_after}
 use Rattle.cdm_plan.proofs.OnePlanLemmas.{one_day_plan}
 use Rattle.cdm_day.proofs.BatchLemmas.{accepted-keeps}
-use Rattle.cdm_view.specs.Standings.{AreChanges, changes, flight_name, is_told, standings_of}
-use Rattle.cdm_view.specs.declared.standing.Standing.{Standing}
-use Rattle.cdm_view.proofs.StandingLemmas.{standings_apart}
-use Rattle.cdm_plan.proofs.ListWords.{distinct_filter}
-use Rattle.cdm_plan.proofs.NameLemmas.{by_name}
+use Rattle.cdm_view.proofs.ChangeLemmas.{Own, one_changed_to}
 use Rattle.cdm_row.specs.Changed.{changed_rows}
 use Rattle.cdm_row.specs.Rows.{AreRows}
 use Rattle.cdm_row.specs.declared.row.Row.{Row}
 use Rattle.cdm_row.proofs.RowLemmas.{one_rows}
-use Rattle.cdm_view.specs.Standings.{IsChangedTo}
 use Rattle.cdm_desk.specs.Replies.{AreChangedRows, IsReply, IsReplyBy, IsRowReply, IsRowReplyBy, day_after}
 use Rattle.cdm_desk.specs.declared.reply.DeskReply.{DeskReply}
 use Rattle.cdm_desk.specs.declared.reply.DeskReply.TheVariants.{Accepted, Refused}
@@ -37,10 +31,6 @@ use Rattle.cdm_files.specs.Refused.{Spelled}
 use Rattle.cdm_trace.specs.Traces.{IsPiece, IsPieceBy, IsTold, IsTrace, is_before, told, told_json}
 use Rattle.cdm_trace.proofs.TraceLemmas.{first_day}
 
--- the day's runways have names of their own, and so have its flights
-abbrev Own : DayRecord → Type 0
-Own d = IsDistinct same_name (runway_names d.airport) × IsDistinct same_name (flights_in d.journal)
-
 own_after : (d : DayRecord) (u : Role × Update) → IsDistinct same_name (flights_in d.journal) → IsDistinct same_name (flights_in (after_one d.airport d.journal u))
 unfolding accepted
 own_after d u own = accepted-keeps (λ a. IsDistinct same_name (flights_in a)) d.airport (names_after d.airport) d.journal (u ∷ []) own
@@ -49,28 +39,10 @@ own_next : (d : DayRecord) (spelled : Spelled) → Own d → Own (day_after d sp
 own_next d (Ok u) own = (own.0, own_after d u own.1)
 own_next d (Err word) own = own
 
--- the changes between two days with their plans
-one_changes : (d : DayRecord) (plan : Plan) (next : DayRecord) (next_plan : Plan) → Own next → IsDayPlan next next_plan
-    → (x y : List Standing) → AreChanges d plan next next_plan x → AreChanges d plan next next_plan y → x ≡ y
-one_changes d plan next next_plan own is x y a b =
-    let before = standings_of d plan in
-    let after = standings_of next next_plan in
-    by_name flight_name (changes d.airport.day before after) x y
-    (distinct_filter same_name flight_name (λ (s : Standing). not (is_told d.airport.day before s)) after (standings_apart next next_plan own.0 own.1 is))
-    a.all b.all a.by_name b.by_name
-
-one_changed : (d next : DayRecord) → Own d → Own next → (x y : List Standing) → IsChangedTo d next x → IsChangedTo d next y → x ≡ y
-one_changed d next own after x y a b =
-    let plans : b.plan ≡ a.plan = one_day_plan d b.plan a.plan own.0 own.1 b.of_day a.of_day in
-    let next_plans : b.next_plan ≡ a.next_plan = one_day_plan next b.next_plan a.next_plan after.0 after.1 b.of_next a.of_next in
-    let changed : AreChanges d a.plan next a.next_plan y =
-    subst (λ (p : Plan). AreChanges d p next a.next_plan y) plans (subst (λ (p : Plan). AreChanges d b.plan next p y) next_plans b.changes) in
-    one_changes d a.plan next a.next_plan after a.of_next x y a.changes changed
-
 -- the reply where this word refuses a record, or none does
 one_reply_by : (o : Option RefusalWord) (d next : DayRecord) → Own d → Own next → (x y : DeskReply) → IsReplyBy o d next x → IsReplyBy o d next y → x ≡ y
 one_reply_by (Some word) d next own after x y a b = a ∙ sym b
-one_reply_by None d next own after (Accepted x) (Accepted y) a b = ap Accepted (one_changed d next own after x y a b)
+one_reply_by None d next own after (Accepted x) (Accepted y) a b = ap Accepted (one_changed_to d next own after x y a b)
 one_reply_by None d next own after (Accepted x) (Refused word) a b = absurd b
 one_reply_by None d next own after (Refused word) y a b = absurd a
 

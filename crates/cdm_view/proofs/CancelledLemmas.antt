@@ -1,10 +1,10 @@
 -- An update that cancels no flight leaves the cancelled ones.
-use Rattle.std.proofs.Common.{◌≡◌, ℕ, Bool, true, false, ◌&&◌, ◌||◌, List, [], ◌∷◌, ◌++◌, Option, None, Some, refl, sym, ◌∙◌, ap, subst, filter}
+use Rattle.std.proofs.Common.{◌≡◌, ℕ, Bool, true, false, ◌&&◌, ◌||◌, List, [], ◌∷◌, ◌++◌, Option, None, Some, refl, sym, ◌∙◌, ap, filter}
 use Rattle.std.proofs.lemmas.Bool.{false_from_ne_true}
 use Rattle.cdm_flight.proofs.Lists.{list_any-push}
 use Rattle.cdm_plan.proofs.ListWords.{filter_map, filter_map-filter, if_so, if◌then◌else◌, list_any, option_and_then, option_map, option_map_or, option_or}
 use Rattle.cdm_plan.proofs.PlanWords.{AirportRows, DayRecord, Flight, Update, flight_of, flight_refusal, if_passes, is_disordered, is_full, is_unknown, of_flight, reach_of}
-use Rattle.cdm_plan.proofs.PlanWords.{records_in, refusal_of, same_reach, with_update}
+use Rattle.cdm_plan.proofs.PlanWords.{records_in, refusal_of, same_reach}
 use Rattle.cdm_plan.proofs.JournalFacts.{not_first}
 use Rattle.cdm_plan.proofs.KeptLemmas.{flights_same}
 use Rattle.cdm_flight.proofs.JournalLemmas.{same_name-refl, touching-push}

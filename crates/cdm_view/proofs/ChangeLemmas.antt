@@ -1,5 +1,5 @@
 -- Changes: those told before are passed flight by flight, and standings that both days have can be left out.
-use Rattle.std.proofs.Common.{◌≡◌, ℕ, zero, suc, ◌+◌, ◌<◌, ◌≤◌, Bool, true, false, cond, ◌&&◌, ◌||◌, List, [], ◌∷◌}
+use Rattle.std.proofs.Common.{◌≡◌, ℕ, zero, suc, ◌+◌, ◌-◌, ◌<◌, ◌≤◌, Bool, true, false, cond, ◌&&◌, ◌||◌, List, [], ◌∷◌}
 use Rattle.std.proofs.Common.{◌++◌, length, length-drop, get_or, drop, map, take, not, Some, refl, sym, ◌∙◌, ap}
 use Rattle.std.proofs.Common.{add-zero, arith, subst, filter}
 use Rattle.std.specs.Cmp.{IsStrictWeakOrder}
@@ -10,7 +10,7 @@ use Rattle.std.specs.Prelude.{nat_eq}
 use Rattle.std.proofs.Math.Bool.{or-false}
 use Rattle.std.proofs.lemmas.Bool.{false_from_ne_true, false≢true, and_from}
 use Rattle.std.proofs.lemmas.Cmp.{nat_list_cmp_total}
-use Rattle.std.proofs.lemmas.List.{get_or-drop, get_or-take, get_or_default, take-append-drop}
+use Rattle.std.proofs.lemmas.List.{get_or-drop, get_or-take, get_or_default, take-append-drop, take_all, take_more}
 use Rattle.std.proofs.lemmas.List.Sums.{prefix_len_passes, prefix_len_stops}
 use Rattle.std.proofs.lemmas.List.Elements.{filter_more, filter-append}
 use Rattle.std.proofs.lemmas.List.Folds.{length-prefix_len, list_any-append, list_any_none}
@@ -18,24 +18,24 @@ use Rattle.std.proofs.lemmas.List.Sorted.{ranks_by, sorted_far, list_any-IsPermu
 use Rattle.std.proofs.lemmas.Option.{get_or_from_slice_get, slice_get_within}
 use Rattle.cdm_flight.proofs.Lists.{apart_from_head, sorted_rest, IsPermutation-filter, apart_from_rest, filter_same}
 use Rattle.cdm_plan.proofs.ListWords.{IsDistinct-tail, contains_map, list_any, slice_get, Contains, IsDistinct}
-use Rattle.cdm_plan.proofs.ListWords.{IsDistinct-IsPermutation, IsPermutation, append_assoc, append-nil, distinct_right}
+use Rattle.cdm_plan.proofs.ListWords.{IsDistinct-IsPermutation, IsPermutation, append_assoc, distinct_right}
 use Rattle.cdm_plan.proofs.ListWords.{list_any-append, map-append, IsPermutation-append_comm, IsPermutation-append_left}
-use Rattle.cdm_plan.proofs.ListWords.{IsPermutation-append_right, IsPermutation-map, IsPermutation-sym}
-use Rattle.cdm_plan.proofs.ListWords.{IsPermutation-trans}
+use Rattle.cdm_plan.proofs.ListWords.{IsPermutation-append_right, IsPermutation-map, IsPermutation-refl, IsPermutation-sym}
+use Rattle.cdm_plan.proofs.ListWords.{IsPermutation-trans, distinct_filter}
 use Rattle.cdm_plan.proofs.PlanWords.{is_same, name_cmp, same_is, same_name, tied_names, DayRecord, IsDayPlan}
-use Rattle.cdm_plan.proofs.PlanWords.{IsSound, Plan, same_flips}
+use Rattle.cdm_plan.proofs.PlanWords.{IsSound, Plan, flights_in, runway_names, same_flips}
+use Rattle.cdm_plan.proofs.NameLemmas.{by_name}
+use Rattle.cdm_plan.proofs.OnePlanLemmas.{one_day_plan}
 use Rattle.cdm_time.specs.declared.calendar.CalendarDate.{CalendarDate}
 use Rattle.cdm_view.specs.declared.standing.Standing.{Standing}
 use Rattle.cdm_view.specs.Standings.{KeepsFlights, changes, flight_name, is_same_told, is_told, standing_line}
-use Rattle.cdm_view.specs.Standings.{standings_of}
+use Rattle.cdm_view.specs.Standings.{AreChanges, IsChangedTo, standings_of}
 use Rattle.cdm_view.proofs.ListLemmas.{any_without, any_with, filter_none}
 use Rattle.cdm_view.specs.inner.Passed.{from_name, is_below, is_first_told}
 use Rattle.std.proofs.lemmas.List.Kept.{IsSortedBy-filter}
 use Rattle.std.specs.List.Sorted.{IsSortedByKey}
 use Rattle.cdm_view.proofs.StandingLemmas.{standings_apart}
-use Rattle.cdm_view.specs.declared.differing.Differing.{Differing}
-use Rattle.cdm_view.specs.inner.Left.{AreLeft}
-use Rattle.cdm_view.specs.inner.Parts.{AreParts}
+use Rattle.cdm_view.specs.inner.Left.{AreRests}
 
 -- what holds of no element that is passed holds of one of the rest, if of any
 any_left : {X : Type 0} (p q : X → Bool) (xs : List X) → ((x : X) → p x ≡ true → q x ≡ false)
@@ -142,57 +142,87 @@ module _ (day : CalendarDate) where
 
 -- What is left, list by list.
 
-moved : (same rest whole p : List Standing) → IsPermutation (same ++ rest) whole → IsPermutation ((same ++ p) ++ rest) (whole ++ p)
-moved same rest whole p is =
-    let crossed : IsPermutation ((same ++ p) ++ rest) ((same ++ rest) ++ p) =
-    rw (append_assoc same p rest, append_assoc same rest p) (IsPermutation-append_right same (p ++ rest) (rest ++ p) (IsPermutation-append_comm p rest)) in
-    IsPermutation-trans ((same ++ p) ++ rest) ((same ++ rest) ++ p) (whole ++ p) crossed (IsPermutation-append_left p (same ++ rest) whole is)
+-- of two lists that share nothing
+pub rests_all : {X : Type 0} (one other : List X) → AreRests one other one other
+rests_all one other = record { same = []; of_one = IsPermutation-refl one; of_other = IsPermutation-refl other }
 
--- what both lists have more is not left
-pub left_same : (first second p q : List Standing) (left : Differing) → p ≡ q → AreLeft first second left → AreLeft (first ++ p) (second ++ q) left
-left_same first second p q left e are = record {
-  same = are.same ++ p;
-  of_first = moved are.same left.before.items first p are.of_first;
-  of_second = subst (λ l. IsPermutation ((are.same ++ p) ++ left.after.items) (second ++ l)) e (moved are.same left.after.items second p are.of_second);
+pub rests_map : {X Y : Type 0} (f : X → Y) (one other p q : List X) → AreRests one other p q → AreRests (map f one) (map f other) (map f p) (map f q)
+rests_map f one other p q rests = record {
+  same = map f rests.same;
+  of_one = rw (← map-append f rests.same p) (IsPermutation-map f _ one rests.of_one);
+  of_other = rw (← map-append f rests.same q) (IsPermutation-map f _ other rests.of_other);
 }
 
-more : (same rest longer whole p : List Standing) → longer ≡ rest ++ p → IsPermutation (same ++ rest) whole → IsPermutation (same ++ longer) (whole ++ p)
-more same rest longer whole p e is =
-    rw (e, ← append_assoc same rest p) (IsPermutation-append_left p (same ++ rest) whole is)
-
--- what they have more that is left
-pub left_more : (first second p q : List Standing) (left next : Differing) → next.before.items ≡ left.before.items ++ p
-    → next.after.items ≡ left.after.items ++ q → AreLeft first second left → AreLeft (first ++ p) (second ++ q) next
-left_more first second p q left next e h are = record {
-  same = are.same;
-  of_first = more are.same left.before.items next.before.items first p e are.of_first;
-  of_second = more are.same left.after.items next.after.items second q h are.of_second;
+-- more of the first list that is left, and of the second
+rests_first : {X : Type 0} (one other p q more : List X) → AreRests one other p q → AreRests (one ++ more) other (p ++ more) q
+rests_first one other p q more rests = record {
+  same = rests.same;
+  of_one = rw (← append_assoc rests.same p more) (IsPermutation-append_left more (rests.same ++ p) one rests.of_one);
+  of_other = rests.of_other;
 }
 
--- what they have more, of which a first part and a last part are the same
-pub left_parts : (first second one other p q : List Standing) (left next : Differing) → AreParts one other p q → next.before.items ≡ left.before.items ++ p
-    → next.after.items ≡ left.after.items ++ q → AreLeft first second left → AreLeft (first ++ one) (second ++ other) next
-left_parts first second one other p q left next parts e h are =
-    let start = parts.start in
-    let rest = parts.rest in
-    let split : (xs us vs : List Standing) → vs ≡ start ++ (us ++ rest) → xs ++ vs ≡ ((xs ++ start) ++ us) ++ rest = λ xs us vs is.
-    ap (λ l. xs ++ l) is ∙ (sym (append_assoc xs start (us ++ rest)) ∙ sym (append_assoc (xs ++ start) us rest)) in
-    rw (split first p one parts.of_one, split second q other parts.of_other)
-    (left_same ((first ++ start) ++ p) ((second ++ start) ++ q) rest rest next refl
-    (left_more (first ++ start) (second ++ start) p q left next e h (left_same first second start start left refl are)))
+rests_second : {X : Type 0} (one other p q more : List X) → AreRests one other p q → AreRests one (other ++ more) p (q ++ more)
+rests_second one other p q more rests =
+    let swapped = rests_first other one q p more record { same = rests.same; of_one = rests.of_other; of_other = rests.of_one } in
+    record { same = swapped.same; of_one = swapped.of_other; of_other = swapped.of_one }
 
--- Parts.
+moved : {X : Type 0} (same rest whole more : List X) → IsPermutation (same ++ rest) whole → IsPermutation ((same ++ more) ++ rest) (whole ++ more)
+moved same rest whole more is =
+    let crossed : IsPermutation ((same ++ more) ++ rest) ((same ++ rest) ++ more) =
+    rw (append_assoc same more rest, append_assoc same rest more)
+    (IsPermutation-append_right same (more ++ rest) (rest ++ more) (IsPermutation-append_comm more rest)) in
+    IsPermutation-trans ((same ++ more) ++ rest) ((same ++ rest) ++ more) (whole ++ more) crossed (IsPermutation-append_left more (same ++ rest) whole is)
 
-pub AreParts-map : {X Y : Type 0} (f : X → Y) (one other p q : List X) → AreParts one other p q → AreParts (map f one) (map f other) (map f p) (map f q)
-AreParts-map {X} f one other p q parts = record {
-  start = map f parts.start;
-  rest = map f parts.rest;
-  of_one = ap (map f) parts.of_one ∙ simp map-append;
-  of_other = ap (map f) parts.of_other ∙ simp map-append;
+-- more that both have
+pub rests_same : {X : Type 0} (one other p q more : List X) → AreRests one other p q → AreRests (one ++ more) (other ++ more) p q
+rests_same one other p q more rests = record {
+  same = rests.same ++ more;
+  of_one = moved rests.same p one more rests.of_one;
+  of_other = moved rests.same q other more rests.of_other;
 }
 
-pub AreParts-all : {X : Type 0} (one other : List X) → AreParts one other one other
-AreParts-all one other = record { start = []; rest = []; of_one = sym (append-nil one); of_other = sym (append-nil other) }
+-- and more of which these are left
+pub rests_more : {X : Type 0} (first second one other p q before after longer later : List X) → AreRests one other p q → longer ≡ before ++ p
+    → later ≡ after ++ q → AreRests first second before after → AreRests (first ++ one) (second ++ other) longer later
+rests_more {X} first second one other p q before after longer later rests e h are =
+    let shared = rests_same first second before after rests.same are in
+    let both = rests_second _ (second ++ rests.same) _ after q (rests_first (first ++ rests.same) _ before after p shared) in
+    let whole : (xs us zs : List X) → IsPermutation (rests.same ++ us) zs → IsPermutation ((xs ++ rests.same) ++ us) (xs ++ zs) = λ xs us zs is.
+    rw (append_assoc xs rests.same us) (IsPermutation-append_right xs (rests.same ++ us) zs is) in
+    record {
+      same = both.same;
+      of_one = rw e (IsPermutation-trans _ _ _ both.of_one (whole first p one rests.of_one));
+      of_other = rw h (IsPermutation-trans _ _ _ both.of_other (whole second q other rests.of_other));
+    }
+
+-- Rests of lists up to a place of each.
+
+module _ {X : Type 0} (xs ys : List X) (i j : ℕ) (p q : List X) (rests : AreRests (take i xs) (take j ys) p q) where
+  one_more : (zs : List X) (k : ℕ) (z : X) → k < length zs → z ≡ get_or zs k z → take (k + 1) zs ≡ take k zs ++ z ∷ []
+  one_more zs k z within at = take_more zs k z within ∙ ap (λ y. take k zs ++ y ∷ []) (sym at)
+
+  -- with one more that both have
+  pub rests_shared : (x y : X) → i < length xs → j < length ys → x ≡ get_or xs i x → y ≡ get_or ys j y → x ≡ y
+      → AreRests (take (i + 1) xs) (take (j + 1) ys) p q
+  rests_shared x y l m at there same =
+      rw (one_more xs i x l at, one_more ys j y m there, ← same) (rests_same (take i xs) (take j ys) p q (x ∷ []) rests)
+
+  -- with one more of the first, or of the second
+  pub rests_one : (x : X) → i < length xs → x ≡ get_or xs i x → AreRests (take (i + 1) xs) (take j ys) (p ++ x ∷ []) q
+  rests_one x l at = rw (one_more xs i x l at) (rests_first (take i xs) (take j ys) p q (x ∷ []) rests)
+
+  pub rests_other : (y : X) → j < length ys → y ≡ get_or ys j y → AreRests (take i xs) (take (j + 1) ys) p (q ++ y ∷ [])
+  rests_other y l at = rw (one_more ys j y l at) (rests_second (take i xs) (take j ys) p q (y ∷ []) rests)
+
+  -- with all from there on
+  pub rests_whole : AreRests xs ys (p ++ take (length xs - i) (drop i xs)) (q ++ take (length ys - j) (drop j ys))
+  rests_whole =
+      let left : (zs : List X) (k : ℕ) → take (length zs - k) (drop k zs) ≡ drop k zs =
+      λ zs k. take_all (length zs - k) (drop k zs) (omega (arith, length-drop k zs)) in
+      let first = rests_first (take i xs) (take j ys) p q (drop i xs) rests in
+      rw (left xs i, left ys j)
+      (rw (take-append-drop i xs, take-append-drop j ys) at
+      (rests_second (take i xs ++ drop i xs) (take j ys) (p ++ drop i xs) q (drop j ys) first))
 
 -- Names.
 
@@ -221,20 +251,18 @@ module _ (day : CalendarDate) where
       (contains_map flight_name same t j) (contains_map flight_name rest s i)))
 
   -- the changes between two lists are those between what is left of them
-  pub changes_left : (first second : List Standing) (left : Differing) → IsDistinct same_name (map flight_name second) → AreLeft first second left
-      → IsPermutation (changes day first second) (changes day left.before.items left.after.items)
-  changes_left first second left apart are =
+  pub changes_left : (first second before after : List Standing) → IsDistinct same_name (map flight_name second) → AreRests first second before after
+      → IsPermutation (changes day first second) (changes day before after)
+  changes_left first second before after apart are =
       let same = are.same in
-      let before = left.before.items in
-      let after = left.after.items in
       let new : Standing → Bool = λ s. not (is_told day first s) in
       let split : (s : Standing) → is_told day first s ≡ (is_told day same s || is_told day before s) = λ s.
       let test : Standing → Bool = λ t. is_same_told day t s in
-      sym (list_any-IsPermutation test (same ++ before) first are.of_first) ∙ list_any-append test same before in
+      sym (list_any-IsPermutation test (same ++ before) first are.of_one) ∙ list_any-append test same before in
       let whole = IsDistinct-IsPermutation same_name same_flips _ _
-      (IsPermutation-map flight_name second (same ++ after) (IsPermutation-sym (same ++ after) second are.of_second)) apart in
+      (IsPermutation-map flight_name second (same ++ after) (IsPermutation-sym (same ++ after) second are.of_other)) apart in
       let one : IsPermutation (filter new second) (filter new (same ++ after)) =
-      IsPermutation-filter new second (same ++ after) (IsPermutation-sym (same ++ after) second are.of_second) in
+      IsPermutation-filter new second (same ++ after) (IsPermutation-sym (same ++ after) second are.of_other) in
       let told_itself : (s : Standing) → Contains same s → is_told day same s ≡ true =
       λ s i. any_with (λ t. is_same_told day t s) same s i (told_alike s s refl) in
       let none =
@@ -255,3 +283,47 @@ module _ (day : CalendarDate) where
   -- the changes of standings by name are by name
   pub changes_by_name : (told items : List Standing) → IsSortedByKey flight_name name_cmp items → IsSortedByKey flight_name name_cmp (changes day told items)
   changes_by_name told items sorted = IsSortedBy-filter _ order (λ s. not (is_told day told s)) items sorted
+
+-- what is left of the standings of a day and of another with its plan gives the changes
+pub changed_to : (d next : DayRecord) (plan next_plan : Plan) → IsSound next → IsDayPlan d plan → IsDayPlan next next_plan
+    → (before after changed : List Standing) → AreRests (standings_of d plan) (standings_of next next_plan) before after
+    → IsPermutation (changes d.airport.day before after) changed → IsSortedByKey flight_name name_cmp changed → IsChangedTo d next changed
+changed_to d next plan next_plan sound of_day of_next before after changed are all by_name =
+    let first = standings_of d plan in
+    let second = standings_of next next_plan in
+    let apart = standings_apart next next_plan sound.airport.names sound.names of_next in
+    record {
+      plan = plan;
+      next_plan = next_plan;
+      of_day = of_day;
+      of_next = of_next;
+      changes = record {
+        all = IsPermutation-trans _ _ _ (changes_left d.airport.day first second before after apart are) all;
+        by_name = by_name;
+      };
+    }
+
+-- One list of changes.
+
+-- the day's runways have names of their own, and so have its flights
+abbrev pub Own : DayRecord → Type 0
+Own d = IsDistinct same_name (runway_names d.airport) × IsDistinct same_name (flights_in d.journal)
+
+-- between two days with their plans
+one_changes : (d : DayRecord) (plan : Plan) (next : DayRecord) (next_plan : Plan) → Own next → IsDayPlan next next_plan
+    → (x y : List Standing) → AreChanges d plan next next_plan x → AreChanges d plan next next_plan y → x ≡ y
+one_changes d plan next next_plan own is x y a b =
+    let before = standings_of d plan in
+    let after = standings_of next next_plan in
+    by_name flight_name (changes d.airport.day before after) x y
+    (distinct_filter same_name flight_name (λ (s : Standing). not (is_told d.airport.day before s)) after (standings_apart next next_plan own.0 own.1 is))
+    a.all b.all a.by_name b.by_name
+
+-- between two days
+pub one_changed_to : (d next : DayRecord) → Own d → Own next → (x y : List Standing) → IsChangedTo d next x → IsChangedTo d next y → x ≡ y
+one_changed_to d next own after x y a b =
+    let plans : b.plan ≡ a.plan = one_day_plan d b.plan a.plan own.0 own.1 b.of_day a.of_day in
+    let next_plans : b.next_plan ≡ a.next_plan = one_day_plan next b.next_plan a.next_plan after.0 after.1 b.of_next a.of_next in
+    let changed : AreChanges d a.plan next a.next_plan y =
+    subst (λ (p : Plan). AreChanges d p next a.next_plan y) plans (subst (λ (p : Plan). AreChanges d b.plan next p y) next_plans b.changes) in
+    one_changes d a.plan next a.next_plan after a.of_next x y a.changes changed

@@ -1,5 +1,5 @@
 -- What holds a planned flight apart from the clock, minute by minute.
-use Rattle.std.specs.Prelude.{ℕ, ◌+◌, ◌==◌, Bool, true, false, not, nat_le, nat_lt, if◌then◌else◌, List, length, Option, None, Some}
+use Rattle.std.specs.Prelude.{ℕ, ◌+◌, ◌==◌, Bool, true, false, not, nat_le, nat_lt, if◌then◌else◌, length, Option, None, Some}
 use Rattle.std.specs.Option.{option_map_or}
 use Rattle.cdm_time.specs.Windows.{is_in_tolerance}
 use Rattle.cdm_flight.specs.Taxi.{stand_minutes}

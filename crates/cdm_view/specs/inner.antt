@@ -1,7 +1,6 @@
 pub mod Ends
 pub mod Kept
 pub mod Known
-pub mod Parts
 pub mod Passed
 pub mod Left
 pub mod Earlier

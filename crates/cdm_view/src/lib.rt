@@ -12,9 +12,9 @@ mod laws;
 mod lines;
 mod loading;
 mod names;
-mod parts;
 mod question;
 mod reason;
+mod rests;
 mod runs;
 mod slots;
 mod standing;
@@ -29,7 +29,7 @@ pub use cause::Cause;
 pub use cells::{
     cap_of_cell, cell_count, closed_in_cell, first_minute, flights_in_cell, is_in_cell, told_cells,
 };
-pub use differing::changes_by;
+pub use differing::{changes_by, changes_to};
 pub use fault::ViewFault;
 pub use laws::{counts_add_up, each_flight_in_one_line, one_answer};
 pub use lines::{group_letter, push_runs};

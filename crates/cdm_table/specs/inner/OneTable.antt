@@ -10,9 +10,8 @@ use Rattle.cdm_sequence.specs.declared.plan.Plan.{Plan}
 use Rattle.cdm_plan.specs.Day.{DayRecord, flights_in}
 use Rattle.cdm_plan.specs.DayPlan.{IsDayPlan}
 use Rattle.cdm_plan.proofs.OnePlanLemmas.{one_day_plan}
-use Rattle.cdm_view.specs.Standings.{AreStandings, changes}
 use Rattle.cdm_view.specs.declared.standing.Standing.{Standing}
-use Rattle.cdm_view.proofs.StandingLemmas.{one_standings}
+use Rattle.cdm_view.proofs.ChangeLemmas.{Own, one_changed_to}
 use Rattle.cdm_row.proofs.RowLemmas.{one_rows}
 use Rattle.cdm_row.specs.Rows.{AreRows}
 use Rattle.cdm_row.specs.declared.row.Row.{Row}
@@ -78,46 +77,42 @@ module _ (d : DayRecord) (runways : IsDistinct same_name (runway_names d.airport
       by (Refused number word) is p q = p ∙ sym q
 
   -- what changes by a scenario
-  one_changed : (before : List Standing) (s : ScenarioRecord) (x y : Result (Counts × List Standing) (ℕ × RefusalWord)) → IsChanged d before s x
-      → IsChanged d before s y → x ≡ y
-  one_changed before s (Ok (c, xs)) (Ok (k, ys)) a b =
-      let day = with_updates d s.updates in
-      let same : Planned a.0 c ≡ Planned b.0 k = one_outcome d s.updates runways flights (Planned a.0 c) (Planned b.0 k) a.2 b.2 in
-      let plans : a.0 ≡ b.0 = cc in
+  one_changed : (s : ScenarioRecord) (x y : Result (Counts × List Standing) (ℕ × RefusalWord)) → IsChanged d s x → IsChanged d s y → x ≡ y
+  one_changed s (Ok (c, xs)) (Ok (k, ys)) a b =
+      let same : Planned a.0 c ≡ Planned b.0 k = one_outcome d s.updates runways flights (Planned a.0 c) (Planned b.0 k) a.1 b.1 in
       let counts : c ≡ k = cc in
-      let stand : AreStandings day a.0 b.1 = rw plans b.3 in
-      let one : a.1 ≡ b.1 = one_standings day a.0 runways (names_with_all d s.updates flights a.2.0) a.2.1 a.1 b.1 a.3 stand in
-      let changed : xs ≡ ys = a.4 ∙ (ap (changes d.airport.day before) one ∙ sym b.4) in
+      let own : Own (with_updates d s.updates) = (runways, names_with_all d s.updates flights a.1.0) in
+      let changed : xs ≡ ys = one_changed_to d (with_updates d s.updates) (runways, flights) own xs ys a.2 b.2 in
       λ i. Ok (counts i, changed i)
-  one_changed before s (Ok (c, xs)) (Err (n, w)) a b =
-      let same : Planned a.0 c ≡ Refused n w = one_outcome d s.updates runways flights (Planned a.0 c) (Refused n w) a.2 b in
+  one_changed s (Ok (c, xs)) (Err (n, w)) a b =
+      let same : Planned a.0 c ≡ Refused n w = one_outcome d s.updates runways flights (Planned a.0 c) (Refused n w) a.1 b in
       cc
-  one_changed before s (Err (n, w)) (Ok (c, xs)) a b =
-      let same : Planned b.0 c ≡ Refused n w = one_outcome d s.updates runways flights (Planned b.0 c) (Refused n w) b.2 a in
+  one_changed s (Err (n, w)) (Ok (c, xs)) a b =
+      let same : Planned b.0 c ≡ Refused n w = one_outcome d s.updates runways flights (Planned b.0 c) (Refused n w) b.1 a in
       cc
-  one_changed before s (Err (n, w)) (Err (m, v)) a b =
+  one_changed s (Err (n, w)) (Err (m, v)) a b =
       let same : Refused n w ≡ Refused m v = one_outcome d s.updates runways flights (Refused n w) (Refused m v) a b in
       cc
 
   -- in numbers
-  pub one_summary : (before : List Standing) (s : ScenarioRecord) (x y : Summary) → IsSummary d before s x → IsSummary d before s y → x ≡ y
-  one_summary before s x y a b = a.2 ∙ (ap summary_of (one_changed before s a.0 b.0 a.1 b.1) ∙ sym b.2)
+  pub one_summary : (s : ScenarioRecord) (x y : Summary) → IsSummary d s x → IsSummary d s y → x ≡ y
+  one_summary s x y a b = a.2 ∙ (ap summary_of (one_changed s a.0 b.0 a.1 b.1) ∙ sym b.2)
 
   -- as lines
   pub one_told : (before : List Standing) (s : ScenarioRecord) (x y : List ℕ) → AreTold d before s x → AreTold d before s y → x ≡ y
-  one_told before s x y a b = a.2 ∙ (ap (told_of d.airport.day before) (one_changed before s a.0 b.0 a.1 b.1) ∙ sym b.2)
+  one_told before s x y a b = a.2 ∙ (ap (told_of d.airport.day before) (one_changed s a.0 b.0 a.1 b.1) ∙ sym b.2)
 
   -- as lines of JSON
-  one_lines_by : (before : List Standing) (s : ScenarioRecord) (by : Result (Counts × List Standing) (ℕ × RefusalWord)) → IsChanged d before s by
+  one_lines_by : (s : ScenarioRecord) (by : Result (Counts × List Standing) (ℕ × RefusalWord)) → IsChanged d s by
       → (x y : List ℕ) → AreChangeLinesBy d s by x → AreChangeLinesBy d s by y → x ≡ y
-  one_lines_by before s (Ok (c, changed)) is x y a b =
+  one_lines_by s (Ok (c, changed)) is x y a b =
       let own : a.0 ≡ b.0 = one_day_rows d runways flights a.0 b.0 a.1 b.1 in
-      let names = names_with_all d s.updates flights is.2.0 in
+      let names = names_with_all d s.updates flights is.1.0 in
       let after : a.2 ≡ b.2 = one_day_rows (with_updates d s.updates) runways names a.2 b.2 a.3 b.3 in
       a.4 ∙ ((λ i. flat_map (change_line d.airport.day (own i) (after i)) changed) ∙ sym b.4)
-  one_lines_by before s (Err refusal) is x y a b = a ∙ sym b
+  one_lines_by s (Err refusal) is x y a b = a ∙ sym b
 
-  pub one_change_lines : (before : List Standing) (s : ScenarioRecord) (x y : List ℕ) → AreChangeLines d before s x → AreChangeLines d before s y → x ≡ y
-  one_change_lines before s x y a b =
-      let same : a.0 ≡ b.0 = one_changed before s a.0 b.0 a.1 b.1 in
-      one_lines_by before s a.0 a.1 x y a.2 (subst (λ (by : Result (Counts × List Standing) (ℕ × RefusalWord)). AreChangeLinesBy d s by y) (sym same) b.2)
+  pub one_change_lines : (s : ScenarioRecord) (x y : List ℕ) → AreChangeLines d s x → AreChangeLines d s y → x ≡ y
+  one_change_lines s x y a b =
+      let same : a.0 ≡ b.0 = one_changed s a.0 b.0 a.1 b.1 in
+      one_lines_by s a.0 a.1 x y a.2 (subst (λ (by : Result (Counts × List Standing) (ℕ × RefusalWord)). AreChangeLinesBy d s by y) (sym same) b.2)

@@ -6,4 +6,4 @@ use Rattle.cdm_table.proofs.ranking.ranked_lines.Goals as goal
 pub lines_of-requires : goal.lines_of-requires
 lines_of-requires g c =
     ap length c.deref.ensures.value
-    ∙ AllZip-long (IsSummary c.args.base.now c.in_ok-before.before) c.args.scenarios.now c.in_ok-summaries.summaries.items c.in_ok-summaries.ensures
+    ∙ AllZip-long (IsSummary c.args.base.now) c.args.scenarios.now c.in_ok-summaries.summaries.items c.in_ok-summaries.ensures

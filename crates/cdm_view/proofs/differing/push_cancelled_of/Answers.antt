@@ -1,10 +1,14 @@
-use Rattle.cdm_view.proofs.ChangeLemmas.{left_more, left_same}
+use Rattle.cdm_view.proofs.ChangeLemmas.{rests_more}
 use Rattle.cdm_view.proofs.differing.push_cancelled_of.Goals as goal
 
-pub returns-then-are_same : goal.returns-then-are_same
-returns-then-are_same c = λ first second are.
-    left_same first second c.args.before.now c.args.after.now c.args.differing.now (c.are_same.ensures c.if-are_same.true) are
-
-pub returns : goal.returns
-returns c = λ first second are.
-    left_more first second c.args.before.now c.args.after.now c.args.differing.now _ c.in_ok-extend_from_slice.ensures.items c.in_ok-extend_from_slice-2.ensures.items are
+pub returns-clause-pushed : goal.returns-clause-pushed
+returns-clause-pushed g c = λ first second are.
+    let rests = rw (
+      c.deref.ensures.value,
+      c.deref-2.ensures.value,
+      c.in_ok-cancelled.ensures.all,
+      c.in_ok-cancelled_after.ensures.all,
+      ← c.deref-3.ensures.value,
+      ← c.deref-4.ensures.value,
+    ) at c.in_ok-standings.ensures in
+    rests_more first second _ _ _ _ _ _ _ _ rests c.in_ok-extend_from_slice.ensures.items c.in_ok-extend_from_slice-2.ensures.items are

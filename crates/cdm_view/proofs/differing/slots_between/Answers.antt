@@ -3,16 +3,16 @@ use Rattle.std.proofs.lemmas.Bool.{not-false}
 use Rattle.cdm_plan.proofs.PlanWords.{RunwayPlan, same_is, same_name}
 use Rattle.cdm_view.specs.Standings.{on_runway}
 use Rattle.cdm_view.specs.declared.standing.Standing.TheVariants.{OnRunway}
-use Rattle.cdm_view.specs.inner.Parts.{AreParts}
-use Rattle.cdm_view.proofs.EqualLemmas.{equal_slots}
-use Rattle.cdm_view.proofs.ChangeLemmas.{AreParts-all, AreParts-map}
+use Rattle.cdm_view.specs.inner.Left.{AreRests}
+use Rattle.cdm_view.proofs.ChangeLemmas.{rests_all, rests_map}
 use Rattle.cdm_view.proofs.differing.slots_between.Goals as goal
 
 pub returns-then-ne : goal.returns-then-ne
 returns-then-ne c =
-    let slots : c.as_slice-slots.result.now ≡ c.args.before.now.slots = c.as_slice-slots.ensures ∙ ap (λ (p : RunwayPlan). p.slots) c.before-2.view_is in
-    let others : c.as_slice-others.result.now ≡ c.args.after.now.slots = c.as_slice-others.ensures ∙ ap (λ (p : RunwayPlan). p.slots) c.after.view_is in
-    rw (slots, others) (AreParts-all (on_runway c.args.before.now) (on_runway c.args.after.now))
+    let slots = ap (λ (p : RunwayPlan). p.slots) c.before-2.view_is in
+    let others = ap (λ (p : RunwayPlan). p.slots) c.after.view_is in
+    rw (c.in_ok-from_slice.ensures.items ∙ c.as_slice-slots.ensures ∙ slots, c.in_ok-from_slice-2.ensures.items ∙ c.as_slice-others.ensures ∙ others)
+    (rests_all (on_runway c.args.before.now) (on_runway c.args.after.now))
 
 pub returns : goal.returns
 returns c =
@@ -24,8 +24,6 @@ returns c =
     (not-false (same_name c.before-2.inside.runway c.after.inside.runway) (sym c.ne.ensures ∙ c.if-ne.false)) in
     let runway : before.runway ≡ after.runway =
     sym (ap (λ (p : RunwayPlan). p.runway) c.before-2.view_is) ∙ (same ∙ ap (λ (p : RunwayPlan). p.runway) c.after.view_is) in
-    let first = c.differing_parts.result.0.now in
-    let second = c.differing_parts.result.1.now in
-    let parts = rw (slots, others) at (c.differing_parts.ensures equal_slots) in
-    subst (λ (r : List ℕ). AreParts (on_runway before) (map (OnRunway r) after.slots) (map (OnRunway before.runway) first) (map (OnRunway r) second)) runway
-    (AreParts-map (OnRunway before.runway) before.slots after.slots first second parts)
+    let rests = rw (slots, others) at c.in_ok-rests.ensures in
+    subst (λ (r : List ℕ). AreRests (on_runway before) (map (OnRunway r) after.slots) (map (OnRunway before.runway) c.in_ok-rests.rests.0.items)
+    (map (OnRunway r) c.in_ok-rests.rests.1.items)) runway (rests_map (OnRunway before.runway) before.slots after.slots _ _ rests)
