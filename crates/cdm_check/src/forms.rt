@@ -81,28 +81,26 @@ fn field_fault(field: Field, day: Day, text: &[u8]) -> Option<RefusalWord> {
 // How a field of an update is written that is no time.
 fn field_words(alloc: Global, field: Field) -> Result<String, AllocError> {
     let (form, range) = (field.form(), field.range());
-    match field {
-        Field::Flight => format!(in alloc; "a flight name is {form}"),
-        Field::Runway => format!(in alloc; "a runway has {form}"),
-        Field::Stand => format!(in alloc; "a stand has {form}"),
-        Field::Place => {
-            let stand = Field::Stand.form();
-            format!(in alloc; "a stand has {stand}, or is * for all others")
-        }
-        Field::Group => format!(in alloc; "a group is {form}"),
-        Field::Priority => format!(in alloc; "a priority is a number from {range}"),
-        Field::Cap => format!(in alloc; "a cap is a number from {range}"),
-        Field::TaxiMinutes => format!(in alloc; "taxi minutes are a number from {range}"),
-        Field::IceKind => format!(in alloc; "a de-icing is {form}"),
-        Field::IceMinutes => {
-            String::from_str(alloc, "minutes of de-icing are a number from 1 to 60")
-        }
-        Field::Before => format!(in alloc; "a tolerance has {range} minutes before a CTOT"),
-        Field::After => format!(in alloc; "a tolerance has {range} minutes after a CTOT"),
-        Field::Time | Field::From | Field::To | Field::Ctot => {
-            String::from_str(alloc, "there is no such time")
-        }
-    }
+    let (begin, form, end) = match field {
+        Field::Flight => ("a flight name is", form, ""),
+        Field::Runway => ("a runway has", form, ""),
+        Field::Stand => ("a stand has", form, ""),
+        Field::Place => (
+            "a stand has",
+            Field::Stand.form(),
+            ", or is * for all others",
+        ),
+        Field::Group => ("a group is", form, ""),
+        Field::Priority => ("a priority is a number from", range, ""),
+        Field::Cap => ("a cap is a number from", range, ""),
+        Field::TaxiMinutes => ("taxi minutes are a number from", range, ""),
+        Field::IceKind => ("a de-icing is", form, ""),
+        Field::IceMinutes => ("minutes of de-icing are a number from", "1 to 60", ""),
+        Field::Before => ("a tolerance has", range, " minutes before a CTOT"),
+        Field::After => ("a tolerance has", range, " minutes after a CTOT"),
+        Field::Time | Field::From | Field::To | Field::Ctot => ("there is no", "such time", ""),
+    };
+    format!(in alloc; "{begin} {form}{end}")
 }
 
 impl Form {

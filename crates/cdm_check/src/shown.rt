@@ -1,7 +1,6 @@
 //! Fields as sentences show them.
 
-use std::alloc::{AllocError, Global};
-use std::fmt::Write;
+use std::fmt;
 
 /// The columns of a field that is shown at most, without the dots behind one that is cut.
 const MOST_COLUMNS: usize = 40;
@@ -12,25 +11,29 @@ fn columns_of(byte: u8) -> usize {
 }
 
 /// A field in quotes. Each byte that isn't printable ASCII is shown as `\xHH`, and a long field is cut.
-pub(crate) fn shown(alloc: Global, field: &[u8]) -> Result<String, AllocError> {
-    let mut text = String::from_str(alloc, "\"")?;
-    let mut room = MOST_COLUMNS;
-    for byte in field {
-        let byte = *byte;
-        let columns = columns_of(byte);
-        if columns > room {
-            text.push_str("..")?;
-            break;
+#[derive(Clone, Copy)]
+pub(crate) struct Shown<'a>(pub &'a [u8]);
+
+impl fmt::Display for Shown<'_> {
+    fn fmt<W: fmt::Write>(&self, f: &mut fmt::Formatter<W>) -> fmt::Result {
+        f.write_str("\"")?;
+        let mut room = MOST_COLUMNS;
+        for byte in self.0 {
+            let byte = *byte;
+            let columns = columns_of(byte);
+            if columns > room {
+                f.write_str("..")?;
+                break;
+            }
+            room -= columns;
+            if columns == 1 {
+                f.write_char(char::from(byte))?;
+            } else {
+                write!(f, "\\x{byte:02x}")?;
+            }
         }
-        room -= columns;
-        if columns == 1 {
-            text.push(char::from(byte))?;
-        } else {
-            write!(text, "\\x{byte:02x}")?;
-        }
+        f.write_str("\"")
     }
-    text.push_str("\"")?;
-    Ok(text)
 }
 
 /// A field without the spaces before and behind it.

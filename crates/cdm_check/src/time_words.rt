@@ -8,6 +8,9 @@ use cdm_time::{Day, TimeFault};
 use std::alloc::{AllocError, Global};
 use std::str;
 
+/// How UTC is written behind a time.
+const UTC_NAMES: &[&str] = &["", "Z", "z", "UTC", "utc", "GMT", "+00:00", "+0000", "+00"];
+
 /// A date, and whether it is written as YYYY-MM-DD.
 #[derive(Clone, Copy)]
 struct DatePart {
@@ -122,6 +125,14 @@ fn behind_seconds(text: &[u8]) -> Option<&[u8]> {
     }
 }
 
+// Whether a text may be between an hour and a minute.
+fn is_mark(text: &[u8]) -> bool {
+    match text.first() {
+        Some(byte) => b":.hH".contains(byte),
+        None => true,
+    }
+}
+
 // The hour and the minute at the beginning of a text, and what follows them.
 fn clock_of(text: &[u8]) -> Option<(ClockPart<'_>, &[u8])> {
     let (first, rest) = digits_of(text);
@@ -133,8 +144,7 @@ fn clock_of(text: &[u8]) -> Option<(ClockPart<'_>, &[u8])> {
         let (minute, end) = digits_of(others);
         (first, mark, minute, end)
     };
-    let is_mark = matches!(mark, b"" | b":" | b"." | b"h" | b"H");
-    if !is_mark || hour.len() > 2 || minute.len() != 2 {
+    if !is_mark(mark) || hour.len() > 2 || minute.len() != 2 {
         return None;
     }
     let seconds = behind_seconds(end);
@@ -233,10 +243,13 @@ impl Parts<'_> {
 
     // Whether the text says another time zone than UTC, which is no part that a sentence can mend.
     fn is_local(&self) -> bool {
-        !matches!(
-            trimmed(self.zone),
-            b"" | b"Z" | b"z" | b"UTC" | b"utc" | b"GMT" | b"+00:00" | b"+0000" | b"+00"
-        )
+        let zone = trimmed(self.zone);
+        for name in UTC_NAMES {
+            if name.as_bytes() == zone {
+                return false;
+            }
+        }
+        true
     }
 
     // The date as it should be written, which is that of the airport file if the text has none.
@@ -305,27 +318,52 @@ pub(crate) fn wrong_time(
         return without_clock(alloc, day, text);
     };
     let date = parts.date_text(alloc, day)?;
-    let (hour, minute) = (parts.clock.hour, parts.clock.minute);
-    if !is_date(&date) {
+    wrong_parts(alloc, day, field, &parts, &date)
+}
+
+// Which of the parts of a time is wrong, and the time as it should be written, on this date.
+fn wrong_parts(
+    alloc: Global,
+    day: Day,
+    field: Field,
+    parts: &Parts<'_>,
+    date: &str,
+) -> Result<Option<String>, AllocError> {
+    let minute = parts.clock.minute;
+    if !is_date(date) {
         return Ok(Some(format!(in alloc; "the calendar has no {date}")?));
     }
-    if hour > 23 {
-        return Ok(Some(wrong_hour(alloc, day, field, &date, parts.clock)?));
+    if parts.clock.hour > 23 {
+        return Ok(Some(wrong_hour(alloc, day, field, date, parts.clock)?));
     }
     if minute > 59 {
         return Ok(Some(format!(in alloc;
             "the minute is {minute}, and 59 is the last of an hour"
         )?));
     }
-    let Some(wrong) = parts.wrong() else {
-        return Ok(None);
-    };
+    match parts.wrong() {
+        Some(wrong) => Ok(Some(mended(alloc, day, field, parts, date, wrong)?)),
+        None => Ok(None),
+    }
+}
+
+// What is wrong with a time, and the time as it should be written, on this date.
+fn mended(
+    alloc: Global,
+    day: Day,
+    field: Field,
+    parts: &Parts<'_>,
+    date: &str,
+    wrong: &str,
+) -> Result<String, AllocError> {
+    let (hour, minute) = (parts.clock.hour, parts.clock.minute);
     let mended = format!(in alloc; "{date}T{hour:02}:{minute:02}Z")?;
     if parts.is_local() || !is_time(day, field, mended.as_bytes()) {
         let example = DateText(day);
-        return Ok(Some(format!(in alloc; "{wrong}: a time is written {example}T06:00Z")?));
+        format!(in alloc; "{wrong}: a time is written {example}T06:00Z")
+    } else {
+        format!(in alloc; "{wrong}: write {mended}")
     }
-    Ok(Some(format!(in alloc; "{wrong}: write {mended}")?))
 }
 
 // What is wrong with a text that is a date alone.
@@ -348,13 +386,14 @@ pub(crate) fn wrong_day(alloc: Global, text: &[u8]) -> Result<Option<String>, Al
         return Ok(None);
     };
     let written = date.text(alloc)?;
-    if !is_date(&written) {
-        return Ok(Some(format!(in alloc; "the calendar has no {written}")?));
-    }
-    if !rest.is_empty() {
-        return Ok(Some(format!(in alloc; "a day has no hour and no minute: write {written}")?));
-    }
-    Ok(Some(format!(in alloc; "a day is written YYYY-MM-DD: write {written}")?))
+    let wrong = if !is_date(&written) {
+        "the calendar has no"
+    } else if !rest.is_empty() {
+        "a day has no hour and no minute: write"
+    } else {
+        "a day is written YYYY-MM-DD: write"
+    };
+    Ok(Some(format!(in alloc; "{wrong} {written}")?))
 }
 
 /// Why a time is out of its range, which is that of the two days.
