@@ -4,7 +4,7 @@ use crate::fields::field_at;
 use crate::kinds::FileKind;
 use crate::place::Cause;
 use crate::record_words::cause_in_record;
-use crate::rows::Rows;
+use crate::rows::{Rows, number_of};
 use crate::shown::Shown;
 use cdm_flight::RefusalWord;
 use cdm_time::Day;
@@ -96,8 +96,8 @@ impl fmt::Display for Names<'_> {
         }
         let mut joint = "";
         for runway in self.0 {
-            f.write_str(joint)?;
-            f.write_str(text_of(&runway.1))?;
+            let name = text_of(&runway.1);
+            write!(f, "{joint}{name}")?;
             joint = ", ";
         }
         Ok(())
@@ -117,11 +117,8 @@ fn used_runway(
 ) -> Result<String, AllocError> {
     let wanted = runway_in(row);
     let name = text_of(wanted);
-    match runways.iter().find(|used| used.1.as_slice() == wanted) {
-        Some(used) => {
-            let number = used.0;
-            format!(in alloc; "RUNWAY {name} stands in record {number} already")
-        }
+    match number_of(runways, wanted) {
+        Some(number) => format!(in alloc; "RUNWAY {name} stands in record {number} already"),
         None => format!(in alloc; "RUNWAY {name} stands in the file already"),
     }
 }

@@ -101,9 +101,9 @@ impl fmt::Display for KindsOf<'_> {
     fn fmt<W: fmt::Write>(&self, f: &mut fmt::Formatter<W>) -> fmt::Result {
         let mut joint = "";
         for kind in self.kinds {
-            if kind.roles().iter().any(|role| *role == self.role) {
-                f.write_str(joint)?;
-                f.write_str(kind.name())?;
+            if kind.roles().contains(&self.role) {
+                let word = kind.name();
+                write!(f, "{joint}{word}")?;
                 joint = ", ";
             }
         }
@@ -122,8 +122,8 @@ impl fmt::Display for RunwayNames<'_> {
         }
         let mut joint = "";
         for runway in self.0 {
-            f.write_str(joint)?;
-            f.write_str(runway.name.text())?;
+            let name = runway.name.text();
+            write!(f, "{joint}{name}")?;
             joint = ", ";
         }
         Ok(())
@@ -317,8 +317,12 @@ fn ends_near(day: Day, cell: u16, from: u16, to: u16) -> NearEnds
 fn cell_of(runways: &[RunwayRow], name: RunwayName) -> Option<u16>
     ensures { IfSome result (λ cell. 0 < cell) }
 {
-    let row = runways.iter().find(|row| row.name == name)?;
-    Some(row.cell.get())
+    for row in runways {
+        if row.name == name {
+            return Some(row.cell.get());
+        }
+    }
+    None
 }
 
 // An AIR before its OFF, or before the AOBT.

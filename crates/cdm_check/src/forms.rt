@@ -80,8 +80,14 @@ fn field_fault(field: Field, day: Day, text: &[u8]) -> Option<RefusalWord> {
 
 // How a field of an update is written that is no time.
 fn field_words(alloc: Global, field: Field) -> Result<String, AllocError> {
+    let (begin, form, end) = words_of(field);
+    format!(in alloc; "{begin} {form}{end}")
+}
+
+// The same in three parts, of which the second is its form or its range.
+fn words_of(field: Field) -> (&'static str, &'static str, &'static str) {
     let (form, range) = (field.form(), field.range());
-    let (begin, form, end) = match field {
+    match field {
         Field::Flight => ("a flight name is", form, ""),
         Field::Runway => ("a runway has", form, ""),
         Field::Stand => ("a stand has", form, ""),
@@ -99,8 +105,7 @@ fn field_words(alloc: Global, field: Field) -> Result<String, AllocError> {
         Field::Before => ("a tolerance has", range, " minutes before a CTOT"),
         Field::After => ("a tolerance has", range, " minutes after a CTOT"),
         Field::Time | Field::From | Field::To | Field::Ctot => ("there is no", "such time", ""),
-    };
-    format!(in alloc; "{begin} {form}{end}")
+    }
 }
 
 impl Form {

@@ -13,7 +13,6 @@ use crate::place::without_mark;
 use crate::quotes::open_quote;
 use crate::record_words::cause_in_record;
 use crate::rows::Rows;
-use crate::shown::trimmed;
 use cdm_files::{RecordReader, role_of};
 use cdm_flight::RefusalWord;
 use cdm_kinds::Format;
@@ -189,16 +188,22 @@ fn explanation_by(
         return Ok(Some(format!(in alloc; "fields are separated by {separator}, not commas")?));
     }
     match looks_like(row) {
-        Some(other) if other != file => {
+        Some(other) if other == file => Ok(None),
+        Some(other) => {
             let name = name_of(other);
             Ok(Some(format!(in alloc; "this looks like {name}")?))
         }
-        None if is_heading(alloc, file, row)? => {
-            let line = rows.line();
-            Ok(Some(format!(in alloc; "line {line} looks like a heading")?))
-        }
-        _ => Ok(None),
+        None => heading(alloc, file, rows),
     }
+}
+
+// What the first record says where it is a heading.
+fn heading(alloc: Global, file: FileKind, rows: &Rows<'_>) -> Result<Option<String>, AllocError> {
+    if !is_heading(alloc, file, rows.row())? {
+        return Ok(None);
+    }
+    let line = rows.line();
+    Ok(Some(format!(in alloc; "line {line} looks like a heading")?))
 }
 
 // Puts behind hints what else is to be said of a whole file.
@@ -207,15 +212,20 @@ fn push_others(alloc: Global, text: &[u8], hints: &mut Vec<String>) -> Result<()
         return Ok(());
     }
     if !Rows::new(alloc, text).read()? {
-        hints.push(String::from_str(alloc, "it has no record")?)?;
-        return Ok(());
+        return push_hint(alloc, hints, "it has no record");
     }
     if let Some(line) = open_quote(without_mark(text)) {
         hints.push(format!(in alloc; "a quote opened on line {line} never closes")?)?;
     }
-    if !matches!(text.last(), Some(b'\n' | b'\r')) {
-        hints.push(String::from_str(alloc, "its last line has no end")?)?;
+    if matches!(text.last(), Some(b'\n' | b'\r')) {
+        return Ok(());
     }
+    push_hint(alloc, hints, "its last line has no end")
+}
+
+// Puts a hint behind others.
+fn push_hint(alloc: Global, hints: &mut Vec<String>, hint: &str) -> Result<(), AllocError> {
+    hints.push(String::from_str(alloc, hint)?)?;
     Ok(())
 }
 
@@ -264,16 +274,18 @@ fn is_heading(alloc: Global, file: FileKind, row: &ByteRecord) -> Result<bool, A
             return Ok(false);
         }
     }
-    let first = trimmed(field_at(row, 0)).to_ascii_uppercase(alloc)?;
+    let first = field_at(row, 0).trim_ascii().to_ascii_uppercase(alloc)?;
     Ok(role_of(&first).is_none() && file.kind_of(&first).is_none())
 }
 
 // Whether a field begins with a letter, and no digit stands in it.
 fn is_name(field: &[u8]) -> bool {
-    let begins = trimmed(field)
-        .first()
-        .is_some_and(|byte| byte.is_ascii_alphabetic());
-    begins && !field.iter().any(|byte| byte.is_ascii_digit())
+    for byte in field {
+        if byte.is_ascii_digit() {
+            return false;
+        }
+    }
+    matches!(field.trim_ascii().first(), Some(byte) if byte.is_ascii_alphabetic())
 }
 
 // The file whose first record this is.

@@ -130,12 +130,12 @@ impl Known {
 
     /// The taxi time from the place to the runway that the feed gave last.
     pub fn taxi(&self, place: &Place, runway: &RunwayName) -> Option<TaxiMinutes> {
-        let row = self
-            .taxi
-            .iter()
-            .rev()
-            .find(|row| row.0 == *place && row.1 == *runway)?;
-        Some(row.2)
+        for row in self.taxi.iter().rev() {
+            if row.0 == *place && row.1 == *runway {
+                return Some(row.2);
+            }
+        }
+        None
     }
 
     /// Takes an accepted update.

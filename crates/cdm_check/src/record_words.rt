@@ -4,7 +4,7 @@ use crate::fields::{FieldOf, faulty_field, field_at, kind_of};
 use crate::forms::Form;
 use crate::kinds::{FileKind, RecordKind, kinds_by_word};
 use crate::partners::{RoleList, partner_of, role_meant};
-use crate::shown::{Shown, trimmed, where_spaces_are};
+use crate::shown::{Shown, where_spaces_are};
 use cdm_files::role_of;
 use cdm_flight::RefusalWord;
 use cdm_kinds::{Kind, role_name};
@@ -48,7 +48,7 @@ fn no_record(row: &ByteRecord) -> Option<&'static str> {
     if first.contains(&0) || first.starts_with(b"\xFF\xFE") || first.starts_with(b"\xFE\xFF") {
         return Some("these bytes are UTF-16: save the file as UTF-8");
     }
-    if row.len() > 1 && row.iter().all(|field| trimmed(field).is_empty()) {
+    if row.len() > 1 && is_blank(row) {
         return Some("all fields are empty: remove this line");
     }
     let begins = first.get(..4).unwrap_or_default();
@@ -56,6 +56,16 @@ fn no_record(row: &ByteRecord) -> Option<&'static str> {
         return Some("this line is for Excel alone: remove it");
     }
     None
+}
+
+// Whether nothing is in the fields of a record.
+fn is_blank(row: &ByteRecord) -> bool {
+    for field in row.iter() {
+        if !field.trim_ascii().is_empty() {
+            return false;
+        }
+    }
+    true
 }
 
 // A record of the feed that ends before its kind.
@@ -109,24 +119,27 @@ impl fmt::Display for FieldNames {
 
 // How a field that has another form should be written, if spaces or small letters are what is wrong with it.
 fn mended(alloc: Global, day: Day, field: FieldOf<'_>) -> Result<Option<String>, AllocError> {
-    let bare = trimmed(field.text);
-    let has_spaces = bare.len() < field.text.len();
-    let spaces = where_spaces_are(field.text);
-    if has_spaces && has_form(day, field.form, bare) {
-        let bare = Shown(bare);
+    let bare = field.text.trim_ascii();
+    if bare.len() < field.text.len() && has_form(day, field.form, bare) {
+        let (spaces, bare) = (where_spaces_are(field.text), Shown(bare));
         return Ok(Some(format!(in alloc; "remove {spaces} {bare}")?));
     }
     let capitals = bare.to_ascii_uppercase(alloc)?;
     if !has_form(day, field.form, &capitals) {
         return Ok(None);
     }
-    let written = str::from_utf8(&capitals).unwrap_or_default();
-    let (joint, spaces, end) = if has_spaces {
-        (", and remove ", spaces, " it")
+    Ok(Some(in_capitals(alloc, field, &capitals)?))
+}
+
+// How a field should be written that has small letters, in these capitals.
+fn in_capitals(alloc: Global, field: FieldOf<'_>, capitals: &[u8]) -> Result<String, AllocError> {
+    let written = str::from_utf8(capitals).unwrap_or_default();
+    let spaces = where_spaces_are(field.text);
+    if capitals.len() < field.text.len() {
+        format!(in alloc; "write {written} in capitals, and remove {spaces} it")
     } else {
-        ("", "", "")
-    };
-    Ok(Some(format!(in alloc; "write {written} in capitals{joint}{spaces}{end}")?))
+        format!(in alloc; "write {written} in capitals")
+    }
 }
 
 // Whether a text has the form, in its range or not.
@@ -172,7 +185,7 @@ fn wrong_role(alloc: Global, day: Day, row: &ByteRecord) -> Result<String, Alloc
         let roles = RoleList(kind.roles());
         return format!(in alloc; "field 1 {here} is a kind; put its role before it: {roles}");
     }
-    if let Some(role) = role_meant(trimmed(text)) {
+    if let Some(role) = role_meant(text.trim_ascii()) {
         let (role, partner) = (role_name(role), partner_of(role));
         return format!(in alloc; "field 1 {here}: write {role}, the role of the {partner}");
     }

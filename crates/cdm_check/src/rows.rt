@@ -6,6 +6,16 @@ use cdm_files::RecordReader;
 use csv::ByteRecord;
 use std::alloc::{AllocError, Global};
 
+/// The number of the record that has this name, if one has it.
+pub(crate) fn number_of(names: &[(usize, Vec<u8>)], name: &[u8]) -> Option<usize> {
+    for (number, other) in names {
+        if other.as_slice() == name {
+            return Some(*number);
+        }
+    }
+    None
+}
+
 /// The records of a text, and the one that was read last.
 pub(crate) struct Rows<'a> {
     text: &'a [u8],

@@ -49,7 +49,7 @@ fn refused_in<'a>(
 ) -> Result<Vec<RefusedUpdate<'a>>, AllocError> {
     let mut refused = Vec::new(alloc);
     for (before, scenario) in scenarios.iter().enumerate() {
-        if let Err((number, word)) = Overlay::after(alloc, &judged.state, scenario.updates())? {
+        if let Some((number, word)) = first_refused(alloc, judged, scenario)? {
             refused.push(RefusedUpdate {
                 before,
                 scenario,
@@ -59,6 +59,18 @@ fn refused_in<'a>(
         }
     }
     Ok(refused)
+}
+
+// The number of the first refused update of a scenario, and the word that refuses it, if there is one.
+fn first_refused(
+    alloc: Global,
+    judged: &Judged,
+    scenario: &Scenario,
+) -> Result<Option<(usize, RefusalWord)>, AllocError> {
+    match Overlay::after(alloc, &judged.state, scenario.updates())? {
+        Ok(_) => Ok(None),
+        Err(refused) => Ok(Some(refused)),
+    }
 }
 
 // The hints on refused updates.

@@ -4,7 +4,7 @@ use crate::fields::field_at;
 use crate::kinds::FileKind;
 use crate::place::Cause;
 use crate::record_words::cause_in_record;
-use crate::rows::Rows;
+use crate::rows::{Rows, number_of};
 use crate::shown::Shown;
 use cdm_flight::RefusalWord;
 use cdm_time::Day;
@@ -50,9 +50,8 @@ fn used_name(
 ) -> Result<String, AllocError> {
     let wanted = field_at(row, 1);
     let name = Shown(wanted);
-    match names.iter().find(|used| used.1.as_slice() == wanted) {
-        Some(used) => {
-            let number = used.0;
+    match number_of(names, wanted) {
+        Some(number) => {
             format!(in alloc; "a scenario has the name {name} already, in record {number}")
         }
         None => format!(in alloc; "a scenario has the name {name} already"),

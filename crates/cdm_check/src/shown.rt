@@ -36,26 +36,10 @@ impl fmt::Display for Shown<'_> {
     }
 }
 
-/// A field without the spaces before and behind it.
-pub(crate) fn trimmed(field: &[u8]) -> &[u8] {
-    let front = field
-        .iter()
-        .take_while(|byte| byte.is_ascii_whitespace())
-        .count();
-    let rest = field.get(front..).unwrap_or_default();
-    let behind = rest
-        .iter()
-        .rev()
-        .take_while(|byte| byte.is_ascii_whitespace())
-        .count();
-    let end = rest.len().saturating_sub(behind);
-    rest.get(..end).unwrap_or_default()
-}
-
 /// Where a field has spaces.
 pub(crate) fn where_spaces_are(field: &[u8]) -> &'static str {
-    let before = field.first().is_some_and(|byte| byte.is_ascii_whitespace());
-    let behind = field.last().is_some_and(|byte| byte.is_ascii_whitespace());
+    let before = matches!(field.first(), Some(byte) if byte.is_ascii_whitespace());
+    let behind = matches!(field.last(), Some(byte) if byte.is_ascii_whitespace());
     match (before, behind) {
         (true, true) => "the spaces around",
         (true, false) => "the space before",

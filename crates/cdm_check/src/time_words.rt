@@ -1,6 +1,5 @@
 //! Which part of a day or a time is wrong, and the day or the time as it should be written.
 
-use crate::shown::trimmed;
 use crate::times::{DateText, after_midnight, bound_time, date_in, second_midnight};
 use cdm_files::number_field;
 use cdm_kinds::Field;
@@ -54,8 +53,17 @@ fn cut_at(text: &[u8], count: usize) -> (&[u8], &[u8]) {
 
 // The digits at the beginning of a text, and the rest.
 fn digits_of(text: &[u8]) -> (&[u8], &[u8]) {
-    let count = text.iter().take_while(|byte| byte.is_ascii_digit()).count();
-    cut_at(text, count)
+    cut_where(text, false)
+}
+
+// A text in two: up to the first digit, or up to the first byte that is none, and the rest.
+fn cut_where(text: &[u8], is_digit: bool) -> (&[u8], &[u8]) {
+    for (place, byte) in text.iter().enumerate() {
+        if byte.is_ascii_digit() == is_digit {
+            return cut_at(text, place);
+        }
+    }
+    (text, &[])
 }
 
 // The rest of a text that begins with one of two bytes.
@@ -160,13 +168,31 @@ fn clock_of(text: &[u8]) -> Option<(ClockPart<'_>, &[u8])> {
 
 // Whether a text is empty or a time zone: letters, or a sign and hours.
 fn is_zone(text: &[u8]) -> bool {
-    let zone = trimmed(text);
+    let zone = text.trim_ascii();
     match behind(zone, b'+', b'-') {
-        Some(hours) => hours
-            .iter()
-            .all(|byte| byte.is_ascii_digit() || *byte == b':'),
-        None => zone.iter().all(|byte| byte.is_ascii_alphabetic()),
+        Some(hours) => are_hours(hours),
+        None => are_letters(zone),
     }
+}
+
+// Whether a text has only digits and colons.
+fn are_hours(text: &[u8]) -> bool {
+    for byte in text {
+        if !byte.is_ascii_digit() && *byte != b':' {
+            return false;
+        }
+    }
+    true
+}
+
+// Whether a text has only letters.
+fn are_letters(text: &[u8]) -> bool {
+    for byte in text {
+        if !byte.is_ascii_alphabetic() {
+            return false;
+        }
+    }
+    true
 }
 
 // The parts of a text that looks like a time.
@@ -175,11 +201,7 @@ fn parts_of(text: &[u8]) -> Option<Parts<'_>> {
         Some((date, rest)) => (Some(date), rest),
         None => (None, text),
     };
-    let count = rest
-        .iter()
-        .take_while(|byte| !byte.is_ascii_digit())
-        .count();
-    let (joint, rest) = cut_at(rest, count);
+    let (joint, rest) = cut_where(rest, true);
     let (clock, zone) = clock_of(rest)?;
     if joint.len() > 3 || !is_zone(zone) {
         return None;
@@ -198,7 +220,7 @@ fn wrong_joint(joint: &[u8]) -> Option<&'static str> {
         None
     } else if joint.is_empty() {
         Some("T is missing before the hour")
-    } else if trimmed(joint).is_empty() {
+    } else if joint.trim_ascii().is_empty() {
         Some("a blank is in the place of T")
     } else {
         Some("only T is between date and hour")
@@ -207,7 +229,7 @@ fn wrong_joint(joint: &[u8]) -> Option<&'static str> {
 
 // What is wrong behind the minute.
 fn wrong_zone(zone: &[u8]) -> Option<&'static str> {
-    match trimmed(zone) {
+    match zone.trim_ascii() {
         b"" => Some("Z is missing"),
         b"Z" if zone.len() > 1 => Some("a blank is before Z"),
         b"Z" => None,
@@ -243,7 +265,7 @@ impl Parts<'_> {
 
     // Whether the text says another time zone than UTC, which is no part that a sentence can mend.
     fn is_local(&self) -> bool {
-        let zone = trimmed(self.zone);
+        let zone = self.zone.trim_ascii();
         for name in UTC_NAMES {
             if name.as_bytes() == zone {
                 return false;
@@ -313,7 +335,7 @@ pub(crate) fn wrong_time(
     field: Field,
     text: &[u8],
 ) -> Result<Option<String>, AllocError> {
-    let text = trimmed(text);
+    let text = text.trim_ascii();
     let Some(parts) = parts_of(text) else {
         return without_clock(alloc, day, text);
     };
@@ -382,7 +404,7 @@ fn without_clock(alloc: Global, day: Day, text: &[u8]) -> Result<Option<String>,
 /// What is wrong with a text that should be a day, and the day as it should be written; nothing if the text doesn't look
 /// like one.
 pub(crate) fn wrong_day(alloc: Global, text: &[u8]) -> Result<Option<String>, AllocError> {
-    let Some((date, rest)) = date_of(trimmed(text)) else {
+    let Some((date, rest)) = date_of(text.trim_ascii()) else {
         return Ok(None);
     };
     let written = date.text(alloc)?;
