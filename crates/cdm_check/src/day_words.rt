@@ -163,7 +163,7 @@ fn unknown_flight(
 }
 
 // What is known of the update's flight.
-fn known_flight(before: Before<'_>, update: &Update) -> Option<(FlightName, KnownFlight)> {
+fn known_flight<'a>(before: Before<'a>, update: &Update) -> Option<(FlightName, &'a KnownFlight)> {
     let name = flight_of(update)?;
     let flight = before.known.flight(name)?;
     Some((name, flight))
@@ -353,8 +353,8 @@ fn not_ready(alloc: Global, before: Before<'_>, update: &Update) -> Result<Strin
     let Some(runway) = flight.runway else {
         return format!(in alloc; "{name} has no runway; send RWY before OFF");
     };
-    let Some(exot) = exot_of(before, &flight, runway) else {
-        return no_taxi_time(alloc, name, &flight, runway);
+    let Some(exot) = exot_of(before, flight, runway) else {
+        return no_taxi_time(alloc, name, flight, runway);
     };
     match *update {
         Update::Off { aobt, .. } => {

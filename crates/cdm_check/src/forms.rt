@@ -80,31 +80,48 @@ fn field_fault(field: Field, day: Day, text: &[u8]) -> Option<RefusalWord> {
 
 // How a field of an update is written that is no time.
 fn field_words(alloc: Global, field: Field) -> Result<String, AllocError> {
-    let (begin, form, end) = words_of(field);
+    let (begin, form, end) = (begin_of(field), part_of(field), end_of(field));
     format!(in alloc; "{begin} {form}{end}")
 }
 
-// The same in three parts, of which the second is its form or its range.
-fn words_of(field: Field) -> (&'static str, &'static str, &'static str) {
-    let (form, range) = (field.form(), field.range());
+// How such a sentence begins.
+fn begin_of(field: Field) -> &'static str {
     match field {
-        Field::Flight => ("a flight name is", form, ""),
-        Field::Runway => ("a runway has", form, ""),
-        Field::Stand => ("a stand has", form, ""),
-        Field::Place => (
-            "a stand has",
-            Field::Stand.form(),
-            ", or is * for all others",
-        ),
-        Field::Group => ("a group is", form, ""),
-        Field::Priority => ("a priority is a number from", range, ""),
-        Field::Cap => ("a cap is a number from", range, ""),
-        Field::TaxiMinutes => ("taxi minutes are a number from", range, ""),
-        Field::IceKind => ("a de-icing is", form, ""),
-        Field::IceMinutes => ("minutes of de-icing are a number from", "1 to 60", ""),
-        Field::Before => ("a tolerance has", range, " minutes before a CTOT"),
-        Field::After => ("a tolerance has", range, " minutes after a CTOT"),
-        Field::Time | Field::From | Field::To | Field::Ctot => ("there is no", "such time", ""),
+        Field::Flight => "a flight name is",
+        Field::Runway => "a runway has",
+        Field::Stand | Field::Place => "a stand has",
+        Field::Group => "a group is",
+        Field::Priority => "a priority is a number from",
+        Field::Cap => "a cap is a number from",
+        Field::TaxiMinutes => "taxi minutes are a number from",
+        Field::IceKind => "a de-icing is",
+        Field::IceMinutes => "minutes of de-icing are a number from",
+        Field::Before | Field::After => "a tolerance has",
+        Field::Time | Field::From | Field::To | Field::Ctot => "there is no",
+    }
+}
+
+// The form or the range in such a sentence.
+fn part_of(field: Field) -> &'static str {
+    match field {
+        Field::Flight | Field::Runway | Field::Stand | Field::Group | Field::IceKind => {
+            field.form()
+        }
+        Field::Place => Field::Stand.form(),
+        Field::Priority | Field::Cap | Field::TaxiMinutes | Field::Before | Field::After =>
+            field.range(),
+        Field::IceMinutes => "1 to 60",
+        Field::Time | Field::From | Field::To | Field::Ctot => "such time",
+    }
+}
+
+// How such a sentence ends.
+fn end_of(field: Field) -> &'static str {
+    match field {
+        Field::Place => ", or is * for all others",
+        Field::Before => " minutes before a CTOT",
+        Field::After => " minutes after a CTOT",
+        _ => "",
     }
 }
 
