@@ -2,15 +2,15 @@
 
 use crate::fields::field_at;
 use crate::kinds::FileKind;
-use crate::place::{Cause, line_of};
+use crate::place::Cause;
 use crate::record_words::cause_in_record;
-use crate::shown::shown;
-use cdm_files::RecordReader;
+use crate::rows::{Rows, number_of};
+use crate::shown::Shown;
 use cdm_flight::RefusalWord;
 use cdm_time::Day;
 use csv::ByteRecord;
 use std::alloc::{AllocError, Global};
-use std::str;
+use std::{fmt, str};
 
 /// The day that sentences on an airport file have as an example.
 const EXAMPLE_DAY: &[u8] = b"2025-03-10";
@@ -22,32 +22,39 @@ pub(crate) fn airport_fault(
     number: usize,
     word: RefusalWord,
 ) -> Result<Cause, AllocError> {
-    let mut reader = RecordReader::new(alloc, text);
-    let mut row = ByteRecord::new(alloc);
-    let mut runways = Vec::new(alloc);
-    for place in 1..number {
-        reader.read(&mut row)?;
-        if field_at(&row, 0) == b"RUNWAY".as_slice() {
-            let name = Vec::from_slice(alloc, field_at(&row, 1))?;
-            runways.push((place, name))?;
-        }
+    let mut rows = Rows::new(alloc, text);
+    let runways = rows.names_before(alloc, b"RUNWAY", number)?;
+    if !rows.read()? {
+        return no_record(alloc);
     }
-    if !reader.read(&mut row)? {
-        let sentence = String::from_str(
-            alloc,
-            "the file has no record; the first one is DAY, as DAY,2025-03-10",
-        )?;
-        return Ok(Cause { line: 1, sentence });
+    let sentence = sentence_of(alloc, &runways, rows.row(), number, word)?;
+    Ok(rows.cause(sentence))
+}
+
+// A file without a record.
+fn no_record(alloc: Global) -> Result<Cause, AllocError> {
+    let sentence = String::from_str(
+        alloc,
+        "the file has no record; the first one is DAY, as DAY,2025-03-10",
+    )?;
+    Ok(Cause { line: 1, sentence })
+}
+
+// Why a record of this number is refused by this word, behind records of these runways.
+fn sentence_of(
+    alloc: Global,
+    runways: &[(usize, Vec<u8>)],
+    row: &ByteRecord,
+    number: usize,
+    word: RefusalWord,
+) -> Result<String, AllocError> {
+    match word {
+        RefusalWord::Unknown => unknown_runway(alloc, runways, row),
+        RefusalWord::Exists => used_runway(alloc, runways, row),
+        RefusalWord::Order => order(alloc, number),
+        RefusalWord::Full => no_room(alloc, row),
+        _ => in_record(alloc, row, word),
     }
-    let sentence = match word {
-        RefusalWord::Unknown => unknown_runway(alloc, &runways, &row)?,
-        RefusalWord::Exists => used_runway(alloc, &runways, &row)?,
-        RefusalWord::Order => order(alloc, number)?,
-        RefusalWord::Full => no_room(alloc, &row)?,
-        _ => in_record(alloc, &row, word)?,
-    };
-    let line = line_of(text, &row);
-    Ok(Cause { line, sentence })
 }
 
 // A record that is wrong in itself.
@@ -74,19 +81,27 @@ fn unknown_runway(
     row: &ByteRecord,
 ) -> Result<String, AllocError> {
     let name = text_of(runway_in(row));
-    let mut text = format!(in alloc; "no RUNWAY {name} before this record; there is ")?;
-    if runways.is_empty() {
-        text.push_str("none")?;
-    }
-    let mut first = true;
-    for runway in runways {
-        if !first {
-            text.push_str(", ")?;
+    let names = Names(runways);
+    format!(in alloc; "no RUNWAY {name} before this record; there is {names}")
+}
+
+// The names of runways, or `none`.
+#[derive(Clone, Copy)]
+struct Names<'a>(&'a [(usize, Vec<u8>)]);
+
+impl fmt::Display for Names<'_> {
+    fn fmt<W: fmt::Write>(&self, f: &mut fmt::Formatter<W>) -> fmt::Result {
+        if self.0.is_empty() {
+            return f.write_str("none");
         }
-        text.push_str(text_of(&runway.1))?;
-        first = false;
+        let mut joint = "";
+        for runway in self.0 {
+            let name = text_of(&runway.1);
+            write!(f, "{joint}{name}")?;
+            joint = ", ";
+        }
+        Ok(())
     }
-    Ok(text)
 }
 
 // The text of a name.
@@ -102,11 +117,8 @@ fn used_runway(
 ) -> Result<String, AllocError> {
     let wanted = runway_in(row);
     let name = text_of(wanted);
-    match runways.iter().find(|used| used.1.as_slice() == wanted) {
-        Some(used) => {
-            let number = used.0;
-            format!(in alloc; "RUNWAY {name} stands in record {number} already")
-        }
+    match number_of(runways, wanted) {
+        Some(number) => format!(in alloc; "RUNWAY {name} stands in record {number} already"),
         None => format!(in alloc; "RUNWAY {name} stands in the file already"),
     }
 }
@@ -128,6 +140,6 @@ fn no_room(alloc: Global, row: &ByteRecord) -> Result<String, AllocError> {
             "8 runways stand before this one, which is the most of an airport",
         );
     }
-    let stand = shown(alloc, field_at(row, 1))?;
+    let stand = Shown(field_at(row, 1));
     format!(in alloc; "400 stands have taxi times, which is the most, and {stand} is none of them")
 }

@@ -1,11 +1,13 @@
 //! A whole check, from the bytes of its inputs to its text.
-ghost use Rattle.std.specs.Prelude.{◌≡◌, ◌≤◌, ◌+◌, ◌++◌, ◌∷◌, [], map, length, take, is_some, unwrap_or, vec_len, false, Ok, IfOk, if◌then◌else◌};
+ghost use Rattle.std.specs.Prelude.{◌≡◌, ◌≤◌, ◌+◌, ◌∷◌, [], map, length, take, is_some, unwrap_or, vec_len, false, Ok, IfOk, if◌then◌else◌};
+ghost use Rattle.std.specs.List.{concat};
 ghost use Rattle.std.specs.Option.{option_copied};
 ghost use Rattle.cdm_files.specs.Input.{input_limit};
+ghost use Rattle.cdm_files.specs.FeedDay.{refusals_in};
 ghost use Rattle.cdm_files.specs.Records.{records_of};
 ghost use Rattle.cdm_files.specs.ScenarioFile.{scenarios_in};
 ghost use Rattle.cdm_kinds.specs.declared.format.Format.{Format as AFormat};
-ghost use Rattle.cdm_check.specs.Check.{AreHintsOf, AreLinesOf, most_told};
+ghost use Rattle.cdm_check.specs.Check.{AreHintsOf, AreLinesOf, IsLineOf, most_told};
 ghost use Rattle.cdm_check.specs.Findings.{fault_at, finding, findings_at, findings_in, is_no_feed, is_stood_for, listed, told_at, told_in};
 ghost use Rattle.cdm_check.specs.Paths.{IsCheckAt, airport_file, counts_at, feed_file, scenario_file};
 
@@ -20,7 +22,7 @@ use crate::scenario_updates::refused_updates;
 use crate::scenario_words::scenario_fault;
 use crate::walk::FeedWalk;
 use cdm_day::Airport;
-use cdm_files::{FileFault, Inputs, Lent, judge, read_airport, read_scenarios};
+use cdm_files::{FileFault, Inputs, Judged, Lent, judge, read_airport, read_scenarios};
 use cdm_flight::RefusalWord;
 use cdm_kinds::Format;
 use cdm_phase::Gate;
@@ -29,7 +31,6 @@ use std::alloc::{AllocError, Global};
 use std::thread::Threads;
 
 // What is found.
-#[derive(Drop)]
 struct Told {
     // The lines of the first findings that are told one by one.
     lines: Vec<u8>,
@@ -41,6 +42,19 @@ struct Told {
     standing: Option<String>,
     // The refused updates of scenarios.
     updates: Vec<String>,
+}
+
+// One call drops it, in place of its fields one by one at each exit of each function that owns it.
+impl Drop for Told {
+    fn drop(self) {
+        let Told {
+            lines: _,
+            refused: _,
+            told: _,
+            standing: _,
+            updates: _,
+        } = self;
+    }
 }
 
 /// The text of a check and what it counts.
@@ -64,14 +78,41 @@ fn feed_lines(
     ensures { IfOk result (λ text. AreLinesOf format (map (finding path.now) refused.now) text.items) }
 {
     let mut walk = FeedWalk::new(alloc, airport, feed);
+    refused_lines(alloc, format, path, &mut walk, refused)
+}
+
+// The lines of refused records, of which none was taken before.
+fn refused_lines(
+    alloc: Global,
+    format: Format,
+    path: &str,
+    walk: &mut FeedWalk<'_>,
+    refused: &[(u32, RefusalWord)],
+) -> Result<Vec<u8>, AllocError>
+    ensures { IfOk result (λ text. AreLinesOf format (map (finding path.now) refused.now) text.items) }
+{
     let mut text = Vec::new(alloc);
     for refusal in refused {
         let (number, word) = *refusal;
-        let cause = walk.cause_of(number, word)?;
-        let line = line_of(alloc, format, path, number as usize, word, &cause)?;
+        let line = refused_line(alloc, format, path, walk, number, word)?;
         text.extend_from_slice(&line)?;
     }
     Ok(text)
+}
+
+// The line of the record of this number, which is refused by this word.
+fn refused_line(
+    alloc: Global,
+    format: Format,
+    path: &str,
+    walk: &mut FeedWalk<'_>,
+    number: u32,
+    word: RefusalWord,
+) -> Result<Vec<u8>, AllocError>
+    ensures { IfOk result (λ text. IsLineOf format (finding path.now (number, word)) text.items) }
+{
+    let cause = walk.cause_of(number, word)?;
+    line_of(alloc, format, path, number as usize, word, &cause)
 }
 
 // The first refused records, as many as are told.
@@ -200,9 +241,35 @@ fn told_of_day<R: Threads + Sync, G: Gate>(
         (feed_file paths.entry inputs.now.second.items) (scenario_file paths.entry inputs.now.third.items))) }
     ensures standing { IfOk result (λ told. is_some told.standing ≡ is_no_feed inputs.now.second.items) }
 {
-    let alloc = lent.alloc;
+    let judged = judge(
+        lent.rt,
+        lent.alloc,
+        airport,
+        &inputs.second,
+        lent.workers,
+        lent.gate,
+    )?;
+    told_of_judged(lent.alloc, format, paths, &judged, inputs)
+}
+
+// What is found in the feed, which was judged, and in the scenario file of its airport.
+fn told_of_judged(
+    alloc: Global,
+    format: Format,
+    paths: FilePaths<'_>,
+    judged: &Judged,
+    inputs: &Inputs,
+) -> Result<Told, AllocError>
+    requires { judged.now.refused.items ≡ refusals_in judged.now.state.airport inputs.now.second.items }
+    ensures lines { IfOk result (λ told. AreLinesOf format (take most_told (told_at (Ok judged.now.state.airport) (airport_file paths.entry [])
+        (feed_file paths.entry inputs.now.second.items) (scenario_file paths.entry inputs.now.third.items))) told.lines.items) }
+    ensures refused { IfOk result (λ told. told.refused ≡ length (findings_at (Ok judged.now.state.airport) (airport_file paths.entry [])
+        (feed_file paths.entry inputs.now.second.items) (scenario_file paths.entry inputs.now.third.items))) }
+    ensures told { IfOk result (λ told. told.told ≡ length (told_at (Ok judged.now.state.airport) (airport_file paths.entry [])
+        (feed_file paths.entry inputs.now.second.items) (scenario_file paths.entry inputs.now.third.items))) }
+    ensures standing { IfOk result (λ told. is_some told.standing ≡ is_no_feed inputs.now.second.items) }
+{
     let feed: &[u8] = &inputs.second;
-    let judged = judge(lent.rt, alloc, airport, feed, lent.workers, lent.gate)?;
     let airport = judged.state.airport();
     let standing = standing_hint(alloc, *airport.day(), feed)?;
     let listed = listed(&judged.refused, standing.is_some());
@@ -212,7 +279,7 @@ fn told_of_day<R: Threads + Sync, G: Gate>(
         lines.extend_from_slice(&scenario.lines)?;
     }
     let told = listed.len() + scenario.refused;
-    let updates = refused_updates(alloc, &judged, feed, &inputs.third)?;
+    let updates = refused_updates(alloc, judged, feed, &inputs.third)?;
     Ok(Told {
         lines,
         refused: judged.refused.len() + scenario.refused,
@@ -279,6 +346,25 @@ fn scenario_hints(
     }
 }
 
+// Five texts, one behind another.
+#[tactic(auto, using(crate::proofs::LineLemmas::parts))]
+fn joined(
+    first: Vec<u8>,
+    second: &[u8],
+    third: &[u8],
+    fourth: &[u8],
+    fifth: &[u8],
+) -> Result<Vec<u8>, AllocError>
+    ensures { IfOk result (λ text. text.items ≡ concat (first.items ∷ second.now ∷ third.now ∷ fourth.now ∷ fifth.now ∷ [])) }
+{
+    let mut text = first;
+    text.extend_from_slice(second)?;
+    text.extend_from_slice(third)?;
+    text.extend_from_slice(fourth)?;
+    text.extend_from_slice(fifth)?;
+    Ok(text)
+}
+
 /// The text of a check of files, which are these inputs, and what it counts: hints on whole files; then a line for the first
 /// faulty record of the airport file, or else for each refused record of the feed, unless one hint stands for all of them,
 /// and for the first faulty record of the scenario file, 1,000 lines at most; and then how many records there are, and how
@@ -299,13 +385,6 @@ pub fn check_of<R: Threads + Sync, G: Gate>(
 {
     let alloc = lent.alloc;
     let found = told_of(lent, format, paths, inputs)?;
-    let Told {
-        lines,
-        refused,
-        told,
-        standing,
-        updates,
-    } = found;
     let records = record_counts(alloc, inputs)?;
     let airport = hints_of(
         alloc,
@@ -315,14 +394,18 @@ pub fn check_of<R: Threads + Sync, G: Gate>(
         &inputs.airport,
         &[],
     )?;
+    let standing = found.standing.as_deref();
     let feed = feed_hints(alloc, format, paths.feed, &inputs.second, standing)?;
-    let scenarios = scenario_hints(alloc, format, paths.scenarios, &inputs.third, &updates)?;
-    let last = last_line(alloc, format, records, refused, told)?;
-    let mut text = airport;
-    text.extend_from_slice(&feed)?;
-    text.extend_from_slice(&scenarios)?;
-    text.extend_from_slice(&lines)?;
-    text.extend_from_slice(&last)?;
+    let scenarios = scenario_hints(
+        alloc,
+        format,
+        paths.scenarios,
+        &inputs.third,
+        &found.updates,
+    )?;
+    let refused = found.refused;
+    let last = last_line(alloc, format, records, refused, found.told)?;
+    let text = joined(airport, &feed, &scenarios, &found.lines, &last)?;
     let counts = CheckCounts { records, refused };
     Ok(Checked { text, counts })
 }

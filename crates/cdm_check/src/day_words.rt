@@ -4,14 +4,14 @@ ghost use Rattle.std.specs.Prelude.{◌<◌, IfSome};
 
 use crate::kinds::kinds_by_word;
 use crate::known::{Ending, Known, KnownFlight};
-use crate::partners::{RoleText, push_roles};
-use crate::times::{ClockText, TimeText, bound_time};
+use crate::partners::{RoleList, RoleText};
+use crate::times::{ClockText, TimeText, WrittenTime, bound_time};
 use cdm_day::{Airport, MOST_DAY_UPDATES};
 use cdm_flight::{FlightName, Place, Reach, RefusalWord, Role, RunwayName, RunwayRow, Update};
 use cdm_kinds::Kind;
-use cdm_time::{Bound, Minute};
+use cdm_time::{Bound, Day, Minute};
 use std::alloc::{AllocError, Global};
-use std::fmt::Write;
+use std::fmt;
 
 /// What there is before a record of a feed.
 #[derive(Clone, Copy)]
@@ -77,45 +77,57 @@ fn authority(alloc: Global, role: Option<Role>, update: &Update) -> Result<Strin
     let kind = Kind::of(update);
     let word = kind.name();
     let article = article_of(word);
-    let mut text = format!(in alloc; "{article} {word} is set by ")?;
-    push_roles(&mut text, kind.roles())?;
-    if let Some(role) = role {
-        let may = RoleText(role);
-        write!(text, "; {may} may set ")?;
-        push_kinds_of(alloc, &mut text, role)?;
-    }
-    Ok(text)
+    let roles = RoleList(kind.roles());
+    let Some(role) = role else {
+        return format!(in alloc; "{article} {word} is set by {roles}");
+    };
+    let may = RoleText(role);
+    let kinds = kinds_by_word(alloc)?;
+    let made = KindsOf {
+        kinds: &kinds,
+        role,
+    };
+    format!(in alloc; "{article} {word} is set by {roles}; {may} may set {made}")
 }
 
-// Puts the kinds of updates that a role may make behind the text.
-fn push_kinds_of(alloc: Global, text: &mut String, role: Role) -> Result<(), AllocError> {
-    let mut first = true;
-    for kind in &kinds_by_word(alloc)? {
-        if kind.roles().iter().any(|other| *other == role) {
-            if !first {
-                text.push_str(", ")?;
+// Those of some kinds of updates that a role may make.
+#[derive(Clone, Copy)]
+struct KindsOf<'a> {
+    kinds: &'a [Kind],
+    role: Role,
+}
+
+impl fmt::Display for KindsOf<'_> {
+    fn fmt<W: fmt::Write>(&self, f: &mut fmt::Formatter<W>) -> fmt::Result {
+        let mut joint = "";
+        for kind in self.kinds {
+            if kind.roles().contains(&self.role) {
+                let word = kind.name();
+                write!(f, "{joint}{word}")?;
+                joint = ", ";
             }
-            text.push_str(kind.name())?;
-            first = false;
         }
+        Ok(())
     }
-    Ok(())
 }
 
-/// Puts the names of runways behind the text, or `none`.
-pub(crate) fn push_runways(text: &mut String, runways: &[RunwayRow]) -> Result<(), AllocError> {
-    if runways.is_empty() {
-        text.push_str("none")?;
-    }
-    let mut first = true;
-    for runway in runways {
-        if !first {
-            text.push_str(", ")?;
+// The names of runways, or `none`.
+#[derive(Clone, Copy)]
+struct RunwayNames<'a>(&'a [RunwayRow]);
+
+impl fmt::Display for RunwayNames<'_> {
+    fn fmt<W: fmt::Write>(&self, f: &mut fmt::Formatter<W>) -> fmt::Result {
+        if self.0.is_empty() {
+            return f.write_str("none");
         }
-        text.push_str(runway.name.text())?;
-        first = false;
+        let mut joint = "";
+        for runway in self.0 {
+            let name = runway.name.text();
+            write!(f, "{joint}{name}")?;
+            joint = ", ";
+        }
+        Ok(())
     }
-    Ok(())
 }
 
 // The flight or the runway isn't known.
@@ -125,13 +137,14 @@ fn unknown(alloc: Global, before: Before<'_>, update: &Update) -> Result<String,
             return unknown_flight(alloc, before, flight);
         }
     }
-    let mut text = String::new(alloc);
-    if let Some(runway) = runway_of(update) {
-        let name = runway.text();
-        write!(text, "no RUNWAY {name} in the airport file; there is ")?;
+    let names = RunwayNames(before.airport.runways());
+    match runway_of(update) {
+        Some(runway) => {
+            let name = runway.text();
+            format!(in alloc; "no RUNWAY {name} in the airport file; there is {names}")
+        }
+        None => format!(in alloc; "{names}"),
     }
-    push_runways(&mut text, before.airport.runways())?;
-    Ok(text)
 }
 
 // The flight isn't known: its FLT may come later.
@@ -150,7 +163,7 @@ fn unknown_flight(
 }
 
 // What is known of the update's flight.
-fn known_flight(before: Before<'_>, update: &Update) -> Option<(FlightName, KnownFlight)> {
+fn known_flight<'a>(before: Before<'a>, update: &Update) -> Option<(FlightName, &'a KnownFlight)> {
     let name = flight_of(update)?;
     let flight = before.known.flight(name)?;
     Some((name, flight))
@@ -252,37 +265,64 @@ fn off_cells(
     let Some(cell) = cell_of(before.airport.runways(), runway) else {
         return format!(in alloc; "an end of the window is within a cell of {name}");
     };
-    let is_start = from.get() % cell != 0;
-    let minute = if is_start { from.get() } else { to.get() };
+    let minute = if from.get() % cell == 0 {
+        to.get()
+    } else {
+        from.get()
+    };
     let time = ClockText(minute);
-    let mut text = format!(in alloc; "{time} is no multiple of the {cell}-minute cells of {name}")?;
+    let ends = ends_near(*before.airport.day(), cell, from.get(), to.get());
+    format!(in alloc; "{time} is no multiple of the {cell}-minute cells of {name}{ends}")
+}
+
+// The nearest ends that a window may have in place of one that is off the cells, by their times.
+#[derive(Clone, Copy)]
+struct NearEnds {
+    lower: Option<WrittenTime>,
+    upper: Option<WrittenTime>,
+}
+
+impl fmt::Display for NearEnds {
+    fn fmt<W: fmt::Write>(&self, f: &mut fmt::Formatter<W>) -> fmt::Result {
+        match (self.lower, self.upper) {
+            (Some(lower), Some(upper)) => write!(f, ": write {lower} or {upper}"),
+            (Some(one), None) | (None, Some(one)) => write!(f, ": write {one}"),
+            (None, None) => Ok(()),
+        }
+    }
+}
+
+// The nearest ends in place of the start of a window, if that is off the cells, or else of its end.
+fn ends_near(day: Day, cell: u16, from: u16, to: u16) -> NearEnds
+    requires { 0 < cell }
+{
+    let is_start = from % cell != 0;
+    let minute = if is_start { from } else { to };
     let earlier = minute.saturating_sub(minute % cell);
     let later = earlier.saturating_add(cell);
-    let day = *before.airport.day();
-    let lower = if is_start || earlier > from.get() {
+    let lower = if is_start || earlier > from {
         bound_time(day, earlier)
     } else {
         None
     };
-    let upper = if !is_start || later < to.get() {
+    let upper = if !is_start || later < to {
         bound_time(day, later)
     } else {
         None
     };
-    match (lower, upper) {
-        (Some(lower), Some(upper)) => write!(text, ": write {lower} or {upper}")?,
-        (Some(one), None) | (None, Some(one)) => write!(text, ": write {one}")?,
-        (None, None) => {}
-    }
-    Ok(text)
+    NearEnds { lower, upper }
 }
 
 // The length of the cells of a runway.
 fn cell_of(runways: &[RunwayRow], name: RunwayName) -> Option<u16>
     ensures { IfSome result (λ cell. 0 < cell) }
 {
-    let row = runways.iter().find(|row| row.name == name)?;
-    Some(row.cell.get())
+    for row in runways {
+        if row.name == name {
+            return Some(row.cell.get());
+        }
+    }
+    None
 }
 
 // An AIR before its OFF, or before the AOBT.
@@ -313,8 +353,8 @@ fn not_ready(alloc: Global, before: Before<'_>, update: &Update) -> Result<Strin
     let Some(runway) = flight.runway else {
         return format!(in alloc; "{name} has no runway; send RWY before OFF");
     };
-    let Some(exot) = exot_of(before, &flight, runway) else {
-        return no_taxi_time(alloc, name, &flight, runway);
+    let Some(exot) = exot_of(before, flight, runway) else {
+        return no_taxi_time(alloc, name, flight, runway);
     };
     match *update {
         Update::Off { aobt, .. } => {

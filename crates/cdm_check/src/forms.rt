@@ -80,28 +80,48 @@ fn field_fault(field: Field, day: Day, text: &[u8]) -> Option<RefusalWord> {
 
 // How a field of an update is written that is no time.
 fn field_words(alloc: Global, field: Field) -> Result<String, AllocError> {
-    let (form, range) = (field.form(), field.range());
+    let (begin, form, end) = (begin_of(field), part_of(field), end_of(field));
+    format!(in alloc; "{begin} {form}{end}")
+}
+
+// How such a sentence begins.
+fn begin_of(field: Field) -> &'static str {
     match field {
-        Field::Flight => format!(in alloc; "a flight name is {form}"),
-        Field::Runway => format!(in alloc; "a runway has {form}"),
-        Field::Stand => format!(in alloc; "a stand has {form}"),
-        Field::Place => {
-            let stand = Field::Stand.form();
-            format!(in alloc; "a stand has {stand}, or is * for all others")
+        Field::Flight => "a flight name is",
+        Field::Runway => "a runway has",
+        Field::Stand | Field::Place => "a stand has",
+        Field::Group => "a group is",
+        Field::Priority => "a priority is a number from",
+        Field::Cap => "a cap is a number from",
+        Field::TaxiMinutes => "taxi minutes are a number from",
+        Field::IceKind => "a de-icing is",
+        Field::IceMinutes => "minutes of de-icing are a number from",
+        Field::Before | Field::After => "a tolerance has",
+        Field::Time | Field::From | Field::To | Field::Ctot => "there is no",
+    }
+}
+
+// The form or the range in such a sentence.
+fn part_of(field: Field) -> &'static str {
+    match field {
+        Field::Flight | Field::Runway | Field::Stand | Field::Group | Field::IceKind => {
+            field.form()
         }
-        Field::Group => format!(in alloc; "a group is {form}"),
-        Field::Priority => format!(in alloc; "a priority is a number from {range}"),
-        Field::Cap => format!(in alloc; "a cap is a number from {range}"),
-        Field::TaxiMinutes => format!(in alloc; "taxi minutes are a number from {range}"),
-        Field::IceKind => format!(in alloc; "a de-icing is {form}"),
-        Field::IceMinutes => {
-            String::from_str(alloc, "minutes of de-icing are a number from 1 to 60")
-        }
-        Field::Before => format!(in alloc; "a tolerance has {range} minutes before a CTOT"),
-        Field::After => format!(in alloc; "a tolerance has {range} minutes after a CTOT"),
-        Field::Time | Field::From | Field::To | Field::Ctot => {
-            String::from_str(alloc, "there is no such time")
-        }
+        Field::Place => Field::Stand.form(),
+        Field::Priority | Field::Cap | Field::TaxiMinutes | Field::Before | Field::After =>
+            field.range(),
+        Field::IceMinutes => "1 to 60",
+        Field::Time | Field::From | Field::To | Field::Ctot => "such time",
+    }
+}
+
+// How such a sentence ends.
+fn end_of(field: Field) -> &'static str {
+    match field {
+        Field::Place => ", or is * for all others",
+        Field::Before => " minutes before a CTOT",
+        Field::After => " minutes after a CTOT",
+        _ => "",
     }
 }
 

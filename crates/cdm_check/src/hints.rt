@@ -9,10 +9,10 @@ ghost use Rattle.cdm_check.specs.Findings.{has_no_role, is_no_feed};
 use crate::fields::field_at;
 use crate::kinds::FileKind;
 use crate::lines::{STANDING_COLUMNS, hint_line, record_count, standing_line};
-use crate::place::{line_of, without_mark};
+use crate::place::without_mark;
 use crate::quotes::open_quote;
 use crate::record_words::cause_in_record;
-use crate::shown::trimmed;
+use crate::rows::Rows;
 use cdm_files::{RecordReader, role_of};
 use cdm_flight::RefusalWord;
 use cdm_kinds::Format;
@@ -48,14 +48,14 @@ pub(crate) fn feed_hints(
     format: Format,
     path: &str,
     text: &[u8],
-    standing: Option<String>,
+    standing: Option<&str>,
 ) -> Result<Vec<u8>, AllocError>
     requires { length text.now ≤ input_limit }
     ensures { IfOk result (λ hints.
-        AreFeedHintsOf format (is_some standing) path.now (length (records_of text.now)) hints.items) }
+        AreFeedHintsOf format (is_some standing.entry) path.now (length (records_of text.now)) hints.items) }
 {
     match standing {
-        Some(hint) => standing_hints(alloc, format, path, text, &hint),
+        Some(hint) => standing_hints(alloc, format, path, text, hint),
         None => hints_of(alloc, format, path, FileKind::Feed, text, &[]),
     }
 }
@@ -141,16 +141,9 @@ pub(crate) fn standing_hint(
 // What is said of a feed of which no record begins with a role, where nothing else explains it: what is wrong with its
 // first record, if that is short enough, and else what the roles are.
 fn no_role(alloc: Global, day: Day, feed: &[u8]) -> Result<String, AllocError> {
-    let mut reader = RecordReader::new(alloc, feed);
-    let mut row = ByteRecord::new(alloc);
-    reader.read(&mut row)?;
-    let word = if row.len() < 2 {
-        RefusalWord::Fields
-    } else {
-        RefusalWord::Role
-    };
-    let cause = cause_in_record(alloc, FileKind::Feed, day, &row, word)?;
-    let hint = format!(in alloc; "no record begins with a role; record 1: {cause}")?;
+    let mut rows = Rows::new(alloc, feed);
+    rows.read()?;
+    let hint = no_role_in(alloc, day, rows.row())?;
     if hint.len() <= STANDING_COLUMNS {
         return Ok(hint);
     }
@@ -160,30 +153,57 @@ fn no_role(alloc: Global, day: Day, feed: &[u8]) -> Result<String, AllocError> {
     )
 }
 
+// What is said of such a feed by its first record.
+fn no_role_in(alloc: Global, day: Day, row: &ByteRecord) -> Result<String, AllocError> {
+    let word = if row.len() < 2 {
+        RefusalWord::Fields
+    } else {
+        RefusalWord::Role
+    };
+    let cause = cause_in_record(alloc, FileKind::Feed, day, row, word)?;
+    format!(in alloc; "no record begins with a role; record 1: {cause}")
+}
+
 // What is to be said of a whole file that explains each of its records, if there is something.
 fn explanation(alloc: Global, file: FileKind, text: &[u8]) -> Result<Option<String>, AllocError> {
     if is_utf16(text) {
         return Ok(Some(String::from_str(alloc, "it is UTF-16; save it as UTF-8")?));
     }
-    let mut reader = RecordReader::new(alloc, text);
-    let mut row = ByteRecord::new(alloc);
-    if !reader.read(&mut row)? {
-        return Ok(None);
+    let mut rows = Rows::new(alloc, text);
+    if rows.read()? {
+        explanation_by(alloc, file, &rows)
+    } else {
+        Ok(None)
     }
-    if let Some(separator) = wrong_separator(&row) {
+}
+
+// What the first record, which was read last, says of a whole file that explains each of its records.
+fn explanation_by(
+    alloc: Global,
+    file: FileKind,
+    rows: &Rows<'_>,
+) -> Result<Option<String>, AllocError> {
+    let row = rows.row();
+    if let Some(separator) = wrong_separator(row) {
         return Ok(Some(format!(in alloc; "fields are separated by {separator}, not commas")?));
     }
-    match looks_like(&row) {
-        Some(other) if other != file => {
+    match looks_like(row) {
+        Some(other) if other == file => Ok(None),
+        Some(other) => {
             let name = name_of(other);
             Ok(Some(format!(in alloc; "this looks like {name}")?))
         }
-        None if is_heading(alloc, file, &row)? => {
-            let line = line_of(text, &row);
-            Ok(Some(format!(in alloc; "line {line} looks like a heading")?))
-        }
-        _ => Ok(None),
+        None => heading(alloc, file, rows),
     }
+}
+
+// What the first record says where it is a heading.
+fn heading(alloc: Global, file: FileKind, rows: &Rows<'_>) -> Result<Option<String>, AllocError> {
+    if !is_heading(alloc, file, rows.row())? {
+        return Ok(None);
+    }
+    let line = rows.line();
+    Ok(Some(format!(in alloc; "line {line} looks like a heading")?))
 }
 
 // Puts behind hints what else is to be said of a whole file.
@@ -191,17 +211,21 @@ fn push_others(alloc: Global, text: &[u8], hints: &mut Vec<String>) -> Result<()
     if is_utf16(text) {
         return Ok(());
     }
-    let mut reader = RecordReader::new(alloc, text);
-    if !reader.read(&mut ByteRecord::new(alloc))? {
-        hints.push(String::from_str(alloc, "it has no record")?)?;
-        return Ok(());
+    if !Rows::new(alloc, text).read()? {
+        return push_hint(alloc, hints, "it has no record");
     }
     if let Some(line) = open_quote(without_mark(text)) {
         hints.push(format!(in alloc; "a quote opened on line {line} never closes")?)?;
     }
-    if !matches!(text.last(), Some(b'\n' | b'\r')) {
-        hints.push(String::from_str(alloc, "its last line has no end")?)?;
+    if matches!(text.last(), Some(b'\n' | b'\r')) {
+        return Ok(());
     }
+    push_hint(alloc, hints, "its last line has no end")
+}
+
+// Puts a hint behind others.
+fn push_hint(alloc: Global, hints: &mut Vec<String>, hint: &str) -> Result<(), AllocError> {
+    hints.push(String::from_str(alloc, hint)?)?;
     Ok(())
 }
 
@@ -246,15 +270,22 @@ fn is_heading(alloc: Global, file: FileKind, row: &ByteRecord) -> Result<bool, A
         return Ok(false);
     }
     for field in row.iter() {
-        let begins = trimmed(field)
-            .first()
-            .is_some_and(|byte| byte.is_ascii_alphabetic());
-        if !begins || field.iter().any(|byte| byte.is_ascii_digit()) {
+        if !is_name(field) {
             return Ok(false);
         }
     }
-    let first = trimmed(field_at(row, 0)).to_ascii_uppercase(alloc)?;
+    let first = field_at(row, 0).trim_ascii().to_ascii_uppercase(alloc)?;
     Ok(role_of(&first).is_none() && file.kind_of(&first).is_none())
+}
+
+// Whether a field begins with a letter, and no digit stands in it.
+fn is_name(field: &[u8]) -> bool {
+    for byte in field {
+        if byte.is_ascii_digit() {
+            return false;
+        }
+    }
+    matches!(field.trim_ascii().first(), Some(byte) if byte.is_ascii_alphabetic())
 }
 
 // The file whose first record this is.

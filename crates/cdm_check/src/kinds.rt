@@ -99,11 +99,15 @@ impl FileKind {
             FileKind::Scenarios => SCENARIO_KINDS,
             FileKind::Feed => &[],
         };
-        match others.iter().find(|kind| kind.word.as_bytes() == text) {
-            Some(kind) => Some(RecordKind::Other(kind)),
-            None if self == FileKind::Airport => None,
-            None => Kind::named(text).map(RecordKind::Update),
+        for kind in others {
+            if kind.word.as_bytes() == text {
+                return Some(RecordKind::Other(kind));
+            }
         }
+        if self == FileKind::Airport {
+            return None;
+        }
+        Some(RecordKind::Update(Kind::named(text)?))
     }
 }
 
@@ -127,10 +131,10 @@ impl RecordKind {
     /// The name of the field at a place behind the word, counted from 0, and what it holds, if there is one.
     pub fn field(self, place: usize) -> Option<(&'static str, Form)> {
         match self {
-            RecordKind::Update(kind) => kind
-                .fields()
-                .get(place)
-                .map(|field| (field.name(), Form::Of(*field))),
+            RecordKind::Update(kind) => {
+                let field = *kind.fields().get(place)?;
+                Some((field.name(), Form::Of(field)))
+            }
             RecordKind::Other(kind) => kind.fields.get(place).copied(),
         }
     }

@@ -7,7 +7,7 @@ use std::collections::BTreeMap;
 use std::fmt;
 
 /// Where an accepted update is.
-#[derive(Clone, Copy, PartialEq, Eq)]
+#[derive(Clone, Copy)]
 pub(crate) enum Source {
     /// The record of the feed that has this number.
     Record(u32),
@@ -25,7 +25,7 @@ impl fmt::Display for Source {
 }
 
 /// How a flight's day ended.
-#[derive(Clone, Copy, PartialEq, Eq)]
+#[derive(Clone, Copy)]
 pub(crate) enum Ending {
     /// It took off.
     Airborne,
@@ -72,8 +72,8 @@ impl KnownFlight {
     }
 
     // The flight after an accepted update of it.
-    fn after(self, source: Source, update: &Update) -> KnownFlight {
-        let mut flight = self;
+    fn after(&self, source: Source, update: &Update) -> KnownFlight {
+        let mut flight = *self;
         match *update {
             Update::Stand { stand, .. } => flight.stand = Some(stand),
             Update::Rwy { runway, .. } => flight.runway = Some(runway),
@@ -124,18 +124,18 @@ impl Known {
     }
 
     /// What is known of a flight.
-    pub fn flight(&self, name: FlightName) -> Option<KnownFlight> {
-        self.flights.get(&name).copied()
+    pub fn flight(&self, name: FlightName) -> Option<&KnownFlight> {
+        self.flights.get(&name)
     }
 
     /// The taxi time from the place to the runway that the feed gave last.
     pub fn taxi(&self, place: &Place, runway: &RunwayName) -> Option<TaxiMinutes> {
-        let row = self
-            .taxi
-            .iter()
-            .rev()
-            .find(|row| row.0 == *place && row.1 == *runway)?;
-        Some(row.2)
+        for row in self.taxi.iter().rev() {
+            if row.0 == *place && row.1 == *runway {
+                return Some(row.2);
+            }
+        }
+        None
     }
 
     /// Takes an accepted update.
@@ -169,10 +169,11 @@ impl Known {
         name: FlightName,
         update: &Update,
     ) -> Result<(), AllocError> {
-        match self.flight(name) {
-            Some(flight) => self.put(name, flight.after(source, update)),
-            None => Ok(()),
-        }
+        let changed = match self.flight(name) {
+            Some(flight) => flight.after(source, update),
+            None => return Ok(()),
+        };
+        self.put(name, changed)
     }
 
     // Puts what is known of a flight.

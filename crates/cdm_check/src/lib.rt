@@ -19,6 +19,7 @@ mod paths;
 mod place;
 mod quotes;
 mod record_words;
+mod rows;
 mod scenario_updates;
 mod scenario_words;
 mod shown;

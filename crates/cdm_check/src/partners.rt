@@ -1,11 +1,8 @@
 //! The partners of a day: their roles, and other names that feeds have for them.
 
-use cdm_files::role_of;
 use cdm_flight::Role;
 use cdm_kinds::role_name;
-use std::alloc::AllocError;
 use std::fmt;
-use std::fmt::Write;
 
 /// Other names of roles, in capitals.
 const OTHER_NAMES: &[(&str, Role)] = &[
@@ -49,25 +46,28 @@ pub(crate) fn partner_of(role: Role) -> &'static str {
     }
 }
 
-/// The role that a text in capitals means, if it is another name of one.
+/// The role that a text means, in capitals or not, if it is another name of one.
 pub(crate) fn role_meant(text: &[u8]) -> Option<Role> {
-    if role_of(text).is_some() {
-        return None;
+    for (name, role) in OTHER_NAMES {
+        if name.as_bytes().eq_ignore_ascii_case(text) {
+            return Some(*role);
+        }
     }
-    let found = OTHER_NAMES.iter().find(|name| name.0.as_bytes() == text)?;
-    Some(found.1)
+    None
 }
 
-/// Puts roles behind the text, each with its partner.
-pub(crate) fn push_roles(text: &mut String, roles: &[Role]) -> Result<(), AllocError> {
-    let mut first = true;
-    for role in roles {
-        if !first {
-            text.push_str(" or ")?;
+/// Roles, each with its partner.
+#[derive(Clone, Copy)]
+pub(crate) struct RoleList(pub &'static [Role]);
+
+impl fmt::Display for RoleList {
+    fn fmt<W: fmt::Write>(&self, f: &mut fmt::Formatter<W>) -> fmt::Result {
+        let mut joint = "";
+        for role in self.0 {
+            let role = RoleText(*role);
+            write!(f, "{joint}{role}")?;
+            joint = " or ";
         }
-        let role = RoleText(*role);
-        write!(text, "{role}")?;
-        first = false;
+        Ok(())
     }
-    Ok(())
 }

@@ -32,10 +32,18 @@ pub(crate) fn line_of(text: &[u8], row: &ByteRecord) -> u64 {
     } else {
         rest
     };
-    let blank = rest
-        .iter()
-        .take_while(|byte| **byte == b'\n' || **byte == b'\r')
-        .filter(|byte| **byte == b'\n')
-        .count();
-    position.line().saturating_add(blank as u64)
+    position.line().saturating_add(blank_lines(rest))
+}
+
+// How many blank lines a text begins with.
+fn blank_lines(text: &[u8]) -> u64 {
+    let mut lines: u64 = 0;
+    for byte in text {
+        match *byte {
+            b'\n' => lines = lines.saturating_add(1),
+            b'\r' => {}
+            _ => break,
+        }
+    }
+    lines
 }

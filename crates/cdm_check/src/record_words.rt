@@ -3,16 +3,15 @@
 use crate::fields::{FieldOf, faulty_field, field_at, kind_of};
 use crate::forms::Form;
 use crate::kinds::{FileKind, RecordKind, kinds_by_word};
-use crate::partners::{partner_of, push_roles, role_meant};
-use crate::shown::{shown, trimmed, where_spaces_are};
+use crate::partners::{RoleList, partner_of, role_meant};
+use crate::shown::{Shown, where_spaces_are};
 use cdm_files::role_of;
 use cdm_flight::RefusalWord;
-use cdm_kinds::role_name;
+use cdm_kinds::{Kind, role_name};
 use cdm_time::Day;
 use csv::ByteRecord;
 use std::alloc::{AllocError, Global};
-use std::fmt::Write;
-use std::str;
+use std::{fmt, str};
 
 /// Why a record of the file is refused by this word, which is one of Fields, Role, Kind, Text and Range.
 pub(crate) fn cause_in_record(
@@ -49,7 +48,7 @@ fn no_record(row: &ByteRecord) -> Option<&'static str> {
     if first.contains(&0) || first.starts_with(b"\xFF\xFE") || first.starts_with(b"\xFE\xFF") {
         return Some("these bytes are UTF-16: save the file as UTF-8");
     }
-    if row.len() > 1 && row.iter().all(|field| trimmed(field).is_empty()) {
+    if row.len() > 1 && is_blank(row) {
         return Some("all fields are empty: remove this line");
     }
     let begins = first.get(..4).unwrap_or_default();
@@ -59,9 +58,19 @@ fn no_record(row: &ByteRecord) -> Option<&'static str> {
     None
 }
 
+// Whether nothing is in the fields of a record.
+fn is_blank(row: &ByteRecord) -> bool {
+    for field in row.iter() {
+        if !field.trim_ascii().is_empty() {
+            return false;
+        }
+    }
+    true
+}
+
 // A record of the feed that ends before its kind.
 fn too_few(alloc: Global, row: &ByteRecord) -> Result<String, AllocError> {
-    let field = shown(alloc, field_at(row, 0))?;
+    let field = Shown(field_at(row, 0));
     format!(in alloc;
         "1 field, {field}: a record has a role, a kind and its fields, with commas between them"
     )
@@ -81,43 +90,55 @@ fn wrong_count(
         .count()
         .saturating_add(file.kind_place())
         .saturating_add(1);
-    let mut text = format!(in alloc; "{word} takes {wanted} fields ({role}{word}")?;
-    push_names(&mut text, kind)?;
-    write!(text, "); this record has {here}")?;
+    let names = FieldNames(kind);
     let last = here.saturating_sub(1);
-    if here > wanted && field_at(row, last).is_empty() {
-        text.push_str(", the last one empty: remove the comma at the end")?;
-    }
-    Ok(text)
+    let advice = if here > wanted && field_at(row, last).is_empty() {
+        ", the last one empty: remove the comma at the end"
+    } else {
+        ""
+    };
+    format!(in alloc;
+        "{word} takes {wanted} fields ({role}{word}{names}); this record has {here}{advice}"
+    )
 }
 
-// Puts the names of the kind's fields behind the text.
-fn push_names(text: &mut String, kind: RecordKind) -> Result<(), AllocError> {
-    for place in 0..kind.count() {
-        if let Some((name, _)) = kind.field(place) {
-            write!(text, ", {name}")?;
+// The names of a kind's fields, a comma before each.
+#[derive(Clone, Copy)]
+struct FieldNames(RecordKind);
+
+impl fmt::Display for FieldNames {
+    fn fmt<W: fmt::Write>(&self, f: &mut fmt::Formatter<W>) -> fmt::Result {
+        for place in 0..self.0.count() {
+            if let Some((name, _)) = self.0.field(place) {
+                write!(f, ", {name}")?;
+            }
         }
+        Ok(())
     }
-    Ok(())
 }
 
-// A field that has another form as it should be written, if spaces or small letters are what is wrong with it.
+// How a field that has another form should be written, if spaces or small letters are what is wrong with it.
 fn mended(alloc: Global, day: Day, field: FieldOf<'_>) -> Result<Option<String>, AllocError> {
-    let bare = trimmed(field.text);
-    let spaces = where_spaces_are(field.text);
+    let bare = field.text.trim_ascii();
     if bare.len() < field.text.len() && has_form(day, field.form, bare) {
-        let bare = shown(alloc, bare)?;
+        let (spaces, bare) = (where_spaces_are(field.text), Shown(bare));
         return Ok(Some(format!(in alloc; "remove {spaces} {bare}")?));
     }
     let capitals = bare.to_ascii_uppercase(alloc)?;
     if !has_form(day, field.form, &capitals) {
         return Ok(None);
     }
-    let written = str::from_utf8(&capitals).unwrap_or_default();
-    if bare.len() < field.text.len() {
-        Ok(Some(format!(in alloc; "write {written} in capitals, and remove {spaces} it")?))
+    Ok(Some(in_capitals(alloc, field, &capitals)?))
+}
+
+// How a field should be written that has small letters, in these capitals.
+fn in_capitals(alloc: Global, field: FieldOf<'_>, capitals: &[u8]) -> Result<String, AllocError> {
+    let written = str::from_utf8(capitals).unwrap_or_default();
+    let spaces = where_spaces_are(field.text);
+    if capitals.len() < field.text.len() {
+        format!(in alloc; "write {written} in capitals, and remove {spaces} it")
     } else {
-        Ok(Some(format!(in alloc; "write {written} in capitals")?))
+        format!(in alloc; "write {written} in capitals")
     }
 }
 
@@ -126,39 +147,45 @@ fn has_form(day: Day, form: Form, text: &[u8]) -> bool {
     form.fault(day, text) != Some(RefusalWord::Text)
 }
 
+// What is told of a field.
+fn told_of(alloc: Global, field: FieldOf<'_>, cause: &str) -> Result<String, AllocError> {
+    let number = field.number;
+    let here = Shown(field.text);
+    format!(in alloc; "field {number} {here}: {cause}")
+}
+
 // A field that hasn't its form.
 fn wrong_text(alloc: Global, day: Day, field: FieldOf<'_>) -> Result<String, AllocError> {
-    let number = field.number;
-    let here = shown(alloc, field.text)?;
+    let cause = cause_in_text(alloc, day, field)?;
+    told_of(alloc, field, &cause)
+}
+
+// Why a field hasn't its form.
+fn cause_in_text(alloc: Global, day: Day, field: FieldOf<'_>) -> Result<String, AllocError> {
     if let Some(mended) = mended(alloc, day, field)? {
-        return format!(in alloc; "field {number} {here}: {mended}");
+        return Ok(mended);
     }
-    if let Some(part) = field.form.wrong_part(alloc, day, field.text)? {
-        return format!(in alloc; "field {number} {here}: {part}");
+    match field.form.wrong_part(alloc, day, field.text)? {
+        Some(part) => Ok(part),
+        None => field.form.wanted(alloc, day),
     }
-    let wanted = field.form.wanted(alloc, day)?;
-    format!(in alloc; "field {number} {here}: {wanted}")
 }
 
 // A field that is out of its range.
 fn wrong_range(alloc: Global, day: Day, field: FieldOf<'_>) -> Result<String, AllocError> {
-    let number = field.number;
-    let here = shown(alloc, field.text)?;
     let range = field.form.range(alloc, day, field.text)?;
-    format!(in alloc; "field {number} {here}: {range}")
+    told_of(alloc, field, &range)
 }
 
 // A first field of a feed's record that is no role.
 fn wrong_role(alloc: Global, day: Day, row: &ByteRecord) -> Result<String, AllocError> {
     let text = field_at(row, 0);
-    let here = shown(alloc, text)?;
+    let here = Shown(text);
     if let Some(kind) = FileKind::Feed.kind_of(text) {
-        let mut sentence = format!(in alloc; "field 1 {here} is a kind; put its role before it: ")?;
-        push_roles(&mut sentence, kind.roles())?;
-        return Ok(sentence);
+        let roles = RoleList(kind.roles());
+        return format!(in alloc; "field 1 {here} is a kind; put its role before it: {roles}");
     }
-    let capitals = trimmed(text).to_ascii_uppercase(alloc)?;
-    if let Some(role) = role_meant(&capitals) {
+    if let Some(role) = role_meant(text.trim_ascii()) {
         let (role, partner) = (role_name(role), partner_of(role));
         return format!(in alloc; "field 1 {here}: write {role}, the role of the {partner}");
     }
@@ -186,27 +213,40 @@ fn wrong_kind(
     let number = place + 1;
     let form = Form::Kind(file);
     let field = FieldOf { number, form, text };
-    let here = shown(alloc, text)?;
     if file == FileKind::Airport {
         return wrong_text(alloc, day, field);
     }
-    if let Some(mended) = mended(alloc, day, field)? {
-        return format!(in alloc; "field {number} {here}: {mended}");
+    match mended(alloc, day, field)? {
+        Some(mended) => told_of(alloc, field, &mended),
+        None => no_kind(alloc, file, field),
     }
-    if file == FileKind::Scenarios && role_of(text).is_some() {
+}
+
+// A field in the place of a kind of updates that is none.
+fn no_kind(alloc: Global, file: FileKind, field: FieldOf<'_>) -> Result<String, AllocError> {
+    let (number, here) = (field.number, Shown(field.text));
+    let is_scenario = file == FileKind::Scenarios;
+    if is_scenario && role_of(field.text).is_some() {
         return format!(in alloc;
             "field 1 {here} is a role: remove it, since an update of a scenario begins with its kind"
         );
     }
-    let first = if file == FileKind::Scenarios {
-        " SCENARIO"
-    } else {
-        ""
-    };
-    let mut sentence = format!(in alloc; "field {number} {here} is none of{first}")?;
-    for kind in &kinds_by_word(alloc)? {
-        let word = kind.name();
-        write!(sentence, " {word}")?;
+    let first = if is_scenario { " SCENARIO" } else { "" };
+    let kinds = kinds_by_word(alloc)?;
+    let words = KindWords(&kinds);
+    format!(in alloc; "field {number} {here} is none of{first}{words}")
+}
+
+// The words of kinds, a space before each.
+#[derive(Clone, Copy)]
+struct KindWords<'a>(&'a [Kind]);
+
+impl fmt::Display for KindWords<'_> {
+    fn fmt<W: fmt::Write>(&self, f: &mut fmt::Formatter<W>) -> fmt::Result {
+        for kind in self.0 {
+            let word = kind.name();
+            write!(f, " {word}")?;
+        }
+        Ok(())
     }
-    Ok(sentence)
 }

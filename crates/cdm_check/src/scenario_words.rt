@@ -2,10 +2,10 @@
 
 use crate::fields::field_at;
 use crate::kinds::FileKind;
-use crate::place::{Cause, line_of};
+use crate::place::Cause;
 use crate::record_words::cause_in_record;
-use crate::shown::shown;
-use cdm_files::RecordReader;
+use crate::rows::{Rows, number_of};
+use crate::shown::Shown;
 use cdm_flight::RefusalWord;
 use cdm_time::Day;
 use csv::ByteRecord;
@@ -19,37 +19,39 @@ pub(crate) fn scenario_fault(
     number: usize,
     word: RefusalWord,
 ) -> Result<Cause, AllocError> {
-    let mut reader = RecordReader::new(alloc, text);
-    let mut row = ByteRecord::new(alloc);
-    let mut names = Vec::new(alloc);
-    for place in 1..number {
-        reader.read(&mut row)?;
-        if field_at(&row, 0) == b"SCENARIO".as_slice() {
-            let name = shown(alloc, field_at(&row, 1))?;
-            names.push((place, name))?;
-        }
+    let mut rows = Rows::new(alloc, text);
+    let names = rows.names_before(alloc, b"SCENARIO", number)?;
+    rows.read()?;
+    let sentence = sentence_of(alloc, day, &names, rows.row(), word)?;
+    Ok(rows.cause(sentence))
+}
+
+// Why a record is refused by this word, behind records of these scenarios.
+fn sentence_of(
+    alloc: Global,
+    day: Day,
+    names: &[(usize, Vec<u8>)],
+    row: &ByteRecord,
+    word: RefusalWord,
+) -> Result<String, AllocError> {
+    match word {
+        RefusalWord::Exists => used_name(alloc, names, row),
+        RefusalWord::Order => first_update(alloc, row),
+        RefusalWord::Full => no_room(alloc, names, row),
+        _ => cause_in_record(alloc, FileKind::Scenarios, day, row, word),
     }
-    reader.read(&mut row)?;
-    let sentence = match word {
-        RefusalWord::Exists => used_name(alloc, &names, &row)?,
-        RefusalWord::Order => first_update(alloc, &row)?,
-        RefusalWord::Full => no_room(alloc, &names, &row)?,
-        _ => cause_in_record(alloc, FileKind::Scenarios, day, &row, word)?,
-    };
-    let line = line_of(text, &row);
-    Ok(Cause { line, sentence })
 }
 
 // A name that another scenario has.
 fn used_name(
     alloc: Global,
-    names: &[(usize, String)],
+    names: &[(usize, Vec<u8>)],
     row: &ByteRecord,
 ) -> Result<String, AllocError> {
-    let name = shown(alloc, field_at(row, 1))?;
-    match names.iter().find(|used| used.1.as_str() == name.as_str()) {
-        Some(used) => {
-            let number = used.0;
+    let wanted = field_at(row, 1);
+    let name = Shown(wanted);
+    match number_of(names, wanted) {
+        Some(number) => {
             format!(in alloc; "a scenario has the name {name} already, in record {number}")
         }
         None => format!(in alloc; "a scenario has the name {name} already"),
@@ -58,14 +60,14 @@ fn used_name(
 
 // An update before the first scenario.
 fn first_update(alloc: Global, row: &ByteRecord) -> Result<String, AllocError> {
-    let kind = shown(alloc, field_at(row, 0))?;
+    let kind = Shown(field_at(row, 0));
     format!(in alloc; "{kind} stands before the first SCENARIO, which says whose update it is")
 }
 
 // A scenario or an update that is one too many.
 fn no_room(
     alloc: Global,
-    names: &[(usize, String)],
+    names: &[(usize, Vec<u8>)],
     row: &ByteRecord,
 ) -> Result<String, AllocError> {
     if field_at(row, 0) == b"SCENARIO".as_slice() {
@@ -76,7 +78,7 @@ fn no_room(
     }
     match names.last() {
         Some(last) => {
-            let name = &last.1;
+            let name = Shown(&last.1);
             format!(in alloc;
                 "64 updates of {name} stand before this one, which is the most of a scenario"
             )

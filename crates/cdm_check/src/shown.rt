@@ -1,7 +1,6 @@
 //! Fields as sentences show them.
 
-use std::alloc::{AllocError, Global};
-use std::fmt::Write;
+use std::fmt;
 
 /// The columns of a field that is shown at most, without the dots behind one that is cut.
 const MOST_COLUMNS: usize = 40;
@@ -12,47 +11,35 @@ fn columns_of(byte: u8) -> usize {
 }
 
 /// A field in quotes. Each byte that isn't printable ASCII is shown as `\xHH`, and a long field is cut.
-pub(crate) fn shown(alloc: Global, field: &[u8]) -> Result<String, AllocError> {
-    let mut text = String::from_str(alloc, "\"")?;
-    let mut room = MOST_COLUMNS;
-    for byte in field {
-        let byte = *byte;
-        let columns = columns_of(byte);
-        if columns > room {
-            text.push_str("..")?;
-            break;
-        }
-        room -= columns;
-        if columns == 1 {
-            text.push(char::from(byte))?;
-        } else {
-            write!(text, "\\x{byte:02x}")?;
-        }
-    }
-    text.push_str("\"")?;
-    Ok(text)
-}
+#[derive(Clone, Copy)]
+pub(crate) struct Shown<'a>(pub &'a [u8]);
 
-/// A field without the spaces before and behind it.
-pub(crate) fn trimmed(field: &[u8]) -> &[u8] {
-    let front = field
-        .iter()
-        .take_while(|byte| byte.is_ascii_whitespace())
-        .count();
-    let rest = field.get(front..).unwrap_or_default();
-    let behind = rest
-        .iter()
-        .rev()
-        .take_while(|byte| byte.is_ascii_whitespace())
-        .count();
-    let end = rest.len().saturating_sub(behind);
-    rest.get(..end).unwrap_or_default()
+impl fmt::Display for Shown<'_> {
+    fn fmt<W: fmt::Write>(&self, f: &mut fmt::Formatter<W>) -> fmt::Result {
+        f.write_str("\"")?;
+        let mut room = MOST_COLUMNS;
+        for byte in self.0 {
+            let byte = *byte;
+            let columns = columns_of(byte);
+            if columns > room {
+                f.write_str("..")?;
+                break;
+            }
+            room -= columns;
+            if columns == 1 {
+                f.write_char(char::from(byte))?;
+            } else {
+                write!(f, "\\x{byte:02x}")?;
+            }
+        }
+        f.write_str("\"")
+    }
 }
 
 /// Where a field has spaces.
 pub(crate) fn where_spaces_are(field: &[u8]) -> &'static str {
-    let before = field.first().is_some_and(|byte| byte.is_ascii_whitespace());
-    let behind = field.last().is_some_and(|byte| byte.is_ascii_whitespace());
+    let before = matches!(field.first(), Some(byte) if byte.is_ascii_whitespace());
+    let behind = matches!(field.last(), Some(byte) if byte.is_ascii_whitespace());
     match (before, behind) {
         (true, true) => "the spaces around",
         (true, false) => "the space before",

@@ -1,12 +1,14 @@
 //! Which part of a day or a time is wrong, and the day or the time as it should be written.
 
-use crate::shown::trimmed;
 use crate::times::{DateText, after_midnight, bound_time, date_in, second_midnight};
 use cdm_files::number_field;
 use cdm_kinds::Field;
 use cdm_time::{Day, TimeFault};
 use std::alloc::{AllocError, Global};
 use std::str;
+
+/// How UTC is written behind a time.
+const UTC_NAMES: &[&str] = &["", "Z", "z", "UTC", "utc", "GMT", "+00:00", "+0000", "+00"];
 
 /// A date, and whether it is written as YYYY-MM-DD.
 #[derive(Clone, Copy)]
@@ -51,8 +53,17 @@ fn cut_at(text: &[u8], count: usize) -> (&[u8], &[u8]) {
 
 // The digits at the beginning of a text, and the rest.
 fn digits_of(text: &[u8]) -> (&[u8], &[u8]) {
-    let count = text.iter().take_while(|byte| byte.is_ascii_digit()).count();
-    cut_at(text, count)
+    cut_where(text, false)
+}
+
+// A text in two: up to the first digit, or up to the first byte that is none, and the rest.
+fn cut_where(text: &[u8], is_digit: bool) -> (&[u8], &[u8]) {
+    for (place, byte) in text.iter().enumerate() {
+        if byte.is_ascii_digit() == is_digit {
+            return cut_at(text, place);
+        }
+    }
+    (text, &[])
 }
 
 // The rest of a text that begins with one of two bytes.
@@ -122,6 +133,14 @@ fn behind_seconds(text: &[u8]) -> Option<&[u8]> {
     }
 }
 
+// Whether a text may be between an hour and a minute.
+fn is_mark(text: &[u8]) -> bool {
+    match text.first() {
+        Some(byte) => b":.hH".contains(byte),
+        None => true,
+    }
+}
+
 // The hour and the minute at the beginning of a text, and what follows them.
 fn clock_of(text: &[u8]) -> Option<(ClockPart<'_>, &[u8])> {
     let (first, rest) = digits_of(text);
@@ -133,8 +152,7 @@ fn clock_of(text: &[u8]) -> Option<(ClockPart<'_>, &[u8])> {
         let (minute, end) = digits_of(others);
         (first, mark, minute, end)
     };
-    let is_mark = matches!(mark, b"" | b":" | b"." | b"h" | b"H");
-    if !is_mark || hour.len() > 2 || minute.len() != 2 {
+    if !is_mark(mark) || hour.len() > 2 || minute.len() != 2 {
         return None;
     }
     let seconds = behind_seconds(end);
@@ -150,13 +168,31 @@ fn clock_of(text: &[u8]) -> Option<(ClockPart<'_>, &[u8])> {
 
 // Whether a text is empty or a time zone: letters, or a sign and hours.
 fn is_zone(text: &[u8]) -> bool {
-    let zone = trimmed(text);
+    let zone = text.trim_ascii();
     match behind(zone, b'+', b'-') {
-        Some(hours) => hours
-            .iter()
-            .all(|byte| byte.is_ascii_digit() || *byte == b':'),
-        None => zone.iter().all(|byte| byte.is_ascii_alphabetic()),
+        Some(hours) => are_hours(hours),
+        None => are_letters(zone),
     }
+}
+
+// Whether a text has only digits and colons.
+fn are_hours(text: &[u8]) -> bool {
+    for byte in text {
+        if !byte.is_ascii_digit() && *byte != b':' {
+            return false;
+        }
+    }
+    true
+}
+
+// Whether a text has only letters.
+fn are_letters(text: &[u8]) -> bool {
+    for byte in text {
+        if !byte.is_ascii_alphabetic() {
+            return false;
+        }
+    }
+    true
 }
 
 // The parts of a text that looks like a time.
@@ -165,11 +201,7 @@ fn parts_of(text: &[u8]) -> Option<Parts<'_>> {
         Some((date, rest)) => (Some(date), rest),
         None => (None, text),
     };
-    let count = rest
-        .iter()
-        .take_while(|byte| !byte.is_ascii_digit())
-        .count();
-    let (joint, rest) = cut_at(rest, count);
+    let (joint, rest) = cut_where(rest, true);
     let (clock, zone) = clock_of(rest)?;
     if joint.len() > 3 || !is_zone(zone) {
         return None;
@@ -188,7 +220,7 @@ fn wrong_joint(joint: &[u8]) -> Option<&'static str> {
         None
     } else if joint.is_empty() {
         Some("T is missing before the hour")
-    } else if trimmed(joint).is_empty() {
+    } else if joint.trim_ascii().is_empty() {
         Some("a blank is in the place of T")
     } else {
         Some("only T is between date and hour")
@@ -197,7 +229,7 @@ fn wrong_joint(joint: &[u8]) -> Option<&'static str> {
 
 // What is wrong behind the minute.
 fn wrong_zone(zone: &[u8]) -> Option<&'static str> {
-    match trimmed(zone) {
+    match zone.trim_ascii() {
         b"" => Some("Z is missing"),
         b"Z" if zone.len() > 1 => Some("a blank is before Z"),
         b"Z" => None,
@@ -233,10 +265,13 @@ impl Parts<'_> {
 
     // Whether the text says another time zone than UTC, which is no part that a sentence can mend.
     fn is_local(&self) -> bool {
-        !matches!(
-            trimmed(self.zone),
-            b"" | b"Z" | b"z" | b"UTC" | b"utc" | b"GMT" | b"+00:00" | b"+0000" | b"+00"
-        )
+        let zone = self.zone.trim_ascii();
+        for name in UTC_NAMES {
+            if name.as_bytes() == zone {
+                return false;
+            }
+        }
+        true
     }
 
     // The date as it should be written, which is that of the airport file if the text has none.
@@ -300,32 +335,57 @@ pub(crate) fn wrong_time(
     field: Field,
     text: &[u8],
 ) -> Result<Option<String>, AllocError> {
-    let text = trimmed(text);
+    let text = text.trim_ascii();
     let Some(parts) = parts_of(text) else {
         return without_clock(alloc, day, text);
     };
     let date = parts.date_text(alloc, day)?;
-    let (hour, minute) = (parts.clock.hour, parts.clock.minute);
-    if !is_date(&date) {
+    wrong_parts(alloc, day, field, &parts, &date)
+}
+
+// Which of the parts of a time is wrong, and the time as it should be written, on this date.
+fn wrong_parts(
+    alloc: Global,
+    day: Day,
+    field: Field,
+    parts: &Parts<'_>,
+    date: &str,
+) -> Result<Option<String>, AllocError> {
+    let minute = parts.clock.minute;
+    if !is_date(date) {
         return Ok(Some(format!(in alloc; "the calendar has no {date}")?));
     }
-    if hour > 23 {
-        return Ok(Some(wrong_hour(alloc, day, field, &date, parts.clock)?));
+    if parts.clock.hour > 23 {
+        return Ok(Some(wrong_hour(alloc, day, field, date, parts.clock)?));
     }
     if minute > 59 {
         return Ok(Some(format!(in alloc;
             "the minute is {minute}, and 59 is the last of an hour"
         )?));
     }
-    let Some(wrong) = parts.wrong() else {
-        return Ok(None);
-    };
+    match parts.wrong() {
+        Some(wrong) => Ok(Some(mended(alloc, day, field, parts, date, wrong)?)),
+        None => Ok(None),
+    }
+}
+
+// What is wrong with a time, and the time as it should be written, on this date.
+fn mended(
+    alloc: Global,
+    day: Day,
+    field: Field,
+    parts: &Parts<'_>,
+    date: &str,
+    wrong: &str,
+) -> Result<String, AllocError> {
+    let (hour, minute) = (parts.clock.hour, parts.clock.minute);
     let mended = format!(in alloc; "{date}T{hour:02}:{minute:02}Z")?;
     if parts.is_local() || !is_time(day, field, mended.as_bytes()) {
         let example = DateText(day);
-        return Ok(Some(format!(in alloc; "{wrong}: a time is written {example}T06:00Z")?));
+        format!(in alloc; "{wrong}: a time is written {example}T06:00Z")
+    } else {
+        format!(in alloc; "{wrong}: write {mended}")
     }
-    Ok(Some(format!(in alloc; "{wrong}: write {mended}")?))
 }
 
 // What is wrong with a text that is a date alone.
@@ -344,17 +404,18 @@ fn without_clock(alloc: Global, day: Day, text: &[u8]) -> Result<Option<String>,
 /// What is wrong with a text that should be a day, and the day as it should be written; nothing if the text doesn't look
 /// like one.
 pub(crate) fn wrong_day(alloc: Global, text: &[u8]) -> Result<Option<String>, AllocError> {
-    let Some((date, rest)) = date_of(trimmed(text)) else {
+    let Some((date, rest)) = date_of(text.trim_ascii()) else {
         return Ok(None);
     };
     let written = date.text(alloc)?;
-    if !is_date(&written) {
-        return Ok(Some(format!(in alloc; "the calendar has no {written}")?));
-    }
-    if !rest.is_empty() {
-        return Ok(Some(format!(in alloc; "a day has no hour and no minute: write {written}")?));
-    }
-    Ok(Some(format!(in alloc; "a day is written YYYY-MM-DD: write {written}")?))
+    let wrong = if !is_date(&written) {
+        "the calendar has no"
+    } else if !rest.is_empty() {
+        "a day has no hour and no minute: write"
+    } else {
+        "a day is written YYYY-MM-DD: write"
+    };
+    Ok(Some(format!(in alloc; "{wrong} {written}")?))
 }
 
 /// Why a time is out of its range, which is that of the two days.

@@ -3,10 +3,11 @@
 use crate::day_words::{Before, cause_of_day, flight_of};
 use crate::kinds::FileKind;
 use crate::known::{Known, Source};
-use crate::place::{Cause, line_of};
+use crate::place::Cause;
 use crate::record_words::cause_in_record;
+use crate::rows::Rows;
 use cdm_day::Airport;
-use cdm_files::{RecordReader, parse_record};
+use cdm_files::parse_record;
 use cdm_flight::{FlightName, RefusalWord, Role, Update};
 use cdm_time::Day;
 use csv::ByteRecord;
@@ -77,36 +78,53 @@ impl Flts {
             Err(_) => Ok(()),
         }
     }
+
+    // Takes all records of a feed.
+    fn take_all(&mut self, day: Day, rows: &mut Rows<'_>) -> Result<(), AllocError> {
+        for number in 1..u32::MAX {
+            if !rows.read()? || self.count() >= MOST_FLIGHTS {
+                break;
+            }
+            let line = rows.line();
+            self.take(day, rows.row(), FltPlace { number, line })?;
+        }
+        Ok(())
+    }
 }
 
 // Where the first FLT of each flight is.
 fn flts_of(alloc: Global, day: Day, feed: &[u8]) -> Result<Flts, AllocError> {
-    let mut reader = RecordReader::new(alloc, feed);
-    let mut row = ByteRecord::new(alloc);
     let mut flts = Flts::new(alloc);
-    for number in 1..u32::MAX {
-        if !reader.read(&mut row)? || flts.count() >= MOST_FLIGHTS {
-            break;
-        }
-        let line = line_of(feed, &row);
-        flts.take(day, &row, FltPlace { number, line })?;
-    }
+    flts.take_all(day, &mut Rows::new(alloc, feed))?;
     Ok(flts)
 }
 
 /// Goes through the records of a feed.
-#[derive(Drop)]
 pub(crate) struct FeedWalk<'a> {
     alloc: Global,
     airport: &'a Airport,
     text: &'a [u8],
-    reader: RecordReader<'a>,
-    row: ByteRecord,
+    rows: Rows<'a>,
     // How many records were read.
     read: u32,
     known: Known,
     // Where the FLTs are, once an unknown flight was met.
     flts: Option<Flts>,
+}
+
+// One call drops it, in place of its fields one by one at each exit of each function that owns it.
+impl Drop for FeedWalk<'_> {
+    fn drop(self) {
+        let FeedWalk {
+            alloc: _,
+            airport: _,
+            text: _,
+            rows: _,
+            read: _,
+            known: _,
+            flts: _,
+        } = self;
+    }
 }
 
 impl<'a> FeedWalk<'a> {
@@ -116,8 +134,7 @@ impl<'a> FeedWalk<'a> {
             alloc,
             airport,
             text: feed,
-            reader: RecordReader::new(alloc, feed),
-            row: ByteRecord::new(alloc),
+            rows: Rows::new(alloc, feed),
             read: 0,
             known: Known::new(alloc),
             flts: None,
@@ -126,14 +143,14 @@ impl<'a> FeedWalk<'a> {
 
     // Reads one more record, if there is one.
     fn read_next(&mut self) -> Result<bool, AllocError> {
-        let found = self.reader.read(&mut self.row)?;
+        let found = self.rows.read()?;
         self.read = self.read.saturating_add(1);
         Ok(found)
     }
 
     // Takes the record that was read last, which was accepted.
     fn take(&mut self) -> Result<(), AllocError> {
-        match parse_record(*self.airport.day(), &self.row) {
+        match parse_record(*self.airport.day(), self.rows.row()) {
             Ok((_, update)) => self.known.take(Source::Record(self.read), &update),
             Err(_) => Ok(()),
         }
@@ -159,18 +176,21 @@ impl<'a> FeedWalk<'a> {
             self.flts = Some(flts_of(self.alloc, *self.airport.day(), self.text)?);
         }
         let sentence = self.sentence(word)?;
-        let line = line_of(self.text, &self.row);
-        Ok(Cause { line, sentence })
+        Ok(self.rows.cause(sentence))
     }
 
-    /// What is known after the whole feed, of which these records were refused.
-    pub fn known_after(mut self, refused: &[(u32, RefusalWord)]) -> Result<Known, AllocError> {
+    /// Takes the whole feed, of which these records were refused.
+    pub fn take_all(&mut self, refused: &[(u32, RefusalWord)]) -> Result<(), AllocError> {
         for refusal in refused {
             self.take_before(refusal.0)?;
             self.read_next()?;
         }
-        self.take_before(u32::MAX)?;
-        Ok(self.known)
+        self.take_before(u32::MAX)
+    }
+
+    /// What is known after the records that were taken.
+    pub fn known(&self) -> &Known {
+        &self.known
     }
 
     // The line of the FLT of an update's flight, if it comes later than the record that was read last.
@@ -187,8 +207,9 @@ impl<'a> FeedWalk<'a> {
     // Why the record that was read last is refused by this word.
     fn sentence(&self, word: RefusalWord) -> Result<String, AllocError> {
         let day = *self.airport.day();
-        match parse_record(day, &self.row) {
-            Err(word) => cause_in_record(self.alloc, FileKind::Feed, day, &self.row, word),
+        let row = self.rows.row();
+        match parse_record(day, row) {
+            Err(word) => cause_in_record(self.alloc, FileKind::Feed, day, row, word),
             Ok((role, update)) => {
                 let before = Before {
                     airport: self.airport,
