@@ -254,8 +254,8 @@ pub fn changes_to<R: Records>(
     Ok(changed)
 }
 
-/// The changes that an update makes to a day which does not refuse it, as above. Only the runways that it touches are
-/// gone through.
+/// The changes that an update makes to a day which does not refuse it: by name, the standings of the flights that stand
+/// otherwise after it, or were not known before. Only the runways that it touches are gone through.
 pub fn changes_by(
     alloc: Global,
     update: &Update,
