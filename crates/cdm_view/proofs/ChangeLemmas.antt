@@ -21,7 +21,7 @@ use Rattle.cdm_plan.proofs.ListWords.{IsDistinct-tail, contains_map, list_any, s
 use Rattle.cdm_plan.proofs.ListWords.{IsDistinct-IsPermutation, IsPermutation, append_assoc, distinct_right}
 use Rattle.cdm_plan.proofs.ListWords.{list_any-append, map-append, IsPermutation-append_comm, IsPermutation-append_left}
 use Rattle.cdm_plan.proofs.ListWords.{IsPermutation-append_right, IsPermutation-map, IsPermutation-refl, IsPermutation-sym}
-use Rattle.cdm_plan.proofs.ListWords.{IsPermutation-trans, distinct_filter}
+use Rattle.cdm_plan.proofs.ListWords.{IsPermutation-append, IsPermutation-trans, append-nil, distinct_filter}
 use Rattle.cdm_plan.proofs.PlanWords.{is_same, name_cmp, same_is, same_name, tied_names, DayRecord, IsDayPlan}
 use Rattle.cdm_plan.proofs.PlanWords.{IsSound, Plan, flights_in, runway_names, same_flips}
 use Rattle.cdm_plan.proofs.NameLemmas.{by_name}
@@ -153,47 +153,29 @@ rests_map f one other p q rests = record {
   of_other = rw (← map-append f rests.same q) (IsPermutation-map f _ other rests.of_other);
 }
 
--- more of the first list that is left, and of the second
-rests_first : {X : Type 0} (one other p q more : List X) → AreRests one other p q → AreRests (one ++ more) other (p ++ more) q
-rests_first one other p q more rests = record {
-  same = rests.same;
-  of_one = rw (← append_assoc rests.same p more) (IsPermutation-append_left more (rests.same ++ p) one rests.of_one);
-  of_other = rests.of_other;
-}
+both : {X : Type 0} (same first whole more rest longer : List X) → IsPermutation (same ++ first) whole → IsPermutation (more ++ rest) longer
+    → IsPermutation ((same ++ more) ++ (first ++ rest)) (whole ++ longer)
+both same first whole more rest longer is also =
+    let swapped : IsPermutation (more ++ (first ++ rest)) (first ++ (more ++ rest)) =
+    rw (← append_assoc more first rest, ← append_assoc first more rest)
+    (IsPermutation-append_left rest (more ++ first) (first ++ more) (IsPermutation-append_comm more first)) in
+    IsPermutation-trans _ (same ++ (first ++ (more ++ rest))) _ (rw (append_assoc same more (first ++ rest)) (IsPermutation-append_right same _ _ swapped))
+    (rw (← append_assoc same first (more ++ rest)) (IsPermutation-append (same ++ first) whole (more ++ rest) longer is also))
 
-rests_second : {X : Type 0} (one other p q more : List X) → AreRests one other p q → AreRests one (other ++ more) p (q ++ more)
-rests_second one other p q more rests =
-    let swapped = rests_first other one q p more record { same = rests.same; of_one = rests.of_other; of_other = rests.of_one } in
-    record { same = swapped.same; of_one = swapped.of_other; of_other = swapped.of_one }
-
-moved : {X : Type 0} (same rest whole more : List X) → IsPermutation (same ++ rest) whole → IsPermutation ((same ++ more) ++ rest) (whole ++ more)
-moved same rest whole more is =
-    let crossed : IsPermutation ((same ++ more) ++ rest) ((same ++ rest) ++ more) =
-    rw (append_assoc same more rest, append_assoc same rest more)
-    (IsPermutation-append_right same (more ++ rest) (rest ++ more) (IsPermutation-append_comm more rest)) in
-    IsPermutation-trans ((same ++ more) ++ rest) ((same ++ rest) ++ more) (whole ++ more) crossed (IsPermutation-append_left more (same ++ rest) whole is)
-
--- more that both have
-pub rests_same : {X : Type 0} (one other p q more : List X) → AreRests one other p q → AreRests (one ++ more) (other ++ more) p q
-rests_same one other p q more rests = record {
-  same = rests.same ++ more;
-  of_one = moved rests.same p one more rests.of_one;
-  of_other = moved rests.same q other more rests.of_other;
-}
-
--- and more of which these are left
+-- with more behind them, of which these are left
 pub rests_more : {X : Type 0} (first second one other p q before after longer later : List X) → AreRests one other p q → longer ≡ before ++ p
     → later ≡ after ++ q → AreRests first second before after → AreRests (first ++ one) (second ++ other) longer later
-rests_more {X} first second one other p q before after longer later rests e h are =
-    let shared = rests_same first second before after rests.same are in
-    let both = rests_second _ (second ++ rests.same) _ after q (rests_first (first ++ rests.same) _ before after p shared) in
-    let whole : (xs us zs : List X) → IsPermutation (rests.same ++ us) zs → IsPermutation ((xs ++ rests.same) ++ us) (xs ++ zs) = λ xs us zs is.
-    rw (append_assoc xs rests.same us) (IsPermutation-append_right xs (rests.same ++ us) zs is) in
-    record {
-      same = both.same;
-      of_one = rw e (IsPermutation-trans _ _ _ both.of_one (whole first p one rests.of_one));
-      of_other = rw h (IsPermutation-trans _ _ _ both.of_other (whole second q other rests.of_other));
-    }
+rests_more first second one other p q before after longer later rests e h are = record {
+  same = are.same ++ rests.same;
+  of_one = rw e (both are.same before first rests.same p one are.of_one rests.of_one);
+  of_other = rw h (both are.same after second rests.same q other are.of_other rests.of_other);
+}
+
+-- and of which none is left, since both have it
+pub rests_same : {X : Type 0} (one other p q more : List X) → AreRests one other p q → AreRests (one ++ more) (other ++ more) p q
+rests_same one other p q more rests =
+    let whole : IsPermutation (more ++ []) more = rw (append-nil more) (IsPermutation-refl more) in
+    rests_more one other more more [] [] p q p q record { same = more; of_one = whole; of_other = whole } (sym (append-nil p)) (sym (append-nil q)) rests
 
 -- Rests of lists up to a place of each.
 
@@ -207,22 +189,22 @@ module _ {X : Type 0} (xs ys : List X) (i j : ℕ) (p q : List X) (rests : AreRe
   rests_shared x y l m at there same =
       rw (one_more xs i x l at, one_more ys j y m there, ← same) (rests_same (take i xs) (take j ys) p q (x ∷ []) rests)
 
-  -- with one more of the first, or of the second
+  -- with more of each that is left
+  behind : (first second : List X) → AreRests (take i xs ++ first) (take j ys ++ second) (p ++ first) (q ++ second)
+  behind first second = rests_more _ _ first second first second p q _ _ (rests_all first second) refl refl rests
+
   pub rests_one : (x : X) → i < length xs → x ≡ get_or xs i x → AreRests (take (i + 1) xs) (take j ys) (p ++ x ∷ []) q
-  rests_one x l at = rw (one_more xs i x l at) (rests_first (take i xs) (take j ys) p q (x ∷ []) rests)
+  rests_one x l at = rw (one_more xs i x l at) (rw (append-nil (take j ys), append-nil q) at (behind (x ∷ []) []))
 
   pub rests_other : (y : X) → j < length ys → y ≡ get_or ys j y → AreRests (take i xs) (take (j + 1) ys) p (q ++ y ∷ [])
-  rests_other y l at = rw (one_more ys j y l at) (rests_second (take i xs) (take j ys) p q (y ∷ []) rests)
+  rests_other y l at = rw (one_more ys j y l at) (rw (append-nil (take i xs), append-nil p) at (behind [] (y ∷ [])))
 
   -- with all from there on
   pub rests_whole : AreRests xs ys (p ++ take (length xs - i) (drop i xs)) (q ++ take (length ys - j) (drop j ys))
   rests_whole =
       let left : (zs : List X) (k : ℕ) → take (length zs - k) (drop k zs) ≡ drop k zs =
       λ zs k. take_all (length zs - k) (drop k zs) (omega (arith, length-drop k zs)) in
-      let first = rests_first (take i xs) (take j ys) p q (drop i xs) rests in
-      rw (left xs i, left ys j)
-      (rw (take-append-drop i xs, take-append-drop j ys) at
-      (rests_second (take i xs ++ drop i xs) (take j ys) (p ++ drop i xs) q (drop j ys) first))
+      rw (left xs i, left ys j) (rw (take-append-drop i xs, take-append-drop j ys) at (behind (drop i xs) (drop j ys)))
 
 -- Names.
 
@@ -309,16 +291,6 @@ changed_to d next plan next_plan sound of_day of_next before after changed are a
 abbrev pub Own : DayRecord → Type 0
 Own d = IsDistinct same_name (runway_names d.airport) × IsDistinct same_name (flights_in d.journal)
 
--- between two days with their plans
-one_changes : (d : DayRecord) (plan : Plan) (next : DayRecord) (next_plan : Plan) → Own next → IsDayPlan next next_plan
-    → (x y : List Standing) → AreChanges d plan next next_plan x → AreChanges d plan next next_plan y → x ≡ y
-one_changes d plan next next_plan own is x y a b =
-    let before = standings_of d plan in
-    let after = standings_of next next_plan in
-    by_name flight_name (changes d.airport.day before after) x y
-    (distinct_filter same_name flight_name (λ (s : Standing). not (is_told d.airport.day before s)) after (standings_apart next next_plan own.0 own.1 is))
-    a.all b.all a.by_name b.by_name
-
 -- between two days
 pub one_changed_to : (d next : DayRecord) → Own d → Own next → (x y : List Standing) → IsChangedTo d next x → IsChangedTo d next y → x ≡ y
 one_changed_to d next own after x y a b =
@@ -326,4 +298,6 @@ one_changed_to d next own after x y a b =
     let next_plans : b.next_plan ≡ a.next_plan = one_day_plan next b.next_plan a.next_plan after.0 after.1 b.of_next a.of_next in
     let changed : AreChanges d a.plan next a.next_plan y =
     subst (λ (p : Plan). AreChanges d p next a.next_plan y) plans (subst (λ (p : Plan). AreChanges d b.plan next p y) next_plans b.changes) in
-    one_changes d a.plan next a.next_plan after a.of_next x y a.changes changed
+    let apart = distinct_filter same_name flight_name (λ (s : Standing). not (is_told d.airport.day (standings_of d a.plan) s)) (standings_of next a.next_plan)
+    (standings_apart next a.next_plan after.0 after.1 a.of_next) in
+    by_name flight_name (changes d.airport.day (standings_of d a.plan) (standings_of next a.next_plan)) x y apart a.changes.all changed.all a.changes.by_name changed.by_name

@@ -20,6 +20,7 @@ pub(crate) trait Ordered {
 }
 
 impl Ordered for Slot {
+    #[tactic(auto, using(crate::proofs::EqualLemmas::equal_slots))]
     fn order(&self, other: &Self) -> Ordering {
         if self == other {
             Ordering::Equal
@@ -44,6 +45,7 @@ impl Ordered for BlockedFlight {
 }
 
 impl Ordered for Standing {
+    #[tactic(auto, using(crate::proofs::EqualLemmas::equal_standings))]
     fn order(&self, other: &Self) -> Ordering {
         if self == other {
             Ordering::Equal

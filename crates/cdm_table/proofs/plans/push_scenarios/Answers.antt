@@ -1,4 +1,4 @@
-use Rattle.std.proofs.Common.{rules, arith, ◌≡◌, ◌∙◌, ◌==◌, ◌++◌, ℕ, true, List, [], ◌∷◌, length, refl, sym, ap, take, drop}
+use Rattle.std.proofs.Common.{rules, arith, ◌≡◌, ◌∙◌, ◌==◌, ◌++◌, true, List, [], ◌∷◌, length, refl, sym}
 use Rattle.std.proofs.lemmas.List.{take-append-drop}
 use Rattle.cdm_table.proofs.LeftLemmas.{leaves_all, leaves_none, leaves_others}
 use Rattle.cdm_table.proofs.plans.push_scenarios.Goals as goal
