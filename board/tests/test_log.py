@@ -160,13 +160,14 @@ def test_a_log_that_can_t_be_read_is_a_fault(log_at):
 
     async def what(log):
         await log.append(batch("A"))
-        force("ALTER TABLE cdm_record RENAME TO other_record")
+        # In a thread, since it may have to wait for a transaction of the log's own.
+        await asyncio.to_thread(force, "ALTER TABLE cdm_record RENAME TO other_record")
         try:
             return await log.rows(0, 10)
         except Fault as fault:
             return str(fault)
         finally:
-            force("ALTER TABLE other_record RENAME TO cdm_record")
+            await asyncio.to_thread(force, "ALTER TABLE other_record RENAME TO cdm_record")
     found = talk(open_log, what)
     assert found == [] if force.__name__ == "sql" else "day.db: no such table" in found
 
