@@ -1,4 +1,5 @@
 pub mod AirportCode
 pub mod Judged
+pub mod Briefs
 pub mod Put
 pub mod Tables

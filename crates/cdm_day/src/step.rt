@@ -1,26 +1,14 @@
 //! What an update makes of a flight.
-ghost use Rattle.std.specs.Prelude.{◌≡◌, ◌≤◌, ◌++◌, ◌∷◌, [], false, not, nat_le, length, None, Some, if◌then◌else◌, IfErr, IfOk, OnOk};
-ghost use Rattle.std.specs.FinMap as map;
-ghost use Rattle.std.specs.Option.{ForSome, option_and_then};
+ghost use Rattle.std.specs.Prelude.{◌≡◌, ◌++◌, ◌∷◌, [], false, not, nat_le, length, None, Some, if◌then◌else◌, IfErr, IfOk, OnOk};
 ghost use Rattle.cdm_flight.specs.declared.reach.Reach.TheVariants as reach;
 ghost use Rattle.cdm_flight.specs.Reach.{reach_of};
 ghost use Rattle.cdm_flight.specs.Step.{is_fresh};
-ghost use Rattle.cdm_flight.specs.Taxi.{taxi_out};
 ghost use Rattle.cdm_flight.specs.Journal.{flight_of, is_known};
 ghost use Rattle.cdm_flight.specs.Accepted.{is_unknown, refusal_of};
 
 use cdm_flight::{Flight, FlightName, RefusalWord, Update};
 use cdm_plan::Records;
-use cdm_taxi::TaxiTable;
-
-// The flight's taxi-out time to the runway that it has, by the table.
-fn own_exot(taxi: &TaxiTable, flight: &Flight) -> Option<u16>
-    ensures value { result ≡ option_and_then (λ r. taxi_out (λ place. map.get taxi.now (place, r)) flight.now.stand flight.now.ice) flight.now.runway }
-    ensures range { ForSome result (λ minutes. minutes ≤ 180) }
-{
-    let runway = flight.runway?;
-    taxi.exot(flight.stand, runway, flight.ice)
-}
+use cdm_sequence::own_exot;
 
 /// The flight after an update of it, other than its FLT, or the first word that refuses the update,
 /// but for Full. A runway that it names is one of the airport.
@@ -40,5 +28,5 @@ pub(crate) fn flight_after<R: Records>(
     let Some(record) = records.flight(flight) else {
         return Err(RefusalWord::Unknown);
     };
-    record.step(update, own_exot(records.taxi(), record))
+    record.step(update, own_exot(record, records.taxi()))
 }

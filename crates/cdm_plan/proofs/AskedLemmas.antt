@@ -1,7 +1,7 @@
 -- What flights give that are asked, and those that need not be.
 use Rattle.std.proofs.Common.{◌≡◌, ℕ, Bool, true, false, ◌&&◌, not, List, ◌++◌, Option, None, Some, refl, sym, ◌∙◌, ap}
 use Rattle.std.proofs.lemmas.Bool.{not-true}
-use Rattle.cdm_plan.proofs.ListWords.{option_map_or, filter_map, filter_map-append, filter_map-filter, if_so}
+use Rattle.cdm_plan.proofs.ListWords.{if◌then◌else◌, option_map_or, filter_map, filter_map-append, filter_map-filter, if_so}
 use Rattle.cdm_plan.proofs.ListWords.{IsPermutation, IsPermutation-filter_both, IsPermutation-filter_map, false_from_ne_true, false≢true}
 use Rattle.cdm_plan.proofs.PlanWords.{DayValues, Flight, TaxiTimes, fixed_on, fixed_slot}
 use Rattle.cdm_plan.proofs.PlanWords.{asked_of, counts, is_on, is_touched, is_untouched, kept_of, targets_on}
@@ -16,19 +16,25 @@ both false b h = cc
 
 -- a flight that need not be asked counts on its runway
 pub untouched_counts : (t : Touched) (f : Flight) → is_untouched t f ≡ true → counts f ≡ true
-untouched_counts t f h = (both (counts f) _ h).0
+untouched_counts t f h = by (counts f) h
+  where
+    by : (b : Bool) → option_map_or (λ r. not (is_touched t r)) (if b then f.runway else None) false ≡ true → b ≡ true
+    by true k = refl
+    by false k = cc
 
 -- which was not touched
 pub untouched_runway : (t : Touched) (f : Flight) → is_untouched t f ≡ true → (r : List ℕ) × (f.runway ≡ Some r) × (is_touched t r ≡ false)
-untouched_runway t f h = by f.runway (both (counts f) (option_map_or (λ r. not (is_touched t r)) f.runway false) h).1
+untouched_runway t f h = by (counts f) f.runway h
   where
-    by : (o : Option (List ℕ)) → option_map_or (λ r. not (is_touched t r)) o false ≡ true → (r : List ℕ) × (o ≡ Some r) × (is_touched t r ≡ false)
-    by None k = cc
-    by (Some r) k = (r, refl, not-true (is_touched t r) k)
+    by : (b : Bool) (o : Option (List ℕ)) → option_map_or (λ r. not (is_touched t r)) (if b then o else None) false ≡ true
+        → (r : List ℕ) × (o ≡ Some r) × (is_touched t r ≡ false)
+    by false o k = cc
+    by true None k = cc
+    by true (Some r) k = (r, refl, not-true (is_touched t r) k)
 
 -- a flight that counts on a runway that was not touched
 pub untouched_on : (t : Touched) (f : Flight) (r : List ℕ) → counts f ≡ true → f.runway ≡ Some r → is_touched t r ≡ false → is_untouched t f ≡ true
-untouched_on t f r c e h = (λ i. c i && option_map_or (λ s. not (is_touched t s)) (e i) false) ∙ ap not h
+untouched_on t f r c e h = (λ i. option_map_or (λ s. not (is_touched t s)) (if c i then e i else None) false) ∙ ap not h
 
 -- a flight that need not be asked is on no touched runway
 off_touched : (t : Touched) (r : List ℕ) → is_touched t r ≡ true → (f : Flight) → is_untouched t f ≡ true → is_on r f ≡ false

@@ -12,7 +12,7 @@ use Rattle.cdm_plan.proofs.PlanWords.{Plan, RunwayPlan, Target, AimResult, Block
 use Rattle.cdm_plan.proofs.PlanWords.{is_same, same_flips, same_is, if_on, if_passes, DayRecord, flights_in, new_flight, rules_of, with_update, IsDayPlan}
 use Rattle.cdm_plan.proofs.PlanWords.{day_rules, records_in, is_on, blocked_in, early_in, planned_of, target_in, targets_in, targets_on, fixed_on, Adds, AreAims}
 use Rattle.cdm_plan.proofs.PlanWords.{AreKept, AreSameElsewhere, IsMade, IsPlanOn, IsSince, counts, fixed_in, is_counted, is_early, is_kept_blocked, is_noted}
-use Rattle.cdm_plan.proofs.PlanWords.{is_touched, is_untouched}
+use Rattle.cdm_plan.proofs.PlanWords.{counted_on, is_touched, is_untouched}
 use Rattle.cdm_plan.proofs.PlanWords.{kept_blocked, kept_of, kept_plan, Flt, Early, Ready}
 use Rattle.cdm_flight.specs.declared.reach.Reach.{Reach}
 use Rattle.cdm_flight.specs.declared.reach.Reach.TheVariants as reach
@@ -459,4 +459,4 @@ none_kept d = record {
 
   none : (fs : List Flight) → kept_of touched.All fs ≡ []
   none [] = refl
-  none (f ∷ fs) = ap (λ b. cond b (f ∷ kept_of touched.All fs) (kept_of touched.All fs)) (and_right (counts f) _ (off f.runway)) ∙ none fs
+  none (f ∷ fs) = ap (λ b. cond b (f ∷ kept_of touched.All fs) (kept_of touched.All fs)) (off (counted_on f)) ∙ none fs

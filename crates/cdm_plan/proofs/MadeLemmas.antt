@@ -1,24 +1,24 @@
 -- The steps to a plan: what planned flights could have, the plans of runways that stand, and the others.
 use Rattle.std.proofs.Common.{Bor, ◌≡◌, ℕ, Bool, true, false, cond, List, [], ◌∷◌, ◌++◌, Option, None, Some, refl, ◌∙◌, ap, subst, arith, map, filter, length}
-use Rattle.cdm_plan.proofs.ListWords.{is_none, All, AllZip, Contains, cons_option, filter_map, flat_map, find, if◌then◌else◌, IsPermutation}
+use Rattle.cdm_plan.proofs.ListWords.{is_none, All, All-head, All-tail, AllZip, Contains, cons_option, filter_map, flat_map, find, if◌then◌else◌, IsPermutation}
 use Rattle.cdm_plan.proofs.ListWords.{IsPermutation-append_comm, IsPermutation-append_left, IsPermutation-append_right, All-contains, All-weaker}
 use Rattle.cdm_plan.proofs.ListWords.{IsPermutation-middle, IsPermutation-refl, IsPermutation-sym, IsPermutation-trans, contains_head, contains_map}
 use Rattle.cdm_plan.proofs.ListWords.{Contains-permutation, contains_tail, filter_passes, filter_same, length_permutation}
 use Rattle.cdm_plan.proofs.PlanWords.{DayValues, Flight, is_planned, TaxiRows, values_of, taxi_of, RunwayRules, TaxiTimes, IsSequence}
-use Rattle.cdm_plan.proofs.PlanWords.{Plan, RunwayPlan, BlockedFlight, CanSequence, IsAimed, early_among, target_for, DayRecord, same_name}
+use Rattle.cdm_plan.proofs.PlanWords.{Plan, RunwayPlan, BlockedFlight, CanSequence, IsAimed, IsAimedBy, early_among, target_for, DayRecord, same_name}
 use Rattle.cdm_plan.proofs.PlanWords.{day_rules, records_in, HasParts, fixed_on, planned_of, TellTaxi, AreKept, Together, kept_plan}
 use Rattle.cdm_plan.proofs.PlanWords.{asked_of, is_touched, kept_blocked, kept_of}
-use Rattle.std.specs.FinMap as finite
 use Rattle.cdm_plan.specs.declared.aimed.Aimed.{Aimed}
+use Rattle.cdm_plan.specs.declared.aimed.Asked.{Asked}
 use Rattle.cdm_plan.specs.declared.touched.Touched.{Touched}
 use Rattle.cdm_plan.specs.declared.work.Work.{Work}
-use Rattle.cdm_plan.specs.inner.Work.{IsWork}
+use Rattle.cdm_plan.specs.inner.Work.{HasExot, IsWork}
 use Rattle.cdm_plan.proofs.AskedLemmas.{early-parted, fixed-asked, targets-asked}
 use Rattle.cdm_plan.proofs.DayPlanLemmas.{HasSequence, day_plan, few_records, has_sequence, record_names_differ, targets_at}
 use Rattle.cdm_plan.proofs.NameLemmas.{by_name_differ}
 use Rattle.cdm_plan.proofs.OnePlanLemmas.{one_day_plan}
-use Rattle.cdm_plan.proofs.PartLemmas.{All-lent, AllZip-lent, few_parts}
-use Rattle.cdm_plan.proofs.PlanningLemmas.{aim_list, aimed, aimed_are, aims_mean, blocked-among, blocked_early, can_sequence, early-aims}
+use Rattle.cdm_plan.proofs.PartLemmas.{All-given_by, AllZip-lent, few_parts}
+use Rattle.cdm_plan.proofs.PlanningLemmas.{aim_list, aimed, aimed_are, aims_mean, fixed-gone, blocked-among, blocked_early, can_sequence, early-aims}
 use Rattle.cdm_plan.proofs.PlanningLemmas.{planned_are, targets-among}
 
 abbrev now : Bor Flight → Flight
@@ -93,24 +93,36 @@ HasParts-reordered early others plans plan same parts = record {
   blocked_order = parts.blocked_order;
 }
 
+-- what the flights of asked ones could have by their taxi-out times
+aimed_by : (times : TaxiTimes) (values : DayValues) (asked : List Asked) (aims : List Aimed) → All (HasExot times) asked
+    → AllZip (λ a out. IsAimedBy values a.flight.now a.exot out) asked aims → AllZip (IsAimed times values) (map (λ a. a.flight.now) asked) aims
+aimed_by times values [] [] has all = tt
+aimed_by times values (a ∷ asked) (out ∷ aims) has all = (
+  record { name = all.0.name; aim = all.0.aim times (All-head (HasExot times) a asked has) },
+  aimed_by times values asked aims (All-tail (HasExot times) a asked has) all.1,
+)
+aimed_by times values _ _ has all = absurd all
+
 module _ {d : DayRecord} {t : Touched} {w : Work} (is : IsWork d t w) where
-  -- all the asked flights are planned
-  pub work_planned : All (λ f. is_planned f.now.status ≡ true) w.asked.items
-  work_planned = All-lent (λ (f : Flight). is_planned f.status ≡ true) w.asked.items (rw is.asked (planned_are (asked_of t (flights_of d))))
+  -- all the asked flights are planned, and have their taxi-out times by the journal
+  pub work_planned : All (λ a. (is_planned a.flight.now.status ≡ true) × ((times : TaxiTimes) × HasExot times a)) w.asked.items
+  work_planned =
+      let flight : Asked → Flight = λ a. a.flight.now in
+      let planned = All-given_by flight (λ f. is_planned f.status ≡ true) w.asked.items (rw is.asked (planned_are (asked_of t (flights_of d)))) in
+      λ k a less. (planned k a less, (times_of d, is.exots k a less))
 
   -- the runways that are left were touched
   left_touched : All (λ r. is_touched t r.now.name ≡ true) w.left.items
   left_touched = rw is.left (filter_passes (λ (r : Bor RunwayRules). is_touched t r.now.name) w.runways.items)
 
-  module _ {rows : TaxiRows} (told : TellTaxi d.airport d.journal rows) {values : DayValues} (values_is : values ≡ values_of d.journal) (aims : List Aimed)
-      (zipped : AllZip (λ f out. IsAimed (λ place r. finite.get rows (place, r)) values f.now out) w.asked.items aims) where
+  module _ {values : DayValues} (values_is : values ≡ values_of d.journal) (aims : List Aimed)
+      (zipped : AllZip (λ a out. IsAimedBy values a.flight.now a.exot out) w.asked.items aims) where
     -- what they could have is what the journal says of it
     aims_are : aims ≡ aims_of d t
     aims_are =
-        let read : TaxiTimes = λ place r. finite.get rows (place, r) in
-        let times : ◌≡◌ {A = TaxiTimes} read (times_of d) = λ i place r. told.minutes place r i in
-        aimed_are read values (map now w.asked.items) aims (AllZip-lent (IsAimed read values) w.asked.items aims zipped)
-        ∙ (λ i. map (aimed (times i) (values_is i)) (is.asked i))
+        let flight : Asked → Flight = λ a. a.flight.now in
+        aimed_are (times_of d) values (map flight w.asked.items) aims (aimed_by (times_of d) values w.asked.items aims is.exots zipped)
+        ∙ (λ i. map (aimed (times_of d) (values_is i)) (is.asked i))
 
     targets_are : (r : List ℕ) → is_touched t r ≡ true → filter_map (target_for r) aims ≡ targets_at d r
     targets_are r h =
@@ -119,10 +131,10 @@ module _ {d : DayRecord} {t : Touched} {w : Work} (is : IsWork d t w) where
         ∙ targets-asked t r h (times_of d) (values_of d.journal) (flights_of d))
 
     -- each runway that is left can be sequenced
-    pub work_can : All (λ r. CanSequence (fixed_on r.now.name (map now w.flights.items)) (filter_map (target_for r.now.name) aims)) w.left.items
+    pub work_can : All (λ r. CanSequence (fixed_on r.now.name (map now w.gone.items)) (filter_map (target_for r.now.name) aims)) w.left.items
     work_can = All-weaker (λ (r : Bor RunwayRules). is_touched t r.now.name ≡ true)
-        (λ r. CanSequence (fixed_on r.now.name (map now w.flights.items)) (filter_map (target_for r.now.name) aims)) (λ r h.
-        rw (targets_are r.now.name h, is.flights, fixed-asked t r.now.name h (flights_of d))
+        (λ r. CanSequence (fixed_on r.now.name (map now w.gone.items)) (filter_map (target_for r.now.name) aims)) (λ r h.
+        rw (targets_are r.now.name h, is.gone, fixed-gone r.now.name (asked_of t (flights_of d)), fixed-asked t r.now.name h (flights_of d))
         (can_sequence (times_of d) (values_of d.journal) (flights_of d) (record_names_differ d is.sound.names) (few_records d is.sound) r.now.name))
         w.left.items left_touched
 
@@ -143,7 +155,7 @@ module _ {d : DayRecord} {t : Touched} {w : Work} (is : IsWork d t w) where
 
     -- what stands of a former plan, and the plans that were made, make the day's
     pub work_done : {old : List RunwayPlan} {blocked : List BlockedFlight} (made : List RunwayPlan) → AreKept d t old blocked
-        → AllZip (λ r p. IsSequence r.now (fixed_on r.now.name (map now w.flights.items)) (filter_map (target_for r.now.name) aims) p) w.left.items made
+        → AllZip (λ r p. IsSequence r.now (fixed_on r.now.name (map now w.gone.items)) (filter_map (target_for r.now.name) aims) p) w.left.items made
         → Together d (early_among aims ++ kept_blocked d t blocked) (filter_map (λ r. kept_plan t old r.now.name) w.runways.items ++ made)
     work_done {old} {blocked} made kept each =
         let R : Bor RunwayRules → RunwayPlan → Type 0 = λ r p. HasSequence d r.now p in
@@ -155,10 +167,10 @@ module _ {d : DayRecord} {t : Touched} {w : Work} (is : IsWork d t w) where
         Contains-permutation rules (day_rules d) r.now (IsPermutation-sym (day_rules d) rules is.runways.all) (contains_map rule runways r i) in
         let left : w.left.items ≡ filter (λ r. is_none (stands r)) runways =
         is.left ∙ filter_same (λ r. is_touched t r.now.name) (λ r. is_none (stands r)) runways (λ r i. none_stands t old r.now.name (kept.all r.now (of_day r i))) in
-        let right : (r : Bor RunwayRules) (p : RunwayPlan) → Contains w.left.items r → IsSequence r.now (fixed_on r.now.name (map now w.flights.items))
+        let right : (r : Bor RunwayRules) (p : RunwayPlan) → Contains w.left.items r → IsSequence r.now (fixed_on r.now.name (map now w.gone.items))
         (filter_map (target_for r.now.name) aims) p → R r p = λ r p i h.
         let is_left = All-contains (λ (r : Bor RunwayRules). is_touched t r.now.name ≡ true) w.left.items r left_touched i in
-        rw (targets_are r.now.name is_left, is.flights, fixed-asked t r.now.name is_left (flights_of d)) at h in
+        rw (targets_are r.now.name is_left, is.gone, fixed-gone r.now.name (asked_of t (flights_of d)), fixed-asked t r.now.name is_left (flights_of d)) at h in
         let new = rw left at (AllZip-weaker_at _ R w.left.items made right each) in
         let zip = merged R stands runways made (λ r p i e. has_sequence d r.now p (kept.right r.now p (of_day r i) e)) new in
         let whole : AllZip (HasSequence d) rules zip.0 = AllZip-lent (HasSequence d) runways zip.0 zip.1 in

@@ -55,10 +55,10 @@ AllZip-lent R [] [] all = tt
 AllZip-lent R (x ∷ xs) (y ∷ ys) all = (all.0, AllZip-lent R xs ys all.1)
 AllZip-lent R _ _ all = absurd all
 
--- and what holds of all values holds of lent ones
-pub All-lent : {X : Type 0} (P : X → Type 0) (xs : List (Bor X)) → All P (map (λ x. x.now) xs) → All (λ x. P x.now) xs
-All-lent P [] all = All-nil (λ x. P x.now)
-All-lent P (x ∷ xs) all = All-cons (λ x. P x.now) x xs (All-head P x.now (map (λ x. x.now) xs) all) (All-lent P xs (All-tail P x.now (map (λ x. x.now) xs) all))
+-- and what holds of all that values give holds of what each gives
+pub All-given_by : {X Y : Type 0} (h : X → Y) (P : Y → Type 0) (xs : List X) → All P (map h xs) → All (λ x. P (h x)) xs
+All-given_by h P [] all = All-nil (λ x. P (h x))
+All-given_by h P (x ∷ xs) all = All-cons (λ x. P (h x)) x xs (All-head P (h x) (map h xs) all) (All-given_by h P xs (All-tail P (h x) (map h xs) all))
 
 -- The parts of a plan.
 

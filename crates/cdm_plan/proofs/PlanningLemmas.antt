@@ -10,7 +10,7 @@ use Rattle.cdm_plan.proofs.ListWords.{IsDistinct-head, IsDistinct-tail, length-m
 use Rattle.cdm_plan.proofs.ListWords.{filter_map-filter, if_so, length_permutation, AllZip, filter_passes}
 use Rattle.cdm_plan.proofs.PlanWords.{DayValues, same_name, Flight, is_planned, TaxiTimes, IsAim, aim_of, aim_is, aim_means, aim_with, counts, same_flips, same_is}
 use Rattle.cdm_plan.proofs.PlanWords.{Slot, fixed_slot, slot_by, flight_names, IsSequence, Target}
-use Rattle.cdm_plan.proofs.PlanWords.{AimResult, BlockedFlight, early_in, planned_of}
+use Rattle.cdm_plan.proofs.PlanWords.{AimResult, BlockedFlight, early_in, gone_of, planned_of}
 use Rattle.cdm_plan.proofs.PlanWords.{target_in, targets_in, blocked_in, is_on, fixed_on, targets_on, IsAimed, if_on, if_passes, target_for, CanSequence}
 use Rattle.cdm_plan.proofs.PlanWords.{RunwayRules, RunwayPlan, Ready, Early}
 use Rattle.std.proofs.lemmas.List.Filters.{length-filter_both}
@@ -236,6 +236,20 @@ no_fixed_at r f h = ap (if_so (is_on r f)) (by f.status (uncounted f h).0) ∙ n
     by (status.OffBlock aobt exot) k = cc
     by (status.Airborne aobt atot) k = cc
     by status.Cancelled k = refl
+
+-- the flights of a runway that have left their stands are fixed
+pub fixed-gone : (r : List ℕ) (fs : List Flight) → fixed_on r (gone_of fs) ≡ fixed_on r fs
+unfolding fixed_slot
+fixed-gone r fs =
+    fixed_on-given r (gone_of fs)
+    ∙ (filter_map-filter (fixed_at r) (λ f. not (is_planned f.status)) fs
+    ∙ ((λ i. filter_map (λ f. by f f.status i) fs) ∙ sym (fixed_on-given r fs)))
+  where
+    by : (f : Flight) (s : Status) → if_so (not (is_planned s)) (if_so (is_on r f) (slot_by f s)) ≡ if_so (is_on r f) (slot_by f s)
+    by f status.Planned = sym (nothing (is_on r f))
+    by f (status.OffBlock aobt exot) = refl
+    by f (status.Airborne aobt atot) = refl
+    by f status.Cancelled = refl
 
 pub no_aim_at : (r : List ℕ) (times : TaxiTimes) (values : DayValues) (f : Flight) → counts f ≡ false → target_at r times values f ≡ None
 unfolding aim_of

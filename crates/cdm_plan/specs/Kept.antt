@@ -1,5 +1,5 @@
 -- Which runways updates touch, and the plans of the others, which stand.
-use Rattle.std.specs.Prelude.{◌≡◌, ℕ, Bool, true, false, ◌&&◌, ◌||◌, not, is_some, List, Contains, IsPermutation, Option, None, Some, filter, if◌then◌else◌}
+use Rattle.std.specs.Prelude.{◌≡◌, ℕ, Bool, true, false, ◌&&◌, not, List, Contains, IsPermutation, Option, None, Some, filter, if◌then◌else◌}
 use Rattle.std.specs.List.{find, list_any}
 use Rattle.std.specs.Option.{option_map_or}
 use Rattle.cdm_flight.specs.declared.airport.RunwayRow.{RunwayRow}
@@ -7,7 +7,6 @@ use Rattle.cdm_flight.specs.declared.reach.Reach.{Reach}
 use Rattle.cdm_flight.specs.declared.reach.Reach.TheVariants as reach
 use Rattle.cdm_flight.specs.Names.{same_name}
 use Rattle.cdm_flight.specs.Journal.{flight_of, taxi_of, values_of}
-use Rattle.cdm_flight.specs.Record.{is_planned}
 use Rattle.cdm_flight.specs.declared.flight.Flight.{Flight}
 use Rattle.cdm_flight.specs.declared.place.Place.{Place}
 use Rattle.cdm_runway.specs.Rules.{RunwayRules}
@@ -23,6 +22,7 @@ use Rattle.cdm_plan.specs.declared.touched.Noting.{Noting}
 use Rattle.cdm_plan.specs.declared.touched.Noting.TheVariants.{EachFlight, CountedFlights}
 use Rattle.cdm_plan.specs.declared.touched.Touched.{Touched}
 use Rattle.cdm_plan.specs.declared.touched.Touched.TheVariants.{All, Named}
+use Rattle.cdm_plan.specs.Brief.{counted_on, counts}
 use Rattle.cdm_plan.specs.inner.Aimed.{if_passes, is_on}
 use Rattle.cdm_plan.specs.Day.{DayRecord, rules_of}
 use Rattle.cdm_plan.specs.DayPlan.{IsDayPlan, day_rules, records_in}
@@ -33,10 +33,6 @@ use Rattle.cdm_plan.specs.Sound.{IsSound}
 abbrev pub is_touched : Touched → List ℕ → Bool
 is_touched All r = true
 is_touched (Named names) r = list_any (λ n. same_name n r) names.items
-
--- the flight counts on its runway: it has left its stand, or it has a TOBT
-abbrev pub counts : Flight → Bool
-counts f = not (is_planned f.status) || is_some f.tobt
 
 -- the flights whose updates touch their runway: all, or those that count there
 abbrev pub is_counted : Noting → Flight → Bool
@@ -66,7 +62,7 @@ pub record IsPlanOn (d : DayRecord) (r : RunwayRules) (p : RunwayPlan) : Type 0 
 
 -- the flight counts on a runway that was not touched, so that it need not be asked anew
 abbrev pub is_untouched : Touched → Flight → Bool
-is_untouched t f = counts f && option_map_or (λ r. not (is_touched t r)) f.runway false
+is_untouched t f = option_map_or (λ r. not (is_touched t r)) (counted_on f) false
 
 -- what was not touched since the first day is as it was then
 pub record IsSince (first : DayRecord) (t : Touched) (d : DayRecord) : Type 0 where

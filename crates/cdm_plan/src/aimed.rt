@@ -1,15 +1,20 @@
 //! What planned flights could have.
 ghost use Rattle.std.specs.Prelude.{◌≡◌, true, IfOk};
 ghost use Rattle.std.specs.List.{filter_map};
-ghost use Rattle.std.specs.FinMap as finite;
 ghost use Rattle.cdm_flight.specs.Record.{is_planned};
 ghost use Rattle.cdm_plan.specs.Planning.{blocked_in};
-ghost use Rattle.cdm_plan.specs.inner.Aimed.{IsAimed, early_among, target_for};
+ghost use Rattle.cdm_plan.specs.inner.Aimed.{IsAimedBy, early_among, target_for};
 
 use cdm_flight::{DayValues, Flight, FlightName, RunwayName};
-use cdm_sequence::{AimResult, BlockedFlight, Target, aim};
-use cdm_taxi::TaxiTable;
+use cdm_sequence::{AimResult, BlockedFlight, Target, aim_by};
 use std::alloc::{AllocError, Global};
+
+/// A planned flight that is asked what it could have, with its taxi-out time to its runway.
+#[derive(Clone, Copy)]
+pub(crate) struct Asked<'a> {
+    pub(crate) flight: &'a Flight,
+    pub(crate) exot: Option<u16>,
+}
 
 // A planned flight and what it could have.
 #[derive(Clone, Copy, PartialEq, Eq)]
@@ -19,13 +24,14 @@ pub(crate) struct Aimed {
 }
 
 /// A planned flight with what it could have.
-pub(crate) fn aimed_of(flight: &Flight, taxi: &TaxiTable, values: DayValues) -> Aimed
-    requires { is_planned flight.now.status ≡ true }
-    ensures { IsAimed (λ place runway. finite.get taxi.now (place, runway)) values flight.now result }
+pub(crate) fn aimed_of(asked: &Asked, values: DayValues) -> Aimed
+    requires { is_planned asked.now.flight.now.status ≡ true }
+    ensures { IsAimedBy values asked.now.flight.now asked.now.exot result }
 {
+    let flight = asked.flight;
     Aimed {
         name: flight.name,
-        aim: aim(flight, taxi, values),
+        aim: aim_by(flight, asked.exot, values),
     }
 }
 

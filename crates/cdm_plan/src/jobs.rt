@@ -2,7 +2,6 @@
 ghost use Rattle.std.specs.Prelude.{◌≡◌, true, filter, map, IfOk};
 ghost use Rattle.std.proofs.Common.{sym, ◌∙◌};
 ghost use Rattle.std.specs.List.{filter_map};
-ghost use Rattle.std.specs.FinMap as finite;
 ghost use Rattle.std.proofs.lemmas.List.Sorted.{IsPermutation-refl};
 ghost use Rattle.cdm_flight.specs.Record.{is_planned};
 ghost use Rattle.cdm_phase.specs.declared.job.PhaseName.TheVariants.{Runways, Targets};
@@ -10,46 +9,48 @@ ghost use Rattle.cdm_sequence.specs.Fixed.{fixed_slot};
 ghost use Rattle.cdm_sequence.specs.Sequence.{IsSequence};
 ghost use Rattle.cdm_sequence.proofs.AimLemmas.{aim_one};
 ghost use Rattle.cdm_sequence.proofs.OneLemmas.{sequence_one};
-ghost use Rattle.cdm_plan.specs.inner.Aimed.{CanSequence, IsAimed, is_on, target_for};
+ghost use Rattle.cdm_sequence.specs.Aims.{TaxiTimes};
+ghost use Rattle.cdm_plan.specs.inner.Aimed.{CanSequence, IsAimedBy, is_on, target_for};
+ghost use Rattle.cdm_plan.specs.inner.Work.{HasExot};
 ghost use Rattle.cdm_plan.specs.Planning.{fixed_on};
 
-use crate::aimed::{Aimed, aimed_of, targets_on_runway};
+use crate::aimed::{Aimed, Asked, aimed_of, targets_on_runway};
 use cdm_flight::{DayValues, Flight, RunwayName};
 use cdm_phase::{Job, PhaseName};
 use cdm_runway::Runway;
 use cdm_sequence::{RunwayPlan, Slot, fixed_of, sequence};
-use cdm_taxi::TaxiTable;
 use std::alloc::{AllocError, Global};
 
-/// What each planned flight could have, by the taxi times and the values of the day.
+/// What each planned flight could have, by the values of the day.
 #[derive(Clone, Copy)]
 pub(crate) struct TargetJob<'a> {
-    pub(crate) taxi: &'a TaxiTable,
-    pub(crate) values: DayValues,
+    pub(crate) values: &'a DayValues,
 }
 
 impl<'a> Job for TargetJob<'a> {
-    type Item = &'a Flight;
+    type Item = Asked<'a>;
 
     type Out = Aimed;
 
-    ghost can_run = { λ _ flight. is_planned flight.now.status ≡ true };
+    ghost can_run = { λ _ asked. (is_planned asked.flight.now.status ≡ true) × ((times : TaxiTimes) × HasExot times asked) };
 
-    ghost gives = { λ job flight out. IsAimed (λ place runway. finite.get job.taxi.now (place, runway)) job.values flight.now out };
+    ghost gives = { λ job asked out. IsAimedBy job.values.now asked.flight.now asked.exot out };
 
     ghost phase_name = { Targets };
 
-    fn run(&self, _alloc: Global, flight: &&'a Flight) -> Result<Aimed, AllocError> {
-        Ok(aimed_of(flight, self.taxi, self.values))
+    fn run(&self, _alloc: Global, asked: &Asked<'a>) -> Result<Aimed, AllocError> {
+        Ok(aimed_of(asked, *self.values))
     }
 
     fn phase(&self) -> PhaseName {
         PhaseName::Targets
     }
 
-    ghost one_value = { λ job flight x y _ a b.
+    ghost one_value = { λ job asked x y can a b.
         let name = a.name ∙ sym b.name in
-        let aim = aim_one flight.now (λ place runway. finite.get job.taxi.now (place, runway)) job.values x.aim y.aim a.aim b.aim in
+        let times = can.1.0 in
+        let has = can.1.1 in
+        let aim = aim_one asked.flight.now times job.values.now x.aim y.aim (a.aim times has) (b.aim times has) in
         λ i. record { name = name i; aim = aim i } };
 }
 

@@ -5,6 +5,7 @@ ghost use Rattle.std.specs.Option.{option_copied};
 ghost use Rattle.cdm_flight.specs.Names.{same_name};
 ghost use Rattle.cdm_plan.specs.Kept.{is_early, is_kept_blocked, kept_blocked, kept_plan};
 
+use crate::brief::counted_on;
 use crate::records::Records;
 use crate::touched::Touched;
 use cdm_flight::RunwayName;
@@ -84,7 +85,7 @@ impl Kept<'_> {
             return false;
         }
         match records.flight(flight.name) {
-            Some(record) => self.touched.keeps(record),
+            Some(record) => self.touched.keeps(counted_on(record)),
             None => false,
         }
     }

@@ -3,6 +3,7 @@
 #![tactic(auto)]
 
 mod aimed;
+mod brief;
 mod jobs;
 mod kept;
 mod laws;
@@ -12,6 +13,7 @@ mod runner;
 mod touched;
 mod work;
 
+pub use brief::Brief;
 pub use kept::Kept;
 pub use laws::{
     one_is_first_in_a_day, one_plan_of_a_day, plans_of_a_day_are_first, runways_make_the_day,

@@ -112,13 +112,11 @@ pub fn plan_keeping<D: Records>(alloc: Global, records: &D, kept: &Kept) -> Resu
     ensures { IfOk result (λ plan. IsMade (D.day records.now) plan) }
 {
     let work = work_of(alloc, records, kept.touched)?;
-    let job = TargetJob {
-        taxi: records.taxi(),
-        values: records.values(),
-    };
+    let values = records.values();
+    let job = TargetJob { values: &values };
     let aims = run_here(alloc, &job, &work.asked)?;
     let job = RunwayJob {
-        flights: &work.flights,
+        flights: &work.gone,
         aims: &aims,
     };
     let made = run_here(alloc, &job, &work.left)?;

@@ -1,5 +1,6 @@
 //! What the accepted updates of a day say, however it is kept.
 
+use crate::brief::Brief;
 use cdm_flight::{DayValues, Flight, FlightName};
 use cdm_runway::Runway;
 use cdm_taxi::TaxiTable;
@@ -7,9 +8,10 @@ use cdm_taxi::TaxiTable;
 /// What an airport and accepted updates say of flights, runways, taxi times and the whole day. No call
 /// takes memory.
 pub trait Records {
-    ghost use Rattle.std.specs.Prelude.{◌≡◌, length, slice_get};
-    ghost use Rattle.std.specs.Option.{option_and_then, option_copied};
-    ghost use Rattle.cdm_flight.specs.Journal.{flight_of, values_of};
+    ghost use Rattle.std.specs.Prelude.{◌≡◌, length, slice_get, IfSome};
+    ghost use Rattle.std.specs.Option.{option_and_then, option_copied, option_map};
+    ghost use Rattle.cdm_flight.specs.Journal.{flight_of, taxi_of, values_of};
+    ghost use Rattle.cdm_plan.specs.Brief.{brief_of};
     ghost use Rattle.cdm_plan.specs.Day.{DayRecord, flights_in};
     ghost use Rattle.cdm_plan.specs.DayPlan.{IsRunwayAt};
     ghost use Rattle.cdm_plan.specs.Sound.{IsSound, TellTaxi};
@@ -32,6 +34,13 @@ pub trait Records {
         ensures sound { IsSound (day self.now) }
         ensures value { let d = day self.now in
             option_copied result ≡ option_and_then (flight_of d.airport d.journal) (slice_get (flights_in d.journal) place) };
+
+    /// The same with the flight in brief.
+    fn known_at(&self, place: usize) -> Option<(&Flight, Brief)>
+        ensures sound { IsSound (day self.now) }
+        ensures flight { let d = day self.now in
+            option_map (λ k. k.0.now) result ≡ option_and_then (flight_of d.airport d.journal) (slice_get (flights_in d.journal) place) }
+        ensures brief { let d = day self.now in IfSome result (λ k. k.1 ≡ brief_of (taxi_of d.airport d.journal) k.0.now) };
 
     /// How many runways there are.
     fn runways(&self) -> usize

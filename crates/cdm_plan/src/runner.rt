@@ -37,10 +37,8 @@ impl<R: Threads + Sync, G: Gate> Runner<'_, R, G> {
     {
         let (rt, workers, gate) = (self.rt, self.workers, self.gate);
         let work = work_of(alloc, records, kept.touched)?;
-        let job = TargetJob {
-            taxi: records.taxi(),
-            values: records.values(),
-        };
+        let values = records.values();
+        let job = TargetJob { values: &values };
         let aims = run_phase(
             rt,
             alloc,
@@ -51,7 +49,7 @@ impl<R: Threads + Sync, G: Gate> Runner<'_, R, G> {
             gate,
         )?;
         let job = RunwayJob {
-            flights: &work.flights,
+            flights: &work.gone,
             aims: &aims,
         };
         let made = run_phase(rt, alloc, workers, 1, &job, &work.left, gate)?;

@@ -1,14 +1,15 @@
 //! Which runways updates touch.
-ghost use Rattle.std.specs.Prelude.{◌≡◌, ℕ, List, false, OnOk};
+ghost use Rattle.std.specs.Prelude.{◌≡◌, ℕ, List, false, not, OnOk};
 ghost use Rattle.std.specs.List.{list_any};
 ghost use Rattle.std.specs.Option.{option_map_or};
 ghost use Rattle.cdm_flight.specs.Names.{same_name};
 ghost use Rattle.cdm_flight.specs.Reach.{reach_of};
 ghost use Rattle.cdm_flight.specs.declared.reach.Reach.TheVariants as reach;
-ghost use Rattle.cdm_plan.specs.Kept.{Adds, counts, is_counted, is_noted, is_touched, is_untouched};
+ghost use Rattle.cdm_plan.specs.Kept.{Adds, is_counted, is_noted, is_touched};
 
+use crate::brief::counts;
 use crate::records::Records;
-use cdm_flight::{Flight, FlightName, Reach, RunwayName, Status, Update};
+use cdm_flight::{Flight, FlightName, Reach, RunwayName, Update};
 use std::alloc::{AllocError, Global};
 
 /// The flights whose updates touch the runway that the flight has.
@@ -27,17 +28,6 @@ pub enum Touched {
     All,
     /// Those of these names.
     Named(Vec<RunwayName>),
-}
-
-// Whether the flight counts on its runway.
-#[inline(always)]
-fn counts(flight: &Flight) -> bool
-    ensures { result ≡ counts flight.now }
-{
-    match flight.status {
-        Status::Planned => flight.tobt.is_some(),
-        Status::OffBlock { .. } | Status::Airborne { .. } | Status::Cancelled => true,
-    }
 }
 
 impl Noting {
@@ -112,13 +102,13 @@ impl Touched {
         }
     }
 
-    /// Whether the flight need not be asked anew: it counts on its runway, which is none of them.
+    /// Whether a flight need not be asked anew that counts on this runway: it is none of them.
     #[inline(always)]
-    pub(crate) fn keeps(&self, flight: &Flight) -> bool
-        ensures { result ≡ is_untouched self.now flight.now }
+    pub(crate) fn keeps(&self, counted_on: Option<RunwayName>) -> bool
+        ensures { result ≡ option_map_or (λ r. not (is_touched self.now r)) counted_on false }
     {
-        match flight.runway {
-            Some(runway) => counts(flight) && !self.has(runway),
+        match counted_on {
+            Some(runway) => !self.has(runway),
             None => false,
         }
     }

@@ -1,25 +1,31 @@
 //! What there is to do for the plan of a day.
-ghost use Rattle.std.specs.Prelude.{◌≡◌, ◌+◌, ◌<◌, ◌≤◌, ◌++◌, [], filter, map, IfOk, OnOk, vec_len, vec_capacity};
+ghost use Rattle.std.specs.Prelude.{◌≡◌, ◌+◌, ◌<◌, ◌≤◌, ◌++◌, ◌∷◌, [], filter, map, All, IfOk, OnOk, vec_len, vec_capacity};
 ghost use Rattle.std.specs.List.{cons_option};
 ghost use Rattle.std.specs.Option.{option_copied};
+ghost use Rattle.cdm_flight.specs.Journal.{taxi_of};
+ghost use Rattle.cdm_sequence.specs.Aims.{TaxiTimes, own_exot};
+ghost use Rattle.cdm_plan.specs.Brief.{counted_on};
 ghost use Rattle.cdm_plan.specs.DayPlan.{AreByName, records_in};
 ghost use Rattle.cdm_plan.specs.Kept.{asked_of, is_touched};
-ghost use Rattle.cdm_plan.specs.Planning.{planned_of};
+ghost use Rattle.cdm_plan.specs.Planning.{gone_of, planned_of};
 ghost use Rattle.cdm_plan.specs.Sound.{IsSound};
-ghost use Rattle.cdm_plan.specs.inner.Work.{IsWork};
+ghost use Rattle.cdm_plan.specs.inner.Work.{HasExot, IsWork};
 
+use crate::aimed::Asked;
+use crate::brief::Brief;
 use crate::records::Records;
 use crate::touched::Touched;
 use cdm_flight::{Flight, Status, push_last};
 use cdm_runway::Runway;
 use std::alloc::{AllocError, Global};
 
-/// The flights of a day that count on no runway or have a touched one, the planned flights among them, which are asked
-/// when they could take off, all runways, and those that were touched.
+/// What there is to do for the plan of a day, from the flights that count on no runway or on a touched one: those that have left
+/// their stands or won't depart, those on their stands, which are asked when they could take off; all runways, and those that were
+/// touched.
 #[derive(Drop)]
 pub(crate) struct Work<'a> {
-    pub(crate) flights: Vec<&'a Flight>,
-    pub(crate) asked: Vec<&'a Flight>,
+    pub(crate) gone: Vec<&'a Flight>,
+    pub(crate) asked: Vec<Asked<'a>>,
     pub(crate) runways: Vec<&'a Runway>,
     pub(crate) left: Vec<&'a Runway>,
 }
@@ -34,52 +40,62 @@ fn push_known<'a, T>(items: &mut Vec<&'a T>, item: Option<&'a T>) -> Result<(), 
     }
 }
 
-// Puts a flight behind the others, for which there is room, if there is one that doesn't stand as it did.
+// Puts a flight, unless it stands as it did, behind those that have left or behind those that are asked, which have room.
 #[inline(always)]
-fn push_touched<'a>(flights: &mut Vec<&'a Flight>, touched: &Touched, flight: Option<&'a Flight>)
-    requires { vec_len flights.old < vec_capacity flights.old }
-    ensures items { map (λ f. f.now) flights.new.items
-        ≡ map (λ f. f.now) flights.old.items ++ asked_of touched.now (cons_option (option_copied flight.entry) []) }
-    ensures len { vec_len flights.new ≤ vec_len flights.old + 1 }
-    ensures capacity { vec_capacity flights.new ≡ vec_capacity flights.old }
+fn push_touched<'a>(
+    gone: &mut Vec<&'a Flight>,
+    asked: &mut Vec<Asked<'a>>,
+    touched: &Touched,
+    flight: &'a Flight,
+    brief: Brief,
+)
+    requires room { (vec_len gone.old < vec_capacity gone.old) × (vec_len asked.old < vec_capacity asked.old) }
+    requires brief { brief.runway ≡ counted_on flight.now }
+    ensures gone { map (λ f. f.now) gone.new.items ≡ map (λ f. f.now) gone.old.items ++ gone_of (asked_of touched.now (flight.now ∷ [])) }
+    ensures asked { map (λ a. a.flight.now) asked.new.items
+        ≡ map (λ a. a.flight.now) asked.old.items ++ planned_of (asked_of touched.now (flight.now ∷ [])) }
+    ensures exots { (times : TaxiTimes) → own_exot times flight.now ≡ brief.exot → All (HasExot times) asked.old.items
+        → All (HasExot times) asked.new.items }
+    ensures len { (vec_len gone.new ≤ vec_len gone.old + 1) × (vec_len asked.new ≤ vec_len asked.old + 1) }
+    ensures capacity { (vec_capacity gone.new ≡ vec_capacity gone.old) × (vec_capacity asked.new ≡ vec_capacity asked.old) }
 {
-    if let Some(flight) = flight {
-        if !touched.keeps(flight) {
-            flights.push_reserved(flight);
-        }
+    if touched.keeps(brief.runway) {
+        return;
+    }
+    if flight.status == Status::Planned {
+        asked.push_reserved(Asked {
+            flight,
+            exot: brief.exot,
+        });
+    } else {
+        gone.push_reserved(flight);
     }
 }
 
-// The flights that count on no runway and those of the touched runways, in the order of first appearance.
+// The flights that count on no runway and those of the touched runways, in the order of first appearance: those that have left
+// their stands or won't depart, and those that are asked.
 fn touched_flights<'a, R: Records>(
     alloc: Global,
     records: &'a R,
     touched: &Touched,
-) -> Result<Vec<&'a Flight>, AllocError>
+) -> Result<(Vec<&'a Flight>, Vec<Asked<'a>>), AllocError>
     ensures sound { IsSound (R.day records.now) }
-    ensures touched { IfOk result (λ v. let d = R.day records.now in
-        map (λ f. f.now) v.items ≡ asked_of touched.now (records_in d.airport d.journal)) }
+    ensures gone { IfOk result (λ v. let d = R.day records.now in
+        map (λ f. f.now) v.0.items ≡ gone_of (asked_of touched.now (records_in d.airport d.journal))) }
+    ensures asked { IfOk result (λ v. let d = R.day records.now in
+        map (λ a. a.flight.now) v.1.items ≡ planned_of (asked_of touched.now (records_in d.airport d.journal))) }
+    ensures exots { IfOk result (λ v. let d = R.day records.now in All (HasExot (taxi_of d.airport d.journal)) v.1.items) }
 {
     let known = records.flights();
-    let mut flights = Vec::with_capacity(alloc, known)?;
+    let mut gone = Vec::with_capacity(alloc, known)?;
+    let mut asked = Vec::with_capacity(alloc, known)?;
     for place in 0..known {
-        push_touched(&mut flights, touched, records.flight_at(place));
+        let Some((flight, brief)) = records.known_at(place) else {
+            continue;
+        };
+        push_touched(&mut gone, &mut asked, touched, flight, brief);
     }
-    Ok(flights)
-}
-
-// The flights on their stands, in order.
-fn planned_flights<'a>(alloc: Global, flights: &[&'a Flight]) -> Result<Vec<&'a Flight>, AllocError>
-    ensures { IfOk result (λ v. map (λ f. f.now) v.items ≡ planned_of (map (λ f. f.now) flights.now)) }
-{
-    let mut planned = Vec::with_capacity(alloc, flights.len())?;
-    for flight in flights {
-        let flight: &'a Flight = flight;
-        if flight.status == Status::Planned {
-            planned.push_reserved(flight);
-        }
-    }
-    Ok(planned)
+    Ok((gone, asked))
 }
 
 // All runways by name.
@@ -119,12 +135,11 @@ pub(crate) fn work_of<'a, R: Records>(
 ) -> Result<Work<'a>, AllocError>
     ensures { IfOk result (λ work. IsWork (R.day records.now) touched.now work) }
 {
-    let flights = touched_flights(alloc, records, touched)?;
-    let asked = planned_flights(alloc, &flights)?;
+    let (gone, asked) = touched_flights(alloc, records, touched)?;
     let runways = all_runways(alloc, records)?;
     let left = touched_runways(alloc, &runways, touched)?;
     Ok(Work {
-        flights,
+        gone,
         asked,
         runways,
         left,

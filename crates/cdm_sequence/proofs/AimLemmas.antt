@@ -9,7 +9,7 @@ use Rattle.std.specs.declared.ops.Range.{Range}
 use Rattle.cdm_flight.specs.declared.key.Key.{Key}
 use Rattle.cdm_flight.specs.declared.values.DayValues.{DayValues}
 use Rattle.cdm_flight.specs.declared.flight.Flight.{Flight}
-use Rattle.cdm_sequence.specs.Aims.{TaxiTimes, ready_at, exot_to, is_candidate, ReachesAt, IsAim}
+use Rattle.cdm_sequence.specs.Aims.{TaxiTimes, ready_at, exot_to, is_candidate, IsAim}
 use Rattle.cdm_sequence.specs.declared.target.Target.{Target}
 use Rattle.cdm_sequence.specs.declared.aims.AimResult.{AimResult}
 use Rattle.cdm_sequence.specs.declared.aims.AimResult.TheVariants.{Ready, Early}
@@ -97,12 +97,6 @@ aim_with f times values (Some tobt) (Some runway) = aim_with_exot f values tobt 
 
 unfoldable pub aim_of : Flight → TaxiTimes → DayValues → AimResult
 aim_of f times values = aim_with f times values f.tobt f.runway
-
--- a flight with a TOBT, a runway and a taxi-out time reaches the runway by them
-pub reaches : (f : Flight) (times : TaxiTimes) (values : DayValues) (P : ℕ → Type 0) (tobt exot : ℕ) (runway : List ℕ) → f.tobt ≡ Some tobt
-    → f.runway ≡ Some runway
-    → exot_to times f runway ≡ Some exot → P (ready_at f tobt values + exot) → ReachesAt f times values P
-reaches f times values P tobt exot runway d e h p = rw (d, e, h) p
 
 module _ (f : Flight) (times : TaxiTimes) (values : DayValues) where
   -- the flight with this TOBT and this runway

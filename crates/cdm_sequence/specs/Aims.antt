@@ -1,6 +1,6 @@
 -- Whether a planned flight can be sequenced, and when it may take off.
 use Rattle.std.specs.Prelude.{◌≡◌, ℕ, ◌+◌, ◌<◌, ◌≤◌, max, Bool, true, false, ◌&&◌, nat_le, nat_lt, List, Option, Some, None, IsSome}
-use Rattle.std.specs.Option.{IsSomeAnd, option_map_or}
+use Rattle.std.specs.Option.{IsSomeAnd, option_and_then, option_map_or}
 use Rattle.cdm_time.specs.Windows.{is_in_tolerance, window_has}
 use Rattle.cdm_time.specs.declared.tolerance.Tolerance.{Tolerance}
 use Rattle.cdm_flight.specs.declared.place.Place.{Place}
@@ -24,6 +24,10 @@ ready_at f tobt values = max (tobt + stand_minutes f.ice) values.clock
 -- the taxi-out time of the flight to a runway
 abbrev pub exot_to : TaxiTimes → Flight → List ℕ → Option ℕ
 exot_to times f runway = taxi_out (λ place. times place runway) f.stand f.ice
+
+-- and to the runway that the flight has
+abbrev pub own_exot : TaxiTimes → Flight → Option ℕ
+own_exot times f = option_and_then (exot_to times f) f.runway
 
 -- a minute of the horizon from the earliest on, within the tolerance of the CTOT, if there is one
 abbrev pub is_candidate : Tolerance → ℕ → Option ℕ → ℕ → Bool

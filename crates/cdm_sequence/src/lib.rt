@@ -13,7 +13,7 @@ mod slot;
 mod target;
 mod turns;
 
-pub use aims::{AimResult, aim};
+pub use aims::{AimResult, aim, aim_by, own_exot};
 pub use fixed::fixed_of;
 pub use laws::{
     any_order, one_aim, one_is_earlier, one_is_first, one_plan, one_sequence, plans_are_first,

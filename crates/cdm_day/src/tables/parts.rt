@@ -1,17 +1,20 @@
 //! Parts that tables may share. A change makes a part anew, unless flights or taxi times have one owner.
-ghost use Rattle.std.specs.Prelude.{◌≡◌, true, false, map, All, IfOk, OnOk, OnErr};
+ghost use Rattle.std.specs.Prelude.{◌≡◌, true, false, map, All, IfOk, IfSome, OnOk, OnErr};
+ghost use Rattle.std.specs.Option.{IsSomeAnd, option_map};
 ghost use Rattle.std.specs.Arc.{arc_value};
 ghost use Rattle.std.specs.FinMap as finite;
-ghost use Rattle.indexmap.specs.IndexMap.{insert_entry};
+ghost use Rattle.indexmap.specs.IndexMap.{insert_entry, insert_index, values};
 ghost use Rattle.cdm_flight.specs.Names.{same_name};
 ghost use Rattle.cdm_flight.specs.Taxi.{is_one_stand_too_many, stands_in};
 ghost use Rattle.cdm_day.specs.Changes.{has_window};
+ghost use Rattle.cdm_day.specs.inner.Briefs.{AreBrief, brief_by, put_at};
 ghost use Rattle.cdm_day.specs.inner.Put.{if_named};
 ghost use Rattle.cdm_day.specs.inner.Tables.{ArePut, AreSame, HasPlace, Sets};
 
 use super::runways::copied_runways;
 use crate::change::{Change, RunwayChange, set_taxi};
 use cdm_flight::{DayValues, Flight, FlightName, Place, RunwayName, TaxiMinutes};
+use cdm_plan::Brief;
 use cdm_runway::Runway;
 use cdm_taxi::TaxiTable;
 use indexmap::IndexMap;
@@ -23,6 +26,8 @@ use std::sync::Arc;
 #[derive(Drop)]
 pub(super) struct Parts {
     pub(super) flights: Arc<IndexMap<FlightName, Flight>>,
+    // The same flights in brief, unless a taxi time changed since they were kept.
+    pub(super) briefs: Option<Arc<Vec<Brief>>>,
     pub(super) runways: Arc<Vec<Runway>>,
     pub(super) taxi: Arc<TaxiTable>,
     pub(super) values: DayValues,
@@ -35,6 +40,7 @@ impl Parts {
     {
         Ok(Parts {
             flights: Arc::try_clone(&self.flights)?,
+            briefs: shared_briefs(&self.briefs)?,
             runways: Arc::try_clone(&self.runways)?,
             taxi: Arc::try_clone(&self.taxi)?,
             values: self.values,
@@ -49,10 +55,11 @@ impl Parts {
     {
         match change {
             Change::NewFlight(flight) | Change::NextRecord(flight) => {
-                set_flight(alloc, &mut self.flights, flight)
+                self.set_flight(alloc, flight)
             }
             Change::Runway(name, change) => change_runways(alloc, &mut self.runways, name, change),
             Change::TaxiRow(place, runway, minutes) => {
+                self.briefs = None;
                 change_taxi(alloc, &mut self.taxi, place, runway, minutes)
             }
             Change::Values(values) => {
@@ -63,24 +70,123 @@ impl Parts {
     }
 }
 
-// Sets the record of a flight.
+impl Parts {
+    // Sets the record of a flight, and the flight in brief; where there is no memory for that, no flight is kept in brief.
+    fn set_flight(&mut self, alloc: Global, flight: Flight) -> Result<(), AllocError>
+        ensures known { OnOk result (Sets (arc_value self.old.flights) (arc_value self.new.flights) flight) }
+        ensures entries { OnOk result
+            ((arc_value self.new.flights).entries ≡ insert_entry same_name (arc_value self.old.flights).entries flight.name flight) }
+        ensures err { OnErr result ((arc_value self.new.flights).entries ≡ (arc_value self.old.flights).entries) }
+        ensures briefs { AreBrief self.old → AreBrief self.new }
+        ensures others { (self.new.runways ≡ self.old.runways) × (self.new.taxi ≡ self.old.taxi) × (self.new.values ≡ self.old.values) }
+    {
+        let brief = Brief::of(&flight, &self.taxi);
+        let briefs = self.briefs.take();
+        let place = set_flight(alloc, &mut self.flights, flight)?;
+        self.briefs = briefs_with(alloc, briefs, place, brief);
+        Ok(())
+    }
+
+    /// Keeps the flights in brief, if they aren't, and if there is memory for it.
+    pub(super) fn keep_briefs(&mut self, alloc: Global)
+        ensures { AreSame self.old self.new }
+    {
+        if self.briefs.is_none() {
+            self.briefs = briefs_of(alloc, &self.flights, &self.taxi).ok();
+        }
+    }
+}
+
+// The flights in brief once more, shared, if they are kept.
+fn shared_briefs(briefs: &Option<Arc<Vec<Brief>>>) -> Result<Option<Arc<Vec<Brief>>>, AllocError>
+    ensures { IfOk result (λ shared. option_map (λ b. (arc_value b).items) shared ≡ option_map (λ b. (arc_value b).items) briefs.now) }
+{
+    match briefs {
+        Some(briefs) => Ok(Some(Arc::try_clone(briefs)?)),
+        None => Ok(None),
+    }
+}
+
+// Flights in brief, by a table of taxi times.
+fn briefs_of(
+    alloc: Global,
+    flights: &IndexMap<FlightName, Flight>,
+    taxi: &TaxiTable,
+) -> Result<Arc<Vec<Brief>>, AllocError>
+    ensures { IfOk result (λ briefs. (arc_value briefs).items ≡ map (brief_by taxi.now) (values flights.now)) }
+{
+    let briefs = flights
+        .values()
+        .map(|flight| Brief::of(flight, taxi))
+        .collect(alloc)?;
+    Arc::new(alloc, briefs)
+}
+
+// Puts a flight in brief at its place.
+fn put_brief(briefs: &mut Vec<Brief>, place: usize, brief: Brief) -> Result<(), AllocError>
+    ensures { OnOk result (briefs.new.items ≡ put_at briefs.old.items place brief) }
+{
+    if place < briefs.len() {
+        briefs[place] = brief;
+        return Ok(());
+    }
+    briefs.push(brief)?;
+    Ok(())
+}
+
+// The same where the flights in brief may be shared.
+fn set_brief(
+    alloc: Global,
+    briefs: &mut Arc<Vec<Brief>>,
+    place: usize,
+    brief: Brief,
+) -> Result<(), AllocError>
+    ensures { OnOk result ((arc_value briefs.new).items ≡ put_at (arc_value briefs.old).items place brief) }
+{
+    if let Some(own) = Arc::get_mut(briefs) {
+        return put_brief(own, place, brief);
+    }
+    let mut own = Vec::from_slice(alloc, briefs.as_slice())?;
+    put_brief(&mut own, place, brief)?;
+    *briefs = Arc::new(alloc, own)?;
+    Ok(())
+}
+
+// The flights in brief with one at its place, if they are kept and there is memory for it.
+fn briefs_with(
+    alloc: Global,
+    briefs: Option<Arc<Vec<Brief>>>,
+    place: usize,
+    brief: Brief,
+) -> Option<Arc<Vec<Brief>>>
+    ensures { IfSome result (λ after. IsSomeAnd briefs (λ before. (arc_value after).items ≡ put_at (arc_value before).items place brief)) }
+{
+    let mut briefs = briefs?;
+    match set_brief(alloc, &mut briefs, place, brief) {
+        Ok(()) => Some(briefs),
+        Err(_) => None,
+    }
+}
+
+// Sets the record of a flight, and returns its place.
 fn set_flight(
     alloc: Global,
     flights: &mut Arc<IndexMap<FlightName, Flight>>,
     flight: Flight,
-) -> Result<(), AllocError>
+) -> Result<usize, AllocError>
     ensures known { OnOk result (Sets (arc_value flights.old) (arc_value flights.new) flight) }
     ensures entries { OnOk result ((arc_value flights.new).entries ≡ insert_entry same_name (arc_value flights.old).entries flight.name flight) }
+    ensures place { IfOk result (λ place. place ≡ insert_index same_name (arc_value flights.old) flight.name) }
     ensures err { OnErr result ((arc_value flights.new).entries ≡ (arc_value flights.old).entries) }
 {
     if let Some(own) = Arc::get_mut(flights) {
-        own.insert(flight.name, flight)?;
-        return Ok(());
+        let (place, _) = own.insert_full(flight.name, flight)?;
+        return Ok(place);
     }
     let mut own = copy_flights(flights)?;
-    own.insert(flight.name, flight)?;
+    let (place, _) = own.insert_full(flight.name, flight)?;
     *flights = Arc::new(alloc, own)?;
-    Ok(())
+    Ok(place)
 }
 
 // A copy of the flights.

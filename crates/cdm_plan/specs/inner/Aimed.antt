@@ -5,7 +5,7 @@ use Rattle.std.specs.Option.{option_map_or}
 use Rattle.cdm_flight.specs.declared.values.DayValues.{DayValues}
 use Rattle.cdm_flight.specs.Names.{same_name}
 use Rattle.cdm_flight.specs.declared.flight.Flight.{Flight}
-use Rattle.cdm_sequence.specs.Aims.{TaxiTimes, IsAim}
+use Rattle.cdm_sequence.specs.Aims.{TaxiTimes, IsAim, own_exot}
 use Rattle.cdm_sequence.specs.Sequence.{flight_names}
 use Rattle.cdm_sequence.specs.Slots.{is_fixed}
 use Rattle.cdm_sequence.specs.declared.slot.Slot.{Slot}
@@ -18,6 +18,11 @@ use Rattle.cdm_plan.specs.declared.aimed.Aimed.{Aimed}
 pub record IsAimed (times : TaxiTimes) (values : DayValues) (f : Flight) (a : Aimed) : Type 0 where
   pub name : a.name ≡ f.name
   pub aim : IsAim f times values a.aim
+
+-- so by its taxi-out time to its runway, as any taxi times give it
+pub record IsAimedBy (values : DayValues) (f : Flight) (exot : Option ℕ) (a : Aimed) : Type 0 where
+  pub name : a.name ≡ f.name
+  pub aim : (times : TaxiTimes) → own_exot times f ≡ exot → IsAim f times values a.aim
 
 -- the flight has this runway
 abbrev pub is_on : List ℕ → Flight → Bool
