@@ -1,13 +1,13 @@
 //! Parts that tables may share. A change makes a part anew, unless flights or taxi times have one owner.
-ghost use Rattle.std.specs.Prelude.{◌≡◌, true, false, map, All, IfOk, IfSome, OnOk, OnErr};
-ghost use Rattle.std.specs.Option.{IsSomeAnd, option_map};
+ghost use Rattle.std.specs.Prelude.{◌≡◌, List, Some, true, false, map, slice_get, All, IfOk, OnOk, OnErr};
 ghost use Rattle.std.specs.Arc.{arc_value};
 ghost use Rattle.std.specs.FinMap as finite;
 ghost use Rattle.indexmap.specs.IndexMap.{insert_entry, insert_index, values};
 ghost use Rattle.cdm_flight.specs.Names.{same_name};
 ghost use Rattle.cdm_flight.specs.Taxi.{is_one_stand_too_many, stands_in};
 ghost use Rattle.cdm_day.specs.Changes.{has_window};
-ghost use Rattle.cdm_day.specs.inner.Briefs.{AreBrief, brief_by, put_at};
+ghost use Rattle.cdm_plan.specs.declared.brief.Brief.{Brief};
+ghost use Rattle.cdm_day.specs.inner.Briefs.{AreBrief, AreKeptAs, brief_by, put_at};
 ghost use Rattle.cdm_day.specs.inner.Put.{if_named};
 ghost use Rattle.cdm_day.specs.inner.Tables.{ArePut, AreSame, HasPlace, Sets};
 
@@ -87,6 +87,18 @@ impl Parts {
         Ok(())
     }
 
+    /// The flight at a place in brief.
+    pub(super) fn brief_at(&self, place: usize, flight: &Flight) -> Option<Brief>
+        requires briefs { AreBrief self.now }
+        requires flight { slice_get (values (arc_value self.now.flights)) place ≡ Some flight.now }
+        ensures { result ≡ Some (brief_by (arc_value self.now.taxi) flight.now) }
+    {
+        match &self.briefs {
+            Some(briefs) => briefs.get(place).copied(),
+            None => Some(Brief::of(flight, &self.taxi)),
+        }
+    }
+
     /// Keeps the flights in brief, if they aren't, and if there is memory for it.
     pub(super) fn keep_briefs(&mut self, alloc: Global)
         ensures { AreSame self.old self.new }
@@ -99,7 +111,7 @@ impl Parts {
 
 // The flights in brief once more, shared, if they are kept.
 fn shared_briefs(briefs: &Option<Arc<Vec<Brief>>>) -> Result<Option<Arc<Vec<Brief>>>, AllocError>
-    ensures { IfOk result (λ shared. option_map (λ b. (arc_value b).items) shared ≡ option_map (λ b. (arc_value b).items) briefs.now) }
+    ensures { IfOk result (λ shared. (kept : List Brief) → AreKeptAs briefs.now kept → AreKeptAs shared kept) }
 {
     match briefs {
         Some(briefs) => Ok(Some(Arc::try_clone(briefs)?)),
@@ -119,18 +131,18 @@ fn briefs_of(
         .values()
         .map(|flight| Brief::of(flight, taxi))
         .collect(alloc)?;
-    Arc::new(alloc, briefs)
+    let briefs = Arc::new(alloc, briefs)?;
+    Ok(briefs)
 }
 
 // Puts a flight in brief at its place.
 fn put_brief(briefs: &mut Vec<Brief>, place: usize, brief: Brief) -> Result<(), AllocError>
     ensures { OnOk result (briefs.new.items ≡ put_at briefs.old.items place brief) }
 {
-    if place < briefs.len() {
-        briefs[place] = brief;
-        return Ok(());
+    match briefs.get_mut(place) {
+        Some(known) => *known = brief,
+        None => briefs.push(brief)?,
     }
-    briefs.push(brief)?;
     Ok(())
 }
 
@@ -159,7 +171,7 @@ fn briefs_with(
     place: usize,
     brief: Brief,
 ) -> Option<Arc<Vec<Brief>>>
-    ensures { IfSome result (λ after. IsSomeAnd briefs (λ before. (arc_value after).items ≡ put_at (arc_value before).items place brief)) }
+    ensures { (kept : List Brief) → AreKeptAs briefs kept → AreKeptAs result (put_at kept place brief) }
 {
     let mut briefs = briefs?;
     match set_brief(alloc, &mut briefs, place, brief) {

@@ -4,6 +4,7 @@ ghost use Rattle.std.specs.Prelude.{◌≡◌, slice_get};
 use super::Laid;
 use cdm_day::Records;
 use cdm_flight::{DayValues, Flight, FlightName};
+use cdm_plan::Brief;
 use cdm_runway::Runway;
 use cdm_taxi::TaxiTable;
 
@@ -39,6 +40,20 @@ impl Records for Laid<'_> {
             };
         }
         self.flight(name_at(&self.new_flights, place - known)?)
+    }
+
+    // A flight of the base that no update changed is in brief as it was, unless a taxi time changed.
+    fn known_at(&self, place: usize) -> Option<(&Flight, Brief)> {
+        // What the base's table tells, it tells also with the updates, unless one of them is a TAXI.
+        let _taxi = self.base.taxi();
+        if let Some((first, brief)) = self.base.known_at(place)
+            && self.taxi.is_none()
+            && self.flights.get(&first.name).is_none()
+        {
+            return Some((first, brief));
+        }
+        let flight = self.flight_at(place)?;
+        Some((flight, Brief::of(flight, self.taxi())))
     }
 
     fn runways(&self) -> usize {

@@ -2,6 +2,7 @@
 use super::Overlay;
 use cdm_day::Records;
 use cdm_flight::{DayValues, Flight, FlightName};
+use cdm_plan::Brief;
 use cdm_runway::Runway;
 use cdm_taxi::TaxiTable;
 
@@ -18,6 +19,10 @@ impl Records for Overlay<'_> {
 
     fn flight_at(&self, place: usize) -> Option<&Flight> {
         self.laid.flight_at(place)
+    }
+
+    fn known_at(&self, place: usize) -> Option<(&Flight, Brief)> {
+        self.laid.known_at(place)
     }
 
     fn runways(&self) -> usize {

@@ -6,4 +6,4 @@ pub returns-clause-kept : goal.returns-clause-kept
 returns-clause-kept c =
     let s = c.self.inside in
     let since = c.in_ok-replies.ensures.since s.tables (since_itself s.tables c.none-touched.result) in
-    kept_since s.tables c.apply.new.self.tables c.apply.new.self.touched (arc_value s.plan) c.self.invariant since
+    rw c.keep_briefs.ensures (kept_since s.tables c.apply.new.self.tables c.apply.new.self.touched (arc_value s.plan) c.self.invariant since)

@@ -1,24 +1,26 @@
 use Rattle.std.proofs.Common.{refl, sym}
 use Rattle.std.proofs.lemmas.List.{map-id}
 use Rattle.cdm_plan.proofs.ListWords.{arc_value}
+use Rattle.cdm_day.proofs.BriefLemmas.{none}
 use Rattle.cdm_day.proofs.TableLemmas.{flight_in, where_both, where_ok}
 use Rattle.cdm_day.proofs.tables.parts.Parts.put.Goals as goal
 
 pub returns-in-NewFlight-clause-ok : goal.returns-in-NewFlight-clause-ok
 returns-in-NewFlight-clause-ok c =
     where_both c.set_flight.result c.set_flight.ensures.known c.set_flight.ensures.entries
-    (λ set entries. flight_in c.args.self.now _ c.args.change c.in-NewFlight.flight c.in-NewFlight.is set entries refl refl refl)
+    (λ set entries. flight_in c.args.self.now c.set_flight.new.self c.args.change c.in-NewFlight.flight c.in-NewFlight.is set entries
+    c.set_flight.ensures.others.0 c.set_flight.ensures.others.1 c.set_flight.ensures.others.2 c.set_flight.ensures.briefs)
 
 pub returns-in-Runway-clause-ok : goal.returns-in-Runway-clause-ok
 returns-in-Runway-clause-ok c =
     where_ok c.change_runways.result c.change_runways.ensures.ok
-    (λ changed. rw c.in-Runway.is (record { flights = λ f. refl; entries = refl; runways = changed; taxi = refl; values = refl }))
+    (λ changed. rw c.in-Runway.is (record { flights = λ f. refl; entries = refl; runways = changed; taxi = refl; values = refl; briefs = λ kept. kept }))
 
 pub returns-in-TaxiRow-clause-ok : goal.returns-in-TaxiRow-clause-ok
 returns-in-TaxiRow-clause-ok c =
     where_ok c.change_taxi.result c.change_taxi.ensures.ok
-    (λ set. rw c.in-TaxiRow.is (record { flights = λ f. refl; entries = refl; runways = sym (map-id (arc_value c.args.self.now.runways).items); taxi = set; values = refl }))
+    (λ set. rw c.in-TaxiRow.is (record { flights = λ f. refl; entries = refl; runways = sym (map-id (arc_value c.args.self.now.runways).items); taxi = set; values = refl; briefs = λ kept. none }))
 
 pub returns-in-Values-clause-ok : goal.returns-in-Values-clause-ok
 returns-in-Values-clause-ok c =
-    rw c.in-Values.is (record { flights = λ f. refl; entries = refl; runways = sym (map-id (arc_value c.args.self.now.runways).items); taxi = refl; values = refl })
+    rw c.in-Values.is (record { flights = λ f. refl; entries = refl; runways = sym (map-id (arc_value c.args.self.now.runways).items); taxi = refl; values = refl; briefs = λ kept. kept })
