@@ -19,11 +19,10 @@ use Rattle.cdm_flight.specs.declared.values.DayValues.{DayValues}
 use Rattle.cdm_flight.specs.Names.{same_name}
 use Rattle.cdm_flight.specs.declared.flight.Flight.{Flight}
 use Rattle.cdm_flight.specs.Taxi.{TaxiRows, is_one_stand_too_many, stands_in}
-use Rattle.cdm_flight.specs.Journal.{AirportRows, flight_of, runway_row, taxi_of, values_of}
+use Rattle.cdm_flight.specs.Journal.{AirportRows, flight_of, runway_row, values_of}
 use Rattle.cdm_flight.specs.Accepted.{refusal_of}
 use Rattle.cdm_flight.proofs.JournalLemmas.{same_name-refl}
 use Rattle.cdm_runway.specs.Rules.{RunwayRules}
-use Rattle.cdm_plan.specs.Brief.{brief_of}
 use Rattle.cdm_plan.specs.Day.{DayRecord, flights_in, rules_of}
 use Rattle.cdm_plan.specs.DayPlan.{IsRunwayAt}
 use Rattle.cdm_plan.specs.Kept.{IsSince, is_touched, is_untouched}
@@ -186,7 +185,7 @@ module _ {g : AirportRows} {a e : List Update} {m : Flights} {new : List (List �
       → None ≡ option_and_then (flight_of d.airport d.journal) (slice_get (flights_in d.journal) i)
   no_old_flight {d} is sound i below at = ap (option_and_then (flight_of d.airport d.journal)) (old_name is sound i below None at)
 
-  -- A flight of the base that has no record of its own is as it was, and in brief too, unless there are taxi times of its own.
+  -- A flight of the base that has no record of its own is as it was.
 
   pub flight_left : {d : DayRecord} → record { airport = g; journal = e } ≡ d → IsSound (record { airport = g; journal = a }) → (i : ℕ) → (r : Flight)
       → Some r ≡ option_and_then (flight_of g a) (slice_get (flights_in a) i) → get same_name m r.name ≡ None
@@ -196,12 +195,6 @@ module _ {g : AirportRows} {a e : List Update} {m : Flights} {new : List (List �
       within : (o : Option (List ℕ)) → slice_get (flights_in a) i ≡ o → Some r ≡ option_and_then (flight_of g a) o → i < length (flights_in a)
       within None h k = cc
       within (Some n) h k = slice_get_within (flights_in a) i n h
-
-  pub brief_left : {d : DayRecord} → record { airport = g; journal = e } ≡ d → rows ≡ None → (base : TaxiRows) → TellTaxi g a base → (f : Flight)
-      → brief_of (taxi_of g a) f ≡ brief_of (taxi_of d.airport d.journal) f
-  brief_left {d} is none base tell f =
-      let over = subst (TaxiOver g a e) none told.taxi base tell in
-      (λ i. brief_of (λ place r. (sym (tell.minutes place r) ∙ over.minutes place r) i) f) ∙ ap (λ (x : DayRecord). brief_of (taxi_of x.airport x.journal) f) is
 
   -- What a change that is put in leaves.
 
