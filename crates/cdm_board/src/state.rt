@@ -23,12 +23,22 @@ pub const MOST_BATCH_UPDATES: usize = 256;
 /// The board that one thread would have: a day, and the history of the calls on it. A contract sees the
 /// airport and the journal from which it began and the calls since; its day is the one that these calls
 /// make, and every answer in it is the one that a day gives there.
-#[derive(Drop)]
 pub struct BoardState {
     // How many updates of the day's journal were there when the board began.
     opened: usize,
     day: DayState,
     entries: Vec<Entry>,
+}
+
+// One call drops it, in place of its fields one by one at each exit of each function that owns it.
+impl Drop for BoardState {
+    fn drop(self) {
+        let BoardState {
+            opened: _,
+            day: _,
+            entries: _,
+        } = self;
+    }
 }
 
 impl Model for BoardState {

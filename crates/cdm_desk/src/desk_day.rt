@@ -7,10 +7,16 @@ use std::marker::Model;
 /// One desk: a day that takes records one at a time. Once it has taken one it has the day twice, each with its own
 /// parts, so that a record changes the one where it is, and the other tells what was before. A contract sees the day
 /// alone.
-#[derive(Drop)]
 pub struct DeskDay {
     pub(crate) state: DayState,
     pub(crate) spare: Option<DayState>,
+}
+
+// One call drops it, in place of its fields one by one at each exit of each function that owns it.
+impl Drop for DeskDay {
+    fn drop(self) {
+        let DeskDay { state: _, spare: _ } = self;
+    }
 }
 
 impl Model for DeskDay {

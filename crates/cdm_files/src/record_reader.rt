@@ -8,10 +8,19 @@ use std::alloc::{AllocError, Global};
 use std::marker::Model;
 
 /// Reads the records of a text. A contract sees the records that are left.
-#[derive(Drop)]
 pub struct RecordReader<'a> {
     reader: Reader<&'a [u8]>,
     ended: bool,
+}
+
+// One call drops it, in place of its fields one by one at each exit of each function that owns it.
+impl Drop for RecordReader<'_> {
+    fn drop(self) {
+        let RecordReader {
+            reader: _,
+            ended: _,
+        } = self;
+    }
 }
 
 impl<'a> Model for RecordReader<'a> {

@@ -30,13 +30,26 @@ impl From<AllocError> for RunwayFault {
 
 /// A runway: its name, the length of its cells, how many flights each cell takes, the minutes at
 /// which it is closed, and for how long a departure of each group occupies it.
-#[derive(Debug, Drop)]
+#[derive(Debug)]
 pub struct Runway {
     name: RunwayName,
     cell: CellLength,
     caps: Intervals<Cap>,
     closed: Intervals<bool>,
     spacing: Spacing,
+}
+
+// One call drops it, in place of its fields one by one at each exit of each function that owns it.
+impl Drop for Runway {
+    fn drop(self) {
+        let Runway {
+            name: _,
+            cell: _,
+            caps: _,
+            closed: _,
+            spacing: _,
+        } = self;
+    }
 }
 
 impl Model for Runway {

@@ -32,12 +32,22 @@ fn note<R: Records>(touched: &mut Touched, records: &R, update: &Update)
 
 /// The state of a day with further updates. It borrows the state and leaves it as it is, and knows which runways the
 /// updates touch: on the others the plan of the day stands. A contract sees the airport and the longer journal alone.
-#[derive(Drop)]
 pub struct Overlay<'a> {
     base: &'a DayState,
     laid: Laid<'a>,
     // The runways that the updates touched.
     touched: Touched,
+}
+
+// One call drops it, in place of its fields one by one at each exit of each function that owns it.
+impl Drop for Overlay<'_> {
+    fn drop(self) {
+        let Overlay {
+            base: _,
+            laid: _,
+            touched: _,
+        } = self;
+    }
 }
 
 impl<'a> Model for Overlay<'a> {

@@ -16,11 +16,20 @@ use std::marker::Model;
 const ROOM: (usize, usize) = (160, 14);
 
 /// The fields of a row. A contract sees the list of them.
-#[derive(Drop)]
 pub(crate) struct Fields {
     record: ByteRecord,
     // The digits of a number, while they become a field.
     digits: String,
+}
+
+// One call drops it, in place of its fields one by one at each exit of each function that owns it.
+impl Drop for Fields {
+    fn drop(self) {
+        let Fields {
+            record: _,
+            digits: _,
+        } = self;
+    }
 }
 
 impl Model for Fields {
@@ -93,9 +102,15 @@ impl Fields {
 
 /// Writes rows of one length: commas between fields, quotes where they are needed, and each row ended by LF. A
 /// contract sees what it has written.
-#[derive(Drop)]
 pub(crate) struct RowWriter {
     writer: Writer<Vec<u8>>,
+}
+
+// One call drops it, in place of the writer's fields one by one at each exit of each function that owns it.
+impl Drop for RowWriter {
+    fn drop(self) {
+        let RowWriter { writer: _ } = self;
+    }
 }
 
 impl Model for RowWriter {
@@ -107,6 +122,14 @@ impl Model for RowWriter {
     ghost view = { λ w. written w.writer };
 
     ghost invariant = { λ w. IsBetweenRows w.writer };
+}
+
+// A writer that has written nothing.
+fn fresh(alloc: Global) -> Writer<Vec<u8>>
+    ensures between { IsBetweenRows result }
+    ensures text { written result ≡ [] }
+{
+    WriterBuilder::new().from_writer(Vec::new(alloc))
 }
 
 // Writes a row, with all that the writer holds back.
@@ -125,7 +148,7 @@ impl RowWriter {
         ensures { result ≡ [] }
     {
         RowWriter {
-            writer: WriterBuilder::new().from_writer(Vec::new(alloc)),
+            writer: fresh(alloc),
         }
     }
 
@@ -140,7 +163,7 @@ impl RowWriter {
     {
         let begin = self.writer.get_ref().len();
         if write_row(&mut self.writer, &fields.record).is_err() {
-            *self = RowWriter::new(alloc);
+            self.writer = fresh(alloc);
             return Err(AllocError);
         }
         let written = self.writer.get_ref().as_slice();

@@ -36,11 +36,21 @@ impl From<AllocError> for TaxiFault {
 
 /// The taxi times from places to runways, one at most for each place and runway (the manual's
 /// variable taxi times).
-#[derive(Debug, Drop)]
+#[derive(Debug)]
 pub struct TaxiTable {
     minutes: BTreeMap<(Place, RunwayName), TaxiMinutes>,
     // The stands that have taxi times.
     stands: BTreeSet<StandName>,
+}
+
+// One call drops it, in place of its fields one by one at each exit of each function that owns it.
+impl Drop for TaxiTable {
+    fn drop(self) {
+        let TaxiTable {
+            minutes: _,
+            stands: _,
+        } = self;
+    }
 }
 
 impl Model for TaxiTable {

@@ -25,7 +25,7 @@ returns-in_ok-text-in-Ok c =
     let before : AreDayRows base own = record { plan = c.plan-known.result.now; of_day = c.plan-known.ensures.of_day; are_rows = c.in_ok-before-in-Ok.ensures.all } in
     let after : AreDayRows next moved = record { plan = plan; of_day = of_day; are_rows = rows } in
     let text : c.in_ok-text-in-Ok.text.items ≡ flat_map (change_line base.airport.day own moved) changed =
-    c.in_ok-text-in-Ok.ensures ∙ (λ i. flat_map (change_line (c.day-in-Ok.ensures i) own moved) (c.deref.ensures.value i)) in
+    c.in_ok-text-in-Ok.ensures ∙ (λ i. flat_map (change_line (c.day.ensures i) own moved) (c.deref.ensures.value i)) in
     (Ok (counts_of plan, changed), (plan, (laid.0, of_day, refl), differ), (own, before, moved, after, text))
 
 pub returns-in-Err : goal.returns-in-Err

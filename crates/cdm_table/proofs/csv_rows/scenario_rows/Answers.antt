@@ -20,11 +20,11 @@ returns-in_ok-text-in-Ok c =
     let made = c.in_ok-rows-in-Ok.rows in
     let rows : AreRows (with_updates base us) plan made = rw laid.1 at c.in_ok-rows-in-Ok.ensures.all in
     let text : c.in_ok-text-in-Ok.text.items ≡ flights_text base.airport.day c.args.scenario.now.name made =
-    c.in_ok-text-in-Ok.ensures ∙ (λ i. flights_text (c.day-in-Ok.ensures i) (c.name-name.ensures i) made) in
+    c.in_ok-text-in-Ok.ensures ∙ (λ i. flights_text (c.day.ensures i) (c.name-name.ensures i) made) in
     (Planned plan (counts_of plan), (laid.0, of_day, refl), (made, rows, text))
 
 pub flight_rows-requires : goal.flight_rows-requires
-flight_rows-requires c = subst (λ (day : CalendarDate). All (IsOwnRow (csv_row day)) c.args.own.now) (sym c.day-in-Ok.ensures) c.requires
+flight_rows-requires c = subst (λ (day : CalendarDate). All (IsOwnRow (csv_row day)) c.args.own.now) (sym c.day.ensures) c.requires
 
 pub returns-in_ok-text-in-Err : goal.returns-in_ok-text-in-Err
 returns-in_ok-text-in-Err c =
