@@ -112,34 +112,45 @@ pub fn command_of<'a, S: AsStr>(
     alloc: Global,
     words: &'a [S],
 ) -> Result<Command<'a>, CommandFault> {
-    let matches = match parser(alloc)?.try_get_matches_from(words) {
-        Ok(matches) => matches,
-        Err(error) => return told(alloc, &error),
-    };
-    let command = match matches.subcommand() {
-        Some(("plan", plan)) => plan_of(plan),
-        Some(("compare", compare)) => compare_of(alloc, compare)?,
-        Some(("trace", trace)) => trace_of(alloc, trace)?,
-        Some(("serve", serve)) => serve_of(alloc, serve)?,
-        Some(("picture", picture)) => picture_of(picture),
-        Some(("live", live)) => live_of(live),
-        Some(("check", check)) => check_of(check),
-        Some(("why", why)) => why_of(alloc, why)?,
-        Some(("load", load)) => load_of(alloc, load)?,
-        Some(("next", next)) => next_of(alloc, next)?,
-        Some(("warnings", words)) => shift_of(alloc, words, ShiftQuestion::Warnings)?,
-        Some(("causes", words)) => shift_of(alloc, words, ShiftQuestion::Causes(group_by(words)))?,
-        Some(("kinds", kinds)) => Some(Command::Kinds(format_of(kinds))),
-        Some((_, help)) => Some(help_of(alloc, help.get_str("COMMAND"))?),
-        None => None,
-    };
-    match command {
+    match parser(alloc)?.try_get_matches_from(words) {
+        Ok(matches) => command_in(alloc, &matches),
+        Err(error) => told(alloc, &error),
+    }
+}
+
+// The command of these matches, which reads standard input once at most.
+fn command_in<'a>(alloc: Global, matches: &ArgMatches<'a>) -> Result<Command<'a>, CommandFault> {
+    match named_in(alloc, matches)? {
         Some(command) if command.has_standard_input_twice() => Err(wrong_words(
             alloc,
             "only one of the files can be '-' (standard input)",
         )?),
         Some(command) => Ok(command),
         None => Err(wrong_words(alloc, "the command is not complete")?),
+    }
+}
+
+// The command that the matches name, with its words.
+fn named_in<'a>(
+    alloc: Global,
+    matches: &ArgMatches<'a>,
+) -> Result<Option<Command<'a>>, CommandFault> {
+    match matches.subcommand() {
+        Some(("plan", plan)) => Ok(plan_of(plan)),
+        Some(("compare", compare)) => compare_of(alloc, compare),
+        Some(("trace", trace)) => trace_of(alloc, trace),
+        Some(("serve", serve)) => serve_of(alloc, serve),
+        Some(("picture", picture)) => Ok(picture_of(picture)),
+        Some(("live", live)) => Ok(live_of(live)),
+        Some(("check", check)) => Ok(check_of(check)),
+        Some(("why", why)) => why_of(alloc, why),
+        Some(("load", load)) => load_of(alloc, load),
+        Some(("next", next)) => next_of(alloc, next),
+        Some(("warnings", words)) => shift_of(alloc, words, ShiftQuestion::Warnings),
+        Some(("causes", words)) => shift_of(alloc, words, ShiftQuestion::Causes(group_by(words))),
+        Some(("kinds", kinds)) => Ok(Some(Command::Kinds(format_of(kinds)))),
+        Some((_, help)) => Ok(Some(help_of(alloc, help.get_str("COMMAND"))?)),
+        None => Ok(None),
     }
 }
 
@@ -158,8 +169,8 @@ fn told<'a>(alloc: Global, error: &ParseError) -> Result<Command<'a>, CommandFau
 fn help_of<'a>(alloc: Global, name: Option<&str>) -> Result<Command<'a>, CommandFault> {
     let Some(name) = name else {
         let manual = manual(alloc)?;
-        let help = parser(alloc)?.after_help(&manual).render_help()?;
-        return Ok(Command::Print(help));
+        let help = parser(alloc)?.after_help(&manual).render_help();
+        return Ok(Command::Print(help?));
     };
     match parser(alloc)?.try_get_matches_from(&[name, "--help"]) {
         Err(error) => told(alloc, &error),

@@ -25,6 +25,20 @@ const TEXT_OR_JSON: &str = "text, or json for programs";
 /// What scenarios are, where they are answered.
 const OVER_THE_FEED: &str = "What-if scenarios, each answered over the feed";
 
+// A word that has to be there.
+fn required_arg<'a>(alloc: Global, name: &'a str, help: &'a str) -> Arg<'a> {
+    Arg::new(alloc, name).required(true).help(help)
+}
+
+// The airport file.
+fn airport_arg<'a>(alloc: Global) -> Arg<'a> {
+    required_arg(
+        alloc,
+        "AIRPORT",
+        "Airport file: the day, the runways, the taxi times",
+    )
+}
+
 // The scenario file of a plan.
 fn scenarios_arg<'a>(alloc: Global, help: &'a str) -> Arg<'a> {
     Arg::new(alloc, "scenarios")
@@ -79,13 +93,9 @@ fn workers_arg<'a>(alloc: Global) -> Arg<'a> {
 
 // The words that `compare` takes.
 fn compare_parser<'a>(alloc: Global) -> Result<Parser<'a>, AllocError> {
-    let scenarios = Arg::new(alloc, "SCENARIOS")
-        .required(true)
-        .help(OVER_THE_FEED);
-    let name = Arg::new(alloc, "NAME").help("One scenario, to see what changes by it");
     day_parser(alloc, "compare", COMPARE_ABOUT, COMPARE_EXAMPLE)?
-        .arg(scenarios)?
-        .arg(name)?
+        .arg(required_arg(alloc, "SCENARIOS", OVER_THE_FEED))?
+        .arg(Arg::new(alloc, "NAME").help("One scenario, to see what changes by it"))?
         .arg(format_arg(alloc, TABLE_FORMATS, "text, csv: a row a line, or json"))?
         .arg(workers_arg(alloc))
 }
@@ -99,21 +109,16 @@ fn picture_parser<'a>(alloc: Global) -> Result<Parser<'a>, AllocError> {
 
 // The words that `live` takes.
 fn live_parser<'a>(alloc: Global) -> Result<Parser<'a>, AllocError> {
-    let airport = Arg::new(alloc, "AIRPORT")
-        .required(true)
-        .help("Airport file: the day, the runways, the taxi times");
-    let feed1 = Arg::new(alloc, "FEED1")
-        .required(true)
-        .help("Feed of the first desk, in the order of its updates");
-    let feed2 = Arg::new(alloc, "FEED2")
-        .required(true)
-        .help("Feed of the second desk");
     Parser::new(alloc, "live")
         .about(LIVE_ABOUT)
         .after_help(LIVE_EXAMPLE)
-        .arg(airport)?
-        .arg(feed1)?
-        .arg(feed2)
+        .arg(airport_arg(alloc))?
+        .arg(required_arg(
+            alloc,
+            "FEED1",
+            "Feed of the first desk, in the order of its updates",
+        ))?
+        .arg(required_arg(alloc, "FEED2", "Feed of the second desk"))
 }
 
 // A command about the day of a feed at an airport, with an example.
@@ -123,17 +128,15 @@ fn day_parser<'a>(
     about: &'a str,
     example: &'a str,
 ) -> Result<Parser<'a>, AllocError> {
-    let airport = Arg::new(alloc, "AIRPORT")
-        .required(true)
-        .help("Airport file: the day, the runways, the taxi times");
-    let feed = Arg::new(alloc, "FEED")
-        .required(true)
-        .help("Feed of updates, in the order in which they came");
     Parser::new(alloc, name)
         .about(about)
         .after_help(example)
-        .arg(airport)?
-        .arg(feed)
+        .arg(airport_arg(alloc))?
+        .arg(required_arg(
+            alloc,
+            "FEED",
+            "Feed of updates, in the order in which they came",
+        ))
 }
 
 // The words of a question of a day or of a scenario over it, behind those that are the question's own.
@@ -146,27 +149,25 @@ fn question_parser<'a>(parser: Parser<'a>, alloc: Global) -> Result<Parser<'a>, 
 
 // The words that `why` takes.
 fn why_parser<'a>(alloc: Global) -> Result<Parser<'a>, AllocError> {
-    let flight = Arg::new(alloc, "FLIGHT")
-        .required(true)
-        .help("The flight that is asked for");
-    let parser = day_parser(alloc, "why", WHY_ABOUT, WHY_EXAMPLE)?.arg(flight)?;
-    question_parser(parser, alloc)
+    let parser = day_parser(alloc, "why", WHY_ABOUT, WHY_EXAMPLE)?;
+    let flight = required_arg(alloc, "FLIGHT", "The flight that is asked for");
+    question_parser(parser.arg(flight)?, alloc)
 }
 
 // The words that `load` takes.
 fn load_parser<'a>(alloc: Global) -> Result<Parser<'a>, AllocError> {
+    let parser = day_parser(alloc, "load", LOAD_ABOUT, LOAD_EXAMPLE)?;
     let runway = Arg::new(alloc, "RUNWAY").help("One runway alone");
-    let parser = day_parser(alloc, "load", LOAD_ABOUT, LOAD_EXAMPLE)?.arg(runway)?;
-    question_parser(parser, alloc)
+    question_parser(parser.arg(runway)?, alloc)
 }
 
 // The words that `next` takes.
 fn next_parser<'a>(alloc: Global) -> Result<Parser<'a>, AllocError> {
+    let parser = day_parser(alloc, "next", NEXT_ABOUT, NEXT_EXAMPLE)?;
     let minutes = Arg::new(alloc, "MINUTES")
         .value_parser(value_parser!(usize).range(1..=2880))
         .help("How far ahead, 1 to 2880 minutes; 60 without it");
-    let parser = day_parser(alloc, "next", NEXT_ABOUT, NEXT_EXAMPLE)?.arg(minutes)?;
-    question_parser(parser, alloc)
+    question_parser(parser.arg(minutes)?, alloc)
 }
 
 // The words that `warnings` takes.
@@ -177,42 +178,41 @@ fn warnings_parser<'a>(alloc: Global) -> Result<Parser<'a>, AllocError> {
 
 // The words that `causes` takes.
 fn causes_parser<'a>(alloc: Global) -> Result<Parser<'a>, AllocError> {
+    let parser = day_parser(alloc, "causes", CAUSES_ABOUT, CAUSES_EXAMPLE)?;
     let by = Arg::new(alloc, "by")
         .long("by")
         .value_name("GROUP")
         .value_parser(GROUPS)
         .hide_possible_values(true)
         .help("runway or operator: a line for each of them");
-    let parser = day_parser(alloc, "causes", CAUSES_ABOUT, CAUSES_EXAMPLE)?.arg(by)?;
-    question_parser(parser, alloc)
+    question_parser(parser.arg(by)?, alloc)
 }
 
 // The words that `trace` takes.
 fn trace_parser<'a>(alloc: Global) -> Result<Parser<'a>, AllocError> {
-    let flight = Arg::new(alloc, "FLIGHT").help("One flight alone, with the records that move it");
+    let parser = day_parser(alloc, "trace", TRACE_ABOUT, TRACE_EXAMPLE)?.arg(Arg::new(
+        alloc, "FLIGHT",
+    ).help("One flight alone, with the records that move it"))?;
     let since = Arg::new(alloc, "since")
         .long("since")
         .value_name("TIME")
         .help("From the first record that made it this time or later");
-    day_parser(alloc, "trace", TRACE_ABOUT, TRACE_EXAMPLE)?
-        .arg(flight)?
+    parser
         .arg(since)?
         .arg(format_arg(alloc, FORMATS, TEXT_OR_JSON))
 }
 
 // The words that `serve` takes.
 fn serve_parser<'a>(alloc: Global) -> Result<Parser<'a>, AllocError> {
-    let airport = Arg::new(alloc, "AIRPORT")
-        .required(true)
-        .help("Airport file: the day, the runways, the taxi times");
-    let journal = Arg::new(alloc, "JOURNAL")
-        .required(true)
-        .help("File of the accepted records, made if it isn't there");
     Parser::new(alloc, "serve")
         .about(SERVE_ABOUT)
         .after_help(SERVE_EXAMPLE)
-        .arg(airport)?
-        .arg(journal)?
+        .arg(airport_arg(alloc))?
+        .arg(required_arg(
+            alloc,
+            "JOURNAL",
+            "File of the accepted records, made if it isn't there",
+        ))?
         .arg(format_arg(alloc, FORMATS, TEXT_OR_JSON))
 }
 
@@ -227,17 +227,25 @@ fn kinds_parser<'a>(alloc: Global) -> Result<Parser<'a>, AllocError> {
 
 // The words that `help` takes.
 fn help_parser<'a>(alloc: Global) -> Result<Parser<'a>, AllocError> {
-    let command = Arg::new(alloc, "COMMAND").help("The command whose help is asked for");
     Parser::new(alloc, "help")
         .about(HELP_ABOUT)
         .after_help(HELP_EXAMPLE)
         .visible_alias("manual")?
-        .arg(command)
+        .arg(Arg::new(alloc, "COMMAND").help("The command whose help is asked for"))
+}
+
+// The program's words with those of one more command. A parser has many fields, so dropping one is dear to prove: where a
+// command fails, only this call drops it.
+fn with<'a>(
+    parser: Parser<'a>,
+    command: Result<Parser<'a>, AllocError>,
+) -> Result<Parser<'a>, AllocError> {
+    parser.subcommand(command?)
 }
 
 /// The words that the program takes.
 pub(crate) fn parser<'a>(alloc: Global) -> Result<Parser<'a>, AllocError> {
-    Parser::new(alloc, "cdmseq")
+    let parser = Parser::new(alloc, "cdmseq")
         .bin_name("cdmseq")?
         .version(VERSION)
         .about(ABOUT)
@@ -245,19 +253,19 @@ pub(crate) fn parser<'a>(alloc: Global) -> Result<Parser<'a>, AllocError> {
         .no_binary_name(true)
         .disable_help_subcommand(true)
         .subcommand_required(true)
-        .arg_required_else_help(true)
-        .subcommand(plan_parser(alloc)?)?
-        .subcommand(next_parser(alloc)?)?
-        .subcommand(warnings_parser(alloc)?)?
-        .subcommand(causes_parser(alloc)?)?
-        .subcommand(compare_parser(alloc)?)?
-        .subcommand(why_parser(alloc)?)?
-        .subcommand(load_parser(alloc)?)?
-        .subcommand(trace_parser(alloc)?)?
-        .subcommand(picture_parser(alloc)?)?
-        .subcommand(live_parser(alloc)?)?
-        .subcommand(serve_parser(alloc)?)?
-        .subcommand(check_parser(alloc)?)?
-        .subcommand(kinds_parser(alloc)?)?
-        .subcommand(help_parser(alloc)?)
+        .arg_required_else_help(true);
+    let parser = with(parser, plan_parser(alloc))?;
+    let parser = with(parser, next_parser(alloc))?;
+    let parser = with(parser, warnings_parser(alloc))?;
+    let parser = with(parser, causes_parser(alloc))?;
+    let parser = with(parser, compare_parser(alloc))?;
+    let parser = with(parser, why_parser(alloc))?;
+    let parser = with(parser, load_parser(alloc))?;
+    let parser = with(parser, trace_parser(alloc))?;
+    let parser = with(parser, picture_parser(alloc))?;
+    let parser = with(parser, live_parser(alloc))?;
+    let parser = with(parser, serve_parser(alloc))?;
+    let parser = with(parser, check_parser(alloc))?;
+    let parser = with(parser, kinds_parser(alloc))?;
+    with(parser, help_parser(alloc))
 }
