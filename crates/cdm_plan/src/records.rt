@@ -8,7 +8,7 @@ use cdm_taxi::TaxiTable;
 /// What an airport and accepted updates say of flights, runways, taxi times and the whole day. No call
 /// takes memory.
 pub trait Records {
-    ghost use Rattle.std.specs.Prelude.{◌≡◌, length, slice_get, IfSome};
+    ghost use Rattle.std.specs.Prelude.{◌≡◌, ℕ, length, slice_get, IfSome, Some};
     ghost use Rattle.std.specs.Option.{option_and_then, option_copied, option_map};
     ghost use Rattle.cdm_flight.specs.Journal.{flight_of, taxi_of, values_of};
     ghost use Rattle.cdm_plan.specs.Brief.{brief_of};
@@ -41,6 +41,13 @@ pub trait Records {
         ensures flight { let d = day self.now in
             option_map (λ k. k.0.now) result ≡ option_and_then (flight_of d.airport d.journal) (slice_get (flights_in d.journal) place) }
         ensures brief { let d = day self.now in IfSome result (λ k. k.1 ≡ brief_of (taxi_of d.airport d.journal) k.0.now) };
+
+    /// The first of these flights in brief, as many as are kept so.
+    fn briefs(&self) -> &[Brief]
+        ensures sound { IsSound (day self.now) }
+        ensures each { let d = day self.now in (place : ℕ) → IfSome (slice_get result.now place) (λ brief.
+            option_map (brief_of (taxi_of d.airport d.journal))
+                (option_and_then (flight_of d.airport d.journal) (slice_get (flights_in d.journal) place)) ≡ Some brief) };
 
     /// How many runways there are.
     fn runways(&self) -> usize

@@ -1,7 +1,7 @@
 //! What there is to do for the plan of a day.
-ghost use Rattle.std.specs.Prelude.{◌≡◌, ◌+◌, ◌<◌, ◌≤◌, ◌++◌, ◌∷◌, [], filter, map, All, IfOk, OnOk, vec_len, vec_capacity};
+ghost use Rattle.std.specs.Prelude.{◌≡◌, ◌+◌, ◌<◌, ◌≤◌, ◌++◌, ◌∷◌, [], false, not, filter, map, slice_get, All, IfOk, OnOk, vec_len, vec_capacity};
 ghost use Rattle.std.specs.List.{cons_option};
-ghost use Rattle.std.specs.Option.{option_copied};
+ghost use Rattle.std.specs.Option.{option_copied, option_map_or};
 ghost use Rattle.cdm_flight.specs.Journal.{taxi_of};
 ghost use Rattle.cdm_sequence.specs.Aims.{TaxiTimes, own_exot};
 ghost use Rattle.cdm_plan.specs.Brief.{counted_on};
@@ -72,6 +72,17 @@ fn push_touched<'a>(
     }
 }
 
+// Whether the flight at a place is kept in brief, and counts on a runway that wasn't touched.
+#[inline(always)]
+fn stands(briefs: &[Brief], touched: &Touched, place: usize) -> bool
+    ensures { result ≡ option_map_or (λ b. option_map_or (λ r. not (is_touched touched.now r)) b.runway false) (slice_get briefs.now place) false }
+{
+    match briefs.get(place) {
+        Some(brief) => touched.keeps(brief.runway),
+        None => false,
+    }
+}
+
 // The flights that count on no runway and those of the touched runways, in the order of first appearance: those that have left
 // their stands or won't depart, and those that are asked.
 fn touched_flights<'a, R: Records>(
@@ -89,7 +100,11 @@ fn touched_flights<'a, R: Records>(
     let known = records.flights();
     let mut gone = Vec::with_capacity(alloc, known)?;
     let mut asked = Vec::with_capacity(alloc, known)?;
+    let briefs = records.briefs();
     for place in 0..known {
+        if stands(briefs, touched, place) {
+            continue;
+        }
         let Some((flight, brief)) = records.known_at(place) else {
             continue;
         };

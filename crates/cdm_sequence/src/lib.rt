@@ -9,6 +9,7 @@ mod laws;
 mod plan;
 mod rule;
 mod sequencing;
+mod shared;
 mod slot;
 mod target;
 mod turns;
@@ -22,5 +23,6 @@ pub use laws::{
 pub use plan::{Plan, RunwayPlan};
 pub use rule::Rule;
 pub use sequencing::sequence;
+pub use shared::SharedList;
 pub use slot::{BlockedFlight, Mark, Slot};
 pub use target::Target;

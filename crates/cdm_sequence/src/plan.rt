@@ -1,18 +1,18 @@
 //! The plans of a runway and of a day.
 ghost use Rattle.std.specs.Prelude.{◌≡◌, IfOk};
 
-use crate::{BlockedFlight, Slot};
+use crate::{BlockedFlight, SharedList, Slot};
 use cdm_flight::{Listed, RunwayName};
 use cdm_time::Minute;
 use std::alloc::{AllocError, Global};
 use std::marker::Model;
 
 /// The plan of one runway: its slots by TTOT and then by name, and its blocked flights by name. It
-/// has at most 2,000 flights.
+/// has at most 2,000 flights. The slots may be shared with the plans of other days.
 #[derive(Debug, Drop)]
 pub struct RunwayPlan {
     pub runway: RunwayName,
-    pub slots: Listed<Slot>,
+    pub slots: SharedList<Slot>,
     pub blocked: Listed<BlockedFlight>,
 }
 
@@ -29,15 +29,15 @@ impl Model for RunwayPlan {
 }
 
 impl RunwayPlan {
-    /// The same plan once more.
+    /// The same plan once more, which shares the slots.
     pub fn copy(&self, alloc: Global) -> Result<RunwayPlan, AllocError>
         ensures { IfOk result (λ p. p ≡ self.now) }
     {
-        let slots = Vec::from_slice(alloc, self.slots.as_slice())?;
+        let slots = self.slots.share()?;
         let blocked = Vec::from_slice(alloc, self.blocked.as_slice())?;
         Ok(RunwayPlan {
             runway: self.runway,
-            slots: Listed::new(slots),
+            slots,
             blocked: Listed::new(blocked),
         })
     }

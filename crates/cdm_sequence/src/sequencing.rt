@@ -12,7 +12,7 @@ ghost use Rattle.cdm_sequence.specs.inner.Turns.{blocked_from, placed_at};
 
 use crate::decision::Decision;
 use crate::turns::{decide_all, in_order, take_fixed};
-use crate::{BlockedFlight, RunwayPlan, Slot, Target};
+use crate::{BlockedFlight, RunwayPlan, SharedList, Slot, Target};
 use cdm_flight::{Listed, RunwayName};
 use cdm_runway::{Runway, RunwayLoad};
 use std::alloc::{AllocError, Global};
@@ -100,7 +100,7 @@ fn shown(
     let blocked = blocked_of(alloc, decisions)?;
     Ok(RunwayPlan {
         runway,
-        slots: Listed::new(slots),
+        slots: SharedList::new(alloc, slots)?,
         blocked: Listed::new(blocked),
     })
 }

@@ -1,5 +1,6 @@
 //! Parts that tables may share. A change makes a part anew, unless flights or taxi times have one owner.
-ghost use Rattle.std.specs.Prelude.{◌≡◌, List, Some, true, false, map, slice_get, All, IfOk, OnOk, OnErr};
+ghost use Rattle.std.specs.Prelude.{◌≡◌, ℕ, List, Some, true, false, map, slice_get, All, IfOk, IfSome, OnOk, OnErr};
+ghost use Rattle.std.specs.Option.{option_map};
 ghost use Rattle.std.specs.Arc.{arc_value};
 ghost use Rattle.std.specs.FinMap as finite;
 ghost use Rattle.indexmap.specs.IndexMap.{insert_entry, insert_index, values};
@@ -80,10 +81,9 @@ impl Parts {
         ensures briefs { AreBrief self.old → AreBrief self.new }
         ensures others { (self.new.runways ≡ self.old.runways) × (self.new.taxi ≡ self.old.taxi) × (self.new.values ≡ self.old.values) }
     {
-        let brief = Brief::of(&flight, &self.taxi);
         let briefs = self.briefs.take();
         let place = set_flight(alloc, &mut self.flights, flight)?;
-        self.briefs = briefs_with(alloc, briefs, place, brief);
+        self.briefs = briefs_with(alloc, briefs, place, &flight, &self.taxi);
         Ok(())
     }
 
@@ -96,6 +96,18 @@ impl Parts {
         match &self.briefs {
             Some(briefs) => briefs.get(place).copied(),
             None => Some(Brief::of(flight, &self.taxi)),
+        }
+    }
+
+    /// The flights in brief by place, if they are kept; else none.
+    pub(super) fn kept_briefs(&self) -> &[Brief]
+        requires briefs { AreBrief self.now }
+        ensures { (place : ℕ) → IfSome (slice_get result.now place) (λ brief.
+            option_map (brief_by (arc_value self.now.taxi)) (slice_get (values (arc_value self.now.flights)) place) ≡ Some brief) }
+    {
+        match &self.briefs {
+            Some(briefs) => briefs.as_slice(),
+            None => &[],
         }
     }
 
@@ -164,16 +176,18 @@ fn set_brief(
     Ok(())
 }
 
-// The flights in brief with one at its place, if they are kept and there is memory for it.
+// The flights in brief with one more at its place, if they are kept and there is memory for it.
 fn briefs_with(
     alloc: Global,
     briefs: Option<Arc<Vec<Brief>>>,
     place: usize,
-    brief: Brief,
+    flight: &Flight,
+    taxi: &TaxiTable,
 ) -> Option<Arc<Vec<Brief>>>
-    ensures { (kept : List Brief) → AreKeptAs briefs kept → AreKeptAs result (put_at kept place brief) }
+    ensures { (kept : List Brief) → AreKeptAs briefs kept → AreKeptAs result (put_at kept place (brief_by taxi.now flight.now)) }
 {
     let mut briefs = briefs?;
+    let brief = Brief::of(flight, taxi);
     match set_brief(alloc, &mut briefs, place, brief) {
         Ok(()) => Some(briefs),
         Err(_) => None,

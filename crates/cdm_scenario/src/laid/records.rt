@@ -56,6 +56,11 @@ impl Records for Laid<'_> {
         Some((flight, Brief::of(flight, self.taxi())))
     }
 
+    // What the base keeps in brief may have changed.
+    fn briefs(&self) -> &[Brief] {
+        &[]
+    }
+
     fn runways(&self) -> usize {
         self.base.runways()
     }

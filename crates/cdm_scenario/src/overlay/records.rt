@@ -25,6 +25,10 @@ impl Records for Overlay<'_> {
         self.laid.known_at(place)
     }
 
+    fn briefs(&self) -> &[Brief] {
+        self.laid.briefs()
+    }
+
     fn runways(&self) -> usize {
         self.laid.runways()
     }

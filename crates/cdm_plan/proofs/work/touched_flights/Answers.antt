@@ -1,6 +1,11 @@
-use Rattle.std.proofs.Common.{◌≡◌, Bool, List, ◌++◌, ◌∷◌, [], ◌≤◌, None, filter, not, length, take, sym, ap, ◌∙◌, arith}
-use Rattle.cdm_plan.proofs.ListWords.{append-nil, cons_option, filter_map, filter-append, option_map}
-use Rattle.cdm_plan.proofs.PlanWords.{asked_of, flight_of, flights_in, gone_of, is_planned, is_untouched, planned_of, taxi_of}
+use Rattle.std.proofs.Common.{◌≡◌, ◌+◌, Bool, true, false, List, ◌++◌, ◌∷◌, [], ◌≤◌, Option, None, Some, filter, not, length, slice_get, take, sym, ap, ◌∙◌, arith}
+use Rattle.std.specs.Prelude.{IfSome, if◌then◌else◌}
+use Rattle.cdm_plan.proofs.ListWords.{append-nil, cons_option, filter_map, filter-append, option_and_then, option_map, option_map_or}
+use Rattle.cdm_plan.proofs.PlanWords.{Flight, asked_of, flight_of, flights_in, gone_of, is_planned, is_touched, is_untouched, planned_of, taxi_of}
+use Rattle.cdm_sequence.specs.Aims.{TaxiTimes}
+use Rattle.cdm_plan.specs.Brief.{brief_of}
+use Rattle.cdm_plan.specs.declared.brief.Brief.{Brief}
+use Rattle.cdm_plan.specs.declared.touched.Touched.{Touched}
 use Rattle.cdm_plan.proofs.DayPlanLemmas.{records-next}
 use Rattle.cdm_plan.proofs.NameLemmas.{all_taken}
 use Rattle.cdm_plan.proofs.work.touched_flights.Goals as goal
@@ -61,3 +66,36 @@ returns-clause-asked g c =
     let end : length (flights_in d.journal) ≤ c.loop-place.place = omega (arith, c.flights-known.ensures.value) in
     c.loop-place.invariant.asked
     ∙ ap (λ ns. planned_of (asked_of t (filter_map (flight_of d.airport d.journal) ns))) (all_taken (flights_in d.journal) c.loop-place.place end)
+
+-- a flight that is kept in brief, on a runway that wasn't touched, is none of those that are asked
+standing : (t : Touched) (times : TaxiTimes) (known : Option Flight) (kept : Option Brief) → IfSome kept (λ b. option_map (brief_of times) known ≡ Some b)
+    → option_map_or (λ b. option_map_or (λ r. not (is_touched t r)) b.runway false) kept false ≡ true → asked_of t (cons_option known []) ≡ []
+standing t times known None same stands = absurd (cc stands)
+standing t times known (Some b) same stands = by known (ap (λ o. option_map_or (λ b. option_map_or (λ r. not (is_touched t r)) b.runway false) o false) same ∙ stands)
+  where
+    by : (known : Option Flight)
+        → option_map_or (λ b. option_map_or (λ r. not (is_touched t r)) b.runway false) (option_map (brief_of times) known) false ≡ true
+        → asked_of t (cons_option known []) ≡ []
+    by None is = absurd (cc is)
+    by (Some f) is = ap (λ x. if not x then f ∷ [] else []) is
+
+pub loop-place-preserved-then-stands : goal.loop-place-preserved-then-stands
+loop-place-preserved-then-stands g c =
+    let d = g.R.Records.day c.args.records.now in
+    let t = c.args.touched.now in
+    let flight = flight_of d.airport d.journal in
+    let place = c.loop-place.place in
+    let so_far = filter_map flight (take place (flights_in d.journal)) in
+    let known = option_and_then flight (slice_get (flights_in d.journal) place) in
+    let none = standing t (taxi_of d.airport d.journal) known (slice_get c.briefs-briefs.result.now place) (c.briefs-briefs.ensures.each place)
+        (sym c.stands.ensures ∙ c.if-stands.true) in
+    let next : asked_of t (filter_map flight (take (place + 1) (flights_in d.journal))) ≡ asked_of t so_far =
+        ap (asked_of t) (records-next flight (flights_in d.journal) place)
+        ∙ (filter-append (λ f. not (is_untouched t f)) so_far (cons_option known []) ∙ (ap (λ l. asked_of t so_far ++ l) none ∙ append-nil (asked_of t so_far))) in
+    record {
+      gone = c.loop-place.invariant.gone ∙ sym (ap gone_of next);
+      asked = c.loop-place.invariant.asked ∙ sym (ap planned_of next);
+      exots = c.loop-place.invariant.exots;
+      few = (omega (arith, c.loop-place.invariant.few.0), omega (arith, c.loop-place.invariant.few.1));
+      room = c.loop-place.invariant.room;
+    }
