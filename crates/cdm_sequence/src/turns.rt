@@ -12,12 +12,19 @@ use cdm_flight::push_last;
 use cdm_runway::{PassedOver, Runway, RunwayLoad};
 use std::alloc::{AllocError, Global};
 
-/// The targets in the order of sequence.
-pub(crate) fn in_order(alloc: Global, targets: &[Target]) -> Result<Vec<Target>, AllocError>
-    ensures same { IfOk result (λ v. IsPermutation targets.now v.items) }
-    ensures sorted { IfOk result (λ v. IsSortedByKey (λ t. t.key) key_cmp v.items) }
+// The targets one by one, borrowed.
+fn borrowed(alloc: Global, targets: &[Target]) -> Result<Vec<&Target>, AllocError>
+    ensures { IfOk result (λ v. map (λ t. t.now) v.items ≡ targets.now) }
 {
-    let mut sorted = Vec::from_slice(alloc, targets)?;
+    targets.iter().collect(alloc)
+}
+
+/// The targets in the order of sequence.
+pub(crate) fn in_order(alloc: Global, targets: &[Target]) -> Result<Vec<&Target>, AllocError>
+    ensures same { IfOk result (λ v. IsPermutation targets.now (map (λ t. t.now) v.items)) }
+    ensures sorted { IfOk result (λ v. IsSortedByKey (λ t. t.now.key) key_cmp v.items) }
+{
+    let mut sorted = borrowed(alloc, targets)?;
     sorted.sort_unstable_by_key(|target| target.key);
     Ok(sorted)
 }
@@ -64,11 +71,11 @@ pub(crate) fn decide_all(
     alloc: Global,
     runway: &Runway,
     load: &mut RunwayLoad,
-    targets: &[Target],
+    targets: &[&Target],
 ) -> Result<Vec<Decision>, AllocError>
     requires cell { load.old.cell ≡ runway.now.cell }
     requires room { length load.old.taken + length targets.now ≤ 2000 }
-    ensures targets { IfOk result (λ ds. map (λ d. d.target) ds.items ≡ targets.now) }
+    ensures targets { IfOk result (λ ds. map (λ d. d.target) ds.items ≡ map (λ t. t.now) targets.now) }
     ensures decided { IfOk result (λ ds. AreDecided runway.now load.old.taken ds.items) }
 {
     let mut decisions = Vec::with_capacity(alloc, targets.len())?;

@@ -1,14 +1,23 @@
-use Rattle.std.proofs.Common.{◌≡◌, ◌++◌, ◌∷◌, [], length, List, ap, map, subst, sym, ◌∙◌, arith, append_assoc}
+use Rattle.std.proofs.Common.{◌≡◌, ℕ, ◌+◌, ◌<◌, ◌++◌, ◌∷◌, [], Bor, get_or, take, length, List, ap, map, subst, sym, ◌∙◌, arith, append_assoc}
+use Rattle.cdm_sequence.specs.declared.target.Target.{Target}
 use Rattle.std.specs.List.{filter_map}
 use Rattle.std.specs.Option.{option_to_list}
-use Rattle.std.proofs.lemmas.Grind.{common_steps}
-use Rattle.std.proofs.lemmas.List.{append-nil, length-append}
+use Rattle.std.proofs.lemmas.List.{append-nil, length-append, map-append, map_more, take-map}
 use Rattle.cdm_runway.specs.Load.{Load}
 use Rattle.cdm_runway.specs.declared.load.Taken.{Taken}
 use Rattle.cdm_sequence.specs.declared.decision.Decision.{Decision}
 use Rattle.cdm_sequence.specs.inner.Turns.{taken_in, AreDecided}
 use Rattle.cdm_sequence.proofs.SequenceLemmas.{decided_push, minutes_of, at_most_one, minutes_push}
 use Rattle.cdm_sequence.proofs.turns.decide_all.Goals as goal
+
+-- the targets of one more decision
+one_more : (ds : List Decision) (ts : List (Bor Target)) (i : ℕ) (d : Decision) (t : Bor Target) → map (λ d. d.target) ds ≡ take i (map (λ t. t.now) ts) → i < length ts
+    → t ≡ get_or ts i t → d.target ≡ t.now → map (λ d. d.target) (ds ++ d ∷ []) ≡ take (i + 1) (map (λ t. t.now) ts)
+one_more ds ts i d t so_far below is of_it =
+    map-append (λ (d : Decision). d.target) ds (d ∷ [])
+    ∙ ((λ k. so_far k ++ (of_it ∙ ap (λ (t : Bor Target). t.now) is) k ∷ [])
+    ∙ (ap (λ l. l ++ (get_or ts i t).now ∷ []) (take-map (λ (t : Bor Target). t.now) i ts)
+    ∙ (sym (map_more (λ (t : Bor Target). t.now) ts i t below) ∙ sym (take-map (λ (t : Bor Target). t.now) (i + 1) ts))))
 
 pub loop-target-init : goal.loop-target-init
 loop-target-init c =
@@ -34,7 +43,8 @@ loop-target-preserved c =
     record {
       cell = ap (λ (l : Load). l.cell) c.decide-decision.ensures.taken ∙ inv.cell;
       room = omega (arith, ap length taken, length-append c.loop-target.load.taken now, at_most_one (taken_in c.args.runway.now d));
-      targets = grind (arith, common_steps);
+      targets = ap (map (λ (d : Decision). d.target)) items
+          ∙ one_more ds c.args.targets.now c.loop-target.target-index d c.target-item.result inv.targets c.loop-target-test.true c.target-item.is c.decide-decision.ensures.target;
       taken = rw (items, minutes_push c.args.runway.now ds d) (taken ∙ ap (λ (xs : List Taken). xs ++ now) inv.taken ∙ append_assoc c.args.load.now.taken (minutes_of c.args.runway.now ds) now);
       passed = c.decide-decision.ensures.passed;
       decided = rw items (decided_push c.args.runway.now c.args.load.now.taken ds d inv.decided (rw (← inv.taken) c.decide-decision.ensures.decided));

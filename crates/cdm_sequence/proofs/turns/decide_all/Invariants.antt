@@ -8,7 +8,7 @@ abbrev pub invariant-loop-target : goal.invariant-loop-target
 invariant-loop-target l = record {
   cell : l.load.cell ≡ l.runway.cell;
   room : length l.load.taken ≤ length l.fn.load.taken + l.target-index;
-  targets : map (λ d. d.target) l.decisions.items ≡ take l.target-index l.targets;
+  targets : map (λ d. d.target) l.decisions.items ≡ take l.target-index (map (λ t. t.now) l.targets);
   taken : l.load.taken ≡ l.fn.load.taken ++ filter_map (taken_in l.runway) l.decisions.items;
   passed : ArePassed l.runway l.load.taken l.passed;
   decided : AreDecided l.runway l.fn.load.taken l.decisions.items;
