@@ -88,119 +88,126 @@ fn name_width(name: FlightName) -> u32 {
         .saturating_add(180)
 }
 
-// The mark of a flight, in the first lane that has room for it below `top`.
-fn flight_mark<R: Records>(
-    alloc: Global,
-    page: &Page<'_>,
-    records: &R,
-    turns: &Turns<'_>,
-    slot: &Slot,
-    lanes: &mut Lanes,
-    top: u32,
-) -> Result<FlightMark, AllocError>
-    requires { AreTurns (R.day records.now) turns.now }
-    ensures { IfOk result (λ mark. place_of mark ≡ slot_place page.now.hours turns.now.runway slot.now) }
-{
-    let (hours, runway) = (page.hours, turns.runway());
-    let runs = runs_of(alloc, records, turns, slot)?;
-    let waits = Words::waits(alloc, page.day, &runs)?;
-    let x = hours.x_of(slot.ttot.get());
-    let end = x.saturating_add(name_width(slot.name));
-    let lane = number_of(lanes.take(hours.x_of(first_of(slot)), end)?);
-    let y = top.saturating_add(lane.saturating_mul(LANE));
-    let bar = bar_of(alloc, hours, slot, &runs, y)?;
-    let paint = if is_moved(page.before, runway, slot) {
-        Paint::Moved
-    } else {
-        Paint::TakeOff
-    };
-    Ok(FlightMark {
-        runway,
-        slot: *slot,
-        x,
-        y,
-        paint,
-        waits,
-        bar,
-    })
+// What is drawn of the runways of a plan: the shapes that lie behind the flights, and the marks of these.
+#[derive(Drop)]
+struct Drawn {
+    shapes: Vec<Shape>,
+    flights: Vec<FlightMark>,
 }
 
-// Marks the flights of a runway below `top`, and answers how many lanes they take.
-fn push_flights<R: Records>(
-    alloc: Global,
-    page: &Page<'_>,
-    records: &R,
-    plan: &Plan,
-    runway: &RunwayPlan,
-    flights: &mut Vec<FlightMark>,
-    top: u32,
-) -> Result<usize, AllocError>
-    ensures { OnOk result (map place_of flights.new.items
-        ≡ map place_of flights.old.items ++ runway_places page.now.hours runway.now) }
-{
-    let mut lanes = Lanes::new(alloc);
-    let turns = Turns::of(alloc, records, plan, runway.runway)?;
-    for slot in runway.slots.as_slice() {
-        let mark = flight_mark(alloc, page, records, &turns, slot, &mut lanes, top)?;
-        flights.push(mark)?;
-    }
-    Ok(lanes.count())
+// A page, and the day that is drawn on it: its records and its plan.
+#[derive(Clone, Copy)]
+struct Drawing<'a, R: Records> {
+    page: &'a Page<'a>,
+    records: &'a R,
+    plan: &'a Plan,
 }
 
-// Draws the band of a runway and marks its flights, and answers where the next band begins.
-fn push_runway<R: Records>(
-    alloc: Global,
-    page: &Page<'_>,
-    records: &R,
-    plan: &Plan,
-    runway: &RunwayPlan,
-    shapes: &mut Vec<Shape>,
-    flights: &mut Vec<FlightMark>,
-    y: u32,
-) -> Result<u32, AllocError>
-    ensures { OnOk result (map place_of flights.new.items
-        ≡ map place_of flights.old.items ++ runway_places page.now.hours runway.now) }
-{
-    push_times(alloc, shapes, page.day, page.hours, y)?;
-    let top = y.saturating_add(CELLS);
-    let lanes = number_of(push_flights(alloc, page, records, plan, runway, flights, top)?);
-    let height = lanes.max(1).saturating_mul(LANE).saturating_add(CELLS + 4);
-    if let Some(rules) = runway_named(records, runway.runway) {
-        let band = Band {
-            hours: page.hours,
-            runway: rules,
-            slots: runway.slots.as_slice(),
-            y,
-            height,
+impl<R: Records> Drawing<'_, R> {
+    // The mark of a flight, in the first lane that has room for it below `top`.
+    fn flight_mark(
+        &self,
+        alloc: Global,
+        turns: &Turns<'_>,
+        slot: &Slot,
+        lanes: &mut Lanes,
+        top: u32,
+    ) -> Result<FlightMark, AllocError>
+        requires { AreTurns (R.day self.now.records.now) turns.now }
+        ensures { IfOk result (λ mark. place_of mark ≡ slot_place self.now.page.now.hours turns.now.runway slot.now) }
+    {
+        let Page { day, hours, before } = *self.page;
+        let runway = turns.runway();
+        let runs = runs_of(alloc, self.records, turns, slot)?;
+        let waits = Words::waits(alloc, day, &runs)?;
+        let x = hours.x_of(slot.ttot.get());
+        let end = x.saturating_add(name_width(slot.name));
+        let lane = number_of(lanes.take(hours.x_of(first_of(slot)), end)?);
+        let y = top.saturating_add(lane.saturating_mul(LANE));
+        let bar = bar_of(alloc, hours, slot, &runs, y)?;
+        let paint = if is_moved(before, runway, slot) {
+            Paint::Moved
+        } else {
+            Paint::TakeOff
         };
-        band.push(alloc, shapes)?;
+        Ok(FlightMark {
+            runway,
+            slot: *slot,
+            x,
+            y,
+            paint,
+            waits,
+            bar,
+        })
     }
-    push_lines(shapes, page.hours, y, height)?;
-    if lanes == 0 {
-        let words = Words::fixed(alloc, "no departure")?;
-        shapes.push(Shape::label(Paint::Plain, 1060, top.saturating_add(11), words))?;
-    }
-    Ok(y.saturating_add(height).saturating_add(GAP))
-}
 
-// Draws the bands of the runways of a plan and marks its flights, and answers where the last band ends.
-fn push_runways<R: Records>(
-    alloc: Global,
-    page: &Page<'_>,
-    records: &R,
-    plan: &Plan,
-    shapes: &mut Vec<Shape>,
-    flights: &mut Vec<FlightMark>,
-    top: u32,
-) -> Result<u32, AllocError>
-    ensures { OnOk result (map place_of flights.new.items
-        ≡ map place_of flights.old.items ++ flat_map (runway_places page.now.hours) plan.entry.now.runways) }
-{
-    let mut y = top;
-    for runway in plan.runways.as_slice() {
-        y = push_runway(alloc, page, records, plan, runway, shapes, flights, y)?;
+    // Marks the flights of a runway below `top`, and answers how many lanes they take.
+    fn push_flights(
+        &self,
+        alloc: Global,
+        runway: &RunwayPlan,
+        flights: &mut Vec<FlightMark>,
+        top: u32,
+    ) -> Result<usize, AllocError>
+        ensures { OnOk result (map place_of flights.new.items
+            ≡ map place_of flights.old.items ++ runway_places self.now.page.now.hours runway.now) }
+    {
+        let mut lanes = Lanes::new(alloc);
+        let turns = Turns::of(alloc, self.records, self.plan, runway.runway)?;
+        for slot in runway.slots.as_slice() {
+            flights.push(self.flight_mark(alloc, &turns, slot, &mut lanes, top)?)?;
+        }
+        Ok(lanes.count())
     }
-    Ok(y)
+
+    // Draws the band of a runway and marks its flights, and answers where the next band begins.
+    fn push_runway(
+        &self,
+        alloc: Global,
+        runway: &RunwayPlan,
+        drawn: &mut Drawn,
+        y: u32,
+    ) -> Result<u32, AllocError>
+        ensures { OnOk result (map place_of drawn.new.flights.items
+            ≡ map place_of drawn.old.flights.items ++ runway_places self.now.page.now.hours runway.now) }
+    {
+        let Page { day, hours, .. } = *self.page;
+        let shapes = &mut drawn.shapes;
+        push_times(alloc, shapes, day, hours, y)?;
+        let top = y.saturating_add(CELLS);
+        let lanes = number_of(self.push_flights(alloc, runway, &mut drawn.flights, top)?);
+        let height = lanes.max(1).saturating_mul(LANE).saturating_add(CELLS + 4);
+        if let Some(rules) = runway_named(self.records, runway.runway) {
+            let band = Band {
+                hours,
+                runway: rules,
+                slots: runway.slots.as_slice(),
+                y,
+                height,
+            };
+            band.push(alloc, shapes)?;
+        }
+        push_lines(shapes, hours, y, height)?;
+        if lanes == 0 {
+            let words = Words::fixed(alloc, "no departure")?;
+            shapes.push(Shape::label(Paint::Plain, 1060, top.saturating_add(11), words))?;
+        }
+        Ok(y.saturating_add(height).saturating_add(GAP))
+    }
+
+    // Draws the bands of the runways of the plan and marks its flights, and answers where the last band ends.
+    fn push_runways(&self, alloc: Global, drawn: &mut Drawn, top: u32) -> Result<u32, AllocError>
+        ensures { OnOk result (map place_of drawn.new.flights.items
+            ≡ map place_of drawn.old.flights.items
+            ++ flat_map (runway_places self.now.page.now.hours) self.now.plan.now.runways) }
+    {
+        let plan = self.plan;
+        let mut y = top;
+        for runway in plan.runways.as_slice() {
+            y = self.push_runway(alloc, runway, drawn, y)?;
+        }
+        Ok(y)
+    }
 }
 
 // Whether a blocked flight wasn't blocked by this rule before.
@@ -262,10 +269,21 @@ pub(crate) fn plan_section<R: Records>(
     ensures heading { IfOk result (λ section. section.heading ≡ heading) }
     ensures shown { IfOk result (ShowsPlan page.now.hours plan.entry.now) }
 {
-    let mut shapes = Vec::new(alloc);
-    let mut flights = Vec::new(alloc);
+    let drawing = Drawing {
+        page,
+        records,
+        plan,
+    };
+    let mut drawn = Drawn {
+        shapes: Vec::new(alloc),
+        flights: Vec::new(alloc),
+    };
     let top = y.saturating_add(HEAD);
-    let end = push_runways(alloc, page, records, plan, &mut shapes, &mut flights, top)?;
+    let end = drawing.push_runways(alloc, &mut drawn, top)?;
+    let Drawn {
+        mut shapes,
+        flights,
+    } = drawn;
     let bottom = end.saturating_sub(GAP);
     push_now(alloc, &mut shapes, page.hours, plan.clock, top, bottom)?;
     let counts = Words::counts(alloc, &indicators(plan))?;

@@ -2,8 +2,8 @@ use Rattle.std.proofs.Common.{◌≡◌, ◌++◌, take, map}
 use Rattle.std.specs.Prelude.{flat_map}
 use Rattle.cdm_picture.specs.Places.{runway_places}
 use Rattle.cdm_picture.specs.Sections.{place_of}
-use Rattle.cdm_picture.proofs.section.push_runways.Given as goal
+use Rattle.cdm_picture.proofs.section.Drawing.push_runways.Given as goal
 
 abbrev pub invariant-loop-runway : goal.invariant-loop-runway
 invariant-loop-runway g l =
-    map place_of l.flights.items ≡ map place_of l.initial.flights.items ++ flat_map (runway_places l.page.hours) (take l.runway-index l.runway-items)
+    map place_of l.drawn.flights.items ≡ map place_of l.initial.drawn.flights.items ++ flat_map (runway_places l.self.page.now.hours) (take l.runway-index l.runway-items)

@@ -1,7 +1,0 @@
-use Rattle.std.proofs.Common.{◌≡◌, ◌++◌, take, map}
-use Rattle.cdm_picture.specs.Places.{slot_place}
-use Rattle.cdm_picture.specs.Sections.{place_of}
-use Rattle.cdm_picture.proofs.section.push_flights.Given as goal
-
-abbrev pub invariant-loop-slot : goal.invariant-loop-slot
-invariant-loop-slot g l = map place_of l.flights.items ≡ map place_of l.initial.flights.items ++ map (slot_place l.page.hours l.runway.runway) (take l.slot-index l.slot-items)
