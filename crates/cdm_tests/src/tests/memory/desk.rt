@@ -53,14 +53,8 @@ fn lines_posted(
 }
 
 // Asserts that the update at this place of a morning has a reply of so many lines, and that the day then has it.
-fn assert_posted(
-    rt: &impl Abort,
-    alloc: Global,
-    desk: &mut DeskDay,
-    place: usize,
-    update: (Role, Update),
-    count: usize,
-) {
+fn assert_posted(rt: &impl Abort, alloc: Global, desk: &mut DeskDay, place: usize, count: usize) {
+    let update = morning(place).expect(rt, "no update");
     let (before, after) = plans_around(place).expect(rt, "no plan");
     let found = lines_posted(alloc, desk, update, before);
     assert_found(rt, found, Some(count), place);
@@ -72,11 +66,10 @@ fn assert_posted(
 #[test]
 fn refused_memory_leaves_a_posted_day(rt: HostRuntime) {
     let alloc = rt.alloc();
-    let updates = morning().expect(&rt, "no updates");
     let day = made(alloc, &THREE_FLIGHTS).expect(&rt, "no day");
     let mut desk = DeskDay::new(day);
-    for (place, (update, count)) in updates.iter().zip(&LINES).enumerate() {
-        assert_posted(&rt, alloc, &mut desk, place, *update, *count);
+    for (place, count) in LINES.iter().enumerate() {
+        assert_posted(&rt, alloc, &mut desk, place, *count);
     }
 }
 
@@ -105,9 +98,9 @@ fn assert_rows_posted(
     alloc: Global,
     desk: &mut DeskDay,
     place: usize,
-    update: (Role, Update),
     count: usize,
 ) {
+    let update = morning(place).expect(rt, "no update");
     let (before, after) = plans_around(place).expect(rt, "no plan");
     let found = rows_posted(alloc, desk, update, before);
     assert_found(rt, found, Some(count), place);
@@ -119,10 +112,9 @@ fn assert_rows_posted(
 #[test]
 fn refused_memory_leaves_a_day_told_by_rows(rt: HostRuntime) {
     let alloc = rt.alloc();
-    let updates = morning().expect(&rt, "no updates");
     let day = made(alloc, &THREE_FLIGHTS).expect(&rt, "no day");
     let mut desk = DeskDay::new(day);
-    for (place, (update, count)) in updates.iter().zip(&ROWS).enumerate() {
-        assert_rows_posted(&rt, alloc, &mut desk, place, *update, *count);
+    for (place, count) in ROWS.iter().enumerate() {
+        assert_rows_posted(&rt, alloc, &mut desk, place, *count);
     }
 }
