@@ -111,33 +111,36 @@ fn runways_begun(alloc: Global, airport: Airport) -> Option<usize> {
     runways_of(begun(alloc, airport, &before))
 }
 
+/// Rows of runways, each with its answer.
+const ROWS: [(Row, &str, Result<(), AirportFault>); 17] = [
+    (Row::Taxi("*"), "01", Err(AirportFault::Unknown)),
+    (Row::Space("H"), "01", Err(AirportFault::Unknown)),
+    (Row::Runway, "02", Ok(())),
+    (Row::Runway, "01", Ok(())),
+    (Row::Runway, "01", Err(AirportFault::Exists)),
+    (Row::Taxi("*"), "01", Ok(())),
+    (Row::Space("H"), "01", Ok(())),
+    (Row::Taxi("A1"), "03", Err(AirportFault::Unknown)),
+    (Row::Runway, "03", Ok(())),
+    (Row::Taxi("A1"), "03", Ok(())),
+    (Row::Runway, "04", Ok(())),
+    (Row::Runway, "05", Ok(())),
+    (Row::Runway, "06", Ok(())),
+    (Row::Runway, "07", Ok(())),
+    (Row::Runway, "08", Ok(())),
+    (Row::Runway, "08", Err(AirportFault::Exists)),
+    (Row::Runway, "09", Err(AirportFault::Full)),
+];
+
 /// A refused row leaves no trace, and the airport comes back where its day can't begin.
 #[test]
 fn refused_memory_leaves_an_airport(rt: HostRuntime) {
     let alloc = rt.alloc();
     let day = Day::of_text(b"2025-03-10").expect(&rt, "no day");
     let mut airport = Airport::new(alloc, day);
-    for (row, runway, wanted) in [
-        (Row::Taxi("*"), "01", Err(AirportFault::Unknown)),
-        (Row::Space("H"), "01", Err(AirportFault::Unknown)),
-        (Row::Runway, "02", Ok(())),
-        (Row::Runway, "01", Ok(())),
-        (Row::Runway, "01", Err(AirportFault::Exists)),
-        (Row::Taxi("*"), "01", Ok(())),
-        (Row::Space("H"), "01", Ok(())),
-        (Row::Taxi("A1"), "03", Err(AirportFault::Unknown)),
-        (Row::Runway, "03", Ok(())),
-        (Row::Taxi("A1"), "03", Ok(())),
-        (Row::Runway, "04", Ok(())),
-        (Row::Runway, "05", Ok(())),
-        (Row::Runway, "06", Ok(())),
-        (Row::Runway, "07", Ok(())),
-        (Row::Runway, "08", Ok(())),
-        (Row::Runway, "08", Err(AirportFault::Exists)),
-        (Row::Runway, "09", Err(AirportFault::Full)),
-    ] {
-        let found = answered(alloc, &mut airport, row, runway);
-        assert_found(&rt, found, Some((wanted, wanted.is_err())), runway);
+    for (row, runway, wanted) in &ROWS {
+        let found = answered(alloc, &mut airport, *row, runway);
+        assert_found(&rt, found, Some((*wanted, wanted.is_err())), *runway);
     }
     assert_found(&rt, runways_begun(alloc, airport), Some(8), "the day");
 }
