@@ -25,7 +25,7 @@ pub type Planned = (&'static [u16], u32);
 /// Those of the day of three flights, and those after each update of the morning. Flight CD4 comes behind the others. The
 /// closure leaves them the cells of 06:30 and 06:40, the longer taxi time those of 06:40 and 06:50, and the clock those of
 /// 07:40 and 07:50.
-pub const PLANS: [Planned; 10] = [
+pub static PLANS: [Planned; 10] = [
     (&[375, 375, 380], 0),
     (&[375, 375, 380], 1),
     (&[375, 375, 380], 1),
@@ -40,7 +40,8 @@ pub const PLANS: [Planned; 10] = [
 
 // 45 minutes from a place to the runway.
 fn taxi_from(place: Place) -> Option<Update> {
-    let (runway, minutes) = (RunwayName::new(b"27L")?, TaxiMinutes::new(45)?);
+    let runway = RunwayName::new(b"27L")?;
+    let minutes = TaxiMinutes::new(45)?;
     Some(Update::Taxi {
         place,
         runway,
@@ -128,7 +129,10 @@ pub fn is_day(day: &DayState, updates: usize, wanted: Planned) -> bool {
 
 /// The plans before and after the update at this place of the morning.
 pub fn plans_around(place: usize) -> Option<(Planned, Planned)> {
-    Some((*PLANS.get(place)?, *PLANS.get(place.checked_add(1)?)?))
+    match PLANS.get(place..)? {
+        [before, after, ..] => Some((*before, *after)),
+        _ => None,
+    }
 }
 
 /// Whether the plan that the records have, made anew, is such a one.

@@ -118,10 +118,8 @@ fn assert_written<R: AllocGlobal + Threads + Sync + Abort>(rt: &R, text: DayText
 fn assert_answers<R: AllocGlobal + Threads + Sync + Abort>(rt: &R, flight: FlightName) {
     let why = DayQuestion::View(Question::Why(flight));
     let load = DayQuestion::View(Question::Load(None));
-    let (why, load) = (
-        DayText::Answer(why, None, Format::Json),
-        DayText::Answer(load, None, Format::Json),
-    );
+    let why = DayText::Answer(why, None, Format::Json);
+    let load = DayText::Answer(load, None, Format::Json);
     assert_written(rt, why, &["{\"row\":", ROW, WHY]);
     assert_written(rt, load, &[LOAD]);
 }

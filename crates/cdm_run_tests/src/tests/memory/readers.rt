@@ -87,7 +87,8 @@ fn scenarios(
 ) -> Option<Result<(usize, usize), (usize, RefusalWord)>> {
     match again!(read_scenarios(alloc, day, text), FileFault::Memory) {
         Ok(scenarios) => {
-            let (first, last) = (scenarios.first()?, scenarios.last()?);
+            let first = scenarios.first()?;
+            let last = scenarios.last()?;
             Some(Ok((first.updates().len(), last.updates().len())))
         }
         Err(FileFault::Refused(number, word)) => Some(Err((number, word))),

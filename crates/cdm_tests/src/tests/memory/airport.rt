@@ -18,7 +18,8 @@ type Added = Option<Result<(), AirportFault>>;
 
 // Adds a runway.
 fn add_runway(airport: &mut Airport, runway: RunwayName) -> Added {
-    let (cell, cap) = (CellLength::new(10)?, Cap::new(2)?);
+    let cell = CellLength::new(10)?;
+    let cap = Cap::new(2)?;
     Some(airport.add_runway(runway, cell, cap))
 }
 
@@ -30,13 +31,15 @@ fn add_default(airport: &mut Airport, runway: RunwayName) -> Added {
 
 // Adds a taxi time from a stand.
 fn add_stand(airport: &mut Airport, runway: RunwayName, stand: &str) -> Added {
-    let (stand, minutes) = (StandName::new(stand.as_bytes())?, TaxiMinutes::new(10)?);
+    let stand = StandName::new(stand.as_bytes())?;
+    let minutes = TaxiMinutes::new(10)?;
     Some(airport.add_taxi(Place::Stand(stand), runway, minutes))
 }
 
 // Adds how long a group occupies the runway.
 fn add_space(airport: &mut Airport, runway: RunwayName, group: &str) -> Added {
-    let (group, occupancy) = (Group::new(group.as_bytes())?, Occupancy::new(3)?);
+    let group = Group::new(group.as_bytes())?;
+    let occupancy = Occupancy::new(3)?;
     Some(airport.add_space(runway, group, occupancy))
 }
 
@@ -112,7 +115,7 @@ fn runways_begun(alloc: Global, airport: Airport) -> Option<usize> {
 }
 
 /// Rows of runways, each with its answer.
-const ROWS: [(Row, &str, Result<(), AirportFault>); 17] = [
+static ROWS: [(Row, &str, Result<(), AirportFault>); 17] = [
     (Row::Taxi("*"), "01", Err(AirportFault::Unknown)),
     (Row::Space("H"), "01", Err(AirportFault::Unknown)),
     (Row::Runway, "02", Ok(())),

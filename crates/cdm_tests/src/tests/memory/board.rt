@@ -11,9 +11,9 @@ use std::sync::Wait;
 use std::thread::Threads;
 
 /// With one flight, and with two.
-const ONE: Planned = (&[375], 0);
+static ONE: Planned = (&[375], 0);
 
-const TWO: Planned = (&[375, 375], 0);
+static TWO: Planned = (&[375, 375], 0);
 
 // How many replies the first desk's post of a flight's updates has.
 fn replies_alone(alloc: Global, state: &mut BoardState) -> Option<usize> {
@@ -107,7 +107,8 @@ fn refused_memory_leaves_desks(rt: HostRuntime) {
 
 // The scenario that closes the runway.
 fn closing(alloc: Global) -> Option<Scenario> {
-    let (name, closure) = (ScenarioName::new(b"SHUT")?, closed()?);
+    let name = ScenarioName::new(b"SHUT")?;
+    let closure = closed()?;
     let mut scenario = Scenario::empty(alloc, name);
     again!(
         scenario.add(closure),

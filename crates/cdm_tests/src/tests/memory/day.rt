@@ -19,11 +19,12 @@ fn reply<R: Threads + Sync>(
     update: &(Role, Update),
     count: usize,
 ) -> Result<Option<Reply>, AllocError> {
-    let replies = match Workers::new(count) {
-        Some(workers) => day.apply_all(rt, alloc, &[*update], workers, &OpenGate)?,
-        None => day.apply(alloc, &[*update])?,
+    let batch = [*update];
+    let replied = match Workers::new(count) {
+        Some(workers) => day.apply_all(rt, alloc, &batch, workers, &OpenGate),
+        None => day.apply(alloc, &batch),
     };
-    Ok(replies.first().copied())
+    Ok(replied?.first().copied())
 }
 
 // Whether the day, planned like this, accepts the update.

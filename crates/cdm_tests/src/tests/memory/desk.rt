@@ -22,7 +22,8 @@ fn posted(
     update: (Role, Update),
     before: Planned,
 ) -> Option<DeskReply> {
-    let (record, updates) = (Ok(update), desk.state().journal().len());
+    let record = Ok(update);
+    let updates = desk.state().journal().len();
     again!(
         desk.post(alloc, &record),
         AllocError,
@@ -80,7 +81,8 @@ fn rows_posted(
     update: (Role, Update),
     before: Planned,
 ) -> Option<usize> {
-    let (record, updates) = (Ok(update), desk.state().journal().len());
+    let record = Ok(update);
+    let updates = desk.state().journal().len();
     let reply = again!(
         desk.post_rows(alloc, &record),
         AllocError,

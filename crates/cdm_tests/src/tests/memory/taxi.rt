@@ -115,7 +115,8 @@ fn exot(table: &TaxiTable, stand: &str, runway: &str, ice: u16) -> Option<u16> {
 
 // The table of a stand and the default.
 fn two_rows(alloc: Global) -> Option<TaxiTable> {
-    let (runway, stand) = (RunwayName::new(b"27L")?, StandName::new(b"A1")?);
+    let runway = RunwayName::new(b"27L")?;
+    let stand = StandName::new(b"A1")?;
     let mut table = TaxiTable::empty(alloc);
     set(&mut table, &Place::Default, runway, 15)?;
     set(&mut table, &Place::Stand(stand), runway, 10)?;

@@ -69,13 +69,15 @@ fn report(alloc: Global, state: &DayState) -> Option<Vec<u8>> {
 // The growth from a day without flights.
 fn growth(alloc: Global, state: &DayState) -> Option<Vec<u8>> {
     let empty = made(alloc, &[])?;
-    let (base, counts) = (indicators(empty.plan()), indicators(state.plan()));
+    let base = indicators(empty.plan());
+    let counts = indicators(state.plan());
     again!(delta_text(alloc, &base, &counts), AllocError, true)
 }
 
 // What a question is answered.
 fn answered(alloc: Global, state: &DayState, question: &Question) -> Option<Vec<u8>> {
-    let (airport, plan) = (state.airport(), state.plan());
+    let airport = state.airport();
+    let plan = state.plan();
     again!(
         answer(alloc, airport, state, plan, *question),
         ViewFault::Memory,
@@ -97,7 +99,8 @@ fn assert_answered(
 
 // How many standings the day has, and how many of them stand otherwise before.
 fn standings(alloc: Global, state: &DayState) -> Option<(usize, usize)> {
-    let (day, plan) = (state.day(), state.plan());
+    let day = state.day();
+    let plan = state.plan();
     let all = again!(Standings::of(alloc, state, plan), AllocError, true)?;
     let none = again!(all.changes(alloc, day, &all), AllocError, true)?;
     Some((all.as_slice().len(), none.len()))
