@@ -10,7 +10,9 @@ pub fn assert_found<T: PartialEq + Debug + Drop, P: Debug + Drop>(
     wanted: T,
     place: P,
 ) {
-    assert_eq!(rt; found, wanted, "{place:?}");
+    if found != wanted {
+        panic!(rt; "{place:?}: {found:?} in place of {wanted:?}");
+    }
 }
 
 /// Asserts that something holds. A failure tells where it doesn't.

@@ -39,7 +39,9 @@ pub fn planned(name: &str) -> Option<[(Role, Update); 3]> {
 // Adds a runway, with 15 minutes to it from every stand.
 fn add_runway(airport: &mut Airport, name: &str) -> Option<()> {
     let runway = RunwayName::new(name.as_bytes())?;
-    let (cell, cap, minutes) = (CellLength::new(10)?, Cap::new(2)?, TaxiMinutes::new(15)?);
+    let cell = CellLength::new(10)?;
+    let cap = Cap::new(2)?;
+    let minutes = TaxiMinutes::new(15)?;
     airport.add_runway(runway, cell, cap).ok()?;
     airport.add_taxi(Place::Default, runway, minutes).ok()
 }

@@ -2,10 +2,11 @@
 //! call then gives the answer that it would have given. `cases/refuse` refuses each request in its turn.
 use crate::tests::days::{closed, day_of, planned};
 use cdm_day::{DayState, Records, plan_of};
-use cdm_flight::{Cap, Place, Role, RunwayName, StandName, TaxiMinutes, Update};
+use cdm_flight::{Place, Role, RunwayName, StandName, TaxiMinutes, Update};
 use cdm_report::indicators;
-use cdm_sequence::Plan;
-use cdm_time::{Bound, Minute};
+use cdm_sequence::{Plan, Slot};
+use cdm_time::Minute;
+use runway::window_of;
 use std::alloc::{AllocError, Global};
 
 mod airport;
@@ -24,7 +25,7 @@ pub type Planned = (&'static [u16], u32);
 /// Those of the day of three flights, and those after each update of the morning. Flight CD4 comes behind the others. The
 /// closure leaves them the cells of 06:30 and 06:40, the longer taxi time those of 06:40 and 06:50, and the clock those of
 /// 07:40 and 07:50.
-pub const PLANS: [Planned; 10] = [
+pub static PLANS: [Planned; 10] = [
     (&[375, 375, 380], 0),
     (&[375, 375, 380], 1),
     (&[375, 375, 380], 1),
@@ -39,7 +40,8 @@ pub const PLANS: [Planned; 10] = [
 
 // 45 minutes from a place to the runway.
 fn taxi_from(place: Place) -> Option<Update> {
-    let (runway, minutes) = (RunwayName::new(b"27L")?, TaxiMinutes::new(45)?);
+    let runway = RunwayName::new(b"27L")?;
+    let minutes = TaxiMinutes::new(45)?;
     Some(Update::Taxi {
         place,
         runway,
@@ -47,56 +49,69 @@ fn taxi_from(place: Place) -> Option<Update> {
     })
 }
 
-// A closure and two taxi times.
-fn closure_and_taxi() -> Option<[Update; 3]> {
-    let stand = Place::Stand(StandName::new(b"A1")?);
-    Some([closed()?, taxi_from(Place::Default)?, taxi_from(stand)?])
+// 45 minutes from a stand to the runway.
+fn taxi_from_stand() -> Option<Update> {
+    taxi_from(Place::Stand(StandName::new(b"A1")?))
 }
 
-// The cell of 06:40.
-fn cell() -> Option<(RunwayName, Minute, Bound)> {
-    Some((
-        RunwayName::new(b"27L")?,
-        Minute::new(400)?,
-        Bound::new(410)?,
-    ))
-}
-
-// A rate of one flight in that cell, its opening, and the clock at 07:00.
-fn rate_and_clock() -> Option<[Update; 3]> {
-    let (runway, from, to) = cell()?;
-    let (cap, now) = (Cap::new(1)?, Minute::new(420)?);
-    let rate = Update::Rate {
+// A rate of one flight in the cell of 06:40.
+fn rate() -> Option<Update> {
+    let (from, to, cap) = window_of(400, 410, 1)?;
+    let runway = RunwayName::new(b"27L")?;
+    Some(Update::Rate {
         runway,
         from,
         to,
         cap,
-    };
-    Some([
-        rate,
-        Update::Reopen { runway, from, to },
-        Update::Clock { now },
-    ])
+    })
 }
 
-/// A fourth flight in three updates, a closure, two taxi times, a rate of one flight in the cell of 06:40, its opening, and
-/// the clock at 07:00.
-pub fn morning() -> Option<[(Role, Update); 9]> {
-    let [known, on_runway, ready] = planned("CD4")?;
-    let [closure, default, stand] = closure_and_taxi()?;
-    let [rate, opening, clock] = rate_and_clock()?;
-    let control = Role::AirTrafficControl;
-    Some([
-        known,
-        on_runway,
-        ready,
-        (control, closure),
-        (control, default),
-        (control, stand),
-        (control, rate),
-        (control, opening),
-        (control, clock),
-    ])
+// The opening of that cell.
+fn opening() -> Option<Update> {
+    let (from, to, _) = window_of(400, 410, 1)?;
+    let runway = RunwayName::new(b"27L")?;
+    Some(Update::Reopen { runway, from, to })
+}
+
+// That it is 07:00.
+fn clock() -> Option<Update> {
+    let now = Minute::new(420)?;
+    Some(Update::Clock { now })
+}
+
+// The update of air traffic control at this place of the morning.
+fn of_control(place: usize) -> Option<Update> {
+    match place {
+        3 => closed(),
+        4 => taxi_from(Place::Default),
+        5 => taxi_from_stand(),
+        6 => rate(),
+        7 => opening(),
+        8 => clock(),
+        _ => None,
+    }
+}
+
+/// How many updates a morning has.
+pub const UPDATES: usize = 9;
+
+/// The update at this place of the morning: a fourth flight in three updates, a closure, two taxi times, a rate of one flight
+/// in the cell of 06:40, its opening, and the clock at 07:00.
+pub fn morning(place: usize) -> Option<(Role, Update)> {
+    if place < 3 {
+        return planned("CD4")?.get(place).copied();
+    }
+    Some((Role::AirTrafficControl, of_control(place)?))
+}
+
+// Whether the slots have these take-off minutes.
+fn has_minutes(slots: &[Slot], minutes: &[u16]) -> bool {
+    for (slot, minute) in slots.iter().zip(minutes) {
+        if slot.ttot.get() != *minute {
+            return false;
+        }
+    }
+    slots.len() == minutes.len()
 }
 
 /// Whether the plan has these minutes and so many blocked flights.
@@ -104,9 +119,7 @@ pub fn is_planned(plan: &Plan, wanted: Planned) -> bool {
     let [runway] = plan.runways.as_slice() else {
         return false;
     };
-    let slots = runway.slots.as_slice();
-    let minutes = slots.iter().map(|slot| slot.ttot.get());
-    minutes.eq(wanted.0.iter().copied()) && indicators(plan).blocked == wanted.1
+    has_minutes(runway.slots.as_slice(), wanted.0) && indicators(plan).blocked == wanted.1
 }
 
 /// Whether the day has so many updates and such a plan.
@@ -116,7 +129,10 @@ pub fn is_day(day: &DayState, updates: usize, wanted: Planned) -> bool {
 
 /// The plans before and after the update at this place of the morning.
 pub fn plans_around(place: usize) -> Option<(Planned, Planned)> {
-    Some((*PLANS.get(place)?, *PLANS.get(place.checked_add(1)?)?))
+    match PLANS.get(place..)? {
+        [before, after, ..] => Some((*before, *after)),
+        _ => None,
+    }
 }
 
 /// Whether the plan that the records have, made anew, is such a one.

@@ -1,6 +1,6 @@
 //! Whole runs.
 use crate::tests::asserts::assert_found;
-use crate::tests::devices::{Page, Source};
+use crate::tests::devices::{Page, whole};
 use cdm_feed::{CommonFault, Device, RunCounts, RunError, run};
 use cdm_live::{LiveCounts, LiveError, run_live};
 use cdm_phase::{OpenGate, Workers};
@@ -81,9 +81,9 @@ fn plan<R: AllocGlobal + Threads + Sync + Abort>(
     let answer = run(
         rt,
         rt.alloc(),
-        &mut Device::new(Source::whole(AIRPORT.as_bytes())),
-        &mut Device::new(Source::whole(FEED.as_bytes())),
-        &mut Device::new(Source::whole(SCENARIOS.as_bytes())),
+        &mut whole(AIRPORT),
+        &mut whole(FEED),
+        &mut whole(SCENARIOS),
         workers,
         &OpenGate,
         &mut out,
@@ -117,10 +117,9 @@ fn told<R: AllocGlobal + Threads + Sync + Abort>(
 ) -> Option<(Result<RunCounts, RunError>, bool)> {
     let (answer, out) = plan(rt, count);
     let text = out.text();
-    if text.is_empty() && answer == Err(RunError::Common(CommonFault::Memory)) {
-        None
-    } else {
-        Some((answer, is_made_of(text, &PARTS)))
+    match answer {
+        Err(RunError::Common(CommonFault::Memory)) if text.is_empty() => None,
+        answer => Some((answer, is_made_of(text, &PARTS))),
     }
 }
 
@@ -135,12 +134,15 @@ fn told_again<R: AllocGlobal + Threads + Sync + Abort>(
     }
 }
 
+/// How many workers a run has.
+const WORKERS: [usize; 4] = [1, 2, 7, 64];
+
 /// Runs of one text with 1, 2, 7 and 64 workers: nothing for want of memory, and then the whole text.
 #[test]
 fn refused_memory_in_a_run(rt: HostRuntime) {
-    for count in [1, 2, 7, 64] {
-        let found = told_again(&rt, count);
-        assert_found(&rt, found, Some((Ok(COUNTS), true)), (count, "workers"));
+    for count in &WORKERS {
+        let found = told_again(&rt, *count);
+        assert_found(&rt, found, Some((Ok(COUNTS), true)), (*count, "workers"));
     }
 }
 
@@ -157,16 +159,16 @@ DESK 2 POSTS 0 REFUSED 0
 // What a live run of two feeds answers, and what it has written.
 fn live<R: AllocGlobal + Threads + Wait + Sync + Abort>(
     rt: &R,
-    feed1: &[u8],
-    feed2: &[u8],
+    feed1: &str,
+    feed2: &str,
 ) -> (Result<LiveCounts, LiveError>, Page) {
     let mut out = Device::new(Page::new());
     let answer = run_live(
         rt,
         rt.alloc(),
-        &mut Device::new(Source::whole(AIRPORT.as_bytes())),
-        &mut Device::new(Source::whole(feed1)),
-        &mut Device::new(Source::whole(feed2)),
+        &mut whole(AIRPORT),
+        &mut whole(feed1),
+        &mut whole(feed2),
         &OpenGate,
         &mut out,
     );
@@ -177,21 +179,20 @@ fn live<R: AllocGlobal + Threads + Wait + Sync + Abort>(
 // memory and has written nothing.
 fn live_told<R: AllocGlobal + Threads + Wait + Sync + Abort>(
     rt: &R,
-    feed: &[u8],
+    feed: &str,
 ) -> Option<(Result<LiveCounts, LiveError>, bool)> {
-    let (answer, out) = live(rt, feed, b"");
+    let (answer, out) = live(rt, feed, "");
     let text = out.text();
-    if text.is_empty() && answer == Err(LiveError::Common(CommonFault::Memory)) {
-        None
-    } else {
-        Some((answer, text == LIVE.as_bytes()))
+    match answer {
+        Err(LiveError::Common(CommonFault::Memory)) if text.is_empty() => None,
+        answer => Some((answer, text == LIVE.as_bytes())),
     }
 }
 
 // The same, made once more where there is nothing.
 fn live_told_again<R: AllocGlobal + Threads + Wait + Sync + Abort>(
     rt: &R,
-    feed: &[u8],
+    feed: &str,
 ) -> Option<(Result<LiveCounts, LiveError>, bool)> {
     match live_told(rt, feed) {
         Some(told) => Some(told),
@@ -208,6 +209,6 @@ fn refused_memory_in_a_live_run(rt: HostRuntime) {
         refused: 0,
         calls: 3,
     };
-    let found = live_told_again(&rt, feed.as_bytes());
+    let found = live_told_again(&rt, feed);
     assert_found(&rt, found, Some((Ok(counts), true)), "a live run");
 }

@@ -18,7 +18,8 @@ type Added = Option<Result<(), AirportFault>>;
 
 // Adds a runway.
 fn add_runway(airport: &mut Airport, runway: RunwayName) -> Added {
-    let (cell, cap) = (CellLength::new(10)?, Cap::new(2)?);
+    let cell = CellLength::new(10)?;
+    let cap = Cap::new(2)?;
     Some(airport.add_runway(runway, cell, cap))
 }
 
@@ -30,13 +31,15 @@ fn add_default(airport: &mut Airport, runway: RunwayName) -> Added {
 
 // Adds a taxi time from a stand.
 fn add_stand(airport: &mut Airport, runway: RunwayName, stand: &str) -> Added {
-    let (stand, minutes) = (StandName::new(stand.as_bytes())?, TaxiMinutes::new(10)?);
+    let stand = StandName::new(stand.as_bytes())?;
+    let minutes = TaxiMinutes::new(10)?;
     Some(airport.add_taxi(Place::Stand(stand), runway, minutes))
 }
 
 // Adds how long a group occupies the runway.
 fn add_space(airport: &mut Airport, runway: RunwayName, group: &str) -> Added {
-    let (group, occupancy) = (Group::new(group.as_bytes())?, Occupancy::new(3)?);
+    let group = Group::new(group.as_bytes())?;
+    let occupancy = Occupancy::new(3)?;
     Some(airport.add_space(runway, group, occupancy))
 }
 
@@ -111,33 +114,36 @@ fn runways_begun(alloc: Global, airport: Airport) -> Option<usize> {
     runways_of(begun(alloc, airport, &before))
 }
 
+/// Rows of runways, each with its answer.
+static ROWS: [(Row, &str, Result<(), AirportFault>); 17] = [
+    (Row::Taxi("*"), "01", Err(AirportFault::Unknown)),
+    (Row::Space("H"), "01", Err(AirportFault::Unknown)),
+    (Row::Runway, "02", Ok(())),
+    (Row::Runway, "01", Ok(())),
+    (Row::Runway, "01", Err(AirportFault::Exists)),
+    (Row::Taxi("*"), "01", Ok(())),
+    (Row::Space("H"), "01", Ok(())),
+    (Row::Taxi("A1"), "03", Err(AirportFault::Unknown)),
+    (Row::Runway, "03", Ok(())),
+    (Row::Taxi("A1"), "03", Ok(())),
+    (Row::Runway, "04", Ok(())),
+    (Row::Runway, "05", Ok(())),
+    (Row::Runway, "06", Ok(())),
+    (Row::Runway, "07", Ok(())),
+    (Row::Runway, "08", Ok(())),
+    (Row::Runway, "08", Err(AirportFault::Exists)),
+    (Row::Runway, "09", Err(AirportFault::Full)),
+];
+
 /// A refused row leaves no trace, and the airport comes back where its day can't begin.
 #[test]
 fn refused_memory_leaves_an_airport(rt: HostRuntime) {
     let alloc = rt.alloc();
     let day = Day::of_text(b"2025-03-10").expect(&rt, "no day");
     let mut airport = Airport::new(alloc, day);
-    for (row, runway, wanted) in [
-        (Row::Taxi("*"), "01", Err(AirportFault::Unknown)),
-        (Row::Space("H"), "01", Err(AirportFault::Unknown)),
-        (Row::Runway, "02", Ok(())),
-        (Row::Runway, "01", Ok(())),
-        (Row::Runway, "01", Err(AirportFault::Exists)),
-        (Row::Taxi("*"), "01", Ok(())),
-        (Row::Space("H"), "01", Ok(())),
-        (Row::Taxi("A1"), "03", Err(AirportFault::Unknown)),
-        (Row::Runway, "03", Ok(())),
-        (Row::Taxi("A1"), "03", Ok(())),
-        (Row::Runway, "04", Ok(())),
-        (Row::Runway, "05", Ok(())),
-        (Row::Runway, "06", Ok(())),
-        (Row::Runway, "07", Ok(())),
-        (Row::Runway, "08", Ok(())),
-        (Row::Runway, "08", Err(AirportFault::Exists)),
-        (Row::Runway, "09", Err(AirportFault::Full)),
-    ] {
-        let found = answered(alloc, &mut airport, row, runway);
-        assert_found(&rt, found, Some((wanted, wanted.is_err())), runway);
+    for (row, runway, wanted) in &ROWS {
+        let found = answered(alloc, &mut airport, *row, runway);
+        assert_found(&rt, found, Some((*wanted, wanted.is_err())), *runway);
     }
     assert_found(&rt, runways_begun(alloc, airport), Some(8), "the day");
 }

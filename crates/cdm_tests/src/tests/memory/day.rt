@@ -1,5 +1,7 @@
 //! Days, and their plans.
-use super::{PLANS, Planned, is_day, is_planned, is_planned_anew, made, morning, plans_around};
+use super::{
+    PLANS, Planned, UPDATES, is_day, is_planned, is_planned_anew, made, morning, plans_around,
+};
 use crate::tests::asserts::{assert_found, assert_holds};
 use crate::tests::days::THREE_FLIGHTS;
 use cdm_day::{DayState, Reply};
@@ -17,11 +19,12 @@ fn reply<R: Threads + Sync>(
     update: &(Role, Update),
     count: usize,
 ) -> Result<Option<Reply>, AllocError> {
-    let replies = match Workers::new(count) {
-        Some(workers) => day.apply_all(rt, alloc, &[*update], workers, &OpenGate)?,
-        None => day.apply(alloc, &[*update])?,
+    let batch = [*update];
+    let replied = match Workers::new(count) {
+        Some(workers) => day.apply_all(rt, alloc, &batch, workers, &OpenGate),
+        None => day.apply(alloc, &batch),
     };
-    Ok(replies.first().copied())
+    Ok(replied?.first().copied())
 }
 
 // Whether the day, planned like this, accepts the update.
@@ -92,24 +95,27 @@ fn assert_takes_all<R: Threads + Sync + Abort>(
     day: &mut DayState,
     count: usize,
 ) {
-    let updates = morning().expect(rt, "no updates");
-    for (place, update) in updates.iter().enumerate() {
+    for place in 0..UPDATES {
+        let update = morning(place).expect(rt, "no update");
         let (before, after) = plans_around(place).expect(rt, "no plan");
-        let accepted = accepts(rt, alloc, day, update, count, before);
+        let accepted = accepts(rt, alloc, day, &update, count, before);
         assert_holds(rt, accepted, (place, count));
         assert_day(rt, alloc, day, 10 + place, after);
     }
 }
 
+// Asserts that a day takes each update of a morning by so many workers, or alone, and what it then shares.
+fn assert_day_taken<R: Threads + Sync + Abort>(rt: &R, alloc: Global, count: usize) {
+    let mut day = made(alloc, &THREE_FLIGHTS).expect(rt, "no day");
+    assert_takes_all(rt, alloc, &mut day, count);
+    assert_holds(rt, is_copied_whole(alloc, &day), (count, "a copy"));
+    assert_holds(rt, shares_airport(&day), (count, "the airport"));
+    assert_found(rt, shared_updates(&day), Some(18), count);
+}
+
 /// A day takes each update of a morning, alone and by two workers; its plan made anew and a copy of it are alike.
 #[test]
 fn refused_memory_leaves_a_day(rt: HostRuntime) {
-    let alloc = rt.alloc();
-    for count in [0, 2] {
-        let mut day = made(alloc, &THREE_FLIGHTS).expect(&rt, "no day");
-        assert_takes_all(&rt, alloc, &mut day, count);
-        assert_holds(&rt, is_copied_whole(alloc, &day), (count, "a copy"));
-        assert_holds(&rt, shares_airport(&day), (count, "the airport"));
-        assert_found(&rt, shared_updates(&day), Some(18), count);
-    }
+    assert_day_taken(&rt, rt.alloc(), 0);
+    assert_day_taken(&rt, rt.alloc(), 2);
 }

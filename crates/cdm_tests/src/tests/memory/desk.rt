@@ -22,7 +22,8 @@ fn posted(
     update: (Role, Update),
     before: Planned,
 ) -> Option<DeskReply> {
-    let (record, updates) = (Ok(update), desk.state().journal().len());
+    let record = Ok(update);
+    let updates = desk.state().journal().len();
     again!(
         desk.post(alloc, &record),
         AllocError,
@@ -53,14 +54,8 @@ fn lines_posted(
 }
 
 // Asserts that the update at this place of a morning has a reply of so many lines, and that the day then has it.
-fn assert_posted(
-    rt: &impl Abort,
-    alloc: Global,
-    desk: &mut DeskDay,
-    place: usize,
-    update: (Role, Update),
-    count: usize,
-) {
+fn assert_posted(rt: &impl Abort, alloc: Global, desk: &mut DeskDay, place: usize, count: usize) {
+    let update = morning(place).expect(rt, "no update");
     let (before, after) = plans_around(place).expect(rt, "no plan");
     let found = lines_posted(alloc, desk, update, before);
     assert_found(rt, found, Some(count), place);
@@ -72,11 +67,10 @@ fn assert_posted(
 #[test]
 fn refused_memory_leaves_a_posted_day(rt: HostRuntime) {
     let alloc = rt.alloc();
-    let updates = morning().expect(&rt, "no updates");
     let day = made(alloc, &THREE_FLIGHTS).expect(&rt, "no day");
     let mut desk = DeskDay::new(day);
-    for (place, (update, count)) in updates.iter().zip(&LINES).enumerate() {
-        assert_posted(&rt, alloc, &mut desk, place, *update, *count);
+    for (place, count) in LINES.iter().enumerate() {
+        assert_posted(&rt, alloc, &mut desk, place, *count);
     }
 }
 
@@ -87,7 +81,8 @@ fn rows_posted(
     update: (Role, Update),
     before: Planned,
 ) -> Option<usize> {
-    let (record, updates) = (Ok(update), desk.state().journal().len());
+    let record = Ok(update);
+    let updates = desk.state().journal().len();
     let reply = again!(
         desk.post_rows(alloc, &record),
         AllocError,
@@ -105,9 +100,9 @@ fn assert_rows_posted(
     alloc: Global,
     desk: &mut DeskDay,
     place: usize,
-    update: (Role, Update),
     count: usize,
 ) {
+    let update = morning(place).expect(rt, "no update");
     let (before, after) = plans_around(place).expect(rt, "no plan");
     let found = rows_posted(alloc, desk, update, before);
     assert_found(rt, found, Some(count), place);
@@ -119,10 +114,9 @@ fn assert_rows_posted(
 #[test]
 fn refused_memory_leaves_a_day_told_by_rows(rt: HostRuntime) {
     let alloc = rt.alloc();
-    let updates = morning().expect(&rt, "no updates");
     let day = made(alloc, &THREE_FLIGHTS).expect(&rt, "no day");
     let mut desk = DeskDay::new(day);
-    for (place, (update, count)) in updates.iter().zip(&ROWS).enumerate() {
-        assert_rows_posted(&rt, alloc, &mut desk, place, *update, *count);
+    for (place, count) in ROWS.iter().enumerate() {
+        assert_rows_posted(&rt, alloc, &mut desk, place, *count);
     }
 }

@@ -1,5 +1,7 @@
 //! Updates that are laid over a day, and scenarios.
-use super::{PLANS, Planned, is_day, is_planned, is_planned_anew, made, morning, plans_around};
+use super::{
+    PLANS, Planned, UPDATES, is_day, is_planned, is_planned_anew, made, morning, plans_around,
+};
 use crate::tests::asserts::{assert_found, assert_holds};
 use crate::tests::days::THREE_FLIGHTS;
 use cdm_day::{DayState, Records, Reply};
@@ -30,14 +32,10 @@ fn is_planned_over(alloc: Global, overlay: &Overlay, wanted: Planned) -> bool {
 }
 
 // Asserts that the update at this place of a morning is accepted, and that the plan over the day is then that of the place.
-fn assert_laid(
-    rt: &impl Abort,
-    alloc: Global,
-    overlay: &mut Overlay,
-    (place, update): (usize, &Update),
-) {
+fn assert_laid(rt: &impl Abort, alloc: Global, overlay: &mut Overlay, place: usize) {
+    let (_, update) = morning(place).expect(rt, "no update");
     let (before, after) = plans_around(place).expect(rt, "no plan");
-    assert_holds(rt, accepts(alloc, overlay, update, before), place);
+    assert_holds(rt, accepts(alloc, overlay, &update, before), place);
     assert_holds(rt, is_planned_over(alloc, overlay, after), place);
     assert_holds(rt, is_planned_anew(alloc, overlay, after), place);
 }
@@ -45,9 +43,8 @@ fn assert_laid(
 // Asserts that each update of a morning is laid over the day.
 fn assert_all_laid(rt: &impl Abort, alloc: Global, base: &DayState) {
     let mut overlay = Overlay::over(alloc, base);
-    let updates = morning().expect(rt, "no updates");
-    for (place, (_, update)) in updates.iter().enumerate() {
-        assert_laid(rt, alloc, &mut overlay, (place, update));
+    for place in 0..UPDATES {
+        assert_laid(rt, alloc, &mut overlay, place);
     }
     assert_found(rt, overlay.accepted(), 18, "accepted");
 }
@@ -61,11 +58,12 @@ fn refused_memory_leaves_an_overlay(rt: HostRuntime) {
     assert_holds(&rt, is_day(&base, 9, PLANS[0]), "the day");
 }
 
-// Adds an update to a scenario.
-fn add(scenario: &mut Scenario, update: &Update) -> Option<()> {
+// Adds the update at this place of a morning to a scenario.
+fn add(scenario: &mut Scenario, place: usize) -> Option<()> {
+    let (_, update) = morning(place)?;
     let updates = scenario.updates().len();
     again!(
-        scenario.add(*update),
+        scenario.add(update),
         ScenarioFault::Memory,
         scenario.updates().len() == updates
     )
@@ -74,8 +72,8 @@ fn add(scenario: &mut Scenario, update: &Update) -> Option<()> {
 // The scenario of a morning's updates.
 fn of_morning(alloc: Global) -> Option<Scenario> {
     let mut scenario = Scenario::empty(alloc, ScenarioName::new(b"MORNING")?);
-    for (_, update) in &morning()? {
-        add(&mut scenario, update)?;
+    for place in 0..UPDATES {
+        add(&mut scenario, place)?;
     }
     Some(scenario)
 }
@@ -100,25 +98,30 @@ fn is_answered_alone(alloc: Global, base: &DayState, scenario: &Scenario) -> boo
     }
 }
 
-// How many of the scenarios are answered by two workers.
-fn answered<R: Threads + Sync>(
+// Whether both outcomes have it.
+fn are_answered(outcomes: &[Outcome]) -> bool {
+    match outcomes {
+        [first, second] => is_answered(first) && is_answered(second),
+        _ => false,
+    }
+}
+
+// Whether both scenarios are answered by so many workers.
+fn are_answered_by<R: Threads + Sync>(
     rt: &R,
     alloc: Global,
     base: &DayState,
     scenarios: &[Scenario],
-) -> Option<usize> {
-    let workers = Workers::new(2)?;
-    let outcomes = again!(
+    workers: Workers,
+) -> bool {
+    match again!(
         answer_all(rt, alloc, base, scenarios, workers, &OpenGate),
         AllocError,
         is_day(base, 9, PLANS[0])
-    )?;
-    Some(
-        outcomes
-            .iter()
-            .filter(|outcome| is_answered(outcome))
-            .count(),
-    )
+    ) {
+        Some(outcomes) => are_answered(&outcomes),
+        None => false,
+    }
 }
 
 // Asserts that the scenario is answered by the caller alone, and each of two scenarios by two workers.
@@ -130,8 +133,9 @@ fn assert_answered<R: Threads + Sync + Abort>(
 ) {
     let alone = is_answered_alone(alloc, base, &scenarios[0]);
     assert_holds(rt, alone, "alone");
-    let found = answered(rt, alloc, base, scenarios);
-    assert_found(rt, found, Some(2), "two workers");
+    let workers = Workers::new(2).expect(rt, "no workers");
+    let both = are_answered_by(rt, alloc, base, scenarios, workers);
+    assert_holds(rt, both, "two workers");
 }
 
 // Two scenarios of a morning's updates.

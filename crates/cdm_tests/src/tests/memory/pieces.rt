@@ -46,10 +46,10 @@ fn piece_of_one(alloc: Global, number: usize, out: u64) -> Result<Piece<u64>, Al
 
 // Two pieces have the first item, one the third, and none the second.
 fn double_and_gap(alloc: Global) -> Result<Vec<u64>, AllocError> {
-    let mut pieces = Vec::new(alloc);
-    pieces.push(piece_of_one(alloc, 2, 31)?)?;
-    pieces.push(piece_of_one(alloc, 0, 11)?)?;
-    pieces.push(piece_of_one(alloc, 0, 11)?)?;
+    let third = piece_of_one(alloc, 2, 31)?;
+    let first = piece_of_one(alloc, 0, 11)?;
+    let double = piece_of_one(alloc, 0, 11)?;
+    let pieces = Vec::from_array(alloc, [third, first, double])?;
     assemble(alloc, &AddOne, &ITEMS, 1, pieces)
 }
 

@@ -23,9 +23,15 @@ fn allowed(runway: &Runway, minute: Minute) -> (u16, bool) {
 
 // Whether two runways are alike at each minute.
 fn agree(runway: &Runway, other: &Runway) -> bool {
-    let mut minutes = (0..2880).filter_map(Minute::new);
-    let alike = minutes.all(|minute| allowed(runway, minute) == allowed(other, minute));
-    alike && runway.name() == other.name() && runway.cell() == other.cell()
+    for number in 0..2880 {
+        let Some(minute) = Minute::new(number) else {
+            return false;
+        };
+        if allowed(runway, minute) != allowed(other, minute) {
+            return false;
+        }
+    }
+    runway.name() == other.name() && runway.cell() == other.cell()
 }
 
 /// Sets a rate of so many flights, closes or opens.
@@ -86,21 +92,24 @@ fn made(alloc: Global) -> Option<Runway> {
     }
 }
 
-/// With each change stands what the runway then allows at the first minute of its window.
+/// Changes of a window, each with what the runway then allows at its first minute.
+const CHANGES: [(&str, u16, u16, u16, (u16, bool)); 7] = [
+    ("CLOSE", 372, 391, 0, (2, true)),
+    ("RATE", 370, 400, 1, (1, false)),
+    ("OPEN", 375, 376, 0, (1, false)),
+    ("RATE", 380, 390, 3, (3, true)),
+    ("CLOSE", 0, 2880, 0, (2, true)),
+    ("OPEN", 360, 380, 0, (2, false)),
+    ("RATE", 0, 2880, 0, (0, true)),
+];
+
+/// Each change is made, and the runway then allows what it should.
 #[test]
 fn refused_memory_leaves_a_runway(rt: HostRuntime) {
     let alloc = rt.alloc();
     let mut runway = made(alloc).expect(&rt, "no runway");
-    for (word, from, to, number, after) in [
-        ("CLOSE", 372, 391, 0, (2, true)),
-        ("RATE", 370, 400, 1, (1, false)),
-        ("OPEN", 375, 376, 0, (1, false)),
-        ("RATE", 380, 390, 3, (3, true)),
-        ("CLOSE", 0, 2880, 0, (2, true)),
-        ("OPEN", 360, 380, 0, (2, false)),
-        ("RATE", 0, 2880, 0, (0, true)),
-    ] {
-        let found = changed(alloc, &mut runway, word, (from, to), number);
-        assert_found(&rt, found, Some(after), (word, from, to));
+    for (word, from, to, number, after) in &CHANGES {
+        let found = changed(alloc, &mut runway, word, (*from, *to), *number);
+        assert_found(&rt, found, Some(*after), (*word, *from, *to));
     }
 }

@@ -17,11 +17,16 @@ fn minutes_from(table: &TaxiTable, place: &Place, runway: RunwayName) -> Option<
     Some(table.minutes(*place, runway)?.get())
 }
 
+// The minutes from a stand to a runway.
+fn minutes_of(table: &TaxiTable, runway: RunwayName, number: u16) -> Option<u16> {
+    let (place, _) = row(number)?;
+    minutes_from(table, &place, runway)
+}
+
 // Whether the table has the rows of so many stands.
 fn has_rows(table: &TaxiTable, runway: RunwayName, stands: u16) -> bool {
     for number in 0..=stands {
-        let found = row(number).and_then(|(place, _)| minutes_from(table, &place, runway));
-        if found != (number < stands).then_some(1 + number % 100) {
+        if minutes_of(table, runway, number) != (number < stands).then_some(1 + number % 100) {
             return false;
         }
     }
@@ -100,31 +105,38 @@ fn refused_memory_leaves_taxi_times(rt: HostRuntime) {
 
 // EXOT from a stand to a runway, with minutes of remote de-icing or none.
 fn exot(table: &TaxiTable, stand: &str, runway: &str, ice: u16) -> Option<u16> {
-    let ice = IceMinutes::new(ice).map_or(Ice::NoIce, Ice::Remote);
+    let ice = match IceMinutes::new(ice) {
+        Some(minutes) => Ice::Remote(minutes),
+        None => Ice::NoIce,
+    };
     let stand = StandName::new(stand.as_bytes())?;
     table.exot(Some(stand), RunwayName::new(runway.as_bytes())?, ice)
 }
 
 // The table of a stand and the default.
 fn two_rows(alloc: Global) -> Option<TaxiTable> {
-    let (runway, stand) = (RunwayName::new(b"27L")?, StandName::new(b"A1")?);
+    let runway = RunwayName::new(b"27L")?;
+    let stand = StandName::new(b"A1")?;
     let mut table = TaxiTable::empty(alloc);
     set(&mut table, &Place::Default, runway, 15)?;
     set(&mut table, &Place::Stand(stand), runway, 10)?;
     Some(table)
 }
 
+/// A stand, a runway and minutes of remote de-icing, each with its EXOT.
+const EXOTS: [(&str, &str, u16, Option<u16>); 4] = [
+    ("A1", "27L", 0, Some(10)),
+    ("A1", "27L", 12, Some(22)),
+    ("A2", "27L", 0, Some(15)),
+    ("A1", "09", 0, None),
+];
+
 /// A stand's own time, that of the default, de-icing on top, and a runway without times.
 #[test]
 fn refused_memory_in_two_rows(rt: HostRuntime) {
     let table = two_rows(rt.alloc()).expect(&rt, "not set");
-    for (stand, runway, ice, wanted) in [
-        ("A1", "27L", 0, Some(10)),
-        ("A1", "27L", 12, Some(22)),
-        ("A2", "27L", 0, Some(15)),
-        ("A1", "09", 0, None),
-    ] {
-        let found = exot(&table, stand, runway, ice);
-        assert_found(&rt, found, wanted, (stand, ice));
+    for (stand, runway, ice, wanted) in &EXOTS {
+        let found = exot(&table, stand, runway, *ice);
+        assert_found(&rt, found, *wanted, (*stand, *ice));
     }
 }

@@ -7,6 +7,7 @@ use cdm_flight::{FlightName, RefusalWord};
 use cdm_report::{delta_text, indicators, refused_text, report_text};
 use cdm_view::{Question, Standings, ViewFault, answer};
 use std::alloc::{AllocError, Global};
+use std::process::Abort;
 
 const REPORT: &str = "\
 DAY 2025-03-10 NOW 100000
@@ -68,13 +69,15 @@ fn report(alloc: Global, state: &DayState) -> Option<Vec<u8>> {
 // The growth from a day without flights.
 fn growth(alloc: Global, state: &DayState) -> Option<Vec<u8>> {
     let empty = made(alloc, &[])?;
-    let (base, counts) = (indicators(empty.plan()), indicators(state.plan()));
+    let base = indicators(empty.plan());
+    let counts = indicators(state.plan());
     again!(delta_text(alloc, &base, &counts), AllocError, true)
 }
 
 // What a question is answered.
 fn answered(alloc: Global, state: &DayState, question: &Question) -> Option<Vec<u8>> {
-    let (airport, plan) = (state.airport(), state.plan());
+    let airport = state.airport();
+    let plan = state.plan();
     again!(
         answer(alloc, airport, state, plan, *question),
         ViewFault::Memory,
@@ -82,9 +85,22 @@ fn answered(alloc: Global, state: &DayState, question: &Question) -> Option<Vec<
     )
 }
 
+// Asserts that the question has this answer.
+fn assert_answered(
+    rt: &impl Abort,
+    alloc: Global,
+    state: &DayState,
+    question: Question,
+    wanted: &str,
+) {
+    let found = answered(alloc, state, &question);
+    assert_holds(rt, is_text(found, wanted), wanted);
+}
+
 // How many standings the day has, and how many of them stand otherwise before.
 fn standings(alloc: Global, state: &DayState) -> Option<(usize, usize)> {
-    let (day, plan) = (state.day(), state.plan());
+    let day = state.day();
+    let plan = state.plan();
     let all = again!(Standings::of(alloc, state, plan), AllocError, true)?;
     let none = again!(all.changes(alloc, day, &all), AllocError, true)?;
     Some((all.as_slice().len(), none.len()))
@@ -94,15 +110,13 @@ fn standings(alloc: Global, state: &DayState) -> Option<(usize, usize)> {
 #[test]
 fn refused_memory_in_texts(rt: HostRuntime) {
     let alloc = rt.alloc();
+    let why = Question::Why(FlightName::new(b"AB3").expect(&rt, "no name"));
     assert_holds(&rt, is_text(line(alloc), "REFUSED 7 EXISTS\n"), "a line");
     let state = made(alloc, &THREE_FLIGHTS).expect(&rt, "no day");
     assert_holds(&rt, is_text(report(alloc, &state), REPORT), "a report");
     assert_holds(&rt, is_text(growth(alloc, &state), DELTA), "a growth");
-    let why = Question::Why(FlightName::new(b"AB3").expect(&rt, "no name"));
-    for (question, wanted) in [(why, WHY), (Question::Load(None), LOAD)] {
-        let found = answered(alloc, &state, &question);
-        assert_holds(&rt, is_text(found, wanted), wanted);
-    }
+    assert_answered(&rt, alloc, &state, why, WHY);
+    assert_answered(&rt, alloc, &state, Question::Load(None), LOAD);
     assert_found(&rt, standings(alloc, &state), Some((3, 0)), "standings");
     assert_holds(&rt, is_day(&state, 9, PLANS[0]), "the day");
 }
