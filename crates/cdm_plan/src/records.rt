@@ -47,7 +47,7 @@ pub trait Records {
         ensures sound { IsSound (day self.now) }
         ensures each { let d = day self.now in (place : ℕ) → IfSome (slice_get result.now place) (λ brief.
             option_map (brief_of (taxi_of d.airport d.journal))
-                (option_and_then (flight_of d.airport d.journal) (slice_get (flights_in d.journal) place)) ≡ Some brief) };
+            (option_and_then (flight_of d.airport d.journal) (slice_get (flights_in d.journal) place)) ≡ Some brief) };
 
     /// How many runways there are.
     fn runways(&self) -> usize

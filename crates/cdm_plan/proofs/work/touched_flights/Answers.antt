@@ -88,10 +88,10 @@ loop-place-preserved-then-stands g c =
     let so_far = filter_map flight (take place (flights_in d.journal)) in
     let known = option_and_then flight (slice_get (flights_in d.journal) place) in
     let none = standing t (taxi_of d.airport d.journal) known (slice_get c.briefs-briefs.result.now place) (c.briefs-briefs.ensures.each place)
-        (sym c.stands.ensures ∙ c.if-stands.true) in
+    (sym c.stands.ensures ∙ c.if-stands.true) in
     let next : asked_of t (filter_map flight (take (place + 1) (flights_in d.journal))) ≡ asked_of t so_far =
-        ap (asked_of t) (records-next flight (flights_in d.journal) place)
-        ∙ (filter-append (λ f. not (is_untouched t f)) so_far (cons_option known []) ∙ (ap (λ l. asked_of t so_far ++ l) none ∙ append-nil (asked_of t so_far))) in
+    ap (asked_of t) (records-next flight (flights_in d.journal) place)
+    ∙ (filter-append (λ f. not (is_untouched t f)) so_far (cons_option known []) ∙ (ap (λ l. asked_of t so_far ++ l) none ∙ append-nil (asked_of t so_far))) in
     record {
       gone = c.loop-place.invariant.gone ∙ sym (ap gone_of next);
       asked = c.loop-place.invariant.asked ∙ sym (ap planned_of next);

@@ -12,4 +12,4 @@ returns-clause-each c =
     let d : DayRecord = record { airport = arc_value s.airport; journal = (arc_value s.journal).items } in
     rw (← c.self.view_is)
     (λ place. subst (λ (o : Option Brief). IfSome (slice_get c.kept_briefs.result.now place) (λ b. o ≡ Some b)) (sym (brief_told d s.parts c.self.invariant place))
-        (c.kept_briefs.ensures place))
+    (c.kept_briefs.ensures place))
