@@ -58,12 +58,11 @@ fn refused_memory_leaves_an_overlay(rt: HostRuntime) {
     assert_holds(&rt, is_day(&base, 9, PLANS[0]), "the day");
 }
 
-// Adds the update at this place of a morning to a scenario.
-fn add(scenario: &mut Scenario, place: usize) -> Option<()> {
-    let (_, update) = morning(place)?;
+// Adds an update to a scenario.
+fn add(scenario: &mut Scenario, update: &Update) -> Option<()> {
     let updates = scenario.updates().len();
     again!(
-        scenario.add(update),
+        scenario.add(*update),
         ScenarioFault::Memory,
         scenario.updates().len() == updates
     )
@@ -73,7 +72,8 @@ fn add(scenario: &mut Scenario, place: usize) -> Option<()> {
 fn of_morning(alloc: Global) -> Option<Scenario> {
     let mut scenario = Scenario::empty(alloc, ScenarioName::new(b"MORNING")?);
     for place in 0..UPDATES {
-        add(&mut scenario, place)?;
+        let (_, update) = morning(place)?;
+        add(&mut scenario, &update)?;
     }
     Some(scenario)
 }
