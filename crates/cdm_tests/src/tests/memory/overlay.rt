@@ -5,7 +5,7 @@ use super::{
 use crate::tests::asserts::{assert_found, assert_holds};
 use crate::tests::days::THREE_FLIGHTS;
 use cdm_day::{DayState, Records, Reply};
-use cdm_flight::Update;
+use cdm_flight::{Role, Update};
 use cdm_phase::{OpenGate, Workers};
 use cdm_scenario::{Outcome, Overlay, Scenario, ScenarioFault, ScenarioName, answer, answer_all};
 use std::alloc::{AllocError, Global};
@@ -68,12 +68,26 @@ fn add(scenario: &mut Scenario, update: &Update) -> Option<()> {
     )
 }
 
+// All updates of a morning.
+fn whole_morning() -> Option<[(Role, Update); UPDATES]> {
+    Some([
+        morning(0)?,
+        morning(1)?,
+        morning(2)?,
+        morning(3)?,
+        morning(4)?,
+        morning(5)?,
+        morning(6)?,
+        morning(7)?,
+        morning(8)?,
+    ])
+}
+
 // The scenario of a morning's updates.
 fn of_morning(alloc: Global) -> Option<Scenario> {
     let mut scenario = Scenario::empty(alloc, ScenarioName::new(b"MORNING")?);
-    for place in 0..UPDATES {
-        let (_, update) = morning(place)?;
-        add(&mut scenario, &update)?;
+    for (_, update) in &whole_morning()? {
+        add(&mut scenario, update)?;
     }
     Some(scenario)
 }
