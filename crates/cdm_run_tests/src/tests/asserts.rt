@@ -10,9 +10,7 @@ pub fn assert_found<T: PartialEq + Debug + Drop, P: Debug + Drop>(
     wanted: T,
     place: P,
 ) {
-    if found != wanted {
-        panic!(rt; "{place:?}: {found:?} in place of {wanted:?}");
-    }
+    assert_eq!(rt; found, wanted, "{place:?}");
 }
 
 /// Asserts that something holds. A failure tells where it doesn't.

@@ -1,5 +1,4 @@
 //! Readers and writers that give or take little, or fail, and a gate at which two meet.
-use cdm_feed::Device;
 use cdm_phase::{Gate, PhaseName};
 use std::alloc::Global;
 use std::io;
@@ -53,11 +52,6 @@ impl Read for Source<'_> {
         self.left = &self.left[count..];
         Ok(count)
     }
-}
-
-/// A reader that gives the text whole.
-pub fn whole(text: &str) -> Device<Source<'_>> {
-    Device::new(Source::whole(text.as_bytes()))
 }
 
 /// Where a writer stops: at a write of this number, from 1, by an error or by no byte, or at its flush.

@@ -1,7 +1,6 @@
 //! Runs whose text is lines of JSON.
 use super::runs::{AIRPORT, FEED, is_made_of};
-use crate::tests::asserts::assert_holds;
-use crate::tests::devices::{Page, whole};
+use crate::tests::devices::{Page, Source};
 use cdm_check::FilePaths;
 use cdm_feed::{
     Asked, CommonFault, Counted, DayQuestion, DayText, Device, Lent, RunError, run_asked,
@@ -74,88 +73,76 @@ fn ask<R: AllocGlobal + Threads + Sync + Abort>(
     let answer = run_asked(
         &lent,
         asked,
-        &mut whole(AIRPORT),
-        &mut whole(feed),
-        &mut whole(SCENARIO),
+        &mut Device::new(Source::whole(AIRPORT.as_bytes())),
+        &mut Device::new(Source::whole(feed.as_bytes())),
+        &mut Device::new(Source::whole(SCENARIO.as_bytes())),
         &mut out,
     );
     (answer, out.into_inner())
 }
 
-// Whether the run writes a text of these parts. Nothing where it was refused memory and has written nothing.
-fn written<R: AllocGlobal + Threads + Sync + Abort>(
-    rt: &R,
-    asked: &Asked<'_>,
-    parts: &[&str],
-) -> Option<bool> {
-    let (answer, out) = ask(rt, asked);
-    let text = out.text();
-    match answer {
-        Err(RunError::Common(CommonFault::Memory)) if text.is_empty() => None,
-        Err(_) => Some(false),
-        Ok(_) => Some(is_made_of(text, parts)),
-    }
-}
-
-// The same, where the run is made once more if there is nothing.
+// Whether the run, made once more where it was refused memory and had written nothing, writes a text of these parts.
 fn is_written<R: AllocGlobal + Threads + Sync + Abort>(
     rt: &R,
     asked: &Asked<'_>,
     parts: &[&str],
 ) -> bool {
-    match written(rt, asked, parts) {
-        Some(is_written) => is_written,
-        None => written(rt, asked, parts) == Some(true),
-    }
+    let (answer, out) = ask(rt, asked);
+    let (answer, out) = if answer == Err(RunError::Common(CommonFault::Memory))
+        && out.text().is_empty()
+    {
+        ask(rt, asked)
+    } else {
+        (answer, out)
+    };
+    answer.is_ok() && is_made_of(out.text(), parts)
 }
-
-// Asserts that the text of the day is made of these parts.
-fn assert_written<R: AllocGlobal + Threads + Sync + Abort>(rt: &R, text: DayText, parts: &[&str]) {
-    assert_holds(rt, is_written(rt, &Asked::Day(text), parts), text);
-}
-
-// Asserts the answers to two questions of the day.
-fn assert_answers<R: AllocGlobal + Threads + Sync + Abort>(rt: &R, flight: FlightName) {
-    let why = DayQuestion::View(Question::Why(flight));
-    let load = DayQuestion::View(Question::Load(None));
-    let why = DayText::Answer(why, None, Format::Json);
-    let load = DayText::Answer(load, None, Format::Json);
-    assert_written(rt, why, &["{\"row\":", ROW, WHY]);
-    assert_written(rt, load, &[LOAD]);
-}
-
-/// The parts of the trace.
-const TRACE: [&str; 9] = [
-    FIRST,
-    NEW,
-    "}\n",
-    SECOND,
-    ON_A_RUNWAY,
-    "}\n",
-    THIRD,
-    ROW,
-    "}\n",
-];
-
-/// The files that are checked.
-const PATHS: FilePaths<'static> = FilePaths {
-    airport: "a.csv",
-    feed: "f.csv",
-    scenarios: Some("s.csv"),
-};
 
 /// Each text in JSON: nothing for want of memory, and then the whole text.
 #[test]
 fn refused_memory_in_lines_of_json(rt: HostRuntime) {
     let flight = FlightName::new(b"AB1").expect(&rt, "flight");
     let json = Format::Json;
-    let plan = [PLAN, ROW, "],\"refused\":[]}\n", REFUSED];
-    assert_written(&rt, DayText::Plan(json), &plan);
-    let comparison = DayText::Table(Table::ComparisonJson(None));
-    assert_written(&rt, comparison, &[LINE, REFUSED]);
-    assert_answers(&rt, flight);
-    assert_written(&rt, DayText::Trace(Some(flight), None, json), &TRACE);
+    let paths = FilePaths {
+        airport: "a.csv",
+        feed: "f.csv",
+        scenarios: Some("s.csv"),
+    };
+    let table: [(DayText, &[&str]); 5] = [
+        (
+            DayText::Plan(json),
+            &[PLAN, ROW, "],\"refused\":[]}\n", REFUSED],
+        ),
+        (
+            DayText::Table(Table::ComparisonJson(None)),
+            &[LINE, REFUSED],
+        ),
+        (
+            DayText::Answer(DayQuestion::View(Question::Why(flight)), None, json),
+            &["{\"row\":", ROW, WHY],
+        ),
+        (
+            DayText::Answer(DayQuestion::View(Question::Load(None)), None, json),
+            &[LOAD],
+        ),
+        (
+            DayText::Trace(Some(flight), None, json),
+            &[
+                FIRST,
+                NEW,
+                "}\n",
+                SECOND,
+                ON_A_RUNWAY,
+                "}\n",
+                THIRD,
+                ROW,
+                "}\n",
+            ],
+        ),
+    ];
+    for (text, parts) in table {
+        assert!(rt; is_written(&rt, &Asked::Day(text), parts), "{text:?}");
+    }
     let found = [HINT, "{\"records\":9,\"refused\":0}\n"];
-    let is_checked = is_written(&rt, &Asked::Check(PATHS, json), &found);
-    assert_holds(&rt, is_checked, "a check");
+    assert!(rt; is_written(&rt, &Asked::Check(paths, json), &found));
 }

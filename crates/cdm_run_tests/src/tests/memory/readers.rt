@@ -5,7 +5,7 @@ use cdm_day::{Airport, DayState};
 use cdm_feed::{
     Device, FileFault, InputFault, read_airport, read_feed, read_input, read_scenarios,
 };
-use cdm_flight::{RefusalWord, Role, Update};
+use cdm_flight::RefusalWord;
 use cdm_journal::{LineRead, journal_line, own_lines, read_journal, read_line};
 use cdm_phase::{OpenGate, Workers};
 use cdm_time::Day;
@@ -58,24 +58,11 @@ fn airport_fault(alloc: Global, text: &[u8]) -> Option<(usize, RefusalWord)> {
     }
 }
 
-/// A record of a feed: an update and who makes it, or why it spells none.
-type Record = Result<(Role, Update), RefusalWord>;
-
-// Whether each record spells an update.
-fn are_spelled(records: &[Record]) -> bool {
-    for record in records {
-        if record.is_err() {
-            return false;
-        }
-    }
-    true
-}
-
 // How many records a feed has, and whether its last is refused for its text and the others aren't.
 fn records(alloc: Global, day: &Day, text: &[u8]) -> Option<(usize, bool)> {
     let feed = again!(read_feed(alloc, day, text), AllocError).ok()?;
     let (last, others) = feed.split_last()?;
-    let is_last = *last == Err(RefusalWord::Text) && are_spelled(others);
+    let is_last = *last == Err(RefusalWord::Text) && others.iter().all(|record| record.is_ok());
     Some((feed.len(), is_last))
 }
 
@@ -87,8 +74,7 @@ fn scenarios(
 ) -> Option<Result<(usize, usize), (usize, RefusalWord)>> {
     match again!(read_scenarios(alloc, day, text), FileFault::Memory) {
         Ok(scenarios) => {
-            let first = scenarios.first()?;
-            let last = scenarios.last()?;
+            let (first, last) = (scenarios.first()?, scenarios.last()?);
             Some(Ok((first.updates().len(), last.updates().len())))
         }
         Err(FileFault::Refused(number, word)) => Some(Err((number, word))),
@@ -115,11 +101,13 @@ fn refused_memory_in_files(rt: HostRuntime) {
     assert_found(&rt, fault, Some((3, RefusalWord::Unknown)), "an airport");
     let feed = records(alloc, &day, FEED);
     assert_found(&rt, feed, Some((4, true)), "a feed");
-    let found = scenarios(alloc, &day, SCENARIOS);
-    assert_found(&rt, found, Some(Ok((2, 0))), "scenarios");
-    let found = scenarios(alloc, &day, b"CNL,AB1\n");
-    let wanted = Err((1, RefusalWord::Order));
-    assert_found(&rt, found, Some(wanted), "a scenario");
+    for (file, wanted) in [
+        (SCENARIOS, Ok((2, 0))),
+        (b"CNL,AB1\n".as_slice(), Err((1, RefusalWord::Order))),
+    ] {
+        let found = scenarios(alloc, &day, file);
+        assert_found(&rt, found, Some(wanted), "scenarios");
+    }
 }
 
 // The line of a journal that a record makes.
@@ -156,11 +144,11 @@ fn day_of<R: Threads + Sync>(
     airport: &Airport,
     journal: &[u8],
 ) -> Result<DayState, FileFault> {
+    let workers = Workers::new(1).unwrap();
+    let airport = airport.copy(alloc)?;
     if journal.len() > LONGEST_JOURNAL {
         return Err(FileFault::Memory);
     }
-    let workers = Workers::new(1).unwrap();
-    let airport = airport.copy(alloc)?;
     read_journal(rt, alloc, airport, journal, workers, &OpenGate)
 }
 
@@ -186,9 +174,8 @@ fn refused_memory_in_a_journal(rt: HostRuntime) {
     assert_holds(&rt, is_line, "a line");
     assert_holds(&rt, has_lines(alloc, UNTIDY, JOURNAL), "own lines");
     let airport = airport_of(alloc, AIRPORT).ok().expect(&rt, "no airport");
-    let found = updates(&rt, alloc, &airport, JOURNAL);
-    assert_found(&rt, found, Some(Ok(3)), "updates");
-    let found = updates(&rt, alloc, &airport, FEED);
-    let wanted = Err((4, RefusalWord::Text));
-    assert_found(&rt, found, Some(wanted), "a fault");
+    for (journal, wanted) in [(JOURNAL, Ok(3)), (FEED, Err((4, RefusalWord::Text)))] {
+        let found = updates(&rt, alloc, &airport, journal);
+        assert_found(&rt, found, Some(wanted), "updates");
+    }
 }

@@ -1,6 +1,6 @@
 //! Whole runs.
 use crate::tests::asserts::assert_found;
-use crate::tests::devices::{Page, whole};
+use crate::tests::devices::{Page, Source};
 use cdm_feed::{CommonFault, Device, RunCounts, RunError, run};
 use cdm_live::{LiveCounts, LiveError, run_live};
 use cdm_phase::{OpenGate, Workers};
@@ -81,9 +81,9 @@ fn plan<R: AllocGlobal + Threads + Sync + Abort>(
     let answer = run(
         rt,
         rt.alloc(),
-        &mut whole(AIRPORT),
-        &mut whole(FEED),
-        &mut whole(SCENARIOS),
+        &mut Device::new(Source::whole(AIRPORT.as_bytes())),
+        &mut Device::new(Source::whole(FEED.as_bytes())),
+        &mut Device::new(Source::whole(SCENARIOS.as_bytes())),
         workers,
         &OpenGate,
         &mut out,
@@ -117,9 +117,10 @@ fn told<R: AllocGlobal + Threads + Sync + Abort>(
 ) -> Option<(Result<RunCounts, RunError>, bool)> {
     let (answer, out) = plan(rt, count);
     let text = out.text();
-    match answer {
-        Err(RunError::Common(CommonFault::Memory)) if text.is_empty() => None,
-        answer => Some((answer, is_made_of(text, &PARTS))),
+    if text.is_empty() && answer == Err(RunError::Common(CommonFault::Memory)) {
+        None
+    } else {
+        Some((answer, is_made_of(text, &PARTS)))
     }
 }
 
@@ -134,15 +135,12 @@ fn told_again<R: AllocGlobal + Threads + Sync + Abort>(
     }
 }
 
-/// How many workers a run has.
-const WORKERS: [usize; 4] = [1, 2, 7, 64];
-
 /// Runs of one text with 1, 2, 7 and 64 workers: nothing for want of memory, and then the whole text.
 #[test]
 fn refused_memory_in_a_run(rt: HostRuntime) {
-    for count in &WORKERS {
-        let found = told_again(&rt, *count);
-        assert_found(&rt, found, Some((Ok(COUNTS), true)), (*count, "workers"));
+    for count in [1, 2, 7, 64] {
+        let found = told_again(&rt, count);
+        assert_found(&rt, found, Some((Ok(COUNTS), true)), (count, "workers"));
     }
 }
 
@@ -159,16 +157,16 @@ DESK 2 POSTS 0 REFUSED 0
 // What a live run of two feeds answers, and what it has written.
 fn live<R: AllocGlobal + Threads + Wait + Sync + Abort>(
     rt: &R,
-    feed1: &str,
-    feed2: &str,
+    feed1: &[u8],
+    feed2: &[u8],
 ) -> (Result<LiveCounts, LiveError>, Page) {
     let mut out = Device::new(Page::new());
     let answer = run_live(
         rt,
         rt.alloc(),
-        &mut whole(AIRPORT),
-        &mut whole(feed1),
-        &mut whole(feed2),
+        &mut Device::new(Source::whole(AIRPORT.as_bytes())),
+        &mut Device::new(Source::whole(feed1)),
+        &mut Device::new(Source::whole(feed2)),
         &OpenGate,
         &mut out,
     );
@@ -179,20 +177,21 @@ fn live<R: AllocGlobal + Threads + Wait + Sync + Abort>(
 // memory and has written nothing.
 fn live_told<R: AllocGlobal + Threads + Wait + Sync + Abort>(
     rt: &R,
-    feed: &str,
+    feed: &[u8],
 ) -> Option<(Result<LiveCounts, LiveError>, bool)> {
-    let (answer, out) = live(rt, feed, "");
+    let (answer, out) = live(rt, feed, b"");
     let text = out.text();
-    match answer {
-        Err(LiveError::Common(CommonFault::Memory)) if text.is_empty() => None,
-        answer => Some((answer, text == LIVE.as_bytes())),
+    if text.is_empty() && answer == Err(LiveError::Common(CommonFault::Memory)) {
+        None
+    } else {
+        Some((answer, text == LIVE.as_bytes()))
     }
 }
 
 // The same, made once more where there is nothing.
 fn live_told_again<R: AllocGlobal + Threads + Wait + Sync + Abort>(
     rt: &R,
-    feed: &str,
+    feed: &[u8],
 ) -> Option<(Result<LiveCounts, LiveError>, bool)> {
     match live_told(rt, feed) {
         Some(told) => Some(told),
@@ -209,6 +208,6 @@ fn refused_memory_in_a_live_run(rt: HostRuntime) {
         refused: 0,
         calls: 3,
     };
-    let found = live_told_again(&rt, feed);
+    let found = live_told_again(&rt, feed.as_bytes());
     assert_found(&rt, found, Some((Ok(counts), true)), "a live run");
 }

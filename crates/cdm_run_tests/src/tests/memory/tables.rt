@@ -1,7 +1,6 @@
 //! Tables of a day.
 use super::readers::airport_of;
 use super::runs::{AIRPORT, FEED};
-use crate::tests::asserts::{assert_found, assert_holds};
 use cdm_day::{Airport, DayState};
 use cdm_feed::{FileFault, read_scenarios};
 use cdm_journal::read_journal;
@@ -10,7 +9,7 @@ use cdm_plan::Runner;
 use cdm_scenario::{Scenario, ScenarioName};
 use cdm_table::{Table, TableFault, tabulate};
 use std::alloc::Global;
-use std::process::Abort;
+use std::test::Fail;
 use std::thread::Threads;
 
 const SCENARIO: &[u8] = b"SCENARIO,SHUT\nCLOSE,27L,2025-03-10T06:10Z,2025-03-10T06:30Z\n";
@@ -48,18 +47,12 @@ fn day_of<R: Threads + Sync>(
     read_journal(rt, alloc, airport, FEED.as_bytes(), workers, &OpenGate)
 }
 
-// The same, made once more where memory was refused.
-fn base_of<R: Threads + Sync>(rt: &R, alloc: Global, airport: &Airport) -> Option<DayState> {
-    again!(day_of(rt, alloc, airport), FileFault::Memory).ok()
-}
-
 // The scenarios of a file.
-fn scenarios_of(alloc: Global, airport: &Airport) -> Option<Vec<Scenario>> {
+fn scenarios_of(alloc: Global, airport: &Airport) -> Result<Vec<Scenario>, FileFault> {
     again!(
         read_scenarios(alloc, airport.day(), SCENARIO),
         FileFault::Memory
     )
-    .ok()
 }
 
 // The text of a table.
@@ -79,55 +72,28 @@ fn text_of<R: Threads + Sync>(
     tabulate(alloc, base, scenarios, *table, &runner)
 }
 
-// Whether it is this text.
-fn is_tabulated<R: Threads + Sync>(
-    rt: &R,
-    alloc: Global,
-    (base, scenarios): (&DayState, &[Scenario]),
-    table: &Table,
-    workers: &Workers,
-    wanted: &str,
-) -> bool {
-    match again!(
-        text_of(rt, alloc, base, scenarios, table, workers),
-        TableFault::Memory
-    ) {
-        Ok(text) => text.as_slice() == wanted.as_bytes(),
-        Err(_) => false,
-    }
-}
-
-// Asserts that the table that so many workers make is this text.
-fn assert_tabulated<R: Threads + Sync + Abort>(
-    rt: &R,
-    alloc: Global,
-    day: (&DayState, &[Scenario]),
-    table: &Table,
-    count: usize,
-    wanted: &str,
-) {
-    let workers = Workers::new(count).expect(rt, "no workers");
-    let is_told = is_tabulated(rt, alloc, day, table, &workers, wanted);
-    assert_holds(rt, is_told, (count, "workers"));
-}
-
-// Asserts the tables of the day, which stays.
-fn assert_tables<R: Threads + Sync + Abort>(rt: &R, alloc: Global, airport: &Airport) {
-    let name = ScenarioName::new(b"SHUT").expect(rt, "no name");
-    let base = base_of(rt, alloc, airport).expect(rt, "no day");
-    let scenarios = scenarios_of(alloc, airport).expect(rt, "no scenario");
-    let day = (&base, scenarios.as_slice());
-    assert_tabulated(rt, alloc, day, &Table::Csv, 1, ROWS);
-    assert_tabulated(rt, alloc, day, &Table::Csv, 2, ROWS);
-    let comparison = Table::Comparison(Some(name));
-    assert_tabulated(rt, alloc, day, &comparison, 2, COMPARED);
-    assert_found(rt, base.journal().len(), 9, "updates");
-}
-
 /// Rows and a comparison of a day and a scenario over it, by one worker and by two.
 #[test]
-fn refused_memory_in_tables(rt: HostRuntime) {
-    let airport = airport_of(rt.alloc(), AIRPORT.as_bytes()).ok();
-    let airport = airport.expect(&rt, "no airport");
-    assert_tables(&rt, rt.alloc(), &airport);
+fn refused_memory_in_tables(rt: HostRuntime) -> Result<(), Fail> {
+    let alloc = rt.alloc();
+    let airport = airport_of(alloc, AIRPORT.as_bytes()).map_err(|_| "no airport")?;
+    let base = again!(day_of(&rt, alloc, &airport), FileFault::Memory);
+    let base = base.map_err(|_| "no day")?;
+    let scenarios = scenarios_of(alloc, &airport).map_err(|_| "no scenario")?;
+    let name = ScenarioName::new(b"SHUT").ok_or("no name")?;
+    for (table, count, wanted) in [
+        (Table::Csv, 1, ROWS),
+        (Table::Csv, 2, ROWS),
+        (Table::Comparison(Some(name)), 2, COMPARED),
+    ] {
+        let workers = Workers::new(count).ok_or("no workers")?;
+        let text = again!(
+            text_of(&rt, alloc, &base, &scenarios, &table, &workers),
+            TableFault::Memory
+        );
+        let text = text.map_err(|_| "no table")?;
+        assert_eq!(rt; text.as_slice(), wanted.as_bytes(), "{count} workers");
+    }
+    assert_eq!(rt; base.journal().len(), 9);
+    Ok(())
 }
