@@ -4,9 +4,9 @@ use Rattle.cdm_plan.proofs.ListWords.{is_none, All, All-head, All-tail, AllZip, 
 use Rattle.cdm_plan.proofs.ListWords.{IsPermutation-append_comm, IsPermutation-append_left, IsPermutation-append_right, All-contains, All-weaker}
 use Rattle.cdm_plan.proofs.ListWords.{IsPermutation-middle, IsPermutation-refl, IsPermutation-sym, IsPermutation-trans, contains_head, contains_map}
 use Rattle.cdm_plan.proofs.ListWords.{Contains-permutation, contains_tail, filter_passes, filter_same, length_permutation}
-use Rattle.cdm_plan.proofs.PlanWords.{DayValues, Flight, is_planned, TaxiRows, values_of, taxi_of, RunwayRules, TaxiTimes, IsSequence}
+use Rattle.cdm_plan.proofs.PlanWords.{DayValues, Flight, is_planned, values_of, taxi_of, RunwayRules, TaxiTimes, IsSequence}
 use Rattle.cdm_plan.proofs.PlanWords.{Plan, RunwayPlan, BlockedFlight, CanSequence, IsAimed, IsAimedBy, early_among, target_for, DayRecord, same_name}
-use Rattle.cdm_plan.proofs.PlanWords.{day_rules, records_in, HasParts, fixed_on, planned_of, TellTaxi, AreKept, Together, kept_plan}
+use Rattle.cdm_plan.proofs.PlanWords.{day_rules, records_in, HasParts, fixed_on, planned_of, AreKept, Together, kept_plan}
 use Rattle.cdm_plan.proofs.PlanWords.{asked_of, is_touched, kept_blocked, kept_of}
 use Rattle.cdm_plan.specs.declared.aimed.Aimed.{Aimed}
 use Rattle.cdm_plan.specs.declared.aimed.Asked.{Asked}

@@ -1,7 +1,7 @@
 //! What there is to do for the plan of a day.
-ghost use Rattle.std.specs.Prelude.{◌≡◌, ◌+◌, ◌<◌, ◌≤◌, ◌++◌, ◌∷◌, [], false, not, filter, map, slice_get, All, IfOk, OnOk, vec_len, vec_capacity};
+ghost use Rattle.std.specs.Prelude.{◌≡◌, ℕ, true, ◌+◌, ◌<◌, ◌≤◌, ◌++◌, ◌∷◌, [], false, not, filter, map, slice_get, All, IfOk, OnOk, vec_len, vec_capacity};
 ghost use Rattle.std.specs.List.{cons_option};
-ghost use Rattle.std.specs.Option.{option_copied, option_map_or};
+ghost use Rattle.std.specs.Option.{option_copied};
 ghost use Rattle.cdm_flight.specs.Journal.{taxi_of};
 ghost use Rattle.cdm_sequence.specs.Aims.{TaxiTimes, own_exot};
 ghost use Rattle.cdm_plan.specs.Brief.{counted_on};
@@ -9,7 +9,7 @@ ghost use Rattle.cdm_plan.specs.DayPlan.{AreByName, records_in};
 ghost use Rattle.cdm_plan.specs.Kept.{asked_of, is_touched};
 ghost use Rattle.cdm_plan.specs.Planning.{gone_of, planned_of};
 ghost use Rattle.cdm_plan.specs.Sound.{IsSound};
-ghost use Rattle.cdm_plan.specs.inner.Work.{HasExot, IsWork};
+ghost use Rattle.cdm_plan.specs.inner.Work.{HasExot, IsWork, is_standing};
 
 use crate::aimed::Asked;
 use crate::brief::Brief;
@@ -75,12 +75,24 @@ fn push_touched<'a>(
 // Whether the flight at a place is kept in brief, and counts on a runway that wasn't touched.
 #[inline(always)]
 fn stands(briefs: &[Brief], touched: &Touched, place: usize) -> bool
-    ensures { result ≡ option_map_or (λ b. option_map_or (λ r. not (is_touched touched.now r)) b.runway false) (slice_get briefs.now place) false }
+    ensures { result ≡ is_standing touched.now (slice_get briefs.now place) }
 {
     match briefs.get(place) {
         Some(brief) => touched.keeps(brief.runway),
         None => false,
     }
+}
+
+// The first place from this one on whose flight isn't kept in brief, or counts on a runway that was touched.
+fn first_touched(briefs: &[Brief], touched: &Touched, from: usize) -> usize
+    ensures from { from ≤ result }
+    ensures before { (k : ℕ) → from ≤ k → k < result → is_standing touched.now (slice_get briefs.now k) ≡ true }
+{
+    let mut place = from;
+    while stands(briefs, touched, place) {
+        place += 1;
+    }
+    place
 }
 
 // The flights that count on no runway and those of the touched runways, in the order of first appearance: those that have left
@@ -101,14 +113,14 @@ fn touched_flights<'a, R: Records>(
     let mut gone = Vec::with_capacity(alloc, known)?;
     let mut asked = Vec::with_capacity(alloc, known)?;
     let briefs = records.briefs();
-    for place in 0..known {
-        if stands(briefs, touched, place) {
-            continue;
-        }
+    let mut place = first_touched(briefs, touched, 0);
+    while place < known {
         let Some((flight, brief)) = records.known_at(place) else {
+            place += 1;
             continue;
         };
         push_touched(&mut gone, &mut asked, touched, flight, brief);
+        place = first_touched(briefs, touched, place + 1);
     }
     Ok((gone, asked))
 }

@@ -1,8 +1,9 @@
 -- What there is to do for the plan of a day.
-use Rattle.std.specs.Prelude.{◌≡◌, All, filter, map}
+use Rattle.std.specs.Prelude.{◌≡◌, All, Bool, Option, false, filter, map, not}
+use Rattle.std.specs.Option.{option_map_or}
 use Rattle.cdm_flight.specs.Journal.{taxi_of}
-use Rattle.cdm_flight.specs.Record.{is_planned}
 use Rattle.cdm_sequence.specs.Aims.{TaxiTimes, own_exot}
+use Rattle.cdm_plan.specs.declared.brief.Brief.{Brief}
 use Rattle.cdm_plan.specs.declared.touched.Touched.{Touched}
 use Rattle.cdm_plan.specs.declared.aimed.Asked.{Asked}
 use Rattle.cdm_plan.specs.declared.work.Work.{Work}
@@ -15,6 +16,10 @@ use Rattle.cdm_plan.specs.Kept.{asked_of, is_touched}
 -- the flight has this taxi-out time by these taxi times
 abbrev pub HasExot : TaxiTimes → Asked → Type 0
 HasExot times a = own_exot times a.flight.now ≡ a.exot
+
+-- a flight in brief, if it is kept so, counts on a runway that wasn't touched
+abbrev pub is_standing : Touched → Option Brief → Bool
+is_standing t kept = option_map_or (λ b. option_map_or (λ r. not (is_touched t r)) b.runway false) kept false
 
 -- the flights that don't stand as they did, those on their stands with their taxi-out times, all runways by name, and those that
 -- were touched

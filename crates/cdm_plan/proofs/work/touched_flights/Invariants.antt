@@ -1,4 +1,4 @@
-use Rattle.std.proofs.Common.{◌≡◌, ◌≤◌, take, map}
+use Rattle.std.proofs.Common.{◌≡◌, ◌-◌, ◌≤◌, take, map}
 use Rattle.std.specs.Prelude.{vec_capacity, vec_len}
 use Rattle.cdm_plan.proofs.ListWords.{All, filter_map}
 use Rattle.cdm_plan.proofs.PlanWords.{asked_of, flight_of, flights_in, gone_of, planned_of, taxi_of}
@@ -17,3 +17,7 @@ invariant-loop-place g l =
       few : (vec_len l.gone ≤ l.place) × (vec_len l.asked ≤ l.place);
       room : (l.known ≤ vec_capacity l.gone) × (l.known ≤ vec_capacity l.asked);
     }
+
+-- the places that are left
+abbrev pub decreases-loop-place : goal.decreases-loop-place
+decreases-loop-place g l = l.known - l.place
