@@ -7,7 +7,7 @@ ghost use Rattle.std.specs.declared.io.ErrorKind.TheVariants.{Other};
 ghost use Rattle.cdm_port.specs.Disk.{Did};
 ghost use Rattle.cdm_port.specs.declared.disk.FileCall.TheVariants as call;
 
-use crate::history::History;
+use cdm_history::History;
 use std::fs::{File, Files, Metadata, OpenOptions, Permissions};
 use std::io::{Error, ErrorKind, Read, Write};
 use std::os::fd::{AsRawFd, RawFd};

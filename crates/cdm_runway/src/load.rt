@@ -5,6 +5,7 @@ ghost use Rattle.cdm_runway.specs.inner.Tally.{EndsBy, IsReach};
 use crate::passed::{Passed, Stretch};
 use crate::{PassedOver, Runway};
 use cdm_flight::{CellLength, Group, Occupancy};
+use cdm_history::History;
 use cdm_time::{HORIZON_MINUTES, Minute, Window};
 use std::marker::Model;
 
@@ -26,32 +27,31 @@ pub enum Blocked {
 }
 
 /// A minute that a flight takes, and for how many minutes from it on it occupies the runway.
-#[derive(Clone, Copy, PartialEq, Eq, Debug)]
+#[derive(Clone, Copy)]
 pub struct Taken {
     pub minute: Minute,
     pub occupancy: Occupancy,
 }
 
-/// The minutes that flights have taken on one runway, at most 2,000, with their occupancies.
-#[derive(Debug, Drop)]
+/// The minutes that flights have taken on one runway, at most 2,000, with their occupancies. It counts them by cell and keeps the
+/// longest occupancy from each minute on; the list itself stands in contracts alone.
+#[derive(Drop)]
 pub struct RunwayLoad {
     cell: CellLength,
-    taken: [Taken; MOST_FLIGHTS],
-    len: usize,
+    taken: History<Taken>,
     counts: [u16; MOST_CELLS],
     longest: [Occupancy; HORIZON_MINUTES as usize],
 }
 
 impl Model for RunwayLoad {
-    ghost use Rattle.std.specs.Prelude.{take};
     ghost use Rattle.cdm_runway.specs.Load.{Load};
-    ghost use Rattle.cdm_runway.specs.inner.Tally.{AreCounted};
+    ghost use Rattle.cdm_runway.specs.inner.Tally.{AreCounted, noted};
 
     ghost Value = { Load };
 
-    ghost view = { λ l. record { cell = l.cell; taken = take l.len l.taken } };
+    ghost view = { λ l. record { cell = l.cell; taken = noted l.taken.notes } };
 
-    ghost invariant = { λ l. AreCounted l.cell l.len l.taken l.counts l.longest };
+    ghost invariant = { λ l. AreCounted l.cell (noted l.taken.notes) l.counts l.longest };
 }
 
 // The first minute after the minute's cell.
@@ -113,16 +113,10 @@ impl RunwayLoad {
     pub fn empty(runway: &Runway) -> RunwayLoad
         ensures { result ≡ record { cell = runway.now.cell; taken = [] } }
     {
-        let counts = no_counts();
-        let nothing = Taken {
-            minute: Minute::FIRST,
-            occupancy: Occupancy::NONE,
-        };
         RunwayLoad {
             cell: runway.cell(),
-            taken: [nothing; MOST_FLIGHTS],
-            len: 0,
-            counts,
+            taken: History::new(),
+            counts: no_counts(),
             longest: no_occupancies(),
         }
     }
@@ -135,9 +129,8 @@ impl RunwayLoad {
     {
         let occupancy = runway.occupancy(group);
         let cell = (minute.get() / runway.cell().get()) as usize;
-        let (len, place) = (self.len, minute.get() as usize);
-        self.taken[len] = Taken { minute, occupancy };
-        self.len = len + 1;
+        let place = minute.get() as usize;
+        self.taken.note(&Taken { minute, occupancy }, &[]);
         self.counts[cell] += 1;
         self.longest[place] = longer(self.longest[place], occupancy);
     }

@@ -1,5 +1,5 @@
 -- How a load keeps what was taken.
-use Rattle.std.specs.Prelude.{◌≡◌, ℕ, ◌+◌, ◌<◌, ◌≤◌, ◌/◌, ◌==◌, List, All, Contains, count_by, length, slice_index, take, IsTrue}
+use Rattle.std.specs.Prelude.{◌≡◌, ℕ, ◌+◌, ◌<◌, ◌≤◌, ◌/◌, ◌==◌, List, All, Contains, count_by, length, map, slice_index, IsTrue}
 use Rattle.cdm_flight.specs.Cells.{is_cell_length}
 use Rattle.cdm_runway.specs.declared.load.Taken.{Taken}
 
@@ -14,12 +14,16 @@ pub record AreLongest (taken : List Taken) (longest : List ℕ) : Type 0 where
   pub covers : All (λ t. t.occupancy ≤ slice_index longest t.minute) taken
   pub some : (k : ℕ) → k < 2880 → 0 < slice_index longest k → Contains taken (record { minute = k; occupancy = slice_index longest k })
 
--- the first `len` of the list are taken, counted by cell, and told by their minutes
-pub record AreCounted (cell len : ℕ) (taken : List Taken) (counts longest : List ℕ) : Type 0 where
+-- what was noted as taken; its notes have no bytes
+abbrev pub noted : List (Taken × List ℕ) → List Taken
+noted notes = map (λ note. note.0) notes
+
+-- at most 2,000 are taken, counted by cell, and told by their minutes
+pub record AreCounted (cell : ℕ) (taken : List Taken) (counts longest : List ℕ) : Type 0 where
   pub cell_length : IsTrue (is_cell_length cell)
-  pub within : len ≤ 2000
-  pub tally : IsTally cell (take len taken) counts
-  pub kept : AreLongest (take len taken) longest
+  pub within : length taken ≤ 2000
+  pub tally : IsTally cell taken counts
+  pub kept : AreLongest taken longest
 
 -- no occupancy of those from `first` up to `end` reaches beyond the minute
 abbrev pub EndsBy : List ℕ → ℕ → ℕ → ℕ → Type 0

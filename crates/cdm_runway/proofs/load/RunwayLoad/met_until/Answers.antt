@@ -1,4 +1,5 @@
-use Rattle.std.proofs.Common.{◌<◌, sym, take, arith}
+use Rattle.std.proofs.Common.{◌<◌, sym, arith}
+use Rattle.cdm_runway.specs.inner.Tally.{noted}
 use Rattle.std.proofs.lemmas.Bool.Decides.{nat_tests}
 use Rattle.cdm_runway.proofs.LoadLemmas.{met_either}
 use Rattle.cdm_runway.proofs.load.RunwayLoad.met_until.Goals as goal
@@ -8,5 +9,5 @@ returns c =
     let inside = c.self.inside in
     let some : 0 < c.occupancy-occupancy.result = grind (arith, nat_tests, c.if-eq.ensures) in
     rw (sym c.self.view_is)
-    (met_either c.args.runway.now (take inside.len inside.taken) inside.longest c.args.group c.args.minute c.self.invariant.kept
+    (met_either c.args.runway.now (noted inside.taken.notes) inside.longest c.args.group c.args.minute c.self.invariant.kept
     (rw c.occupancy-occupancy.ensures.value at some) c.reach_beyond.result (rw c.occupancy-occupancy.ensures.value at c.reach_beyond.ensures))

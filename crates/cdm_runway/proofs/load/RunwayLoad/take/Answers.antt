@@ -1,7 +1,8 @@
-use Rattle.std.proofs.Common.{◌≡◌, ◌+◌, ◌<◌, ◌≤◌, max, take, ap, ◌∙◌, arith}
+use Rattle.std.proofs.Common.{◌≡◌, ◌<◌, ◌++◌, ◌∷◌, [], ℕ, List, max, ap, ◌∙◌, arith}
 use Rattle.std.specs.Prelude.{slice_index}
 use Rattle.std.proofs.lemmas.Grind.{common_steps, get_or_default_zero}
-use Rattle.std.proofs.lemmas.List.{take_more_set}
+use Rattle.std.proofs.lemmas.List.{map-append}
+use Rattle.cdm_runway.specs.inner.Tally.{noted}
 use Rattle.cdm_runway.proofs.LoadLemmas.{longest-push}
 use Rattle.cdm_runway.specs.declared.load.Taken.{Taken}
 use Rattle.cdm_runway.proofs.load.RunwayLoad.take.Goals as goal
@@ -12,15 +13,15 @@ invariant_of-self c =
     let longest = inside.longest in
     let kept = c.self.invariant.kept in
     let t : Taken = record { minute = c.args.minute; occupancy = c.occupancy-occupancy.result } in
-    let below : c.args.minute < 2880 = omega (arith, c.get-3.ensures.value, c.get-3.ensures.in_horizon) in
-    let within : inside.len + 1 ≤ 2000 = grind (arith, common_steps) in
+    let below : c.args.minute < 2880 = omega (arith, c.get-place.ensures.value, c.get-place.ensures.in_horizon) in
+    let taken = noted inside.taken.notes in
+    let next : noted c.note.new.self.notes ≡ taken ++ t ∷ [] = ap noted c.note.ensures ∙ map-append (λ (n : Taken × List ℕ). n.0) inside.taken.notes ((t, []) ∷ []) in
     let longer : c.longer.result ≡ max (slice_index longest c.args.minute) c.occupancy-occupancy.result =
-    rw c.get-3.ensures.value at c.longer.ensures
+    rw c.get-place.ensures.value at c.longer.ensures
     ∙ ap (λ n. max n c.occupancy-occupancy.result) (get_or_default_zero longest c.args.minute c.index-self-place.result (omega (arith, kept.minutes))) in
     record {
       cell_length = c.self.invariant.cell_length;
-      within = within;
-      tally = grind (arith, common_steps);
-      kept = rw (c.get-3.ensures.value, take_more_set inside.taken inside.len t (omega (arith, within)))
-          (longest-push (take inside.len inside.taken) t longest c.longer.result kept below c.occupancy-occupancy.ensures.range longer);
+      within = rw next (grind (arith, common_steps));
+      tally = rw next (grind (arith, common_steps));
+      kept = rw (c.get-place.ensures.value, next) (longest-push taken t longest c.longer.result kept below c.occupancy-occupancy.ensures.range longer);
     }

@@ -1,10 +1,10 @@
-//! What has happened outside, which clauses alone read. It takes no memory, and a note does nothing where it runs.
+//! What has happened, which contracts alone read. It takes no memory, and a note does nothing where it runs.
 ghost use Rattle.std.specs.Prelude.{◌≡◌, [], ◌∷◌, ◌++◌, List, ℕ};
 ghost use Rattle.std.specs.Borrow.{ftrue};
 
 use std::marker::{Model, PhantomData};
 
-/// Notes of all that has happened outside, the first of them first: what it was, and its bytes.
+/// Notes of all that has happened, the first of them first: what it was, and its bytes, if it has any.
 #[derive(Drop)]
 pub struct History<H> {
     marker: PhantomData<H>,

@@ -29,11 +29,11 @@ use denote.Triple.Spec.{Meets, triple_of}
 use denote.Triple.Table.{entered}
 use denote.Triple.Walked.{says, Stays, walk_of, ends_at, walk_Meets}
 use Rattle.std.specs.contracts.marker.PhantomData as markers
-use Rattle.cdm_port.specs.contracts.history.History as histories
-use Rattle.cdm_port.specs.contracts.history.History.new as clause
-use Rattle.cdm_port.specs.contracts.history.History.new.Key.{name as #new}
-use Rattle.cdm_port.proofs.history.History.new.Statement as stated
-use Rattle.cdm_port.proofs.history.History.new.Code as code
+use Rattle.cdm_history.specs.contracts.history.History as histories
+use Rattle.cdm_history.specs.contracts.history.History.new as clause
+use Rattle.cdm_history.specs.contracts.history.History.new.Key.{name as #new}
+use Rattle.cdm_history.proofs.history.History.new.Statement as stated
+use Rattle.cdm_history.proofs.history.History.new.Code as code
 
 -- the marker is a struct of no fields, and so is all that stands in memory
 abbrev nothing_in : Val

@@ -32,11 +32,11 @@ use denote.Triple.Entry.{on_entry}
 use denote.Triple.Spec.{Meets, triple_of}
 use denote.Triple.Table.{entered}
 use denote.Triple.Walked.{says, Stays, stay_ref, stay_none_ref, stay_none_slice, walk_of, AllGo, Goes-ref, Goes-none_ref, Goes-none_slice, Walks, ends_at, walked, walk_Meets}
-use Rattle.cdm_port.specs.contracts.history.History as histories
-use Rattle.cdm_port.specs.contracts.history.History.note.Key.{name as #note}
-use Rattle.cdm_port.specs.contracts.history.History.note as clause
-use Rattle.cdm_port.proofs.history.History.note.Statement as stated
-use Rattle.cdm_port.proofs.history.History.note.Code as code
+use Rattle.cdm_history.specs.contracts.history.History as histories
+use Rattle.cdm_history.specs.contracts.history.History.note.Key.{name as #note}
+use Rattle.cdm_history.specs.contracts.history.History.note as clause
+use Rattle.cdm_history.proofs.history.History.note.Statement as stated
+use Rattle.cdm_history.proofs.history.History.note.Code as code
 
 module _ (K : RattleType) where
   -- what happens, and a history of it
