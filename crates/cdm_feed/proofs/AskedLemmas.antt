@@ -52,10 +52,7 @@ module _ (question : DayQuestion) (format : Format) (d : DayRecord) (questions :
   -- why there is no answer
   pub untold-of : (e : RunError) → IsUntoldOver question d name s e → IsUntold (Answer question (Some name) format) d questions e
   untold-of (error.Common common.Memory) is = is
-  untold-of (error.Common (common.Read input)) is = absurd is
-  untold-of (error.Common (common.TooLong input)) is = absurd is
-  untold-of (error.Common (common.Airport number word)) is = absurd is
-  untold-of (error.Common common.Write) is = absurd is
+  untold-of (error.Common _) is = absurd is
   untold-of (error.Scenario number word) is = absurd is
   untold-of (error.NoFlight flight) is = (is.0, laid-of (Ok is.0) is.1, is.2)
   untold-of (error.NoRunway runway) is = (is.0, laid-of (Ok is.0) is.1, is.2)

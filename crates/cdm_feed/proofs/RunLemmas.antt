@@ -38,11 +38,9 @@ of-read x y z first second third p =
 -- a fault of the inputs is the first, whatever is asked for
 pub input-first : (asked : Asked) (a f s : Reading) (e : CommonFault) → IsFirstInputFault a f s e → IsFirstOf asked a f s (error.Common e)
 input-first (ask.Day asked) a f s e fault = input_fault-first a f s _ e fault
-input-first (ask.Check paths format) a f s (common.Read name) fault = fault
-input-first (ask.Check paths format) a f s (common.TooLong name) fault = fault
 input-first (ask.Check paths format) a f s (common.Airport number word) fault = absurd fault
-input-first (ask.Check paths format) a f s common.Memory fault = fault
 input-first (ask.Check paths format) a f s common.Write fault = absurd fault
+input-first (ask.Check paths format) a f s _ fault = fault
 
 -- and so is why whole inputs make no text, where they were read
 pub unmade-first : (asked : Asked) (a f s : Reading) (x y z : List ℕ) (e : RunError) → AreRead a f s
@@ -51,22 +49,13 @@ pub unmade-first : (asked : Asked) (a f s : Reading) (x y z : List ℕ) (e : Run
 unmade-first (ask.Check paths format) a f s x y z e read first second third fault =
     subst (IsFirstOf (ask.Check paths format) a f s) (sym fault) (read.0.unfailed, read.1.unfailed, read.2.unfailed)
 unmade-first (ask.Day asked) a f s x y z (error.Common e) read first second third fault = airport_record-first a f s _ x e read first fault
-unmade-first (ask.Day asked) a f s x y z (error.Scenario number word) read first second third fault = (read, of-read x y z first second third fault)
-unmade-first (ask.Day asked) a f s x y z (error.NoFlight name) read first second third fault = (read, of-read x y z first second third fault)
-unmade-first (ask.Day asked) a f s x y z (error.NoRunway name) read first second third fault = (read, of-read x y z first second third fault)
-unmade-first (ask.Day asked) a f s x y z (error.NoScenario name) read first second third fault = (read, of-read x y z first second third fault)
-unmade-first (ask.Day asked) a f s x y z error.OtherDay read first second third fault = (read, of-read x y z first second third fault)
-unmade-first (ask.Day asked) a f s x y z (error.Update name number word) read first second third fault = (read, of-read x y z first second third fault)
+unmade-first (ask.Day asked) a f s x y z _ read first second third fault = (read, of-read x y z first second third fault)
 
 -- a faulty record is why they make none
 pub record-unmade : (asked : DayText) (a f s : List ℕ) (e : RunError) → IsRecordFault a s e → IsUnmade (ask.Day asked) a f s e
 record-unmade asked a f s (error.Common e) fault = fault
 record-unmade asked a f s (error.Scenario number word) fault = fault
-record-unmade asked a f s (error.NoFlight name) fault = absurd fault
-record-unmade asked a f s (error.NoRunway name) fault = absurd fault
-record-unmade asked a f s (error.NoScenario name) fault = absurd fault
-record-unmade asked a f s error.OtherDay fault = absurd fault
-record-unmade asked a f s (error.Update name number word) fault = absurd fault
+record-unmade asked a f s _ fault = absurd fault
 
 -- and what their day doesn't know
 unknown-unmade : (asked : DayText) (a f s : List ℕ) (d : DayRecord) (questions : List ScenarioRecord) (e : RunError)
@@ -82,16 +71,9 @@ pub untold-unmade : (asked : DayText) (a f s : List ℕ) (d : DayRecord) (questi
     → airport_in a ≡ Ok d.airport → d ≡ day_in d.airport f → scenarios_in d.airport.day s ≡ Ok questions → IsUntold asked d questions e
     → IsUnmade (ask.Day asked) a f s e
 untold-unmade asked a f s d questions (error.Common common.Memory) airport is said fault = tt
-untold-unmade asked a f s d questions (error.Common (common.Read name)) airport is said fault = absurd fault
-untold-unmade asked a f s d questions (error.Common (common.TooLong name)) airport is said fault = absurd fault
-untold-unmade asked a f s d questions (error.Common (common.Airport number word)) airport is said fault = absurd fault
-untold-unmade asked a f s d questions (error.Common common.Write) airport is said fault = absurd fault
+untold-unmade asked a f s d questions (error.Common _) airport is said fault = absurd fault
 untold-unmade asked a f s d questions (error.Scenario number word) airport is said fault = absurd fault
-untold-unmade asked a f s d questions (error.NoFlight name) airport is said fault = unknown-unmade asked a f s d questions (error.NoFlight name) airport is said fault
-untold-unmade asked a f s d questions (error.NoRunway name) airport is said fault = unknown-unmade asked a f s d questions (error.NoRunway name) airport is said fault
-untold-unmade asked a f s d questions (error.NoScenario name) airport is said fault = unknown-unmade asked a f s d questions (error.NoScenario name) airport is said fault
-untold-unmade asked a f s d questions error.OtherDay airport is said fault = unknown-unmade asked a f s d questions error.OtherDay airport is said fault
-untold-unmade asked a f s d questions (error.Update name number word) airport is said fault = unknown-unmade asked a f s d questions (error.Update name number word) airport is said fault
+untold-unmade asked a f s d questions e airport is said fault = unknown-unmade asked a f s d questions e airport is said fault
 
 -- and so is a failed write of a text that they make
 pub write-first : (asked : Asked) (a f s : Reading) → AreRead a f s → OfBytes a.before f.before s.before (HaveText asked) → IsFirstOf asked a f s (error.Common common.Write)
@@ -132,19 +114,12 @@ never (Err e) next h = h
 
 -- and so the first fault is that of a run that makes a report
 pub report-first : (a f s : Reading) (e : RunError) → IsFirstOf (ask.Day (told.Plan Text)) a f s e → IsFirstFault a f s e
-report-first a f s (error.Common (common.Read name)) fault = fault
-report-first a f s (error.Common (common.TooLong name)) fault = fault
-report-first a f s (error.Common (common.Airport number word)) fault = fault
-report-first a f s (error.Common common.Memory) fault = fault
 report-first a f s (error.Common common.Write) fault =
     (fault.0, of-two (Asks IsOk) a.before f.before s.before (λ x y z h. report-asks x y z h.0 h.1 h.2) fault.1)
+report-first a f s (error.Common _) fault = fault
 report-first a f s (error.Scenario number word) fault =
     (fault.0, of-two (Asks (λ said. said ≡ Err (number, word))) a.before f.before s.before (λ x y z h. h) fault.1)
-report-first a f s (error.NoFlight name) fault = absurd (never (airport_in fault.1.airport) (λ g. scenarios_in g.day fault.1.third) fault.1.holds)
-report-first a f s (error.NoRunway name) fault = absurd (never (airport_in fault.1.airport) (λ g. scenarios_in g.day fault.1.third) fault.1.holds)
-report-first a f s (error.NoScenario name) fault = absurd (never (airport_in fault.1.airport) (λ g. scenarios_in g.day fault.1.third) fault.1.holds)
-report-first a f s error.OtherDay fault = absurd (never (airport_in fault.1.airport) (λ g. scenarios_in g.day fault.1.third) fault.1.holds)
-report-first a f s (error.Update name number word) fault = absurd (never (airport_in fault.1.airport) (λ g. scenarios_in g.day fault.1.third) fault.1.holds)
+report-first a f s _ fault = absurd (never (airport_in fault.1.airport) (λ g. scenarios_in g.day fault.1.third) fault.1.holds)
 
 -- an error is the same, whatever would have been answered in its place
 abbrev as-error : {T U E : Type 0} → E → Result T E → Result U E

@@ -111,17 +111,11 @@ clean-append [] b x y = y
 clean-append (t ∷ a) b x y = (x.0, clean-append a b x.1 y)
 
 token_none : (t : Token) → IsClean t → feeds (token_text t) ≡ 0
-token_none Token.begin_object h = refl
-token_none Token.end_object h = refl
-token_none Token.begin_array h = refl
-token_none Token.end_array h = refl
 token_none (Token.key s) h = none_append (quoted s) (58 ∷ []) (quoted_none s) refl
 token_none (Token.string s) h = quoted_none s
 token_none (Token.number s) h = h
 token_none (Token.boolean true) h = refl
-token_none (Token.boolean false) h = refl
-token_none Token.null h = refl
-token_none Token.bad h = refl
+token_none _ h = refl
 
 comma_none : (b : Bool) → feeds (cond b (44 ∷ []) []) ≡ 0
 comma_none true = refl

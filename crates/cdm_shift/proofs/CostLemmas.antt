@@ -19,11 +19,7 @@ own_alone : (x : Cause)
     → cond (same_cause Ice x) 1 0 + cond (same_cause Ctot x) 1 0 + cond (same_cause Closure x) 1 0 + cond (same_cause Spacing x) 1 0
     + cond (same_cause Rate x) 1 0 + cond (same_cause Now x) 1 0 ≡ 1
 own_alone Ice = refl
-own_alone Ctot = refl
-own_alone Closure = refl
-own_alone Spacing = refl
-own_alone Rate = refl
-own_alone Now = refl
+own_alone _ = refl
 
 counted : (causes : List Cause)
     → minutes_of Ice causes + minutes_of Ctot causes + minutes_of Closure causes + minutes_of Spacing causes + minutes_of Rate causes + minutes_of Now causes
