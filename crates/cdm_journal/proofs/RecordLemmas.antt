@@ -1,5 +1,5 @@
 -- Records that spell updates.
-use Rattle.std.proofs.Common.{◌≡◌, ◌<◌, ◌≤◌, ◌+◌, ℕ, Bool, true, false, List, [], ◌∷◌, ◌++◌, length, map, Option, Some, None, Result, Ok, Err, refl, sym, ap, subst, arith, if◌then◌else◌, inl, inr, length-append}
+use Rattle.std.proofs.Common.{◌≡◌, ◌<◌, ◌≤◌, ◌+◌, ℕ, true, false, List, [], ◌∷◌, ◌++◌, length, map, Option, Some, None, Result, Ok, Err, refl, sym, ap, subst, arith, if◌then◌else◌, inl, inr, length-append}
 use Rattle.std.specs.Prelude.{bytes_eq, codes, is_ok, is_some}
 use Rattle.std.specs.List.{All, find}
 use Rattle.std.proofs.lemmas.Bool.{cases_Bool, leb-false, or_parts}
@@ -54,13 +54,11 @@ abbrev pub Spells : CalendarDate → List (List ℕ) → Type 0
 Spells day fields = is_ok (parse_of day fields) ≡ true
 
 -- so its first field names a role, and the others make an update
-pub both-spelled : (short : Bool) (role : Option Role) (r : Result Update RefusalWord) → is_ok (if short then Err word.Fields else with_role role r) ≡ true
-    → (is_some role ≡ true) × (is_ok r ≡ true)
-both-spelled true role r is = cc
-both-spelled false (Some role) (Ok u) is = (refl, refl)
-both-spelled false (Some role) (Err w) is = cc
-both-spelled false None (Err word.Fields) is = cc
-both-spelled false None r is = cc
+pub both-spelled : (role : Option Role) (r : Result Update RefusalWord) → is_ok (with_role role r) ≡ true → (is_some role ≡ true) × (is_ok r ≡ true)
+both-spelled (Some role) (Ok u) is = (refl, refl)
+both-spelled (Some role) (Err w) is = cc
+both-spelled None (Err word.Fields) is = cc
+both-spelled None r is = cc
 
 none-refused : (number : ℕ) (word : Option RefusalWord) (later : List (ℕ × RefusalWord)) → if_refused number word ++ later ≡ [] → (word ≡ None) × (later ≡ [])
 none-refused number None later none = (refl, none)
