@@ -10,7 +10,7 @@ use Rattle.cdm_flight.specs.declared.word.RefusalWord.TheVariants as word
 use Rattle.cdm_kinds.specs.Kinds.{fields_of, kind_named, kind_of}
 use Rattle.cdm_kinds.specs.declared.kind.Kind.{Kind}
 use Rattle.cdm_kinds.specs.declared.kind.Kind.TheVariants as kind
-use Rattle.cdm_files.specs.Fields.{and_then, field, of_one}
+use Rattle.cdm_files.specs.Fields.{and_then, field, of_four, of_one, of_three}
 use Rattle.cdm_files.specs.Kinds.{update_by, update_of}
 use Rattle.cdm_files.specs.Parsing.{parse_of, with_role}
 use Rattle.cdm_files.specs.Roles.{role_of}
@@ -80,6 +80,7 @@ made-of f k (Ok a) u of is = let same : f a ≡ u = cc in subst (λ (v : Update)
 made-of f k (Err w) u of is = cc
 
 by-kind : (day : CalendarDate) (k : Kind) (fields : List (List ℕ)) (u : Update) → update_by day k fields ≡ Ok u → kind_of u ≡ k
+unfolding of_three of_four
 by-kind day kind.Flt (a ∷ b ∷ c ∷ d ∷ e ∷ fields) u is = cc
 by-kind day _ (a ∷ b ∷ c ∷ d ∷ e ∷ fields) u is = cc
 by-kind day k _ u is = grind (arith, made-of)

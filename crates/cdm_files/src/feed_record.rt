@@ -84,6 +84,7 @@ macro_rules! update {
 }
 
 // The update of a kind that these fields make, as many of them as it has.
+#[tactic(auto, using(crate::proofs::SeveralLemmas::of_all_three, crate::proofs::SeveralLemmas::of_all_four))]
 fn update_by(
     day: Day,
     kind: Kind,

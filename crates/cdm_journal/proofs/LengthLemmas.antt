@@ -15,7 +15,7 @@ use Rattle.cdm_flight.specs.declared.word.RefusalWord.{RefusalWord}
 use Rattle.cdm_kinds.specs.Kinds.{kind_name, kind_named}
 use Rattle.cdm_kinds.specs.declared.kind.Kind.{Kind}
 use Rattle.cdm_kinds.specs.declared.kind.Kind.TheVariants as kind
-use Rattle.cdm_files.specs.Fields.{all_four, all_three, and_then, both, ctot_field, group_field, ice_field, name_field, number_field, place_field, refused_by_word, tolerance_fields}
+use Rattle.cdm_files.specs.Fields.{and_then, both, ctot_field, group_field, ice_field, name_field, number_field, of_four, of_three, place_field, refused_by_word, tolerance_fields}
 use Rattle.cdm_files.specs.Kinds.{update_by, update_of}
 use Rattle.cdm_files.specs.Parsing.{parse_of}
 use Rattle.cdm_files.specs.Roles.{role_of}
@@ -79,7 +79,7 @@ room (x ∷ fields) = 3 + 2 * length x + room fields
 
 -- RATE takes the most
 kind-room : (day : CalendarDate) (kind : Kind) (fields : List (List ℕ)) → is_ok (update_by day kind fields) ≡ true → room fields ≤ 94
-unfolding all_three all_four
+unfolding of_three of_four
 kind-room day kind.Rate (a ∷ b ∷ c ∷ d ∷ e ∷ fields) is = cc
 kind-room day _ (a ∷ b ∷ c ∷ d ∷ e ∷ fields) is = cc
 kind-room day kind.Rate _ is = grind (arith, then-ok, both-ok, name-length, number-length, minute-length)
