@@ -18,11 +18,12 @@ use Rattle.cdm_files.specs.Roles.{role_of}
 -- The number of fields.
 
 -- a kind takes as many fields as it has, and FIELDS refuses another number of them
-other-number : (day : CalendarDate) (kind : Kind) (fields : List (List ℕ)) → length fields ≢ length (fields_of kind) → update_by day kind fields ≡ Err word.Fields
-other-number day kind.Flt (a ∷ b ∷ c ∷ d ∷ e ∷ fields) differs = refl
-other-number day _ (a ∷ b ∷ c ∷ d ∷ e ∷ fields) differs = refl
-other-number day _ _ differs = grind arith
+refused-count : (day : CalendarDate) (kind : Kind) (fields : List (List ℕ)) → length fields ≢ length (fields_of kind) → update_by day kind fields ≡ Err word.Fields
+refused-count day kind.Flt (a ∷ b ∷ c ∷ d ∷ e ∷ fields) differs = refl
+refused-count day _ (a ∷ b ∷ c ∷ d ∷ e ∷ fields) differs = refl
+refused-count day _ _ differs = grind arith
 
+-- a field at a place is one of those behind the first
 behind : (first place k : ℕ) (fields : List (List ℕ)) → k ≡ first + place → field fields k ≡ field (drop first fields) place
 unfolding field_at
 behind zero place k fields is = let same : k ≡ place = omega arith in ap (field fields) same
@@ -30,6 +31,7 @@ behind (suc first) place k [] is = refl
 behind (suc first) place zero (x ∷ fields) is = absurd (omega arith)
 behind (suc first) place (suc k) (x ∷ fields) is = behind first place k fields (omega arith)
 
+-- four fields at most are those at their places
 at-places : (n : ℕ) (fields : List (List ℕ)) → length fields ≡ n → n ≤ 4 → take n (field fields 0 ∷ field fields 1 ∷ field fields 2 ∷ field fields 3 ∷ []) ≡ fields
 unfolding field_at
 at-places n (a ∷ b ∷ c ∷ d ∷ e ∷ fields) is few = absurd (omega arith)
@@ -39,9 +41,10 @@ at-most-four : (kind : Kind) → length (fields_of kind) ≤ 4
 at-most-four kind.Flt = omega arith
 at-most-four _ = omega arith
 
+-- the same of the fields behind the first, as the code counts and reads them
 pub other_number : (day : CalendarDate) (kind : Kind) (first : ℕ) (fields : List (List ℕ)) → length fields - first ≢ length (fields_of kind)
     → update_by day kind (drop first fields) ≡ Err word.Fields
-other_number day kind first fields differs = other-number day kind (drop first fields) (λ is. differs (sym (length-drop first fields) ∙ is))
+other_number day kind first fields differs = refused-count day kind (drop first fields) (λ is. differs (sym (length-drop first fields) ∙ is))
 
 pub own_number : (kind : Kind) (first : ℕ) (fields : List (List ℕ)) → length fields - first ≡ length (fields_of kind)
     → take (length (fields_of kind)) (field fields first ∷ field fields (first + 1) ∷ field fields (first + 2) ∷ field fields (first + 3) ∷ []) ≡ drop first fields
@@ -70,7 +73,7 @@ pub wrong_count : (day : CalendarDate) (fields : List (List ℕ)) (kind : Kind) 
     → length fields ≢ length (fields_of kind) + 2 → parse_of day fields ≡ Err word.Fields
 unfolding parse_of update_of field_at
 wrong_count day (role ∷ text ∷ fields) kind named differs =
-    of-role-other (role_of role) _ (rw named (other-number day kind fields (λ is. differs (omega (arith, is)))))
+    of-role-other (role_of role) _ (rw named (refused-count day kind fields (λ is. differs (omega (arith, is)))))
 wrong_count day _ kind named differs = refl
 
 -- The kind.
