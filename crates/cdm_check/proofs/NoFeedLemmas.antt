@@ -1,8 +1,9 @@
 -- All records of a file that is no feed are refused.
-use Rattle.std.proofs.Common.{◌≡◌, ◌∙◌, ◌&&◌, ℕ, ◌+◌, suc, ◌-◌, Bool, true, false, List, [], ◌∷◌, length, map, is_none, is_err, nat_lt, refl, ap, Option, Some, None, Result, Ok, Err, if◌then◌else◌}
+use Rattle.std.proofs.Common.{◌≡◌, ◌∙◌, ◌&&◌, ℕ, ◌+◌, suc, Bool, true, false, List, [], ◌∷◌, length, map, is_none, is_err, refl, ap, Option, Some, None, Result, Ok, Err}
 use Rattle.std.proofs.lemmas.Bool.{false≢true}
 use Rattle.std.proofs.lemmas.List.{length-map}
 use Rattle.std.specs.List.{list_all}
+use Rattle.csv.specs.Records.{field_at}
 use Rattle.cdm_time.specs.declared.calendar.CalendarDate.{CalendarDate}
 use Rattle.cdm_flight.specs.Journal.{AirportRows}
 use Rattle.cdm_flight.specs.declared.role.Role.{Role}
@@ -10,7 +11,6 @@ use Rattle.cdm_flight.specs.declared.update.Update.{Update}
 use Rattle.cdm_flight.specs.declared.word.RefusalWord.{RefusalWord}
 use Rattle.cdm_flight.specs.declared.word.RefusalWord.TheVariants as word
 use Rattle.cdm_files.specs.FeedDay.{refusals_in}
-use Rattle.cdm_files.specs.Fields.{field}
 use Rattle.cdm_files.specs.Kinds.{update_of}
 use Rattle.cdm_files.specs.Parsing.{parse_of, with_role}
 use Rattle.cdm_files.specs.Records.{records_of}
@@ -34,18 +34,15 @@ without_role (Err word.Order) = refl
 without_role (Err word.NotReady) = refl
 without_role (Err word.Full) = refl
 
-by-role : (short : Bool) (role : Option Role) (r : Result Update RefusalWord) → is_none role ≡ true
-    → is_err (if short then Err word.Fields else with_role role r) ≡ true
-by-role true role r none = refl
-by-role false None r none = without_role r
-by-role false (Some role) r none = absurd (false≢true none)
+by-role : (role : Option Role) (r : Result Update RefusalWord) → is_none role ≡ true → is_err (with_role role r) ≡ true
+by-role None r none = without_role r
+by-role (Some role) r none = absurd (false≢true none)
 
 -- a record without a role spells no update
 spells-none : (day : CalendarDate) (fields : List (List ℕ)) → has_no_role fields ≡ true → is_err (parse_of day fields) ≡ true
-unfolding parse_of
-spells-none day fields none =
-    by-role (nat_lt (length fields) 2) (role_of (field fields 0))
-    (update_of day (field fields 1) (length fields - 2) (field fields 2) (field fields 3) (field fields 4) (field fields 5)) none
+unfolding parse_of field_at
+spells-none day (role ∷ kind ∷ fields) none = by-role (role_of role) (update_of day kind fields) none
+spells-none day _ none = refl
 
 each : (a b : Bool) → (a && b) ≡ true → (a ≡ true) × (b ≡ true)
 each true b h = (refl, h)

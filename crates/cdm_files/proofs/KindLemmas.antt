@@ -1,8 +1,7 @@
 -- A record is of the kind that it names, and has as many fields as that kind.
-use Rattle.std.proofs.Common.{◌≡◌, ◌≢◌, ◌+◌, ◌-◌, ◌≤◌, ◌==◌, ℕ, Bool, true, false, List, length, Option, Some, None, Result, Ok, Err, ap, refl, sym, subst, arith, if◌then◌else◌}
-use Rattle.std.specs.Prelude.{nat_lt}
-use Rattle.std.proofs.lemmas.Bool.{ltb-false}
-use Rattle.std.proofs.lemmas.Grind.{common_steps}
+use Rattle.std.proofs.Common.{◌≡◌, ◌≢◌, ◌∙◌, ◌+◌, ◌-◌, ◌<◌, ◌≤◌, ℕ, zero, suc, List, [], ◌∷◌, length, drop, take, Option, Some, None, Result, Ok, Err, ap, refl, sym, subst, arith, length-drop}
+use Rattle.std.specs.Prelude.{ok_or}
+use Rattle.csv.specs.Records.{field_at}
 use Rattle.cdm_time.specs.declared.calendar.CalendarDate.{CalendarDate}
 use Rattle.cdm_flight.specs.declared.role.Role.{Role}
 use Rattle.cdm_flight.specs.declared.update.Update.{Update}
@@ -11,40 +10,71 @@ use Rattle.cdm_flight.specs.declared.word.RefusalWord.TheVariants as word
 use Rattle.cdm_kinds.specs.Kinds.{fields_of, kind_named, kind_of}
 use Rattle.cdm_kinds.specs.declared.kind.Kind.{Kind}
 use Rattle.cdm_kinds.specs.declared.kind.Kind.TheVariants as kind
-use Rattle.cdm_files.specs.Fields.{counted, field, of_one}
-use Rattle.cdm_files.specs.Kinds.{update_by, update_if, update_of}
+use Rattle.cdm_files.specs.Fields.{and_then, field, of_four, of_one, of_three}
+use Rattle.cdm_files.specs.Kinds.{update_by, update_of}
 use Rattle.cdm_files.specs.Parsing.{parse_of, with_role}
 use Rattle.cdm_files.specs.Roles.{role_of}
 
 -- The number of fields.
 
-counted-other : {X : Type 0} (wanted n : ℕ) (r : Result X RefusalWord) → n ≢ wanted → counted wanted n r ≡ Err word.Fields
-counted-other wanted n r differs = grind (arith, common_steps)
+-- a kind takes as many fields as it has, and FIELDS refuses another number of them
+refused-count : (day : CalendarDate) (kind : Kind) (fields : List (List ℕ)) → length fields ≢ length (fields_of kind) → update_by day kind fields ≡ Err word.Fields
+refused-count day kind.Flt (a ∷ b ∷ c ∷ d ∷ e ∷ fields) differs = refl
+refused-count day _ (a ∷ b ∷ c ∷ d ∷ e ∷ fields) differs = refl
+refused-count day _ _ differs = grind arith
 
-if-other : (day : CalendarDate) (found : Option Kind) (kind : Kind) (n : ℕ) (a b c d : List ℕ) → found ≡ Some kind
-    → n ≢ length (fields_of kind) → update_if day found n a b c d ≡ Err word.Fields
-if-other day (Some k) kind n a b c d is differs =
-    let same : kind ≡ k = cc in
-    counted-other (length (fields_of k)) n (update_by day k a b c d) (subst (λ (x : Kind). n ≢ length (fields_of x)) same differs)
-if-other day None kind n a b c d is differs = cc
+-- a field at a place is one of those behind the first
+behind : (first place k : ℕ) (fields : List (List ℕ)) → k ≡ first + place → field fields k ≡ field (drop first fields) place
+unfolding field_at
+behind zero place k fields is = let same : k ≡ place = omega arith in ap (field fields) same
+behind (suc first) place k [] is = refl
+behind (suc first) place zero (x ∷ fields) is = absurd (omega arith)
+behind (suc first) place (suc k) (x ∷ fields) is = behind first place k fields (omega arith)
 
-spelled-other : (role : Option Role) (r : Result Update RefusalWord) → r ≡ Err word.Fields → with_role role r ≡ Err word.Fields
-spelled-other (Some role) r is = ap (of_one (λ u. (role, u))) is
-spelled-other None r is = ap (with_role None) is
+-- four fields at most are those at their places
+at-places : (n : ℕ) (fields : List (List ℕ)) → length fields ≡ n → n ≤ 4 → take n (field fields 0 ∷ field fields 1 ∷ field fields 2 ∷ field fields 3 ∷ []) ≡ fields
+unfolding field_at
+at-places n (a ∷ b ∷ c ∷ d ∷ e ∷ fields) is few = absurd (omega arith)
+at-places n _ is few = rw (← is) refl
 
-or-refused : {X : Type 0} (short : Bool) (x r : X) → (short ≡ false → r ≡ x) → (if short then x else r) ≡ x
-or-refused true x r so = refl
-or-refused false x r so = so refl
+at-most-four : (kind : Kind) → length (fields_of kind) ≤ 4
+at-most-four kind.Flt = omega arith
+at-most-four _ = omega arith
+
+-- the same of the fields behind the first, as the code counts and reads them
+pub other_number : (day : CalendarDate) (kind : Kind) (first : ℕ) (fields : List (List ℕ)) → length fields - first ≢ length (fields_of kind)
+    → update_by day kind (drop first fields) ≡ Err word.Fields
+other_number day kind first fields differs = refused-count day kind (drop first fields) (λ is. differs (sym (length-drop first fields) ∙ is))
+
+pub own_number : (kind : Kind) (first : ℕ) (fields : List (List ℕ)) → length fields - first ≡ length (fields_of kind)
+    → take (length (fields_of kind)) (field fields first ∷ field fields (first + 1) ∷ field fields (first + 2) ∷ field fields (first + 3) ∷ []) ≡ drop first fields
+own_number kind first fields is =
+    rw (behind first 0 first fields (omega arith), behind first 1 (first + 1) fields refl, behind first 2 (first + 2) fields refl, behind first 3 (first + 3) fields refl)
+    (at-places (length (fields_of kind)) (drop first fields) (length-drop first fields ∙ is) (at-most-four kind))
+
+-- a record of fewer fields than two, and of more
+pub few_fields : (day : CalendarDate) (fields : List (List ℕ)) → length fields < 2 → parse_of day fields ≡ Err word.Fields
+unfolding parse_of
+few_fields day (a ∷ b ∷ fields) few = absurd (omega (arith, few))
+few_fields day _ few = refl
+
+pub more_fields : (day : CalendarDate) (fields : List (List ℕ)) → 2 ≤ length fields
+    → parse_of day fields ≡ with_role (role_of (field fields 0)) (update_of day (field fields 1) (drop 2 fields))
+unfolding parse_of field_at
+more_fields day (a ∷ b ∷ fields) more = refl
+more_fields day _ more = absurd (omega (arith, more))
+
+of-role-other : (role : Option Role) (r : Result Update RefusalWord) → r ≡ Err word.Fields → with_role role r ≡ Err word.Fields
+of-role-other (Some role) r is = ap (of_one (λ u. (role, u))) is
+of-role-other None r is = ap (with_role None) is
 
 -- as many as the table has, or FIELDS refuses it
 pub wrong_count : (day : CalendarDate) (fields : List (List ℕ)) (kind : Kind) → kind_named (field fields 1) ≡ Some kind
     → length fields ≢ length (fields_of kind) + 2 → parse_of day fields ≡ Err word.Fields
-unfolding parse_of update_of
-wrong_count day fields kind named differs =
-    or-refused (nat_lt (length fields) 2) (Err word.Fields) _ (λ long.
-    let two : 2 ≤ length fields = ltb-false (length fields) 2 long in
-    spelled-other (role_of (field fields 0)) _ (if-other day (kind_named (field fields 1)) kind (length fields - 2) _ _ _ _ named
-    (λ is. differs (omega (arith, is, two)))))
+unfolding parse_of update_of field_at
+wrong_count day (role ∷ text ∷ fields) kind named differs =
+    of-role-other (role_of role) _ (rw named (refused-count day kind fields (λ is. differs (omega (arith, is)))))
+wrong_count day _ kind named differs = refl
 
 -- The kind.
 
@@ -52,18 +82,16 @@ made-of : {A : Type 0} (f : A → Update) (k : Kind) (r : Result A RefusalWord) 
 made-of f k (Ok a) u of is = let same : f a ≡ u = cc in subst (λ (v : Update). kind_of v ≡ k) same (of a)
 made-of f k (Err w) u of is = cc
 
-by-kind : (day : CalendarDate) (k : Kind) (a b c d : List ℕ) (u : Update) → update_by day k a b c d ≡ Ok u → kind_of u ≡ k
-by-kind day kind.Flt a b c d u = made-of _ kind.Flt _ u (λ x. refl)
-by-kind day k a b c d u = made-of _ k _ u (λ x. refl)
+by-kind : (day : CalendarDate) (k : Kind) (fields : List (List ℕ)) (u : Update) → update_by day k fields ≡ Ok u → kind_of u ≡ k
+unfolding of_three of_four
+by-kind day kind.Flt (a ∷ b ∷ c ∷ d ∷ e ∷ fields) u is = cc
+by-kind day _ (a ∷ b ∷ c ∷ d ∷ e ∷ fields) u is = cc
+by-kind day k _ u is = grind (arith, made-of)
 
-counted-made : {X : Type 0} (t : Bool) (r : Result X RefusalWord) (x : X) → (if t then r else Err word.Fields) ≡ Ok x → r ≡ Ok x
-counted-made true r x is = is
-counted-made false r x is = cc
-
-if-made : (day : CalendarDate) (found : Option Kind) (n : ℕ) (a b c d : List ℕ) (u : Update) → update_if day found n a b c d ≡ Ok u → found ≡ Some (kind_of u)
-if-made day (Some k) n a b c d u is =
-    ap Some (sym (by-kind day k a b c d u (counted-made (n == length (fields_of k)) (update_by day k a b c d) u is)))
-if-made day None n a b c d u is = cc
+named-made : (day : CalendarDate) (found : Option Kind) (fields : List (List ℕ)) (u : Update)
+    → and_then (ok_or found word.Kind) (λ kind. update_by day kind fields) ≡ Ok u → found ≡ Some (kind_of u)
+named-made day (Some k) fields u is = ap Some (sym (by-kind day k fields u is))
+named-made day None fields u is = cc
 
 with-role-made : (role : Option Role) (r : Result Update RefusalWord) (x : Role) (u : Update) → with_role role r ≡ Ok (x, u) → r ≡ Ok u
 with-role-made (Some role) r x u is = by r is
@@ -77,14 +105,9 @@ with-role-made (Some role) r x u is = by r is
 with-role-made None (Err word.Fields) x u is = cc
 with-role-made None r x u is = cc
 
-or-made : {X E : Type 0} (short : Bool) (w : E) (r : Result X E) (x : X) → (if short then Err w else r) ≡ Ok x → r ≡ Ok x
-or-made true w r x is = cc
-or-made false w r x is = is
-
 -- it is that of the update
 pub named_kind : (day : CalendarDate) (fields : List (List ℕ)) (role : Role) (u : Update) → parse_of day fields ≡ Ok (role, u)
     → kind_named (field fields 1) ≡ Some (kind_of u)
-unfolding parse_of update_of
-named_kind day fields role u is =
-    if-made day (kind_named (field fields 1)) (length fields - 2) _ _ _ _ u
-    (with-role-made (role_of (field fields 0)) _ role u (or-made (nat_lt (length fields) 2) word.Fields _ (role, u) is))
+unfolding parse_of update_of field_at
+named_kind day (x ∷ text ∷ fields) role u is = named-made day (kind_named text) fields u (with-role-made (role_of x) _ role u is)
+named_kind day _ role u is = cc

@@ -5,6 +5,7 @@ mod WorkedRecords
 pub mod RunLemmas
 pub mod FeedDayLemmas
 pub mod ScenarioLemmas
+pub mod SeveralLemmas
 pub mod StretchLemmas
 pub mod RowLemmas
 mod KindLemmas

@@ -8,6 +8,7 @@ use Rattle.cdm_flight.specs.declared.word.RefusalWord.TheVariants.{Full}
 use Rattle.cdm_scenario.specs.Scenarios.{ScenarioRecord}
 use Rattle.cdm_files.specs.Fields.{of_one}
 use Rattle.cdm_files.specs.ScenarioFile.{with_next}
+use Rattle.cdm_files.proofs.SeveralLemmas.{of_one-twice}
 
 -- a scenario with one more update, if it has room
 abbrev with_update : ScenarioRecord → Update → Result ScenarioRecord RefusalWord
@@ -16,10 +17,6 @@ with_update s update = if nat_le 64 (length s.updates) then Err Full else Ok (re
 alone : (b : Bool) (s : ScenarioRecord) → (if b then Err Full else Ok (s ∷ [])) ≡ of_one (λ last. last ∷ []) (if b then Err Full else Ok s)
 alone true s = refl
 alone false s = refl
-
-of_one-twice : {A B C : Type 0} (f : A → B) (g : B → C) (r : Result A RefusalWord) → of_one g (of_one f r) ≡ of_one (λ a. g (f a)) r
-of_one-twice f g (Ok a) = refl
-of_one-twice f g (Err word) = refl
 
 -- one more update goes to the scenario at the last place
 next_at : (xs : List ScenarioRecord) (n : ℕ) (d s : ScenarioRecord) (u : Update) → length xs ≡ suc n → get_or xs n d ≡ s

@@ -27,16 +27,15 @@ airport_record_of fields =
     else Err word.Kind
 
 -- the airport after one more record, where there is none before the first; or the word that refuses
--- the record: UNKNOWN, EXISTS, ORDER or FULL, the first that holds
+-- the record: UNKNOWN, EXISTS, ORDER or FULL, the first that holds. ORDER refuses a runway before the day, and a second day.
 unfoldable pub with_record : Option AirportRows → AirportRecord → Result (Option AirportRows) RefusalWord
 with_record None (Day day) = Ok (Some (record { day = day; runways = []; taxi = map.empty }))
-with_record None (Runway r cell cap) = Err word.Order
 with_record None (Taxi place r minutes) = Err word.Unknown
 with_record None (Space r group minutes) = Err word.Unknown
-with_record (Some g) (Day day) = Err word.Order
 with_record (Some g) (Runway r cell cap) = of_one Some (with_runway g r cell cap)
 with_record (Some g) (Taxi place r minutes) = of_one Some (with_taxi g place r minutes)
 with_record (Some g) (Space r group minutes) = of_one Some (with_space g r group minutes)
+with_record airport said = Err word.Order
 
 -- the airport that a file says, or the number and the word of its first faulty record; one without records has no DAY
 unfoldable pub airport_in : List ℕ → Result AirportRows (ℕ × RefusalWord)

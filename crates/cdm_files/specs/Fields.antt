@@ -47,26 +47,18 @@ both r (Err Text) = Err Text
 both (Err word) r = Err word
 both r (Err word) = Err word
 
--- three values, or the word that refuses them
-unfoldable pub all_three : {A B C : Type 0} → Result A RefusalWord → Result B RefusalWord → Result C RefusalWord → Result (A × B × C) RefusalWord
-all_three a b c = of_one (λ p. (p.0, p.1.0, p.1.1)) (both a (both b c))
-
--- four values, or the word that refuses them
-unfoldable pub all_four : {A B C D : Type 0} → Result A RefusalWord → Result B RefusalWord → Result C RefusalWord → Result D RefusalWord → Result (A × B × C × D) RefusalWord
-all_four a b c d = of_one (λ p. (p.0, p.1.0, p.1.1, p.1.2)) (both a (all_three b c d))
-
 -- what the values of two good fields make
 abbrev pub of_two : {A B X : Type 0} → (A → B → X) → Result A RefusalWord → Result B RefusalWord → Result X RefusalWord
 of_two f a b = of_one (λ p. f p.0 p.1) (both a b)
 
 -- what the values of three good fields make
-abbrev pub of_three : {A B C X : Type 0} → (A → B → C → X) → Result A RefusalWord → Result B RefusalWord → Result C RefusalWord → Result X RefusalWord
-of_three f a b c = of_one (λ p. f p.0 p.1 p.2) (all_three a b c)
+unfoldable pub of_three : {A B C X : Type 0} → (A → B → C → X) → Result A RefusalWord → Result B RefusalWord → Result C RefusalWord → Result X RefusalWord
+of_three f a b c = of_one (λ p. f p.0 p.1.0 p.1.1) (both a (both b c))
 
 -- what the values of four good fields make
-abbrev pub of_four : {A B C D X : Type 0} → (A → B → C → D → X)
+unfoldable pub of_four : {A B C D X : Type 0} → (A → B → C → D → X)
     → Result A RefusalWord → Result B RefusalWord → Result C RefusalWord → Result D RefusalWord → Result X RefusalWord
-of_four f a b c d = of_one (λ p. f p.0 p.1 p.2 p.3) (all_four a b c d)
+of_four f a b c d = of_one (λ p. f p.0 p.1.0 p.1.1.0 p.1.1.1) (both a (both b (both c d)))
 
 -- Names.
 

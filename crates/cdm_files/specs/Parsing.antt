@@ -1,11 +1,11 @@
 -- What a record of the feed spells: a role and an update, or the first word that refuses it.
-use Rattle.std.specs.Prelude.{ℕ, ◌-◌, nat_lt, List, length, Option, Some, None, Result, Err, if◌then◌else◌}
+use Rattle.std.specs.Prelude.{ℕ, List, ◌∷◌, Option, Some, None, Result, Err}
 use Rattle.cdm_time.specs.declared.calendar.CalendarDate.{CalendarDate}
 use Rattle.cdm_flight.specs.declared.role.Role.{Role}
 use Rattle.cdm_flight.specs.declared.update.Update.{Update}
 use Rattle.cdm_flight.specs.declared.word.RefusalWord.{RefusalWord}
 use Rattle.cdm_flight.specs.declared.word.RefusalWord.TheVariants as word
-use Rattle.cdm_files.specs.Fields.{field, of_one}
+use Rattle.cdm_files.specs.Fields.{of_one}
 use Rattle.cdm_files.specs.Kinds.{update_of}
 use Rattle.cdm_files.specs.Roles.{role_of}
 
@@ -17,7 +17,5 @@ with_role None r = Err word.Role
 
 -- what a record spells
 unfoldable pub parse_of : CalendarDate → List (List ℕ) → Result (Role × Update) RefusalWord
-parse_of day fields =
-    if nat_lt (length fields) 2 then Err word.Fields
-    else with_role (role_of (field fields 0))
-    (update_of day (field fields 1) (length fields - 2) (field fields 2) (field fields 3) (field fields 4) (field fields 5))
+parse_of day (role ∷ kind ∷ fields) = with_role (role_of role) (update_of day kind fields)
+parse_of day fields = Err word.Fields

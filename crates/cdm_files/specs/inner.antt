@@ -1,2 +1,3 @@
 pub mod RecordFaults
 pub mod RecordsLeft
+pub mod Several

@@ -64,7 +64,7 @@ pub fn occupancy_field(text: &[u8]) -> Result<Occupancy, RefusalWord>
 
 // What a record of the airport file spells, or the first word that refuses it: Fields where a
 // known kind has another number of fields, Kind, Text or Range.
-#[tactic(auto, unfolding(crate::specs::AirportFile::airport_record_of))]
+#[tactic(auto, using(crate::proofs::SeveralLemmas::of_all_three), unfolding(crate::specs::AirportFile::airport_record_of))]
 fn airport_record(row: &ByteRecord) -> Result<AirportRecord, RefusalWord>
     ensures { result ≡ airport_record_of (fields_of row.now) }
 {

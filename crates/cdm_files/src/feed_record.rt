@@ -1,6 +1,7 @@
 //! Records of the feed.
-ghost use Rattle.std.specs.Prelude.{◌≡◌};
+ghost use Rattle.std.specs.Prelude.{◌≡◌, ◌≤◌, [], ◌∷◌, drop, length, take};
 ghost use Rattle.csv.specs.Records.{fields_of};
+ghost use Rattle.cdm_kinds.specs.Kinds.{fields_of as fields_of_kind};
 ghost use Rattle.cdm_files.specs.Fields.{both, ctot_field, from_to, ice_field, number_field, tolerance_fields};
 ghost use Rattle.cdm_files.specs.Kinds.{update_by, update_of};
 ghost use Rattle.cdm_files.specs.Parsing.{parse_of};
@@ -82,7 +83,8 @@ macro_rules! update {
     };
 }
 
-// The update of a kind that these fields make. A kind looks at as many of them as it has.
+// The update of a kind that these fields make, as many of them as it has.
+#[tactic(auto, using(crate::proofs::SeveralLemmas::of_all_three, crate::proofs::SeveralLemmas::of_all_four))]
 fn update_by(
     day: Day,
     kind: Kind,
@@ -91,7 +93,7 @@ fn update_by(
     third: &[u8],
     fourth: &[u8],
 ) -> Result<Update, RefusalWord>
-    ensures { result ≡ update_by day kind first.now second.now third.now fourth.now }
+    ensures { result ≡ update_by day kind (take (length (fields_of_kind kind)) (first.now ∷ second.now ∷ third.now ∷ fourth.now ∷ [])) }
 {
     match kind {
         Kind::Flt => update!(Flt, flight: name_field(first), priority: priority_field(second)),
@@ -118,49 +120,38 @@ fn update_by(
     }
 }
 
-/// The update of the kind that a field names. `count` fields follow the kind, the first four of them
-/// these; one that the record hasn't is empty.
-#[tactic(auto, unfolding(crate::specs::Kinds::update_of))]
+/// The update of the kind that a field names. The record's fields from the first on follow the kind.
+#[tactic(auto, using(crate::proofs::KindLemmas::other_number, crate::proofs::KindLemmas::own_number), unfolding(crate::specs::Kinds::update_of))]
 pub(crate) fn update_of(
     day: Day,
     kind: &[u8],
-    count: usize,
-    first: &[u8],
-    second: &[u8],
-    third: &[u8],
-    fourth: &[u8],
+    row: &ByteRecord,
+    first: usize,
 ) -> Result<Update, RefusalWord>
-    ensures { result ≡ update_of day kind.now count first.now second.now third.now fourth.now }
+    requires { first ≤ 2 }
+    ensures { result ≡ update_of day kind.now (drop first (fields_of row.now)) }
 {
     let Some(kind) = Kind::named(kind) else {
         return Err(RefusalWord::Kind);
     };
-    if count != kind.fields().len() {
+    if row.len().saturating_sub(first) != kind.fields().len() {
         return Err(RefusalWord::Fields);
     }
-    update_by(day, kind, first, second, third, fourth)
+    let (one, two) = (field_at(row, first), field_at(row, first + 1));
+    let (three, four) = (field_at(row, first + 2), field_at(row, first + 3));
+    update_by(day, kind, one, two, three, four)
 }
 
 /// What a record of the feed spells, the role and the update, or the first word that refuses it: the
 /// words Fields to Range, which are seen in the record alone (local profile).
-#[tactic(auto, unfolding(crate::specs::Parsing::parse_of))]
+#[tactic(auto, using(crate::proofs::KindLemmas::few_fields, crate::proofs::KindLemmas::more_fields))]
 pub fn parse_record(day: Day, row: &ByteRecord) -> Result<(Role, Update), RefusalWord>
     ensures { result ≡ parse_of day (fields_of row.now) }
 {
     if row.len() < 2 {
         return Err(RefusalWord::Fields);
     }
-    let (first, second) = (field_at(row, 2), field_at(row, 3));
-    let (third, fourth) = (field_at(row, 4), field_at(row, 5));
-    let update = update_of(
-        day,
-        field_at(row, 1),
-        row.len() - 2,
-        first,
-        second,
-        third,
-        fourth,
-    );
+    let update = update_of(day, field_at(row, 1), row, 2);
     match (role_of(field_at(row, 0)), update) {
         (Some(role), Ok(update)) => Ok((role, update)),
         (Some(_), Err(word)) => Err(word),

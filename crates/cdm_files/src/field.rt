@@ -6,7 +6,8 @@ ghost use Rattle.cdm_time.specs.Digits.{are_digits, number_in};
 ghost use Rattle.cdm_time.specs.Times.{day_of};
 ghost use Rattle.cdm_flight.specs.Names.{is_name};
 ghost use Rattle.cdm_flight.specs.declared.word.RefusalWord.TheVariants as word;
-ghost use Rattle.cdm_files.specs.Fields.{all_four, all_three, both, bound_field, field, from_to, group_field, name_field, number_field, place_field, refused_by_word, time_field, word_of};
+ghost use Rattle.cdm_files.specs.Fields.{both, bound_field, field, from_to, group_field, name_field, number_field, place_field, refused_by_word, time_field, word_of};
+ghost use Rattle.cdm_files.specs.inner.Several.{all_four, all_three};
 
 use cdm_flight::{Cap, Group, Name, Place, Priority, RefusalWord, TaxiMinutes};
 use cdm_time::{Bound, Day, Minute, TimeFault, number_of};
@@ -128,7 +129,7 @@ pub(crate) fn both<A: Drop, B: Drop>(
 }
 
 /// Three values, or the word that refuses them.
-#[tactic(auto, unfolding(crate::specs::Fields::all_three))]
+#[tactic(auto, unfolding(crate::specs::inner::Several::all_three))]
 pub(crate) fn all_three<A: Drop, B: Drop, C: Drop>(
     one: Result<A, RefusalWord>,
     two: Result<B, RefusalWord>,
@@ -141,7 +142,7 @@ pub(crate) fn all_three<A: Drop, B: Drop, C: Drop>(
 }
 
 /// Four values, or the word that refuses them.
-#[tactic(auto, unfolding(crate::specs::Fields::all_four))]
+#[tactic(auto, unfolding(crate::specs::inner::Several::all_four))]
 pub(crate) fn all_four<A: Drop, B: Drop, C: Drop, D: Drop>(
     one: Result<A, RefusalWord>,
     two: Result<B, RefusalWord>,
@@ -150,6 +151,6 @@ pub(crate) fn all_four<A: Drop, B: Drop, C: Drop, D: Drop>(
 ) -> Result<(A, B, C, D), RefusalWord>
     ensures { result ≡ all_four one two three four }
 {
-    let (one, (two, three, four)) = both(one, all_three(two, three, four))?;
+    let (one, (two, (three, four))) = both(one, both(two, both(three, four)))?;
     Ok((one, two, three, four))
 }

@@ -26,16 +26,13 @@ pub(crate) enum ScenarioLine {
 pub(crate) fn scenario_line(day: Day, row: &ByteRecord) -> Result<ScenarioLine, RefusalWord>
     ensures { result ≡ scenario_line_of day (fields_of row.now) }
 {
-    let (word, first, second) = (field_at(row, 0), field_at(row, 1), field_at(row, 2));
-    let (third, fourth) = (field_at(row, 3), field_at(row, 4));
+    let word = field_at(row, 0);
     if word == b"SCENARIO".as_slice() {
         if row.len() != 2 {
             return Err(RefusalWord::Fields);
         }
-        let name = ScenarioName::new(first).ok_or(RefusalWord::Text)?;
+        let name = ScenarioName::new(field_at(row, 1)).ok_or(RefusalWord::Text)?;
         return Ok(ScenarioLine::Begin(name));
     }
-    let count = row.len().saturating_sub(1);
-    let update = update_of(day, word, count, first, second, third, fourth)?;
-    Ok(ScenarioLine::Next(update))
+    Ok(ScenarioLine::Next(update_of(day, word, row, 1)?))
 }

@@ -1,23 +1,22 @@
 -- How long a journal's lines are.
-use Rattle.std.proofs.Common.{◌≡◌, ◌<◌, ◌≤◌, ◌+◌, ◌*◌, ◌-◌, ◌==◌, ℕ, true, List, [], ◌∷◌, length, take, Option, Some, None, Result, refl, arith, inl, inr, Bool, Ok, Err}
-use Rattle.std.specs.Prelude.{is_ok, is_some, nat_lt}
+use Rattle.std.proofs.Common.{◌≡◌, ◌<◌, ◌≤◌, ◌+◌, ◌*◌, ◌==◌, ℕ, true, List, [], ◌∷◌, length, Option, Some, None, Result, refl, arith, inl, inr, Bool, Ok, Err}
+use Rattle.std.specs.Prelude.{is_ok, is_some, ok_or}
 use Rattle.std.proofs.lemmas.Grind.{common_steps}
 use Rattle.std.proofs.lemmas.Bool.{cases_Bool}
 use Rattle.std.proofs.lemmas.List.{length-append}
 use Rattle.std.proofs.lemmas.List.Concat.{length-flat_map}
 use Rattle.std.proofs.lemmas.List.Elements.{All-weaker}
 use Rattle.std.proofs.lemmas.List.Sums.{sum_by-le}
-use Rattle.csv.specs.Records.{field_at}
 use Rattle.csv.specs.Writing.{default_writer, escaped, field_text, fields_text, is_blank, needs_quotes}
 use Rattle.cdm_time.specs.declared.calendar.CalendarDate.{CalendarDate}
 use Rattle.cdm_flight.specs.Journal.{AirportRows}
 use Rattle.cdm_flight.specs.declared.update.Update.{Update}
 use Rattle.cdm_flight.specs.declared.word.RefusalWord.{RefusalWord}
-use Rattle.cdm_kinds.specs.Kinds.{fields_of, kind_name, kind_named}
+use Rattle.cdm_kinds.specs.Kinds.{kind_name, kind_named}
 use Rattle.cdm_kinds.specs.declared.kind.Kind.{Kind}
 use Rattle.cdm_kinds.specs.declared.kind.Kind.TheVariants as kind
-use Rattle.cdm_files.specs.Fields.{counted, field, all_four, all_three, and_then, both, ctot_field, group_field, ice_field, name_field, number_field, place_field, refused_by_word, tolerance_fields}
-use Rattle.cdm_files.specs.Kinds.{update_by, update_if, update_of}
+use Rattle.cdm_files.specs.Fields.{and_then, both, ctot_field, group_field, ice_field, name_field, number_field, of_four, of_three, place_field, refused_by_word, tolerance_fields}
+use Rattle.cdm_files.specs.Kinds.{update_by, update_of}
 use Rattle.cdm_files.specs.Parsing.{parse_of}
 use Rattle.cdm_files.specs.Roles.{role_of}
 use Rattle.cdm_journal.specs.Journal.{journal_line, journal_text}
@@ -79,11 +78,12 @@ room [] = 0
 room (x ∷ fields) = 3 + 2 * length x + room fields
 
 -- RATE takes the most
-kind-room : (day : CalendarDate) (kind : Kind) (a b c d : List ℕ) → is_ok (update_by day kind a b c d) ≡ true
-    → room (take (length (fields_of kind)) (a ∷ b ∷ c ∷ d ∷ [])) ≤ 94
-unfolding all_three all_four
-kind-room day kind.Rate a b c d is = grind (arith, then-ok, both-ok, name-length, number-length, minute-length)
-kind-room day _ a b c d is =
+kind-room : (day : CalendarDate) (kind : Kind) (fields : List (List ℕ)) → is_ok (update_by day kind fields) ≡ true → room fields ≤ 94
+unfolding of_three of_four
+kind-room day kind.Rate (a ∷ b ∷ c ∷ d ∷ e ∷ fields) is = cc
+kind-room day _ (a ∷ b ∷ c ∷ d ∷ e ∷ fields) is = cc
+kind-room day kind.Rate _ is = grind (arith, then-ok, both-ok, name-length, number-length, minute-length)
+kind-room day _ _ is =
     grind (arith, then-ok, both-ok, name-length, number-length, minute-length, ctot-length, place-length, group-length, ice-length, tolerance-length)
 
 -- a field's length where csv writes it
@@ -113,38 +113,19 @@ name-wide : (kind : Kind) → wide (kind_name kind) ≤ 5
 name-wide kind.Flt = omega arith
 name-wide _ = omega arith
 
-counted-ok : {X : Type 0} (wanted n : ℕ) (r : Result X RefusalWord) → is_ok (counted wanted n r) ≡ true → (n ≡ wanted) × (is_ok r ≡ true)
-counted-ok wanted n r is = (grind (arith, common_steps), grind (arith, common_steps))
-
-few-fields : (kind : Kind) → length (fields_of kind) ≤ 4
-few-fields kind.Flt = omega arith
-few-fields _ = omega arith
-
-if-room : (day : CalendarDate) (found : Option Kind) (n : ℕ) (a b c d : List ℕ) → is_ok (update_if day found n a b c d) ≡ true
-    → (is_some found ≡ true) × (n ≤ 4) × (room (take n (a ∷ b ∷ c ∷ d ∷ [])) ≤ 94)
-if-room day (Some kind) n a b c d is =
-    let made = counted-ok (length (fields_of kind)) n (update_by day kind a b c d) is in
-    rw made.0 (refl, few-fields kind, kind-room day kind a b c d made.1)
-if-room day None n a b c d is = cc
-
--- few fields are those at their places
-at-places : (fields : List (List ℕ)) → length fields ≤ 4
-    → take (length fields) (field fields 0 ∷ field fields 1 ∷ field fields 2 ∷ field fields 3 ∷ []) ≡ fields
-unfolding field_at
-at-places (a ∷ b ∷ c ∷ d ∷ e ∷ fields) few = absurd (omega (arith, few))
-at-places _ few = refl
+named-room : (day : CalendarDate) (found : Option Kind) (fields : List (List ℕ)) → is_ok (and_then (ok_or found word.Kind) (λ kind. update_by day kind fields)) ≡ true
+    → (is_some found ≡ true) × (room fields ≤ 94)
+named-room day (Some kind) fields is = (refl, kind-room day kind fields is)
+named-room day None fields is = cc
 
 -- a record that spells an update has a line of at most 104 bytes
 line-short : (day : CalendarDate) (fields : List (List ℕ)) → Spells day fields → length (journal_line fields) ≤ 104
-unfolding parse_of field_at update_of journal_line is_blank fields_text
-line-short day [] is = cc
-line-short day (x ∷ []) is = cc
+unfolding parse_of update_of journal_line is_blank fields_text
 line-short day (x ∷ y ∷ fields) is =
-    let spelled = both-spelled (nat_lt (length (x ∷ y ∷ fields)) 2) (role_of x) _ is in
-    let count : length (x ∷ y ∷ fields) - 2 ≡ length fields = omega arith in
-    let made = rw count at (if-room day (kind_named y) (length (x ∷ y ∷ fields) - 2) (field fields 0) (field fields 1) (field fields 2) (field fields 3) spelled.1) in
-    let behind : room fields ≤ 94 = rw (at-places fields made.1) at made.2 in
-    simp length-append (omega (arith, role-wide x spelled.0, of-kind (λ z. wide z ≤ 5) y name-wide made.0, behind, fields-length fields))
+    let spelled = both-spelled (role_of x) _ is in
+    let made = named-room day (kind_named y) fields spelled.1 in
+    simp length-append (omega (arith, role-wide x spelled.0, of-kind (λ z. wide z ≤ 5) y name-wide made.0, made.1, fields-length fields))
+line-short day _ is = cc
 
 pub is-short : (g : AirportRows) (records : List (List (List ℕ))) (updates : List Update) → Make g records updates → length (journal_text records) < 2097152
 unfolding journal_text

@@ -1,12 +1,10 @@
 -- A journal is read back.
 use Rattle.std.proofs.Common.{◌≡◌, ◌<◌, ◌≤◌, ◌+◌, ◌∙◌, ℕ, zero, suc, List, [], ◌∷◌, ◌++◌, length, map, Ok, refl, ap, arith}
-use Rattle.std.specs.Prelude.{nat_lt}
 use Rattle.std.proofs.lemmas.List.{length-append, map-append}
 use Rattle.std.proofs.lemmas.List.Concat.{flat_map-append}
 use Rattle.std.proofs.lemmas.List.{append-nil}
 use Rattle.csv.specs.Reading.{default_config, records_from, strip_bom}
 use Rattle.csv.specs.Machine.{next_record}
-use Rattle.csv.specs.Records.{field_at}
 use Rattle.csv.specs.Writing.{fields_text, is_blank, read_back}
 use Rattle.csv.specs.declared.parser.State.TheVariants as st
 use Rattle.csv.proofs.RoundTrip.{read-write}
@@ -30,12 +28,11 @@ use Rattle.cdm_time.specs.declared.calendar.CalendarDate.{CalendarDate}
 
 -- the line of a record that spells an update begins with a role's word, and with no byte order mark
 line-unmarked : (day : CalendarDate) (fields : List (List ℕ)) (later : List ℕ) → Spells day fields → strip_bom (journal_line fields ++ later) ≡ journal_line fields ++ later
-unfolding parse_of field_at journal_line is_blank fields_text strip_bom
-line-unmarked day [] later is = cc
-line-unmarked day (x ∷ []) later is = cc
+unfolding parse_of journal_line is_blank fields_text strip_bom
 line-unmarked day (x ∷ y ∷ fields) later is =
     of-role (λ z. strip_bom (journal_line (z ∷ y ∷ fields) ++ later) ≡ journal_line (z ∷ y ∷ fields) ++ later) x refl refl refl refl refl
-    (both-spelled (nat_lt (length (x ∷ y ∷ fields)) 2) (role_of x) _ is).0
+    (both-spelled (role_of x) _ is).0
+line-unmarked day _ later is = cc
 
 -- and it is read back as it is
 line-back : (day : CalendarDate) (fields : List (List ℕ)) → Spells day fields → read_back fields ≡ fields

@@ -1,6 +1,6 @@
 -- Records that spell updates.
-use Rattle.std.proofs.Common.{◌≡◌, ◌<◌, ◌≤◌, ◌+◌, ℕ, Bool, true, false, List, [], ◌∷◌, ◌++◌, length, map, Option, Some, None, Result, Ok, Err, refl, sym, ap, subst, arith, if◌then◌else◌, inl, inr, length-append}
-use Rattle.std.specs.Prelude.{bytes_eq, codes, is_ok, is_some}
+use Rattle.std.proofs.Common.{◌≡◌, ◌<◌, ◌≤◌, ◌+◌, ℕ, true, false, List, [], ◌∷◌, ◌++◌, length, map, Option, Some, None, Result, Ok, Err, refl, sym, ap, subst, arith, inl, inr, length-append}
+use Rattle.std.specs.Prelude.{bytes_eq, codes, is_ok, is_some, option_map}
 use Rattle.std.specs.List.{All, find}
 use Rattle.std.proofs.lemmas.Bool.{cases_Bool, leb-false, or_parts}
 use Rattle.std.proofs.lemmas.List.Elements.{All-nil, All-cons}
@@ -19,22 +19,26 @@ use Rattle.cdm_kinds.specs.Kinds.{all_kinds, kind_name, kind_named}
 use Rattle.cdm_kinds.specs.declared.kind.Kind.{Kind}
 use Rattle.cdm_files.specs.Parsing.{parse_of, with_role}
 use Rattle.cdm_files.specs.Refused.{Spelled, if_refused, refused_in}
-use Rattle.cdm_files.specs.Roles.{role_of}
+use Rattle.cdm_files.specs.Roles.{named_roles, role_of}
 
 -- Words.
 
 -- what holds of the words of all roles holds of a text that names one, and so with kinds
 module _ (P : List ℕ → Type 0) (x : List ℕ) where
-  or-word : (text : List ℕ) (role : Role) (other : Option Role) → P text → (is_some other ≡ true → P x) → is_some (if bytes_eq x text then Some role else other) ≡ true → P x
-  or-word text role other first later is = elim (cases_Bool (bytes_eq x text)) [
-    | inl same ↦ subst P (sym ((bytes_eq-Decides x text).0 same)) first
-    | inr differs ↦ later (rw differs at is)
+  abbrev EachWord : List (List ℕ × Role) → Type 0
+  EachWord [] = Unit {0}
+  EachWord (named ∷ later) = P named.0 × EachWord later
+
+  among : (roles : List (List ℕ × Role)) → EachWord roles → is_some (option_map (λ (named : List ℕ × Role). named.1) (find (λ named. bytes_eq x named.0) roles)) ≡ true → P x
+  among [] each is = cc
+  among (named ∷ later) each is = elim (cases_Bool (bytes_eq x named.0)) [
+    | inl same ↦ subst P (sym ((bytes_eq-Decides x named.0).0 same)) each.0
+    | inr differs ↦ among later each.1 (rw differs at is)
   ]
 
   pub of-role : P (codes "AO") → P (codes "GH") → P (codes "AP") → P (codes "ATC") → P (codes "NM") → is_some (role_of x) ≡ true → P x
   unfolding role_of
-  of-role ao gh ap atc nm =
-      or-word (codes "AO") _ _ ao (or-word (codes "GH") _ _ gh (or-word (codes "AP") _ _ ap (or-word (codes "ATC") _ _ atc (or-word (codes "NM") _ _ nm (λ is. cc)))))
+  of-role ao gh ap atc nm = among named_roles (ao, (gh, (ap, (atc, (nm, tt)))))
 
   found : ((kind : Kind) → P (kind_name kind)) → (kinds : List Kind) → is_some (find (λ kind. bytes_eq (kind_name kind) x) kinds) ≡ true → P x
   found each [] is = cc
@@ -54,13 +58,11 @@ abbrev pub Spells : CalendarDate → List (List ℕ) → Type 0
 Spells day fields = is_ok (parse_of day fields) ≡ true
 
 -- so its first field names a role, and the others make an update
-pub both-spelled : (short : Bool) (role : Option Role) (r : Result Update RefusalWord) → is_ok (if short then Err word.Fields else with_role role r) ≡ true
-    → (is_some role ≡ true) × (is_ok r ≡ true)
-both-spelled true role r is = cc
-both-spelled false (Some role) (Ok u) is = (refl, refl)
-both-spelled false (Some role) (Err w) is = cc
-both-spelled false None (Err word.Fields) is = cc
-both-spelled false None r is = cc
+pub both-spelled : (role : Option Role) (r : Result Update RefusalWord) → is_ok (with_role role r) ≡ true → (is_some role ≡ true) × (is_ok r ≡ true)
+both-spelled (Some role) (Ok u) is = (refl, refl)
+both-spelled (Some role) (Err w) is = cc
+both-spelled None (Err word.Fields) is = cc
+both-spelled None r is = cc
 
 none-refused : (number : ℕ) (word : Option RefusalWord) (later : List (ℕ × RefusalWord)) → if_refused number word ++ later ≡ [] → (word ≡ None) × (later ≡ [])
 none-refused number None later none = (refl, none)

@@ -1,6 +1,6 @@
 use Rattle.std.proofs.Common.{refl}
 use Rattle.std.proofs.lemmas.Result.{err_from_is_err_and}
-use Rattle.cdm_files.specs.Fields.{all_three}
+use Rattle.cdm_files.specs.inner.Several.{all_three}
 use Rattle.cdm_files.proofs.field.all_three.Goals as goal
 
 pub returns-in_err-one : goal.returns-in_err-one
