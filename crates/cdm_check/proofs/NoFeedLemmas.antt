@@ -21,18 +21,7 @@ use Rattle.cdm_check.specs.Findings.{has_no_role, is_no_feed}
 without_role : (r : Result Update RefusalWord) → is_err (with_role None r) ≡ true
 without_role (Ok u) = refl
 without_role (Err word.Fields) = refl
-without_role (Err word.Role) = refl
-without_role (Err word.Kind) = refl
-without_role (Err word.Text) = refl
-without_role (Err word.Range) = refl
-without_role (Err word.Authority) = refl
-without_role (Err word.Unknown) = refl
-without_role (Err word.Exists) = refl
-without_role (Err word.Ended) = refl
-without_role (Err word.OffBlock) = refl
-without_role (Err word.Order) = refl
-without_role (Err word.NotReady) = refl
-without_role (Err word.Full) = refl
+without_role _ = refl
 
 by-role : (role : Option Role) (r : Result Update RefusalWord) → is_none role ≡ true → is_err (with_role role r) ≡ true
 by-role None r none = without_role r
