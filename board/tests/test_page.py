@@ -331,9 +331,9 @@ def test_the_rows_are_those_of_the_plan(page, chance):
         assert sorted(shown.js(read)) == told, last
     first = [f"{plan[name]}" for name in ("placed", "late", "blocked", "delay", "max")]
     until(lambda: shown.texts("header dd") == first, WAIT)
-    shown.until("return document.querySelectorAll('#next .why span').length > 0 && ![...document.querySelectorAll('#next .why span')].some((s) => s.innerText === '…')")
     asked = [row["flight"] for row in json.loads("[" + ",".join(shown.server.get("/v1/next.json").body.decode().splitlines()) + "]")]
     until(lambda: shown.flights("next") == asked, WAIT)
+    shown.until("return ![...document.querySelectorAll('#next .why span')].some((s) => s.innerText === '…')")
 
 
 @pytest.mark.parametrize("name", ["light", "dark"])
