@@ -1,5 +1,7 @@
-"""The crates of the repository."""
+"""The crates of the repository, and what `rt` made of them."""
+import os
 import pathlib
+import shutil
 
 HOME = pathlib.Path(__file__).resolve().parent.parent
 
@@ -19,3 +21,28 @@ def crates():
 def length(crate):
     """The bytes of code and of proofs of a crate: the time of its proof is roughly proportional to them."""
     return sum(file.stat().st_size for part in ("src", "proofs") for file in (HOME / "crates" / crate / part).rglob("*.*t"))
+
+
+def below(crate, named):
+    """The crates below a crate."""
+    return {name for one in named[crate] for name in (one, *below(one, named))}
+
+
+def link(file, other):
+    """Links the file under another name, or copies it if that name is on another disk."""
+    try:
+        os.link(file, other)
+    except OSError:
+        shutil.copy2(file, other)
+
+
+def take(crate, parts, made, wanted):
+    """Links parts of what `rt` made of a crate in one copy of the repository into another copy.
+
+    `rlib` is the proved library, which crates above it need. `incremental` spares `rt` the proof of what is the same.
+    """
+    for part in parts:
+        source, target = (folder / "crates" / crate / "out" / part for folder in (made, wanted))
+        if source != target and source.is_dir():
+            shutil.rmtree(target, ignore_errors=True)
+            shutil.copytree(source, target, copy_function=link)

@@ -32,9 +32,7 @@ pub record IsMadeBy (IsText : AirportRows → List ℕ → List ScenarioRecord �
   pub questions : List ScenarioRecord
   pub scenario_file : scenarios_in rows.day scenarios ≡ Ok questions
   pub made : IsText rows feed questions text
-  pub accepted : counts.accepted ≡ length (accepted_in rows feed)
-  pub refused : counts.refused ≡ length (refusals_in rows feed)
-  pub asked : counts.scenarios ≡ length questions
+  pub counted : counts ≡ record { accepted = length (accepted_in rows feed); refused = length (refusals_in rows feed); scenarios = length questions }
 
 -- the text that is written for the bytes of an airport file, of a feed and of a scenario file, and what is
 -- counted

@@ -4,7 +4,6 @@ pub mod WrittenLemmas
 mod WorkedRecords
 pub mod RunLemmas
 pub mod FeedDayLemmas
-pub mod ScenarioLemmas
 pub mod SeveralLemmas
 pub mod StretchLemmas
 pub mod RowLemmas

@@ -2,7 +2,7 @@
 -- A field that hasn't its form is refused by TEXT, one out of its range by RANGE.
 use Rattle.std.specs.Prelude.{ℕ, Bool, ◌&&◌, ◌==◌, not, nat_le, List, [], length, codes, bytes_eq, Option, Some, None, unwrap_or, Result, Ok, Err, if◌then◌else◌}
 use Rattle.std.specs.Option.{ok_or}
-use Rattle.std.specs.Result.{result_map_both}
+use Rattle.std.specs.Result.{result_flatten, result_map_both}
 use Rattle.csv.specs.Records.{field_at}
 use Rattle.cdm_time.specs.Digits.{are_digits, number_in}
 use Rattle.cdm_time.specs.Times.{minute_up_to}
@@ -30,8 +30,7 @@ counted wanted count r = if count == wanted then r else Err Fields
 
 -- goes on with a good value, and keeps the word that refuses a faulty one
 abbrev pub and_then : {A X E : Type 0} → Result A E → (A → Result X E) → Result X E
-and_then (Ok a) more = more a
-and_then (Err fault) more = Err fault
+and_then r more = result_flatten (result_map_both more (λ fault. fault) r)
 
 -- what a good field's value makes
 abbrev pub of_one : {A X : Type 0} → (A → X) → Result A RefusalWord → Result X RefusalWord

@@ -6,9 +6,9 @@ ghost use Rattle.cdm_files.specs.inner.RecordFaults.{IsRecordFaultOf};
 ghost use Rattle.std.specs.List.{list_any};
 ghost use Rattle.cdm_flight.specs.Names.{same_name};
 ghost use Rattle.cdm_files.specs.Fields.{and_then};
-ghost use Rattle.cdm_files.specs.ScenarioFile.{scenarios_in, with_line, with_next};
+ghost use Rattle.cdm_files.specs.ScenarioFile.{scenarios_in, with_line};
 ghost use Rattle.cdm_files.specs.ScenarioRecords.{scenario_line_of};
-ghost use Rattle.cdm_files.specs.declared.scenario_record.ScenarioLine.TheVariants.{Begin};
+ghost use Rattle.cdm_files.specs.declared.scenario_record.ScenarioLine.TheVariants.{Begin, Next};
 
 use crate::file_fault::{FileFault, RecordFault};
 use crate::record_reader::RecordReader;
@@ -52,10 +52,10 @@ fn begin(
 }
 
 // Adds an update to the scenario that began last.
-#[tactic(auto, unfolding(crate::specs::ScenarioFile::with_next))]
+#[tactic(auto, using(std::proofs::lemmas::Option::slice_get_read, std::proofs::lemmas::Option::slice_get_past), unfolding(crate::specs::ScenarioFile::with_line))]
 fn add(scenarios: &mut [Scenario], update: Update) -> Result<(), RecordFault>
-    ensures added { OnOk result (with_next scenarios.old update ≡ Ok scenarios.new) }
-    ensures refused { IfErr result (IsRecordFaultOf (with_next scenarios.old update)) }
+    ensures added { OnOk result (with_line scenarios.old (Next update) ≡ Ok scenarios.new) }
+    ensures refused { IfErr result (IsRecordFaultOf (with_line scenarios.old (Next update))) }
 {
     match scenarios.last_mut() {
         Some(scenario) => match scenario.add(update) {

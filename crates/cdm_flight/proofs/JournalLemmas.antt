@@ -3,13 +3,13 @@ use Rattle.std.proofs.Common.{◌≡◌, ℕ, Bool, true, false, cond, not, ◌&
 use Rattle.std.specs.Prelude.{is_some, unwrap_or}
 use Rattle.std.specs.Option.{option_map, option_or}
 use Rattle.std.specs.FinMap as map
-use Rattle.std.specs.List.{list_all, list_any, take_while}
+use Rattle.std.specs.List.{fold, list_all, list_any, take_while}
 use Rattle.std.proofs.lemmas.Grind.{common_steps}
 use Rattle.std.proofs.lemmas.List.{append-nil}
 use Rattle.std.proofs.lemmas.List.Elements.{filter-append}
-use Rattle.std.proofs.lemmas.List.Sums.{take_while-cons}
+use Rattle.std.proofs.lemmas.List.Sums.{fold-append, take_while-cons}
 use Rattle.cdm_time.specs.declared.tolerance.Tolerance.{Tolerance}
-use Rattle.cdm_flight.proofs.Lists.{option_or-none, option_or-assoc, list_any-push, take_while-all, take_while-append}
+use Rattle.cdm_flight.proofs.Lists.{list_any-push, take_while-all, take_while-append}
 use Rattle.cdm_flight.specs.declared.flight.Status.{Status}
 use Rattle.cdm_flight.specs.declared.flight.Status.TheVariants.{Planned, OffBlock, Airborne, Cancelled}
 use Rattle.cdm_flight.specs.declared.group.Group.TheVariants.{Medium}
@@ -43,9 +43,7 @@ is_cancelled a f = list_any is_cancel (of_flight f a)
 
 -- one more update gives the value, or leaves it
 pub last_value-push : {U X : Type 0} (given : U → Option X) (a : List U) (u : U) → last_value given (a ++ u ∷ []) ≡ option_or (given u) (last_value given a)
-last_value-push given [] u = sym (option_or-none (given u))
-last_value-push given (v ∷ a) u =
-    ap (λ o. option_or o (given v)) (last_value-push given a u) ∙ option_or-assoc (given u) (last_value given a) (given v)
+last_value-push given a u = fold-append (λ before v. option_or (given v) before) None a (u ∷ [])
 
 -- a name is the same as itself
 pub same_name-refl : (f : List ℕ) → same_name f f ≡ true
@@ -97,9 +95,13 @@ module _ (f : List ℕ) where
   abbrev before_off : List Update → List Update
   before_off a = take_while (λ u. not (is_off u)) a
 
+  no_off_after : (s : Option ℕ) (a : List Update) → (not (is_some s) && list_all (λ u. not (is_off u)) a)
+      ≡ not (is_some (fold (λ before u. option_or (aobt_given u) before) s (of_flight f a)))
+  no_off_after s [] = grind arith
+  no_off_after s (v ∷ a) = grind (arith, no_off_after s a, no_off_after (option_or (aobt_given v) s) a, is_some-option_or (aobt_given v) s)
+
   no_off : (a : List Update) → list_all (λ u. not (is_off u)) a ≡ not (is_some (aobt_of a f))
-  no_off [] = refl
-  no_off (v ∷ a) = let later = no_off a in grind (arith, is_some-option_or (aobt_of a f) (aobt_given v))
+  no_off a = no_off_after None a
 
   -- it stays once the flight has left
   pub before_off-left : (a : List Update) (u : Update) (m : ℕ) → aobt_of a f ≡ Some m → before_off (a ++ u ∷ []) ≡ before_off a

@@ -5,7 +5,7 @@ use Rattle.std.specs.Cmp.{IsStrictWeakOrder}
 use Rattle.std.specs.Prelude.{is_some, if◌then◌else◌}
 use Rattle.std.specs.List.{filter_map, find, list_all, list_any, take_while, All, Contains, cons_option, swap, AllByRecursion, IsDistinct}
 use Rattle.std.specs.List.Sorted.{IsPermutation, IsSortedBy}
-use Rattle.std.specs.Option.{option_or, option_to_list}
+use Rattle.std.specs.Option.{option_to_list}
 use Rattle.std.proofs.Math.Bool.{or-false, or_comm}
 use Rattle.std.proofs.lemmas.Bool.{cases_order, cond_both, false≢true, false_from_ne_true, true_from_ne_false}
 use Rattle.std.proofs.lemmas.List.Edits.{swap_is}
@@ -85,14 +85,6 @@ filter_same p q [] same = refl
 filter_same p q (x ∷ xs) same =
     let rest = filter_same p q xs (λ y j. same y (contains_tail x xs y j)) in
     λ i. cond (same x (contains_head x xs) i) (x ∷ rest i) (rest i)
-
--- Choices.
-
-pub option_or-none : {X : Type 0} (o : Option X) → option_or o None ≡ o
-option_or-none o = grind arith
-
-pub option_or-assoc : {X : Type 0} (o p q : Option X) → option_or (option_or o p) q ≡ option_or o (option_or p q)
-option_or-assoc o p q = grind arith
 
 -- Tests of any element.
 

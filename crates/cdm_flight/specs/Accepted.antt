@@ -1,7 +1,7 @@
 -- Which updates are refused and why, and what a batch of them leaves.
 use Rattle.std.specs.Prelude.{ℕ, ◌%◌, ◌==◌, Bool, false, not, ◌&&◌, ◌||◌, nat_lt, nat_le, if◌then◌else◌, List, [], ◌∷◌, ◌++◌, length, Option, None, Some, is_none, is_some, count_by}
 use Rattle.std.specs.Option.{option_and_then, option_map_or, option_or}
-use Rattle.std.specs.List.{filter_map}
+use Rattle.std.specs.List.{filter_map, fold}
 use Rattle.cdm_flight.specs.declared.role.Role.{Role}
 use Rattle.cdm_flight.specs.declared.update.Update.{Update}
 use Rattle.cdm_flight.specs.declared.update.Update.TheVariants.{Flt, Rate, Close, Reopen, Taxi, Clock}
@@ -70,8 +70,7 @@ after_one g a p = if is_none (refusal g a p.0 p.1) then a ++ p.1 ∷ [] else a
 
 -- the journal after a batch
 unfoldable pub accepted : AirportRows → List Update → List (Role × Update) → List Update
-accepted g a [] = a
-accepted g a (p ∷ later) = accepted g (after_one g a p) later
+accepted g a records = fold (after_one g) a records
 
 -- the replies to a batch: none where the update was accepted, else the word
 unfoldable pub replies_to : AirportRows → List Update → List (Role × Update) → List (Option RefusalWord)

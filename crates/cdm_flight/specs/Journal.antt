@@ -1,8 +1,8 @@
 -- What a journal says: a list of accepted updates, oldest first, over the rows of an airport.
-use Rattle.std.specs.Prelude.{ℕ, Bool, true, false, not, ◌&&◌, List, [], ◌∷◌, Option, None, Some, is_some, unwrap_or}
+use Rattle.std.specs.Prelude.{ℕ, Bool, true, false, not, ◌&&◌, List, Option, None, Some, is_some, unwrap_or}
 use Rattle.std.specs.Bool.{then_some}
 use Rattle.std.specs.Option.{option_and_then, option_eq, option_map, option_map_or, option_or}
-use Rattle.std.specs.List.{find, list_any, take_while}
+use Rattle.std.specs.List.{find, fold, list_any, take_while}
 use Rattle.std.specs.FinMap as map
 use Rattle.cdm_time.specs.Windows.{usual_tolerance, window_has}
 use Rattle.cdm_time.specs.declared.tolerance.Tolerance.{Tolerance}
@@ -38,8 +38,7 @@ runway_row g r = find (λ row. same_name row.name r) g.runways
 
 -- the value that the last update that gives one gives
 abbrev pub last_value : {U X : Type 0} → (U → Option X) → List U → Option X
-last_value given [] = None
-last_value given (u ∷ later) = option_or (last_value given later) (given u)
+last_value given updates = fold (λ before u. option_or (given u) before) None updates
 
 -- What an update gives to what it touches.
 
@@ -152,8 +151,7 @@ taxi_of g a place r = option_or (last_value (taxi_given place) (touching (reach.
 abbrev pub exot_now : AirportRows → List Update → List ℕ → Option ℕ
 exot_now g a f =
     let own = of_flight f a in
-    let ice = unwrap_or (last_value ice_given own) NoIce in
-    option_and_then (λ r. taxi_out (λ place. taxi_of g a place r) (last_value stand_given own) ice) (last_value runway_given own)
+    option_and_then (λ r. taxi_out (λ place. taxi_of g a place r) (last_value stand_given own) (unwrap_or (last_value ice_given own) NoIce)) (last_value runway_given own)
 
 -- the taxi-out time of the flight: its OFF fixes it, and what comes before that in the journal says it
 unfoldable pub exot_of : AirportRows → List Update → List ℕ → Option ℕ
@@ -166,8 +164,7 @@ abbrev pub status_from : Bool → Option ℕ → Option ℕ → Option ℕ → B
 status_from true atot aobt exot known = Some Cancelled
 status_from false (Some atot) aobt exot known = Some (Airborne (unwrap_or aobt 0) atot)
 status_from false None (Some aobt) exot known = Some (OffBlock aobt (unwrap_or exot 0))
-status_from false None None exot true = Some Planned
-status_from false None None exot false = None
+status_from false None None exot known = then_some known Planned
 
 -- how far the flight has come, if it is known
 abbrev pub status_of : AirportRows → List Update → List ℕ → Option Status

@@ -1,16 +1,12 @@
 -- Groups of flights, and for how long each occupies a runway.
-use Rattle.std.specs.Prelude.{ℕ, List, codes, bytes_eq, Option, None, Some, if◌then◌else◌}
+use Rattle.std.specs.Prelude.{ℕ, List, [], ◌∷◌, codes, bytes_eq, find, Option, option_map}
 use Rattle.cdm_flight.specs.declared.group.Group.{Group}
 use Rattle.cdm_flight.specs.declared.group.Group.TheVariants.{Light, Medium, Heavy}
 use Rattle.cdm_flight.specs.declared.spacing.Spacing.{Spacing}
 
 -- the group of a letter
 abbrev pub group_of : List ℕ → Option Group
-group_of text =
-    if bytes_eq text (codes "L") then Some Light
-    else if bytes_eq text (codes "M") then Some Medium
-    else if bytes_eq text (codes "H") then Some Heavy
-    else None
+group_of text = option_map (λ (named : List ℕ × Group). named.1) (find (λ named. bytes_eq text named.0) ((codes "L", Light) ∷ (codes "M", Medium) ∷ (codes "H", Heavy) ∷ []))
 
 -- for how many minutes a flight of a group occupies the runway
 abbrev pub occupancy_of : Spacing → Group → ℕ

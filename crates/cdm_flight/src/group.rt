@@ -18,14 +18,11 @@ impl Group {
     pub fn new(text: &[u8]) -> Option<Group>
         ensures { result ≡ group_of text.now }
     {
-        if text == b"L".as_slice() {
-            Some(Group::Light)
-        } else if text == b"M".as_slice() {
-            Some(Group::Medium)
-        } else if text == b"H".as_slice() {
-            Some(Group::Heavy)
-        } else {
-            None
+        match text {
+            b"L" => Some(Group::Light),
+            b"M" => Some(Group::Medium),
+            b"H" => Some(Group::Heavy),
+            _ => None,
         }
     }
 }

@@ -15,10 +15,8 @@ use Rattle.cdm_view.specs.Load.{is_asked}
 use Rattle.cdm_view.specs.Why.{own_slot, waits_for}
 use Rattle.cdm_view.specs.declared.question.Question.{Question}
 use Rattle.cdm_view.specs.declared.question.Question.TheVariants.{Why, Load}
-use Rattle.cdm_view.specs.declared.runs.Run.{Run}
 use Rattle.cdm_view.proofs.AnswerLemmas.{waits_one}
 use Rattle.cdm_row.specs.Changed.{row_named}
-use Rattle.cdm_row.specs.declared.row.Row.{Row}
 use Rattle.cdm_row.proofs.RowLemmas.{one_rows}
 use Rattle.cdm_json.specs.Answers.{IsJsonAnswer}
 use Rattle.cdm_json.specs.Lines.{answer_line}

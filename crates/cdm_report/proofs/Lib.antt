@@ -2,4 +2,3 @@ pub mod Widths
 pub mod Lengths
 pub mod CountLemmas
 pub mod Pairs
-mod EqualSlots

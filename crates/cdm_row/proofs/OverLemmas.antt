@@ -18,7 +18,7 @@ use Rattle.cdm_sequence.specs.declared.plan.Plan.{Plan}
 use Rattle.cdm_row.specs.Changed.{Suffice, changed_rows, has_row, row_named, row_put_over, same_row}
 use Rattle.cdm_row.specs.Rows.{AreRows}
 use Rattle.cdm_row.specs.declared.row.Row.{Row}
-use Rattle.cdm_row.proofs.EqualRows.{equal_rows}
+use Rattle.cdm_row.proofs.EqualRows.{rows_decide}
 use Rattle.cdm_row.proofs.RowLemmas.{flights, one_row}
 
 -- it finds nothing where none passes
@@ -48,7 +48,7 @@ had_itself had r h = by (find (λ row. same_row row r) had) refl
     by None e = absurd (false≢true (sym (list_any-find (λ row. same_row row r) had ∙ ap is_some e) ∙ h))
     by (Some a) e =
         let there = find_some (λ row. same_row row r) had a e in
-        subst (Contains had) (equal_rows a r there.1) there.0
+        subst (Contains had) ((rows_decide a r).0 there.1) there.0
 
 module _ (had after : List Row) (own : IsDistinct same_name (flights had)) (own_after : IsDistinct same_name (flights after))
     (stays : (name : List ℕ) → Contains (flights had) name → Contains (flights after) name) where

@@ -6,3 +6,4 @@ pub mod NameLemmas
 pub mod OneLemmas
 pub mod SequenceLemmas
 pub mod AimLemmas
+pub mod EqualLemmas

@@ -19,7 +19,7 @@ use Rattle.cdm_flight.specs.Names.{name_cmp, same_name}
 use Rattle.cdm_flight.specs.Order.{key_cmp, is_before}
 use Rattle.cdm_sequence.specs.declared.target.Target.{Target}
 
-names_decide : (m n : List ℕ) → Decides (same_name m n) (m ≡ n)
+pub names_decide : (m n : List ℕ) → Decides (same_name m n) (m ≡ n)
 names_decide m n = slice_eq-Decides Decides-eqb m n (same_name m n) refl
 
 -- names that are the same are equal

@@ -1,5 +1,5 @@
 -- What numbers one after another give.
-use Rattle.std.proofs.Common.{append_assoc, get_or, ◌≡◌, ◌∙◌, ℕ, zero, suc, ◌+◌, ◌-◌, ◌<◌, ◌≤◌, ◌++◌, Bool, List, [], ◌∷◌, Option, None, Some, ap, length, map, refl, subst, sym, take, arith}
+use Rattle.std.proofs.Common.{append_assoc, get_or, ◌≡◌, ◌∙◌, ℕ, zero, suc, ◌+◌, ◌-◌, ◌<◌, ◌≤◌, ◌++◌, Bool, List, [], ◌∷◌, Option, None, Some, ap, length, map, refl, sym, take, arith}
 use Rattle.std.specs.Prelude.{IsSome, filter, flat_map, slice_get}
 use Rattle.std.specs.List.{cons_option, filter_map, range_with_len}
 use Rattle.std.proofs.lemmas.Bool.{false≢true}

@@ -1,5 +1,5 @@
 -- A question has one answer.
-use Rattle.std.proofs.Common.{◌≡◌, ◌∙◌, ℕ, List, Option, None, Some, ap, sym}
+use Rattle.std.proofs.Common.{◌≡◌, ◌∙◌, ℕ, List, None, ap, sym}
 use Rattle.std.specs.List.{IsDistinct}
 use Rattle.cdm_flight.specs.Names.{same_name}
 use Rattle.cdm_kinds.specs.declared.format.Format.{Format}
@@ -19,7 +19,6 @@ use Rattle.cdm_shift.specs.Lines.{causes_text, next_text, warnings_text}
 use Rattle.cdm_shift.specs.Objects.{causes_lines, next_lines, warning_lines}
 use Rattle.cdm_shift.specs.declared.question.DayQuestion.{DayQuestion}
 use Rattle.cdm_shift.specs.declared.question.DayQuestion.TheVariants.{View, Shift}
-use Rattle.cdm_shift.specs.declared.question.ShiftQuestion.{ShiftQuestion}
 use Rattle.cdm_shift.specs.declared.question.ShiftQuestion.TheVariants.{Next, Warnings, Causes}
 
 module _ (d : DayRecord) (plan : Plan) (airport : IsAirport d.airport) (flights : IsDistinct same_name (flights_in d.journal)) (is : IsDayPlan d plan) where

@@ -1,9 +1,9 @@
 -- Where the minutes of delay come from.
-use Rattle.std.specs.Prelude.{ℕ, Bool, true, false, not, ◌&&◌, ◌||◌, nat_le, nat_lt, if◌then◌else◌, List, [], ◌∷◌, count_by, filter, flat_map, fold, insert, length, map, slice_get, slice_index, take, Option, None, Some}
+use Rattle.std.specs.Prelude.{ℕ, Bool, true, false, not, ◌&&◌, ◌||◌, nat_le, nat_lt, if◌then◌else◌, List, [], count_by, filter, flat_map, fold, insert, length, map, slice_index, take, Option, None, Some}
 use Rattle.std.specs.List.{list_any, prefix_len}
 use Rattle.cdm_flight.specs.Names.{is_name, name_cmp, same_name}
 use Rattle.std.specs.declared.cmp.Ordering.{Ordering}
-use Rattle.std.specs.declared.cmp.Ordering.TheVariants.{Less, Equal, Greater}
+use Rattle.std.specs.declared.cmp.Ordering.TheVariants.{Less}
 use Rattle.cdm_sequence.specs.declared.plan.Plan.{Plan}
 use Rattle.cdm_plan.specs.Day.{DayRecord}
 use Rattle.cdm_row.specs.declared.row.Row.{Row}

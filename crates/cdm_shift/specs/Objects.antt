@@ -1,6 +1,5 @@
 -- What a shift is told, as JSON: an object on a line of its own for each start-up, warning or group.
-use Rattle.std.specs.Prelude.{ℕ, List, [], ◌∷◌, ◌++◌, codes, flat_map, map, Option, None, Some}
-use Rattle.std.specs.Option.{option_map_or}
+use Rattle.std.specs.Prelude.{ℕ, List, [], ◌∷◌, ◌++◌, codes, flat_map, map, Option}
 use Rattle.json.specs.Json.{Json}
 use Rattle.cdm_time.specs.declared.calendar.CalendarDate.{CalendarDate}
 use Rattle.cdm_runway.specs.Rules.{RunwayRules}

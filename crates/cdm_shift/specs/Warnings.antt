@@ -1,7 +1,7 @@
 -- What is wrong, or about to be.
-use Rattle.std.specs.Prelude.{ℕ, ◌+◌, ◌*◌, ◌-◌, ◌/◌, Bool, true, false, ◌&&◌, ◌||◌, max, min, nat_le, nat_lt, if◌then◌else◌, List, ◌++◌, filter, flat_map, length, map, Option, None, Some}
-use Rattle.std.specs.List.{filter_map, list_any, range_with_len}
-use Rattle.std.specs.Option.{option_and_then, option_map, option_map_or}
+use Rattle.std.specs.Prelude.{ℕ, ◌+◌, ◌*◌, Bool, true, false, ◌&&◌, ◌||◌, max, min, nat_le, nat_lt, if◌then◌else◌, List, ◌++◌, filter, flat_map, length, map, Option, None, Some}
+use Rattle.std.specs.List.{filter_map, list_any}
+use Rattle.std.specs.Option.{option_and_then, option_map}
 use Rattle.cdm_time.specs.declared.tolerance.Tolerance.{Tolerance}
 use Rattle.cdm_flight.specs.Journal.{runway_row, values_of}
 use Rattle.cdm_flight.specs.declared.values.DayValues.{DayValues}

@@ -12,6 +12,7 @@ pub mod RunLemmas
 pub mod AnswerLemmas
 pub mod StandingLemmas
 pub mod EqualLemmas
+pub mod PassedLemmas
 pub mod ChangeLemmas
 pub mod KnownLemmas
 pub mod WorkedStandings

@@ -2,7 +2,6 @@ use Rattle.std.proofs.Common.{◌≡◌, ◌≤◌, ◌<◌, ◌∙◌, ◌++◌
 use Rattle.std.specs.Option.{option_copied}
 use Rattle.cdm_flight.specs.Journal.{AirportRows}
 use Rattle.cdm_flight.specs.declared.word.RefusalWord.{RefusalWord}
-use Rattle.cdm_plan.specs.Day.{DayRecord}
 use Rattle.cdm_files.specs.FeedDay.{refusals_in}
 use Rattle.cdm_files.specs.ScenarioFile.{scenarios_in}
 use Rattle.cdm_check.specs.Check.{AreLinesOf}

@@ -15,7 +15,9 @@ returns-clause-made over c =
       questions = day.scenarios.items;
       scenario_file = is.scenarios;
       made = subst (λ (feed : List ℕ). IsTextOf c.args.asked day.state.airport feed day.scenarios.items c.in_ok-text.text.items) c.deref.ensures.value c.in_ok-text.ensures.made;
-      accepted = ap length (c.journal.ensures ∙ ap (λ (d : DayRecord). d.journal) is.state);
-      refused = refused ∙ ap length is.refused;
-      asked = scenarios;
+      counted = λ i. record {
+        accepted = (ap length (c.journal.ensures ∙ ap (λ (d : DayRecord). d.journal) is.state)) i;
+        refused = (refused ∙ ap length is.refused) i;
+        scenarios = scenarios i;
+      };
     }

@@ -1,6 +1,5 @@
-use Rattle.std.proofs.Common.{◌≡◌, ◌∙◌, ℕ, List, subst, sym}
+use Rattle.std.proofs.Common.{◌≡◌, ◌∙◌, subst, sym}
 use Rattle.std.proofs.lemmas.Result.{IfOk-weaker}
-use Rattle.cdm_kinds.specs.declared.format.Format.TheVariants.{Text, Json}
 use Rattle.cdm_plan.proofs.NameLemmas.{rules_by_name, rules_in}
 use Rattle.cdm_shift.specs.Answers.{IsShiftText}
 use Rattle.cdm_shift.specs.Lines.{warnings_text}

@@ -1,4 +1,4 @@
-use Rattle.std.proofs.Common.{ℕ, ◌≤◌, List, ◌++◌, length, sym, ap, ◌∙◌, arith}
+use Rattle.std.proofs.Common.{◌≤◌, List, ◌++◌, length, sym, ap, ◌∙◌, arith}
 use Rattle.std.specs.Prelude.{flat_map}
 use Rattle.cdm_plan.proofs.NameLemmas.{all_taken, in_order, length-by_name, rules_by_name, rules_in, runway_is}
 use Rattle.cdm_runway.specs.Rules.{RunwayRules}

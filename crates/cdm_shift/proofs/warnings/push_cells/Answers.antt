@@ -1,4 +1,4 @@
-use Rattle.std.proofs.Common.{◌≡◌, ◌∙◌, ◌++◌, ℕ, true, false, [], ◌∷◌, ap, cond, map, sym}
+use Rattle.std.proofs.Common.{◌≡◌, ◌∙◌, ◌++◌, true, false, [], ◌∷◌, ap, cond, map, sym}
 use Rattle.std.proofs.lemmas.List.{append-nil}
 use Rattle.cdm_shift.specs.Warnings.{full_cell, is_full}
 use Rattle.cdm_shift.proofs.ListLemmas.{passing_more}

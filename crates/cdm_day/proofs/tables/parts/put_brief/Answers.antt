@@ -1,4 +1,4 @@
-use Rattle.std.proofs.Common.{◌≤◌, ◌<◌, inl, inr, length, refl, sym, ◌∙◌, arith}
+use Rattle.std.proofs.Common.{◌≤◌, inl, inr, length, refl, sym, ◌∙◌, arith}
 use Rattle.std.proofs.lemmas.Bool.{cases_lt}
 use Rattle.cdm_plan.proofs.ListWords.{false≢true}
 use Rattle.cdm_day.proofs.BriefLemmas.{put_at-past, put_at-within}

@@ -1,8 +1,10 @@
-use Rattle.std.proofs.Common.{◌≡◌, ◌+◌, ◌∙◌, sym, ap, subst, cond, not, [], ◌∷◌, ◌++◌, take}
+use Rattle.std.proofs.Common.{◌≡◌, ◌+◌, ℕ, List, ◌∙◌, sym, ap, subst, cond, not, [], ◌∷◌, ◌++◌, take}
 use Rattle.std.proofs.lemmas.List.{append-nil}
-use Rattle.cdm_row.specs.Changed.{changed_rows, has_row}
+use Rattle.cdm_row.specs.Changed.{changed_rows, has_row, same_row}
 use Rattle.cdm_row.specs.inner.Passed.{from_name, is_first}
-use Rattle.cdm_row.proofs.PassedLemmas.{StillHas, changed_next, had_first, still_has}
+use Rattle.cdm_row.specs.declared.row.Row.{Row}
+use Rattle.cdm_row.proofs.PassedLemmas.{StillHas, unlike}
+use Rattle.cdm_view.proofs.PassedLemmas.{AreByName, had_first, new_next, still_has}
 use Rattle.cdm_row.proofs.rows.Rows.changed_since.Goals.{else-not-is_first, then-not-is_first+in_ok-push_last}
 use Rattle.cdm_row.proofs.rows.Rows.changed_since.Goals as goal
 
@@ -13,14 +15,16 @@ loop-row-preserved c =
     let items = c.as_slice-row-items.result.now in
     let place = c.loop-row.row-index in
     let r = c.row-item.result in
+    let name : Row → List ℕ = λ row. row.flight in
     let keeps = rw (← c.as_slice-row-items.ensures.items) at c.as_slice-row-items.ensures.keeps in
+    let own : AreByName name same_row items = (keeps.by_name, keeps.apart) in
     let still = c.loop-row.invariant.1 in
     let at = sym c.row-item.is in
     let is_so = c.is_first.result in
     let passed : c.from_flight-left.result.now ≡ from_name r.flight left = c.from_flight-left.ensures in
     let had_here : has_row before r ≡ is_so =
-    had_first before left items keeps place r c.loop-row-test.true at still ∙ ap (λ l. is_first l r) (sym passed) ∙ sym c.is_first.ensures in
-    let next = changed_next before items place r c.loop-row-test.true at is_so had_here in
+    had_first name same_row unlike before left items own place r c.loop-row-test.true at still ∙ ap (λ l. is_first l r) (sym passed) ∙ sym c.is_first.ensures in
+    let next = new_next name same_row before items place r c.loop-row-test.true at is_so had_here in
     let so_far = c.loop-row.invariant.0 in
     let earlier = changed_rows before (take place items) in (
       elim c.if-not-is_first.branch [
@@ -29,5 +33,5 @@ loop-row-preserved c =
         | else-not-is_first w ↦ (λ i. (w.changed-is i).items) ∙ so_far
             ∙ sym (next ∙ (λ i. earlier ++ cond (not (w.if-not-is_first.false i)) (r ∷ []) []) ∙ append-nil earlier)
       ],
-      subst (λ l. StillHas before l items (place + 1)) (sym passed) (still_has before left items keeps place r c.loop-row-test.true at still),
+      subst (λ l. StillHas before l items (place + 1)) (sym passed) (still_has name same_row unlike before left items own place r c.loop-row-test.true at still),
     )

@@ -1,9 +1,9 @@
 use Rattle.std.proofs.Common.{◌≡◌, take}
-use Rattle.cdm_view.specs.Standings.{changes}
-use Rattle.cdm_view.proofs.ChangeLemmas.{StillTells}
+use Rattle.cdm_view.specs.Standings.{changes, flight_name, is_same_told}
+use Rattle.cdm_view.proofs.PassedLemmas.{StillHas}
 use Rattle.cdm_view.proofs.standings.Standings.changes.Given as goal
 
 -- the changes so far, and what is left of those told before
 abbrev pub invariant-loop-standing : goal.invariant-loop-standing
 invariant-loop-standing l =
-    (l.changed.items ≡ changes l.day l.before (take l.standing-index l.standing-items)) × StillTells l.day l.before l.told l.standing-items l.standing-index
+    (l.changed.items ≡ changes l.day l.before (take l.standing-index l.standing-items)) × StillHas flight_name (is_same_told l.day) l.before l.told l.standing-items l.standing-index
