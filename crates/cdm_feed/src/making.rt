@@ -30,6 +30,7 @@ use cdm_table::{Table, TableFault, plans_json, tabulate};
 use cdm_trace::{Since, from_minute, trace_of};
 use cdm_view::ViewFault;
 use std::alloc::{AllocError, Global};
+use std::mem;
 use std::thread::Threads;
 
 /// The text of a run and what it counts.
@@ -220,19 +221,20 @@ fn check_known(state: &DayState, asked: Option<FlightName>) -> Result<(), Flight
     }
 }
 
-// What is told of the records of the feed that made a day, from a time on.
+// What is told of the records of the feed that made a day, from a time on. The day is made again, record by record, so it
+// doesn't stay beside itself.
 fn trace_in(
     alloc: Global,
     flight: Option<FlightName>,
     since: Option<Since>,
     format: Format,
-    day: &AskedDay,
+    day: AskedDay,
     feed: &[u8],
 ) -> Result<Vec<u8>, RunError>
     requires { length feed.now ≤ input_limit }
-    ensures known { OnOk result (IsKnown flight day.now.state) }
-    ensures made { IfOk result (λ text. IsOkAnd (from_minute day.now.state.airport.day since) (λ from. IsTrace format flight from day.now.state.airport feed.now text.items)) }
-    ensures fault { IfErr result (IsUntold (DayText.Trace flight since format) day.now.state day.now.scenarios.items) }
+    ensures known { OnOk result (IsKnown flight day.state) }
+    ensures made { IfOk result (λ text. IsOkAnd (from_minute day.state.airport.day since) (λ from. IsTrace format flight from day.state.airport feed.now text.items)) }
+    ensures fault { IfErr result (IsUntold (DayText.Trace flight since format) day.state day.scenarios.items) }
 {
     let Ok(from) = from_minute(*day.state.day(), since) else {
         return Err(RunError::OtherDay);
@@ -241,38 +243,48 @@ fn trace_in(
         return Err(RunError::NoFlight(name));
     }
     let airport = day.state.airport().copy(alloc)?;
+    mem::drop(day);
     Ok(trace_of(alloc, airport, feed, flight, from, format)?)
 }
 
-// What is told of the day that a feed makes.
+// What is told of the day that a feed makes. A feed that isn't read again is dropped first.
 fn text_of_day<R: Threads + Sync, G: Gate>(
     lent: &Lent<'_, R, G>,
     asked: DayText,
-    day: &AskedDay,
-    feed: &[u8],
+    day: AskedDay,
+    feed: Vec<u8>,
 ) -> Result<Vec<u8>, RunError>
-    requires limit { length feed.now ≤ input_limit }
-    requires state { day.now.state ≡ day_in day.now.state.airport feed.now }
-    requires refused { day.now.refused.items ≡ refusals_in day.now.state.airport feed.now }
-    ensures made { IfOk result (λ text. IsTextOf asked day.now.state.airport feed.now day.now.scenarios.items text.items) }
-    ensures fault { IfErr result (IsUntold asked day.now.state day.now.scenarios.items) }
+    requires limit { length feed.items ≤ input_limit }
+    requires state { day.state ≡ day_in day.state.airport feed.items }
+    requires refused { day.refused.items ≡ refusals_in day.state.airport feed.items }
+    ensures made { IfOk result (λ text. IsTextOf asked day.state.airport feed.items day.scenarios.items text.items) }
+    ensures fault { IfErr result (IsUntold asked day.state day.scenarios.items) }
 {
     match asked {
-        DayText::Plan(format) => Ok(plan_in(lent, format, day)?),
-        DayText::Table(table) => table_of(lent, table, day),
-        DayText::Picture => Ok(picture(
-            lent.rt,
-            lent.alloc,
-            &day.state,
-            &day.scenarios,
-            lent.workers,
-            lent.gate,
-        )?),
+        DayText::Plan(format) => {
+            mem::drop(feed);
+            Ok(plan_in(lent, format, &day)?)
+        }
+        DayText::Table(table) => {
+            mem::drop(feed);
+            table_of(lent, table, &day)
+        }
+        DayText::Picture => {
+            mem::drop(feed);
+            Ok(picture(
+                lent.rt,
+                lent.alloc,
+                &day.state,
+                &day.scenarios,
+                lent.workers,
+                lent.gate,
+            )?)
+        }
         DayText::Answer(question, scenario, format) => {
-            answer_of(lent.alloc, Asking { question, format }, scenario, day)
+            answer_of(lent.alloc, Asking { question, format }, scenario, &day)
         }
         DayText::Trace(flight, since, format) => {
-            trace_in(lent.alloc, flight, since, format, day, feed)
+            trace_in(lent.alloc, flight, since, format, day, &feed)
         }
     }
 }
@@ -281,20 +293,20 @@ fn text_of_day<R: Threads + Sync, G: Gate>(
 fn made_of_day<R: Threads + Sync, G: Gate>(
     lent: &Lent<'_, R, G>,
     asked: DayText,
-    inputs: &Inputs,
+    inputs: Inputs,
 ) -> Result<Made, RunError>
-    requires { length inputs.now.second.items ≤ input_limit }
-    ensures made { IfOk result (λ made. IsMade (Asked.Day asked) inputs.now.airport.items inputs.now.second.items inputs.now.third.items made.text.items made.counted) }
-    ensures fault { IfErr result (IsUnmade (Asked.Day asked) inputs.now.airport.items inputs.now.second.items inputs.now.third.items) }
+    requires { length inputs.second.items ≤ input_limit }
+    ensures made { IfOk result (λ made. IsMade (Asked.Day asked) inputs.airport.items inputs.second.items inputs.third.items made.text.items made.counted) }
+    ensures fault { IfErr result (IsUnmade (Asked.Day asked) inputs.airport.items inputs.second.items inputs.third.items) }
 {
-    let day = asked_day(lent.rt, lent.alloc, inputs, lent.workers, lent.gate)?;
-    let text = text_of_day(lent, asked, &day, &inputs.second)?;
+    let day = asked_day(lent.rt, lent.alloc, &inputs, lent.workers, lent.gate)?;
     let counts = RunCounts {
         accepted: day.state.journal().len(),
         refused: day.refused.len(),
         scenarios: day.scenarios.len(),
     };
     let counted = Counted::Day(counts);
+    let text = text_of_day(lent, asked, day, inputs.second)?;
     Ok(Made { text, counted })
 }
 
@@ -302,17 +314,17 @@ fn made_of_day<R: Threads + Sync, G: Gate>(
 pub(crate) fn made_of_inputs<R: Threads + Sync, G: Gate>(
     lent: &Lent<'_, R, G>,
     asked: &Asked<'_>,
-    inputs: &Inputs,
+    inputs: Inputs,
 ) -> Result<Made, RunError>
-    requires second { length inputs.now.second.items ≤ input_limit }
-    requires third { length inputs.now.third.items ≤ input_limit }
-    ensures made { IfOk result (λ made. IsMade asked.now inputs.now.airport.items inputs.now.second.items inputs.now.third.items made.text.items made.counted) }
-    ensures fault { IfErr result (IsUnmade asked.now inputs.now.airport.items inputs.now.second.items inputs.now.third.items) }
+    requires second { length inputs.second.items ≤ input_limit }
+    requires third { length inputs.third.items ≤ input_limit }
+    ensures made { IfOk result (λ made. IsMade asked.now inputs.airport.items inputs.second.items inputs.third.items made.text.items made.counted) }
+    ensures fault { IfErr result (IsUnmade asked.now inputs.airport.items inputs.second.items inputs.third.items) }
 {
     match asked {
         Asked::Day(text) => made_of_day(lent, *text, inputs),
         Asked::Check(paths, format) => {
-            let Checked { text, counts } = check_of(lent, *paths, inputs, *format)?;
+            let Checked { text, counts } = check_of(lent, *paths, &inputs, *format)?;
             let counted = Counted::Check(counts);
             Ok(Made { text, counted })
         }

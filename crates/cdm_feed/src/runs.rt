@@ -79,7 +79,7 @@ pub fn run_asked<R: Threads + Sync, A: Read, F: Read, S: Read, G: Gate, W: Write
 {
     let names = (Input::Feed, Input::Scenarios);
     let inputs = read_inputs(lent.alloc, names, airport, feed, scenarios)?;
-    let made = made_of_inputs(lent, asked, &inputs)?;
+    let made = made_of_inputs(lent, asked, inputs)?;
     write_text(out, &made.text)?;
     Ok(made.counted)
 }

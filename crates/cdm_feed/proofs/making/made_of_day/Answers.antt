@@ -1,6 +1,5 @@
-use Rattle.std.proofs.Common.{◌≡◌, ◌∙◌, ℕ, List, ap, arith, length, subst}
+use Rattle.std.proofs.Common.{◌≡◌, ◌∙◌, ap, arith, length}
 use Rattle.cdm_plan.specs.Day.{DayRecord}
-use Rattle.cdm_feed.specs.Made.{IsTextOf}
 use Rattle.cdm_feed.proofs.making.made_of_day.Goals as goal
 
 pub returns-clause-made : goal.returns-clause-made
@@ -14,7 +13,7 @@ returns-clause-made over c =
       airport_file = is.airport;
       questions = day.scenarios.items;
       scenario_file = is.scenarios;
-      made = subst (λ (feed : List ℕ). IsTextOf c.args.asked day.state.airport feed day.scenarios.items c.in_ok-text.text.items) c.deref.ensures.value c.in_ok-text.ensures.made;
+      made = c.in_ok-text.ensures.made;
       counted = λ i. record {
         accepted = (ap length (c.journal.ensures ∙ ap (λ (d : DayRecord). d.journal) is.state)) i;
         refused = (refused ∙ ap length is.refused) i;
