@@ -1,5 +1,7 @@
 -- Asking each flight against those before it is asking all pairs.
-use Rattle.std.proofs.Common.{◌≡◌, ℕ, ◌+◌, Bool, true, false, List, [], ◌∷◌, ◌++◌, Option, Some, None, sym, ◌∙◌, ap, subst, refl, arith, inl, inr, map, filter, get_or}
+use Rattle.std.proofs.lemmas.Grind.{common_steps}
+use Rattle.std.proofs.Common.{◌≡◌, ℕ, ◌+◌, Bool, true, false, List, ◌∷◌, ◌++◌, Option, Some, None, sym, ◌∙◌, ap, subst, refl, arith, inl, inr, map}
+use Rattle.std.proofs.Common.{filter, get_or, []}
 use Rattle.std.specs.Prelude.{nat_lt}
 use Rattle.std.specs.List.{Contains, IsDistinct, cons_option, filter_map}
 use Rattle.std.specs.Option.{IfSome, option_map}
@@ -34,11 +36,7 @@ contains_given h (z ∷ zs) x y i e = elim (contains_cases z zs x i) [
 ]
 
 contains_left : {X : Type 0} (xs ys : List X) (x : X) → Contains xs x → Contains (xs ++ ys) x
-contains_left [] ys x i = absurd (omega (arith, i.1))
-contains_left (z ∷ zs) ys x i = elim (contains_cases z zs x i) [
-  | inl same ↦ subst (λ w. Contains (z ∷ (zs ++ ys)) w) same (contains_head z (zs ++ ys))
-  | inr j ↦ contains_tail z (zs ++ ys) x (contains_left zs ys x j)
-]
+contains_left xs ys x i = grind (arith, common_steps)
 
 contains_right : {X : Type 0} (xs ys : List X) (x : X) → Contains ys x → Contains (xs ++ ys) x
 contains_right [] ys x i = i
@@ -55,9 +53,7 @@ module _ (r : RunwayRules) (fixed : List Taken) (ts : List Target) (p : Placing)
   Clear f m t = meets (taken_by r f.group m) t ≡ false
 
   spaced_at : IsSpacedInOrder r fixed ts p → (f : Target) (m : ℕ) → Contains ts f → p f ≡ Some m → IsSpaced r (taken_before r fixed ts p f) f.group m
-  spaced_at order f m i e =
-      subst (λ o. IfSome o (IsSpaced r (taken_before r fixed ts p f) f.group)) e
-      (All-contains (λ f. IfSome (p f) (IsSpaced r (taken_before r fixed ts p f) f.group)) ts f order i)
+  spaced_at order f m i e = grind (arith, common_steps)
 
   -- a flight meets none before it
   clear_of_earlier : IsSpacedInOrder r fixed ts p → (f g : Target) (m k : ℕ) → Contains ts f → Contains ts g → is_before g.key f.key ≡ true
