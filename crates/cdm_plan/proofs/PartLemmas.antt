@@ -1,6 +1,6 @@
 -- The plans of the runways, in some order, make the plan of the day.
-use Rattle.std.proofs.Common.{◌≡◌, ℕ, zero, suc, ◌+◌, ◌≤◌, ◌<◌, List, [], ◌∷◌, ◌++◌, refl, sym, ◌∙◌, subst, arith, Bor, map, length, length-append, sum_by}
-use Rattle.std.proofs.Common.{get_or, set}
+use Rattle.std.proofs.Common.{◌≡◌, ℕ, zero, suc, ◌+◌, ◌≤◌, ◌<◌, List, ◌∷◌, ◌++◌, refl, sym, ◌∙◌, subst, arith, Bor, map, length, length-append, sum_by}
+use Rattle.std.proofs.Common.{get_or, set, []}
 use Rattle.cdm_plan.proofs.ListWords.{length-map, All, AllZip, IsDistinct, flat_map, swap, IsPermutation, All-cons, All-head, All-nil}
 use Rattle.cdm_plan.proofs.ListWords.{All-tail, IsPermutation-keeps, IsPermutation-refl, IsPermutation-swap, IsPermutation-sym, IsPermutation-trans}
 use Rattle.cdm_plan.proofs.ListWords.{length_permutation, sum_by-IsPermutation, sum_by-add}
