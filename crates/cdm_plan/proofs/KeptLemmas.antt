@@ -82,8 +82,7 @@ module _ (d : DayRecord) (u : Update) (test : Flight → Bool) (before : (k : Li
       ∙ sym (filter-filter_map test (flight_of d.airport (d.journal ++ u ∷ [])) (flights_in (d.journal ++ u ∷ [])))))
     where
       new : (o : Option (List ℕ)) → new_flight u ≡ o → filter_map (λ k. if_passes test (flight_of d.airport (d.journal ++ u ∷ []) k)) (cons_option o []) ≡ []
-      new None e = refl
-      new (Some f) e = ap (λ (x : Option Flight). cons_option x []) (after f (fresh_is u f e))
+      new o e = search (rules, fresh_is)
 
 -- since the first day, after one more update
 pub since_taken : (n : Noting) (first d next : DayRecord) (s m t : Touched) (u : Update) → next ≡ with_update d u → Adds s (is_noted n d (reach_of u)) m
@@ -194,12 +193,7 @@ module _ (first d : DayRecord) (t : Touched) (since : IsSince first t d) where
       ∙ (ap (filter_map (early_at times_now values_now)) (since.flights (is_untouched t) (λ f h. h)) ∙ sym (early-given times_now values_now (kept_of t flights_now))))))
     where
       passes : (o : Option Flight) → option_map_or (is_untouched t) o false ≡ is_some (if_passes (is_untouched t) o)
-      passes None = refl
-      passes (Some f) = by (is_untouched t f)
-        where
-          by : (b : Bool) → b ≡ is_some (if b then Some f else None)
-          by true = refl
-          by false = refl
+      passes o = search rules
 
       -- it is kept now as it was
       found : (f : Flight) → Contains flights_first f → option_map_or (is_untouched t) (flight_of d.airport d.journal f.name) false ≡ is_untouched t f
@@ -212,17 +206,11 @@ module _ (first d : DayRecord) (t : Touched) (since : IsSince first t d) where
 
       out : (f : Flight) → option_map_or (is_untouched t) (flight_of d.airport d.journal f.name) false ≡ false → (o : Option BlockedFlight)
           → IfSome o (IsEarlyOf f) → if_passes (is_kept_blocked d t) o ≡ None
-      out f now None h = refl
-      out f now (Some b) h =
-          let there = ap (λ n. option_map_or (is_untouched t) (flight_of d.airport d.journal n) false) h.0 ∙ now in
-          ap (λ x. if x then Some b else None) (and_right (is_early b.rule) _ there)
+      out f now o h = search (rules, and_right)
 
       stay : (f : Flight) → option_map_or (is_untouched t) (flight_of d.airport d.journal f.name) false ≡ true → (o : Option BlockedFlight)
           → IfSome o (IsEarlyOf f) → if_passes (is_kept_blocked d t) o ≡ o
-      stay f now None h = refl
-      stay f now (Some b) h =
-          let there = ap (λ n. option_map_or (is_untouched t) (flight_of d.airport d.journal n) false) h.0 ∙ now in
-          ap (λ x. if x then Some b else None) (λ i. h.1 i && there i)
+      stay f now o h = search rules
 
       each : (f : Flight) → option_map_or (is_untouched t) (flight_of d.airport d.journal f.name) false ≡ is_untouched t f → (b : Bool) → is_untouched t f ≡ b
           → if_passes (is_kept_blocked d t) (early_at times_first values_first f) ≡ if_so b (early_at times_now values_now f)
@@ -358,8 +346,7 @@ none_kept d = record {
   early = λ aims are. subst (λ (fs : List Flight). IsPermutation (early_in fs aims) []) (sym (none (records_in d.airport d.journal))) (IsPermutation-refl []);
 } where
   off : (r : Option (List ℕ)) → option_map_or (λ s. not (is_touched touched.All s)) r false ≡ false
-  off None = refl
-  off (Some s) = refl
+  off o = search rules
 
   none : (fs : List Flight) → kept_of touched.All fs ≡ []
   none [] = refl

@@ -1,7 +1,7 @@
 -- The steps to a plan: what planned flights could have, the plans of runways that stand, and the others.
 use Rattle.std.proofs.Common.{[]}
-use Rattle.std.proofs.lemmas.Grind.{common_steps}
 use Rattle.std.proofs.Common.{rules, Bor, ◌≡◌, ℕ, true, cond, List, ◌∷◌, ◌++◌, Option, None, Some, refl, ◌∙◌, ap, subst, arith, map, filter, length}
+use Rattle.std.proofs.lemmas.Grind.{common_steps}
 use Rattle.cdm_plan.proofs.ListWords.{is_none, All, All-head, All-tail, AllZip, Contains, cons_option, filter_map, IsPermutation}
 use Rattle.cdm_plan.proofs.ListWords.{IsPermutation-append_comm, IsPermutation-append_left, IsPermutation-append_right, All-contains, All-weaker}
 use Rattle.cdm_plan.proofs.ListWords.{IsPermutation-middle, IsPermutation-refl, IsPermutation-sym, IsPermutation-trans, contains_head, contains_map}

@@ -285,8 +285,7 @@ on_it r aims = All-given (target_for r) (λ t. t.runway ≡ r) aims (λ a i. giv
     by false t e = tt
 
     given : (o : Option Target) → IfSome (if_on r o) (λ t. t.runway ≡ r)
-    given None = tt
-    given (Some t) = by (same_name t.runway r) t refl
+    given o = search (rules, by)
 
 -- what holds of all that goes with something
 pub all_zipped : {X Y : Type 0} (R : X → Y → Type 0) (P : Y → Type 0) → ((x : X) (y : Y) → R x y → P y) → (xs : List X) (ys : List Y) → AllZip R xs ys
@@ -316,9 +315,7 @@ unfolding fixed_on fixed_slot
 all_left r fs = All-given fixed_slot (λ x. IsTrue (is_fixed x.mark)) (filter (is_on r) fs) (λ f i. by f f.status)
   where
     by : (f : Flight) (s : Status) → IfSome (slot_by f s) (λ x. IsTrue (is_fixed x.mark))
-    by f (status.OffBlock aobt exot) = refl
-    by f (status.Airborne aobt atot) = refl
-    by f _ = tt
+    by f s = search rules
 
 -- each runway can be sequenced
 pub can_sequence : (times : TaxiTimes) (values : DayValues) (fs : List Flight) → IsDistinct same_name (map (λ f. f.name) fs) → length fs ≤ 2000 → (r : List ℕ)

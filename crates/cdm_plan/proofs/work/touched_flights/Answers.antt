@@ -1,5 +1,5 @@
 use Rattle.std.proofs.lemmas.Grind.{common_steps}
-use Rattle.std.proofs.Common.{◌≡◌, ℕ, zero, suc, ◌+◌, ◌-◌, ◌<◌, Bool, true, List, ◌++◌, ◌∷◌, ◌≤◌, Option, Some, filter, map, not, length, slice_get}
+use Rattle.std.proofs.Common.{◌≡◌, ℕ, zero, suc, ◌+◌, ◌-◌, ◌<◌, Bool, true, List, ◌++◌, ◌∷◌, ◌≤◌, Option, Some, filter, map, not, slice_get}
 use Rattle.std.proofs.Common.{take, sym, ap, ◌∙◌, arith, []}
 use Rattle.std.specs.Prelude.{IfSome}
 use Rattle.cdm_plan.proofs.ListWords.{append-nil, All-nil, cons_option, filter_map, filter-append, option_and_then, option_map}
@@ -10,7 +10,6 @@ use Rattle.cdm_plan.specs.declared.brief.Brief.{Brief}
 use Rattle.cdm_plan.specs.declared.touched.Touched.{Touched}
 use Rattle.cdm_plan.specs.inner.Work.{HasExot, is_standing}
 use Rattle.cdm_plan.proofs.DayPlanLemmas.{records-next}
-use Rattle.cdm_plan.proofs.NameLemmas.{all_taken}
 use Rattle.cdm_plan.proofs.work.touched_flights.Goals as goal
 
 -- what passes two tests in two lists
@@ -97,19 +96,3 @@ loop-place-preserved-in_default g c =
       few = (omega (arith, c.loop-place.invariant.few.0), omega (arith, c.loop-place.invariant.few.1));
       room = c.loop-place.invariant.room;
     }
-
-pub returns-clause-gone : goal.returns-clause-gone
-returns-clause-gone g c =
-    let d = g.R.Records.day c.args.records.now in
-    let t = c.args.touched.now in
-    let end : length (flights_in d.journal) ≤ c.loop-place.place = omega (arith, c.flights-known.ensures.value) in
-    c.loop-place.invariant.gone
-    ∙ ap (λ ns. gone_of (asked_of t (filter_map (flight_of d.airport d.journal) ns))) (all_taken (flights_in d.journal) c.loop-place.place end)
-
-pub returns-clause-asked : goal.returns-clause-asked
-returns-clause-asked g c =
-    let d = g.R.Records.day c.args.records.now in
-    let t = c.args.touched.now in
-    let end : length (flights_in d.journal) ≤ c.loop-place.place = omega (arith, c.flights-known.ensures.value) in
-    c.loop-place.invariant.asked
-    ∙ ap (λ ns. planned_of (asked_of t (filter_map (flight_of d.airport d.journal) ns))) (all_taken (flights_in d.journal) c.loop-place.place end)
