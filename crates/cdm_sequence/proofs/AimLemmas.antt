@@ -1,13 +1,11 @@
 -- There is one answer of an aim.
-use Rattle.std.proofs.lemmas.Grind.{common_steps}
-use Rattle.std.proofs.Common.{◌≡◌, ℕ, ◌+◌, ◌-◌, ◌<◌, ◌≤◌, Bool, true, false, nat_le, nat_lt, max, min, List, Option, Some, None, subst, sym, ◌∙◌, refl}
-use Rattle.std.proofs.Common.{arith, ap, rules}
-use Rattle.std.proofs.lemmas.Bool.Decides.{nat_tests}
+use Rattle.cdm_sequence.proofs.Words.{common_steps, ◌≡◌, ℕ, ◌+◌, ◌<◌, ◌≤◌, Bool, true, false, List, Option, Some, None, subst, sym, ◌∙◌, refl, arith}
+use Rattle.cdm_sequence.proofs.Words.{ap, rules, nat_tests, Key}
+use Rattle.std.proofs.Common.{◌-◌, nat_le, nat_lt, max, min}
 use Rattle.std.specs.Prelude.{if◌then◌else◌}
 use Rattle.cdm_time.specs.Windows.{window_has}
 use Rattle.cdm_time.specs.declared.tolerance.Tolerance.{Tolerance}
 use Rattle.std.specs.declared.ops.Range.{Range}
-use Rattle.cdm_flight.specs.declared.key.Key.{Key}
 use Rattle.cdm_flight.specs.declared.values.DayValues.{DayValues}
 use Rattle.cdm_flight.specs.declared.flight.Flight.{Flight}
 use Rattle.cdm_sequence.specs.Aims.{TaxiTimes, ready_at, exot_to, is_candidate, IsAim}

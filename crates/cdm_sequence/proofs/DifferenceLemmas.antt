@@ -1,10 +1,6 @@
 -- Of two placings that differ one is earlier.
-use Rattle.std.proofs.Common.{◌≡◌, ℕ, ◌==◌, Bool, true, false, not, List, Option, Some, None, sym, ◌∙◌, inl, inr, ◌⊎◌, filter, rules}
-use Rattle.std.specs.List.{Contains}
-use Rattle.std.proofs.lemmas.Bool.{false_from_ne_true, false≢true}
-use Rattle.std.proofs.lemmas.List.Elements.{All-contains, filter_passes}
-use Rattle.cdm_flight.proofs.Lists.{contains_all, contains_kept}
-use Rattle.cdm_flight.specs.Order.{is_before}
+use Rattle.cdm_sequence.proofs.Words.{◌≡◌, ℕ, ◌==◌, Bool, true, false, not, List, Option, Some, None, sym, ◌∙◌, inl, inr, ◌⊎◌, filter, rules}
+use Rattle.cdm_sequence.proofs.Words.{Contains, false_from_ne_true, false≢true, All-contains, filter_passes, contains_all, contains_kept, is_before}
 use Rattle.cdm_sequence.specs.Plan.{Placing, IsSooner, IsEarlier}
 use Rattle.cdm_sequence.specs.declared.target.Target.{Target}
 use Rattle.cdm_sequence.proofs.OrderLemmas.{first_in, keys_weak}

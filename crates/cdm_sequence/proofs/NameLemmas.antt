@@ -1,13 +1,9 @@
 -- The names that a sequence shows.
-use Rattle.std.proofs.Common.{rules, []}
-use Rattle.std.proofs.Common.{◌≡◌, ℕ, not, List, ◌∷◌, ◌++◌, Option, Some, None, IfSome, is_none, sym, ◌∙◌, ap, subst, refl, filter, map, append_assoc}
-use Rattle.std.specs.List.{filter_map}
-use Rattle.std.specs.List.Sorted.{IsPermutation}
-use Rattle.std.specs.Option.{is_some, option_map}
-use Rattle.std.proofs.lemmas.List.{map-append}
-use Rattle.std.proofs.lemmas.List.Sorted.{IsPermutation-append, IsPermutation-append_right, IsPermutation-filter_both, IsPermutation-map}
-use Rattle.std.proofs.lemmas.List.Sorted.{IsPermutation-trans}
-use Rattle.cdm_runway.specs.Rules.{RunwayRules}
+use Rattle.cdm_sequence.proofs.Words.{rules, [], ◌≡◌, ℕ, not, List, ◌∷◌, ◌++◌, Option, Some, None, is_none, sym, ◌∙◌, ap, subst, refl, filter, map}
+use Rattle.cdm_sequence.proofs.Words.{append_assoc, filter_map, IsPermutation, is_some, option_map, map-append, IsPermutation-append}
+use Rattle.cdm_sequence.proofs.Words.{IsPermutation-append_right, IsPermutation-map, IsPermutation-trans, RunwayRules}
+use Rattle.std.proofs.Common.{IfSome}
+use Rattle.std.proofs.lemmas.List.Sorted.{IsPermutation-filter_both}
 use Rattle.cdm_sequence.specs.Plan.{Placing}
 use Rattle.cdm_sequence.specs.Sequence.{planned_slot, flight_names, IsSequence}
 use Rattle.cdm_sequence.specs.declared.plan.RunwayPlan.{RunwayPlan}

@@ -1,24 +1,13 @@
 -- A runway has one sequence, in whatever order its flights stand.
-use Rattle.std.proofs.Common.{rules, ◌≡◌, ℕ, ◌/◌, ◌==◌, Bool, false, cond, List, Option, is_none, sym, ◌∙◌, ap, subst, arith, filter, map, get_or}
-use Rattle.std.specs.declared.cmp.Ordering.{Ordering}
-use Rattle.std.specs.declared.cmp.Ordering.TheVariants.{Equal}
-use Rattle.std.specs.Ordering.{is_lt, nat_cmp}
-use Rattle.std.specs.Cmp.{IsTotalOrder}
-use Rattle.std.specs.List.{Contains, IsDistinct}
-use Rattle.std.specs.List.Sorted.{IsPermutation, IsSortedBy}
-use Rattle.std.specs.Option.{option_map}
-use Rattle.std.proofs.lemmas.Cmp.{nat_cmp_total, nat_list_cmp_total, on_total, then_total}
-use Rattle.std.proofs.lemmas.List.Elements.{All-contains, All-weaker}
-use Rattle.std.proofs.lemmas.List.Sorted.{ranks_by, All-permutation, Contains-permutation, sum_by-IsPermutation}
-use Rattle.std.proofs.lemmas.List.Sorted.{IsPermutation-sym, IsPermutation-trans, IsPermutation-append, IsPermutation-map}
-use Rattle.std.proofs.lemmas.Map.Keys.{IsDistinct-IsPermutation}
-use Rattle.cdm_flight.specs.Names.{name_cmp, same_name}
-use Rattle.cdm_flight.specs.Order.{is_before}
-use Rattle.cdm_flight.proofs.Lists.{filter_map_same, filter_same, sum_map, sorted_one, IsPermutation-filter_map, IsPermutation-filter}
-use Rattle.cdm_flight.proofs.Lists.{distinct_left, distinct_right, one_of_key}
-use Rattle.cdm_runway.specs.Rules.{RunwayRules}
-use Rattle.cdm_runway.specs.Room.{held_in_cell, meets, taken_by, IsFree, IsSpaced}
-use Rattle.cdm_runway.specs.declared.load.Taken.{Taken}
+use Rattle.cdm_sequence.proofs.Words.{rules, ◌≡◌, ℕ, ◌/◌, ◌==◌, Bool, false, cond, List, Option, is_none, sym, ◌∙◌, ap, subst, arith, filter, map}
+use Rattle.cdm_sequence.proofs.Words.{get_or, Ordering, Equal, is_lt, nat_cmp, IsTotalOrder, Contains, IsDistinct, IsPermutation, IsSortedBy}
+use Rattle.cdm_sequence.proofs.Words.{option_map, nat_cmp_total, nat_list_cmp_total, on_total, then_total, All-contains, All-weaker, ranks_by}
+use Rattle.cdm_sequence.proofs.Words.{All-permutation, Contains-permutation, IsPermutation-sym, IsPermutation-trans, IsPermutation-append}
+use Rattle.cdm_sequence.proofs.Words.{IsPermutation-map, IsDistinct-IsPermutation, name_cmp, same_name, is_before, filter_map_same}
+use Rattle.cdm_sequence.proofs.Words.{IsPermutation-filter_map, IsPermutation-filter, distinct_right, one_of_key, RunwayRules, held_in_cell, meets}
+use Rattle.cdm_sequence.proofs.Words.{taken_by, IsFree, IsSpaced, Taken}
+use Rattle.std.proofs.lemmas.List.Sorted.{sum_by-IsPermutation}
+use Rattle.cdm_flight.proofs.Lists.{filter_same, sum_map, sorted_one, distinct_left}
 use Rattle.cdm_sequence.specs.Fixed.{takeoffs}
 use Rattle.cdm_sequence.specs.Plan.{Placing, taken_before, taken_of, IsLeast}
 use Rattle.cdm_sequence.specs.Sequence.{planned_slot, flight_names, Blocks, IsRightlyBlocked, IsSequenceBy, IsSequence}

@@ -1,22 +1,12 @@
 -- The order of sequence is a strict order, total on different names.
-use Rattle.std.proofs.Common.{◌≡◌, ℕ, Bool, true, false, List, ◌∷◌, sym, ◌∙◌, ap, refl, arith, inl, inr, ◌⊎◌, get_or, rules, []}
-use Rattle.std.specs.Bool.{Decides}
-use Rattle.std.specs.declared.cmp.Ordering.{Ordering}
-use Rattle.std.specs.declared.cmp.Ordering.TheVariants.{Less, Equal, Greater}
-use Rattle.std.specs.Ordering.{is_lt, is_eq, ordering_reverse, ordering_then, nat_cmp}
-use Rattle.std.specs.Cmp.{IsTotalOrder, IsStrictWeakOrder}
+use Rattle.cdm_sequence.proofs.Words.{◌≡◌, ℕ, Bool, true, false, List, ◌∷◌, sym, ◌∙◌, ap, refl, arith, inl, inr, ◌⊎◌, get_or, rules, [], Decides}
+use Rattle.cdm_sequence.proofs.Words.{Ordering, Less, Equal, Greater, is_lt, is_eq, ordering_reverse, ordering_then, nat_cmp, IsTotalOrder}
+use Rattle.cdm_sequence.proofs.Words.{IsStrictWeakOrder, Contains, All-contains, All-from_get_or, Contains-get_or, ranks_by, nat_cmp_total}
+use Rattle.cdm_sequence.proofs.Words.{nat_list_cmp_total, nat_list_eq_equiv, on_total, then_total, tied_itself, false≢true, Decides-eqb, Key}
+use Rattle.cdm_sequence.proofs.Words.{name_cmp, same_name, key_cmp, is_before}
 use Rattle.std.specs.Cmp.Lexicographic.{texts_ties}
-use Rattle.std.specs.List.{Contains}
-use Rattle.std.proofs.lemmas.List.Elements.{All-contains, All-from_get_or, Contains-get_or}
 use Rattle.std.proofs.lemmas.List.MinMax.{IsFirstBest-from_best_of}
-use Rattle.std.proofs.lemmas.List.Sorted.{ranks_by}
-use Rattle.std.proofs.lemmas.Cmp.{nat_cmp_total, nat_list_cmp_total, nat_list_eq_equiv, on_total, then_total, tied_itself}
-use Rattle.std.proofs.lemmas.Bool.{false≢true}
-use Rattle.std.proofs.lemmas.Bool.Decides.{Decides-eqb}
 use Rattle.std.proofs.lemmas.Slice.Eq.{slice_eq-Decides}
-use Rattle.cdm_flight.specs.declared.key.Key.{Key}
-use Rattle.cdm_flight.specs.Names.{name_cmp, same_name}
-use Rattle.cdm_flight.specs.Order.{key_cmp, is_before}
 use Rattle.cdm_sequence.specs.declared.target.Target.{Target}
 
 pub names_decide : (m n : List ℕ) → Decides (same_name m n) (m ≡ n)

@@ -1,20 +1,15 @@
 -- What holds of a plan, whoever made it: it is the only one, it is allowed, and no allowed placing is earlier.
-use Rattle.std.proofs.lemmas.Grind.{common_steps}
-use Rattle.std.proofs.Common.{◌≡◌, ℕ, ◌+◌, ◌<◌, ◌≤◌, ◌/◌, ◌==◌, ◌&&◌, Bool, true, false, not, List, ◌∷◌, ◌++◌, Option, Some, None, rules, []}
-use Rattle.std.proofs.Common.{sym, ◌∙◌, ap, subst, refl, arith, inl, inr, count_by, filter, map, length, get_or, eq-eqb}
+use Rattle.cdm_sequence.proofs.Words.{common_steps, ◌≡◌, ℕ, ◌+◌, ◌<◌, ◌≤◌, ◌/◌, ◌==◌, ◌&&◌, Bool, true, false, not, List, ◌∷◌, ◌++◌, Option, Some}
+use Rattle.cdm_sequence.proofs.Words.{None, rules, [], sym, ◌∙◌, ap, subst, refl, arith, inl, inr, filter, map, length, get_or, filter_map, Contains}
+use Rattle.cdm_sequence.proofs.Words.{IsDistinct, option_map, option_map_or, false≢true, and_parts, not-true, true_from_ne_false, Decides-eqb}
+use Rattle.cdm_sequence.proofs.Words.{All-contains, Contains-get_or, filter_passes, same_name, is_before, apart_from_head, contains_all}
+use Rattle.cdm_sequence.proofs.Words.{contains_kept, contains_head, contains_tail, filter_map_same, RunwayRules, cap_at, held_in_cell, taken_by}
+use Rattle.cdm_sequence.proofs.Words.{IsFree, Taken}
+use Rattle.std.proofs.Common.{count_by, eq-eqb}
 use Rattle.std.specs.Prelude.{slice_index}
-use Rattle.std.specs.List.{filter_map, Contains, IsDistinct}
-use Rattle.std.specs.Option.{IfSome, option_map, option_map_or}
-use Rattle.std.proofs.lemmas.Bool.{false≢true, and_parts, not-true, true_from_ne_false}
-use Rattle.std.proofs.lemmas.Bool.Decides.{Decides-eqb}
+use Rattle.std.specs.Option.{IfSome}
 use Rattle.std.proofs.lemmas.List.Sums.{sum_by-append}
-use Rattle.std.proofs.lemmas.List.Elements.{All-contains, Contains-get_or, filter_passes}
-use Rattle.cdm_flight.specs.Names.{same_name}
-use Rattle.cdm_flight.specs.Order.{is_before}
-use Rattle.cdm_flight.proofs.Lists.{apart_from_head, contains_all, contains_kept, contains_head, contains_tail, distinct_filter, filter_map_same}
-use Rattle.cdm_runway.specs.Rules.{RunwayRules}
-use Rattle.cdm_runway.specs.Room.{cap_at, held_in_cell, taken_by, IsFree}
-use Rattle.cdm_runway.specs.declared.load.Taken.{Taken}
+use Rattle.cdm_flight.proofs.Lists.{distinct_filter}
 use Rattle.cdm_sequence.specs.Plan.{Placing, taken_before, taken_of, IsLeast, IsPlan, MayHave, IsAllowed, IsSooner, IsEarlier, IsFirst}
 use Rattle.cdm_sequence.specs.declared.target.Target.{Target}
 use Rattle.cdm_sequence.proofs.OrderLemmas.{before_itself, before_or_after, first_in, is_same, keys_weak, same_is}

@@ -1,25 +1,18 @@
 -- What decisions that were made one after another show is the runway's sequence.
-use Rattle.std.proofs.lemmas.Grind.{common_steps}
-use Rattle.std.proofs.Common.{◌≡◌, ℕ, suc, ◌+◌, ◌≤◌, Bool, true, false, cond, List, ◌∷◌, ◌++◌, Option, IfSome, Result, Ok, Err, []}
-use Rattle.std.proofs.Common.{sym, ◌∙◌, ap, subst, refl, arith, inl, inr, filter, map, length, get_or, length-append, append_assoc, rules}
+use Rattle.cdm_sequence.proofs.Words.{common_steps, ◌≡◌, ℕ, ◌+◌, ◌≤◌, Bool, true, false, cond, List, ◌∷◌, ◌++◌, Option, [], sym, ◌∙◌, ap, subst, refl}
+use Rattle.cdm_sequence.proofs.Words.{arith, inl, inr, filter, map, length, get_or, append_assoc, rules, filter_map, AllPairs, Contains, IsDistinct}
+use Rattle.cdm_sequence.proofs.Words.{IsPermutation, IsSortedByKey, IsSorted, option_and_then, option_map, option_to_list, nat_list_eq_equiv}
+use Rattle.cdm_sequence.proofs.Words.{append-nil, All-contains, Contains-get_or, All-permutation, length_permutation, IsPermutation-sym}
+use Rattle.cdm_sequence.proofs.Words.{IsPermutation-map, IsDistinct-IsPermutation, apart_from_distinct, name_cmp, same_name, key_cmp, is_before}
+use Rattle.cdm_sequence.proofs.Words.{contains_cases, contains_from_map, contains_head, contains_tail, All-given, filter_map_same, distinct_right}
+use Rattle.cdm_sequence.proofs.Words.{RunwayRules, taken_by, Gives, Taken}
+use Rattle.std.proofs.Common.{suc, IfSome, Result, Ok, Err, length-append}
 use Rattle.std.specs.Map.{lookup}
-use Rattle.std.specs.List.{filter_map, AllPairs, Contains, IsDistinct}
-use Rattle.std.specs.List.Sorted.{IsPermutation, IsSortedByKey, IsSorted}
-use Rattle.std.specs.Option.{option_and_then, option_map, option_to_list}
-use Rattle.std.proofs.lemmas.Cmp.{nat_list_eq_equiv}
-use Rattle.std.proofs.lemmas.List.{append-nil}
-use Rattle.std.proofs.lemmas.List.Elements.{All-contains, Contains-get_or, filter_map-append}
-use Rattle.std.proofs.lemmas.List.Sorted.{All-permutation, length_permutation, sorted_far, IsPermutation-refl, IsPermutation-sym, IsPermutation-map}
-use Rattle.std.proofs.lemmas.Map.Keys.{IsDistinct-IsPermutation, apart_from_distinct}
+use Rattle.std.proofs.lemmas.List.Elements.{filter_map-append}
+use Rattle.std.proofs.lemmas.List.Sorted.{sorted_far, IsPermutation-refl}
 use Rattle.std.proofs.lemmas.Map.Views.{lookup-from_Contains}
 use Rattle.std.proofs.lemmas.Simd.{map-map}
-use Rattle.cdm_flight.specs.Names.{name_cmp, same_name}
-use Rattle.cdm_flight.specs.Order.{key_cmp, is_before}
-use Rattle.cdm_flight.proofs.Lists.{contains_cases, contains_from_map, contains_head, contains_map, contains_tail, All-given, filter_map-map, filter_map_cons}
-use Rattle.cdm_flight.proofs.Lists.{filter_map_same, distinct_by, distinct_right}
-use Rattle.cdm_runway.specs.Rules.{RunwayRules}
-use Rattle.cdm_runway.specs.Room.{taken_by, Gives}
-use Rattle.cdm_runway.specs.declared.load.Taken.{Taken}
+use Rattle.cdm_flight.proofs.Lists.{contains_map, filter_map-map, filter_map_cons, distinct_by}
 use Rattle.cdm_runway.specs.declared.load.Blocked.{Blocked}
 use Rattle.cdm_sequence.specs.Fixed.{takeoffs}
 use Rattle.cdm_sequence.specs.Plan.{Placing, taken_before, taken_of, IsLeast}

@@ -1,19 +1,12 @@
 -- Asking each flight against those before it is asking all pairs.
-use Rattle.std.proofs.lemmas.Grind.{common_steps}
-use Rattle.std.proofs.Common.{◌≡◌, ℕ, ◌+◌, Bool, true, false, List, ◌∷◌, ◌++◌, Option, Some, None, sym, ◌∙◌, ap, subst, refl, arith, inl, inr, map}
-use Rattle.std.proofs.Common.{filter, get_or, []}
+use Rattle.cdm_sequence.proofs.Words.{common_steps, ◌≡◌, ℕ, ◌+◌, Bool, true, false, List, ◌∷◌, ◌++◌, Option, Some, None, sym, ◌∙◌, ap, subst, refl}
+use Rattle.cdm_sequence.proofs.Words.{arith, inl, inr, map, filter, get_or, [], Contains, IsDistinct, cons_option, filter_map, option_map, false≢true}
+use Rattle.cdm_sequence.proofs.Words.{All-append, All-contains, Contains-get_or, filter_passes, same_name, is_before, All-given, contains_all}
+use Rattle.cdm_sequence.proofs.Words.{contains_cases, contains_head, contains_kept, contains_tail, one_of_key, RunwayRules, IsSpaced, meets, taken_by}
+use Rattle.cdm_sequence.proofs.Words.{Taken}
 use Rattle.std.specs.Prelude.{nat_lt}
-use Rattle.std.specs.List.{Contains, IsDistinct, cons_option, filter_map}
-use Rattle.std.specs.Option.{IfSome, option_map}
+use Rattle.std.specs.Option.{IfSome}
 use Rattle.std.proofs.Math.Nat.{max_comm, min_comm}
-use Rattle.std.proofs.lemmas.Bool.{false≢true}
-use Rattle.std.proofs.lemmas.List.Elements.{All-append, All-contains, Contains-get_or, filter_passes}
-use Rattle.cdm_flight.specs.Names.{same_name}
-use Rattle.cdm_flight.specs.Order.{is_before}
-use Rattle.cdm_flight.proofs.Lists.{All-given, contains_all, contains_cases, contains_head, contains_kept, contains_tail, one_of_key}
-use Rattle.cdm_runway.specs.Rules.{RunwayRules}
-use Rattle.cdm_runway.specs.Room.{IsSpaced, meets, taken_by}
-use Rattle.cdm_runway.specs.declared.load.Taken.{Taken}
 use Rattle.cdm_sequence.specs.Plan.{IsSpacedInOrder, IsSpacedInPairs, Placing, taken_before, taken_of}
 use Rattle.cdm_sequence.specs.declared.target.Target.{Target}
 use Rattle.cdm_sequence.proofs.OrderLemmas.{before_itself, before_or_after, same_flips}
