@@ -1,7 +1,8 @@
 -- A cell of a runway has one capacity.
-use Rattle.std.proofs.Common.{◌≡◌, ◌<◌, ◌*◌, ◌/◌, ◌%◌, ◌==◌, ◌||◌, ◌&&◌, ℕ, Bool, true, false, not, None, Some, Option, List, [], ◌∷◌, ◌++◌, refl, sym, ap, ◌∙◌, arith}
-use Rattle.std.specs.Prelude.{nat_le, nat_lt, unwrap_or}
-use Rattle.std.specs.Option.{option_map_or, option_or}
+use Rattle.std.proofs.Common.{rules}
+use Rattle.std.proofs.Common.{◌≡◌, ◌<◌, ◌*◌, ◌/◌, ◌%◌, ◌==◌, ◌||◌, ◌&&◌, ℕ, Bool, true, false, not, None, Some, List, [], ◌∷◌, ◌++◌, refl, sym, ap, ◌∙◌, arith}
+use Rattle.std.specs.Prelude.{nat_le, nat_lt}
+use Rattle.std.specs.Option.{option_or}
 use Rattle.std.proofs.Math.Nat.{mul-div_cancel}
 use Rattle.std.proofs.lemmas.Bool.Decides.{nat_tests}
 use Rattle.cdm_flight.specs.declared.reach.Reach.TheVariants as reach
@@ -57,5 +58,4 @@ module _ (g : AirportRows) (row : RunwayRow) (there : runway_row g row.name ≡ 
 
 pub one_capacity : (g : AirportRows) (batch : List (Role × Update)) (row : RunwayRow) (m : ℕ) → runway_row g row.name ≡ Some row → 0 < row.cell
     → cap_of g (accepted g [] batch) row.name (m / row.cell * row.cell) ≡ cap_of g (accepted g [] batch) row.name m
-one_capacity g batch row m there positive =
-    ap (λ (o : Option ℕ). unwrap_or o (option_map_or (λ (x : RunwayRow). x.cap) (runway_row g row.name) 0)) (says_one g row there positive batch m)
+one_capacity g batch row m there positive = search (rules, says_one)

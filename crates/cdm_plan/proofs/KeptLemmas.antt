@@ -87,7 +87,22 @@ module _ (d : DayRecord) (u : Update) (test : Flight → Bool) (before : (k : Li
 -- since the first day, after one more update
 pub since_taken : (n : Noting) (first d next : DayRecord) (s m t : Touched) (u : Update) → next ≡ with_update d u → Adds s (is_noted n d (reach_of u)) m
     → Adds m (is_noted n next (reach_of u)) t → IsSince first s d → IsSince first t next
-since_taken n first d next s m t u is more later since = search (rules, untouched_runway, untouched_on, untouched_counts, none_passes, flight_same, flights_same, rules-same, no_rule, taxi_of-untouched, no_taxi, values_of-untouched, no_value)
+since_taken n first d next s m t u is more later since =
+    search (
+      rules,
+      untouched_runway,
+      untouched_on,
+      untouched_counts,
+      none_passes,
+      flight_same,
+      flights_same,
+      rules-same,
+      no_rule,
+      taxi_of-untouched,
+      no_taxi,
+      values_of-untouched,
+      no_value,
+    )
 
 -- at first nothing changed
 pub since_itself : (d : DayRecord) (t : Touched) → IsSince d t d

@@ -82,7 +82,8 @@ HasParts-reordered early others plans plan same parts = search (rules, IsPermuta
 aimed_by : (times : TaxiTimes) (values : DayValues) (asked : List Asked) (aims : List Aimed) → All (HasExot times) asked
     → AllZip (λ a out. IsAimedBy values a.flight.now a.exot out) asked aims → AllZip (IsAimed times values) (map (λ a. a.flight.now) asked) aims
 aimed_by times values [] [] has all = tt
-aimed_by times values (a ∷ asked) (out ∷ aims) has all = search (rules, All-head, All-tail, aimed_by times values asked aims (All-tail (HasExot times) a asked has) all.1)
+aimed_by times values (a ∷ asked) (out ∷ aims) has all =
+    search (rules, All-head, All-tail, aimed_by times values asked aims (All-tail (HasExot times) a asked has) all.1)
 aimed_by times values _ _ has all = absurd all
 
 module _ {d : DayRecord} {t : Touched} {w : Work} (is : IsWork d t w) where
