@@ -1,8 +1,7 @@
 -- Flights in brief, beside the flights of a table.
-use Rattle.std.proofs.Common.{rules, ◌≡◌, ℕ, zero, suc, ◌+◌, ◌≤◌, ◌<◌, Bool, List, [], ◌∷◌, ◌++◌, map, length, set, None, refl, ap, arith}
+use Rattle.cdm_day.proofs.Words.{rules, ◌≡◌, ℕ, zero, suc, ◌+◌, ◌≤◌, ◌<◌, Bool, List, [], ◌∷◌, ◌++◌, map, length, set, None, refl, ap, arith, keys_of}
+use Rattle.cdm_day.proofs.Words.{values_of, insert_entry}
 use Rattle.std.specs.List.{position_or_len}
-use Rattle.std.specs.Map.{keys_of, values_of}
-use Rattle.indexmap.specs.IndexMap.{insert_entry}
 use Rattle.cdm_plan.specs.declared.brief.Brief.{Brief}
 use Rattle.cdm_day.specs.inner.Briefs.{AreKeptAs, put_at}
 

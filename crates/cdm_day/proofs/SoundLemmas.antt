@@ -1,13 +1,12 @@
 -- A day stays sound with every update that no word refuses.
-use Rattle.std.proofs.lemmas.Grind.{common_steps}
-use Rattle.std.proofs.Common.{rules}
-use Rattle.std.proofs.Common.{◌≡◌, ℕ, ◌≤◌, Bool, true, false, List, [], ◌∷◌, ◌++◌, length, None, Some, refl, sym, ap, ◌∙◌, subst, true≢false, arith, length-append}
-use Rattle.cdm_plan.proofs.ListWords.{nat_le, is_some, or_parts, nat_tests, list_any, append-nil}
-use Rattle.cdm_day.proofs.DayWords.{Update, flight_in, reach_of, same_reach, is_fresh, AirportRows, last_value, of_flight, runway_given, is_known, flight_of, runway_of}
-use Rattle.cdm_day.proofs.DayWords.{has_runway, is_unknown, is_full, refusal_of, last_value-push, touching-push, untouched, DayRecord, flights_in, with_update, IsSound, Flt}
-use Rattle.cdm_flight.specs.declared.reach.Reach.TheVariants as reach
-use Rattle.cdm_plan.proofs.JournalFacts.{accepted_is, flight_named, flights_in-push, names_after}
+use Rattle.cdm_day.proofs.Words.{common_steps, rules, ◌≡◌, ℕ, ◌≤◌, Bool, true, false, List, [], ◌∷◌, ◌++◌, length, None, Some, refl, sym, ap, ◌∙◌}
+use Rattle.cdm_day.proofs.Words.{subst, true≢false, arith, length-append, nat_le, is_some, or_parts, nat_tests, list_any, append-nil, accepted_is}
+use Rattle.cdm_day.proofs.Words.{flight_named, flights_in-push, names_after}
+use Rattle.cdm_day.proofs.DayWords.{Update, flight_in, reach_of, same_reach, is_fresh, AirportRows, last_value, of_flight, runway_given, is_known}
+use Rattle.cdm_day.proofs.DayWords.{flight_of, runway_of, has_runway, is_unknown, is_full, refusal_of, last_value-push, touching-push, untouched}
+use Rattle.cdm_day.proofs.DayWords.{DayRecord, flights_in, with_update, IsSound, Flt}
 use Rattle.cdm_day.proofs.WordLemmas.{flight_of-unknown, flt-accepted, known_from, known_is, named_runway}
+use Rattle.cdm_flight.specs.declared.reach.Reach.TheVariants as reach
 
 -- what no word refuses finds room in the journal
 room_left : (g : AirportRows) (a : List Update) (u : Update) → is_full g a u ≡ false → nat_le 20000 (length a) ≡ false

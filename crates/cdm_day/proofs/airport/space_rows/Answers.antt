@@ -1,5 +1,4 @@
-use Rattle.std.proofs.Common.{rules}
-use Rattle.std.proofs.lemmas.List.{get_or-map, get_or_default, length-map, same_lists}
+use Rattle.cdm_day.proofs.Words.{rules, get_or-map, get_or_default, length-map, same_lists}
 use Rattle.cdm_day.proofs.airport.space_rows.Goals as goal
 
 pub returns : goal.returns

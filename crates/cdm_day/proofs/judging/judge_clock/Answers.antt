@@ -1,6 +1,5 @@
-use Rattle.std.proofs.Common.{arith}
+use Rattle.cdm_day.proofs.Words.{arith, common_steps}
 use Rattle.cdm_day.proofs.DayWords.{refusal_of}
-use Rattle.std.proofs.lemmas.Grind.{common_steps}
 use Rattle.cdm_day.proofs.judging.judge_clock.Goals as goal
 
 pub returns-then-lt : goal.returns-then-lt

@@ -1,5 +1,4 @@
-use Rattle.std.proofs.Common.{◌≡◌, ℕ, ◌≤◌, ◌<◌, true, false, arith, rules}
-use Rattle.cdm_plan.proofs.ListWords.{nat_le, or_right, nat_tests}
+use Rattle.cdm_day.proofs.Words.{◌≡◌, ℕ, ◌≤◌, ◌<◌, true, false, arith, rules, nat_le, or_right, nat_tests}
 use Rattle.cdm_day.proofs.DayWords.{refusal_of, flight_of-fresh}
 use Rattle.cdm_day.proofs.WordLemmas.{flt-word, known_is, unless_full}
 use Rattle.cdm_day.proofs.judging.judge_new.Goals as goal

@@ -1,9 +1,7 @@
-use Rattle.std.proofs.Common.{sym, ap, ◌∙◌, rules}
-use Rattle.cdm_plan.proofs.ListWords.{option_copied}
-use Rattle.cdm_flight.specs.declared.reach.Reach.TheVariants as reach
+use Rattle.cdm_day.proofs.Words.{sym, ap, ◌∙◌, rules, option_copied, record_name}
 use Rattle.cdm_day.proofs.DayWords.{step_of}
-use Rattle.cdm_plan.proofs.DayPlanLemmas.{record_name}
 use Rattle.cdm_day.proofs.WordLemmas.{flight-unknown, stepped}
+use Rattle.cdm_flight.specs.declared.reach.Reach.TheVariants as reach
 use Rattle.cdm_day.proofs.step.flight_after.Goals as goal
 
 pub returns-in_default-clause-refused : goal.returns-in_default-clause-refused

@@ -1,6 +1,5 @@
-use Rattle.std.proofs.Common.{subst, sym}
+use Rattle.cdm_scenario.proofs.Words.{subst, sym, IsMade, IsSince}
 use Rattle.cdm_sequence.specs.declared.plan.Plan.{Plan}
-use Rattle.cdm_plan.specs.Kept.{IsMade, IsSince}
 use Rattle.cdm_plan.proofs.KeptLemmas.{kept_since}
 use Rattle.cdm_scenario.proofs.overlay.Overlay.plan.Goals as goal
 

@@ -1,5 +1,4 @@
-use Rattle.std.proofs.Common.{refl, sym, rules}
-use Rattle.std.proofs.lemmas.List.{map-id}
+use Rattle.cdm_day.proofs.Words.{refl, sym, rules, map-id}
 use Rattle.cdm_plan.proofs.ListWords.{arc_value}
 use Rattle.cdm_day.proofs.BriefLemmas.{none}
 use Rattle.cdm_day.proofs.TableLemmas.{flight_in, where_both, where_ok}
