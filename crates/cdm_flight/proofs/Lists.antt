@@ -44,8 +44,7 @@ contains_from_map f (x ∷ xs) y i = elim (contains_cases (f x) (map f xs) y i) 
 pub All-given : {X Y : Type 0} (h : X → Option Y) (P : Y → Type 0) (xs : List X) → ((x : X) → Contains xs x → IfSome (h x) P) → All P (filter_map h xs)
 All-given {X} {Y} h P xs each = All-from_recursion P (filter_map h xs) (by xs each) where
   given : (o : Option Y) (zs : List Y) → IfSome o P → AllByRecursion P zs → AllByRecursion P (cons_option o zs)
-  given None zs k rest = rest
-  given (Some z) zs k rest = (k, rest)
+  given o zs k rest = search rules
 
   by : (ys : List X) → ((x : X) → Contains ys x → IfSome (h x) P) → AllByRecursion P (filter_map h ys)
   by [] all = tt
@@ -59,8 +58,7 @@ contains_from_given {X} {Y} h xs y = All-contains From (filter_map h xs) y (All-
   From z = (x : X) × Contains xs x × (h x ≡ Some z)
 
   found : (x : X) → Contains xs x → (o : Option Y) → h x ≡ o → IfSome o From
-  found x i None e = tt
-  found x i (Some z) e = (x, i, e)
+  found x i o e = search rules
 
 pub filter_map-map : {X Y Z : Type 0} (h : Y → Option Z) (g : X → Y) (xs : List X) → filter_map h (map g xs) ≡ filter_map (λ x. h (g x)) xs
 filter_map-map h g [] = refl
@@ -185,8 +183,7 @@ sorted_rest {X} lt x xs up = λ k d a b.
 none_below : {X K : Type 0} (lt : K → K → Bool) → IsStrictWeakOrder lt → (key : X → K) (x : X) (xs : List X)
     → IsSortedBy (λ a b. lt (key a) (key b)) (x ∷ xs) → (y : X) → Contains (x ∷ xs) y → lt (key y) (key x) ≡ false
 none_below lt weak key x xs up y (k, l, e) =
-    let by_key : IsStrictWeakOrder (λ a b. lt (key a) (key b)) =
-    record { one_way = λ a b. weak.one_way (key a) (key b); chain = λ a b c. weak.chain (key a) (key b) (key c) } in
+    let by_key : IsStrictWeakOrder (λ a b. lt (key a) (key b)) = search rules in
     subst (λ z. lt (key z) (key x) ≡ false) e (sorted_far (λ a b. lt (key a) (key b)) by_key (x ∷ xs) up 0 k y (omega arith) l)
 
 -- 1 for a key that x isn't below
@@ -271,8 +268,7 @@ pub one_of_key : {X K : Type 0} (e : K → K → Bool) (flips : (x y : K) → e 
     → Contains xs x
     → Contains xs y → e (key x) (key y) ≡ true → x ≡ y
 one_of_key {X} e flips key xs x y own (i, l, p) (j, m, q) h =
-    let at : (k : ℕ) (z : X) → k < length xs → get_or xs k z ≡ z → get_or (map key xs) k (key x) ≡ key z = λ k z below is.
-    get_or-map key xs k z (key x) below ∙ ap key is in
+    let at : (k : ℕ) (z : X) → k < length xs → get_or xs k z ≡ z → get_or (map key xs) k (key x) ≡ key z = search (rules, get_or-map) in
     elim (cases_order i j) [
       | inl same ↦ sym p ∙ get_or_default xs i x y l ∙ ap (λ k. get_or xs k y) same ∙ q
       | inr (inl before) ↦ absurd (false≢true (sym (apart_from_distinct e (map key xs) i j (key x) own before (rw length-map m))
