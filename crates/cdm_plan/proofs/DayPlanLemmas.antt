@@ -19,8 +19,7 @@ record_name g a f r e = sym (ap (λ (x : Flight). x.name) (status_of-record f g 
 -- The day's flights.
 
 -- they are those that the journal says something of
-record_names : (d : DayRecord)
-    → map (λ (r : Flight). r.name) (records_in d.airport d.journal)
+record_names : (d : DayRecord) → map (λ (r : Flight). r.name) (records_in d.airport d.journal)
     ≡ map (λ f. f) (filter (λ f. is_some (flight_of d.airport d.journal f)) (flights_in d.journal))
 record_names d =
     names_given (λ (r : Flight). r.name) (λ f. f) (flight_of d.airport d.journal) (λ f. named f (flight_of d.airport d.journal f) refl) (flights_in d.journal)
@@ -73,8 +72,7 @@ has_sequence d r p e = search (rules, targets-aims, aims_are)
 
 -- a plan made from the plans of all runways is the day's
 pub day_plan : (d : DayRecord) (rules : List RunwayRules) (made plans : List RunwayPlan) (plan : Plan) → IsAirport d.airport
-    → IsPermutation (day_rules d) rules → AllZip (HasSequence d) rules made → IsPermutation made plans
-    → plan.clock ≡ (values_of d.journal).clock
+    → IsPermutation (day_rules d) rules → AllZip (HasSequence d) rules made → IsPermutation made plans → plan.clock ≡ (values_of d.journal).clock
     → HasParts (blocked_early (records_in d.airport d.journal) (taxi_of d.airport d.journal) (values_of d.journal)) plans plan → IsDayPlan d plan
 unfolding IsDayPlan
 day_plan d rules made plans plan airport all each same clock parts =

@@ -84,25 +84,14 @@ module _ (d : DayRecord) (u : Update) (test : Flight → Bool) (before : (k : Li
       new : (o : Option (List ℕ)) → new_flight u ≡ o → filter_map (λ k. if_passes test (flight_of d.airport (d.journal ++ u ∷ []) k)) (cons_option o []) ≡ []
       new o e = search (rules, fresh_is)
 
+-- what an update leaves that touches something else
+ruleset what_stays = (rules-same, no_rule, taxi_of-untouched, no_taxi, values_of-untouched, no_value)
+
 -- since the first day, after one more update
 pub since_taken : (n : Noting) (first d next : DayRecord) (s m t : Touched) (u : Update) → next ≡ with_update d u → Adds s (is_noted n d (reach_of u)) m
     → Adds m (is_noted n next (reach_of u)) t → IsSince first s d → IsSince first t next
 since_taken n first d next s m t u is more later since =
-    search (
-      rules,
-      untouched_runway,
-      untouched_on,
-      untouched_counts,
-      none_passes,
-      flight_same,
-      flights_same,
-      rules-same,
-      no_rule,
-      taxi_of-untouched,
-      no_taxi,
-      values_of-untouched,
-      no_value,
-    )
+    search (rules, what_stays, untouched_runway, untouched_on, untouched_counts, none_passes, flight_same, flights_same)
 
 -- at first nothing changed
 pub since_itself : (d : DayRecord) (t : Touched) → IsSince d t d
@@ -246,8 +235,7 @@ module _ (first d : DayRecord) (t : Touched) (since : IsSince first t d) where
       none [] late = refl
       none (b ∷ bs) late =
           let here = and_left (is_early b.rule) (option_map_or (is_untouched t) (flight_of d.airport d.journal b.name) false) (All-head IsLate b bs late) in
-          ap (λ x. cond x (b ∷ filter (is_kept_blocked d t) bs) (filter (is_kept_blocked d t) bs)) here
-          ∙ none bs (All-tail IsLate b bs late)
+          ap (λ x. cond x (b ∷ filter (is_kept_blocked d t) bs) (filter (is_kept_blocked d t) bs)) here ∙ none bs (All-tail IsLate b bs late)
 
   -- a runway of the day is one of the first day's rows
   its_row : (r : RunwayRules) → Contains (day_rules d) r

@@ -65,8 +65,7 @@ All-given_by h P (x ∷ xs) all = All-cons (λ x. P (h x)) x xs (All-head P (h x
 -- a plan has no more flights than its parts
 pub few_joined : (early : List BlockedFlight) (made ordered : List RunwayPlan) (blocked : List BlockedFlight) (most : ℕ)
     → IsPermutation made ordered → IsPermutation (early ++ flat_map (λ p. p.blocked) ordered) blocked
-    → sum_by (λ p. length p.slots + length p.blocked) made + length early ≤ most
-    → sum_by (λ p. length p.slots) ordered + length blocked ≤ most
+    → sum_by (λ p. length p.slots + length p.blocked) made + length early ≤ most → sum_by (λ p. length p.slots) ordered + length blocked ≤ most
 few_joined early made ordered blocked most same others few =
     let moved = sum_by-IsPermutation (λ (p : RunwayPlan). length p.slots + length p.blocked) made ordered same in
     let split = sum_by-add (λ (p : RunwayPlan). length p.slots) (λ p. length p.blocked) ordered in
