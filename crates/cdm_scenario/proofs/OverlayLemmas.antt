@@ -54,8 +54,7 @@ name_at_place : (d : DayRecord) → IsSound d → (i : ℕ) (o : Option Flight)
 name_at_place d sound i o at = ap (option_map (λ (r : Flight). r.name)) at ∙ by (slice_get (flights_in d.journal) i) refl
   where
     by_record : (k : List ℕ) (q : Option Flight) → flight_of d.airport d.journal k ≡ q → is_some q ≡ true → option_map (λ r. r.name) q ≡ Some k
-    by_record k None e h = cc
-    by_record k (Some r) e h = ap Some (record_name d.airport d.journal k r e)
+    by_record k s e h = search (rules, record_name)
 
     by : (o : Option (List ℕ)) → slice_get (flights_in d.journal) i ≡ o → option_map (λ r. r.name) (option_and_then (flight_of d.airport d.journal) o) ≡ o
     by None e = refl
@@ -113,8 +112,7 @@ module _ {g : AirportRows} {a e : List Update} {m : Flights} {new : List (List �
       (rules_in d.airport d.journal, rules_by_name d, now ∙ ap (λ (d : DayRecord). slice_get (rules_in d.airport d.journal) i) is)
     where
       none : (q : Option RunwayRow) → option_map (rules_of g a) q ≡ None → option_map (rules_of g e) q ≡ None
-      none None h = refl
-      none (Some row) h = cc
+      none o h = search rules
 
   -- The name of the flight at a place.
 
@@ -141,8 +139,7 @@ module _ {g : AirportRows} {a e : List Update} {m : Flights} {new : List (List �
       ∙ ap (option_and_then (flight_of d.airport d.journal)) (old_name is sound i below (Some r) at))
     where
       either : (o : Option Flight) → option_or o (Some r) ≡ Some (unwrap_or o r)
-      either None = refl
-      either (Some x) = refl
+      either o = search rules
 
   pub no_old_flight : {d : DayRecord} → record { airport = g; journal = e } ≡ d → IsSound (record { airport = g; journal = a }) → (i : ℕ) → i < length (flights_in a)
       → None ≡ option_and_then (flight_of g a) (slice_get (flights_in a) i)
@@ -157,8 +154,7 @@ module _ {g : AirportRows} {a e : List Update} {m : Flights} {new : List (List �
   flight_left is sound i r at none = old_flight is sound i (within (slice_get (flights_in a) i) refl at) r at None (sym none)
     where
       within : (o : Option (List ℕ)) → slice_get (flights_in a) i ≡ o → Some r ≡ option_and_then (flight_of g a) o → i < length (flights_in a)
-      within None h k = cc
-      within (Some n) h k = slice_get_within (flights_in a) i n h
+      within o h k = search (rules, slice_get_within)
 
   -- What a change that is put in leaves.
 
