@@ -1,8 +1,7 @@
 -- Flights in brief, beside the flights of a table.
-use Rattle.std.proofs.Common.{◌≡◌, ℕ, zero, suc, ◌+◌, ◌≤◌, ◌<◌, Bool, true, false, cond, not, List, [], ◌∷◌, ◌++◌, map, length, set, None, refl, sym, ap, ◌∙◌, arith}
+use Rattle.cdm_day.proofs.Words.{rules, ◌≡◌, ℕ, zero, suc, ◌+◌, ◌≤◌, ◌<◌, Bool, List, [], ◌∷◌, ◌++◌, map, length, set, None, refl, ap, arith, keys_of}
+use Rattle.cdm_day.proofs.Words.{values_of, insert_entry}
 use Rattle.std.specs.List.{position_or_len}
-use Rattle.std.specs.Map.{keys_of, values_of}
-use Rattle.indexmap.specs.IndexMap.{insert_entry}
 use Rattle.cdm_plan.specs.declared.brief.Brief.{Brief}
 use Rattle.cdm_day.specs.inner.Briefs.{AreKeptAs, put_at}
 
@@ -27,13 +26,4 @@ module _ {X : Type 0} where
 pub given-insert_entry : {K V Y : Type 0} (h : V → Y) (eq : K → K → Bool) (k : K) (v : V) (es : List (K × V))
     → map h (values_of (insert_entry eq es k v)) ≡ put_at (map h (values_of es)) (position_or_len (eq k) (keys_of es)) (h v)
 given-insert_entry h eq k v [] = refl
-given-insert_entry {K} {V} h eq k v (e ∷ es) = by (eq k e.0) (given-insert_entry h eq k v es)
-  where
-    by : (b : Bool) → map h (values_of (insert_entry eq es k v)) ≡ put_at (map h (values_of es)) (position_or_len (eq k) (keys_of es)) (h v)
-        → map h (values_of (cond b ((e.0, v) ∷ es) (e ∷ insert_entry eq es k v)))
-        ≡ put_at (h e.1 ∷ map h (values_of es)) (cond (not b) (1 + position_or_len (eq k) (keys_of es)) 0) (h v)
-    by true rest = refl
-    by false rest =
-        let place = position_or_len (eq k) (keys_of es) in
-        let next : 1 + place ≡ suc place = omega arith in
-        ap (λ l. h e.1 ∷ l) rest ∙ sym (ap (λ n. put_at (h e.1 ∷ map h (values_of es)) n (h v)) next)
+given-insert_entry {K} {V} h eq k v (e ∷ es) = search (rules, given-insert_entry h eq k v es)

@@ -1,17 +1,14 @@
 -- A cell of a runway has one capacity.
-use Rattle.std.proofs.Common.{◌≡◌, ◌<◌, ◌*◌, ◌/◌, ◌%◌, ◌==◌, ◌||◌, ◌&&◌, ℕ, Bool, true, false, not, None, Some, Option, List, [], ◌∷◌, ◌++◌, refl, sym, ap, ◌∙◌, arith}
-use Rattle.std.specs.Prelude.{nat_le, nat_lt, unwrap_or}
-use Rattle.std.specs.Option.{option_map_or, option_or}
-use Rattle.std.proofs.Math.Nat.{mul-div_cancel}
+use Rattle.cdm_day.proofs.Words.{rules, ◌≡◌, ◌<◌, ◌*◌, ◌/◌, ◌%◌, ◌==◌, ◌||◌, ◌&&◌, ℕ, Bool, true, false, not, None, Some, List, [], ◌∷◌, ◌++◌, refl}
+use Rattle.cdm_day.proofs.Words.{sym, ap, ◌∙◌, arith, mul-div_cancel, Role, accepted_is, cell_from, cell_to}
+use Rattle.std.specs.Prelude.{nat_le, nat_lt}
+use Rattle.std.specs.Option.{option_or}
 use Rattle.std.proofs.lemmas.Bool.Decides.{nat_tests}
-use Rattle.cdm_flight.specs.declared.reach.Reach.TheVariants as reach
-use Rattle.cdm_flight.specs.declared.role.Role.{Role}
-use Rattle.cdm_plan.proofs.JournalFacts.{accepted_is}
 use Rattle.cdm_plan.proofs.PlanWords.{same_is}
-use Rattle.cdm_runway.proofs.CellLemmas.{cell_from, cell_to}
 use Rattle.cdm_day.proofs.BatchLemmas.{accepted-keeps}
 use Rattle.cdm_day.proofs.DayWords.{AirportRows, Rate, RunwayRow, Update, accepted, cap_given, cap_of, last_value, last_value-push, reach_of}
 use Rattle.cdm_day.proofs.DayWords.{refusal_of, runway_row, same_reach, touching, touching-push, untouched, window_has, then_some}
+use Rattle.cdm_flight.specs.declared.reach.Reach.TheVariants as reach
 
 module _ (g : AirportRows) (row : RunwayRow) (there : runway_row g row.name ≡ Some row) (positive : 0 < row.cell) where
   -- the first minute of a minute's cell
@@ -57,5 +54,4 @@ module _ (g : AirportRows) (row : RunwayRow) (there : runway_row g row.name ≡ 
 
 pub one_capacity : (g : AirportRows) (batch : List (Role × Update)) (row : RunwayRow) (m : ℕ) → runway_row g row.name ≡ Some row → 0 < row.cell
     → cap_of g (accepted g [] batch) row.name (m / row.cell * row.cell) ≡ cap_of g (accepted g [] batch) row.name m
-one_capacity g batch row m there positive =
-    ap (λ (o : Option ℕ). unwrap_or o (option_map_or (λ (x : RunwayRow). x.cap) (runway_row g row.name) 0)) (says_one g row there positive batch m)
+one_capacity g batch row m there positive = search (rules, says_one)

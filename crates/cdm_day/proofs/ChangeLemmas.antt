@@ -1,14 +1,12 @@
 -- What the longer journal says is what the day says with the change.
-use Rattle.std.proofs.Common.{◌≡◌, ℕ, ◌≤◌, Bool, true, false, List, [], ◌∷◌, ◌++◌, Option, None, Some, refl, sym, ap, ◌∙◌, subst, true≢false, arith}
-use Rattle.cdm_plan.proofs.ListWords.{if◌then◌else◌, nat_lt, Contains, cons_option, nat_list_eq_equiv, option_map, nat_tests, same_text}
-use Rattle.cdm_day.proofs.DayWords.{RunwayRow, Update, flight_in, reach_of, same_name, same_name-refl, same_reach, Flight, is_fresh, TaxiRows, AirportRows, runway_row, flight_of, values_of}
-use Rattle.cdm_day.proofs.DayWords.{flight_of-untouched, values_of-untouched, refusal_of, RunwayRules, is_rate_window, IsAirport, DayRecord, flights_in, rules_of, with_update}
-use Rattle.cdm_day.proofs.DayWords.{IsSound, TellTaxi, ChangesRunway, IsChange, has_window, with_change, cap_given, closed_given, then_some, window_has, Flt, Rate, Close, Reopen}
+use Rattle.cdm_day.proofs.Words.{rules, ◌≡◌, ℕ, ◌≤◌, Bool, true, false, List, [], ◌∷◌, ◌++◌, Option, None, Some, refl, sym, ap, ◌∙◌, subst}
+use Rattle.cdm_day.proofs.Words.{true≢false, arith, if◌then◌else◌, nat_lt, Contains, cons_option, nat_list_eq_equiv, option_map, nat_tests}
+use Rattle.cdm_day.proofs.Words.{record_name, flights_in-push, new_flight-old, find_some, one_row}
+use Rattle.cdm_day.proofs.DayWords.{RunwayRow, Update, flight_in, reach_of, same_name, same_name-refl, same_reach, Flight, is_fresh, TaxiRows}
+use Rattle.cdm_day.proofs.DayWords.{AirportRows, runway_row, flight_of, values_of, flight_of-untouched, values_of-untouched, refusal_of, RunwayRules}
+use Rattle.cdm_day.proofs.DayWords.{is_rate_window, IsAirport, DayRecord, flights_in, rules_of, with_update, IsSound, TellTaxi, ChangesRunway}
+use Rattle.cdm_day.proofs.DayWords.{IsChange, has_window, with_change, Flt, Rate, Close, Reopen}
 use Rattle.cdm_flight.specs.declared.reach.Reach.{Reach}
-use Rattle.cdm_flight.specs.declared.reach.Reach.TheVariants as reach
-use Rattle.cdm_plan.proofs.DayPlanLemmas.{record_name}
-use Rattle.cdm_plan.proofs.JournalFacts.{flights_in-push, new_flight-old}
-use Rattle.cdm_plan.proofs.NameLemmas.{find_some, one_row}
 use Rattle.cdm_plan.proofs.RunwayLemmas.{rules-same}
 use Rattle.cdm_plan.proofs.PlanWords.{new_flight}
 use Rattle.cdm_day.proofs.RunwayLemmas.{rules-closed, rules-rate}
@@ -18,6 +16,7 @@ use Rattle.cdm_day.specs.inner.Put.{flight_with, if_named, made_known, rows_with
 use Rattle.cdm_day.specs.declared.change.Change.{Change}
 use Rattle.cdm_day.specs.declared.change.Change.TheVariants.{NewFlight, NextRecord, Runway, TaxiRow, Values}
 use Rattle.cdm_day.specs.declared.change.RunwayChange.{RunwayChange}
+use Rattle.cdm_flight.specs.declared.reach.Reach.TheVariants as reach
 use Rattle.cdm_day.specs.declared.change.RunwayChange.TheVariants as change
 
 pub record SaysWith (d : DayRecord) (u : Update) (change : Change) : Type 0 where
@@ -61,18 +60,12 @@ module _ (d : DayRecord) (u : Update) {what : Reach} (e : reach_of u ≡ what) w
 
 flight_put : (d : DayRecord) (u : Update) (r : Flight) → reach_of u ≡ reach.Flight r.name → flight_of d.airport (d.journal ++ u ∷ []) r.name ≡ Some r
     → (f : List ℕ) → flight_of d.airport (d.journal ++ u ∷ []) f ≡ (if same_name r.name f then Some r else flight_of d.airport d.journal f)
-flight_put d u r e says f = by (same_name r.name f) refl
-  where
-    by : (b : Bool) → same_name r.name f ≡ b → flight_of d.airport (d.journal ++ u ∷ []) f ≡ (if b then Some r else flight_of d.airport d.journal f)
-    by true h = subst (λ x. flight_of d.airport (d.journal ++ u ∷ []) x ≡ Some r) (same_text r.name f (sym h)) says
-    by false h = flight_of-untouched f d.airport d.journal u (ap (λ what. same_reach what (reach.Flight f)) e ∙ h)
+flight_put d u r e says f = search (rules, flight_of-untouched)
 
 -- what the longer journal says of the flight is its next record
 pub next_record : (d : DayRecord) (u : Update) (f : List ℕ) (r : Flight) → reach_of u ≡ reach.Flight f → is_fresh u ≡ false
     → flight_of d.airport (d.journal ++ u ∷ []) f ≡ Some r → IsChange d u (NextRecord r)
-next_record d u f r e old says =
-    let name : r.name ≡ f = record_name d.airport (d.journal ++ u ∷ []) f r says in
-    (e ∙ ap reach.Flight (sym name), old, ap (flight_of d.airport (d.journal ++ u ∷ [])) name ∙ says)
+next_record d u f r e old says = search (rules, record_name)
 
 new_is : (u : Update) (f : List ℕ) → is_fresh u ≡ true → reach_of u ≡ reach.Flight f → new_flight u ≡ Some f
 new_is u f new e = rw new (ap flight_in e)
@@ -81,9 +74,7 @@ new_is u f new e = rw new (ap flight_in e)
 
 module _ (d : DayRecord) (airport : IsAirport d.airport) (u : Update) (r : List ℕ) (change : RunwayChange) (is : ChangesRunway d u r change) where
   pub the_row : (row : RunwayRow) → Contains d.airport.runways row → same_name row.name r ≡ true → row ≡ is.row
-  the_row row i h =
-      let found = find_some (λ (x : RunwayRow). same_name x.name r) d.airport.runways is.row is.known in
-      one_row d.airport.runways airport.names r row is.row i found.0 h found.1
+  the_row row i h = search (rules, find_some, one_row)
 
   pub window_of : (row : RunwayRow) → Contains d.airport.runways row → same_name (rules_of d.airport d.journal row).name r ≡ true → has_window change (rules_of d.airport d.journal row) ≡ true
   unfolding rules_of
@@ -127,23 +118,7 @@ in_order from to h = grind (arith, nat_tests)
 -- a CLOSE or OPEN sets a closure
 pub closure_changes : (d : DayRecord) (row : RunwayRow) (r : List ℕ) → runway_row d.airport r ≡ Some row → (from to : ℕ) → to ≤ 2880 → (closed : Bool) → nat_lt from to ≡ true
     → ChangesRunway d (if closed then Close r from to else Reopen r from to) r (change.Closure from to closed)
-closure_changes d row r known from to within closed h = by closed
-  where
-    closes : (u : Update) (closed : Bool) → reach_of u ≡ reach.Runway r → ((m : ℕ) → cap_given m u ≡ None) → ((m : ℕ) → closed_given m u ≡ then_some (window_has from to m) closed)
-        → ChangesRunway d u r (change.Closure from to closed)
-    closes u closed of_it caps given = record {
-      of_it = of_it;
-      row = row;
-      known = known;
-      window = h;
-      allows = rules-closed d.airport d.journal row u
-          (ap (λ what. same_reach what (reach.Runway row.name)) of_it ∙ own_name d.airport row r known) from to closed
-          (in_order from to h) within caps given;
-    }
-
-    by : (closed : Bool) → ChangesRunway d (if closed then Close r from to else Reopen r from to) r (change.Closure from to closed)
-    by true = closes (Close r from to) true refl (λ m. refl) (λ m. refl)
-    by false = closes (Reopen r from to) false refl (λ m. refl) (λ m. refl)
+closure_changes d row r known from to within closed h = search (rules, rules-closed, own_name, in_order)
 
 -- All changes.
 
@@ -157,41 +132,23 @@ reach_with (Values values) = reach.Day
 
 module _ (d : DayRecord) (u : Update) (sound : IsSound d) where
   is_of : (change : Change) → IsChange d u change → reach_of u ≡ reach_with change
-  is_of (NewFlight r) is = is.0
-  is_of (NextRecord r) is = is.0
-  is_of (Runway r change) is = is.of_it
-  is_of (TaxiRow place r minutes) is = ap reach_of is
-  is_of (Values values) is = is.0
+  is_of change is = search rules
 
   flights : (change : Change) → IsChange d u change → (f : List ℕ) → flight_of d.airport (d.journal ++ u ∷ []) f ≡ flight_with change f (flight_of d.airport d.journal f)
-  flights (NewFlight r) is = flight_put d u r is.0 is.2
-  flights (NextRecord r) is = flight_put d u r is.0 is.2
-  flights change is = flights_left d u (is_of change is) (λ f. refl)
+  flights change is = search (rules, flight_put, flights_left, is_of)
 
   order : (change : Change) → IsChange d u change → flights_in (d.journal ++ u ∷ []) ≡ flights_in d.journal ++ made_known change
-  order (NewFlight r) is = flights_in-push d.journal u ∙ ap (λ o. flights_in d.journal ++ cons_option o []) (new_is u r.name is.1 is.0)
-  order (NextRecord r) is = order-old d u is.0 is.1
-  order change is = order_left d u (is_of change is) (λ f. refl)
+  order change is = search (rules, flights_in-push, new_is, order-old, order_left, is_of)
 
   runways : (change : Change) → IsChange d u change
       → (row : RunwayRow) → Contains d.airport.runways row → rules_of d.airport (d.journal ++ u ∷ []) row ≡ rules_with change (rules_of d.airport d.journal row)
-  runways (Runway r change) is = runway_put d sound.airport u r change is
-  runways change is = λ row i. runways_left d u (is_of change is) (λ q. refl) row
+  runways change is = search (rules, runway_put, runways_left, is_of)
 
   taxi : (change : Change) → IsChange d u change → (rows : TaxiRows) → TellTaxi d.airport d.journal rows → TellTaxi d.airport (d.journal ++ u ∷ []) (rows_with change rows)
-  taxi (TaxiRow place r minutes) is = λ rows told. rw is (taxi_after_taxi d.airport d.journal place r minutes rows told)
-  taxi change is = taxi_left d u (is_of change is) (λ q. refl)
+  taxi change is = search (rules, taxi_after_taxi, taxi_left, is_of)
 
   day : (change : Change) → IsChange d u change → values_of (d.journal ++ u ∷ []) ≡ values_with change (values_of d.journal)
-  day (Values values) is = is.1
-  day change is = day_left d u (is_of change is) refl
+  day change is = search (rules, day_left, is_of)
 
   pub says_with : refusal_of d.airport d.journal u ≡ None → (change : Change) → IsChange d u change → SaysWith d u change
-  says_with good change is = record {
-    sound = sound_after d u sound good;
-    flights = flights change is;
-    order = order change is;
-    runways = runways change is;
-    taxi = taxi change is;
-    day = day change is;
-  }
+  says_with good change is = search (rules, sound_after, flights, order, runways, taxi, day)

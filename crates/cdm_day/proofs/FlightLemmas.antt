@@ -1,25 +1,14 @@
 -- The taxi-out time that the code takes is the journal's where it matters.
-use Rattle.std.proofs.Common.{◌≡◌, ℕ, List, Option, None, Some, refl, sym, ap, ◌∙◌}
-use Rattle.cdm_plan.proofs.ListWords.{option_and_then}
-use Rattle.cdm_day.proofs.DayWords.{Place, Update, Flight, step_of, TaxiRows, taxi_out, AirportRows}
-use Rattle.cdm_day.proofs.DayWords.{is_known, is_cancelled, of_flight, runway_of, aobt_of, atot_of, exot_now, exot_of, record_with, flight_of, taxi_of}
-use Rattle.cdm_day.proofs.DayWords.{before_off-all, status_of-record, planned_says, Off}
-use Rattle.std.specs.FinMap as map_of
+use Rattle.cdm_day.proofs.Words.{◌≡◌, ℕ, List, Option, Some, sym, ap, ◌∙◌, rules, option_and_then}
+use Rattle.cdm_day.proofs.DayWords.{Place, Update, Flight, step_of, TaxiRows, taxi_out, AirportRows, is_known, is_cancelled, of_flight, aobt_of}
+use Rattle.cdm_day.proofs.DayWords.{atot_of, exot_now, exot_of, record_with, flight_of, taxi_of, before_off-all, status_of-record, planned_says}
 use Rattle.cdm_flight.specs.declared.flight.Status.{Status}
-use Rattle.cdm_flight.specs.declared.flight.Status.TheVariants.{Planned, OffBlock, Airborne, Cancelled}
+use Rattle.cdm_flight.specs.declared.flight.Status.TheVariants.{Planned}
+use Rattle.std.specs.FinMap as map_of
 
 -- only OFF of a planned flight asks for the taxi-out time
 pub step_of-same : (r : Flight) (u : Update) (e h : Option ℕ) → (r.status ≡ Planned → e ≡ h) → step_of r u e ≡ step_of r u h
-step_of-same r u e h same = by u r.status refl
-  where
-    by : (v : Update) (s : Status) → r.status ≡ s → step_of r v e ≡ step_of r v h
-    by v Planned k = ap (λ o. step_of r v o) (same k)
-    by (Off f m) (OffBlock aobt exot) k = rw k refl
-    by _ (OffBlock aobt exot) k = rw k refl
-    by (Off f m) (Airborne aobt atot) k = rw k refl
-    by _ (Airborne aobt atot) k = rw k refl
-    by (Off f m) Cancelled k = rw k refl
-    by _ Cancelled k = rw k refl
+step_of-same r u e h same = search rules
 
 -- the taxi-out time to the runway of the record, from the table
 abbrev pub exot_by : TaxiRows → Flight → Option ℕ
@@ -27,12 +16,7 @@ exot_by rows r = option_and_then (λ runway. taxi_out (λ place. map_of.get rows
 
 exot_by-record : (g : AirportRows) (a : List Update) (rows : TaxiRows) (f : List ℕ) (s : Status) → ((place : Place) (r : List ℕ) → map_of.get rows (place, r) ≡ taxi_of g a place r)
     → exot_by rows (record_with f (of_flight f a) s) ≡ exot_now g a f
-exot_by-record g a rows f s same = by (runway_of a f)
-  where
-    by : (o : Option (List ℕ)) → option_and_then (λ runway. taxi_out (λ place. map_of.get rows (place, runway)) (record_with f (of_flight f a) s).stand (record_with f (of_flight f a) s).ice) o
-        ≡ option_and_then (λ runway. taxi_out (λ place. taxi_of g a place runway) (record_with f (of_flight f a) s).stand (record_with f (of_flight f a) s).ice) o
-    by None = refl
-    by (Some r) = λ i. taxi_out (λ place. same place r i) (record_with f (of_flight f a) s).stand (record_with f (of_flight f a) s).ice
+exot_by-record g a rows f s same = search rules
 
 -- of a planned flight it is the journal's
 pub exot_by-planned : (g : AirportRows) (a : List Update) (rows : TaxiRows) (f : List ℕ) (r : Flight) → ((place : Place) (r : List ℕ) → map_of.get rows (place, r) ≡ taxi_of g a place r)

@@ -1,18 +1,16 @@
 -- A day stays sound with every update that no word refuses.
-use Rattle.std.proofs.Common.{◌≡◌, ℕ, ◌≤◌, Bool, true, false, List, [], ◌∷◌, ◌++◌, length, Option, None, Some, refl, sym, ap, ◌∙◌, subst, true≢false, arith, length-append}
-use Rattle.cdm_plan.proofs.ListWords.{nat_le, count_by, is_some, or_parts, nat_tests, option_or, list_any, append-nil}
-use Rattle.cdm_day.proofs.DayWords.{Update, flight_in, reach_of, same_reach, is_fresh, is_one_stand_too_many, AirportRows, last_value, of_flight, runway_given, is_known, flight_of, runway_of}
-use Rattle.cdm_day.proofs.DayWords.{has_runway, is_unknown, is_full, stands_with_rows, refusal_of, last_value-push, touching-push, untouched, DayRecord, flights_in, with_update, IsSound, Flt, Taxi}
-use Rattle.cdm_flight.specs.declared.reach.Reach.TheVariants as reach
-use Rattle.cdm_flight.proofs.JournalLemmas.{is_known-push}
-use Rattle.cdm_plan.proofs.JournalFacts.{accepted_is, flight_named, flights_in-push, names_after}
+use Rattle.cdm_day.proofs.Words.{common_steps, rules, ◌≡◌, ℕ, ◌≤◌, Bool, true, false, List, [], ◌∷◌, ◌++◌, length, None, Some, refl, sym, ap, ◌∙◌}
+use Rattle.cdm_day.proofs.Words.{subst, true≢false, arith, length-append, nat_le, is_some, or_parts, nat_tests, list_any, append-nil, accepted_is}
+use Rattle.cdm_day.proofs.Words.{flight_named, flights_in-push, names_after}
+use Rattle.cdm_day.proofs.DayWords.{Update, flight_in, reach_of, same_reach, is_fresh, AirportRows, last_value, of_flight, runway_given, is_known}
+use Rattle.cdm_day.proofs.DayWords.{flight_of, runway_of, has_runway, is_unknown, is_full, refusal_of, last_value-push, touching-push, untouched}
+use Rattle.cdm_day.proofs.DayWords.{DayRecord, flights_in, with_update, IsSound, Flt}
 use Rattle.cdm_day.proofs.WordLemmas.{flight_of-unknown, flt-accepted, known_from, known_is, named_runway}
+use Rattle.cdm_flight.specs.declared.reach.Reach.TheVariants as reach
 
 -- what no word refuses finds room in the journal
 room_left : (g : AirportRows) (a : List Update) (u : Update) → is_full g a u ≡ false → nat_le 20000 (length a) ≡ false
-room_left g a (Flt f p) h = (or_parts (nat_le 20000 (length a)) (nat_le 2000 (count_by is_fresh a)) h).0
-room_left g a (Taxi place r minutes) h = (or_parts (nat_le 20000 (length a)) (is_one_stand_too_many (stands_with_rows g a) place) h).0
-room_left g a _ h = h
+room_left g a u h = grind (arith, common_steps)
 
 push_short : (a : List Update) (u : Update) → nat_le 20000 (length a) ≡ false → length (a ++ u ∷ []) ≤ 20000
 push_short a u h = grind (arith, nat_tests, length-append)
@@ -32,20 +30,11 @@ module _ (d : DayRecord) (u : Update) (sound : IsSound d) (good : refusal_of d.a
   silent q false e h =
       let same = untouched (reach.Flight q) d.journal u e in
       same ∙ sound.silent q (sym (ap (list_any is_fresh) same) ∙ h)
-  silent q true e h =
-      let of_it = flight_named (reach_of u) q e in
-      let old = or_parts (is_fresh u) (is_known d.journal q) (sym (is_known-push d.airport d.journal q u of_it) ∙ h) in
-      absurd (true≢false (sym (known_from d.airport d.journal q u of_it old.0 known_update) ∙ old.1))
+  silent q true e h = grind (arith, common_steps, flight_named, or_parts, true≢false, known_from, known_update)
 
   runways : (q s : List ℕ) (b : Bool) → same_reach (reach_of u) (reach.Flight q) ≡ b → runway_of (d.journal ++ u ∷ []) q ≡ Some s → has_runway d.airport s ≡ true
   runways q s false e h = sound.runways q s (sym (ap (last_value runway_given) (untouched (reach.Flight q) d.journal u e)) ∙ h)
-  runways q s true e h =
-      by (runway_given u) refl
-      (sym (ap (last_value runway_given) (touching-push (reach.Flight q) d.journal u e) ∙ last_value-push runway_given (of_flight q d.journal) u) ∙ h)
-    where
-      by : (o : Option (List ℕ)) → runway_given u ≡ o → option_or o (runway_of d.journal q) ≡ Some s → has_runway d.airport s ≡ true
-      by (Some x) k there = named_runway d.airport d.journal u known_update s (k ∙ there)
-      by None k there = sound.runways q s there
+  runways q s true e h = search (rules, touching-push, last_value-push, named_runway, known_update)
 
   pub sound_after : IsSound (with_update d u)
   sound_after = record {

@@ -1,7 +1,8 @@
 -- What one more update changes in what a journal says.
-use Rattle.std.proofs.Common.{◌≡◌, ℕ, Bool, true, false, cond, not, ◌&&◌, ◌||◌, List, [], ◌∷◌, ◌++◌, Option, None, Some, refl, sym, ap, ◌∙◌, arith, rules}
+use Rattle.std.proofs.Common.{◌≡◌, ℕ, Bool, true, false, cond, not, ◌&&◌, ◌||◌, List, [], ◌∷◌, ◌++◌, Option, None, Some, refl, sym, ap, ◌∙◌, arith}
+use Rattle.std.proofs.Common.{rules}
 use Rattle.std.specs.Prelude.{is_some, unwrap_or}
-use Rattle.std.specs.Option.{option_map, option_or}
+use Rattle.std.specs.Option.{option_or}
 use Rattle.std.specs.FinMap as map
 use Rattle.std.specs.List.{fold, list_all, list_any, take_while}
 use Rattle.std.proofs.lemmas.Grind.{common_steps}
@@ -11,7 +12,7 @@ use Rattle.std.proofs.lemmas.List.Sums.{fold-append, take_while-cons}
 use Rattle.cdm_time.specs.declared.tolerance.Tolerance.{Tolerance}
 use Rattle.cdm_flight.proofs.Lists.{list_any-push, take_while-all, take_while-append}
 use Rattle.cdm_flight.specs.declared.flight.Status.{Status}
-use Rattle.cdm_flight.specs.declared.flight.Status.TheVariants.{Planned, OffBlock, Airborne, Cancelled}
+use Rattle.cdm_flight.specs.declared.flight.Status.TheVariants.{Planned, OffBlock}
 use Rattle.cdm_flight.specs.declared.group.Group.TheVariants.{Medium}
 use Rattle.cdm_flight.specs.declared.ice.Ice.TheVariants.{NoIce}
 use Rattle.cdm_flight.specs.declared.place.Place.{Place}
@@ -23,10 +24,9 @@ use Rattle.cdm_flight.specs.Names.{same_name}
 use Rattle.cdm_flight.specs.Reach.{reach_of, same_reach, touching}
 use Rattle.cdm_flight.specs.Record.{fresh}
 use Rattle.cdm_flight.specs.declared.flight.Flight.{Flight}
-use Rattle.cdm_flight.specs.Step.{airborne_at, is_fresh, off_block_from, stepped, step_refusal}
-use Rattle.cdm_flight.specs.Journal.{AirportRows, last_value, tobt_given, stand_given, runway_given, ctot_given, ice_given, group_given, priority_given}
-use Rattle.cdm_flight.specs.Journal.{aobt_given, atot_given, is_cancel, taxi_given, clock_given, tolerance_given, taxi_of, of_flight, is_known}
-use Rattle.cdm_flight.specs.Journal.{exot_now}
+use Rattle.cdm_flight.specs.Step.{is_fresh, off_block_from, stepped, step_refusal}
+use Rattle.cdm_flight.specs.Journal.{AirportRows, last_value, tobt_given, stand_given, runway_given, ctot_given, ice_given, group_given}
+use Rattle.cdm_flight.specs.Journal.{priority_given, aobt_given, atot_given, is_cancel, taxi_given, taxi_of, of_flight, is_known, exot_now}
 use Rattle.cdm_flight.specs.Journal.{status_from, status_of, record_with, exot_of, flight_of, values_of}
 
 -- Last values of a flight.
@@ -58,9 +58,7 @@ touching-push what a u h = filter-append (λ v. same_reach (reach_of v) what) a 
 
 -- and leaves what touches something else
 pub untouched : (what : Reach) (a : List Update) (u : Update) → same_reach (reach_of u) what ≡ false → touching what (a ++ u ∷ []) ≡ touching what a
-untouched what a u h =
-    filter-append (λ v. same_reach (reach_of v) what) a (u ∷ [])
-    ∙ (ap (λ b. touching what a ++ cond b (u ∷ []) []) h ∙ append-nil (touching what a))
+untouched what a u h = grind (arith, common_steps)
 
 pub taxi_of-untouched : (g : AirportRows) (a : List Update) (u : Update) (place : Place) (r : List ℕ) → same_reach (reach_of u) (reach.Taxi r) ≡ false
     → taxi_of g (a ++ u ∷ []) place r ≡ taxi_of g a place r
@@ -73,15 +71,11 @@ values_of-untouched a u h = rw (untouched reach.Day a u h) refl
 -- a CLOCK sets the clock, and a TOL the tolerance
 pub values_of-clock : (a : List Update) (m : ℕ) → values_of (a ++ Clock m ∷ []) ≡ record (values_of a) { clock = m }
 unfolding values_of
-values_of-clock a m =
-    let own = touching reach.Day a in
-    rw (touching-push reach.Day a (Clock m) refl, last_value-push clock_given own (Clock m), last_value-push tolerance_given own (Clock m)) refl
+values_of-clock a m = grind (arith, common_steps)
 
 pub values_of-tolerance : (a : List Update) (t : Tolerance) → values_of (a ++ Tol t ∷ []) ≡ record (values_of a) { tolerance = t }
 unfolding values_of
-values_of-tolerance a t =
-    let own = touching reach.Day a in
-    rw (touching-push reach.Day a (Tol t) refl, last_value-push clock_given own (Tol t), last_value-push tolerance_given own (Tol t)) refl
+values_of-tolerance a t = grind (arith, common_steps)
 
 is_some-option_or : (o p : Option ℕ) → is_some (option_or o p) ≡ (is_some o || is_some p)
 is_some-option_or o p = grind arith
@@ -105,19 +99,14 @@ module _ (f : List ℕ) where
 
   -- it stays once the flight has left
   pub before_off-left : (a : List Update) (u : Update) (m : ℕ) → aobt_of a f ≡ Some m → before_off (a ++ u ∷ []) ≡ before_off a
-  before_off-left a u m h =
-      let some : is_some (aobt_of a f) ≡ true = ap is_some h in
-      grind (arith, no_off a, take_while-append (λ v. not (is_off v)) a (u ∷ []))
+  before_off-left a u m h = search (rules, no_off, take_while-append)
 
   -- and is all of it until then
   pub before_off-all : (a : List Update) → aobt_of a f ≡ None → before_off a ≡ a
   before_off-all a h = take_while-all (λ v. not (is_off v)) a (no_off a ∙ ap (λ o. not (is_some o)) h)
 
   pub before_off-leaves : (a : List Update) (u : Update) → aobt_of a f ≡ None → is_off u ≡ true → before_off (a ++ u ∷ []) ≡ a
-  before_off-leaves a u h e =
-      let none : is_some (aobt_of a f) ≡ false = ap is_some h in
-      let last = take_while-cons (λ v. not (is_off v)) u [] in
-      rw (take_while-append (λ v. not (is_off v)) a (u ∷ []), no_off a, none, last, e) (append-nil a)
+  before_off-leaves a u h e = search (rules, take_while-cons, take_while-append, no_off, append-nil)
 
   -- The status.
 
@@ -138,11 +127,7 @@ module _ (f : List ℕ) where
   pub flight_of-untouched : (g : AirportRows) (a : List Update) (u : Update) → same_reach (reach_of u) (reach.Flight f) ≡ false
       → flight_of g (a ++ u ∷ []) f ≡ flight_of g a f
   unfolding flight_of
-  flight_of-untouched g a u h =
-      let same = untouched (reach.Flight f) a u h in
-      let status =
-      status_of-same g a u (ap (list_any is_cancel) same) (ap (last_value atot_given) same) (ap (last_value aobt_given) same) (ap (list_any is_fresh) same) in
-      λ i. option_map (record_with f (same i)) (status i)
+  flight_of-untouched g a u h = search (rules, untouched, status_of-same)
 
 -- What a status says of the list.
 
@@ -164,35 +149,19 @@ off_block_says false None None e false m x h = cc
 pub status_of-record : (f : List ℕ) (g : AirportRows) (a : List Update) (r : Flight) → flight_of g a f ≡ Some r
     → (status_of g a f ≡ Some r.status) × (record_with f (of_flight f a) r.status ≡ r)
 unfolding flight_of
-status_of-record f g a r h = by (status_of g a f) refl h
-  where
-    by : (s : Option Status) → status_of g a f ≡ s → option_map (record_with f (of_flight f a)) s ≡ Some r
-        → (status_of g a f ≡ Some r.status) × (record_with f (of_flight f a) r.status ≡ r)
-    by None e k = cc
-    by (Some s) e k =
-        let same : record_with f (of_flight f a) s ≡ r = cc in
-        let status : s ≡ r.status = ap (λ x. x.status) same in
-        (e ∙ ap Some status, ap (record_with f (of_flight f a)) (sym status) ∙ same)
+status_of-record f g a r h = search rules
 
 -- An update of the flight itself.
 
 -- a planned flight leaves with a taxi-out time
 ready_off : (s : Status) (runway : Option (List ℕ)) (f : List ℕ) (m : ℕ) (e : Option ℕ) → step_refusal s runway (Off f m) e ≡ None
     → (s ≡ Planned) × ((x : ℕ) × (e ≡ Some x))
-ready_off Planned (Some r) f m (Some x) h = (refl, (x, refl))
-ready_off Planned (Some r) f m None h = cc
-ready_off Planned None f m e h = cc
-ready_off (OffBlock b x) runway f m e h = cc
-ready_off (Airborne b t) runway f m e h = cc
-ready_off Cancelled runway f m e h = cc
+ready_off s runway f m e h = search rules
 
 -- a flight that takes off has left
 left_air : (s : Status) (runway : Option (List ℕ)) (f : List ℕ) (t : ℕ) (e : Option ℕ) → step_refusal s runway (Air f t) e ≡ None
     → (m : ℕ) × (x : ℕ) × (s ≡ OffBlock m x)
-left_air (OffBlock m x) runway f t e h = (m, x, refl)
-left_air Planned runway f t e h = cc
-left_air (Airborne m x) runway f t e h = cc
-left_air Cancelled runway f t e h = cc
+left_air s runway f t e h = search rules
 
 -- the fields take the update's value
 fields : (f : List ℕ) (own : List Update) (u : Update) (s t : Status) (exot : Option ℕ) → is_fresh u ≡ false
@@ -240,12 +209,7 @@ module _ (g : AirportRows) (a : List Update) (f : List ℕ) where
       let exot : exot_of g (a ++ u ∷ []) f ≡ Some ready.1.0 = ap (λ l. exot_now g l f) cut ∙ ready.1.1 in
       (λ i. status_from ((cancelled u e ∙ says.0) i) ((atot u e ∙ says.1) i) (aobt u e i) (exot i) (is_known (a ++ u ∷ []) f))
       ∙ ap (λ x. Some (off_block_from m x)) (sym ready.1.1)
-  status_after (Air q t) r e told old ok =
-      let u = Air q t in
-      let left = left_air r.status r.runway q t (exot_of g a f) ok in
-      let says = off_block_says (is_cancelled a f) (atot_of a f) (aobt_of a f) (exot_of g a f) (is_known a f) left.0 left.1 (told ∙ ap Some left.2) in
-      (λ i. status_from ((cancelled u e ∙ says.0) i) (atot u e i) ((aobt u e ∙ says.2) i) (exot_of g (a ++ u ∷ []) f) (is_known (a ++ u ∷ []) f))
-      ∙ ap (λ s. Some (airborne_at s t)) (sym left.2)
+  status_after (Air q t) r e told old ok = search (rules, left_air, off_block_says, cancelled, atot, aobt)
   status_after (Cnl q) r e told old ok =
       let b = a ++ Cnl q ∷ [] in
       ap (λ c. status_from c (atot_of b f) (aobt_of b f) (exot_of g b f) (is_known b f)) (cancelled (Cnl q) e)
@@ -256,13 +220,7 @@ module _ (g : AirportRows) (a : List Update) (f : List ℕ) where
   pub flight_of-step : (u : Update) (r : Flight) → reach_of u ≡ reach.Flight f → flight_of g a f ≡ Some r → is_fresh u ≡ false
       → step_refusal r.status r.runway u (exot_of g a f) ≡ None → flight_of g (a ++ u ∷ []) f ≡ Some (stepped r u (exot_of g a f))
   unfolding flight_of
-  flight_of-step u r e there old ok =
-      let told = status_of-record f g a r there in
-      let after = stepped r u (exot_of g a f) in
-      ap (option_map (record_with f (of_flight f (a ++ u ∷ [])))) (status_after u r e told.0 old ok)
-      ∙ ap Some (ap (λ own. record_with f own after.status) (one_more u e)
-      ∙ (fields f (of_flight f a) u r.status after.status (exot_of g a f) old
-      ∙ ap (λ (x : Flight). record (stepped x u (exot_of g a f)) { status = after.status }) told.1))
+  flight_of-step u r e there old ok = grind (arith, common_steps, status_of-record, status_after, one_more)
 
 -- a flight that no update touched is a fresh record after its FLT
 pub flight_of-fresh : (g : AirportRows) (a : List Update) (f : List ℕ) (p : ℕ) → of_flight f a ≡ [] → flight_of g (a ++ Flt f p ∷ []) f ≡ Some (fresh f p)

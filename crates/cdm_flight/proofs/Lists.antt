@@ -1,6 +1,7 @@
 -- Lists: their elements, their sums, and their permutations.
-use Rattle.std.proofs.Common.{◌≡◌, ℕ, zero, suc, ◌+◌, ◌<◌, ◌≤◌, Bool, true, false, cond, List, [], ◌∷◌, ◌++◌, Option, Some, None, IfSome, sym, ◌∙◌}
-use Rattle.std.proofs.Common.{ap, subst, refl, arith, inl, inr, ◌⊎◌, ◌||◌, sum_by, filter, map, set, get_or, length, append_assoc}
+use Rattle.std.proofs.lemmas.Grind.{common_steps}
+use Rattle.std.proofs.Common.{◌≡◌, ℕ, zero, suc, ◌+◌, ◌<◌, Bool, true, false, cond, List, [], ◌∷◌, ◌++◌, Option, Some, None, IfSome, sym, ◌∙◌}
+use Rattle.std.proofs.Common.{ap, subst, refl, arith, inl, inr, ◌⊎◌, ◌||◌, sum_by, filter, map, set, get_or, length, append_assoc, rules}
 use Rattle.std.specs.Cmp.{IsStrictWeakOrder}
 use Rattle.std.specs.Prelude.{is_some, if◌then◌else◌}
 use Rattle.std.specs.List.{filter_map, find, list_all, list_any, take_while, All, Contains, cons_option, swap, AllByRecursion, IsDistinct}
@@ -14,14 +15,13 @@ use Rattle.std.proofs.lemmas.List.Elements.{Contains-append_right, All-from_recu
 use Rattle.std.proofs.lemmas.List.Folds.{fold-map, list_any-append}
 use Rattle.std.proofs.lemmas.List.Sorted.{IsPermutation-refl, IsPermutation-trans, IsPermutation-append_left, IsPermutation-append_right}
 use Rattle.std.proofs.lemmas.List.Sorted.{IsPermutation-append_comm, IsPermutation-keeps, sorted_far}
-use Rattle.std.proofs.lemmas.List.Sums.{sum_by-cons, sum_by-le-sum_by, take_while-cons}
+use Rattle.std.proofs.lemmas.List.Sums.{sum_by-cons, take_while-cons}
 use Rattle.std.proofs.lemmas.Map.Keys.{apart_from_distinct, IsDistinct-from_apart, IsDistinct-cons, IsDistinct-head, IsDistinct-tail}
 
 -- Elements.
 
 pub contains_cases : {X : Type 0} (x : X) (xs : List X) (y : X) → Contains (x ∷ xs) y → (x ≡ y) ⊎ Contains xs y
-contains_cases x xs y (zero, l, e) = inl e
-contains_cases x xs y (suc k, l, e) = inr (k, omega arith, e)
+contains_cases x xs y e = search rules
 
 pub contains_head : {X : Type 0} (x : X) (xs : List X) → Contains (x ∷ xs) x
 contains_head x xs = (0, omega arith, refl)
@@ -44,8 +44,7 @@ contains_from_map f (x ∷ xs) y i = elim (contains_cases (f x) (map f xs) y i) 
 pub All-given : {X Y : Type 0} (h : X → Option Y) (P : Y → Type 0) (xs : List X) → ((x : X) → Contains xs x → IfSome (h x) P) → All P (filter_map h xs)
 All-given {X} {Y} h P xs each = All-from_recursion P (filter_map h xs) (by xs each) where
   given : (o : Option Y) (zs : List Y) → IfSome o P → AllByRecursion P zs → AllByRecursion P (cons_option o zs)
-  given None zs k rest = rest
-  given (Some z) zs k rest = (k, rest)
+  given o zs k rest = search rules
 
   by : (ys : List X) → ((x : X) → Contains ys x → IfSome (h x) P) → AllByRecursion P (filter_map h ys)
   by [] all = tt
@@ -59,8 +58,7 @@ contains_from_given {X} {Y} h xs y = All-contains From (filter_map h xs) y (All-
   From z = (x : X) × Contains xs x × (h x ≡ Some z)
 
   found : (x : X) → Contains xs x → (o : Option Y) → h x ≡ o → IfSome o From
-  found x i None e = tt
-  found x i (Some z) e = (x, i, e)
+  found x i o e = search rules
 
 pub filter_map-map : {X Y Z : Type 0} (h : Y → Option Z) (g : X → Y) (xs : List X) → filter_map h (map g xs) ≡ filter_map (λ x. h (g x)) xs
 filter_map-map h g [] = refl
@@ -77,14 +75,11 @@ filter_map-filter h p (x ∷ xs) = let later = filter_map-filter h p xs in grind
 -- two functions that agree on a list's elements
 pub filter_map_same : {X Y : Type 0} (h k : X → Option Y) (xs : List X) → ((x : X) → Contains xs x → h x ≡ k x) → filter_map h xs ≡ filter_map k xs
 filter_map_same h k [] same = refl
-filter_map_same h k (x ∷ xs) same = λ i.
-    cons_option (same x (contains_head x xs) i) (filter_map_same h k xs (λ y j. same y (contains_tail x xs y j)) i)
+filter_map_same h k (x ∷ xs) same = grind (arith, common_steps, filter_map_same h k xs (λ y j. same y (contains_tail x xs y j)))
 
 pub filter_same : {X : Type 0} (p q : X → Bool) (xs : List X) → ((x : X) → Contains xs x → p x ≡ q x) → filter p xs ≡ filter q xs
 filter_same p q [] same = refl
-filter_same p q (x ∷ xs) same =
-    let rest = filter_same p q xs (λ y j. same y (contains_tail x xs y j)) in
-    λ i. cond (same x (contains_head x xs) i) (x ∷ rest i) (rest i)
+filter_same p q (x ∷ xs) same = grind (arith, common_steps, filter_same p q xs (λ y j. same y (contains_tail x xs y j)))
 
 -- Tests of any element.
 
@@ -107,26 +102,14 @@ list_any-same p q same xs = λ i. list_any (λ x. same x i) xs
 -- sums of two functions that agree on the list
 pub sum_same : {X : Type 0} (f g : X → ℕ) (xs : List X) → ((y : X) → Contains xs y → f y ≡ g y) → sum_by f xs ≡ sum_by g xs
 sum_same f g [] h = refl
-sum_same f g (x ∷ xs) h =
-    let rest = sum_same f g xs (λ y k. h y (contains_tail x xs y k)) in
-    omega (arith, sum_by-cons f x xs, sum_by-cons g x xs, h x (contains_head x xs))
-
--- and of two that are no greater, of which one is less at some element
-pub sum_less : {X : Type 0} (f g : X → ℕ) (xs : List X) (x : X) → Contains xs x → ((y : X) → f y ≤ g y) → f x < g x → sum_by f xs < sum_by g xs
-sum_less f g [] x (k, l, e) h s = absurd (omega arith)
-sum_less f g (y ∷ ys) x i h s = elim (contains_cases y ys x i) [
-  | inl e ↦ omega (arith, sum_by-cons f y ys, sum_by-cons g y ys, ap f e, ap g e, sum_by-le-sum_by f g ys h)
-  | inr j ↦ omega (arith, sum_by-cons f y ys, sum_by-cons g y ys, h y, sum_less f g ys x j h s)
-]
+sum_same f g (x ∷ xs) h = grind (arith, common_steps, sum_same f g xs (λ y k. h y (contains_tail x xs y k)))
 
 pub sum_map : {X Y : Type 0} (g : Y → ℕ) (f : X → Y) (xs : List X) → sum_by g (map f xs) ≡ sum_by (λ x. g (f x)) xs
 sum_map g f xs = fold-map (λ a y. a + g y) f 0 xs
 
 pub sum_by-add : {X : Type 0} (g h : X → ℕ) (xs : List X) → sum_by (λ x. g x + h x) xs ≡ sum_by g xs + sum_by h xs
 sum_by-add g h [] = refl
-sum_by-add g h (x ∷ xs) =
-    let rest = sum_by-add g h xs in
-    omega (arith, sum_by-cons (λ x. g x + h x) x xs, sum_by-cons g x xs, sum_by-cons h x xs)
+sum_by-add g h (x ∷ xs) = grind (arith, common_steps, sum_by-add g h xs)
 
 pub sum_by-zero : {X : Type 0} (xs : List X) → sum_by (λ (x : X). 0) xs ≡ 0
 sum_by-zero [] = refl
@@ -147,8 +130,7 @@ exchange us vs ws = rw (← append_assoc us vs ws, ← append_assoc vs us ws) (I
 taken_out : {X Y : Type 0} (h : X → Option Y) (x : X) (xs : List X) (j : ℕ) (d : X) → j < length xs
     → IsPermutation (option_to_list (h x) ++ filter_map h xs) (option_to_list (h (get_or xs j d)) ++ filter_map h (set xs j x))
 taken_out h x [] j d l = absurd (omega arith)
-taken_out h x (y ∷ ys) zero d l =
-    rw (filter_map_cons h y ys, filter_map_cons h x ys) (exchange (option_to_list (h x)) (option_to_list (h y)) (filter_map h ys))
+taken_out h x (y ∷ ys) zero d l = search (rules, filter_map_cons, exchange)
 taken_out h x (y ∷ ys) (suc j) d l =
     let a = option_to_list (h x) in
     let b = option_to_list (h y) in
@@ -168,10 +150,7 @@ swapped h (x ∷ xs) zero (suc j) d k l =
     rw (filter_map_cons h x xs, filter_map_cons h (get_or xs j d) (set xs j x)) (taken_out h x xs j d (omega arith))
 swapped h (x ∷ xs) (suc i) zero d k l =
     rw (filter_map_cons h x xs, filter_map_cons h (get_or xs i d) (set xs i x)) (taken_out h x xs i d (omega arith))
-swapped h (x ∷ xs) (suc i) (suc j) d k l =
-    let ys = set (set xs i (get_or xs j d)) j (get_or xs i d) in
-    rw (filter_map_cons h x xs, filter_map_cons h x ys)
-    (IsPermutation-append_right (option_to_list (h x)) (filter_map h xs) (filter_map h ys) (swapped h xs i j d (omega arith) (omega arith)))
+swapped h (x ∷ xs) (suc i) (suc j) d k l = search (rules, filter_map_cons, IsPermutation-append_right, swapped h xs i j d (omega arith) (omega arith))
 
 pub IsPermutation-filter_map : {X Y : Type 0} (h : X → Option Y) (xs ys : List X) → IsPermutation xs ys → IsPermutation (filter_map h xs) (filter_map h ys)
 IsPermutation-filter_map {X} h xs ys same =
@@ -204,8 +183,7 @@ sorted_rest {X} lt x xs up = λ k d a b.
 none_below : {X K : Type 0} (lt : K → K → Bool) → IsStrictWeakOrder lt → (key : X → K) (x : X) (xs : List X)
     → IsSortedBy (λ a b. lt (key a) (key b)) (x ∷ xs) → (y : X) → Contains (x ∷ xs) y → lt (key y) (key x) ≡ false
 none_below lt weak key x xs up y (k, l, e) =
-    let by_key : IsStrictWeakOrder (λ a b. lt (key a) (key b)) =
-    record { one_way = λ a b. weak.one_way (key a) (key b); chain = λ a b c. weak.chain (key a) (key b) (key c) } in
+    let by_key : IsStrictWeakOrder (λ a b. lt (key a) (key b)) = search rules in
     subst (λ z. lt (key z) (key x) ≡ false) e (sorted_far (λ a b. lt (key a) (key b)) by_key (x ∷ xs) up 0 k y (omega arith) l)
 
 -- 1 for a key that x isn't below
@@ -290,8 +268,7 @@ pub one_of_key : {X K : Type 0} (e : K → K → Bool) (flips : (x y : K) → e 
     → Contains xs x
     → Contains xs y → e (key x) (key y) ≡ true → x ≡ y
 one_of_key {X} e flips key xs x y own (i, l, p) (j, m, q) h =
-    let at : (k : ℕ) (z : X) → k < length xs → get_or xs k z ≡ z → get_or (map key xs) k (key x) ≡ key z = λ k z below is.
-    get_or-map key xs k z (key x) below ∙ ap key is in
+    let at : (k : ℕ) (z : X) → k < length xs → get_or xs k z ≡ z → get_or (map key xs) k (key x) ≡ key z = search (rules, get_or-map) in
     elim (cases_order i j) [
       | inl same ↦ sym p ∙ get_or_default xs i x y l ∙ ap (λ k. get_or xs k y) same ∙ q
       | inr (inl before) ↦ absurd (false≢true (sym (apart_from_distinct e (map key xs) i j (key x) own before (rw length-map m))
@@ -324,6 +301,4 @@ take_while-all p (x ∷ xs) h = let later = take_while-all p xs in grind (arith,
 pub take_while-append : {X : Type 0} (p : X → Bool) (xs ys : List X)
     → take_while p (xs ++ ys) ≡ (if list_all p xs then xs ++ take_while p ys else take_while p xs)
 take_while-append p [] ys = refl
-take_while-append p (x ∷ xs) ys =
-    let later = take_while-append p xs ys in
-    grind (arith, take_while-cons p x xs, take_while-cons p x (xs ++ ys))
+take_while-append p (x ∷ xs) ys = search (rules, take_while-cons, take_while-append p xs ys)

@@ -1,4 +1,5 @@
 -- Names are in the order of their numbers.
+use Rattle.std.proofs.lemmas.Grind.{common_steps}
 use Rattle.std.proofs.Common.{◌≡◌, ℕ, ◌+◌, ◌*◌, ◌^◌, ◌<◌, ◌≤◌, true, zero, suc, List, [], ◌∷◌, length, IsTrue, arith, refl, sym, ap, ◌∙◌}
 use Rattle.std.specs.Prelude.{nat_eq}
 use Rattle.std.specs.Int.{w64, from_be_bytes}
@@ -73,13 +74,4 @@ number_eq xs ys g h r s = unsigned_ties _ _ ∙ ap is_eq (number_cmp xs ys g h r
 
 -- the eight bytes that keep a text make its number
 pub read_number : (xs : List ℕ) → length xs ≤ 8 → from_be_bytes w64 (padded xs) ≡ digits 8 xs
-read_number [] h = omega arith
-read_number (a ∷ []) h = omega arith
-read_number (a ∷ b ∷ []) h = omega arith
-read_number (a ∷ b ∷ c ∷ []) h = omega arith
-read_number (a ∷ b ∷ c ∷ d ∷ []) h = omega arith
-read_number (a ∷ b ∷ c ∷ d ∷ e ∷ []) h = omega arith
-read_number (a ∷ b ∷ c ∷ d ∷ e ∷ f ∷ []) h = omega arith
-read_number (a ∷ b ∷ c ∷ d ∷ e ∷ f ∷ g ∷ []) h = omega arith
-read_number (a ∷ b ∷ c ∷ d ∷ e ∷ f ∷ g ∷ k ∷ []) h = omega arith
-read_number (a ∷ b ∷ c ∷ d ∷ e ∷ f ∷ g ∷ k ∷ l ∷ xs) h = absurd (omega arith)
+read_number xs h = grind (arith, common_steps)

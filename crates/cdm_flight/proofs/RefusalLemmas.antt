@@ -1,10 +1,9 @@
 -- The words of the journal are those of the flight's record.
-use Rattle.std.proofs.Common.{◌≡◌, false, List, ℕ, None, Some, refl, ap}
+use Rattle.std.proofs.Common.{◌≡◌, false, List, ℕ, None, Some, refl, ap, rules}
 use Rattle.std.specs.Prelude.{if◌then◌else◌}
 use Rattle.std.specs.Option.{option_or}
 use Rattle.cdm_flight.specs.declared.reach.Reach.TheVariants as reach
 use Rattle.cdm_flight.specs.declared.update.Update.{Update}
-use Rattle.cdm_flight.specs.declared.update.Update.TheVariants.{Rate, Close, Reopen, Clock}
 use Rattle.cdm_flight.specs.declared.word.RefusalWord.TheVariants.{Full}
 use Rattle.cdm_flight.specs.Reach.{flight_in, reach_of}
 use Rattle.cdm_flight.specs.declared.flight.Flight.{Flight}
@@ -14,11 +13,7 @@ use Rattle.cdm_flight.specs.Accepted.{is_unknown, is_disordered, is_full, refusa
 
 -- a flight's update is no clock and has no window
 ordered-flight : (g : AirportRows) (a : List Update) (u : Update) (f : List ℕ) → reach_of u ≡ reach.Flight f → is_disordered g a u ≡ false
-ordered-flight g a (Clock m) f e = cc
-ordered-flight g a (Rate r from to cap) f e = cc
-ordered-flight g a (Close r from to) f e = cc
-ordered-flight g a (Reopen r from to) f e = cc
-ordered-flight g a _ f e = refl
+ordered-flight g a u f e = search rules
 
 -- the words on an update of a flight that is known
 pub refusal_of-flight : (g : AirportRows) (a : List Update) (u : Update) (f : List ℕ) (r : Flight)

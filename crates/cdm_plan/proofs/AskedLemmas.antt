@@ -1,13 +1,13 @@
 -- What flights give that are asked, and those that need not be.
-use Rattle.std.proofs.Common.{◌≡◌, ℕ, Bool, true, false, ◌&&◌, not, List, ◌++◌, Option, None, Some, refl, sym, ◌∙◌, ap}
-use Rattle.std.proofs.lemmas.Bool.{not-true}
+use Rattle.std.proofs.lemmas.Grind.{common_steps}
+use Rattle.std.proofs.Common.{◌≡◌, ℕ, Bool, true, false, ◌&&◌, not, List, ◌++◌, None, Some, refl, sym, ◌∙◌, ap, arith, rules}
 use Rattle.cdm_plan.proofs.ListWords.{if◌then◌else◌, option_map_or, filter_map, filter_map-append, filter_map-filter, if_so}
-use Rattle.cdm_plan.proofs.ListWords.{IsPermutation, IsPermutation-filter_both, IsPermutation-filter_map, false_from_ne_true, false≢true}
+use Rattle.cdm_plan.proofs.ListWords.{IsPermutation, IsPermutation-filter_both, IsPermutation-filter_map, false_from_ne_true}
 use Rattle.cdm_plan.proofs.PlanWords.{DayValues, Flight, TaxiTimes, fixed_on, fixed_slot}
 use Rattle.cdm_plan.proofs.PlanWords.{asked_of, counts, is_on, is_touched, is_untouched, kept_of, targets_on}
 use Rattle.cdm_plan.specs.declared.touched.Touched.{Touched}
 use Rattle.cdm_plan.proofs.JournalFacts.{some_named}
-use Rattle.cdm_plan.proofs.PlanningLemmas.{blocked_early, early-given, early_at, no_target_at, target_at, targets_of, targets_on-given}
+use Rattle.cdm_plan.proofs.PlanningLemmas.{blocked_early, early-given, early_at, no_target_at, targets_of, targets_on-given}
 
 -- both of two tests hold
 pub both : (a b : Bool) → (a && b) ≡ true → (a ≡ true) × (b ≡ true)
@@ -16,21 +16,11 @@ both false b h = cc
 
 -- a flight that need not be asked counts on its runway
 pub untouched_counts : (t : Touched) (f : Flight) → is_untouched t f ≡ true → counts f ≡ true
-untouched_counts t f h = by (counts f) h
-  where
-    by : (b : Bool) → option_map_or (λ r. not (is_touched t r)) (if b then f.runway else None) false ≡ true → b ≡ true
-    by true k = refl
-    by false k = cc
+untouched_counts t f h = grind (arith, common_steps)
 
 -- which was not touched
 pub untouched_runway : (t : Touched) (f : Flight) → is_untouched t f ≡ true → (r : List ℕ) × (f.runway ≡ Some r) × (is_touched t r ≡ false)
-untouched_runway t f h = by (counts f) f.runway h
-  where
-    by : (b : Bool) (o : Option (List ℕ)) → option_map_or (λ r. not (is_touched t r)) (if b then o else None) false ≡ true
-        → (r : List ℕ) × (o ≡ Some r) × (is_touched t r ≡ false)
-    by false o k = cc
-    by true None k = cc
-    by true (Some r) k = (r, refl, not-true (is_touched t r) k)
+untouched_runway t f h = grind (arith, common_steps)
 
 -- a flight that counts on a runway that was not touched
 pub untouched_on : (t : Touched) (f : Flight) (r : List ℕ) → counts f ≡ true → f.runway ≡ Some r → is_touched t r ≡ false → is_untouched t f ≡ true
@@ -38,12 +28,7 @@ untouched_on t f r c e h = (λ i. option_map_or (λ s. not (is_touched t s)) (if
 
 -- a flight that need not be asked is on no touched runway
 off_touched : (t : Touched) (r : List ℕ) → is_touched t r ≡ true → (f : Flight) → is_untouched t f ≡ true → is_on r f ≡ false
-off_touched t r h f k =
-    let at = untouched_runway t f k in
-    false_from_ne_true (is_on r f) (λ on.
-    let own = some_named f.runway r on in
-    let same : at.0 ≡ r = cc (at.1, own) in
-    false≢true (sym at.2 ∙ (ap (is_touched t) same ∙ h)))
+off_touched t r h f k = search (rules, untouched_runway, false_from_ne_true, some_named)
 
 -- the fixed flights of a touched runway are among the flights that are asked
 pub fixed-asked : (t : Touched) (r : List ℕ) → is_touched t r ≡ true → (fs : List Flight) → fixed_on r (asked_of t fs) ≡ fixed_on r fs
@@ -63,17 +48,7 @@ fixed-asked t r h fs =
 -- the targets of a touched runway are those of the flights that are asked
 pub targets-asked : (t : Touched) (r : List ℕ) → is_touched t r ≡ true → (times : TaxiTimes) (values : DayValues) (fs : List Flight)
     → targets_on r (targets_of (asked_of t fs) times values) ≡ targets_on r (targets_of fs times values)
-targets-asked t r h times values fs =
-    targets_on-given r times values (asked_of t fs)
-    ∙ (filter_map-filter (target_at r times values) (λ f. not (is_untouched t f)) fs
-    ∙ ((λ i. filter_map (λ f. all f i) fs) ∙ sym (targets_on-given r times values fs)))
-  where
-    by : (f : Flight) (b : Bool) → is_untouched t f ≡ b → if_so (not b) (target_at r times values f) ≡ target_at r times values f
-    by f false k = refl
-    by f true k = sym (no_target_at r times values f (off_touched t r h f k))
-
-    all : (f : Flight) → if_so (not (is_untouched t f)) (target_at r times values f) ≡ target_at r times values f
-    all f = by f (is_untouched t f) refl
+targets-asked t r h times values fs = search (rules, targets_on-given, filter_map-filter, no_target_at, off_touched)
 
 -- the flights that are blocked early are those that need not be asked, and others that are asked
 pub early-parted : (t : Touched) (times : TaxiTimes) (values : DayValues) (fs : List Flight)

@@ -1,12 +1,12 @@
 -- The plan of what records tell is that of their day.
-use Rattle.std.proofs.Common.{◌≡◌, ℕ, ◌+◌, ◌≤◌, ◌++◌, take, List, [], length, IfSome, Option, None, Some, refl, sym, ◌∙◌, ap, subst, map, filter, arith}
+use Rattle.std.proofs.Common.{[]}
+use Rattle.std.proofs.Common.{rules, ◌≡◌, ℕ, ◌+◌, ◌≤◌, ◌++◌, take, List, length, IfSome, Option, None, Some, refl, sym, ap, subst, map, filter, arith}
 use Rattle.cdm_plan.proofs.ListWords.{is_some, slice_get, option_and_then, AllZip, filter_map, cons_option, IsDistinct, IsPermutation}
 use Rattle.cdm_plan.proofs.ListWords.{filter_map-append, IsPermutation-refl, IsPermutation-sym, IsPermutation-trans, map_fixed}
 use Rattle.cdm_plan.proofs.ListWords.{distinct_filter, length-map}
 use Rattle.cdm_plan.proofs.PlanWords.{same_name, Flight, Update, AirportRows, flight_of, values_of, taxi_of, status_of-record, RunwayRules}
-use Rattle.cdm_plan.proofs.PlanWords.{IsSequence, Plan, RunwayPlan, Target, IsAirport, DayRecord}
-use Rattle.cdm_plan.proofs.PlanWords.{flights_in, IsDayPlan, day_rules, records_in, HasParts}
-use Rattle.cdm_plan.proofs.PlanWords.{planned_of, targets_on, IsPlanOn, fixed_in, IsSound}
+use Rattle.cdm_plan.proofs.PlanWords.{IsSequence, Plan, RunwayPlan, Target, IsAirport, DayRecord, flights_in, IsDayPlan, day_rules, records_in}
+use Rattle.cdm_plan.proofs.PlanWords.{HasParts, planned_of, targets_on, IsPlanOn, fixed_in, IsSound}
 use Rattle.cdm_plan.proofs.PlanningLemmas.{aim_list, aims_are, aims_mean, blocked_early, early-aims, few_names, targets-aims, targets_of}
 use Rattle.cdm_sequence.proofs.NameLemmas.{names_given}
 use Rattle.cdm_plan.proofs.NameLemmas.{day_rules_differ, take-next}
@@ -19,8 +19,7 @@ record_name g a f r e = sym (ap (λ (x : Flight). x.name) (status_of-record f g 
 -- The day's flights.
 
 -- they are those that the journal says something of
-record_names : (d : DayRecord)
-    → map (λ (r : Flight). r.name) (records_in d.airport d.journal)
+record_names : (d : DayRecord) → map (λ (r : Flight). r.name) (records_in d.airport d.journal)
     ≡ map (λ f. f) (filter (λ f. is_some (flight_of d.airport d.journal f)) (flights_in d.journal))
 record_names d =
     names_given (λ (r : Flight). r.name) (λ f. f) (flight_of d.airport d.journal) (λ f. named f (flight_of d.airport d.journal f) refl) (flights_in d.journal)
@@ -46,13 +45,7 @@ few_records d sound =
 -- one more of them
 pub records-next : (h : List ℕ → Option Flight) (ks : List (List ℕ)) (i : ℕ)
     → filter_map h (take (i + 1) ks) ≡ filter_map h (take i ks) ++ cons_option (option_and_then h (slice_get ks i)) []
-records-next h ks i =
-    ap (filter_map h) (take-next ks i)
-    ∙ (filter_map-append h (take i ks) (cons_option (slice_get ks i) []) ∙ ap (λ l. filter_map h (take i ks) ++ l) (by (slice_get ks i)))
-  where
-    by : (o : Option (List ℕ)) → filter_map h (cons_option o []) ≡ cons_option (option_and_then h o) []
-    by None = refl
-    by (Some k) = refl
+records-next h ks i = search (rules, take-next, filter_map-append)
 
 -- Runway by runway.
 
@@ -75,16 +68,11 @@ is_plan_on d r p e =
     }
 
 pub has_sequence : (d : DayRecord) (r : RunwayRules) (p : RunwayPlan) → IsPlanOn d r p → HasSequence d r p
-has_sequence d r p e =
-    let fs = records_in d.airport d.journal in
-    let times = taxi_of d.airport d.journal in
-    let values = values_of d.journal in
-    rw (← targets-aims times values fs, aims_are times values (planned_of fs) e.aims e.aimed) e.sequence
+has_sequence d r p e = search (rules, targets-aims, aims_are)
 
 -- a plan made from the plans of all runways is the day's
 pub day_plan : (d : DayRecord) (rules : List RunwayRules) (made plans : List RunwayPlan) (plan : Plan) → IsAirport d.airport
-    → IsPermutation (day_rules d) rules → AllZip (HasSequence d) rules made → IsPermutation made plans
-    → plan.clock ≡ (values_of d.journal).clock
+    → IsPermutation (day_rules d) rules → AllZip (HasSequence d) rules made → IsPermutation made plans → plan.clock ≡ (values_of d.journal).clock
     → HasParts (blocked_early (records_in d.airport d.journal) (taxi_of d.airport d.journal) (values_of d.journal)) plans plan → IsDayPlan d plan
 unfolding IsDayPlan
 day_plan d rules made plans plan airport all each same clock parts =

@@ -1,11 +1,11 @@
 -- The plan of a day is first in order, and no other placing is.
-use Rattle.std.proofs.Common.{◌≡◌, ℕ, true, List, Some, sym, ◌∙◌, ap, subst, inl, inr, map}
-use Rattle.cdm_plan.proofs.ListWords.{option_map, Contains, IsDistinct, list_any, contains_all, distinct_right}
-use Rattle.cdm_plan.proofs.ListWords.{list_any-find, list_any-map}
+use Rattle.std.proofs.lemmas.Grind.{common_steps}
+use Rattle.std.proofs.Common.{◌≡◌, ℕ, true, List, Some, sym, ◌∙◌, ap, subst, inl, inr, map, arith, rules}
+use Rattle.cdm_plan.proofs.ListWords.{Contains, IsDistinct, list_any, contains_all, distinct_right, list_any-find, list_any-map}
 use Rattle.cdm_plan.proofs.PlanWords.{DayValues, same_name, Flight, TaxiTimes, Slot, Plan, Target, AimResult, Placing, IsEarlier}
 use Rattle.cdm_plan.proofs.PlanWords.{runway_names, DayRecord, flights_in, IsDayAllowed, IsDayFirst, IsDayPlanBy, IsSound, day_rules, records_in, has_runway}
 use Rattle.cdm_plan.proofs.PlanWords.{flight_of, status_of-record, values_of, taxi_of, RunwayRow, IsAim, AreAims, fixed_on, planned_of}
-use Rattle.cdm_plan.proofs.PlanWords.{is_planned, target_in, targets_in, targets_on, Ready, Early}
+use Rattle.cdm_plan.proofs.PlanWords.{is_planned, target_in, targets_in, targets_on}
 use Rattle.cdm_flight.proofs.Lists.{contains_from_given}
 use Rattle.cdm_sequence.proofs.DifferenceLemmas.{compared}
 use Rattle.cdm_plan.proofs.DayPlanLemmas.{record_names_differ}
@@ -25,8 +25,7 @@ known_runway d sound f r i e =
 -- a target has its flight's runway
 own_runway : (f : Flight) (times : TaxiTimes) (values : DayValues) (a : AimResult) (t : Target) → IsAim f times values a → target_in a ≡ Some t
     → f.runway ≡ Some t.runway
-own_runway f times values (Ready u) t is e = is.runway ∙ ap (option_map (λ (x : Target). x.runway)) e
-own_runway f times values (Early rule) t is e = cc
+own_runway f times values a t is e = grind (arith, common_steps)
 
 -- so each target has one
 targets_known : (d : DayRecord) (aims : List AimResult) → IsSound d
@@ -73,10 +72,7 @@ day_none_earlier d aims placing other plan sound e allowed sooner =
 -- so it is first
 pub day_first : (d : DayRecord) (aims : List AimResult) (placing : Placing) (plan : Plan) → IsSound d → IsDayPlanBy placing aims d plan
     → IsDayFirst aims d placing
-day_first d aims placing plan sound e = record {
-  allowed = day_allowed d aims placing plan sound.names e;
-  none_earlier = λ other allowed sooner. day_none_earlier d aims placing other plan sound e allowed sooner;
-}
+day_first d aims placing plan sound e = search (rules, day_allowed, day_none_earlier)
 
 -- and no other is
 pub day_first_one : (d : DayRecord) (aims : List AimResult) (p q : Placing) → IsDayFirst aims d p → IsDayFirst aims d q

@@ -1,10 +1,10 @@
 -- The flights that a journal makes known, and what no word refuses.
-use Rattle.std.proofs.Common.{◌≡◌, ℕ, ◌+◌, Bool, true, false, cond, ◌&&◌, ◌||◌, List, [], ◌∷◌, ◌++◌, length, Option, None, Some, refl, sym, ap, ◌∙◌, arith}
-use Rattle.cdm_plan.proofs.ListWords.{count_by, option_map_or, option_or, if◌then◌else◌, list_any, cons_option, IsDistinct, IsDistinct-push, append-nil}
+use Rattle.std.proofs.Common.{rules, []}
+use Rattle.std.proofs.Common.{◌≡◌, ℕ, ◌+◌, Bool, true, false, cond, ◌&&◌, ◌||◌, List, ◌∷◌, ◌++◌, length, Option, None, Some, refl, sym, ap, ◌∙◌, arith}
+use Rattle.cdm_plan.proofs.ListWords.{count_by, option_map_or, if◌then◌else◌, list_any, cons_option, IsDistinct, IsDistinct-push, append-nil}
 use Rattle.cdm_plan.proofs.ListWords.{filter_map-append, nat_list_eq_equiv}
-use Rattle.cdm_plan.proofs.PlanWords.{Update, flight_of_update, is_fresh, same_reach, AirportRows, flight_refusal, is_disordered, is_full, is_known}
-use Rattle.cdm_plan.proofs.PlanWords.{is_unknown, refusal_of}
-use Rattle.cdm_plan.proofs.PlanWords.{new_flight, flights_in, of_flight, reach_of, same_is, same_name, Flt}
+use Rattle.cdm_plan.proofs.PlanWords.{Update, flight_of_update, is_fresh, same_reach, AirportRows, is_disordered, is_full, is_known, is_unknown}
+use Rattle.cdm_plan.proofs.PlanWords.{refusal_of, new_flight, flights_in, of_flight, same_is, same_name, Flt}
 use Rattle.std.proofs.lemmas.Grind.{common_steps}
 use Rattle.cdm_flight.specs.declared.reach.Reach.{Reach}
 use Rattle.cdm_flight.specs.declared.reach.Reach.TheVariants as reach
@@ -12,20 +12,15 @@ use Rattle.cdm_flight.specs.declared.word.RefusalWord.TheVariants as word
 
 -- what has a name is something of this name
 pub some_named : (o : Option (List ℕ)) (k : List ℕ) → option_map_or (λ g. same_name g k) o false ≡ true → o ≡ Some k
-some_named None k h = cc
-some_named (Some g) k h = ap Some (same_is g k h)
+some_named o k h = search (rules, same_is)
 
 -- what is the same as a flight is that flight
 pub flight_named : (what : Reach) (f : List ℕ) → same_reach what (reach.Flight f) ≡ true → what ≡ reach.Flight f
-flight_named (reach.Flight g) f h = ap reach.Flight (same_is g f h)
-flight_named (reach.Runway r) f h = cc
-flight_named (reach.Taxi r) f h = cc
-flight_named reach.Day f h = cc
+flight_named what f h = search (rules, same_is)
 
 -- only FLT makes a flight known
 pub new_flight-old : (u : Update) → is_fresh u ≡ false → new_flight u ≡ None
-new_flight-old (Flt f p) h = cc
-new_flight-old _ h = refl
+new_flight-old u h = search rules
 
 pub flights_in-push : (a : List Update) (u : Update) → flights_in (a ++ u ∷ []) ≡ flights_in a ++ cons_option (new_flight u) []
 flights_in-push a u = filter_map-append new_flight a (u ∷ [])
@@ -34,8 +29,7 @@ count_by-cons : (p : Update → Bool) (u : Update) (a : List Update) → count_b
 count_by-cons p u a = grind (arith, common_steps)
 
 one_more : (u : Update) (xs : List (List ℕ)) → length (cons_option (new_flight u) xs) ≡ length xs + (if is_fresh u then 1 else 0)
-one_more (Flt f p) xs = omega arith
-one_more _ xs = omega arith
+one_more u xs = search rules
 
 -- as many as there are FLT
 pub length-flights_in : (a : List Update) → length (flights_in a) ≡ count_by is_fresh a
@@ -50,11 +44,7 @@ known-among (Flt g p ∷ a) f = by (same_name g f) ∙ λ i. nat_list_eq_equiv.s
     by : (b : Bool) → list_any is_fresh (cond b (Flt g p ∷ of_flight f a) (of_flight f a)) ≡ (b || is_known a f)
     by true = refl
     by false = refl
-known-among (u ∷ a) f = by (same_reach (reach_of u) (reach.Flight f)) ∙ known-among a f
-  where
-    by : (b : Bool) → list_any is_fresh (cond b (u ∷ of_flight f a) (of_flight f a)) ≡ is_known a f
-    by true = refl
-    by false = refl
+known-among (u ∷ a) f = grind (arith, common_steps, known-among a f)
 
 -- What no word refuses.
 
@@ -68,18 +58,9 @@ pub not_first : {X : Type 0} (b : Bool) (w : X) (rest : Option X) → (if b then
 not_first true w rest h = cc
 not_first false w rest h = (refl, h)
 
-or_last : {X : Type 0} (o p : Option X) → option_or o p ≡ None → p ≡ None
-or_last None p h = h
-or_last (Some x) p h = cc
-
 pub accepted_is : (g : AirportRows) (a : List Update) (u : Update) → refusal_of g a u ≡ None → IsAccepted g a u
 unfolding refusal_of
-accepted_is g a u good =
-    let known = not_first (is_unknown g a u) word.Unknown _ good in
-    let new = not_first (is_fresh u && option_map_or (is_known a) (flight_of_update u) false) word.Exists _ known.1 in
-    let ordered = not_first (is_disordered g a u) word.Order _ (or_last (flight_refusal g a u) _ new.1) in
-    let room = not_first (is_full g a u) word.Full _ ordered.1 in
-    record { known = known.0; new = new.0; ordered = ordered.0; room = room.0 }
+accepted_is g a u good = grind (arith, common_steps)
 
 -- each flight becomes known once
 pub names_after : (g : AirportRows) (a : List Update) (u : Update) → refusal_of g a u ≡ None → IsDistinct same_name (flights_in a)

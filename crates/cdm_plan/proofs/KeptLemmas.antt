@@ -1,28 +1,27 @@
 -- What updates do not touch stands.
-use Rattle.std.proofs.Common.{◌≡◌, ℕ, Bool, true, false, ◌&&◌, not, cond, filter, List, [], ◌∷◌, ◌++◌, Option, None, Some, IfSome, refl, sym, ◌∙◌, ap, subst}
+use Rattle.std.proofs.lemmas.Grind.{common_steps}
+use Rattle.std.proofs.Common.{arith, rules, []}
+use Rattle.std.proofs.Common.{◌≡◌, ℕ, Bool, true, false, ◌&&◌, not, cond, filter, List, ◌∷◌, ◌++◌, Option, None, Some, IfSome, refl, sym, ◌∙◌, ap, subst}
 use Rattle.std.proofs.lemmas.Bool.{and_left, and_right, true≢false}
 use Rattle.cdm_plan.proofs.ListWords.{is_some, option_map_or, if◌then◌else◌, All, Contains, cons_option, filter_map, find, flat_map, append-nil}
 use Rattle.cdm_plan.proofs.ListWords.{filter-append, filter_map-append, filter_map-filter, filter_map_same, Contains-permutation, IsPermutation, IsPermutation-filter}
 use Rattle.cdm_plan.proofs.ListWords.{IsPermutation-refl, IsPermutation-sym, All-head, All-tail, All-weaker, All-permutation}
 use Rattle.cdm_plan.proofs.ListWords.{contains_from_given, contains_from_map, contains_map, if_so, one_of_key}
-use Rattle.cdm_plan.proofs.PlanWords.{DayValues, RunwayRow, Place, Update, reach_of, same_name, same_reach, Flight, is_planned, taxi_out, flight_of}
-use Rattle.cdm_plan.proofs.PlanWords.{values_of, values_of-untouched, taxi_of, taxi_of-untouched, flight_of-untouched}
-use Rattle.cdm_plan.proofs.PlanWords.{RunwayRules, TaxiTimes, Slot, fixed_slot, takeoffs, IsAim, IsSequence, IsSequenceBy}
-use Rattle.cdm_plan.proofs.PlanWords.{Plan, RunwayPlan, Target, AimResult, BlockedFlight, aim_means, aim_of, aim_with, aim_with_exot}
-use Rattle.cdm_plan.proofs.PlanWords.{is_same, same_flips, same_is, if_on, if_passes, DayRecord, flights_in, new_flight, rules_of, with_update, IsDayPlan}
-use Rattle.cdm_plan.proofs.PlanWords.{day_rules, records_in, is_on, blocked_in, early_in, planned_of, target_in, targets_in, targets_on, fixed_on, Adds, AreAims}
-use Rattle.cdm_plan.proofs.PlanWords.{AreKept, AreSameElsewhere, IsMade, IsPlanOn, IsSince, counts, fixed_in, is_counted, is_early, is_kept_blocked, is_noted}
-use Rattle.cdm_plan.proofs.PlanWords.{counted_on, is_touched, is_untouched}
-use Rattle.cdm_plan.proofs.PlanWords.{kept_blocked, kept_of, kept_plan, Flt, Early, Ready}
+use Rattle.cdm_plan.proofs.PlanWords.{DayValues, RunwayRow, Place, Update, reach_of, same_name, same_reach, Flight, is_planned, flight_of, values_of}
+use Rattle.cdm_plan.proofs.PlanWords.{values_of-untouched, taxi_of, taxi_of-untouched, flight_of-untouched, RunwayRules, TaxiTimes, Slot, fixed_slot}
+use Rattle.cdm_plan.proofs.PlanWords.{takeoffs, IsSequence, IsSequenceBy, Plan, RunwayPlan, Target, AimResult, BlockedFlight, aim_means, aim_of}
+use Rattle.cdm_plan.proofs.PlanWords.{is_same, same_flips, same_is, if_on, if_passes, DayRecord, flights_in, new_flight, rules_of, with_update}
+use Rattle.cdm_plan.proofs.PlanWords.{IsDayPlan, day_rules, records_in, is_on, blocked_in, early_in, planned_of, target_in, targets_in, targets_on}
+use Rattle.cdm_plan.proofs.PlanWords.{fixed_on, Adds, AreAims, AreKept, AreSameElsewhere, IsMade, IsPlanOn, IsSince, counts, fixed_in, is_counted}
+use Rattle.cdm_plan.proofs.PlanWords.{is_early, is_kept_blocked, is_noted, counted_on, is_touched, is_untouched, kept_blocked, kept_of, kept_plan}
 use Rattle.cdm_flight.specs.declared.reach.Reach.{Reach}
 use Rattle.cdm_flight.specs.declared.reach.Reach.TheVariants as reach
 use Rattle.cdm_sequence.specs.Plan.{Placing, taken_before}
 use Rattle.cdm_sequence.specs.Sequence.{Blocks, IsRightlyBlocked}
 use Rattle.cdm_runway.specs.declared.load.Taken.{Taken}
 use Rattle.cdm_sequence.specs.declared.rule.Rule.{Rule}
-use Rattle.cdm_sequence.specs.declared.rule.Rule.TheVariants.{Tobt, Runway, Exot, Horizon, Ctot, Closure, Spacing, Rate}
+use Rattle.cdm_sequence.specs.declared.rule.Rule.TheVariants.{Runway}
 use Rattle.cdm_plan.specs.declared.touched.Noting.{Noting}
-use Rattle.cdm_plan.specs.declared.touched.Noting.TheVariants.{EachFlight, CountedFlights}
 use Rattle.cdm_plan.specs.declared.touched.Touched.{Touched}
 use Rattle.cdm_plan.specs.declared.touched.Touched.TheVariants as touched
 use Rattle.cdm_plan.proofs.AskedLemmas.{both, untouched_counts, untouched_on, untouched_runway}
@@ -32,7 +31,7 @@ use Rattle.cdm_plan.proofs.DayPlanLemmas.{has_sequence, is_plan_on, record_name,
 use Rattle.cdm_plan.proofs.NameLemmas.{day_rules_differ, find_none, find_some}
 use Rattle.cdm_plan.proofs.OnePlanLemmas.{partner}
 use Rattle.cdm_plan.proofs.PlanningLemmas.{AllZip-weaker, aims_are, all_zipped, blocked_early, early-aims, early-given, early_at, filter-filter_map}
-use Rattle.cdm_plan.proofs.PlanningLemmas.{fixed_at, fixed_on-given, if_so-keeps, made_named, names_on, no_aim_at, no_fixed_at, no_target_at, target_at}
+use Rattle.cdm_plan.proofs.PlanningLemmas.{fixed_on-given, made_named, names_on, no_aim_at, no_fixed_at, no_target_at, target_at}
 use Rattle.cdm_plan.proofs.PlanningLemmas.{targets_of, targets_on-given}
 use Rattle.cdm_plan.proofs.RunwayLemmas.{rules-same}
 
@@ -40,25 +39,20 @@ use Rattle.cdm_plan.proofs.RunwayLemmas.{rules-same}
 
 module _ (n : Noting) (d : DayRecord) (r : List ℕ) where
   no_value : (what : Reach) → is_noted n d what r ≡ false → same_reach what reach.Day ≡ false
-  no_value reach.Day h = cc
-  no_value _ h = refl
+  no_value what h = search rules
 
   no_taxi : (what : Reach) → is_noted n d what r ≡ false → same_reach what (reach.Taxi r) ≡ false
-  no_taxi (reach.Taxi s) h = h
-  no_taxi _ h = refl
+  no_taxi what h = search rules
 
   no_rule : (what : Reach) → is_noted n d what r ≡ false → same_reach what (reach.Runway r) ≡ false
-  no_rule (reach.Runway s) h = h
-  no_rule _ h = refl
+  no_rule what h = search rules
 
 fresh_is : (u : Update) (f : List ℕ) → new_flight u ≡ Some f → reach_of u ≡ reach.Flight f
-fresh_is (Flt g p) f e = let same : g ≡ f = cc in ap reach.Flight same
-fresh_is _ f e = cc
+fresh_is u f e = search rules
 
 -- a flight that counts is among those whose updates touch their runway
 counted : (n : Noting) (f : Flight) → counts f ≡ true → is_counted n f ≡ true
-counted EachFlight f h = refl
-counted CountedFlights f h = h
+counted n f h = search rules
 
 -- the flights that pass count on runways that are not of what is touched
 abbrev IsOff : Noting → DayRecord → Reach → (Flight → Bool) → Type 0
@@ -67,35 +61,14 @@ IsOff n d what test = (f : Flight) → test f ≡ true → (r : List ℕ) × (f.
 -- so the flight that is touched does not pass
 none_passes : (n : Noting) (d : DayRecord) (what : Reach) (k : List ℕ) (test : Flight → Bool) → IsOff n d what test → what ≡ reach.Flight k
     → if_passes test (flight_of d.airport d.journal k) ≡ None
-none_passes n d what k test off e = by (flight_of d.airport d.journal k) refl
-  where
-    passes : (f : Flight) → flight_of d.airport d.journal k ≡ Some f → (b : Bool) → test f ≡ b → (if b then Some f else None) ≡ None
-    passes f h false p = refl
-    passes f h true p =
-        let at = off f p in
-        let on : is_on at.0 f ≡ true = ap (λ o. option_map_or (λ s. same_name s at.0) o false) at.1 ∙ is_same at.0 at.0 refl in
-        let noted : is_noted n d what at.0 ≡ true =
-        ap (λ w. is_noted n d w at.0) e ∙ (ap (λ o. option_map_or (λ x. is_counted n x && is_on at.0 x) o false) h
-        ∙ (λ i. counted n f at.3 i && on i)) in
-        absurd (true≢false (sym noted ∙ at.2))
-
-    by : (o : Option Flight) → flight_of d.airport d.journal k ≡ o → if_passes test o ≡ None
-    by None h = refl
-    by (Some f) h = passes f h (test f) refl
+none_passes n d what k test off e = search (rules, counted)
 
 -- where the flight that is touched does not pass, neither before nor after
 module _ (d : DayRecord) (u : Update) (test : Flight → Bool) (before : (k : List ℕ) → reach_of u ≡ reach.Flight k → if_passes test (flight_of d.airport d.journal k) ≡ None)
     (after : (k : List ℕ) → reach_of u ≡ reach.Flight k → if_passes test (flight_of d.airport (d.journal ++ u ∷ []) k) ≡ None) where
   -- the flights that pass are the same after the update
   flight_same : (k : List ℕ) → if_passes test (flight_of d.airport d.journal k) ≡ if_passes test (flight_of d.airport (d.journal ++ u ∷ []) k)
-  flight_same k = by (same_reach (reach_of u) (reach.Flight k)) refl
-    where
-      by : (b : Bool) → same_reach (reach_of u) (reach.Flight k) ≡ b
-          → if_passes test (flight_of d.airport d.journal k) ≡ if_passes test (flight_of d.airport (d.journal ++ u ∷ []) k)
-      by false h = ap (if_passes test) (sym (flight_of-untouched k d.airport d.journal u h))
-      by true h =
-          let of_it = flight_named (reach_of u) k h in
-          before k of_it ∙ sym (after k of_it)
+  flight_same k = search (rules, flight_of-untouched, flight_named)
 
   pub flights_same : filter test (records_in d.airport d.journal) ≡ filter test (records_in d.airport (d.journal ++ u ∷ []))
   flights_same =
@@ -109,48 +82,20 @@ module _ (d : DayRecord) (u : Update) (test : Flight → Bool) (before : (k : Li
       ∙ sym (filter-filter_map test (flight_of d.airport (d.journal ++ u ∷ [])) (flights_in (d.journal ++ u ∷ [])))))
     where
       new : (o : Option (List ℕ)) → new_flight u ≡ o → filter_map (λ k. if_passes test (flight_of d.airport (d.journal ++ u ∷ []) k)) (cons_option o []) ≡ []
-      new None e = refl
-      new (Some f) e = ap (λ (x : Option Flight). cons_option x []) (after f (fresh_is u f e))
+      new o e = search (rules, fresh_is)
+
+-- what an update leaves that touches something else
+ruleset what_stays = (rules-same, no_rule, taxi_of-untouched, no_taxi, values_of-untouched, no_value)
 
 -- since the first day, after one more update
 pub since_taken : (n : Noting) (first d next : DayRecord) (s m t : Touched) (u : Update) → next ≡ with_update d u → Adds s (is_noted n d (reach_of u)) m
     → Adds m (is_noted n next (reach_of u)) t → IsSince first s d → IsSince first t next
 since_taken n first d next s m t u is more later since =
-    let what = reach_of u in
-    let further : Adds m (is_noted n (with_update d u) what) t = subst (λ (x : DayRecord). Adds m (is_noted n x what) t) is later in
-    let earlier : (r : List ℕ) → is_touched t r ≡ false → (is_touched s r ≡ false) × (is_noted n d what r ≡ false) = λ r h. more r (further r h).0 in
-    let standing : (f : Flight) → is_untouched t f ≡ true → is_untouched s f ≡ true = λ f h.
-    let at = untouched_runway t f h in untouched_on s f at.0 (untouched_counts t f h) at.1 (earlier at.0 at.2).0 in
-    let off : IsOff n d what (is_untouched t) = λ f h.
-    let at = untouched_runway t f h in (at.0, at.1, (earlier at.0 at.2).1, untouched_counts t f h) in
-    let none : (test : Flight → Bool) → ((f : Flight) → test f ≡ true → is_untouched t f ≡ true) → (k : List ℕ) → what ≡ reach.Flight k
-    → if_passes test (flight_of d.airport d.journal k) ≡ None = λ test among k. none_passes n d what k test (λ f h. off f (among f h)) in
-    let still_off : IsOff n (with_update d u) what (is_untouched t) = λ f h.
-    let at = untouched_runway t f h in (at.0, at.1, (further at.0 at.2).1, untouched_counts t f h) in
-    let still_none : (test : Flight → Bool) → ((f : Flight) → test f ≡ true → is_untouched t f ≡ true) → (k : List ℕ) → what ≡ reach.Flight k
-    → if_passes test (flight_of d.airport (d.journal ++ u ∷ []) k) ≡ None =
-    λ test among k. none_passes n (with_update d u) what k test (λ f h. still_off f (among f h)) in
-    subst (IsSince first t) (sym is) (record {
-      airport = since.airport;
-      flight = λ test among k. since.flight test (λ f h. standing f (among f h)) k ∙ flight_same d u test (none test among) (still_none test among) k;
-      flights = λ test among. since.flights test (λ f h. standing f (among f h)) ∙ flights_same d u test (none test among) (still_none test among);
-      rules = λ row h.
-          since.rules row (earlier row.name h).0 ∙ rules-same d.airport d.journal row u (no_rule n d row.name what (earlier row.name h).1);
-      taxi = λ r h place.
-          since.taxi r (earlier r h).0 place ∙ sym (taxi_of-untouched d.airport d.journal u place r (no_taxi n d r what (earlier r h).1));
-      values = λ r h. since.values r (earlier r h).0 ∙ sym (values_of-untouched d.journal u (no_value n d r what (earlier r h).1));
-    })
+    search (rules, what_stays, untouched_runway, untouched_on, untouched_counts, none_passes, flight_same, flights_same)
 
 -- at first nothing changed
 pub since_itself : (d : DayRecord) (t : Touched) → IsSince d t d
-since_itself d t = record {
-  airport = refl;
-  flight = λ test among k. refl;
-  flights = λ test among. refl;
-  rules = λ row h. refl;
-  taxi = λ r h place. refl;
-  values = λ r h. refl;
-}
+since_itself d t = search rules
 
 -- What stands of the first day's plan.
 
@@ -158,11 +103,7 @@ since_itself d t = record {
 same_aim : (f : Flight) (r : List ℕ) → f.runway ≡ Some r → (s t : TaxiTimes) (values : DayValues) → ((place : Place) → s place r ≡ t place r)
     → aim_of f s values ≡ aim_of f t values
 unfolding aim_of
-same_aim f r e s t values same = ap (aim_with f s values f.tobt) e ∙ (go f.tobt ∙ sym (ap (aim_with f t values f.tobt) e))
-  where
-    go : (o : Option ℕ) → aim_with f s values o (Some r) ≡ aim_with f t values o (Some r)
-    go None = refl
-    go (Some tobt) = λ i. aim_with_exot f values tobt r (taxi_out (λ place. same place i) f.stand f.ice)
+same_aim f r e s t values same = grind (arith, common_steps)
 
 -- the flights that count on a runway
 abbrev counts_on : List ℕ → Flight → Bool
@@ -170,46 +111,22 @@ counts_on r f = counts f && is_on r f
 
 -- the fixed flights and the targets of a runway are those of the flights that count there
 fixed_on-own : (r : List ℕ) (fs : List Flight) → fixed_on r fs ≡ filter_map fixed_slot (filter (counts_on r) fs)
-fixed_on-own r fs =
-    fixed_on-given r fs ∙ ((λ i. filter_map (λ f. own f (counts f) refl i) fs) ∙ sym (filter_map-filter fixed_slot (counts_on r) fs))
-  where
-    own : (f : Flight) (b : Bool) → counts f ≡ b → fixed_at r f ≡ if_so (b && is_on r f) (fixed_slot f)
-    own f true e = refl
-    own f false e = no_fixed_at r f e
+fixed_on-own r fs = search (rules, fixed_on-given, filter_map-filter, no_fixed_at)
 
 targets_on-own : (r : List ℕ) (times : TaxiTimes) (values : DayValues) (fs : List Flight)
     → targets_on r (targets_of fs times values) ≡ filter_map (target_at r times values) (filter (counts_on r) fs)
-targets_on-own r times values fs =
-    targets_on-given r times values fs
-    ∙ ((λ i. filter_map (λ f. own f (counts f) (is_on r f) refl refl i) fs) ∙ sym (filter_map-filter (target_at r times values) (counts_on r) fs))
-  where
-    own : (f : Flight) (b c : Bool) → counts f ≡ b → is_on r f ≡ c → target_at r times values f ≡ if_so (b && c) (target_at r times values f)
-    own f true true h e = refl
-    own f true false h e = no_target_at r times values f e
-    own f false c h e = no_aim_at r times values f h
+targets_on-own r times values fs = search (rules, targets_on-given, filter_map-filter, no_target_at, no_aim_at)
 
 -- what is blocked early has its flight's name, and an early rule
 abbrev IsEarlyOf : Flight → BlockedFlight → Type 0
 IsEarlyOf f b = (b.name ≡ f.name) × (is_early b.rule ≡ true)
 
 early_of : (times : TaxiTimes) (values : DayValues) (f : Flight) → IfSome (early_at times values f) (IsEarlyOf f)
-early_of times values f = if_so-keeps (IsEarlyOf f) (is_planned f.status) (blocked_in f.name (aim_of f times values)) (by (aim_of f times values) (aim_means f times values))
-  where
-    by : (a : AimResult) → IsAim f times values a → IfSome (blocked_in f.name a) (IsEarlyOf f)
-    by (Ready t) is = tt
-    by (Early Tobt) is = (refl, refl)
-    by (Early Runway) is = (refl, refl)
-    by (Early Exot) is = (refl, refl)
-    by (Early Horizon) is = (refl, refl)
-    by (Early Ctot) is = (refl, refl)
-    by (Early _) is = absurd is
+early_of times values f = search (rules, aim_means)
 
 -- the runway's traffic blocks by other rules
 late_rule : (r : RunwayRules) (taken : List Taken) (f : Target) (rule : Rule) → Blocks r taken f rule → is_early rule ≡ false
-late_rule r taken f Closure h = refl
-late_rule r taken f Spacing h = refl
-late_rule r taken f Rate h = refl
-late_rule r taken f _ h = absurd h
+late_rule r taken f rule h = search rules
 
 abbrev IsLate : BlockedFlight → Type 0
 IsLate b = is_early b.rule ≡ false
@@ -280,12 +197,7 @@ module _ (first d : DayRecord) (t : Touched) (since : IsSince first t d) where
       ∙ (ap (filter_map (early_at times_now values_now)) (since.flights (is_untouched t) (λ f h. h)) ∙ sym (early-given times_now values_now (kept_of t flights_now))))))
     where
       passes : (o : Option Flight) → option_map_or (is_untouched t) o false ≡ is_some (if_passes (is_untouched t) o)
-      passes None = refl
-      passes (Some f) = by (is_untouched t f)
-        where
-          by : (b : Bool) → b ≡ is_some (if b then Some f else None)
-          by true = refl
-          by false = refl
+      passes o = search rules
 
       -- it is kept now as it was
       found : (f : Flight) → Contains flights_first f → option_map_or (is_untouched t) (flight_of d.airport d.journal f.name) false ≡ is_untouched t f
@@ -298,17 +210,11 @@ module _ (first d : DayRecord) (t : Touched) (since : IsSince first t d) where
 
       out : (f : Flight) → option_map_or (is_untouched t) (flight_of d.airport d.journal f.name) false ≡ false → (o : Option BlockedFlight)
           → IfSome o (IsEarlyOf f) → if_passes (is_kept_blocked d t) o ≡ None
-      out f now None h = refl
-      out f now (Some b) h =
-          let there = ap (λ n. option_map_or (is_untouched t) (flight_of d.airport d.journal n) false) h.0 ∙ now in
-          ap (λ x. if x then Some b else None) (and_right (is_early b.rule) _ there)
+      out f now o h = search (rules, and_right)
 
       stay : (f : Flight) → option_map_or (is_untouched t) (flight_of d.airport d.journal f.name) false ≡ true → (o : Option BlockedFlight)
           → IfSome o (IsEarlyOf f) → if_passes (is_kept_blocked d t) o ≡ o
-      stay f now None h = refl
-      stay f now (Some b) h =
-          let there = ap (λ n. option_map_or (is_untouched t) (flight_of d.airport d.journal n) false) h.0 ∙ now in
-          ap (λ x. if x then Some b else None) (λ i. h.1 i && there i)
+      stay f now o h = search rules
 
       each : (f : Flight) → option_map_or (is_untouched t) (flight_of d.airport d.journal f.name) false ≡ is_untouched t f → (b : Bool) → is_untouched t f ≡ b
           → if_passes (is_kept_blocked d t) (early_at times_first values_first f) ≡ if_so b (early_at times_now values_now f)
@@ -329,8 +235,7 @@ module _ (first d : DayRecord) (t : Touched) (since : IsSince first t d) where
       none [] late = refl
       none (b ∷ bs) late =
           let here = and_left (is_early b.rule) (option_map_or (is_untouched t) (flight_of d.airport d.journal b.name) false) (All-head IsLate b bs late) in
-          ap (λ x. cond x (b ∷ filter (is_kept_blocked d t) bs) (filter (is_kept_blocked d t) bs)) here
-          ∙ none bs (All-tail IsLate b bs late)
+          ap (λ x. cond x (b ∷ filter (is_kept_blocked d t) bs) (filter (is_kept_blocked d t) bs)) here ∙ none bs (All-tail IsLate b bs late)
 
   -- a runway of the day is one of the first day's rows
   its_row : (r : RunwayRules) → Contains (day_rules d) r
@@ -386,13 +291,7 @@ module _ (first d : DayRecord) (t : Touched) (since : IsSince first t d) where
         subst (λ (x : RunwayRules). IsPlanOn d x p) row.3 (still_planned row.0 p (ap (is_touched t) row.1 ∙ h) here)
 
     plan_stands : (r : RunwayRules) (p : RunwayPlan) → Contains (day_rules d) r → kept_plan t plan.runways r.name ≡ Some p → IsPlanOn d r p
-    plan_stands r p i e = by (is_touched t r.name) refl e
-      where
-        by : (b : Bool) → is_touched t r.name ≡ b → (if b then None else find (λ p. same_name p.runway r.name) plan.runways) ≡ Some p → IsPlanOn d r p
-        by true h k = cc
-        by false h k =
-            let found = find_some (λ (p : RunwayPlan). same_name p.runway r.name) plan.runways p k in
-            named_stands r p i found.0 (same_is p.runway r.name found.1) h
+    plan_stands r p i e = search (rules, find_some, named_stands, same_is)
 
     early_stands : (aims : List AimResult) → AreAims (kept_of t flights_now) times_now values_now aims
         → IsPermutation (early_in (kept_of t flights_now) aims) (kept_blocked d t plan.blocked)
@@ -421,11 +320,7 @@ module _ (first d : DayRecord) (t : Touched) (since : IsSince first t d) where
 
 -- what was not touched of the first day's plan stands
 pub kept_since : (first d : DayRecord) (t : Touched) (plan : Plan) → IsMade first plan → IsSince first t d → AreKept d t plan.runways plan.blocked
-kept_since first d t plan made since = record {
-  all = runway_stands first d t since plan made;
-  right = plan_stands first d t since plan made;
-  early = early_stands first d t since plan made;
-}
+kept_since first d t plan made since = search (rules, runway_stands, plan_stands, early_stands)
 
 -- a runway that was not touched has the same plan on both days
 pub same_elsewhere : (first d : DayRecord) (t : Touched) (plan next : Plan) → IsMade first plan → IsMade d next → IsSince first t d
@@ -454,8 +349,7 @@ none_kept d = record {
   early = λ aims are. subst (λ (fs : List Flight). IsPermutation (early_in fs aims) []) (sym (none (records_in d.airport d.journal))) (IsPermutation-refl []);
 } where
   off : (r : Option (List ℕ)) → option_map_or (λ s. not (is_touched touched.All s)) r false ≡ false
-  off None = refl
-  off (Some s) = refl
+  off o = search rules
 
   none : (fs : List Flight) → kept_of touched.All fs ≡ []
   none [] = refl

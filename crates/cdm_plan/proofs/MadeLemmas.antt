@@ -1,13 +1,14 @@
 -- The steps to a plan: what planned flights could have, the plans of runways that stand, and the others.
-use Rattle.std.proofs.Common.{Bor, ◌≡◌, ℕ, Bool, true, false, cond, List, [], ◌∷◌, ◌++◌, Option, None, Some, refl, ◌∙◌, ap, subst, arith, map, filter, length}
-use Rattle.cdm_plan.proofs.ListWords.{is_none, All, All-head, All-tail, AllZip, Contains, cons_option, filter_map, flat_map, find, if◌then◌else◌, IsPermutation}
+use Rattle.std.proofs.Common.{[]}
+use Rattle.std.proofs.Common.{rules, Bor, ◌≡◌, ℕ, true, cond, List, ◌∷◌, ◌++◌, Option, None, Some, refl, ◌∙◌, ap, subst, arith, map, filter, length}
+use Rattle.std.proofs.lemmas.Grind.{common_steps}
+use Rattle.cdm_plan.proofs.ListWords.{is_none, All, All-head, All-tail, AllZip, Contains, cons_option, filter_map, IsPermutation}
 use Rattle.cdm_plan.proofs.ListWords.{IsPermutation-append_comm, IsPermutation-append_left, IsPermutation-append_right, All-contains, All-weaker}
 use Rattle.cdm_plan.proofs.ListWords.{IsPermutation-middle, IsPermutation-refl, IsPermutation-sym, IsPermutation-trans, contains_head, contains_map}
 use Rattle.cdm_plan.proofs.ListWords.{Contains-permutation, contains_tail, filter_passes, filter_same, length_permutation}
-use Rattle.cdm_plan.proofs.PlanWords.{DayValues, Flight, is_planned, values_of, taxi_of, RunwayRules, TaxiTimes, IsSequence}
-use Rattle.cdm_plan.proofs.PlanWords.{Plan, RunwayPlan, BlockedFlight, CanSequence, IsAimed, IsAimedBy, early_among, target_for, DayRecord, same_name}
-use Rattle.cdm_plan.proofs.PlanWords.{day_rules, records_in, HasParts, fixed_on, planned_of, AreKept, Together, kept_plan}
-use Rattle.cdm_plan.proofs.PlanWords.{asked_of, is_touched, kept_blocked, kept_of}
+use Rattle.cdm_plan.proofs.PlanWords.{DayValues, Flight, is_planned, values_of, taxi_of, RunwayRules, TaxiTimes, IsSequence, Plan, RunwayPlan}
+use Rattle.cdm_plan.proofs.PlanWords.{BlockedFlight, CanSequence, IsAimed, IsAimedBy, early_among, target_for, DayRecord, day_rules, records_in}
+use Rattle.cdm_plan.proofs.PlanWords.{HasParts, fixed_on, planned_of, AreKept, Together, kept_plan, asked_of, is_touched, kept_blocked, kept_of}
 use Rattle.cdm_plan.specs.declared.aimed.Aimed.{Aimed}
 use Rattle.cdm_plan.specs.declared.aimed.Asked.{Asked}
 use Rattle.cdm_plan.specs.declared.touched.Touched.{Touched}
@@ -37,15 +38,7 @@ aims_of d t = map (aimed (times_of d) (values_of d.journal)) (planned_of (asked_
 -- a runway has no plan that stands where it was touched, if each that was not touched has one
 none_stands : (t : Touched) (old : List RunwayPlan) (r : List ℕ) → (kept_plan t old r ≡ None → is_touched t r ≡ true)
     → is_touched t r ≡ is_none (kept_plan t old r)
-none_stands t old r h = by (kept_plan t old r) refl
-  where
-    not_touched : (b : Bool) (o : Option RunwayPlan) (p : RunwayPlan) → (if b then None else o) ≡ Some p → b ≡ false
-    not_touched true o p e = cc
-    not_touched false o p e = refl
-
-    by : (o : Option RunwayPlan) → kept_plan t old r ≡ o → is_touched t r ≡ is_none o
-    by None e = h e
-    by (Some p) e = not_touched (is_touched t r) (find (λ p. same_name p.runway r) old) p e
+none_stands t old r h = grind (arith, common_steps)
 
 module _ {X Y : Type 0} (R : X → Y → Type 0) (stands : X → Option Y) where
   -- what stands, and what was made where nothing does, goes with all
@@ -77,30 +70,20 @@ module _ {X Y : Type 0} (R : X → Y → Type 0) (stands : X → Option Y) where
 AllZip-weaker_at : {X Y : Type 0} (R S : X → Y → Type 0) (xs : List X) (ys : List Y) → ((x : X) (y : Y) → Contains xs x → R x y → S x y) → AllZip R xs ys
     → AllZip S xs ys
 AllZip-weaker_at R S [] [] h all = tt
-AllZip-weaker_at R S (x ∷ xs) (y ∷ ys) h all = (
-  h x y (contains_head x xs) all.0,
-  AllZip-weaker_at R S xs ys (λ u v i. h u v (contains_tail x xs u i)) all.1,
-)
+AllZip-weaker_at R S (x ∷ xs) (y ∷ ys) h all = grind (arith, common_steps, AllZip-weaker_at R S xs ys (λ u v i. h u v (contains_tail x xs u i)) all.1)
 AllZip-weaker_at R S _ _ h all = absurd all
 
 -- parts of a plan with the early blocked flights in another order
 HasParts-reordered : (early others : List BlockedFlight) (plans : List RunwayPlan) (plan : Plan) → IsPermutation others early
     → HasParts early plans plan → HasParts others plans plan
-HasParts-reordered early others plans plan same parts = record {
-  runways = parts.runways;
-  runway_order = parts.runway_order;
-  blocked = IsPermutation-trans _ _ _ (IsPermutation-append_left (flat_map (λ p. p.blocked) plan.runways) others early same) parts.blocked;
-  blocked_order = parts.blocked_order;
-}
+HasParts-reordered early others plans plan same parts = search (rules, IsPermutation-trans, IsPermutation-append_left)
 
 -- what the flights of asked ones could have by their taxi-out times
 aimed_by : (times : TaxiTimes) (values : DayValues) (asked : List Asked) (aims : List Aimed) → All (HasExot times) asked
     → AllZip (λ a out. IsAimedBy values a.flight.now a.exot out) asked aims → AllZip (IsAimed times values) (map (λ a. a.flight.now) asked) aims
 aimed_by times values [] [] has all = tt
-aimed_by times values (a ∷ asked) (out ∷ aims) has all = (
-  record { name = all.0.name; aim = all.0.aim times (All-head (HasExot times) a asked has) },
-  aimed_by times values asked aims (All-tail (HasExot times) a asked has) all.1,
-)
+aimed_by times values (a ∷ asked) (out ∷ aims) has all =
+    search (rules, All-head, All-tail, aimed_by times values asked aims (All-tail (HasExot times) a asked has) all.1)
 aimed_by times values _ _ has all = absurd all
 
 module _ {d : DayRecord} {t : Touched} {w : Work} (is : IsWork d t w) where
@@ -125,10 +108,7 @@ module _ {d : DayRecord} {t : Touched} {w : Work} (is : IsWork d t w) where
         ∙ (λ i. map (aimed (times_of d) (values_is i)) (is.asked i))
 
     targets_are : (r : List ℕ) → is_touched t r ≡ true → filter_map (target_for r) aims ≡ targets_at d r
-    targets_are r h =
-        ap (filter_map (target_for r)) aims_are
-        ∙ (targets-among r (times_of d) (values_of d.journal) (asked_of t (flights_of d))
-        ∙ targets-asked t r h (times_of d) (values_of d.journal) (flights_of d))
+    targets_are r h = search (rules, aims_are, targets-among, targets-asked)
 
     -- each runway that is left can be sequenced
     pub work_can : All (λ r. CanSequence (fixed_on r.now.name (map now w.gone.items)) (filter_map (target_for r.now.name) aims)) w.left.items

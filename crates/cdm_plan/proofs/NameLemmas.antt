@@ -1,16 +1,15 @@
 -- The runways by name.
-use Rattle.std.proofs.Common.{◌≡◌, ℕ, ◌+◌, ◌≤◌, Bool, true, false, cond, List, [], ◌∷◌, ◌++◌, length, take, drop, map, Option, None, Some, refl, sym, ap}
-use Rattle.std.proofs.Common.{◌∙◌, subst, true≢false, zero, suc, add-one, ◌<◌, get_or, arith}
-use Rattle.cdm_plan.proofs.ListWords.{is_some, slice_get, if◌then◌else◌, option_map, is_lt, Contains, cons_option, find}
-use Rattle.cdm_plan.proofs.ListWords.{IsDistinct, IsPermutation, same_text, false_from_ne_true, length-map}
-use Rattle.cdm_plan.proofs.ListWords.{take_all}
-use Rattle.cdm_plan.proofs.ListWords.{list_any_at, Contains-permutation, IsPermutation-refl}
-use Rattle.cdm_plan.proofs.ListWords.{IsPermutation-sym, IsPermutation-trans, IsPermutation-append_right, IsPermutation-map}
-use Rattle.cdm_plan.proofs.ListWords.{IsPermutation-middle, IsSortedBy, length_permutation, nat_list_cmp_total, ranks_by}
+use Rattle.std.proofs.lemmas.Grind.{common_steps}
+use Rattle.std.proofs.Common.{◌≡◌, ℕ, ◌+◌, ◌≤◌, Bool, true, false, cond, List, ◌∷◌, ◌++◌, length, take, drop, map, Option, None, Some, refl, sym, ap}
+use Rattle.std.proofs.Common.{◌∙◌, subst, true≢false, zero, suc, add-one, ◌<◌, get_or, arith, rules, []}
+use Rattle.cdm_plan.proofs.ListWords.{is_some, slice_get, if◌then◌else◌, option_map, is_lt, Contains, cons_option, find, IsDistinct, IsPermutation}
+use Rattle.cdm_plan.proofs.ListWords.{same_text, false_from_ne_true, length-map, take_all, list_any_at, Contains-permutation, IsPermutation-refl}
+use Rattle.cdm_plan.proofs.ListWords.{IsPermutation-sym, IsPermutation-trans, IsPermutation-append_right, IsPermutation-map, IsPermutation-middle}
+use Rattle.cdm_plan.proofs.ListWords.{IsSortedBy, length_permutation, nat_list_cmp_total, ranks_by, IsDistinct-IsPermutation, contains_head}
+use Rattle.cdm_plan.proofs.ListWords.{contains_tail, list_any-find, one_of_key}
 use Rattle.std.proofs.lemmas.List.{get_or-map}
 use Rattle.cdm_flight.proofs.Lists.{sorted_rest}
 use Rattle.cdm_sequence.proofs.OneLemmas.{one_order}
-use Rattle.cdm_plan.proofs.ListWords.{IsDistinct-IsPermutation, contains_head, contains_tail, list_any-find, one_of_key}
 use Rattle.cdm_plan.proofs.PlanWords.{RunwayRow, Update, no_spacing, same_name, name_cmp, AirportRows, runway_row, RunwayRules, same_flips, IsAirport, runway_names}
 use Rattle.cdm_plan.proofs.PlanWords.{rules_of, AreByName, DayRecord, IsRunwayAt, day_rules, is_same, tied_names}
 
@@ -95,13 +94,7 @@ is_below x y = is_lt (name_cmp x.name y.name)
 
 -- one more in front of a list that rises
 rise_more : (x : RunwayRow) (ys : List RunwayRow) → ((d : RunwayRow) → 0 < length ys → is_below (get_or ys 0 d) x ≡ false) → IsSortedBy is_below ys → IsSortedBy is_below (x ∷ ys)
-rise_more x ys first up = at
-  where
-    at : (k : ℕ) (d : RunwayRow) → 0 ≤ k → k + 1 < length (x ∷ ys) → is_below (get_or (x ∷ ys) (k + 1) d) (get_or (x ∷ ys) k d) ≡ false
-    at zero d a b = first d (omega arith)
-    at (suc k) d a b =
-        let next : suc (k + 1) ≡ suc k + 1 = omega arith in
-        subst (λ n. is_below (get_or (x ∷ ys) n d) (get_or ys k d) ≡ false) next (up k d (omega arith) (omega arith))
+rise_more x ys first up = search rules
 
 -- its first is one of two
 put_first : (x : RunwayRow) (ys : List RunwayRow) (y d : RunwayRow) → is_below x y ≡ false → ((d : RunwayRow) → 0 < length ys → is_below (get_or ys 0 d) y ≡ false)
@@ -132,13 +125,7 @@ find-map : (g : AirportRows) (a : List Update) (r : List ℕ) (rows : List Runwa
     → find (λ x. same_name x.name r) (map (rules_of g a) rows) ≡ option_map (rules_of g a) (find (λ row. same_name row.name r) rows)
 unfolding rules_of
 find-map g a r [] = refl
-find-map g a r (row ∷ rows) = (by (same_name row.name r) (find-map g a r rows))
-  where
-    by : (b : Bool) → find (λ x. same_name x.name r) (map (rules_of g a) rows) ≡ option_map (rules_of g a) (find (λ row. same_name row.name r) rows)
-        → (if b then Some (rules_of g a row) else find (λ x. same_name x.name r) (map (rules_of g a) rows))
-        ≡ option_map (rules_of g a) (if b then Some row else find (λ row. same_name row.name r) rows)
-    by true h = refl
-    by false h = h
+find-map g a r (row ∷ rows) = grind (arith, common_steps, find-map g a r rows)
 
 pub runway-names : (g : AirportRows) (a : List Update) (rows : List RunwayRow)
     → map (λ (r : RunwayRules). r.name) (map (rules_of g a) rows) ≡ map (λ row. row.name) rows
@@ -149,19 +136,14 @@ runway-names g a (row ∷ rows) = ap (λ (ns : List (List ℕ)). row.name ∷ ns
 -- the runway of a name
 pub find-rules : (g : AirportRows) (a : List Update) (r : List ℕ) → IsAirport g
     → find (λ x. same_name x.name r) (rules_in g a) ≡ option_map (rules_of g a) (runway_row g r)
-find-rules g a r airport =
-    find-map g a r (rows_by_name g.runways)
-    ∙ ap (option_map (rules_of g a))
-    (find-permutation (λ (row : RunwayRow). same_name row.name r) g.runways (rows_by_name g.runways) (rows_permutation g.runways)
-    (one_row g.runways airport.names r))
+find-rules g a r airport = search (rules, find-map, rows_by_name, find-permutation, rows_permutation, one_row)
 
 -- their names differ
 pub day_rules_differ : (d : DayRecord) → IsDistinct same_name (runway_names d.airport) → IsDistinct same_name (map (λ r. r.name) (day_rules d))
 day_rules_differ d own = rw (runway-names d.airport d.journal d.airport.runways) own
 
 pub by_name_differ : (d : DayRecord) (rs : List RunwayRules) → IsAirport d.airport → AreByName d rs → IsDistinct same_name (map (λ r. r.name) rs)
-by_name_differ d rs airport is =
-    IsDistinct-IsPermutation same_name same_flips (map (λ r. r.name) (day_rules d)) _ (IsPermutation-map (λ (r : RunwayRules). r.name) (day_rules d) rs is.all) (day_rules_differ d airport.names)
+by_name_differ d rs airport is = search (rules, IsDistinct-IsPermutation, same_flips, IsPermutation-map, day_rules_differ)
 
 pub length-by_name : (d : DayRecord) (rs : List RunwayRules) → AreByName d rs → length rs ≡ length d.airport.runways
 length-by_name d rs is = length_permutation (day_rules d) rs is.all ∙ length-map d.airport.runways (rules_of d.airport d.journal)

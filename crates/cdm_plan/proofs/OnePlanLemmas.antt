@@ -1,15 +1,12 @@
 -- A day has one plan.
-use Rattle.std.proofs.Common.{◌≡◌, ℕ, List, [], ◌∷◌, ◌++◌, refl, sym, ◌∙◌, ap, subst, inl, inr, map, arith}
-use Rattle.cdm_plan.proofs.ListWords.{AllZip, Contains, IsDistinct, flat_map, IsPermutation}
-use Rattle.cdm_plan.proofs.ListWords.{map-append, All-permutation}
-use Rattle.cdm_plan.proofs.ListWords.{IsPermutation-append_comm, IsPermutation-map, IsPermutation-refl, IsPermutation-trans}
-use Rattle.cdm_plan.proofs.ListWords.{IsPermutation-append_left, IsPermutation-append_right, append_assoc}
-use Rattle.cdm_plan.proofs.ListWords.{IsDistinct-IsPermutation, contains_head, contains_tail, contains_cases, distinct_filter, distinct_right}
-use Rattle.cdm_plan.proofs.PlanWords.{DayValues, same_name, Flight, RunwayRules, TaxiTimes, IsSequence, IsSequenceBy}
-use Rattle.cdm_plan.proofs.PlanWords.{Plan, RunwayPlan, Target, AimResult, BlockedFlight, Placing}
-use Rattle.cdm_plan.proofs.PlanWords.{same_flips}
-use Rattle.cdm_plan.proofs.PlanWords.{runway_names, DayRecord, flights_in, IsDayPlan, day_rules, records_in}
-use Rattle.cdm_plan.proofs.PlanWords.{values_of, taxi_of, AreAims, HasParts, IsPlanOf, early_in, fixed_on, planned_of, targets_in}
+use Rattle.std.proofs.Common.{◌≡◌, ℕ, List, ◌∷◌, ◌++◌, refl, sym, ◌∙◌, ap, subst, inl, inr, map, arith, rules, []}
+use Rattle.cdm_plan.proofs.ListWords.{AllZip, Contains, IsDistinct, flat_map, IsPermutation, map-append, All-permutation, IsPermutation-append_comm}
+use Rattle.cdm_plan.proofs.ListWords.{IsPermutation-map, IsPermutation-refl, IsPermutation-trans, IsPermutation-append_left}
+use Rattle.cdm_plan.proofs.ListWords.{IsPermutation-append_right, append_assoc, IsDistinct-IsPermutation, contains_head, contains_tail}
+use Rattle.cdm_plan.proofs.ListWords.{contains_cases, distinct_filter, distinct_right}
+use Rattle.cdm_plan.proofs.PlanWords.{DayValues, same_name, Flight, RunwayRules, TaxiTimes, IsSequence, IsSequenceBy, Plan, RunwayPlan, Target}
+use Rattle.cdm_plan.proofs.PlanWords.{AimResult, BlockedFlight, Placing, same_flips, runway_names, DayRecord, flights_in, IsDayPlan, day_rules}
+use Rattle.cdm_plan.proofs.PlanWords.{records_in, values_of, taxi_of, AreAims, HasParts, IsPlanOf, early_in, fixed_on, planned_of, targets_in}
 use Rattle.cdm_plan.proofs.PlanWords.{targets_on}
 use Rattle.cdm_sequence.proofs.OneLemmas.{sequence_one}
 use Rattle.cdm_plan.proofs.DayPlanLemmas.{record_names_differ}
@@ -59,13 +56,7 @@ module _ (times : TaxiTimes) (values : DayValues) (fs : List Flight) (own : IsDi
   -- the plans of the runways are determined
   made_one : (rs : List RunwayRules) (xs ys : List RunwayPlan) → AllZip IsSequenced rs xs → AllZip IsSequenced rs ys → xs ≡ ys
   made_one [] [] [] a b = refl
-  made_one (r ∷ rs) (x ∷ xs) (y ∷ ys) a b =
-      let fixed = fixed_on r.name fs in
-      let targets = targets_here r.name in
-      let same : x ≡ y = sequence_one r fixed fixed targets targets x y (names_on r.name times values fs own) (IsPermutation-refl fixed)
-      (IsPermutation-refl targets) a.0 b.0 in
-      let rest = made_one rs xs ys a.1 b.1 in
-      λ i. same i ∷ rest i
+  made_one (r ∷ rs) (x ∷ xs) (y ∷ ys) a b = search (rules, sequence_one, names_on, IsPermutation-refl, made_one rs xs ys a.1 b.1)
   made_one [] [] (y ∷ ys) a b = absurd b
   made_one (r ∷ rs) (x ∷ xs) [] a b = absurd b
   made_one _ _ _ a b = absurd a
@@ -145,9 +136,7 @@ module _ (times : TaxiTimes) (values : DayValues) (fs : List Flight) (own : IsDi
 pub one_day_plan : (d : DayRecord) (p q : Plan) → IsDistinct same_name (runway_names d.airport) → IsDistinct same_name (flights_in d.journal)
     → IsDayPlan d p → IsDayPlan d q → p ≡ q
 unfolding IsDayPlan
-one_day_plan d p q runways flights a b =
-    one_plan (taxi_of d.airport d.journal) (values_of d.journal) (records_in d.airport d.journal) (record_names_differ d flights) (day_rules d)
-    (day_rules_differ d runways) p q a b
+one_day_plan d p q runways flights a b = search (rules, one_plan, record_names_differ, day_rules_differ)
 
 -- plans of the runways make the day's
 pub day_made : (d : DayRecord) (aims : List AimResult) (made : List RunwayPlan) (plan : Plan) → IsDistinct same_name (runway_names d.airport)
@@ -155,6 +144,4 @@ pub day_made : (d : DayRecord) (aims : List AimResult) (made : List RunwayPlan) 
     → AllZip (λ r p. IsSequence r (fixed_on r.name (records_in d.airport d.journal)) (targets_on r.name (targets_in aims)) p) (day_rules d) made
     → plan.clock ≡ (values_of d.journal).clock → HasParts (early_in (records_in d.airport d.journal) aims) made plan → IsDayPlan d plan
 unfolding IsDayPlan
-day_made d aims made plan own are all clock parts =
-    runways_make (taxi_of d.airport d.journal) (values_of d.journal) (records_in d.airport d.journal) (day_rules d) aims made plan are
-    (day_rules_differ d own) all clock parts
+day_made d aims made plan own are all clock parts = search (rules, runways_make, day_rules_differ)

@@ -1,6 +1,6 @@
 -- The plans of the runways, in some order, make the plan of the day.
-use Rattle.std.proofs.Common.{◌≡◌, ℕ, zero, suc, ◌+◌, ◌≤◌, ◌<◌, List, [], ◌∷◌, ◌++◌, refl, sym, ◌∙◌, subst, arith, Bor, map, length, length-append, sum_by}
-use Rattle.std.proofs.Common.{get_or, set}
+use Rattle.std.proofs.Common.{◌≡◌, ℕ, zero, suc, ◌+◌, ◌≤◌, ◌<◌, List, ◌∷◌, ◌++◌, refl, sym, subst, arith, Bor, map, length, length-append, sum_by}
+use Rattle.std.proofs.Common.{get_or, set, [], rules}
 use Rattle.cdm_plan.proofs.ListWords.{length-map, All, AllZip, IsDistinct, flat_map, swap, IsPermutation, All-cons, All-head, All-nil}
 use Rattle.cdm_plan.proofs.ListWords.{All-tail, IsPermutation-keeps, IsPermutation-refl, IsPermutation-swap, IsPermutation-sym, IsPermutation-trans}
 use Rattle.cdm_plan.proofs.ListWords.{length_permutation, sum_by-IsPermutation, sum_by-add}
@@ -65,8 +65,7 @@ All-given_by h P (x ∷ xs) all = All-cons (λ x. P (h x)) x xs (All-head P (h x
 -- a plan has no more flights than its parts
 pub few_joined : (early : List BlockedFlight) (made ordered : List RunwayPlan) (blocked : List BlockedFlight) (most : ℕ)
     → IsPermutation made ordered → IsPermutation (early ++ flat_map (λ p. p.blocked) ordered) blocked
-    → sum_by (λ p. length p.slots + length p.blocked) made + length early ≤ most
-    → sum_by (λ p. length p.slots) ordered + length blocked ≤ most
+    → sum_by (λ p. length p.slots + length p.blocked) made + length early ≤ most → sum_by (λ p. length p.slots) ordered + length blocked ≤ most
 few_joined early made ordered blocked most same others few =
     let moved = sum_by-IsPermutation (λ (p : RunwayPlan). length p.slots + length p.blocked) made ordered same in
     let split = sum_by-add (λ (p : RunwayPlan). length p.slots) (λ p. length p.blocked) ordered in
@@ -93,8 +92,7 @@ few_parts times values fs runways made plans each same own =
     omega arith
   where
     shown_length : (p : RunwayPlan) → length (shown p) ≡ length p.slots + length p.blocked
-    shown_length p = length-append (map (λ x. x.name) p.slots) (map (λ b. b.name) p.blocked)
-        ∙ (λ i. length-map p.slots (λ (x : Slot). x.name) i + length-map p.blocked (λ (b : BlockedFlight). b.name) i)
+    shown_length p = search (rules, length-append, length-map)
 
 -- plans that were made runway by runway make the day's plan
 pub runways_make : (times : TaxiTimes) (values : DayValues) (fs : List Flight) (runways : List RunwayRules) (aims : List AimResult)

@@ -1,5 +1,5 @@
 -- One placing of a day, from those of its runways.
-use Rattle.std.proofs.Common.{◌≡◌, ℕ, Bool, true, false, cond, ◌||◌, List, [], ◌∷◌, None, sym, ◌∙◌, ap, refl, map}
+use Rattle.std.proofs.Common.{◌≡◌, ℕ, Bool, true, false, cond, ◌||◌, List, ◌∷◌, None, sym, ◌∙◌, ap, refl, map, []}
 use Rattle.cdm_plan.proofs.ListWords.{All, AllByRecursion, AllZip, Contains, IsDistinct, list_any, false≢true, All-cons, All-contains, All-head, All-nil}
 use Rattle.cdm_plan.proofs.ListWords.{All-tail, filter_passes, IsDistinct-head, IsDistinct-tail, contains_all, contains_kept}
 use Rattle.cdm_plan.proofs.PlanWords.{same_name, RunwayRules, Slot, takeoffs, Placing, IsAllowed, IsEarlier, IsSequence, IsSequenceBy}

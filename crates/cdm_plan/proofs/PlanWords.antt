@@ -7,11 +7,11 @@ pub use Rattle.cdm_plan.specs.DayPlan.{AreByName, IsDayAllowed, IsDayFirst, IsRu
 unfoldable pub use Rattle.cdm_plan.specs.DayPlan.{IsDayPlan, IsDayPlanBy}
 pub use Rattle.cdm_plan.specs.Planning.{AreAims, HasParts, IsPlanOf, blocked_in, early_in, gone_of, planned_of, target_in, targets_in, targets_on}
 unfoldable pub use Rattle.cdm_plan.specs.Planning.{fixed_on}
-pub use Rattle.cdm_plan.specs.Sound.{IsSound, TellTaxi}
+pub use Rattle.cdm_plan.specs.Sound.{IsSound}
 pub use Rattle.cdm_plan.specs.inner.Aimed.{CanSequence, IsAimed, IsAimedBy, early_among, if_on, if_passes, is_on, target_for}
-pub use Rattle.cdm_plan.specs.Kept.{Adds, AreKept, AreSameElsewhere, IsMade, IsPlanOn, IsSince, asked_of, fixed_in, is_counted, is_early, is_kept_blocked, is_noted}
-pub use Rattle.cdm_plan.specs.Kept.{is_touched, is_untouched, kept_blocked, kept_of, kept_plan}
-pub use Rattle.cdm_plan.specs.Brief.{brief_of, counted_on, counts}
+pub use Rattle.cdm_plan.specs.Kept.{Adds, AreKept, AreSameElsewhere, IsMade, IsPlanOn, IsSince, asked_of, fixed_in, is_counted, is_early}
+pub use Rattle.cdm_plan.specs.Kept.{is_kept_blocked, is_noted, is_touched, is_untouched, kept_blocked, kept_of, kept_plan}
+pub use Rattle.cdm_plan.specs.Brief.{counted_on, counts}
 pub use Rattle.cdm_plan.specs.inner.Together.{Together}
 pub use Rattle.cdm_flight.proofs.JournalLemmas.{flight_of-untouched, status_of-record, taxi_of-untouched, values_of-untouched}
 pub use Rattle.cdm_flight.specs.Accepted.{flight_refusal, has_runway, is_disordered, is_full, is_unknown}
@@ -24,16 +24,15 @@ pub use Rattle.cdm_flight.specs.declared.flight.Flight.{Flight}
 pub use Rattle.cdm_flight.specs.Reach.{flight_of_update, reach_of, same_reach}
 pub use Rattle.cdm_flight.specs.Spacing.{no_spacing}
 pub use Rattle.cdm_flight.specs.Step.{is_fresh}
-pub use Rattle.cdm_flight.specs.Taxi.{TaxiRows, taxi_out}
 pub use Rattle.cdm_flight.specs.declared.airport.RunwayRow.{RunwayRow}
 pub use Rattle.cdm_flight.specs.declared.place.Place.{Place}
 pub use Rattle.cdm_flight.specs.declared.update.Update.{Update}
 pub use Rattle.cdm_flight.specs.declared.values.DayValues.{DayValues}
 pub use Rattle.cdm_runway.specs.Rules.{RunwayRules}
-pub use Rattle.cdm_sequence.proofs.AimLemmas.{aim_is, aim_means, aim_with, aim_with_exot}
+pub use Rattle.cdm_sequence.proofs.AimLemmas.{aim_is, aim_means}
 unfoldable pub use Rattle.cdm_sequence.proofs.AimLemmas.{aim_of}
 pub use Rattle.cdm_sequence.proofs.OrderLemmas.{is_same, same_flips, same_is, tied_names}
-pub use Rattle.cdm_sequence.specs.Aims.{IsAim, TaxiTimes, own_exot}
+pub use Rattle.cdm_sequence.specs.Aims.{IsAim, TaxiTimes}
 pub use Rattle.cdm_sequence.specs.Fixed.{slot_by, takeoffs}
 unfoldable pub use Rattle.cdm_sequence.specs.Fixed.{fixed_slot}
 pub use Rattle.cdm_sequence.specs.Plan.{IsAllowed, IsEarlier, Placing}

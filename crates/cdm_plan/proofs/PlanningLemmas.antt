@@ -1,23 +1,20 @@
 -- Each flight of a day stands once: as a fixed flight or a target of one runway, or blocked early.
+use Rattle.std.proofs.lemmas.Grind.{common_steps}
 use Rattle.std.proofs.lemmas.Slice.Zip.{AllZip-map}
-use Rattle.std.proofs.Common.{Bor, ◌≡◌, ℕ, ◌+◌, ◌≤◌, Bool, true, false, not, cond, ◌||◌, List, [], ◌∷◌, ◌++◌, Option, None, Some, refl, sym, ◌∙◌, ap}
-use Rattle.std.proofs.Common.{subst, arith, map, filter, length}
-use Rattle.cdm_plan.proofs.ListWords.{is_some, zip, option_map, option_map_or, All, All-cons, All-head, All-nil, All-tail, append_assoc}
-use Rattle.cdm_plan.proofs.ListWords.{cons_option, filter_map, flat_map, IsDistinct, AllByRecursion, IsPermutation, false_from_ne_true, false≢true}
-use Rattle.cdm_plan.proofs.ListWords.{IsPermutation-append, IsPermutation-refl, IsPermutation-trans, IsPermutation-append_right, IsPermutation-middle}
-use Rattle.cdm_plan.proofs.ListWords.{IsPermutation-map, IsPermutation-sym, IsDistinct-IsPermutation}
-use Rattle.cdm_plan.proofs.ListWords.{IsDistinct-head, IsDistinct-tail, length-map, map-append, All-given, distinct_filter, filter_map-map}
-use Rattle.cdm_plan.proofs.ListWords.{filter_map-filter, if_so, length_permutation, AllZip, filter_passes}
-use Rattle.cdm_plan.proofs.PlanWords.{DayValues, same_name, Flight, is_planned, TaxiTimes, IsAim, aim_of, aim_is, aim_means, aim_with, counts, same_flips, same_is}
-use Rattle.cdm_plan.proofs.PlanWords.{Slot, fixed_slot, slot_by, flight_names, IsSequence, Target}
-use Rattle.cdm_plan.proofs.PlanWords.{AimResult, BlockedFlight, early_in, gone_of, planned_of}
-use Rattle.cdm_plan.proofs.PlanWords.{target_in, targets_in, blocked_in, is_on, fixed_on, targets_on, IsAimed, if_on, if_passes, target_for, CanSequence}
-use Rattle.cdm_plan.proofs.PlanWords.{RunwayRules, RunwayPlan, Ready, Early}
+use Rattle.std.proofs.Common.{Bor, ◌≡◌, ℕ, ◌+◌, ◌≤◌, Bool, true, false, not, cond, ◌||◌, List, ◌∷◌, ◌++◌, Option, None, Some, refl, sym, ◌∙◌, ap, []}
+use Rattle.std.proofs.Common.{subst, arith, map, filter, length, rules, IfSome, IsTrue, length-append}
+use Rattle.cdm_plan.proofs.ListWords.{is_some, zip, All, All-cons, All-head, All-nil, All-tail, append_assoc, filter_map}
+use Rattle.cdm_plan.proofs.ListWords.{flat_map, IsDistinct, AllByRecursion, IsPermutation, false_from_ne_true, false≢true, IsPermutation-append}
+use Rattle.cdm_plan.proofs.ListWords.{IsPermutation-refl, IsPermutation-trans, IsPermutation-append_right, IsPermutation-middle, IsPermutation-map}
+use Rattle.cdm_plan.proofs.ListWords.{IsPermutation-sym, IsDistinct-IsPermutation, IsDistinct-head, IsDistinct-tail, length-map, map-append}
+use Rattle.cdm_plan.proofs.ListWords.{All-given, distinct_filter, filter_map-map, filter_map-filter, if_so, length_permutation, AllZip, filter_passes}
+use Rattle.cdm_plan.proofs.PlanWords.{DayValues, same_name, Flight, is_planned, TaxiTimes, IsAim, aim_of, aim_is, aim_means, counts, same_flips}
+use Rattle.cdm_plan.proofs.PlanWords.{same_is, Slot, fixed_slot, slot_by, flight_names, IsSequence, Target, AimResult, BlockedFlight, early_in}
+use Rattle.cdm_plan.proofs.PlanWords.{gone_of, planned_of, target_in, targets_in, blocked_in, is_on, fixed_on, targets_on, IsAimed, if_on, if_passes}
+use Rattle.cdm_plan.proofs.PlanWords.{target_for, CanSequence, RunwayRules, RunwayPlan, Ready, Early}
 use Rattle.std.proofs.lemmas.List.Filters.{length-filter_both}
 use Rattle.cdm_flight.specs.declared.flight.Status.{Status}
 use Rattle.cdm_flight.specs.declared.flight.Status.TheVariants as status
-use Rattle.cdm_flight.specs.declared.key.Key.{Key}
-use Rattle.std.proofs.Common.{IfSome, IsTrue, length-append}
 use Rattle.cdm_plan.specs.declared.aimed.Aimed.{Aimed}
 use Rattle.cdm_plan.proofs.JournalFacts.{some_named}
 use Rattle.cdm_sequence.specs.Slots.{is_fixed}
@@ -77,22 +74,12 @@ zip-map {Y} h (f ∷ fs) = ap (λ (xs : List (Flight × Y)). (f, h f) ∷ xs) (z
 
 pub early-aims : (times : TaxiTimes) (values : DayValues) (fs : List Flight) → early_in fs (aim_list fs times values) ≡ blocked_early fs times values
 unfolding blocked_early
-early-aims times values fs =
-    let blocked : Flight × AimResult → Option BlockedFlight = λ x. blocked_in x.0.name x.1 in
-    ap (filter_map blocked) (zip-map (λ f. aim_of f times values) (planned_of fs)) ∙ filter_map-map blocked (λ f. (f, aim_of f times values)) (planned_of fs)
+early-aims times values fs = search (rules, zip-map, filter_map-map)
 
 -- what passes a test of what flights give
 pub filter-filter_map : {X Y : Type 0} (q : Y → Bool) (h : X → Option Y) (fs : List X) → filter q (filter_map h fs) ≡ filter_map (λ f. if_passes q (h f)) fs
 filter-filter_map q h [] = refl
-filter-filter_map {X} {Y} q h (f ∷ fs) = go (h f) (filter-filter_map q h fs) where
-  by : (b : Bool) (y : Y) (us vs : List Y) → us ≡ vs → cond b (y ∷ us) us ≡ cons_option (cond b (Some y) None) vs
-  by true y us vs e = ap (λ (ys : List Y). y ∷ ys) e
-  by false y us vs e = e
-
-  go : (o : Option Y) → filter q (filter_map h fs) ≡ filter_map (λ f. if_passes q (h f)) fs
-      → filter q (cons_option o (filter_map h fs)) ≡ cons_option (if_passes q o) (filter_map (λ f. if_passes q (h f)) fs)
-  go None e = e
-  go (Some y) e = by (q y) y _ _ e
+filter-filter_map {X} {Y} q h (f ∷ fs) = grind (arith, common_steps, filter-filter_map q h fs)
 
 -- two tests of which at most one holds part what passes either
 pub parted : {X : Type 0} (a b : X → Bool) → ((x : X) → a x ≡ true → b x ≡ false) → (xs : List X)
@@ -117,39 +104,20 @@ if_so-keeps P true o h = h
 if_so-keeps P false o h = tt
 
 if_on-keeps : (P : Target → Type 0) (r : List ℕ) (o : Option Target) → IfSome o P → IfSome (if_on r o) P
-if_on-keeps P r None h = tt
-if_on-keeps P r (Some t) h = if_so-keeps P (same_name t.runway r) (Some t) h
+if_on-keeps P r o h = grind (arith, common_steps)
 
 -- a target has its flight's name
 key_name : (f : Flight) (times : TaxiTimes) (values : DayValues) → IfSome (target_in (aim_of f times values)) (λ t. t.key.name ≡ f.name)
-key_name f times values = by (aim_of f times values) (aim_means f times values)
-  where
-    named : (o : Option ℕ) (k : Key) → option_map (λ tobt. record { priority = f.priority; tobt = tobt; name = f.name }) o ≡ Some k → k.name ≡ f.name
-    named None k e = cc
-    named (Some tobt) k e = sym (ap (λ (x : Option Key). option_map_or (λ y. y.name) x []) e)
-
-    by : (a : AimResult) → IsAim f times values a → IfSome (target_in a) (λ t. t.key.name ≡ f.name)
-    by (Ready t) is = named f.tobt t.key is.key
-    by (Early rule) is = tt
+key_name f times values = search (rules, aim_means)
 
 -- a fixed flight has its flight's name, and has left
 fixed_name : (f : Flight) → IfSome (fixed_slot f) (λ x. x.name ≡ f.name)
 unfolding fixed_slot
-fixed_name f = by f.status
-  where
-    by : (s : Status) → IfSome (slot_by f s) (λ x. x.name ≡ f.name)
-    by (status.OffBlock aobt exot) = refl
-    by (status.Airborne aobt atot) = refl
-    by _ = tt
+fixed_name f = grind (arith, common_steps)
 
 fixed_left : (f : Flight) → is_some (fixed_slot f) ≡ true → is_planned f.status ≡ false
 unfolding fixed_slot
-fixed_left f e = go f.status e
-  where
-    go : (s : Status) → is_some (slot_by f s) ≡ true → is_planned s ≡ false
-    go (status.OffBlock aobt exot) k = refl
-    go (status.Airborne aobt atot) k = refl
-    go _ k = absurd (false≢true k)
+fixed_left f e = grind (arith, common_steps)
 
 -- What a flight gives to a runway.
 
@@ -169,9 +137,7 @@ fixed_on-given r fs = filter_map-filter fixed_slot (is_on r) fs
 pub targets_on-given : (r : List ℕ) (times : TaxiTimes) (values : DayValues) (fs : List Flight)
     → targets_on r (targets_of fs times values) ≡ filter_map (target_at r times values) fs
 unfolding targets_of
-targets_on-given r times values fs =
-    filter-filter_map (λ (t : Target). same_name t.runway r) (λ f. target_in (aim_of f times values)) (planned_of fs)
-    ∙ filter_map-filter (λ f. if_on r (target_in (aim_of f times values))) (λ f. is_planned f.status) fs
+targets_on-given r times values fs = search (rules, filter-filter_map, filter_map-filter)
 
 pub early-given : (times : TaxiTimes) (values : DayValues) (fs : List Flight) → blocked_early fs times values ≡ filter_map (early_at times values) fs
 unfolding blocked_early
@@ -181,9 +147,7 @@ early-given times values fs = filter_map-filter (λ f. blocked_in f.name (aim_of
 pub targets-among : (r : List ℕ) (times : TaxiTimes) (values : DayValues) (fs : List Flight)
     → filter_map (target_for r) (map (aimed times values) (planned_of fs)) ≡ targets_on r (targets_of fs times values)
 unfolding targets_of aimed
-targets-among r times values fs =
-    filter_map-map (target_for r) (aimed times values) (planned_of fs)
-    ∙ sym (filter-filter_map (λ (t : Target). same_name t.runway r) (λ f. target_in (aim_of f times values)) (planned_of fs))
+targets-among r times values fs = search (rules, filter_map-map, filter-filter_map)
 
 pub blocked-among : (times : TaxiTimes) (values : DayValues) (fs : List Flight)
     → filter_map (λ (a : Aimed). blocked_in a.name a.aim) (map (aimed times values) (planned_of fs)) ≡ blocked_early fs times values
@@ -196,65 +160,24 @@ some_inside true o h = h
 some_inside false o h = absurd (false≢true h)
 
 apart : (r : List ℕ) (times : TaxiTimes) (values : DayValues) (f : Flight) → is_some (fixed_at r f) ≡ true → is_some (target_at r times values f) ≡ false
-apart r times values f h =
-    let left = fixed_left f (some_inside (is_on r f) (fixed_slot f) h) in
-    ap (λ (b : Bool). is_some (if_so b (if_on r (target_in (aim_of f times values))))) left
+apart r times values f h = search (rules, fixed_left, some_inside)
 
 -- what a flight gives, it gives to its own runway
 pub no_target_at : (r : List ℕ) (times : TaxiTimes) (values : DayValues) (f : Flight) → is_on r f ≡ false → target_at r times values f ≡ None
-no_target_at r times values f h = in_any (is_planned f.status) (by (aim_of f times values) refl)
-  where
-    by : (a : AimResult) → aim_of f times values ≡ a → if_on r (target_in a) ≡ None
-    by (Early rule) e = refl
-    by (Ready t) e =
-        let runway = (subst (IsAim f times values) e (aim_means f times values)).runway in
-        ap (λ b. cond b (Some t) None) (ap (λ o. option_map_or (λ s. same_name s r) o false) (sym runway) ∙ h)
-
-    in_any : (b : Bool) → if_on r (target_in (aim_of f times values)) ≡ None → if_so b (if_on r (target_in (aim_of f times values))) ≡ None
-    in_any true e = e
-    in_any false e = refl
-
--- a flight that doesn't count on its runway gives it nothing
-uncounted : (f : Flight) → counts f ≡ false → (is_planned f.status ≡ true) × (f.tobt ≡ None)
-uncounted f h = by (is_planned f.status) f.tobt h
-  where
-    by : (b : Bool) (o : Option ℕ) → (not b || is_some o) ≡ false → (b ≡ true) × (o ≡ None)
-    by true None k = (refl, refl)
-    by true (Some tobt) k = cc
-    by false o k = cc
-
-nothing : {Y : Type 0} (b : Bool) → ◌≡◌ {A = Option Y} (if_so b None) None
-nothing true = refl
-nothing false = refl
+no_target_at r times values f h = search (rules, aim_means)
 
 pub no_fixed_at : (r : List ℕ) (f : Flight) → counts f ≡ false → fixed_at r f ≡ None
 unfolding fixed_slot
-no_fixed_at r f h = ap (if_so (is_on r f)) (by f.status (uncounted f h).0) ∙ nothing (is_on r f)
-  where
-    by : (s : Status) → is_planned s ≡ true → slot_by f s ≡ None
-    by status.Planned k = refl
-    by (status.OffBlock aobt exot) k = cc
-    by (status.Airborne aobt atot) k = cc
-    by status.Cancelled k = refl
+no_fixed_at r f h = grind (arith, common_steps)
 
 -- the flights of a runway that have left their stands are fixed
 pub fixed-gone : (r : List ℕ) (fs : List Flight) → fixed_on r (gone_of fs) ≡ fixed_on r fs
 unfolding fixed_slot
-fixed-gone r fs =
-    fixed_on-given r (gone_of fs)
-    ∙ (filter_map-filter (fixed_at r) (λ f. not (is_planned f.status)) fs
-    ∙ ((λ i. filter_map (λ f. by f f.status i) fs) ∙ sym (fixed_on-given r fs)))
-  where
-    by : (f : Flight) (s : Status) → if_so (not (is_planned s)) (if_so (is_on r f) (slot_by f s)) ≡ if_so (is_on r f) (slot_by f s)
-    by f status.Planned = sym (nothing (is_on r f))
-    by f (status.OffBlock aobt exot) = refl
-    by f (status.Airborne aobt atot) = refl
-    by f status.Cancelled = refl
+fixed-gone r fs = search (rules, fixed_on-given, filter_map-filter)
 
 pub no_aim_at : (r : List ℕ) (times : TaxiTimes) (values : DayValues) (f : Flight) → counts f ≡ false → target_at r times values f ≡ None
 unfolding aim_of
-no_aim_at r times values f h =
-    ap (λ o. if_so (is_planned f.status) (if_on r (target_in (aim_with f times values o f.runway)))) (uncounted f h).1 ∙ nothing (is_planned f.status)
+no_aim_at r times values f h = grind (arith, common_steps)
 
 -- a flight stands on a runway as a fixed flight or with its target
 abbrev pub stands : TaxiTimes → DayValues → List ℕ → Flight → Bool
@@ -262,20 +185,7 @@ stands times values r f = is_some (fixed_at r f) || is_some (target_at r times v
 
 pub stands_here : (times : TaxiTimes) (values : DayValues) (r : List ℕ) (f : Flight) → stands times values r f ≡ true
     → (is_on r f ≡ true) × (is_some (early_at times values f) ≡ false)
-stands_here times values r f h =
-    let other = λ (k : is_some (early_at times values f) ≡ true). false≢true (sym (early (is_planned f.status) (aim_of f times values) refl k) ∙ h) in
-    (by (is_on r f) refl, false_from_ne_true (is_some (early_at times values f)) other)
-  where
-    by : (b : Bool) → is_on r f ≡ b → is_on r f ≡ true
-    by true e = e
-    by false e = absurd (false≢true (sym (λ i. is_some (if_so (e i) (fixed_slot f)) || is_some (no_target_at r times values f e i)) ∙ h))
-
-    early : (p : Bool) (a : AimResult) → is_planned f.status ≡ p → is_some (if_so p (blocked_in f.name a)) ≡ true
-        → (is_some (fixed_at r f) || is_some (if_so p (if_on r (target_in a)))) ≡ false
-    early true (Early rule) e k =
-        ap (λ b. b || false) (false_from_ne_true (is_some (fixed_at r f)) (λ l. false≢true (sym (fixed_left f (some_inside (is_on r f) (fixed_slot f) l)) ∙ e)))
-    early true (Ready t) e k = absurd (false≢true k)
-    early false a e k = absurd (false≢true k)
+stands_here times values r f h = search (rules, false_from_ne_true, no_target_at, fixed_left, some_inside)
 
 -- the names of a runway's flights are those of the flights that stand on it
 pub names_stand : (r : List ℕ) (times : TaxiTimes) (values : DayValues) (fs : List Flight)
@@ -344,11 +254,7 @@ module _ (times : TaxiTimes) (values : DayValues) (fs : List Flight) where
   none_in : (r : List ℕ) (f : Flight) → stands times values r f ≡ true → (ps : List RunwayPlan)
       → AllByRecursion (λ n. same_name r n ≡ false) (map (λ p. p.runway) ps) → stands_in ps f ≡ false
   none_in r f h [] all = (stands_here times values r f h).1
-  none_in r f h (p ∷ ps) all =
-      let own = some_named f.runway r (stands_here times values r f h).0 in
-      let on : same_name r p.runway ≡ is_on p.runway f = sym (ap (λ o. option_map_or (λ s. same_name s p.runway) o false) own) in
-      let other = false_from_ne_true (stands times values p.runway f) (λ k. false≢true (sym all.0 ∙ (on ∙ (stands_here times values p.runway f k).0))) in
-      λ i. other i || none_in r f h ps all.1 i
+  none_in r f h (p ∷ ps) all = search (rules, some_named, stands_here, false_from_ne_true, none_in r f h ps all.1)
 
   -- the plan shows the flights that stand on its runway
   abbrev pub Shows : RunwayPlan → Type 0
@@ -379,8 +285,7 @@ on_it r aims = All-given (target_for r) (λ t. t.runway ≡ r) aims (λ a i. giv
     by false t e = tt
 
     given : (o : Option Target) → IfSome (if_on r o) (λ t. t.runway ≡ r)
-    given None = tt
-    given (Some t) = by (same_name t.runway r) t refl
+    given o = search (rules, by)
 
 -- what holds of all that goes with something
 pub all_zipped : {X Y : Type 0} (R : X → Y → Type 0) (P : Y → Type 0) → ((x : X) (y : Y) → R x y → P y) → (xs : List X) (ys : List Y) → AllZip R xs ys
@@ -410,18 +315,12 @@ unfolding fixed_on fixed_slot
 all_left r fs = All-given fixed_slot (λ x. IsTrue (is_fixed x.mark)) (filter (is_on r) fs) (λ f i. by f f.status)
   where
     by : (f : Flight) (s : Status) → IfSome (slot_by f s) (λ x. IsTrue (is_fixed x.mark))
-    by f (status.OffBlock aobt exot) = refl
-    by f (status.Airborne aobt atot) = refl
-    by f _ = tt
+    by f s = search rules
 
 -- each runway can be sequenced
 pub can_sequence : (times : TaxiTimes) (values : DayValues) (fs : List Flight) → IsDistinct same_name (map (λ f. f.name) fs) → length fs ≤ 2000 → (r : List ℕ)
     → CanSequence (fixed_on r fs) (targets_on r (targets_of fs times values))
-can_sequence times values fs own few r = record {
-  left = all_left r fs;
-  names = names_on r times values fs own;
-  few = let a = few_on r times values fs in omega arith;
-}
+can_sequence times values fs own few r = search (rules, all_left, names_on, few_on)
 
 -- all the planned flights are planned
 pub planned_are : (fs : List Flight) → All (λ f. is_planned f.status ≡ true) (planned_of fs)
@@ -430,6 +329,4 @@ planned_are fs = filter_passes (λ f. is_planned f.status) fs
 -- the flights of a runway among lent ones
 pub fixed_on-lent : (r : List ℕ) (fs : List (Bor Flight))
     → filter_map (λ f. fixed_slot f.now) (filter (λ f. is_on r f.now) fs) ≡ fixed_on r (map (λ f. f.now) fs)
-fixed_on-lent r fs =
-    filter_map-filter (λ (f : Bor Flight). fixed_slot f.now) (λ f. is_on r f.now) fs
-    ∙ sym (fixed_on-given r (map (λ (f : Bor Flight). f.now) fs) ∙ filter_map-map (fixed_at r) (λ (f : Bor Flight). f.now) fs)
+fixed_on-lent r fs = search (rules, filter_map-filter, fixed_on-given, filter_map-map)

@@ -1,5 +1,5 @@
 -- What leaves a runway as it is.
-use Rattle.std.proofs.Common.{◌≡◌, ◌*◌, ◌/◌, false, List, [], ◌∷◌, ◌++◌, map, sym}
+use Rattle.std.proofs.Common.{◌≡◌, ◌*◌, ◌/◌, false, List, ◌∷◌, ◌++◌, map, sym, []}
 use Rattle.cdm_flight.specs.declared.reach.Reach.TheVariants as reach
 use Rattle.cdm_flight.proofs.JournalLemmas.{untouched}
 use Rattle.cdm_plan.proofs.ListWords.{option_map_or, range_with_len, unwrap_or}

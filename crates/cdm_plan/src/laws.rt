@@ -17,6 +17,7 @@ ghost use Rattle.cdm_plan.specs.Sound.{IsSound};
 
 /// A day whose runways have names of their own, and whose flights become known once each, has one
 /// plan.
+#[tactic(auto, using(crate::proofs::OnePlanLemmas::one_day_plan))]
 pub fn one_plan_of_a_day()
     ensures { (d : DayRecord) (p q : Plan) →
         IsDistinct same_name (runway_names d.airport) → IsDistinct same_name (flights_in d.journal) →
@@ -25,6 +26,7 @@ pub fn one_plan_of_a_day()
 
 /// Plans of the runways, each made of its own flights, make the day's plan, where the runways have
 /// names of their own.
+#[tactic(auto, using(crate::proofs::OnePlanLemmas::day_made))]
 pub fn runways_make_the_day()
     ensures { (d : DayRecord) (aims : List AimResult) (made : List RunwayPlan) (plan : Plan) →
         IsDistinct same_name (runway_names d.airport) →
@@ -35,6 +37,7 @@ pub fn runways_make_the_day()
 
 /// The plan of a day is first in order: it is allowed, and no allowed placing is earlier at the first
 /// flight, in the order of sequence, at which the two differ.
+#[tactic(auto, using(crate::proofs::FirstLemmas::day_first))]
 pub fn plans_of_a_day_are_first()
     ensures { (d : DayRecord) (aims : List AimResult) (placing : Placing) (plan : Plan) →
         IsSound d → IsDayPlanBy placing aims d plan → IsDayFirst aims d placing }

@@ -92,6 +92,7 @@ pub(crate) fn plan_together<D: Records>(
 }
 
 /// The plan of the day that the records tell. No other plan is the day's.
+#[tactic(auto, using(crate::proofs::KeptLemmas::none_kept))]
 pub fn plan_of<D: Records>(alloc: Global, records: &D) -> Result<Plan, AllocError>
     ensures of_day { IfOk result (λ plan. IsDayPlan (D.day records.now) plan) }
     ensures only { IfOk result (λ plan. (other : APlan) → IsDayPlan (D.day records.now) other → other ≡ plan) }

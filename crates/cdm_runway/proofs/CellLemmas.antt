@@ -1,5 +1,5 @@
 -- Whole cells fill the horizon.
-use Rattle.std.proofs.Common.{◌≡◌, ℕ, ◌*◌, ◌/◌, ◌%◌, ◌<◌, ◌≤◌, nat_le, nat_lt, IsTrue, sym, ap, ◌∙◌, arith}
+use Rattle.std.proofs.Common.{◌≡◌, ℕ, ◌*◌, ◌/◌, ◌%◌, ◌<◌, ◌≤◌, nat_le, nat_lt, IsTrue, sym, ap, ◌∙◌, arith, rules}
 use Rattle.std.proofs.lemmas.Bool.Decides.{nat_tests}
 use Rattle.std.proofs.lemmas.Nat.{div-add-mod', div_below, le-div}
 use Rattle.std.proofs.Math.Nat.{mul-div_cancel, mul_assoc}
@@ -36,6 +36,4 @@ module _ (c : ℕ) (positive : 1 ≤ c) where
 
 -- each minute of the horizon is in one of its cells
 pub cell_below : (c m : ℕ) → IsTrue (is_cell_length c) → m < 2880 → m / c < 2880 / c
-cell_below c m h below =
-    let parts = cell_length-divides c h in
-    div_below m c (2880 / c) (omega (arith, parts.0)) (omega (arith, cells-fill c h))
+cell_below c m h below = search (rules, cell_length-divides, div_below, cells-fill)

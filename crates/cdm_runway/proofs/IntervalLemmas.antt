@@ -1,11 +1,8 @@
 -- Intervals in order, and the values of their places.
-use Rattle.std.proofs.Common.{◌≡◌, ℕ, zero, suc, ◌+◌, ◌<◌, ◌≤◌, min, max, List, [], ◌∷◌, ◌++◌, length, take, replicate, get_or, refl}
-use Rattle.std.proofs.Common.{sym, ap, ◌∙◌, arith}
-use Rattle.std.specs.Prelude.{if◌then◌else◌}
-use Rattle.std.proofs.lemmas.Bool.Decides.{nat_tests}
-use Rattle.std.proofs.lemmas.List.{take_more, same_lists, get_or-replicate, length-replicate, get_or_past}
+use Rattle.cdm_runway.proofs.Words.{◌≡◌, ℕ, zero, suc, ◌+◌, ◌<◌, ◌≤◌, min, max, List, [], ◌∷◌, ◌++◌, length, take, replicate, get_or, refl, rules}
+use Rattle.cdm_runway.proofs.Words.{sym, arith, if◌then◌else◌, nat_tests, get_or-replicate, length-replicate, get_or_past, window_has}
+use Rattle.std.proofs.lemmas.List.{take_more, same_lists}
 use Rattle.std.proofs.lemmas.List.FromFn.{get_or-map-range_with_len, length-map-range_with_len}
-use Rattle.cdm_time.specs.Windows.{window_has}
 use Rattle.cdm_runway.specs.declared.intervals.Interval.{Interval}
 use Rattle.cdm_runway.specs.inner.Intervals.{value_at, values_of, AreInOrder, end_of, IsPushed, NoneAfter, IsNext}
 use Rattle.cdm_runway.specs.Rules.{with_range}
@@ -29,9 +26,7 @@ module _ {V : Type 0} where
   in_order-front : (end : ℕ) (xs : List (Interval V)) (x : Interval V) → AreInOrder end (xs ++ x ∷ [])
       → AreInOrder end xs × (end_of end xs ≤ x.from) × (x.from < x.to)
   in_order-front end [] x order = (tt, order.0, order.1)
-  in_order-front end (y ∷ ys) x order =
-      let front = in_order-front y.to ys x order.2 in
-      ((order.0, order.1, front.0), front.1, front.2)
+  in_order-front end (y ∷ ys) x order = search (rules, in_order-front y.to ys x order.2)
 
   end_of-grows : (end : ℕ) (xs : List (Interval V)) → AreInOrder end xs → end ≤ end_of end xs
   end_of-grows end [] order = omega arith
@@ -40,45 +35,20 @@ module _ {V : Type 0} where
   -- places after all intervals, or before them, have the value of the rest
   value_at-after : (end : ℕ) (xs : List (Interval V)) (k : ℕ) (rest : V) → AreInOrder end xs → end_of end xs ≤ k → value_at xs k rest ≡ rest
   value_at-after end [] k rest order after = refl
-  value_at-after end (x ∷ xs) k rest order after =
-      let later = value_at-after x.to xs k rest order.2 after in
-      grind (arith, nat_tests, end_of-grows x.to xs order.2)
+  value_at-after end (x ∷ xs) k rest order after = search (rules, end_of-grows, value_at-after x.to xs k rest order.2 after)
 
   value_at-before : (end : ℕ) (xs : List (Interval V)) (k : ℕ) (rest : V) → AreInOrder end xs → k < end → value_at xs k rest ≡ rest
   value_at-before end [] k rest order before = refl
-  value_at-before end (x ∷ xs) k rest order before =
-      let later = value_at-before x.to xs k rest order.2 (omega (arith, order.0, order.1)) in
-      grind (arith, nat_tests, order.0)
-
-  -- an interval without a place changes nothing
-  pub unpushed : (xs : List (Interval V)) (x : Interval V) → AreInOrder 0 xs → x.to ≤ x.from → IsPushed xs x xs
-  unpushed xs x order none = record {
-    order = order;
-    end = omega arith;
-    values = λ k rest. grind (arith, nat_tests);
-  }
+  value_at-before end (x ∷ xs) k rest order before = search (rules, value_at-before x.to xs k rest order.2 (omega (arith, order.0, order.1)))
 
   -- an interval that is put behind the others
   pub pushed : (xs : List (Interval V)) (x : Interval V) → AreInOrder 0 xs → end_of 0 xs ≤ x.from → x.from < x.to → IsPushed xs x (xs ++ x ∷ [])
-  pushed xs x order after some = record {
-    order = in_order-push 0 xs x order after some;
-    end = omega (arith, end_of-push 0 xs x);
-    values = value_at-push xs x;
-  }
+  pushed xs x order after some = search (rules, in_order-push, end_of-push, value_at-push)
 
   -- one that becomes one with the last of them
   pub joined : (xs : List (Interval V)) (last x : Interval V) → AreInOrder 0 (xs ++ last ∷ []) → x.from < x.to → last.to ≡ x.from → last.value ≡ x.value
       → IsPushed (xs ++ last ∷ []) x (xs ++ record last { to = x.to } ∷ [])
-  joined xs last x order some touch same =
-      let front = in_order-front 0 xs last order in
-      let one : Interval V = record last { to = x.to } in
-      record {
-        order = in_order-push 0 xs one front.0 front.1 (omega (arith, front.2, some, touch));
-        end = omega (arith, end_of-push 0 xs one);
-        values = λ k rest.
-            let order = front.2 in
-            grind (arith, nat_tests, value_at-push xs one k rest, value_at-push xs last k rest, same);
-      }
+  joined xs last x order some touch same = search (rules, in_order-front, in_order-push, end_of-push, value_at-push)
 
   -- what the intervals so far say of the places from one up to another, behind older ones
   pub record IsCut (from to : ℕ) (old xs kept : List (Interval V)) : Type 0 where
@@ -88,12 +58,7 @@ module _ {V : Type 0} where
     pub values : (k : ℕ) (rest : V) → value_at kept k rest ≡ (if window_has from to k then value_at xs k rest else value_at old k rest)
 
   pub cut_none : (from to : ℕ) (old : List (Interval V)) → AreInOrder 0 old → end_of 0 old ≤ from → from ≤ to → IsCut from to old [] old
-  cut_none from to old order end places = record {
-    order = order;
-    end = omega arith;
-    behind = omega arith;
-    values = λ k rest. let after = value_at-after 0 old k rest order in grind (arith, nat_tests, after);
-  }
+  cut_none from to old order end places = search (rules, value_at-after)
 
   -- an interval is in order behind those that were read before it
   in_order_read : (end : ℕ) (xs : List (Interval V)) (i : ℕ) (x : Interval V) → AreInOrder end xs → i < length xs → x ≡ get_or xs i x
@@ -129,14 +94,7 @@ module _ {V : Type 0} where
   pub first_after : (end : ℕ) (xs : List (Interval V)) (i place : ℕ) (x : Interval V) → AreInOrder end xs → i < length xs → x ≡ get_or xs i x
       → ((j : ℕ) (d : Interval V) → j < i → (get_or xs j d).to ≤ place) → place < x.to → IsNext end xs place x
   first_after end [] i place x order within read ended after = absurd (omega arith)
-  first_after end (y ∷ ys) zero place x order within read ended after = rw read (record {
-    after = rw (sym read) after;
-    within = end_of-grows y.to ys order.2;
-    some = order.1;
-    values = λ k rest above below.
-        let first = value_at-before y.to ys k (if window_has y.from y.to k then y.value else rest) order.2 below in
-        grind (arith, nat_tests, first, below);
-  })
+  first_after end (y ∷ ys) zero place x order within read ended after = search (rules, end_of-grows, value_at-before)
   first_after end (y ∷ ys) (suc i) place x order within read ended after =
       let next = first_after y.to ys i place x order.2 (omega arith) read (λ j d below. ended (suc j) d (omega arith)) after in
       record {
@@ -174,24 +132,13 @@ module _ {V : Type 0} where
   value_or_past places rest xs k d is = grind (arith, get_or_past {X = V}, value_there places rest xs k d, length-values_of places rest xs)
 
   pub values_of-none : (places : ℕ) (rest : V) → values_of places rest [] ≡ replicate places rest
-  values_of-none places rest = same_lists (values_of places rest []) (replicate places rest)
-      (length-values_of places rest [] ∙ sym (length-replicate places rest)) (λ k d below.
-      let place : k < places = omega (arith, length-values_of places rest []) in
-      value_there places rest [] k d place ∙ sym (get_or-replicate places k rest d place))
+  values_of-none places rest = search (rules, same_lists, length-values_of, length-replicate, value_there, get_or-replicate)
 
   pub values_of-with_range : (places : ℕ) (rest : V) (old new : List (Interval V)) (from to : ℕ) (value : V) → from ≤ to → to ≤ places
       → ((k : ℕ) → k < places → value_at new k rest ≡ (if window_has from to k then value else value_at old k rest))
       → values_of places rest new ≡ with_range (values_of places rest old) from to value
   values_of-with_range places rest old new from to value order within values =
-      let before = values_of places rest old in
-      let as_many : length before ≡ places = length-values_of places rest old in
-      same_lists (values_of places rest new) (with_range before from to value)
-      (length-values_of places rest new ∙ sym (length-with_range before from to value order (omega (arith, as_many)) ∙ as_many))
-      (λ k d below.
-      let place : k < places = omega (arith, length-values_of places rest new) in
-      value_there places rest new k d place ∙ values k place
-      ∙ ap (λ v. if window_has from to k then value else v) (sym (value_there places rest old k d place))
-      ∙ sym (get_or-with_range before from to value d k order (omega (arith, as_many))))
+      search (rules, length-values_of, same_lists, length-with_range, value_there, get_or-with_range)
 
   -- the value of the rest needs no interval
   pub given_as_rest : (from to k : ℕ) (value here rest : V) → value ≡ rest

@@ -1,3 +1,4 @@
+pub mod Words
 pub mod CellLemmas
 pub mod LoadLemmas
 pub mod IntervalLemmas

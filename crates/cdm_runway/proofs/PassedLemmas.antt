@@ -1,10 +1,7 @@
 -- What was passed over stays so, whatever else is taken.
-use Rattle.std.proofs.Common.{◌≡◌, ◌⊎◌, ℕ, ◌<◌, ◌≤◌, ◌/◌, ◌==◌, false, cond, List, ◌++◌, get_or, subst, sym, ◌∙◌, inl, inr, arith}
-use Rattle.std.specs.Prelude.{count_by, slice_index}
+use Rattle.cdm_runway.proofs.Words.{common_steps, ◌≡◌, ◌⊎◌, ℕ, ◌<◌, ◌≤◌, ◌/◌, false, List, ◌++◌, get_or, sym, ◌∙◌, inl, inr, arith, rules}
+use Rattle.cdm_runway.proofs.Words.{All-contains, Contains-append_left, Contains-get_or, Group}
 use Rattle.std.proofs.lemmas.Bool.{false≢true}
-use Rattle.std.proofs.lemmas.List.Elements.{All-contains, Contains-append_left, Contains-get_or}
-use Rattle.std.proofs.lemmas.List.Sums.{sum_by-append}
-use Rattle.cdm_flight.specs.declared.group.Group.{Group}
 use Rattle.cdm_flight.specs.declared.group.Group.TheVariants.{Light, Medium, Heavy}
 use Rattle.cdm_runway.specs.Rules.{RunwayRules}
 use Rattle.cdm_runway.specs.Room.{cap_at, held_in_cell, meets, taken_by, AllClosed, IsFree, IsSpaced}
@@ -22,20 +19,10 @@ module _ (r : RunwayRules) (taken more : List Taken) (group : Group) where
       (Contains-append_left taken more (get_or taken i d) (Contains-get_or taken i d l))
 
   free_before : (k : ℕ) → IsFree r (taken ++ more) group k → IsFree r taken group k
-  free_before k free = record {
-    is_open = free.is_open;
-    is_spaced = spaced_before k free.is_spaced;
-    has_room =
-        let both = sum_by-append (λ (t : Taken). cond (t.minute / r.cell == k / r.cell) 1 0) taken more in
-        let room = free.has_room in
-        omega arith;
-  }
+  free_before k free = grind (arith, common_steps)
 
   passed_before : (p : Passed) → IsPassed r taken group p → IsPassed r (taken ++ more) group p
-  passed_before p was = record {
-    unfree = λ k from to free. was.unfree k from to (free_before k free);
-    met = λ k from to is_open spaced. was.met k from to is_open (spaced_before k spaced);
-  }
+  passed_before p was = search (rules, free_before, spaced_before)
 
 -- more is taken
 pub passed_more : (r : RunwayRules) (taken more : List Taken) (p : PassedOver) → ArePassed r taken p → ArePassed r (taken ++ more) p
@@ -73,42 +60,18 @@ module _ (r : RunwayRules) (taken : List Taken) (group : Group) where
   -- minutes that were passed over lengthen those before them
   unfree_past : (s : Stretch) (from number past : ℕ) → ((k : ℕ) → number ≤ k → k < past → IsIn s k) → NoneFree r taken group s.from s.to
       → NoneFree r taken group from number → NoneFree r taken group from past
-  unfree_past s from number past over was so_far k begun before = elim (side k) [
-    | inl l ↦ so_far k begun l
-    | inr g ↦ let i = over k g before in was k i.begun i.before
-  ]
-    where
-      side : (k : ℕ) → (k < number) ⊎ (number ≤ k)
-      side k = grind arith
+  unfree_past s from number past over was so_far k begun before = search rules
 
   met_past : (s : Stretch) (from number past : ℕ) → ((k : ℕ) → number ≤ k → k < past → IsIn s k) → NoneSpaced r taken group s.from s.to
       → NoneSpaced r taken group from number → NoneSpaced r taken group from past
-  met_past s from number past over was so_far k begun before = elim (side k) [
-    | inl l ↦ so_far k begun l
-    | inr g ↦ let i = over k g before in was k i.begun i.before
-  ]
-    where
-      side : (k : ℕ) → (k < number) ⊎ (number ≤ k)
-      side k = grind arith
+  met_past s from number past over was so_far k begun before = search rules
 
   -- one kind of minutes after another
   met_then : (from m to : ℕ) → NoneSpaced r taken group from m → NoneSpaced r taken group m to → NoneSpaced r taken group from to
-  met_then from m to first second k begun before = elim side [
-    | inl l ↦ first k begun l
-    | inr g ↦ second k g before
-  ]
-    where
-      side : (k < m) ⊎ (m ≤ k)
-      side = grind arith
+  met_then from m to first second k begun before = search rules
 
   unfree_then : (from m to : ℕ) → NoneFree r taken group from m → NoneFree r taken group m to → NoneFree r taken group from to
-  unfree_then from m to first second k begun before = elim side [
-    | inl l ↦ first k begun l
-    | inr g ↦ second k g before
-  ]
-    where
-      side : (k < m) ⊎ (m ≤ k)
-      side = grind arith
+  unfree_then from m to first second k begun before = search rules
 
   -- no minute is free where the runway is closed or the flight meets another
   unfree_met : (from to : ℕ) → NoneSpaced r taken group from to → NoneFree r taken group from to
@@ -121,21 +84,15 @@ module _ (r : RunwayRules) (taken : List Taken) (group : Group) where
   pub met_step : (s : Stretch) (from number m next past : ℕ) → NoneSpaced r taken group s.from s.to → NoneSpaced r taken group from number
       → AllClosed r number m → ((k : ℕ) → m ≤ k → k < next → IsSpaced r taken group k → ⊥) → ((k : ℕ) → next ≤ k → k < past → IsIn s k)
       → NoneSpaced r taken group from past
-  met_step s from number m next past was so_far closed met over =
-      met_past s from next past over was
-      (met_then from m next (met_then from number m so_far (met_closed number m closed)) (λ k begun before is_open spaced. met k begun before spaced))
+  met_step s from number m next past was so_far closed met over = search (rules, met_past, met_then, met_closed)
 
   -- no minute of a full cell is free
   unfree_cell : (m next : ℕ) → cap_at r m ≤ held_in_cell r.cell taken m → ((k : ℕ) → m ≤ k → k < next → k / r.cell ≡ m / r.cell)
       → NoneFree r taken group m next
-  unfree_cell m next full same k begun before free =
-      let room = subst (λ (c : ℕ). count_by (λ (t : Taken). t.minute / r.cell == c) taken < slice_index r.caps c) (same k begun before) free.has_room in
-      omega (arith, room, full)
+  unfree_cell m next full same k begun before free = search rules
 
   -- the search for a free minute goes on
   pub unfree_step : (s : Stretch) (from number m next past : ℕ) → NoneFree r taken group s.from s.to → NoneFree r taken group from number
       → NoneSpaced r taken group number m → cap_at r m ≤ held_in_cell r.cell taken m → ((k : ℕ) → m ≤ k → k < next → k / r.cell ≡ m / r.cell)
       → ((k : ℕ) → next ≤ k → k < past → IsIn s k) → NoneFree r taken group from past
-  unfree_step s from number m next past was so_far met full same over =
-      unfree_past s from next past over was
-      (unfree_then from m next (unfree_then from number m so_far (unfree_met number m met)) (unfree_cell m next full same))
+  unfree_step s from number m next past was so_far met full same over = search (rules, unfree_past, unfree_then, unfree_met, unfree_cell)

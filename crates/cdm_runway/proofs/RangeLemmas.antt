@@ -1,9 +1,5 @@
 -- A list after a range of it was given one value.
-use Rattle.std.proofs.Common.{◌≡◌, ℕ, ◌≤◌, List, length, get_or, arith}
-use Rattle.std.specs.Prelude.{if◌then◌else◌}
-use Rattle.std.proofs.lemmas.Bool.Decides.{nat_tests}
-use Rattle.std.proofs.lemmas.List.{get_or-replicate, places}
-use Rattle.cdm_time.specs.Windows.{window_has}
+use Rattle.cdm_runway.proofs.Words.{◌≡◌, ℕ, ◌≤◌, List, length, get_or, arith, if◌then◌else◌, nat_tests, get_or-replicate, places, window_has}
 use Rattle.cdm_runway.specs.Rules.{with_range}
 
 -- what a list has at a place after a range of it was given one value

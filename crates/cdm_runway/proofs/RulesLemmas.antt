@@ -1,12 +1,10 @@
 -- What the rules of a runway say of its minutes.
-use Rattle.std.proofs.Common.{◌≡◌, ℕ, ◌<◌, ◌≤◌, ◌/◌, ◌%◌, Bool, true, false, List, length, arith, ◌∙◌}
-use Rattle.std.specs.Prelude.{if◌then◌else◌, not, ◌||◌, ◌==◌, nat_le}
-use Rattle.std.proofs.lemmas.Bool.Decides.{nat_tests}
-use Rattle.cdm_time.specs.Windows.{window_has}
+use Rattle.cdm_runway.proofs.Words.{common_steps, ◌≡◌, ℕ, ◌<◌, ◌≤◌, ◌/◌, ◌%◌, Bool, true, List, length, arith, ◌∙◌, rules, if◌then◌else◌, not, ◌||◌}
+use Rattle.cdm_runway.proofs.Words.{◌==◌, nat_le, nat_tests, window_has}
 use Rattle.cdm_runway.specs.Rules.{RunwayRules, AreRules, is_rate_window, with_range, with_rate, with_closed}
 use Rattle.cdm_runway.specs.Room.{cap_at, is_closed}
 use Rattle.cdm_runway.proofs.RangeLemmas.{get_or-with_range, length-with_range}
-use Rattle.cdm_runway.proofs.CellLemmas.{cell_length-divides, cell_from, cell_to, cells_in_order}
+use Rattle.cdm_runway.proofs.CellLemmas.{cell_length-divides, cell_from, cell_to}
 
 -- a rate's window has a minute and begins and ends with a cell
 pub rate_window-says : (cell from to : ℕ) → is_rate_window cell from to ≡ true → (from < to) × (from % cell ≡ 0) × (to % cell ≡ 0)
@@ -20,10 +18,7 @@ rate_window-in_order cell from to = grind (arith, nat_tests)
 pub cells_of_rate_window : (cell : ℕ) (caps : List ℕ) (closed : List Bool) (from to : ℕ) → AreRules cell caps closed → is_rate_window cell from to ≡ true
     → to ≤ 2880
     → (from / cell ≤ to / cell) × (to / cell ≤ length caps)
-cells_of_rate_window cell caps closed from to rules window within =
-    let parts = cell_length-divides cell rules.cell_length in
-    let says = rate_window-says cell from to window in
-    (cells_in_order cell parts.0 from to (omega (arith, says.0)), omega (arith, cells_in_order cell parts.0 to 2880 within, rules.cells))
+cells_of_rate_window cell caps closed from to rules window within = grind (arith, common_steps)
 
 -- after a RATE there are as many cells and minutes as before
 pub are_rules-with_rate : (cell : ℕ) (caps : List ℕ) (closed : List Bool) (from to cap : ℕ) → AreRules cell caps closed → is_rate_window cell from to ≡ true
@@ -50,5 +45,4 @@ cap_at-with_rate r from to cap m rules window within =
 -- after a CLOSE or OPEN the minutes of its window are closed or open, and the others as they were
 pub is_closed-with_closed : (r : RunwayRules) (from to : ℕ) (closed : Bool) (m : ℕ) → AreRules r.cell r.caps r.closed → from ≤ to → to ≤ 2880
     → is_closed (with_closed r from to closed) m ≡ (if window_has from to m then closed else is_closed r m)
-is_closed-with_closed r from to closed m rules order within =
-    get_or-with_range r.closed from to closed false m order (omega (arith, rules.minutes))
+is_closed-with_closed r from to closed m rules order within = grind (arith, common_steps, get_or-with_range)

@@ -1,3 +1,4 @@
+pub mod Words
 pub mod OverlayLemmas
 pub mod OutcomeLemmas
 mod NameLemmas

@@ -1,18 +1,14 @@
 -- The first update that a word refuses.
-use Rattle.std.proofs.Common.{◌≡◌, ℕ, ◌+◌, ◌≤◌, take, length, Option, None, Some, Ok, Err, List, ◌++◌, refl, sym, ap, ◌∙◌, arith}
-use Rattle.std.specs.Prelude.{is_none, slice_get, if◌then◌else◌}
-use Rattle.std.specs.Option.{option_and_then}
+use Rattle.cdm_scenario.proofs.Words.{◌≡◌, ℕ, ◌+◌, ◌≤◌, take, length, Option, None, Some, Ok, Err, List, ◌++◌, refl, sym, ap, ◌∙◌, arith, rules}
+use Rattle.cdm_scenario.proofs.Words.{is_none, slice_get, if◌then◌else◌, option_and_then, Update, refusal_of, DayRecord, with_update}
 use borrow.Author.Count.{below_more}
-use Rattle.cdm_flight.specs.declared.update.Update.{Update}
 use Rattle.cdm_flight.specs.declared.word.RefusalWord.{RefusalWord}
-use Rattle.cdm_flight.specs.Accepted.{refusal_of}
-use Rattle.cdm_day.specs.declared.reply.Reply.TheVariants as reply
-use Rattle.cdm_plan.specs.Day.{DayRecord, with_update}
 use Rattle.cdm_day.specs.Replies.{reply_of}
 use Rattle.cdm_plan.proofs.NameLemmas.{all_taken}
 use Rattle.cdm_scenario.specs.Overlay.{after_judged, with_updates}
 use Rattle.cdm_scenario.specs.Outcome.{AreTaken, IsLaid, word_at}
 use Rattle.cdm_scenario.specs.inner.OneOutcome.{no_more, one_more}
+use Rattle.cdm_day.specs.declared.reply.Reply.TheVariants as reply
 
 -- the day has the first k updates, and no word refused one of them
 pub record HasTaken (d : DayRecord) (updates : List Update) (k : ℕ) (day : DayRecord) : Type 0 where
@@ -20,12 +16,10 @@ pub record HasTaken (d : DayRecord) (updates : List Update) (k : ℕ) (day : Day
   pub taken : AreTaken d updates k
 
 accepted_word : (o : Option RefusalWord) → reply.Accepted ≡ reply_of o → o ≡ None
-accepted_word None h = refl
-accepted_word (Some w) h = cc
+accepted_word o h = search rules
 
 refused_word : (o : Option RefusalWord) (w : RefusalWord) → reply.Refused w ≡ reply_of o → o ≡ Some w
-refused_word None w h = cc
-refused_word (Some v) w h = cc
+refused_word o w h = search rules
 
 module _ (d : DayRecord) (us : List Update) where
   pub none_taken : (day : DayRecord) → day ≡ d → HasTaken d us 0 day

@@ -1,40 +1,28 @@
 -- What is laid over a day, after one more update.
-use Rattle.std.proofs.Common.{◌≡◌, ℕ, zero, suc, ◌-◌, ◌<◌, ◌≤◌, Bool, true, false, List, [], ◌∷◌, ◌++◌, length, Option, None, Some, refl, sym, ap}
-use Rattle.std.proofs.Common.{◌∙◌, subst, arith}
-use Rattle.std.specs.Prelude.{unwrap_or, is_some, slice_get, if◌then◌else◌}
-use Rattle.std.specs.Option.{option_and_then, option_map, option_or}
+use Rattle.cdm_scenario.proofs.Words.{common_steps, ◌≡◌, ℕ, zero, suc, ◌-◌, ◌<◌, ◌≤◌, Bool, true, false, List, [], ◌∷◌, ◌++◌, length, Option, None}
+use Rattle.cdm_scenario.proofs.Words.{Some, refl, sym, ap, ◌∙◌, subst, arith, rules, unwrap_or, is_some, slice_get, if◌then◌else◌, option_and_then}
+use Rattle.cdm_scenario.proofs.Words.{option_map, option_or, append_assoc, get, Updates, Update, same_name, Flight, AirportRows, flight_of}
+use Rattle.cdm_scenario.proofs.Words.{runway_row, values_of, refusal_of, DayRecord, flights_in, rules_of, IsRunwayAt, IsSince, is_touched, Runway}
+use Rattle.cdm_scenario.proofs.Words.{TaxiRow}
 use Rattle.std.specs.List.{Contains}
-use Rattle.std.specs.Map.{lookup}
 use Rattle.std.specs.Cmp.Lexicographic.{same_text}
 use Rattle.std.proofs.lemmas.Cmp.{nat_list_eq_equiv}
-use Rattle.std.proofs.lemmas.List.{append_assoc, append-nil}
 use Rattle.std.proofs.lemmas.List.Sorted.{Contains-permutation, IsPermutation-sym}
 use Rattle.std.proofs.lemmas.Map.Keys.{any_passes_from_place}
 use Rattle.std.proofs.lemmas.Option.{get_or_from_slice_get, slice_get-map, slice_get_within}
-use Rattle.indexmap.specs.IndexMap.{get, Updates}
 use Rattle.cdm_flight.specs.declared.airport.RunwayRow.{RunwayRow}
 use Rattle.cdm_flight.specs.declared.place.Place.{Place}
-use Rattle.cdm_flight.specs.declared.update.Update.{Update}
 use Rattle.cdm_flight.specs.declared.values.DayValues.{DayValues}
-use Rattle.cdm_flight.specs.Names.{same_name}
-use Rattle.cdm_flight.specs.declared.flight.Flight.{Flight}
 use Rattle.cdm_flight.specs.Taxi.{TaxiRows, is_one_stand_too_many, stands_in}
-use Rattle.cdm_flight.specs.Journal.{AirportRows, flight_of, runway_row, values_of}
-use Rattle.cdm_flight.specs.Accepted.{refusal_of}
 use Rattle.cdm_flight.proofs.JournalLemmas.{same_name-refl}
 use Rattle.cdm_runway.specs.Rules.{RunwayRules}
-use Rattle.cdm_plan.specs.Day.{DayRecord, flights_in, rules_of}
-use Rattle.cdm_plan.specs.DayPlan.{IsRunwayAt}
-use Rattle.cdm_plan.specs.Kept.{IsSince, is_touched, is_untouched}
 use Rattle.cdm_plan.specs.Sound.{IsSound, TellTaxi}
 use Rattle.cdm_plan.specs.declared.touched.Touched.{Touched}
 use Rattle.cdm_day.specs.Changes.{ChangesRunway, IsChange, has_window, with_change}
 use Rattle.cdm_day.specs.declared.change.Change.{Change}
-use Rattle.cdm_day.specs.declared.change.Change.TheVariants.{NewFlight, NextRecord, Runway, TaxiRow}
 use Rattle.cdm_day.specs.declared.change.RunwayChange.{RunwayChange}
 use Rattle.cdm_day.specs.inner.Put.{flight_with, made_known, rows_with, rules_with, values_with}
 use Rattle.cdm_day.specs.inner.Tables.{Flights}
-use Rattle.cdm_plan.proofs.AskedLemmas.{untouched_counts, untouched_on, untouched_runway}
 use Rattle.cdm_plan.proofs.DayPlanLemmas.{record_name}
 use Rattle.cdm_plan.proofs.JournalFacts.{known-among}
 use Rattle.cdm_plan.proofs.NameLemmas.{find_some, rows_by_name, rows_permutation, rules_by_name, rules_in, runway_is}
@@ -66,8 +54,7 @@ name_at_place : (d : DayRecord) → IsSound d → (i : ℕ) (o : Option Flight)
 name_at_place d sound i o at = ap (option_map (λ (r : Flight). r.name)) at ∙ by (slice_get (flights_in d.journal) i) refl
   where
     by_record : (k : List ℕ) (q : Option Flight) → flight_of d.airport d.journal k ≡ q → is_some q ≡ true → option_map (λ r. r.name) q ≡ Some k
-    by_record k None e h = cc
-    by_record k (Some r) e h = ap Some (record_name d.airport d.journal k r e)
+    by_record k s e h = search (rules, record_name)
 
     by : (o : Option (List ℕ)) → slice_get (flights_in d.journal) i ≡ o → option_map (λ r. r.name) (option_and_then (flight_of d.airport d.journal) o) ≡ o
     by None e = refl
@@ -78,17 +65,7 @@ name_at_place d sound i o at = ap (option_map (λ (r : Flight). r.name)) at ∙ 
 
 pub since_noted : (first d next : DayRecord) (s t : Touched) → next ≡ d → ((r : List ℕ) → is_touched t r ≡ false → is_touched s r ≡ false)
     → IsSince first s d → IsSince first t next
-since_noted first d next s t is less since =
-    let off : (f : Flight) → is_untouched t f ≡ true → is_untouched s f ≡ true = λ f h.
-    let at = untouched_runway t f h in untouched_on s f at.0 (untouched_counts t f h) at.1 (less at.0 at.2) in
-    subst (IsSince first t) (sym is) (record {
-      airport = since.airport;
-      flight = λ test among k. since.flight test (λ f h. off f (among f h)) k;
-      flights = λ test among. since.flights test (λ f h. off f (among f h));
-      rules = λ row h. since.rules row (less row.name h);
-      taxi = λ r h place. since.taxi r (less r h) place;
-      values = λ r h. since.values r (less r h);
-    })
+since_noted first d next s t is less since = grind (arith, common_steps)
 
 -- Nothing laid over.
 
@@ -96,27 +73,14 @@ pub over_nothing : (d : DayRecord) (items : List Update) (m : Flights) (new : Li
     → items ≡ [] → m.entries ≡ []
     → new ≡ [] → own.entries ≡ [] → values ≡ values_of d.journal
     → TellChanged d.airport d.journal (d.journal ++ items) m new own None values
-over_nothing d items m new own values sound none no_flights no_new no_runways day =
-    let same : d.journal ++ items ≡ d.journal = ap (λ l. d.journal ++ l) none ∙ append-nil d.journal in
-    subst (λ (e : List Update). TellChanged d.airport d.journal e m new own None values) (sym same) (record {
-      sound = sound;
-      flights = λ f. ap (λ es. option_or (lookup (same_name f) es) (flight_of d.airport d.journal f)) (sym no_flights);
-      order = sym (ap (λ l. flights_in d.journal ++ l) no_new ∙ append-nil (flights_in d.journal));
-      runways = λ row i. ap (λ es. unwrap_or (lookup (same_name row.name) es) (rules_of d.airport d.journal row)) (sym no_runways);
-      taxi = λ base told. told;
-      day = day;
-    })
+over_nothing d items m new own values sound none no_flights no_new no_runways day = grind (arith, common_steps)
 
 module _ {g : AirportRows} {a e : List Update} {m : Flights} {new : List (List ℕ)} {own : Runways} {rows : Option TaxiRows} {values : DayValues}
     (told : TellChanged g a e m new own rows values) where
   -- The taxi times that count.
 
   pub taxi_now : (base : TaxiRows) → TellTaxi g a base → TellTaxi g e (unwrap_or rows base)
-  taxi_now base tell = by rows told.taxi
-    where
-      by : (o : Option TaxiRows) → TaxiOver g a e o → TellTaxi g e (unwrap_or o base)
-      by None over = over base tell
-      by (Some t) over = over
+  taxi_now base tell = search rules
 
   -- The runway at a place.
 
@@ -148,8 +112,7 @@ module _ {g : AirportRows} {a e : List Update} {m : Flights} {new : List (List �
       (rules_in d.airport d.journal, rules_by_name d, now ∙ ap (λ (d : DayRecord). slice_get (rules_in d.airport d.journal) i) is)
     where
       none : (q : Option RunwayRow) → option_map (rules_of g a) q ≡ None → option_map (rules_of g e) q ≡ None
-      none None h = refl
-      none (Some row) h = cc
+      none o h = search rules
 
   -- The name of the flight at a place.
 
@@ -161,8 +124,7 @@ module _ {g : AirportRows} {a e : List Update} {m : Flights} {new : List (List �
 
   pub new_name : {d : DayRecord} → record { airport = g; journal = e } ≡ d → (i k : ℕ) → length (flights_in a) ≤ i → k ≡ i - length (flights_in a)
       → slice_get new k ≡ slice_get (flights_in d.journal) i
-  new_name is i k past at =
-      ap (slice_get new) at ∙ (sym (ap (λ l. slice_get l i) told.order ∙ slice_get-back (flights_in a) new i past) ∙ ap (λ (d : DayRecord). slice_get (flights_in d.journal) i) is)
+  new_name is i k past at = search (rules, slice_get-back)
 
   -- The flight at a place, which has a record of its own or the base's.
 
@@ -177,8 +139,7 @@ module _ {g : AirportRows} {a e : List Update} {m : Flights} {new : List (List �
       ∙ ap (option_and_then (flight_of d.airport d.journal)) (old_name is sound i below (Some r) at))
     where
       either : (o : Option Flight) → option_or o (Some r) ≡ Some (unwrap_or o r)
-      either None = refl
-      either (Some x) = refl
+      either o = search rules
 
   pub no_old_flight : {d : DayRecord} → record { airport = g; journal = e } ≡ d → IsSound (record { airport = g; journal = a }) → (i : ℕ) → i < length (flights_in a)
       → None ≡ option_and_then (flight_of g a) (slice_get (flights_in a) i)
@@ -193,8 +154,7 @@ module _ {g : AirportRows} {a e : List Update} {m : Flights} {new : List (List �
   flight_left is sound i r at none = old_flight is sound i (within (slice_get (flights_in a) i) refl at) r at None (sym none)
     where
       within : (o : Option (List ℕ)) → slice_get (flights_in a) i ≡ o → Some r ≡ option_and_then (flight_of g a) o → i < length (flights_in a)
-      within None h k = cc
-      within (Some n) h k = slice_get_within (flights_in a) i n h
+      within o h k = search (rules, slice_get_within)
 
   -- What a change that is put in leaves.
 
@@ -210,44 +170,14 @@ module _ {g : AirportRows} {a e : List Update} {m : Flights} {new : List (List �
 
     -- taxi times of which none is set
     pub taxi_left : (change : Change) → IsChange d u change → ((x : TaxiRows) → rows_with change x ≡ x) → TaxiOver g a (e ++ u ∷ []) rows
-    taxi_left change what same = by rows told.taxi
-      where
-        more : (x : TaxiRows) → TellTaxi g e x → TellTaxi g (e ++ u ∷ []) x
-        more x tell = subst (TellTaxi g (e ++ u ∷ [])) (same x) ((says change what).taxi x tell)
-
-        by : (o : Option TaxiRows) → TaxiOver g a e o → TaxiOver g a (e ++ u ∷ []) o
-        by None over = λ base tell. more base (over base tell)
-        by (Some t) over = more t over
+    taxi_left change what same = search (rules, says)
 
     pub over_change : (change : Change) → IsChange d u change
         → (n : Flights) (later : List (List ℕ)) (mine : Runways) (table : Option TaxiRows) (after : DayValues)
         → ((f : List ℕ) → get same_name n f ≡ flight_with change f (get same_name m f)) → later ≡ new ++ made_known change
         → ((row : RunwayRow) → Contains g.runways row → rules_of g (e ++ u ∷ []) row ≡ unwrap_or (get same_name mine row.name) (rules_of g a row))
         → TaxiOver g a (e ++ u ∷ []) table → after ≡ values_with change values → TellChanged g a (e ++ u ∷ []) n later mine table after
-    over_change change what n later mine table after flights order runways taxi day =
-        let says = says change what in
-        record {
-          sound = says.sound;
-          flights = λ f. says.flights f ∙ (ap (flight_with change f) (told.flights f)
-              ∙ (with_or change f (get same_name m f) (flight_of g a f) ∙ ap (λ o. option_or o (flight_of g a f)) (sym (flights f))));
-          order = says.order ∙ (ap (λ l. l ++ made_known change) told.order ∙ (append_assoc (flights_in a) new (made_known change) ∙ ap (λ l. flights_in a ++ l) (sym order)));
-          runways = runways;
-          taxi = taxi;
-          day = day ∙ (ap (values_with change) told.day ∙ sym says.day);
-        }
-      where
-        with_or : (change : Change) (f : List ℕ) (o p : Option Flight) → flight_with change f (option_or o p) ≡ option_or (flight_with change f o) p
-        with_or (NewFlight r) f o p = either (same_name r.name f) r o p
-          where
-            either : (b : Bool) (r : Flight) (o p : Option Flight) → (if b then Some r else option_or o p) ≡ option_or (if b then Some r else o) p
-            either true r o p = refl
-            either false r o p = refl
-        with_or (NextRecord r) f o p = either (same_name r.name f) r o p
-          where
-            either : (b : Bool) (r : Flight) (o p : Option Flight) → (if b then Some r else option_or o p) ≡ option_or (if b then Some r else o) p
-            either true r o p = refl
-            either false r o p = refl
-        with_or _ f o p = refl
+    over_change change what n later mine table after flights order runways taxi day = grind (arith, common_steps, says, append_assoc)
 
     -- runways of which none is changed
     pub runways_left : (change : Change) → IsChange d u change → ((x : RunwayRules) → rules_with change x ≡ x)
@@ -271,11 +201,7 @@ module _ {g : AirportRows} {a e : List Update} {m : Flights} {new : List (List �
       changes = here (Runway r change) what
 
       pub runway_there : option_map (rules_of g a) (runway_row g r) ≡ None → ⊥
-      runway_there none = by (runway_row g r) changes.known none
-        where
-          by : (o : Option RunwayRow) → o ≡ Some changes.row → option_map (rules_of g a) o ≡ None → ⊥
-          by None h k = cc
-          by (Some row) h k = cc
+      runway_there none = search rules
 
       module _ (x : RunwayRules) (at : option_map (rules_of g a) (runway_row g r) ≡ Some x) where
         found : Contains g.runways changes.row × (same_name changes.row.name r ≡ true)
@@ -286,10 +212,7 @@ module _ {g : AirportRows} {a e : List Update} {m : Flights} {new : List (List �
 
         -- the runway as the base has it, and as it is now
         is_x : rules_of g a changes.row ≡ x
-        is_x = by (sym (ap (option_map (rules_of g a)) changes.known) ∙ at)
-          where
-            by : {y z : RunwayRules} → Some y ≡ Some z → y ≡ z
-            by h = cc
+        is_x = search rules
 
         now : rules_of g e changes.row ≡ unwrap_or (get same_name own r) x
         now = told.runways changes.row found.0 ∙ (λ j. unwrap_or (get same_name own (name j)) (is_x j))

@@ -1,12 +1,11 @@
 -- There is one answer of an aim.
-use Rattle.std.proofs.Common.{◌≡◌, ℕ, ◌+◌, ◌-◌, ◌<◌, ◌≤◌, Bool, true, false, nat_le, nat_lt, max, min, List, Option, Some, None, subst, sym, ◌∙◌, refl}
-use Rattle.std.proofs.Common.{arith, ap}
-use Rattle.std.proofs.lemmas.Bool.Decides.{nat_tests}
+use Rattle.cdm_sequence.proofs.Words.{common_steps, ◌≡◌, ℕ, ◌+◌, ◌<◌, ◌≤◌, Bool, true, false, List, Option, Some, None, subst, sym, ◌∙◌, refl, arith}
+use Rattle.cdm_sequence.proofs.Words.{ap, rules, nat_tests, Key}
+use Rattle.std.proofs.Common.{◌-◌, nat_le, nat_lt, max, min}
 use Rattle.std.specs.Prelude.{if◌then◌else◌}
 use Rattle.cdm_time.specs.Windows.{window_has}
 use Rattle.cdm_time.specs.declared.tolerance.Tolerance.{Tolerance}
 use Rattle.std.specs.declared.ops.Range.{Range}
-use Rattle.cdm_flight.specs.declared.key.Key.{Key}
 use Rattle.cdm_flight.specs.declared.values.DayValues.{DayValues}
 use Rattle.cdm_flight.specs.declared.flight.Flight.{Flight}
 use Rattle.cdm_sequence.specs.Aims.{TaxiTimes, ready_at, exot_to, is_candidate, IsAim}
@@ -32,8 +31,7 @@ window_of tolerance earliest ctot = record { start = window_from tolerance earli
 -- the window's minutes are the candidates
 pub window_minutes : (tolerance : Tolerance) (earliest : ℕ) (ctot : Option ℕ) (m : ℕ)
     → window_has (window_from tolerance earliest ctot) (window_to tolerance ctot) m ≡ is_candidate tolerance earliest ctot m
-window_minutes tolerance earliest None m = grind (arith, nat_tests)
-window_minutes tolerance earliest (Some ctot) m = grind (arith, nat_tests)
+window_minutes tolerance earliest ctot m = search rules
 
 -- a minute lies in a window where it lies between its bounds
 has : (w : Range ℕ) (m : ℕ) → w.start ≤ m → m < w.end → window_has w.start w.end m ≡ true
@@ -41,9 +39,6 @@ has w m from to = grind (arith, nat_tests)
 
 had : (w : Range ℕ) (m : ℕ) → window_has w.start w.end m ≡ true → (w.start ≤ m) × (m < w.end)
 had w m h = (grind (arith, nat_tests), grind (arith, nat_tests))
-
-has_none : (w : Range ℕ) (m : ℕ) → nat_lt w.start w.end ≡ false → window_has w.start w.end m ≡ false
-has_none w m h = grind (arith, nat_tests)
 
 had_none : (w : Range ℕ) → window_has w.start w.end w.start ≡ false → nat_lt w.start w.end ≡ false
 had_none w h = grind (arith, nat_tests)
@@ -61,8 +56,7 @@ window_one v w same some =
 
 reached : (tolerance : Tolerance) (earliest : ℕ) (ctot : Option ℕ) → window_from tolerance earliest ctot < window_to tolerance ctot
     → (nat_le 2880 earliest ≡ false) × (nat_lt (window_from tolerance earliest ctot) (window_to tolerance ctot) ≡ true)
-reached tolerance earliest None h = (grind (arith, nat_tests), grind (arith, nat_tests))
-reached tolerance earliest (Some ctot) h = (grind (arith, nat_tests), grind (arith, nat_tests))
+reached tolerance earliest ctot h = search rules
 
 -- The answer, step by step.
 
@@ -105,30 +99,7 @@ module _ (f : Flight) (times : TaxiTimes) (values : DayValues) where
 
   -- the answer is right
   means : (o : Option ℕ) (r : Option (List ℕ)) → IsAim (flight_with o r) times values (aim_with f times values o r)
-  means None r = refl
-  means (Some tobt) None = (refl, refl)
-  means (Some tobt) (Some runway) = by (exot_to times f runway) refl where
-    with_exot : (exot : ℕ) → exot_to times f runway ≡ Some exot → (b c : Bool) → nat_le 2880 (ready_at f tobt values + exot) ≡ b
-        → has_some f values (ready_at f tobt values + exot) ≡ c
-        → IsAim (flight_with (Some tobt) (Some runway)) times values (if_possible b c (target_of f values tobt runway exot))
-    with_exot exot h true c p q = rw h (grind (arith, nat_tests))
-    with_exot exot h false true p q = record {
-      key = refl;
-      runway = refl;
-      ctot = refl;
-      group = refl;
-      exot = h;
-      ready = refl;
-      some_minute = grind (arith, nat_tests);
-      minutes = window_minutes values.tolerance (ready_at f tobt values + exot) f.ctot;
-    }
-    with_exot exot h false false p q =
-        let window = window_of values.tolerance (ready_at f tobt values + exot) f.ctot in
-        rw h (grind (arith, nat_tests), λ m. sym (window_minutes values.tolerance (ready_at f tobt values + exot) f.ctot m) ∙ has_none window m q)
-
-    by : (x : Option ℕ) → exot_to times f runway ≡ x → IsAim (flight_with (Some tobt) (Some runway)) times values (aim_with_exot f values tobt runway x)
-    by None h = (refl, (runway, refl, h))
-    by (Some exot) h = with_exot exot h _ _ refl refl
+  means o r = grind (arith, common_steps)
 
   -- and it is the only one
   only : (o : Option ℕ) (r : Option (List ℕ)) (a : AimResult) → IsAim (flight_with o r) times values a → aim_with f times values o r ≡ a

@@ -1,11 +1,6 @@
 -- Of two placings that differ one is earlier.
-use Rattle.std.proofs.Common.{◌≡◌, ℕ, ◌==◌, Bool, true, false, not, List, Option, Some, None, sym, ◌∙◌, ap, refl, arith, inl, inr, ◌⊎◌, filter}
-use Rattle.std.specs.List.{Contains}
-use Rattle.std.proofs.lemmas.Bool.{false_from_ne_true, false≢true}
-use Rattle.std.proofs.lemmas.Bool.Decides.{nat_tests}
-use Rattle.std.proofs.lemmas.List.Elements.{All-contains, filter_passes}
-use Rattle.cdm_flight.proofs.Lists.{contains_all, contains_kept}
-use Rattle.cdm_flight.specs.Order.{is_before}
+use Rattle.cdm_sequence.proofs.Words.{◌≡◌, ℕ, ◌==◌, Bool, true, false, not, List, Option, Some, None, sym, ◌∙◌, inl, inr, ◌⊎◌, filter, rules}
+use Rattle.cdm_sequence.proofs.Words.{Contains, false_from_ne_true, false≢true, All-contains, filter_passes, contains_all, contains_kept, is_before}
 use Rattle.cdm_sequence.specs.Plan.{Placing, IsSooner, IsEarlier}
 use Rattle.cdm_sequence.specs.declared.target.Target.{Target}
 use Rattle.cdm_sequence.proofs.OrderLemmas.{first_in, keys_weak}
@@ -16,15 +11,10 @@ unlike (Some a) (Some b) = not (a == b)
 unlike _ _ = true
 
 alike : (a b : Option ℕ) → unlike a b ≡ false → a ≡ b
-alike None None h = refl
-alike (Some a) (Some b) h = let e : a ≡ b = grind (arith, nat_tests) in ap Some e
-alike _ _ h = cc
+alike a b h = search rules
 
 one_sooner : (a b : Option ℕ) → unlike a b ≡ true → IsSooner a b ⊎ IsSooner b a
-one_sooner None None h = cc
-one_sooner (Some a) (Some b) h = grind (arith, nat_tests)
-one_sooner None (Some b) h = inr tt
-one_sooner (Some a) None h = inl tt
+one_sooner a b h = search rules
 
 pub compared : (fs : List Target) (p q : Placing) → ((f : Target) → Contains fs f → p f ≡ q f) ⊎ (IsEarlier fs p q ⊎ IsEarlier fs q p)
 compared fs p q =

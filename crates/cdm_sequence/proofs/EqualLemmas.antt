@@ -1,24 +1,17 @@
 -- Values that `==` finds equal are equal, and only those.
-use Rattle.std.proofs.Common.{◌≡◌, ◌&&◌, ℕ, Bool, Option, None, Some, ap, refl, rules}
-use Rattle.std.specs.Bool.{Decides}
-use Rattle.std.specs.Option.{option_eq}
-use Rattle.std.proofs.lemmas.Bool.{false≢true}
-use Rattle.std.proofs.lemmas.Bool.Decides.{Decides-and, Decides-eqb, Decides-like}
-use Rattle.cdm_time.specs.contracts.minute.MinutePartialEq.TheImpl as minute_eq
-use Rattle.cdm_flight.specs.contracts.group.GroupPartialEq.TheImpl as group_eq
+use Rattle.cdm_sequence.proofs.Words.{◌≡◌, ◌&&◌, ℕ, Bool, Option, rules, Decides, option_eq, Decides-and, Decides-eqb, Decides-like}
 use Rattle.cdm_flight.specs.declared.group.Group.{Group}
-use Rattle.cdm_sequence.specs.contracts.slot.MarkPartialEq.TheImpl as mark_eq
-use Rattle.cdm_sequence.specs.contracts.slot.SlotPartialEq.TheImpl as slot_eq
 use Rattle.cdm_sequence.specs.declared.slot.Mark.{Mark}
 use Rattle.cdm_sequence.specs.declared.slot.Slot.{Slot}
 use Rattle.cdm_sequence.proofs.OrderLemmas.{names_decide}
+use Rattle.cdm_time.specs.contracts.minute.MinutePartialEq.TheImpl as minute_eq
+use Rattle.cdm_flight.specs.contracts.group.GroupPartialEq.TheImpl as group_eq
+use Rattle.cdm_sequence.specs.contracts.slot.MarkPartialEq.TheImpl as mark_eq
+use Rattle.cdm_sequence.specs.contracts.slot.SlotPartialEq.TheImpl as slot_eq
 
 -- what is known of both, or of neither
 pub any_decide : {X : Type 0} (e : X → X → Bool) → ((a b : X) → Decides (e a b) (a ≡ b)) → (a b : Option X) → Decides (option_eq e a b) (a ≡ b)
-any_decide e own None None = (λ h. refl, λ h. refl)
-any_decide e own (Some a) (Some b) = (λ h. ap Some ((own a b).0 h), λ h. (own a b).1 (cc))
-any_decide e own None (Some b) = (λ h. absurd (false≢true h), λ h. cc)
-any_decide e own (Some a) None = (λ h. absurd (false≢true h), λ h. cc)
+any_decide e own z2 z3 = search rules
 
 pub times_decide : (a b : Option ℕ) → Decides (option_eq (minute_eq.ghosts).eq a b) (a ≡ b)
 times_decide a b = search rules

@@ -1,3 +1,4 @@
+pub mod Words
 pub mod OrderLemmas
 pub mod DifferenceLemmas
 pub mod PlanLemmas

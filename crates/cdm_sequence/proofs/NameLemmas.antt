@@ -1,11 +1,9 @@
 -- The names that a sequence shows.
-use Rattle.std.proofs.Common.{◌≡◌, ℕ, not, cond, List, [], ◌∷◌, ◌++◌, Option, Some, None, IfSome, is_none, sym, ◌∙◌, ap, subst, refl, filter, map, append_assoc}
-use Rattle.std.specs.List.{filter_map, cons_option}
-use Rattle.std.specs.List.Sorted.{IsPermutation}
-use Rattle.std.specs.Option.{is_some, option_map}
-use Rattle.std.proofs.lemmas.List.{map-append}
-use Rattle.std.proofs.lemmas.List.Sorted.{IsPermutation-append, IsPermutation-append_right, IsPermutation-filter_both, IsPermutation-map, IsPermutation-trans}
-use Rattle.cdm_runway.specs.Rules.{RunwayRules}
+use Rattle.cdm_sequence.proofs.Words.{rules, [], ◌≡◌, ℕ, not, List, ◌∷◌, ◌++◌, Option, Some, None, is_none, sym, ◌∙◌, ap, subst, refl, filter, map}
+use Rattle.cdm_sequence.proofs.Words.{append_assoc, filter_map, IsPermutation, is_some, option_map, map-append, IsPermutation-append}
+use Rattle.cdm_sequence.proofs.Words.{IsPermutation-append_right, IsPermutation-map, IsPermutation-trans, RunwayRules}
+use Rattle.std.proofs.Common.{IfSome}
+use Rattle.std.proofs.lemmas.List.Sorted.{IsPermutation-filter_both}
 use Rattle.cdm_sequence.specs.Plan.{Placing}
 use Rattle.cdm_sequence.specs.Sequence.{planned_slot, flight_names, IsSequence}
 use Rattle.cdm_sequence.specs.declared.plan.RunwayPlan.{RunwayPlan}
@@ -17,14 +15,7 @@ use Rattle.cdm_sequence.specs.inner.Shown.{slots_by, names_left}
 pub names_given : {X Y : Type 0} (name : Y → List ℕ) (key : X → List ℕ) (h : X → Option Y) → ((f : X) → IfSome (h f) (λ y. name y ≡ key f))
     → (fs : List X) → map name (filter_map h fs) ≡ map key (filter (λ f. is_some (h f)) fs)
 names_given name key h own [] = refl
-names_given {X} {Y} name key h own (f ∷ fs) = go (h f) (own f) (names_given name key h own fs) where
-  given : List X
-  given = filter (λ f. is_some (h f)) fs
-
-  go : (o : Option Y) → IfSome o (λ y. name y ≡ key f) → map name (filter_map h fs) ≡ map key given
-      → map name (cons_option o (filter_map h fs)) ≡ map key (cond (is_some o) (f ∷ given) given)
-  go None e rest = rest
-  go (Some y) e rest = λ i. e i ∷ rest i
+names_given {X} {Y} name key h own (f ∷ fs) = search (rules, names_given name key h own fs)
 
 -- each flight has a slot, or is left without one
 pub shown_by : (p : Placing) (fixed : List Slot) (ts : List Target)

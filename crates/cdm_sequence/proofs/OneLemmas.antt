@@ -1,25 +1,13 @@
 -- A runway has one sequence, in whatever order its flights stand.
-use Rattle.std.proofs.Common.{◌≡◌, ℕ, ◌/◌, ◌==◌, Bool, false, cond, List, Option, Some, None, is_none, sym, ◌∙◌, ap, subst, refl, arith, filter, map, get_or}
-use Rattle.std.specs.declared.cmp.Ordering.{Ordering}
-use Rattle.std.specs.declared.cmp.Ordering.TheVariants.{Less, Equal, Greater}
-use Rattle.std.specs.Ordering.{is_lt, ordering_reverse, nat_cmp}
-use Rattle.std.specs.Cmp.{IsTotalOrder}
-use Rattle.std.specs.List.{Contains, IsDistinct}
-use Rattle.std.specs.List.Sorted.{IsPermutation, IsSortedBy}
-use Rattle.std.specs.Option.{option_map}
-use Rattle.std.proofs.lemmas.Bool.{false≢true}
-use Rattle.std.proofs.lemmas.Cmp.{nat_cmp_total, nat_list_cmp_total, on_total, then_total}
-use Rattle.std.proofs.lemmas.List.Elements.{All-contains, All-weaker}
-use Rattle.std.proofs.lemmas.List.Sorted.{ranks_by, All-permutation, Contains-permutation, sum_by-IsPermutation}
-use Rattle.std.proofs.lemmas.List.Sorted.{IsPermutation-sym, IsPermutation-trans, IsPermutation-append, IsPermutation-map}
-use Rattle.std.proofs.lemmas.Map.Keys.{IsDistinct-IsPermutation}
-use Rattle.cdm_flight.specs.Names.{name_cmp, same_name}
-use Rattle.cdm_flight.specs.Order.{is_before}
-use Rattle.cdm_flight.proofs.Lists.{filter_map_same, filter_same, sum_map, sorted_one, IsPermutation-filter_map, IsPermutation-filter}
-use Rattle.cdm_flight.proofs.Lists.{distinct_left, distinct_right, one_of_key}
-use Rattle.cdm_runway.specs.Rules.{RunwayRules}
-use Rattle.cdm_runway.specs.Room.{held_in_cell, meets, taken_by, IsFree, IsSpaced}
-use Rattle.cdm_runway.specs.declared.load.Taken.{Taken}
+use Rattle.cdm_sequence.proofs.Words.{rules, ◌≡◌, ℕ, ◌/◌, ◌==◌, Bool, false, cond, List, Option, is_none, sym, ◌∙◌, ap, subst, arith, filter, map}
+use Rattle.cdm_sequence.proofs.Words.{get_or, Ordering, Equal, is_lt, nat_cmp, IsTotalOrder, Contains, IsDistinct, IsPermutation, IsSortedBy}
+use Rattle.cdm_sequence.proofs.Words.{option_map, nat_cmp_total, nat_list_cmp_total, on_total, then_total, All-contains, All-weaker, ranks_by}
+use Rattle.cdm_sequence.proofs.Words.{All-permutation, Contains-permutation, IsPermutation-sym, IsPermutation-trans, IsPermutation-append}
+use Rattle.cdm_sequence.proofs.Words.{IsPermutation-map, IsDistinct-IsPermutation, name_cmp, same_name, is_before, filter_map_same}
+use Rattle.cdm_sequence.proofs.Words.{IsPermutation-filter_map, IsPermutation-filter, distinct_right, one_of_key, RunwayRules, held_in_cell, meets}
+use Rattle.cdm_sequence.proofs.Words.{taken_by, IsFree, IsSpaced, Taken}
+use Rattle.std.proofs.lemmas.List.Sorted.{sum_by-IsPermutation}
+use Rattle.cdm_flight.proofs.Lists.{filter_same, sum_map, sorted_one, distinct_left}
 use Rattle.cdm_sequence.specs.Fixed.{takeoffs}
 use Rattle.cdm_sequence.specs.Plan.{Placing, taken_before, taken_of, IsLeast}
 use Rattle.cdm_sequence.specs.Sequence.{planned_slot, flight_names, Blocks, IsRightlyBlocked, IsSequenceBy, IsSequence}
@@ -65,21 +53,12 @@ module _ (r : RunwayRules) (xs ys : List Taken) (f : Target) (same : IsPermutati
 
   -- nor its earliest one
   least_permuted : (o : Option ℕ) → IsLeast r xs f o → IsLeast r ys f o
-  least_permuted None e = λ k a b free. e k a b (free_back k free)
-  least_permuted (Some m) e = record {
-    after = e.after;
-    before = e.before;
-    free = free_permuted m e.free;
-    least = λ k a b free. e.least k a b (free_back k free);
-  }
+  least_permuted o e = search (rules, free_back, free_permuted)
 
   -- nor why it is blocked
   blocks_permuted : (rule : Rule) → Blocks r xs f rule → Blocks r ys f rule
   blocks_permuted Closure e = e
-  blocks_permuted Spacing e = record {
-    some_open = e.some_open;
-    met = λ k a b o spaced. e.met k a b o (spaced_back k spaced);
-  }
+  blocks_permuted Spacing e = search (rules, spaced_back)
   blocks_permuted Rate e = record {
     some_spaced = let (k, a, b, o, spaced) = e.some_spaced in (k, a, b, o, spaced_permuted k spaced);
     full = λ k a b o spaced. let h = held_permuted r.cell k xs ys same in let t = e.full k a b o (spaced_back k spaced) in omega arith;
@@ -142,11 +121,7 @@ sequence_agree p q r fixed ts plan agree e =
 -- One sequence.
 
 tie_from : {K : Type 0} {R : K → K → Ordering} → IsTotalOrder R → (a b : K) → is_lt (R a b) ≡ false → is_lt (R b a) ≡ false → R a b ≡ Equal
-tie_from {K} {R} o a b h k = go (R a b) refl where
-  go : (v : Ordering) → R a b ≡ v → v ≡ Equal
-  go Less e = absurd (false≢true (sym h ∙ ap is_lt e))
-  go Equal e = refl
-  go Greater e = absurd (false≢true (sym k ∙ ap is_lt (o.antisymm b a ∙ ap ordering_reverse e)))
+tie_from {K} {R} o a b h k = search rules
 
 -- a list has one order by keys of which no two tie
 pub one_order : {X K : Type 0} {R : K → K → Ordering} → IsTotalOrder R → (key : X → K) (all xs ys : List X)
@@ -163,19 +138,7 @@ slot_total = then_total (on_total (λ (s : Slot). s.ttot) nat_cmp_total) (on_tot
 
 -- one rule blocks a flight
 rule_one : (r : RunwayRules) (taken : List Taken) (f : Target) (a b : Rule) → Blocks r taken f a → Blocks r taken f b → a ≡ b
-rule_one r taken f Closure Closure h k = refl
-rule_one r taken f Spacing Spacing h k = refl
-rule_one r taken f Rate Rate h k = refl
-rule_one r taken f Closure Spacing h k = let (m, from, to, o) = k.some_open in absurd (false≢true (sym o ∙ h m from to))
-rule_one r taken f Spacing Closure h k = let (m, from, to, o) = h.some_open in absurd (false≢true (sym o ∙ k m from to))
-rule_one r taken f Closure Rate h k = let (m, from, to, o, s) = k.some_spaced in absurd (false≢true (sym o ∙ h m from to))
-rule_one r taken f Rate Closure h k = let (m, from, to, o, s) = h.some_spaced in absurd (false≢true (sym o ∙ k m from to))
-rule_one r taken f Spacing Rate h k = let (m, from, to, o, s) = k.some_spaced in absurd (h.met m from to o s)
-rule_one r taken f Rate Spacing h k = let (m, from, to, o, s) = h.some_spaced in absurd (k.met m from to o s)
-rule_one r taken f Closure _ h k = absurd k
-rule_one r taken f Spacing _ h k = absurd k
-rule_one r taken f Rate _ h k = absurd k
-rule_one r taken f _ b h k = absurd h
+rule_one r taken f a b h k = search rules
 
 -- two sequences by one placing are the same
 same_plan : (p : Placing) (r : RunwayRules) (fixed : List Slot) (ts : List Target) (x y : RunwayPlan)

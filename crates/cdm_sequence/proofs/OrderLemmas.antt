@@ -1,22 +1,12 @@
 -- The order of sequence is a strict order, total on different names.
-use Rattle.std.proofs.Common.{◌≡◌, ℕ, Bool, true, false, List, [], ◌∷◌, sym, ◌∙◌, ap, refl, arith, inl, inr, ◌⊎◌, get_or}
-use Rattle.std.specs.Bool.{Decides}
-use Rattle.std.specs.declared.cmp.Ordering.{Ordering}
-use Rattle.std.specs.declared.cmp.Ordering.TheVariants.{Less, Equal, Greater}
-use Rattle.std.specs.Ordering.{is_lt, is_eq, ordering_reverse, ordering_then, nat_cmp}
-use Rattle.std.specs.Cmp.{IsTotalOrder, IsStrictWeakOrder}
+use Rattle.cdm_sequence.proofs.Words.{◌≡◌, ℕ, Bool, true, false, List, ◌∷◌, sym, ◌∙◌, ap, refl, arith, inl, inr, ◌⊎◌, get_or, rules, [], Decides}
+use Rattle.cdm_sequence.proofs.Words.{Ordering, Less, Equal, Greater, is_lt, is_eq, ordering_reverse, ordering_then, nat_cmp, IsTotalOrder}
+use Rattle.cdm_sequence.proofs.Words.{IsStrictWeakOrder, Contains, All-contains, All-from_get_or, Contains-get_or, ranks_by, nat_cmp_total}
+use Rattle.cdm_sequence.proofs.Words.{nat_list_cmp_total, nat_list_eq_equiv, on_total, then_total, tied_itself, false≢true, Decides-eqb, Key}
+use Rattle.cdm_sequence.proofs.Words.{name_cmp, same_name, key_cmp, is_before}
 use Rattle.std.specs.Cmp.Lexicographic.{texts_ties}
-use Rattle.std.specs.List.{Contains}
-use Rattle.std.proofs.lemmas.List.Elements.{All-contains, All-from_get_or, Contains-get_or}
 use Rattle.std.proofs.lemmas.List.MinMax.{IsFirstBest-from_best_of}
-use Rattle.std.proofs.lemmas.List.Sorted.{ranks_by}
-use Rattle.std.proofs.lemmas.Cmp.{nat_cmp_total, nat_list_cmp_total, nat_list_eq_equiv, on_total, then_total, tied_itself}
-use Rattle.std.proofs.lemmas.Bool.{false≢true}
-use Rattle.std.proofs.lemmas.Bool.Decides.{Decides-eqb}
 use Rattle.std.proofs.lemmas.Slice.Eq.{slice_eq-Decides}
-use Rattle.cdm_flight.specs.declared.key.Key.{Key}
-use Rattle.cdm_flight.specs.Names.{name_cmp, same_name}
-use Rattle.cdm_flight.specs.Order.{key_cmp, is_before}
 use Rattle.cdm_sequence.specs.declared.target.Target.{Target}
 
 pub names_decide : (m n : List ℕ) → Decides (same_name m n) (m ≡ n)
@@ -33,9 +23,7 @@ pub same_flips : (m n : List ℕ) → same_name m n ≡ same_name n m
 same_flips = nat_list_eq_equiv.symm
 
 less_from : (o : Ordering) → is_lt o ≡ true → o ≡ Less
-less_from Less h = refl
-less_from Equal h = absurd (false≢true h)
-less_from Greater h = absurd (false≢true h)
+less_from o h = search rules
 
 -- names that tie in their order are equal
 pub tied_names : (m n : List ℕ) → name_cmp m n ≡ Equal → m ≡ n
@@ -55,9 +43,7 @@ before_trans a b c p q = ap is_lt (key_total.trans a b c (less_from _ p) (less_f
 
 -- where two orders tie one after the other, the last ties
 pub last_ties : (o u : Ordering) → ordering_then o u ≡ Equal → u ≡ Equal
-last_ties Less u h = cc
-last_ties Equal u h = h
-last_ties Greater u h = cc
+last_ties o u h = search rules
 
 -- of two flights with different names one comes before the other
 pub before_or_after : (a b : Key) → is_before b a ≡ false → same_name a.name b.name ≡ false → is_before a b ≡ true
@@ -71,10 +57,7 @@ before_or_after a b h n = go (key_cmp a b) refl where
   go Greater e = absurd (false≢true (sym h ∙ ap is_lt (key_total.antisymm b a ∙ ap ordering_reverse e)))
 
 pub not_back : (a b : Key) → is_before a b ≡ true → is_before b a ≡ false
-not_back a b h = go (is_before b a) refl where
-  go : (v : Bool) → is_before b a ≡ v → v ≡ false
-  go false e = refl
-  go true e = absurd (false≢true (sym (before_itself a) ∙ before_trans a b a h e))
+not_back a b h = search (rules, before_itself, before_trans)
 
 pub keys_weak : IsStrictWeakOrder (λ (x y : Target). is_before x.key y.key)
 unfolding is_before

@@ -1,19 +1,15 @@
 -- What holds of a plan, whoever made it: it is the only one, it is allowed, and no allowed placing is earlier.
-use Rattle.std.proofs.Common.{◌≡◌, ℕ, ◌+◌, ◌<◌, ◌≤◌, ◌/◌, ◌==◌, ◌&&◌, Bool, true, false, not, cond, List, [], ◌∷◌, ◌++◌, Option, Some, None}
+use Rattle.cdm_sequence.proofs.Words.{common_steps, ◌≡◌, ℕ, ◌+◌, ◌<◌, ◌≤◌, ◌/◌, ◌==◌, ◌&&◌, Bool, true, false, not, List, ◌∷◌, ◌++◌, Option, Some}
+use Rattle.cdm_sequence.proofs.Words.{None, rules, [], sym, ◌∙◌, ap, subst, refl, arith, inl, inr, filter, map, length, get_or, filter_map, Contains}
+use Rattle.cdm_sequence.proofs.Words.{IsDistinct, option_map, option_map_or, false≢true, and_parts, not-true, true_from_ne_false, Decides-eqb}
+use Rattle.cdm_sequence.proofs.Words.{All-contains, Contains-get_or, filter_passes, same_name, is_before, apart_from_head, contains_all}
+use Rattle.cdm_sequence.proofs.Words.{contains_kept, contains_head, contains_tail, filter_map_same, RunwayRules, cap_at, held_in_cell, taken_by}
+use Rattle.cdm_sequence.proofs.Words.{IsFree, Taken}
+use Rattle.std.proofs.Common.{count_by, eq-eqb}
 use Rattle.std.specs.Prelude.{slice_index}
-use Rattle.std.proofs.Common.{sym, ◌∙◌, ap, subst, refl, arith, inl, inr, count_by, filter, map, length, get_or, eq-eqb}
-use Rattle.std.specs.List.{filter_map, cons_option, Contains, IsDistinct}
-use Rattle.std.specs.Option.{IfSome, option_map, option_map_or}
-use Rattle.std.proofs.lemmas.Bool.{false≢true, and_parts, not-true, true_from_ne_false}
-use Rattle.std.proofs.lemmas.Bool.Decides.{Decides-eqb}
-use Rattle.std.proofs.lemmas.List.Sums.{sum_by-append, sum_by-cons}
-use Rattle.std.proofs.lemmas.List.Elements.{All-contains, Contains-get_or, filter_passes}
-use Rattle.cdm_flight.specs.Names.{same_name}
-use Rattle.cdm_flight.specs.Order.{is_before}
-use Rattle.cdm_flight.proofs.Lists.{apart_from_head, contains_all, contains_kept, contains_head, contains_tail, distinct_filter, filter_map_same}
-use Rattle.cdm_runway.specs.Rules.{RunwayRules}
-use Rattle.cdm_runway.specs.Room.{cap_at, held_in_cell, taken_by, IsFree}
-use Rattle.cdm_runway.specs.declared.load.Taken.{Taken}
+use Rattle.std.specs.Option.{IfSome}
+use Rattle.std.proofs.lemmas.List.Sums.{sum_by-append}
+use Rattle.cdm_flight.proofs.Lists.{distinct_filter}
 use Rattle.cdm_sequence.specs.Plan.{Placing, taken_before, taken_of, IsLeast, IsPlan, MayHave, IsAllowed, IsSooner, IsEarlier, IsFirst}
 use Rattle.cdm_sequence.specs.declared.target.Target.{Target}
 use Rattle.cdm_sequence.proofs.OrderLemmas.{before_itself, before_or_after, first_in, is_same, keys_weak, same_is}
@@ -35,13 +31,10 @@ Fits r taken f m = (f.window.start ≤ m) × (m < f.window.end) × IsFree r take
 
 -- none is sooner than its earliest
 fits_later : (r : RunwayRules) (taken : List Taken) (f : Target) (o u : Option ℕ) → IfSome o (Fits r taken f) → IsLeast r taken f u → IsSooner o u → ⊥
-fits_later r taken f None u fits least s = s
-fits_later r taken f (Some m) None fits least s = least m fits.0 fits.1 fits.2
-fits_later r taken f (Some m) (Some n) fits least s = let l = least.least m fits.0 fits.1 fits.2 in omega arith
+fits_later r taken f o u fits least s = search rules
 
 least_fits : (r : RunwayRules) (taken : List Taken) (f : Target) (o : Option ℕ) → IsLeast r taken f o → IfSome o (Fits r taken f)
-least_fits r taken f None least = tt
-least_fits r taken f (Some m) least = (least.after, least.before, least.free)
+least_fits r taken f o least = search rules
 
 module _ (r : RunwayRules) (fixed : List Taken) (ts : List Target) where
   -- each flight has its earliest minute
@@ -50,9 +43,7 @@ module _ (r : RunwayRules) (fixed : List Taken) (ts : List Target) where
 
   -- where a placing is earlier than the plan, its first other minute doesn't fit
   none_fits : (p q : Placing) → IsPlan r fixed ts p → (e : IsEarlier ts q p) → IfSome (q e.first) (Fits r (taken_before r fixed ts q e.first) e.first) → ⊥
-  none_fits p q plan e fits =
-      fits_later r (taken_before r fixed ts q e.first) e.first (q e.first) (p e.first) fits
-      (subst (λ (xs : List Taken). IsLeast r xs e.first (p e.first)) (sym (taken_agree r fixed ts q p e.first e.agree)) (least_of p plan e.first e.among)) e.sooner
+  none_fits p q plan e fits = search (rules, fits_later, taken_agree, least_of)
 
   -- there is one plan
   pub plan_one : (p q : Placing) → IsPlan r fixed ts p → IsPlan r fixed ts q → (f : Target) → Contains ts f → p f ≡ q f
@@ -76,29 +67,7 @@ module _ (r : RunwayRules) (fixed : List Taken) (ts : List Target) where
 given_parted : {X Y : Type 0} (t : Y → Bool) (p : X → Option Y) (b : X → Bool) (xs : List X)
     → count_by t (filter_map p xs) ≡ count_by t (filter_map p (filter b xs)) + length (filter (λ x. not (b x) && option_map_or t (p x) false) xs)
 given_parted t p b [] = refl
-given_parted {X} {Y} t p b (x ∷ xs) = go (b x) (given_parted t p b xs) where
-  others : List X
-  others = filter (λ x. not (b x) && option_map_or t (p x) false) xs
-
-  all : List Y
-  all = filter_map p xs
-
-  some : List Y
-  some = filter_map p (filter b xs)
-
-  go : (v : Bool) → count_by t all ≡ count_by t some + length others → count_by t (cons_option (p x) all)
-      ≡ count_by t (filter_map p (cond v (x ∷ filter b xs) (filter b xs))) + length (cond (not v && option_map_or t (p x) false) (x ∷ others) others)
-  go true e = elim (p x) as (λ o. count_by t (cons_option o all) ≡ count_by t (cons_option o some) + length others) [
-    | None ↦ e
-    | Some m ↦ let a = sum_by-cons (λ k. cond (t k) 1 0) m all in let c = sum_by-cons (λ k. cond (t k) 1 0) m some in omega arith
-  ]
-  go false e = elim (p x) as (λ o. count_by t (cons_option o all) ≡ count_by t some + length (cond (option_map_or t o false) (x ∷ others) others)) [
-    | None ↦ e
-    | Some m ↦
-        let one : (u : Bool) → cond u 1 0 + count_by t all ≡ count_by t some + length (cond u (x ∷ others) others) =
-        elim [ true ↦ omega arith | false ↦ omega arith ] in
-        sum_by-cons (λ k. cond (t k) 1 0) m all ∙ one (t m)
-  ]
+given_parted {X} {Y} t p b (x ∷ xs) = grind (arith, common_steps, given_parted t p b xs)
 
 -- flights of one name of which each has a name of its own are one at most
 one_at_most : (name : List ℕ) (fs : List Target) → IsDistinct same_name (map (λ f. f.key.name) fs)
@@ -124,12 +93,7 @@ module _ (r : RunwayRules) (fixed : List Taken) (ts : List Target) (p : Placing)
   held_parted : (f : Target)
       → held_in_cell r.cell (fixed ++ filter_map (taken_of r p) ts) m ≡ held_in_cell r.cell (taken_before r fixed ts p f) m + length (filter (rest f) ts)
   unfolding rest here
-  held_parted f =
-      let w : Taken → ℕ = λ t. cond (t.minute / r.cell == m / r.cell) 1 0 in
-      let a = sum_by-append w fixed (filter_map (taken_of r p) ts) in
-      let b = sum_by-append w fixed (filter_map (taken_of r p) (filter (λ g. is_before g.key f.key) ts)) in
-      let c = given_parted (λ (t : Taken). t.minute / r.cell == m / r.cell) (taken_of r p) (λ g. is_before g.key f.key) ts in
-      omega arith
+  held_parted f = search (rules, sum_by-append, given_parted)
 
   is_here : (f : Target) → p f ≡ Some m → here f ≡ true
   unfolding here

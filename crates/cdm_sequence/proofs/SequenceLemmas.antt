@@ -1,28 +1,19 @@
 -- What decisions that were made one after another show is the runway's sequence.
-use Rattle.std.proofs.Common.{◌≡◌, ℕ, suc, ◌+◌, ◌≤◌, Bool, true, false, cond, List, [], ◌∷◌, ◌++◌, Option, None, Some, IfSome, Result, Ok, Err, is_none}
-use Rattle.std.proofs.Common.{sym, ◌∙◌, ap, subst, refl, arith, inl, inr, filter, map, length, get_or, length-append, append_assoc}
+use Rattle.cdm_sequence.proofs.Words.{common_steps, ◌≡◌, ℕ, ◌+◌, ◌≤◌, Bool, true, false, cond, List, ◌∷◌, ◌++◌, Option, [], sym, ◌∙◌, ap, subst, refl}
+use Rattle.cdm_sequence.proofs.Words.{arith, inl, inr, filter, map, length, get_or, append_assoc, rules, filter_map, AllPairs, Contains, IsDistinct}
+use Rattle.cdm_sequence.proofs.Words.{IsPermutation, IsSortedByKey, IsSorted, option_and_then, option_map, option_to_list, nat_list_eq_equiv}
+use Rattle.cdm_sequence.proofs.Words.{append-nil, All-contains, Contains-get_or, All-permutation, length_permutation, IsPermutation-sym}
+use Rattle.cdm_sequence.proofs.Words.{IsPermutation-map, IsDistinct-IsPermutation, apart_from_distinct, name_cmp, same_name, key_cmp, is_before}
+use Rattle.cdm_sequence.proofs.Words.{contains_cases, contains_from_map, contains_head, contains_tail, All-given, filter_map_same, distinct_right}
+use Rattle.cdm_sequence.proofs.Words.{RunwayRules, taken_by, Gives, Taken}
+use Rattle.std.proofs.Common.{suc, IfSome, Result, Ok, Err, length-append}
 use Rattle.std.specs.Map.{lookup}
-use Rattle.std.specs.List.{filter_map, cons_option, AllPairs, Contains, IsDistinct}
-use Rattle.std.specs.List.Sorted.{IsPermutation, IsSortedByKey, IsSorted}
-use Rattle.std.specs.Option.{option_and_then, option_map, option_to_list}
-use Rattle.std.proofs.lemmas.Bool.{false≢true}
-use Rattle.std.proofs.lemmas.Cmp.{nat_list_eq_equiv}
-use Rattle.std.proofs.lemmas.List.{append-nil}
-use Rattle.std.proofs.lemmas.List.Elements.{All-contains, Contains-get_or, filter_map-append}
-use Rattle.std.proofs.lemmas.List.Sorted.{All-permutation, length_permutation, sorted_far}
-use Rattle.std.proofs.lemmas.List.Sorted.{IsPermutation-refl, IsPermutation-sym, IsPermutation-map}
-use Rattle.std.proofs.lemmas.Map.Keys.{IsDistinct-IsPermutation, apart_from_distinct}
+use Rattle.std.proofs.lemmas.List.Elements.{filter_map-append}
+use Rattle.std.proofs.lemmas.List.Sorted.{sorted_far, IsPermutation-refl}
 use Rattle.std.proofs.lemmas.Map.Views.{lookup-from_Contains}
 use Rattle.std.proofs.lemmas.Simd.{map-map}
-use Rattle.cdm_flight.specs.Names.{name_cmp, same_name}
-use Rattle.cdm_flight.specs.Order.{key_cmp, is_before}
-use Rattle.cdm_flight.proofs.Lists.{contains_cases, contains_from_map, contains_head, contains_map, contains_tail, All-given, filter_map-map, filter_map_cons}
-use Rattle.cdm_flight.proofs.Lists.{filter_map_same, distinct_by, distinct_right}
-use Rattle.cdm_runway.specs.Rules.{RunwayRules}
-use Rattle.cdm_runway.specs.Room.{taken_by, Gives}
-use Rattle.cdm_runway.specs.declared.load.Taken.{Taken}
+use Rattle.cdm_flight.proofs.Lists.{contains_map, filter_map-map, filter_map_cons, distinct_by}
 use Rattle.cdm_runway.specs.declared.load.Blocked.{Blocked}
-use Rattle.cdm_runway.specs.declared.load.Blocked.TheVariants.{Closure, Spacing, Rate}
 use Rattle.cdm_sequence.specs.Fixed.{takeoffs}
 use Rattle.cdm_sequence.specs.Plan.{Placing, taken_before, taken_of, IsLeast}
 use Rattle.cdm_sequence.specs.Sequence.{planned_slot, flight_names, Blocks, IsRightlyBlocked, IsSequence}
@@ -53,8 +44,7 @@ blocked_given ds = filter_map (λ d. blocked_from d.target d.outcome) ds
 -- One after another.
 
 pub at_most_one : (o : Option Taken) → length (option_to_list o) ≤ 1
-at_most_one None = omega arith
-at_most_one (Some m) = omega arith
+at_most_one o = search rules
 
 -- one more decision at the end
 pub decided_push : (r : RunwayRules) (taken : List Taken) (ds : List Decision) (d : Decision) → AreDecided r taken ds → IsDecided r (taken ++ minutes_of r ds) d
@@ -67,36 +57,23 @@ decided_push r taken (e ∷ ds) d a h =
     (a.0, decided_push r (taken ++ now) ds d a.1 (subst (λ (xs : List Taken). IsDecided r xs d) same h))
 
 pub minutes_push : (r : RunwayRules) (ds : List Decision) (d : Decision) → minutes_of r (ds ++ d ∷ []) ≡ minutes_of r ds ++ option_to_list (taken_in r d)
-minutes_push r ds d =
-    filter_map-append (taken_in r) ds (d ∷ [])
-    ∙ ap (λ (xs : List Taken). minutes_of r ds ++ xs) (filter_map_cons (taken_in r) d [] ∙ append-nil (option_to_list (taken_in r d)))
+minutes_push r ds d = search (rules, filter_map-append, filter_map_cons, append-nil)
 
 -- as many slots and blocked flights as decisions
 given_lengths : (ds : List Decision) → length (slots_given ds) + length (blocked_given ds) ≡ length ds
 given_lengths [] = refl
-given_lengths (d ∷ ds) = go d.outcome (given_lengths ds) where
-  go : (o : Result ℕ Blocked) → length (slots_given ds) + length (blocked_given ds) ≡ length ds
-      → length (cons_option (option_map (planned_slot d.target) (placed_at o)) (slots_given ds))
-      + length (cons_option (blocked_from d.target o) (blocked_given ds)) ≡ suc (length ds)
-  go (Ok m) e = omega arith
-  go (Err reason) e = omega arith
+given_lengths (d ∷ ds) = search (rules, given_lengths ds)
 
 -- so as many as flights
 pub as_many : (fixed : List Slot) (ds : List Decision) (ss : List Slot) (bs : List BlockedFlight) → IsPermutation (fixed ++ slots_given ds) ss
     → IsPermutation (blocked_given ds) bs → length ss + length bs ≡ length fixed + length ds
-as_many fixed ds ss bs slots blocked =
-    let a = length_permutation (fixed ++ slots_given ds) ss slots in
-    let b = length_permutation (blocked_given ds) bs blocked in
-    let c = length-append fixed (slots_given ds) in
-    let e = given_lengths ds in
-    omega arith
+as_many fixed ds ss bs slots blocked = search (rules, length_permutation, length-append, given_lengths)
 
 -- Each in its turn.
 
 filter_none : {X : Type 0} (p : X → Bool) (xs : List X) → ((x : X) → Contains xs x → p x ≡ false) → filter p xs ≡ []
 filter_none p [] none = refl
-filter_none {X} p (x ∷ xs) none =
-    ap (λ b. cond b (x ∷ filter p xs) (filter p xs)) (none x (contains_head x xs)) ∙ filter_none p xs (λ y i. none y (contains_tail x xs y i))
+filter_none {X} p (x ∷ xs) none = grind (arith, common_steps, filter_none p xs (λ y i. none y (contains_tail x xs y i)))
 
 -- each comes before those after it
 abbrev Rise : List Target → Type 0
@@ -147,32 +124,18 @@ decided_each r p taken (e ∷ ds) a up agree d i =
 
 least_from_gives : (r : RunwayRules) (xs : List Taken) (f : Target) (o : Result ℕ Blocked) → Gives r xs f.group f.window.start f.window.end o
     → IsLeast r xs f (placed_at o)
-least_from_gives r xs f (Ok m) e = e
-least_from_gives r xs f (Err Closure) e = λ k a b free. absurd (false≢true (sym free.is_open ∙ e k a b))
-least_from_gives r xs f (Err Spacing) e = λ k a b free. e.met k a b free.is_open free.is_spaced
-least_from_gives r xs f (Err Rate) e = λ k a b free. let t = e.full k a b free.is_open free.is_spaced in let room = free.has_room in omega arith
+least_from_gives r xs f o e = search rules
 
 blocks_from_gives : (r : RunwayRules) (xs : List Taken) (f : Target) (reason : Blocked) → Gives r xs f.group f.window.start f.window.end (Err reason)
     → Blocks r xs f (rule_for reason)
-blocks_from_gives r xs f Closure e = e
-blocks_from_gives r xs f Spacing e = e
-blocks_from_gives r xs f Rate e = e
+blocks_from_gives r xs f reason e = search rules
 
 -- What is shown.
 
 -- a placing that has what was decided leaves the flights that are blocked
 names_shown : (p : Placing) (ds : List Decision) → Agrees p ds → names_left p (targets_of ds) ≡ map (λ b. b.name) (blocked_given ds)
 names_shown p [] agree = refl
-names_shown p (d ∷ ds) agree = go d.outcome (p d.target) (agree d (contains_head d ds)) (names_shown p ds (λ e i. agree e (contains_tail d ds e i))) where
-  free : List Target
-  free = filter (λ f. is_none (p f)) (targets_of ds)
-
-  go : (o : Result ℕ Blocked) (m : Option ℕ) → m ≡ placed_at o → names_left p (targets_of ds) ≡ map (λ b. b.name) (blocked_given ds)
-      → map (λ f. f.key.name) (cond (is_none m) (d.target ∷ free) free) ≡ map (λ b. b.name) (cons_option (blocked_from d.target o) (blocked_given ds))
-  go (Ok m) None h e = cc
-  go (Ok m) (Some n) h e = e
-  go (Err reason) None h e = λ i. d.target.key.name ∷ e i
-  go (Err reason) (Some n) h e = cc
+names_shown p (d ∷ ds) agree = grind (arith, common_steps, names_shown p ds (λ e i. agree e (contains_tail d ds e i)))
 
 -- the decisions of all targets, made in the order of sequence, and what is shown of them
 pub record IsMade (r : RunwayRules) (fixed : List Slot) (targets : List Target) (ds : List Decision) (plan : RunwayPlan) : Type 0 where

@@ -1,17 +1,12 @@
 -- Asking each flight against those before it is asking all pairs.
-use Rattle.std.proofs.Common.{◌≡◌, ℕ, ◌+◌, Bool, true, false, List, [], ◌∷◌, ◌++◌, Option, Some, None, sym, ◌∙◌, ap, subst, refl, arith, inl, inr, map, filter, get_or}
+use Rattle.cdm_sequence.proofs.Words.{common_steps, ◌≡◌, ℕ, ◌+◌, Bool, true, false, List, ◌∷◌, ◌++◌, Option, Some, None, sym, ◌∙◌, ap, subst, refl}
+use Rattle.cdm_sequence.proofs.Words.{arith, inl, inr, map, filter, get_or, [], Contains, IsDistinct, cons_option, filter_map, option_map, false≢true}
+use Rattle.cdm_sequence.proofs.Words.{All-append, All-contains, Contains-get_or, filter_passes, same_name, is_before, All-given, contains_all}
+use Rattle.cdm_sequence.proofs.Words.{contains_cases, contains_head, contains_kept, contains_tail, one_of_key, RunwayRules, IsSpaced, meets, taken_by}
+use Rattle.cdm_sequence.proofs.Words.{Taken}
 use Rattle.std.specs.Prelude.{nat_lt}
-use Rattle.std.specs.List.{Contains, IsDistinct, cons_option, filter_map}
-use Rattle.std.specs.Option.{IfSome, option_map}
+use Rattle.std.specs.Option.{IfSome}
 use Rattle.std.proofs.Math.Nat.{max_comm, min_comm}
-use Rattle.std.proofs.lemmas.Bool.{false≢true}
-use Rattle.std.proofs.lemmas.List.Elements.{All-append, All-contains, Contains-get_or, filter_passes}
-use Rattle.cdm_flight.specs.Names.{same_name}
-use Rattle.cdm_flight.specs.Order.{is_before}
-use Rattle.cdm_flight.proofs.Lists.{All-given, contains_all, contains_cases, contains_head, contains_kept, contains_tail, one_of_key}
-use Rattle.cdm_runway.specs.Rules.{RunwayRules}
-use Rattle.cdm_runway.specs.Room.{IsSpaced, meets, taken_by}
-use Rattle.cdm_runway.specs.declared.load.Taken.{Taken}
 use Rattle.cdm_sequence.specs.Plan.{IsSpacedInOrder, IsSpacedInPairs, Placing, taken_before, taken_of}
 use Rattle.cdm_sequence.specs.declared.target.Target.{Target}
 use Rattle.cdm_sequence.proofs.OrderLemmas.{before_itself, before_or_after, same_flips}
@@ -34,11 +29,7 @@ contains_given h (z ∷ zs) x y i e = elim (contains_cases z zs x i) [
 ]
 
 contains_left : {X : Type 0} (xs ys : List X) (x : X) → Contains xs x → Contains (xs ++ ys) x
-contains_left [] ys x i = absurd (omega (arith, i.1))
-contains_left (z ∷ zs) ys x i = elim (contains_cases z zs x i) [
-  | inl same ↦ subst (λ w. Contains (z ∷ (zs ++ ys)) w) same (contains_head z (zs ++ ys))
-  | inr j ↦ contains_tail z (zs ++ ys) x (contains_left zs ys x j)
-]
+contains_left xs ys x i = grind (arith, common_steps)
 
 contains_right : {X : Type 0} (xs ys : List X) (x : X) → Contains ys x → Contains (xs ++ ys) x
 contains_right [] ys x i = i
@@ -55,9 +46,7 @@ module _ (r : RunwayRules) (fixed : List Taken) (ts : List Target) (p : Placing)
   Clear f m t = meets (taken_by r f.group m) t ≡ false
 
   spaced_at : IsSpacedInOrder r fixed ts p → (f : Target) (m : ℕ) → Contains ts f → p f ≡ Some m → IsSpaced r (taken_before r fixed ts p f) f.group m
-  spaced_at order f m i e =
-      subst (λ o. IfSome o (IsSpaced r (taken_before r fixed ts p f) f.group)) e
-      (All-contains (λ f. IfSome (p f) (IsSpaced r (taken_before r fixed ts p f) f.group)) ts f order i)
+  spaced_at order f m i e = grind (arith, common_steps)
 
   -- a flight meets none before it
   clear_of_earlier : IsSpacedInOrder r fixed ts p → (f g : Target) (m k : ℕ) → Contains ts f → Contains ts g → is_before g.key f.key ≡ true

@@ -57,6 +57,7 @@ pub fn one_is_earlier()
 {}
 
 /// Where each flight is asked against those before it alone, all pairs of flights have been asked; names are their own.
+#[tactic(auto, using(crate::proofs::SpacingLemmas::in_pairs, crate::proofs::SpacingLemmas::in_order))]
 pub fn spaced_in_order_is_spaced()
     ensures in_pairs { (r : RunwayRules) (fixed : List Taken) (targets : List Target) (p : Placing) →
         IsSpacedInOrder r fixed targets p → IsSpacedInPairs r fixed targets p }

@@ -1,5 +1,4 @@
-use Rattle.std.proofs.Common.{◌≡◌, ℕ, ◌<◌, ◌≤◌, get_or}
-use Rattle.cdm_flight.specs.declared.airport.RunwayRow.{RunwayRow}
+use Rattle.cdm_day.proofs.Words.{◌≡◌, ℕ, ◌<◌, ◌≤◌, get_or, RunwayRow}
 use Rattle.cdm_day.specs.Airport.{spaced}
 use Rattle.cdm_day.proofs.airport.space_rows.Given as goal
 

@@ -1,21 +1,14 @@
-use Rattle.std.proofs.Common.{◌≡◌, Some, sym, ap, ◌∙◌}
-use Rattle.cdm_plan.proofs.ListWords.{option_copied}
-use Rattle.cdm_flight.specs.declared.reach.Reach.TheVariants as reach
-use Rattle.cdm_day.proofs.DayWords.{flight_of, step_of}
-use Rattle.cdm_plan.proofs.DayPlanLemmas.{record_name}
+use Rattle.cdm_day.proofs.Words.{sym, ap, ◌∙◌, rules, option_copied, record_name}
+use Rattle.cdm_day.proofs.DayWords.{step_of}
 use Rattle.cdm_day.proofs.WordLemmas.{flight-unknown, stepped}
+use Rattle.cdm_flight.specs.declared.reach.Reach.TheVariants as reach
 use Rattle.cdm_day.proofs.step.flight_after.Goals as goal
 
 pub returns-in_default-clause-refused : goal.returns-in_default-clause-refused
-returns-in_default-clause-refused g c =
-    let d = g.R.Records.day c.args.records.now in
-    sym (flight-unknown d c.flight.ensures.sound c.args.update.now c.args.flight (sym c.flight.ensures.value ∙ ap option_copied c.in_default.is) c.requires.runway)
+returns-in_default-clause-refused g c = search (rules, flight-unknown)
 
 pub step-requires-clause-of_this : goal.step-requires-clause-of_this
-step-requires-clause-of_this g c =
-    let d = g.R.Records.day c.args.records.now in
-    let there : flight_of d.airport d.journal c.args.flight ≡ Some c.in-Some.record.now = sym c.flight.ensures.value ∙ ap option_copied c.in-Some.is in
-    c.requires.of_flight ∙ ap reach.Flight (sym (record_name d.airport d.journal c.args.flight c.in-Some.record.now there))
+step-requires-clause-of_this g c = search (rules, record_name)
 
 pub returns : goal.returns
 returns g c =

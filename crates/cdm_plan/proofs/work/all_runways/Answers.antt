@@ -1,4 +1,4 @@
-use Rattle.std.proofs.Common.{◌++◌, [], ◌≤◌, length, sym, subst, ◌∙◌, arith}
+use Rattle.std.proofs.Common.{◌++◌, ◌≤◌, length, sym, subst, ◌∙◌, arith, []}
 use Rattle.cdm_plan.proofs.ListWords.{cons_option}
 use Rattle.cdm_plan.proofs.PlanWords.{AreByName}
 use Rattle.cdm_plan.proofs.NameLemmas.{all_taken, length-by_name, rules_by_name, rules_in, runway_is, take-next}

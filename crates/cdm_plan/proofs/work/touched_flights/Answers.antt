@@ -1,5 +1,7 @@
-use Rattle.std.proofs.Common.{◌≡◌, ℕ, zero, suc, ◌+◌, ◌-◌, ◌<◌, Bool, true, List, ◌++◌, ◌∷◌, [], ◌≤◌, Option, None, Some, filter, map, not, length, slice_get, take, sym, ap, ◌∙◌, arith}
-use Rattle.std.specs.Prelude.{IfSome, if◌then◌else◌}
+use Rattle.std.proofs.lemmas.Grind.{common_steps}
+use Rattle.std.proofs.Common.{◌≡◌, ℕ, zero, suc, ◌+◌, ◌-◌, ◌<◌, Bool, true, List, ◌++◌, ◌∷◌, ◌≤◌, Option, Some, filter, map, not, slice_get}
+use Rattle.std.proofs.Common.{take, sym, ap, ◌∙◌, arith, []}
+use Rattle.std.specs.Prelude.{IfSome}
 use Rattle.cdm_plan.proofs.ListWords.{append-nil, All-nil, cons_option, filter_map, filter-append, option_and_then, option_map}
 use Rattle.cdm_plan.proofs.PlanWords.{Flight, asked_of, flight_of, flights_in, gone_of, is_planned, is_untouched, planned_of, taxi_of}
 use Rattle.cdm_sequence.specs.Aims.{TaxiTimes}
@@ -8,7 +10,6 @@ use Rattle.cdm_plan.specs.declared.brief.Brief.{Brief}
 use Rattle.cdm_plan.specs.declared.touched.Touched.{Touched}
 use Rattle.cdm_plan.specs.inner.Work.{HasExot, is_standing}
 use Rattle.cdm_plan.proofs.DayPlanLemmas.{records-next}
-use Rattle.cdm_plan.proofs.NameLemmas.{all_taken}
 use Rattle.cdm_plan.proofs.work.touched_flights.Goals as goal
 
 -- what passes two tests in two lists
@@ -18,21 +19,14 @@ passing p q xs ys = ap (filter p) (filter-append q xs ys) ∙ filter-append p (f
 -- a flight that stands is none of those that are asked
 standing : (t : Touched) (times : TaxiTimes) (known : Option Flight) (kept : Option Brief) → IfSome kept (λ b. option_map (brief_of times) known ≡ Some b)
     → is_standing t kept ≡ true → asked_of t (cons_option known []) ≡ []
-standing t times known None same stands = absurd (cc stands)
-standing t times known (Some b) same stands = by known (ap (is_standing t) same ∙ stands)
-  where
-    by : (known : Option Flight) → is_standing t (option_map (brief_of times) known) ≡ true → asked_of t (cons_option known []) ≡ []
-    by None is = absurd (cc is)
-    by (Some f) is = ap (λ x. if not x then f ∷ [] else []) is
+standing t times known kept same stands = grind (arith, common_steps)
 
 -- so those up to a place are those up to a later one, where all between stand
 asked-same : (t : Touched) (times : TaxiTimes) (flight : List ℕ → Option Flight) (names : List (List ℕ)) (briefs : List Brief)
     → ((k : ℕ) → IfSome (slice_get briefs k) (λ b. option_map (brief_of times) (option_and_then flight (slice_get names k)) ≡ Some b))
     → (place more end : ℕ) → end ≡ place + more → ((k : ℕ) → place ≤ k → k < end → is_standing t (slice_get briefs k) ≡ true)
     → asked_of t (filter_map flight (take end names)) ≡ asked_of t (filter_map flight (take place names))
-asked-same t times flight names briefs each place zero end is stand =
-    let same : end ≡ place = omega (arith, is) in
-    ap (λ n. asked_of t (filter_map flight (take n names))) same
+asked-same t times flight names briefs each place zero end is stand = grind (arith, common_steps)
 asked-same t times flight names briefs each place (suc more) end is stand =
     let last = place + more in
     let known = option_and_then flight (slice_get names last) in
@@ -102,19 +96,3 @@ loop-place-preserved-in_default g c =
       few = (omega (arith, c.loop-place.invariant.few.0), omega (arith, c.loop-place.invariant.few.1));
       room = c.loop-place.invariant.room;
     }
-
-pub returns-clause-gone : goal.returns-clause-gone
-returns-clause-gone g c =
-    let d = g.R.Records.day c.args.records.now in
-    let t = c.args.touched.now in
-    let end : length (flights_in d.journal) ≤ c.loop-place.place = omega (arith, c.flights-known.ensures.value) in
-    c.loop-place.invariant.gone
-    ∙ ap (λ ns. gone_of (asked_of t (filter_map (flight_of d.airport d.journal) ns))) (all_taken (flights_in d.journal) c.loop-place.place end)
-
-pub returns-clause-asked : goal.returns-clause-asked
-returns-clause-asked g c =
-    let d = g.R.Records.day c.args.records.now in
-    let t = c.args.touched.now in
-    let end : length (flights_in d.journal) ≤ c.loop-place.place = omega (arith, c.flights-known.ensures.value) in
-    c.loop-place.invariant.asked
-    ∙ ap (λ ns. planned_of (asked_of t (filter_map (flight_of d.airport d.journal) ns))) (all_taken (flights_in d.journal) c.loop-place.place end)

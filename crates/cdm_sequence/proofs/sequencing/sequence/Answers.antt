@@ -1,17 +1,10 @@
-use Rattle.std.proofs.Common.{◌≡◌, ◌+◌, ◌<◌, Bor, List, [], ◌∷◌, length, map, ap, ◌∙◌, arith}
-use Rattle.std.proofs.lemmas.List.{get_or-map, length-map}
-use Rattle.std.specs.List.Sorted.{IsSortedByKey}
-use Rattle.std.proofs.lemmas.List.Sorted.{length_permutation}
-use Rattle.cdm_flight.specs.Names.{same_name}
-use Rattle.cdm_flight.specs.Order.{key_cmp}
-use Rattle.cdm_runway.specs.Load.{Load}
-use Rattle.cdm_runway.specs.Room.{taken_by}
+use Rattle.cdm_sequence.proofs.Words.{◌≡◌, ◌+◌, ◌<◌, Bor, List, [], ◌∷◌, length, map, ap, ◌∙◌, arith, get_or-map, length-map, IsSortedByKey}
+use Rattle.cdm_sequence.proofs.Words.{length_permutation, same_name, key_cmp, Load, taken_by, distinct_right}
 use Rattle.cdm_sequence.specs.declared.decision.Decision.{Decision}
 use Rattle.cdm_sequence.specs.Fixed.{takeoffs}
 use Rattle.cdm_sequence.specs.declared.slot.Slot.{Slot}
 use Rattle.cdm_sequence.specs.declared.target.Target.{Target}
 use Rattle.cdm_sequence.proofs.NameLemmas.{all_shown}
-use Rattle.cdm_flight.proofs.Lists.{distinct_right}
 use Rattle.cdm_sequence.specs.Plan.{Placing, IsFirst}
 use Rattle.cdm_sequence.specs.Sequence.{IsSequenceBy}
 use Rattle.cdm_sequence.proofs.PlanLemmas.{first_one, plan_first}

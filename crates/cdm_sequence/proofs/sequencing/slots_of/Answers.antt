@@ -1,5 +1,4 @@
-use Rattle.std.proofs.Common.{rules}
-use Rattle.std.proofs.lemmas.List.Sorted.{answers_always}
+use Rattle.cdm_sequence.proofs.Words.{rules, answers_always}
 use Rattle.cdm_sequence.proofs.sequencing.slots_of.Goals as goal
 
 pub returns-clause-sorted : goal.returns-clause-sorted

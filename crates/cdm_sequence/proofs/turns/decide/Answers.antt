@@ -1,6 +1,4 @@
-use Rattle.std.proofs.Common.{sym, subst, ◌∙◌}
-use Rattle.cdm_runway.specs.Load.{Load}
-use Rattle.cdm_runway.specs.Passed.{ArePassed}
+use Rattle.cdm_sequence.proofs.Words.{sym, subst, ◌∙◌, Load, ArePassed}
 use Rattle.cdm_runway.proofs.PassedLemmas.{passed_more}
 use Rattle.cdm_sequence.proofs.turns.decide.Goals.{in-Ok, in_default}
 use Rattle.cdm_sequence.proofs.turns.decide.Goals as goal

@@ -1,10 +1,7 @@
-use Rattle.std.proofs.Common.{◌≡◌, ℕ, ◌+◌, ◌<◌, ◌++◌, ◌∷◌, [], Bor, get_or, take, length, List, ap, map, subst, sym, ◌∙◌, arith, append_assoc}
+use Rattle.cdm_sequence.proofs.Words.{◌≡◌, ℕ, ◌+◌, ◌<◌, ◌++◌, ◌∷◌, [], Bor, get_or, take, length, List, ap, map, subst, sym, ◌∙◌, arith, append_assoc}
+use Rattle.cdm_sequence.proofs.Words.{filter_map, option_to_list, append-nil, map-append, map_more, take-map, Load, Taken}
 use Rattle.cdm_sequence.specs.declared.target.Target.{Target}
-use Rattle.std.specs.List.{filter_map}
-use Rattle.std.specs.Option.{option_to_list}
-use Rattle.std.proofs.lemmas.List.{append-nil, length-append, map-append, map_more, take-map}
-use Rattle.cdm_runway.specs.Load.{Load}
-use Rattle.cdm_runway.specs.declared.load.Taken.{Taken}
+use Rattle.std.proofs.lemmas.List.{length-append}
 use Rattle.cdm_sequence.specs.declared.decision.Decision.{Decision}
 use Rattle.cdm_sequence.specs.inner.Turns.{taken_in, AreDecided}
 use Rattle.cdm_sequence.proofs.SequenceLemmas.{decided_push, minutes_of, at_most_one, minutes_push}

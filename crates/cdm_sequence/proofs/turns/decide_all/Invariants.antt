@@ -1,6 +1,4 @@
-use Rattle.std.proofs.Common.{◌≡◌, ◌≤◌, ◌+◌, ◌++◌, take, map, length}
-use Rattle.std.specs.List.{filter_map}
-use Rattle.cdm_runway.specs.Passed.{ArePassed}
+use Rattle.cdm_sequence.proofs.Words.{◌≡◌, ◌≤◌, ◌+◌, ◌++◌, take, map, length, filter_map, ArePassed}
 use Rattle.cdm_sequence.specs.inner.Turns.{taken_in, AreDecided}
 use Rattle.cdm_sequence.proofs.turns.decide_all.Given as goal
 

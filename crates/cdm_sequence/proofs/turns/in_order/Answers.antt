@@ -1,6 +1,4 @@
-use Rattle.std.proofs.Common.{rules, List, Bor, map, subst}
-use Rattle.std.specs.List.Sorted.{IsPermutation}
-use Rattle.std.proofs.lemmas.List.Sorted.{answers_always, IsPermutation-map}
+use Rattle.cdm_sequence.proofs.Words.{rules, List, Bor, map, subst, IsPermutation, answers_always, IsPermutation-map}
 use Rattle.cdm_sequence.specs.declared.target.Target.{Target}
 use Rattle.cdm_sequence.proofs.turns.in_order.Goals as goal
 

@@ -1,5 +1,4 @@
-use Rattle.std.proofs.Common.{◌≡◌, ◌++◌, take, drop, map, length, ap, ◌∙◌, arith}
-use Rattle.std.proofs.lemmas.Grind.{common_steps}
+use Rattle.cdm_day.proofs.Words.{◌≡◌, ◌++◌, take, drop, map, length, ap, ◌∙◌, arith, common_steps}
 use Rattle.cdm_day.specs.Airport.{spaced}
 use Rattle.cdm_day.proofs.AirportLemmas.{airport_with_space}
 use Rattle.cdm_day.proofs.airport.Airport.add_space.Goals as goal

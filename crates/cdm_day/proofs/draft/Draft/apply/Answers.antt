@@ -1,4 +1,4 @@
-use Rattle.std.proofs.Common.{◌≡◌, ◌+◌, ◌∷◌, drop, sym, ◌∙◌, subst, add-one, drop-cons}
+use Rattle.std.proofs.Common.{◌≡◌, ◌+◌, ◌∷◌, drop, sym, ◌∙◌, subst, add-one, drop-cons, rules}
 use Rattle.std.proofs.Math.ListN.{drop_of_length-le}
 use Rattle.cdm_day.proofs.BatchLemmas.{SoFar, so_far_more, so_far_day, so_far_replies}
 use Rattle.cdm_day.proofs.draft.Draft.apply.Goals as goal
@@ -19,11 +19,7 @@ loop-role-preserved c =
     }
 
 pub returns-clause-day : goal.returns-clause-day
-returns-clause-day c =
-    so_far_day c.args.self.now.tables c.args.batch.now c.loop-role.self.tables c.loop-role.replies.items
-    _ c.loop-role.invariant.so_far (drop_of_length-le c.args.batch.now c.loop-role-test.false)
+returns-clause-day c = search (rules, so_far_day, drop_of_length-le)
 
 pub returns-clause-replies : goal.returns-clause-replies
-returns-clause-replies c =
-    so_far_replies c.args.self.now.tables c.args.batch.now c.loop-role.self.tables c.loop-role.replies.items
-    _ c.loop-role.invariant.so_far (drop_of_length-le c.args.batch.now c.loop-role-test.false)
+returns-clause-replies c = search (rules, so_far_replies, drop_of_length-le)

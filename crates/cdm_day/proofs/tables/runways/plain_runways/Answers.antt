@@ -1,5 +1,4 @@
-use Rattle.std.proofs.Common.{rules}
-use Rattle.cdm_plan.proofs.ListWords.{answers_always}
+use Rattle.cdm_day.proofs.Words.{rules, answers_always}
 use Rattle.cdm_day.proofs.tables.runways.plain_runways.Goals as goal
 
 pub returns-clause-sorted : goal.returns-clause-sorted

@@ -1,4 +1,4 @@
-use Rattle.std.proofs.Common.{◌≡◌, ℕ, [], ◌∷◌, ◌++◌, ap, ◌∙◌, false, refl}
+use Rattle.std.proofs.Common.{◌≡◌, ℕ, [], ◌∷◌, ◌++◌, ap, ◌∙◌, false, rules}
 use Rattle.cdm_flight.specs.declared.reach.Reach.TheVariants as reach
 use Rattle.cdm_time.specs.declared.tolerance.Tolerance.{Tolerance}
 use Rattle.cdm_flight.specs.declared.update.Update.{Update as AnUpdate}
@@ -18,9 +18,7 @@ returns-in-Tol c = λ a h.
     ∙ (values_of-tolerance a c.in-Tol.tolerance ∙ ap (λ (v : DayValues). record v { tolerance = c.in-Tol.tolerance }) h)
 
 not_day : (u : AnUpdate) → ((m : ℕ) → u ≡ Clock m → ⊥) → ((t : Tolerance) → u ≡ Tol t → ⊥) → same_reach (reach_of u) reach.Day ≡ false
-not_day (Clock m) h k = absurd (h m refl)
-not_day (Tol t) h k = absurd (k t refl)
-not_day _ h k = refl
+not_day u h k = search rules
 
 pub returns-in_default : goal.returns-in_default
 returns-in_default c = λ a h. values_of-untouched a c.args.update.now (not_day c.args.update.now c.in_default.not-Clock c.in_default.not-Tol) ∙ h

@@ -1,4 +1,4 @@
-use Rattle.std.proofs.Common.{Bor, ◌<◌, ◌++◌, ◌∷◌, [], Option, length, take, sym, ◌∙◌, ap, arith}
+use Rattle.std.proofs.Common.{Bor, ◌<◌, ◌++◌, ◌∷◌, Option, length, take, sym, ◌∙◌, ap, arith, []}
 use Rattle.cdm_plan.proofs.ListWords.{cons_option, filter_map, take_more, filter_map-append}
 use Rattle.cdm_plan.proofs.PlanWords.{RunwayRules, RunwayPlan, kept_plan}
 use Rattle.cdm_plan.proofs.kept.Kept.copied_plans.Goals as goal

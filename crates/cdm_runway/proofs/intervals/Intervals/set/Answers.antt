@@ -1,7 +1,5 @@
-use Rattle.std.proofs.Common.{◌≡◌, ℕ, ◌∙◌, ap, length, sym, arith}
-use Rattle.std.specs.Prelude.{if◌then◌else◌}
+use Rattle.cdm_runway.proofs.Words.{◌≡◌, ℕ, ◌∙◌, ap, length, sym, arith, if◌then◌else◌, window_has}
 use Rattle.std.proofs.lemmas.Bool.{not-false}
-use Rattle.cdm_time.specs.Windows.{window_has}
 use Rattle.cdm_runway.specs.inner.Intervals.{value_at}
 use Rattle.cdm_runway.proofs.IntervalLemmas.{given_as_rest, in_three_parts, length-values_of, values_of-with_range}
 use Rattle.cdm_runway.proofs.intervals.Intervals.set.Goals.{then-ne+in_ok-push_joined, else-ne}

@@ -1,6 +1,5 @@
-use Rattle.std.proofs.Common.{◌<◌, sym, arith}
+use Rattle.cdm_runway.proofs.Words.{◌<◌, sym, arith, nat_tests}
 use Rattle.cdm_runway.specs.inner.Tally.{noted}
-use Rattle.std.proofs.lemmas.Bool.Decides.{nat_tests}
 use Rattle.cdm_runway.proofs.LoadLemmas.{met_either}
 use Rattle.cdm_runway.proofs.load.RunwayLoad.met_until.Goals as goal
 

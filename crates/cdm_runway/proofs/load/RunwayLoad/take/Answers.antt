@@ -1,7 +1,4 @@
-use Rattle.std.proofs.Common.{◌≡◌, ◌<◌, ◌++◌, ◌∷◌, [], ℕ, List, max, ap, ◌∙◌, arith}
-use Rattle.std.specs.Prelude.{slice_index}
-use Rattle.std.proofs.lemmas.Grind.{common_steps, get_or_default_zero}
-use Rattle.std.proofs.lemmas.List.{map-append}
+use Rattle.cdm_runway.proofs.Words.{◌≡◌, ◌<◌, ◌++◌, ◌∷◌, [], ℕ, List, max, ap, ◌∙◌, arith, slice_index, common_steps, get_or_default_zero, map-append}
 use Rattle.cdm_runway.specs.inner.Tally.{noted}
 use Rattle.cdm_runway.proofs.LoadLemmas.{longest-push}
 use Rattle.cdm_runway.specs.declared.load.Taken.{Taken}

@@ -1,5 +1,4 @@
-use Rattle.std.proofs.Common.{subst, sym, ap, ◌∙◌, arith}
-use Rattle.std.proofs.lemmas.Grind.{common_steps}
+use Rattle.cdm_runway.proofs.Words.{subst, sym, ap, ◌∙◌, arith, common_steps}
 use Rattle.cdm_runway.specs.Rules.{RunwayRules, AreRules, is_rate_window}
 use Rattle.cdm_runway.specs.Room.{cap_at}
 use Rattle.cdm_runway.proofs.RulesLemmas.{cap_at-with_rate, are_rules-with_rate}

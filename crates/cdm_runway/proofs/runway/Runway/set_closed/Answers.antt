@@ -1,5 +1,4 @@
-use Rattle.std.proofs.Common.{ap, subst, ◌∙◌, arith}
-use Rattle.std.proofs.lemmas.Grind.{common_steps}
+use Rattle.cdm_runway.proofs.Words.{ap, subst, ◌∙◌, arith, common_steps}
 use Rattle.cdm_runway.specs.Rules.{RunwayRules, AreRules}
 use Rattle.cdm_runway.specs.Room.{is_closed}
 use Rattle.cdm_runway.proofs.RulesLemmas.{is_closed-with_closed}

@@ -1,13 +1,11 @@
-use Rattle.std.proofs.Common.{[], ◌∷◌, ◌++◌, refl, sym, ap, ◌∙◌}
-use Rattle.std.specs.Option.{option_copied}
-use Rattle.std.proofs.lemmas.List.{append-nil, append_assoc}
-use Rattle.cdm_flight.specs.declared.flight.Flight.{Flight}
-use Rattle.cdm_day.specs.declared.change.Change.TheVariants.{NewFlight, NextRecord, Runway, TaxiRow, Values}
+use Rattle.cdm_scenario.proofs.Words.{[], ◌∷◌, ◌++◌, refl, sym, ap, ◌∙◌, option_copied, append-nil, append_assoc, Flight, NewFlight, NextRecord}
+use Rattle.cdm_scenario.proofs.Words.{Runway, TaxiRow, Values}
 use Rattle.cdm_day.proofs.TableLemmas.{has_record}
 use Rattle.cdm_scenario.proofs.OverlayLemmas.{over_change, row_fits, runway_changed, runway_there, runways_left, taxi_left, taxi_set, window_over}
+use Rattle.cdm_scenario.proofs.laid.LaidTakes.take.Goals.{in-NewFlight+in_ok-reserve-in-NewFlight+in_ok-insert-in-NewFlight}
+use Rattle.cdm_scenario.proofs.laid.LaidTakes.take.Goals.{in-NextRecord+in_ok-insert-in-NextRecord, in-Runway+in-Some+in_ok-change_over-in-Runway}
+use Rattle.cdm_scenario.proofs.laid.LaidTakes.take.Goals.{in-TaxiRow+in_ok-set_over-in-TaxiRow, in-Values}
 use Rattle.cdm_scenario.proofs.laid.LaidTakes.take.Goals as goal
-use Rattle.cdm_scenario.proofs.laid.LaidTakes.take.Goals.{in-NewFlight+in_ok-reserve-in-NewFlight+in_ok-insert-in-NewFlight, in-NextRecord+in_ok-insert-in-NextRecord}
-use Rattle.cdm_scenario.proofs.laid.LaidTakes.take.Goals.{in-Runway+in-Some+in_ok-change_over-in-Runway, in-TaxiRow+in_ok-set_over-in-TaxiRow, in-Values}
 
 pub set_over-requires : goal.set_over-requires
 set_over-requires c =

@@ -1,15 +1,11 @@
-use Rattle.std.proofs.Common.{refl, sym}
-use Rattle.std.proofs.lemmas.List.{map-id}
+use Rattle.cdm_day.proofs.Words.{refl, sym, rules, map-id}
 use Rattle.cdm_plan.proofs.ListWords.{arc_value}
 use Rattle.cdm_day.proofs.BriefLemmas.{none}
 use Rattle.cdm_day.proofs.TableLemmas.{flight_in, where_both, where_ok}
 use Rattle.cdm_day.proofs.tables.parts.Parts.put.Goals as goal
 
 pub returns-in-NewFlight-clause-ok : goal.returns-in-NewFlight-clause-ok
-returns-in-NewFlight-clause-ok c =
-    where_both c.set_flight.result c.set_flight.ensures.known c.set_flight.ensures.entries
-    (λ set entries. flight_in c.args.self.now c.set_flight.new.self c.args.change c.in-NewFlight.flight c.in-NewFlight.is set entries
-    c.set_flight.ensures.others.0 c.set_flight.ensures.others.1 c.set_flight.ensures.others.2 c.set_flight.ensures.briefs)
+returns-in-NewFlight-clause-ok c = search (rules, where_both, flight_in)
 
 pub returns-in-Runway-clause-ok : goal.returns-in-Runway-clause-ok
 returns-in-Runway-clause-ok c =

@@ -1,8 +1,5 @@
-use Rattle.std.proofs.Common.{◌≡◌, sym, ap, ◌∙◌, map}
+use Rattle.cdm_day.proofs.Words.{◌≡◌, sym, ap, ◌∙◌, map, values_of, insert_index, values, same_name}
 use Rattle.std.specs.Arc.{arc_value}
-use Rattle.std.specs.Map.{values_of}
-use Rattle.indexmap.specs.IndexMap.{insert_index, values}
-use Rattle.cdm_flight.specs.Names.{same_name}
 use Rattle.cdm_day.specs.inner.Briefs.{brief_by, put_at}
 use Rattle.cdm_day.proofs.BriefLemmas.{given-insert_entry}
 use Rattle.cdm_day.proofs.tables.parts.Parts.set_flight.Goals as goal

@@ -1,8 +1,6 @@
-use Rattle.std.proofs.Common.{◌≡◌, Some, sym}
+use Rattle.cdm_day.proofs.Words.{◌≡◌, Some, sym, get, same_name}
 use Rattle.std.specs.Prelude.{slice_get}
 use Rattle.cdm_plan.proofs.ListWords.{arc_value}
-use Rattle.indexmap.specs.IndexMap.{get}
-use Rattle.cdm_flight.specs.Names.{same_name}
 use Rattle.cdm_day.proofs.TableLemmas.{flight_placed}
 use Rattle.cdm_day.proofs.tables.records.TablesRecords.known_at.Goals as goal
 

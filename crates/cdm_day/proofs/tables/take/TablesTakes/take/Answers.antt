@@ -1,13 +1,12 @@
+use Rattle.std.proofs.Common.{rules}
 use Rattle.cdm_day.proofs.TableLemmas.{has_place, told_after}
 use Rattle.cdm_day.proofs.tables.take.TablesTakes.take.Goals as goal
 
 pub put-requires : goal.put-requires
-put-requires c =
-    has_place _ c.args.update c.self.inside.parts c.self.invariant (rw (← c.self.view_is) at c.requires.accepted) c.args.change (rw (← c.self.view_is) at c.requires.change)
+put-requires c = search (rules, has_place)
 
 pub put-requires-2 : goal.put-requires-2
-put-requires-2 c =
-    has_place _ c.args.update c.self.inside.parts c.self.invariant (rw (← c.self.view_is) at c.requires.accepted) c.args.change (rw (← c.self.view_is) at c.requires.change)
+put-requires-2 c = search (rules, has_place)
 
 pub invariant_of-self-in-Some : goal.invariant_of-self-in-Some
 invariant_of-self-in-Some c =

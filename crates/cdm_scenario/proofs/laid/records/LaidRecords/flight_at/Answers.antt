@@ -1,11 +1,5 @@
-use Rattle.std.proofs.Common.{◌≡◌, ◌-◌, ◌<◌, ◌≤◌, None, Some, sym, ap, ◌∙◌, length, arith}
-use Rattle.std.specs.Prelude.{slice_get}
-use Rattle.std.specs.Option.{option_and_then, option_copied}
-use Rattle.indexmap.specs.IndexMap.{get}
-use Rattle.cdm_flight.specs.declared.flight.Flight.{Flight}
-use Rattle.cdm_flight.specs.Journal.{flight_of}
-use Rattle.cdm_flight.specs.Names.{same_name}
-use Rattle.cdm_plan.specs.Day.{flights_in}
+use Rattle.cdm_scenario.proofs.Words.{◌≡◌, ◌-◌, ◌<◌, ◌≤◌, None, Some, sym, ap, ◌∙◌, length, arith, slice_get, option_and_then, option_copied, get}
+use Rattle.cdm_scenario.proofs.Words.{Flight, flight_of, same_name, flights_in}
 use Rattle.cdm_scenario.proofs.OverlayLemmas.{new_name, no_old_flight, old_flight}
 use Rattle.cdm_scenario.proofs.laid.records.LaidRecords.flight_at.Goals as goal
 

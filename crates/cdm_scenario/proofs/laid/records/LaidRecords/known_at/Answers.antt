@@ -1,15 +1,9 @@
-use Rattle.std.proofs.Common.{◌≡◌, false, Option, None, Some, refl, sym, ap, ◌∙◌}
-use Rattle.std.specs.Prelude.{is_some, not}
-use Rattle.std.specs.Option.{option_copied}
-use Rattle.indexmap.specs.IndexMap.{get}
-use Rattle.cdm_flight.specs.declared.flight.Flight.{Flight}
-use Rattle.cdm_flight.specs.Names.{same_name}
+use Rattle.cdm_scenario.proofs.Words.{◌≡◌, false, Option, None, sym, ap, ◌∙◌, rules, is_some, not, option_copied, get, Flight, same_name}
 use Rattle.cdm_scenario.proofs.OverlayLemmas.{flight_left}
 use Rattle.cdm_scenario.proofs.laid.records.LaidRecords.known_at.Goals as goal
 
 nothing : {X : Type 0} (o : Option X) → is_some o ≡ false → o ≡ None
-nothing None h = refl
-nothing (Some x) h = cc
+nothing o h = search rules
 
 pub returns-clause-flight : goal.returns-clause-flight
 returns-clause-flight c =

@@ -1,8 +1,4 @@
-use Rattle.std.proofs.Common.{None, Some, sym, ap, subst, ◌∙◌}
-use Rattle.std.specs.Option.{option_copied}
-use Rattle.indexmap.specs.IndexMap.{get}
-use Rattle.cdm_flight.specs.Names.{same_name}
-use Rattle.cdm_plan.specs.DayPlan.{IsRunwayAt}
+use Rattle.cdm_scenario.proofs.Words.{None, Some, sym, ap, subst, ◌∙◌, option_copied, get, same_name, IsRunwayAt}
 use Rattle.cdm_scenario.proofs.OverlayLemmas.{over_no_runway, over_runway}
 use Rattle.cdm_scenario.proofs.laid.records.LaidRecords.runway_at.Goals as goal
 
