@@ -1,22 +1,12 @@
 -- Members and objects, written token by token.
-use Rattle.std.proofs.Common.{◌≡◌, ◌∙◌, ◌++◌, ◌+◌, ◌-◌, ◌<◌, ◌≤◌, ℕ, List, [], ◌∷◌, append_assoc, arith, get_or, length, map, refl, sym, take, ap, Result, Ok, Err, IfOk}
-use Rattle.std.specs.Prelude.{codes, flat_map, zip}
-use Rattle.std.specs.List.{range_with_len}
+use Rattle.cdm_json.proofs.Words.{◌≡◌, ◌∙◌, ◌++◌, ◌+◌, ◌-◌, ◌<◌, ◌≤◌, ℕ, List, [], ◌∷◌, append_assoc, arith, get_or, length, map, refl, sym, take, ap}
+use Rattle.cdm_json.proofs.Words.{Result, Ok, Err, IfOk, codes, flat_map, zip, range_with_len, flat_map_more, take_more, Json, string, Token}
+use Rattle.cdm_json.proofs.Words.{begin_array, begin_object, end_array, end_object, key, json_tokens, date_text, time_text, CalendarDate, text_of}
+use Rattle.cdm_json.proofs.Words.{RefusalWord, RunwayRules, Value, array_of, count_json, json_value, member_tokens, array_written}
 use Rattle.cdm_view.proofs.RangeLemmas.{range-append}
 use Rattle.std.proofs.lemmas.Grind.{flat_map-append}
-use Rattle.std.proofs.lemmas.List.{append-nil, flat_map_more, take_more}
+use Rattle.std.proofs.lemmas.List.{append-nil}
 use Rattle.std.proofs.lemmas.Slice.Zip.{get_or-zip, length-zip}
-use Rattle.json.specs.Json.{Json, string}
-use Rattle.json.specs.Token.{Token, begin_array, begin_object, end_array, end_object, key}
-use Rattle.json.specs.Tree.{json_tokens}
-use Rattle.cdm_time.specs.Times.{date_text, time_text}
-use Rattle.cdm_time.specs.declared.calendar.CalendarDate.{CalendarDate}
-use Rattle.cdm_flight.specs.Words.{text_of}
-use Rattle.cdm_flight.specs.declared.word.RefusalWord.{RefusalWord}
-use Rattle.cdm_runway.specs.Rules.{RunwayRules}
-use Rattle.cdm_row.specs.Columns.{Value}
-use Rattle.cdm_row.specs.Json.{array_of, count_json, json_value, member_tokens}
-use Rattle.cdm_row.proofs.TokenLemmas.{array_written}
 use Rattle.cdm_json.specs.Loads.{runway_members}
 use Rattle.cdm_json.specs.Plans.{day_members, refused_json}
 

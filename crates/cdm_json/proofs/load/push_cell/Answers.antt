@@ -1,6 +1,4 @@
-use Rattle.std.proofs.Common.{◌++◌}
-use Rattle.std.proofs.lemmas.Result.{on_ok_weaker}
-use Rattle.cdm_row.proofs.TokenLemmas.{object_written}
+use Rattle.cdm_json.proofs.Words.{◌++◌, on_ok_weaker, object_written}
 use Rattle.cdm_json.specs.Loads.{cell_members, names_members}
 use Rattle.cdm_json.proofs.TokenLemmas.{more_parts}
 use Rattle.cdm_json.proofs.load.push_cell.Goals as goal

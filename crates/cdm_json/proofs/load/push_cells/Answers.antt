@@ -1,6 +1,5 @@
-use Rattle.std.specs.Prelude.{codes, map}
-use Rattle.std.proofs.lemmas.Result.{on_ok_weaker}
-use Rattle.cdm_view.specs.Load.{told_cells}
+use Rattle.cdm_json.proofs.Words.{codes, on_ok_weaker, told_cells}
+use Rattle.std.specs.Prelude.{map}
 use Rattle.cdm_json.specs.Loads.{cell_json}
 use Rattle.cdm_json.proofs.TokenLemmas.{array_member}
 use Rattle.cdm_json.proofs.load.push_cells.Goals as goal

@@ -1,10 +1,5 @@
-use Rattle.std.proofs.Common.{ℕ, List, [], ◌∷◌, ◌*◌, length}
-use Rattle.std.specs.Prelude.{codes}
-use Rattle.std.proofs.lemmas.Result.{on_ok_weaker}
-use Rattle.json.specs.Json.{Json, string}
-use Rattle.cdm_time.specs.Times.{time_text}
-use Rattle.cdm_view.specs.Load.{cap_of_cell, closed_in_cell, flights_in_cell}
-use Rattle.cdm_row.specs.Json.{count_json}
+use Rattle.cdm_json.proofs.Words.{ℕ, List, [], ◌∷◌, ◌*◌, length, codes, on_ok_weaker, Json, string, time_text, cap_of_cell, closed_in_cell}
+use Rattle.cdm_json.proofs.Words.{flights_in_cell, count_json}
 use Rattle.cdm_json.proofs.TokenLemmas.{more_members, one_member}
 use Rattle.cdm_json.proofs.load.push_numbers.Goals as goal
 

@@ -1,8 +1,4 @@
-use Rattle.std.proofs.Common.{ℕ, List, [], ◌∷◌}
-use Rattle.std.specs.Prelude.{codes}
-use Rattle.std.proofs.lemmas.Result.{on_ok_weaker}
-use Rattle.json.specs.Json.{Json}
-use Rattle.cdm_row.specs.Json.{count_json}
+use Rattle.cdm_json.proofs.Words.{ℕ, List, [], ◌∷◌, codes, on_ok_weaker, Json, count_json}
 use Rattle.cdm_json.proofs.TokenLemmas.{more_members, one_member}
 use Rattle.cdm_json.proofs.plan.push_counts.Goals as goal
 

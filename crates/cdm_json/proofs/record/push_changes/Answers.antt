@@ -1,8 +1,4 @@
-use Rattle.std.proofs.Common.{ℕ, List, [], ◌∷◌, map}
-use Rattle.std.specs.Prelude.{codes}
-use Rattle.std.proofs.lemmas.Result.{on_ok_weaker}
-use Rattle.json.specs.Json.{Json}
-use Rattle.cdm_row.specs.Json.{array_of, count_json, row_json}
+use Rattle.cdm_json.proofs.Words.{ℕ, List, [], ◌∷◌, map, codes, on_ok_weaker, Json, array_of, count_json, row_json}
 use Rattle.cdm_json.proofs.TokenLemmas.{more_members, named_member, one_member}
 use Rattle.cdm_json.proofs.record.push_changes.Goals as goal
 

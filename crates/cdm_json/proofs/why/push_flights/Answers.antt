@@ -1,6 +1,5 @@
-use Rattle.std.specs.Prelude.{codes, map}
-use Rattle.std.proofs.lemmas.Result.{on_ok_weaker}
-use Rattle.json.specs.Json.{string}
+use Rattle.cdm_json.proofs.Words.{codes, on_ok_weaker, string}
+use Rattle.std.specs.Prelude.{map}
 use Rattle.cdm_json.proofs.TokenLemmas.{array_member}
 use Rattle.cdm_json.proofs.why.push_flights.Goals as goal
 

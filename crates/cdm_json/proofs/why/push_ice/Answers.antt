@@ -1,9 +1,4 @@
-use Rattle.std.proofs.Common.{ℕ, List, [], ◌∷◌}
-use Rattle.std.specs.Prelude.{codes}
-use Rattle.std.proofs.lemmas.Result.{on_ok_weaker}
-use Rattle.json.specs.Json.{Json, string}
-use Rattle.cdm_row.specs.Json.{count_json}
-use Rattle.cdm_row.proofs.TokenLemmas.{object_written}
+use Rattle.cdm_json.proofs.Words.{ℕ, List, [], ◌∷◌, codes, on_ok_weaker, Json, string, count_json, object_written}
 use Rattle.cdm_json.specs.Whys.{ice_kind, ice_minutes}
 use Rattle.cdm_json.proofs.TokenLemmas.{more_members, one_member}
 use Rattle.cdm_json.proofs.why.push_ice.Goals as goal

@@ -1,9 +1,4 @@
-use Rattle.std.proofs.Common.{ℕ, List, [], ◌∷◌}
-use Rattle.std.specs.Prelude.{codes}
-use Rattle.std.proofs.lemmas.Result.{on_ok_weaker}
-use Rattle.json.specs.Json.{Json, string}
-use Rattle.cdm_time.specs.Times.{time_text}
-use Rattle.cdm_row.specs.Json.{json_value}
+use Rattle.cdm_json.proofs.Words.{ℕ, List, [], ◌∷◌, codes, on_ok_weaker, Json, string, time_text, json_value}
 use Rattle.cdm_json.specs.Whys.{reason_cap, reason_word}
 use Rattle.cdm_json.proofs.TokenLemmas.{more_members, one_member}
 use Rattle.cdm_json.proofs.why.push_minutes.Goals as goal

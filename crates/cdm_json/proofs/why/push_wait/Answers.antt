@@ -1,6 +1,4 @@
-use Rattle.std.proofs.Common.{◌++◌}
-use Rattle.std.proofs.lemmas.Result.{on_ok_weaker}
-use Rattle.cdm_row.proofs.TokenLemmas.{object_written}
+use Rattle.cdm_json.proofs.Words.{◌++◌, on_ok_weaker, object_written}
 use Rattle.cdm_json.specs.Whys.{flights_members, minute_members, reason_flights}
 use Rattle.cdm_json.proofs.TokenLemmas.{more_parts}
 use Rattle.cdm_json.proofs.why.push_wait.Goals as goal
