@@ -17,14 +17,14 @@ pub use Rattle.cdm_sequence.specs.Words.{all_rules}
 pub use Rattle.cdm_sequence.specs.declared.plan.Plan.{Plan}
 pub use Rattle.cdm_time.specs.Times.{date_text, time_text}
 pub use Rattle.cdm_time.specs.declared.calendar.CalendarDate.{CalendarDate}
-pub use Rattle.cdm_view.specs.Load.{cap_of_cell, closed_in_cell, flights_in_cell, is_asked, told_cells, usual_cap}
+pub use Rattle.cdm_view.specs.Load.{flights_in_cell, is_asked, usual_cap}
 pub use Rattle.json.specs.Json.{Json, if_last, max_depth, string, value}
 pub use Rattle.json.specs.Print.{ends, print}
 unfoldable pub use Rattle.json.specs.Print.{print_from}
 pub use Rattle.json.specs.Token.{Token, begin_array, begin_object, end_array, end_object, key}
 pub use Rattle.json.specs.Tree.{depth, json_tokens}
 pub use Rattle.std.proofs.Common.{Bool, Err, IfOk, List, None, Ok, Option, Result, Some, [], ap, append-nil, append_assoc, arith, cond, false, fold}
-pub use Rattle.std.proofs.Common.{get_or, length, map, refl, rules, subst, suc, sym, take, true, zero, ℕ, ◌*◌, ◌++◌, ◌+◌, ◌-◌, ◌<◌, ◌==◌, ◌∙◌, ◌∷◌}
+pub use Rattle.std.proofs.Common.{get_or, length, map, refl, rules, subst, suc, sym, take, true, zero, ℕ, ◌++◌, ◌+◌, ◌-◌, ◌<◌, ◌==◌, ◌∙◌, ◌∷◌}
 pub use Rattle.std.proofs.Common.{◌≡◌, ◌≤◌}
 pub use Rattle.std.proofs.lemmas.List.{flat_map_more, map-append, take_more}
 pub use Rattle.std.proofs.lemmas.Result.{on_ok_weaker}
