@@ -48,9 +48,7 @@ unless-refused false word g h k e = let same : g ≡ h = cc in subst IsAirport s
 record-kept : (s : Option AirportRows) (said : AirportRecord) → Keeps s → IfOk (with_record s said) Keeps
 unfolding with_record
 record-kept None (Day day) k = airport_without_rows _ refl refl
-record-kept None (Runway r cell cap) k = tt
-record-kept None (Taxi place r minutes) k = tt
-record-kept None (Space r group minutes) k = tt
+record-kept None _ k = tt
 record-kept (Some g) (Day day) k = tt
 record-kept (Some g) (Runway r cell cap) k = row-kept (with_runway g r cell cap) (λ h. airport_after_runway g h r cell cap k)
 record-kept (Some g) (Taxi place r minutes) k = row-kept (with_taxi g place r minutes) (λ h. airport_after_taxi g h place r minutes k)
@@ -58,11 +56,10 @@ record-kept (Some g) (Space r group minutes) k =
     row-kept (with_space g r group minutes) (λ h. unless-refused (not (has_runway g r)) Unknown _ h (airport_with_space r group minutes g k))
 
 fields-kept : (s : Option AirportRows) (fields : List (List ℕ)) → Keeps s → IfOk (and_then (airport_record_of fields) (with_record s)) Keeps
-fields-kept s fields k = by (airport_record_of fields)
-  where
-    by : (r : Result AirportRecord RefusalWord) → IfOk (and_then r (with_record s)) Keeps
-    by (Ok said) = record-kept s said k
-    by (Err word) = tt
+fields-kept s fields k = elim (airport_record_of fields) as (λ r. IfOk (and_then r (with_record s)) Keeps) [
+  | Ok said ↦ record-kept s said k
+  | Err word ↦ tt
+]
 
 records-kept : (s : Option AirportRows) (number : ℕ) (records : List (List (List ℕ))) → Keeps s
     → IfOk (after_records airport_record_of with_record s number records) Keeps
@@ -79,8 +76,7 @@ records-kept s number (fields ∷ later) k = by (λ next. records-kept next (num
 began-kept : (r : Result (Option AirportRows) (ℕ × RefusalWord)) (fault : ℕ × RefusalWord) → IfOk r Keeps
     → IfOk (and_then r (λ rows. ok_or rows fault)) IsAirport
 began-kept (Ok (Some g)) fault h = h
-began-kept (Ok None) fault h = tt
-began-kept (Err other) fault h = tt
+began-kept _ fault h = tt
 
 pub own_airport : (text : List ℕ) (g : AirportRows) → airport_in text ≡ Ok g → IsAirport g
 unfolding airport_in

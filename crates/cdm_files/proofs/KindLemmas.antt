@@ -94,14 +94,8 @@ named-made day (Some k) fields u is = ap Some (sym (by-kind day k fields u is))
 named-made day None fields u is = cc
 
 with-role-made : (role : Option Role) (r : Result Update RefusalWord) (x : Role) (u : Update) → with_role role r ≡ Ok (x, u) → r ≡ Ok u
-with-role-made (Some role) r x u is = by r is
-  where
-    by : (r : Result Update RefusalWord) → of_one {X = Role × Update} (λ v. (role, v)) r ≡ Ok (x, u) → r ≡ Ok u
-    by (Ok v) e =
-        let pair : (role, v) ≡ (x, u) = cc in
-        let same : v ≡ u = ap (λ (p : Role × Update). p.1) pair in
-        ap Ok same
-    by (Err w) e = cc
+with-role-made (Some role) (Ok v) x u is = let pair : (role, v) ≡ (x, u) = cc in ap (λ (p : Role × Update). Ok p.1) pair
+with-role-made (Some role) (Err w) x u is = cc
 with-role-made None (Err word.Fields) x u is = cc
 with-role-made None r x u is = cc
 

@@ -1,7 +1,7 @@
 -- What a read of one record does to the records that a reader has still to give.
-use Rattle.std.proofs.Common.{◌≡◌, ◌≤◌, ◌<◌, ◌+◌, ◌∷◌, ◌++◌, ◌∙◌, ℕ, zero, suc, Bool, true, false, not, List, [], length, Option, Some, None, refl, sym, ap, arith, if◌then◌else◌, ◌==◌, ◌||◌, Bor, add-one, inl}
-use Rattle.csv.specs.Machine.{Read, after_end, ends_at_end, field_after, fields_after, in_field, is_end, next_record, start_field, start_record, step}
-use Rattle.csv.specs.Reading.{NextIs, ReadRecord, ReadsNext, default_config, is_flexible, pending_of, records_from, records_next, took_first, strip_bom, is_bom}
+use Rattle.std.proofs.Common.{rules, tests, ◌≡◌, ◌≤◌, ◌<◌, ◌+◌, ◌∷◌, ◌++◌, ◌∙◌, ℕ, zero, suc, Bool, true, false, not, List, [], length, Option, Some, None, refl, sym, ap, arith, if◌then◌else◌, Bor, add-one, inl}
+use Rattle.csv.specs.Machine.{Read, ends_at_end, field_after, fields_after, is_end, next_record, step}
+use Rattle.csv.specs.Reading.{NextIs, ReadRecord, ReadsNext, default_config, is_flexible, pending_of, records_from, records_next, took_first, strip_bom}
 use Rattle.csv.specs.declared.reader.Reader.{Reader}
 use Rattle.csv.specs.declared.parser.Action.{Action}
 use Rattle.csv.specs.declared.parser.Action.TheVariants as act
@@ -14,43 +14,10 @@ use Rattle.cdm_files.specs.inner.RecordsLeft.{IsBetweenRecords, records_at, reco
 abbrev pub EndsBetween : State × Action → Type 0
 EndsBetween o = is_end o.1 ≡ true → ends_at_end o.0 ≡ false
 
-choice-between : (b : Bool) (x y : State × Action) → EndsBetween x → EndsBetween y → EndsBetween (if b then x else y)
-choice-between true x y f g = f
-choice-between false x y f g = g
-
-after_end-between : (b : Bool) → ends_at_end (if b then st.AfterCr else st.StartRecord) ≡ false
-after_end-between true = refl
-after_end-between false = refl
-
-in_field-between : (c : ℕ) → EndsBetween (in_field default_config c)
-in_field-between c =
-    choice-between (c == 44) (st.StartField, act.EndField) _ (λ h. cc)
-    (choice-between ((c == 13) || (c == 10)) (after_end default_config.terminator c, act.EndRecord) (st.InField, act.Copy)
-    (λ h. after_end-between (c == 13)) (λ h. cc))
-
-start_field-between : (c : ℕ) → EndsBetween (start_field default_config c)
-start_field-between c =
-    choice-between (c == 34) (st.InQuoted, act.Skip) (in_field default_config c) (λ h. cc) (in_field-between c)
-
-start_record-between : (c : ℕ) → EndsBetween (start_record default_config c)
-start_record-between c =
-    choice-between ((c == 13) || (c == 10)) (st.StartRecord, act.Skip) (start_field default_config c)
-    (λ h. cc) (start_field-between c)
-
 -- where a byte ends a record, the machine is between two records
 pub step-between : (s : State) (c : ℕ) → EndsBetween (step default_config s c)
-step-between st.StartRecord c = start_record-between c
-step-between st.StartField c = start_field-between c
-step-between st.InField c = in_field-between c
-step-between st.InQuoted c =
-    choice-between (c == 34) (st.AfterQuote, act.Skip) (st.InQuoted, act.Copy) (λ h. cc) (λ h. cc)
-step-between st.InEscape c = λ h. cc
-step-between st.AfterQuote c =
-    choice-between (c == 34) (st.InQuoted, act.Copy) (in_field default_config c) (λ h. cc) (in_field-between c)
-step-between st.InComment c =
-    choice-between (c == 10) (st.StartRecord, act.Skip) (st.InComment, act.Skip) (λ h. cc) (λ h. cc)
-step-between st.AfterCr c =
-    choice-between (c == 10) (st.StartRecord, act.Skip) (start_record default_config c) (λ h. cc) (start_record-between c)
+step-between st.StartRecord c = search rules
+step-between _ c = grind (arith, tests)
 
 -- after a record the machine is between two records, and no more bytes are left than there were
 record AfterRecord (xs : List ℕ) (p : Read) : Type 0 where
@@ -207,14 +174,8 @@ records_from-length (suc n) s xs h = by (records_from-length n) (next_record def
 
 strip_bom-length : (xs : List ℕ) → length (strip_bom xs) ≤ length xs
 unfolding strip_bom
-strip_bom-length [] = omega arith
-strip_bom-length (a ∷ []) = omega arith
-strip_bom-length (a ∷ b ∷ []) = omega arith
-strip_bom-length (a ∷ b ∷ c ∷ rest) = by (is_bom a b c)
-  where
-    by : (t : Bool) → length (if t then rest else (a ∷ b ∷ c ∷ rest)) ≤ suc (suc (suc (length rest)))
-    by true = omega arith
-    by false = omega arith
+strip_bom-length (a ∷ b ∷ c ∷ rest) = grind (arith, tests)
+strip_bom-length _ = omega arith
 
 -- a text has no more records than bytes
 pub records_of-length : (text : List ℕ) → length (records_of text) ≤ length text

@@ -1,5 +1,5 @@
 -- A feed is judged stretch by stretch.
-use Rattle.std.proofs.Common.{◌≡◌, ◌<◌, ◌+◌, ◌∙◌, ℕ, zero, suc, List, [], ◌∷◌, ◌++◌, Ok, Err, refl, sym, ap, length, map, arith, append_assoc, append-nil, length-append, ◌≤◌}
+use Rattle.std.proofs.Common.{◌≡◌, ◌<◌, ◌+◌, ◌∙◌, ℕ, suc, List, [], ◌∷◌, ◌++◌, Ok, Err, refl, sym, ap, length, map, arith, append_assoc, append-nil, length-append, ◌≤◌}
 use Rattle.std.specs.Option.{option_map, option_to_list}
 use Rattle.std.proofs.lemmas.List.{length-map, nil_from_length}
 use Rattle.cdm_flight.specs.Accepted.{accepted, after_one, refusal}
@@ -27,30 +27,22 @@ pub refused-both : (g : AirportRows) (a : List Update) (n : ℕ) (xs ys : List S
 unfolding updates_in accepted refused_in
 refused-both g a n [] ys = let same : n ≡ n + 0 = omega arith in ap (λ (k : ℕ). refused_in g a k ys) same
 refused-both g a n (Err word ∷ xs) ys =
-    let same : n + 1 + length xs ≡ n + suc (length xs) = omega arith in
-    ap (λ (rs : List (ℕ × RefusalWord)). (n, word) ∷ rs)
-    (refused-both g a (n + 1) xs ys ∙ ap (λ (k : ℕ). refused_in g a (n + 1) xs ++ refused_in g (accepted g a (updates_in xs)) k ys) same)
+    let same : n + 1 + length xs ≡ n + suc (length xs) = omega arith in cc (same, refused-both g a (n + 1) xs ys)
 refused-both g a n (Ok p ∷ xs) ys =
-    let b = after_one g a p in
-    let here = option_to_list (option_map (λ (word : RefusalWord). (n, word)) (refusal g a p.0 p.1)) in
     let same : n + 1 + length xs ≡ n + suc (length xs) = omega arith in
-    ap (λ (rs : List (ℕ × RefusalWord)). here ++ rs)
-    (refused-both g b (n + 1) xs ys ∙ ap (λ (k : ℕ). refused_in g b (n + 1) xs ++ refused_in g (accepted g b (updates_in xs)) k ys) same)
-    ∙ sym (append_assoc here (refused_in g b (n + 1) xs) (refused_in g (accepted g b (updates_in xs)) (n + suc (length xs)) ys))
+    let both = rw same at (refused-both g (after_one g a p) (n + 1) xs ys) in
+    rw both (sym (append_assoc (option_to_list (option_map (λ (word : RefusalWord). (n, word)) (refusal g a p.0 p.1))) _ _))
 
 -- how many records are left
 pub fewer-left : {X Y : Type 0} (f : X → Y) (old new : List X) (parsed : List Y) → map f old ≡ parsed ++ map f new → length old ≡ length parsed + length new
 fewer-left f old new parsed is =
-    sym (length-map old f) ∙ ap length is ∙ length-append parsed (map f new) ∙ ap (λ (k : ℕ). length parsed + k) (length-map new f)
+    omega (arith, ap length is, length-map old f, length-append parsed (map f new), length-map new f)
 
 -- a stretch that may hold all records leaves none
 pub none-after : {X Y : Type 0} (f : X → Y) (old new : List X) (parsed : List Y) (most : ℕ) → length old ≤ most
     → map f old ≡ parsed ++ map f new → (length parsed < most → new ≡ []) → new ≡ []
-none-after f old new parsed most few split all = by (length new) refl
-  where
-    by : (k : ℕ) → length new ≡ k → new ≡ []
-    by zero none = nil_from_length new none
-    by (suc k) some = let fewer = fewer-left f old new parsed split in all (omega (arith, few, fewer, some))
+none-after f old [] parsed most few split all = refl
+none-after f old (x ∷ new) parsed most few split all = let fewer = fewer-left f old (x ∷ new) parsed split in all (omega (arith, few, fewer))
 
 -- the records that are left of a feed tell, after those that were judged, what the whole feed tells
 pub record IsLeft (g : AirportRows) (day : CalendarDate) (feed : List ℕ) (s : DayRecord) (refused : List (ℕ × RefusalWord)) (judged : ℕ) (left : List (List (List ℕ))) : Type 0 where

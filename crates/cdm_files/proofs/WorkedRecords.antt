@@ -6,7 +6,7 @@ use Rattle.std.proofs.lemmas.List.Elements.{All-from_recursion}
 use Rattle.csv.specs.Reading.{strip_bom}
 use Rattle.cdm_files.specs.Records.{records_of}
 use Rattle.cdm_files.specs.Written.{AreWritten, Field, Line, LineEnd, Lf, CrLf, Plain, after_commas}
-use Rattle.cdm_files.proofs.WrittenLemmas.{Told, read-back}
+use Rattle.cdm_files.proofs.WrittenLemmas.{Told, read_back}
 
 abbrev plain : List (List ℕ) → List Field
 plain fields = map Plain fields
@@ -37,7 +37,7 @@ airport_written = record { each = All-from_recursion Told airport (refl, (refl, 
 
 airport_read : records_of (codes "DAY,2025-03-10\nRUNWAY,27L,10,2\nTAXI,*,27L,15\nTAXI,A1,27L,10\n") ≡ day ∷ runway ∷ default ∷ stand ∷ []
 unfolding after_commas
-airport_read = read-back airport [] airport_written
+airport_read = read_back airport [] airport_written
 
 -- FEED
 
@@ -59,4 +59,4 @@ feed_written = record { each = All-from_recursion Told feed (refl, (refl, (refl,
 
 feed_read : records_of (codes "AP,FLT,AB1,5\r\n\r\nATC,RWY,AB1,27L\r\nAO,TOBT,AB1,2025-03-10T06:00Z") ≡ flt ∷ rwy ∷ tobt ∷ []
 unfolding after_commas
-feed_read = read-back feed (plain tobt) feed_written
+feed_read = read_back feed (plain tobt) feed_written
