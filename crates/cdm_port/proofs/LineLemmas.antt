@@ -65,17 +65,11 @@ kept_many given many = length-take-le (line_limit + 1) given (omega (arith, many
 
 -- a line that isn't too long has all bytes
 all_kept : (given : List ℕ) → length (kept given) ≤ line_limit → length given ≤ line_limit
-all_kept given few = elim (leb_tells (length given) line_limit) [
-  | inl is ↦ is.1
-  | inr is ↦ let long = kept_many given is.1 in absurd (omega (arith, few, long))
-]
+all_kept given few = grind (arith, kept_many)
 
 -- one that is too long shows it
 many_kept : (given : List ℕ) → line_limit < length (kept given) → line_limit < length given
-many_kept given many = elim (leb_tells (length given) line_limit) [
-  | inl is ↦ let same = ap length (kept_few given is.1) in let few = is.1 in absurd (omega (arith, many, same, few))
-  | inr is ↦ is.1
-]
+many_kept given many = grind (arith, kept_few)
 
 not_few : (count : ℕ) → line_limit < count → nat_le count line_limit ≡ false
 not_few count many = elim (leb_tells count line_limit) [ inl is ↦ let few = is.1 in absurd (omega (arith, many, few)) | inr is ↦ is.0 ]

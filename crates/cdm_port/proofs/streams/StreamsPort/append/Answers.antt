@@ -6,9 +6,8 @@ use Rattle.cdm_port.proofs.streams.StreamsPort.append.Goals as goal
 
 pub returns-clause-err : goal.returns-clause-err
 returns-clause-err g c =
-    let count = c.append_counted-count.result.0 in
-    let is : c.answer.new.self.notes ≡ c.args.self.now.notes ++ (happening.Appended, take count c.args.bytes.now) ∷ [] = search rules in
-    on_err c.answer.result (append_torn count c.args.bytes.now c.args.self.now.notes c.answer.new.self.notes is)
+    let is : c.answer.new.self.notes ≡ c.args.self.now.notes ++ (happening.Appended, take c.append_counted-count.result.0 c.args.bytes.now) ∷ [] = search rules in
+    on_err c.answer.result (append_torn _ _ _ _ is)
 
 pub returns-clause-written : goal.returns-clause-written
 returns-clause-written g c =
