@@ -1,17 +1,9 @@
 -- What the day of an airport file and a feed keeps.
-use Rattle.std.proofs.Common.{◌≡◌, ℕ, ◌+◌, Bool, true, false, not, List, [], ◌∷◌, Option, None, Some, Result, Ok, Err, IfOk, refl, subst}
-use Rattle.std.specs.Prelude.{⊤, if◌then◌else◌}
-use Rattle.std.specs.Result.{result_map_both}
-use Rattle.std.specs.List.{IsDistinct}
-use Rattle.std.specs.Option.{ok_or}
-use Rattle.cdm_flight.specs.Accepted.{has_runway}
-use Rattle.cdm_flight.specs.Journal.{AirportRows}
+use Rattle.cdm_files.proofs.Words.{◌≡◌, ℕ, ◌+◌, Bool, true, false, not, List, [], ◌∷◌, Option, None, Some, Result, Ok, Err, IfOk, refl, subst, ⊤}
+use Rattle.cdm_files.proofs.Words.{if◌then◌else◌, result_map_both, IsDistinct, ok_or, has_runway, AirportRows, RefusalWord, Order, Unknown}
+use Rattle.cdm_files.proofs.Words.{with_runway, with_space, with_taxi, flights_in}
 use Rattle.cdm_flight.specs.Names.{same_name}
-use Rattle.cdm_flight.specs.declared.word.RefusalWord.{RefusalWord}
-use Rattle.cdm_flight.specs.declared.word.RefusalWord.TheVariants.{Order, Unknown}
-use Rattle.cdm_day.specs.Airport.{with_runway, with_space, with_taxi}
 use Rattle.cdm_plan.specs.Airport.{IsAirport}
-use Rattle.cdm_plan.specs.Day.{flights_in}
 use Rattle.cdm_day.proofs.BatchLemmas.{accepted-keeps}
 use Rattle.cdm_day.proofs.AirportLemmas.{airport_after_runway, airport_after_taxi, airport_with_space, airport_without_rows}
 use Rattle.cdm_plan.proofs.JournalFacts.{names_after}

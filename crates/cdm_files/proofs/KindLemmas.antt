@@ -1,11 +1,8 @@
 -- A record is of the kind that it names, and has as many fields as that kind.
-use Rattle.std.proofs.Common.{◌≡◌, ◌≢◌, ◌∙◌, ◌+◌, ◌-◌, ◌<◌, ◌≤◌, ℕ, zero, suc, List, [], ◌∷◌, length, drop, take, Option, Some, None, Result, Ok, Err, ap, refl, sym, subst, arith, length-drop}
+use Rattle.cdm_files.proofs.Words.{◌≡◌, ◌≢◌, ◌∙◌, ◌+◌, ◌-◌, ◌<◌, ◌≤◌, ℕ, zero, suc, List, [], ◌∷◌, length, drop, take, Option, Some, None, Result, Ok}
+use Rattle.cdm_files.proofs.Words.{Err, ap, refl, sym, subst, arith, length-drop, field_at, CalendarDate, Update, RefusalWord}
 use Rattle.std.specs.Prelude.{ok_or}
-use Rattle.csv.specs.Records.{field_at}
-use Rattle.cdm_time.specs.declared.calendar.CalendarDate.{CalendarDate}
 use Rattle.cdm_flight.specs.declared.role.Role.{Role}
-use Rattle.cdm_flight.specs.declared.update.Update.{Update}
-use Rattle.cdm_flight.specs.declared.word.RefusalWord.{RefusalWord}
 use Rattle.cdm_flight.specs.declared.word.RefusalWord.TheVariants as word
 use Rattle.cdm_kinds.specs.Kinds.{fields_of, kind_named, kind_of}
 use Rattle.cdm_kinds.specs.declared.kind.Kind.{Kind}

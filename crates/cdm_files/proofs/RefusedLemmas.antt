@@ -1,9 +1,6 @@
 -- The refused records of a feed, from the replies to its updates.
-use Rattle.std.proofs.Common.{◌≡◌, ◌+◌, ℕ, List, [], ◌∷◌, Option, None, Some, Ok, Err, refl, map}
-use Rattle.cdm_flight.specs.Accepted.{after_one, refusal, replies_to}
-use Rattle.cdm_flight.specs.Journal.{AirportRows}
-use Rattle.cdm_flight.specs.declared.update.Update.{Update}
-use Rattle.cdm_flight.specs.declared.word.RefusalWord.{RefusalWord}
+use Rattle.cdm_files.proofs.Words.{◌≡◌, ◌+◌, ℕ, List, [], ◌∷◌, Option, None, Some, Ok, Err, refl, map, after_one, refusal, replies_to, AirportRows}
+use Rattle.cdm_files.proofs.Words.{Update, RefusalWord}
 use Rattle.cdm_day.specs.Replies.{reply_of}
 use Rattle.cdm_files.specs.Refused.{Spelled, refused_by_replies, refused_in, updates_in, word_in}
 

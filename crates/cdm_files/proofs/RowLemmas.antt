@@ -1,9 +1,5 @@
 -- A row that the airport refuses is refused by the same word.
-use Rattle.std.proofs.Common.{◌≡◌, Some, Result, Ok, Err}
-use Rattle.std.specs.Result.{result_err}
-use Rattle.cdm_flight.specs.Journal.{AirportRows}
-use Rattle.cdm_flight.specs.declared.word.RefusalWord.{RefusalWord}
-use Rattle.cdm_day.specs.Airport.{word_of}
+use Rattle.cdm_files.proofs.Words.{◌≡◌, Some, Result, Ok, Err, result_err, AirportRows, RefusalWord, word_of}
 use Rattle.cdm_day.specs.declared.airport.AirportFault.{AirportFault}
 use Rattle.cdm_day.specs.declared.airport.AirportFault.TheVariants.{Memory}
 use Rattle.cdm_files.specs.Fields.{of_one}

@@ -1,9 +1,7 @@
 -- The bytes of two files of examples, read back: `one_flight/airport.csv` as it stands, and `one_flight/feed.csv`
 -- with CR LF, a blank line and no line end after the last record.
-use Rattle.std.proofs.Common.{◌≡◌, List, ℕ, [], ◌∷◌, refl}
-use Rattle.std.specs.Prelude.{codes, map}
-use Rattle.std.proofs.lemmas.List.Elements.{All-from_recursion}
-use Rattle.csv.specs.Reading.{strip_bom}
+use Rattle.cdm_files.proofs.Words.{◌≡◌, List, ℕ, [], ◌∷◌, refl, codes, All-from_recursion, strip_bom}
+use Rattle.std.specs.Prelude.{map}
 use Rattle.cdm_files.specs.Records.{records_of}
 use Rattle.cdm_files.specs.Written.{AreWritten, Field, Line, LineEnd, Lf, CrLf, Plain, after_commas}
 use Rattle.cdm_files.proofs.WrittenLemmas.{Told, read_back}

@@ -1,13 +1,11 @@
 -- Written records are read back.
-use Rattle.std.proofs.Common.{◌≡◌, ◌<◌, ◌≤◌, ◌+◌, ◌∷◌, ◌++◌, ◌∙◌, ◌==◌, ◌||◌, ℕ, zero, suc, false, List, [], length, map, Option, Some, IsTrue, refl, sym, ap, arith, append_assoc}
+use Rattle.cdm_files.proofs.Words.{◌≡◌, ◌<◌, ◌≤◌, ◌+◌, ◌∷◌, ◌++◌, ◌∙◌, ◌==◌, ◌||◌, ℕ, zero, suc, false, List, [], length, map, Option, Some, IsTrue}
+use Rattle.cdm_files.proofs.Words.{refl, sym, ap, arith, append_assoc, All-head, All-tail, All, filter_map, flat_map, list_any, list_all, cons_option}
+use Rattle.cdm_files.proofs.Words.{default_config, records_from, State}
 use Rattle.std.proofs.lemmas.Bool.{and_parts, not-true, or_parts}
 use Rattle.std.proofs.lemmas.List.{length-append, append-nil}
-use Rattle.std.proofs.lemmas.List.Elements.{All-head, All-tail}
-use Rattle.std.specs.List.{All, filter_map, flat_map, list_any, list_all, cons_option}
 use Rattle.csv.specs.Machine.{Read, next_record}
-use Rattle.csv.specs.Reading.{default_config, records_from}
 use Rattle.csv.specs.Writing.{default_writer, escaped, needs_byte}
-use Rattle.csv.specs.declared.parser.State.{State}
 use Rattle.csv.specs.declared.parser.State.TheVariants as st
 use Rattle.csv.proofs.RoundTrip.{plain-run, quoted-run, record-same, start-same}
 use Rattle.cdm_files.specs.Records.{records_of}

@@ -15,12 +15,9 @@ use Rattle.cdm_port.specs.inner.Reading.{line_with}
 abbrev pub HasNoLf : List ℕ → Type 0
 HasNoLf bytes = AllByRecursion (λ byte. byte ≢ 10) bytes
 
-cons_some : (byte : ℕ) (bytes : List ℕ) → byte ∷ bytes ≡ [] → ⊥
-cons_some byte bytes is = cc
-
 pub not_empty : (line : List ℕ) → (length line == 0) ≡ false → line ≢ []
 not_empty [] some = cc some
-not_empty (byte ∷ line) some = cons_some byte line
+not_empty (byte ∷ line) some = λ is. cc
 
 no_lf_more : (bytes : List ℕ) (byte : ℕ) → HasNoLf bytes → byte ≢ 10 → HasNoLf (bytes ++ byte ∷ [])
 no_lf_more [] byte none other = (other, tt)
@@ -78,8 +75,7 @@ kept_more : (given : List ℕ) (byte : ℕ) → line_with (kept given) byte ≡ 
 kept_more given byte = elim (leb_tells (length given) line_limit) [
   | inl is ↦
       let few = is.1 in
-      let long = length-append given (byte ∷ []) in
-      rw (kept_few given few, is.0) (sym (take_all (line_limit + 1) (given ++ byte ∷ []) (omega (arith, few, long))))
+      rw (kept_few given few, is.0) (sym (take_all (line_limit + 1) (given ++ byte ∷ []) (omega (arith, few, length-append given (byte ∷ [])))))
   | inr is ↦
       let many = is.1 in
       let long = kept_many given many in
@@ -176,7 +172,7 @@ module _ (before now next : Option (List ℕ)) (line : List ℕ) (so_far : ReadS
         by : (bytes : List ℕ) → kept bytes ≡ [] → End ≡ heard_in bytes
         by [] is = refl
         by (b ∷ bs) is = elim (leb_tells (length (b ∷ bs)) line_limit) [
-          | inl t ↦ let same = sym (kept_few (b ∷ bs) t.1) ∙ is in absurd (cons_some b bs same)
+          | inl t ↦ let same = sym (kept_few (b ∷ bs) t.1) ∙ is in cc same
           | inr t ↦ let long = sym (kept_many (b ∷ bs) t.1) ∙ ap length is in absurd (omega (arith, long))
         ]
 

@@ -1,5 +1,4 @@
-use Rattle.std.proofs.Common.{refl}
-use Rattle.std.proofs.lemmas.Result.{err_from_is_err_and}
+use Rattle.cdm_files.proofs.Words.{refl, err_from_is_err_and}
 use Rattle.cdm_files.specs.inner.Several.{all_three}
 use Rattle.cdm_files.proofs.field.all_three.Goals as goal
 

@@ -1,6 +1,4 @@
-use Rattle.std.proofs.Common.{arith, length-append}
-use Rattle.std.proofs.lemmas.Grind.{common_steps}
-use Rattle.std.proofs.KnownBytes.{Consumes-trans}
+use Rattle.cdm_files.proofs.Words.{arith, length-append, common_steps, Consumes-trans}
 use Rattle.cdm_files.proofs.input.read_input.Goals as goal
 
 pub returns-then-len-count-gt-INPUT_LIMIT-clause-too_long : goal.returns-then-len-count-gt-INPUT_LIMIT-clause-too_long

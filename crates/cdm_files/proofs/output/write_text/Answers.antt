@@ -1,6 +1,4 @@
-use Rattle.std.proofs.Common.{◌≡◌, ◌-◌, length, take, drop, arith, take-add}
-use Rattle.std.proofs.lemmas.Grind.{common_steps}
-use Rattle.std.proofs.KnownBytes.{Appends-trans}
+use Rattle.cdm_files.proofs.Words.{◌≡◌, ◌-◌, length, take, drop, arith, take-add, common_steps, Appends-trans}
 use Rattle.cdm_files.proofs.output.write_text.Goals as goal
 
 -- the bytes written so far, and then those that this write took
