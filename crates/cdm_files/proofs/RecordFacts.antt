@@ -1,6 +1,8 @@
 -- What a read of one record does to the records that a reader has still to give.
+use Rattle.std.proofs.lemmas.Bool.{cases_Bool}
+use Rattle.std.proofs.Common.{inr}
 use Rattle.std.proofs.Common.{rules, tests, ◌≡◌, ◌≤◌, ◌<◌, ◌+◌, ◌∷◌, ◌++◌, ◌∙◌, ℕ, zero, suc, Bool, true, false, not, List, [], length, Option, Some, None, refl, sym, ap, arith, if◌then◌else◌, Bor, add-one, inl}
-use Rattle.csv.specs.Machine.{Read, ends_at_end, field_after, fields_after, is_end, next_record, step}
+use Rattle.csv.specs.Machine.{Read, ends_at_end, fields_after, is_end, next_record, step}
 use Rattle.csv.specs.Reading.{NextIs, ReadRecord, ReadsNext, default_config, is_flexible, pending_of, records_from, records_next, took_first, strip_bom}
 use Rattle.csv.specs.declared.reader.Reader.{Reader}
 use Rattle.csv.specs.declared.parser.Action.{Action}
@@ -27,45 +29,30 @@ record AfterRecord (xs : List ℕ) (p : Read) : Type 0 where
 next_record-after : (s : State) (fields : List (List ℕ)) (field xs : List ℕ) (p : Read)
     → next_record default_config s fields field xs ≡ Some p → AfterRecord xs p
 unfolding next_record
-next_record-after s fields field [] p e = by (ends_at_end s) refl
-  where
-    by : (b : Bool) → ends_at_end s ≡ b → AfterRecord [] p
-    by true h =
-        let q = rw h at e in
-        let i : (fields ++ (field ∷ []), st.StartRecord, []) ≡ p = cc q in
-        rw (← i) (record { state = refl; no_longer = omega arith })
-    by false h = let q = rw h at e in cc q
-next_record-after s fields field (c ∷ xs) p e = by (is_end (step default_config s c).1) refl (next_record-after (step default_config s c).0 _ _ xs p)
-  where
-    by : (b : Bool) → is_end (step default_config s c).1 ≡ b
-        → (next_record default_config (step default_config s c).0 (fields_after (step default_config s c).1 fields field)
-        (field_after (step default_config s c).1 c field) xs ≡ Some p → AfterRecord xs p)
-        → AfterRecord (c ∷ xs) p
-    by true h more =
-        let q = rw h at e in
-        let i : (fields_after (step default_config s c).1 fields field, (step default_config s c).0, xs) ≡ p = cc q in
-        rw (← i) (record { state = step-between s c h; no_longer = omega arith })
-    by false h more =
-        let q = rw h at e in
-        let m = more q in
-        record { state = m.state; no_longer = omega (arith, m.no_longer) }
+next_record-after s fields field [] p e = elim (cases_Bool (ends_at_end s)) [
+  | inl h ↦
+      let i : (fields ++ (field ∷ []), st.StartRecord, []) ≡ p = cc (rw h at e) in rw (← i) (record { state = refl; no_longer = omega arith })
+  | inr h ↦ cc (rw h at e)
+]
+next_record-after s fields field (c ∷ xs) p e = elim (cases_Bool (is_end (step default_config s c).1)) [
+  | inl h ↦
+      let i : (fields_after (step default_config s c).1 fields field, (step default_config s c).0, xs) ≡ p = cc (rw h at e) in
+      rw (← i) (record { state = step-between s c h; no_longer = omega arith })
+  | inr h ↦
+      let m = next_record-after (step default_config s c).0 _ _ xs p (rw h at e) in
+      record { state = m.state; no_longer = omega (arith, m.no_longer) }
+]
 
 -- a record that is read between two records takes a byte at least
 next_record-shorter : (s : State) (xs : List ℕ) (p : Read) → ends_at_end s ≡ false
     → next_record default_config s [] [] xs ≡ Some p → length p.2 < length xs
 unfolding next_record
-next_record-shorter s [] p h e = let q = rw h at e in cc q
-next_record-shorter s (c ∷ xs) p h e = by (is_end (step default_config s c).1) refl
-  where
-    by : (b : Bool) → is_end (step default_config s c).1 ≡ b → length p.2 < length (c ∷ xs)
-    by true t =
-        let q = rw t at e in
-        let i : (fields_after (step default_config s c).1 [] [], (step default_config s c).0, xs) ≡ p = cc q in
-        rw (← i) (omega arith)
-    by false t =
-        let q = rw t at e in
-        let m = next_record-after _ _ _ xs p q in
-        omega (arith, m.no_longer)
+next_record-shorter s [] p h e = cc (rw h at e)
+next_record-shorter s (c ∷ xs) p h e = elim (cases_Bool (is_end (step default_config s c).1)) [
+  | inl t ↦
+      let i : (fields_after (step default_config s c).1 [] [], (step default_config s c).0, xs) ≡ p = cc (rw t at e) in rw (← i) (omega arith)
+  | inr t ↦ let m = next_record-after (step default_config s c).0 _ _ xs p (rw t at e) in omega (arith, m.no_longer)
+]
 
 -- the records of a text don't depend on the count, where it is large enough
 records_from-count : (n m : ℕ) (s : State) (xs : List ℕ) → ends_at_end s ≡ false → length xs < n → length xs < m

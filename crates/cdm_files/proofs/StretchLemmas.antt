@@ -2,7 +2,7 @@
 use Rattle.cdm_files.proofs.Words.{◌≡◌, ◌<◌, ◌+◌, ◌∙◌, ℕ, suc, List, [], ◌∷◌, ◌++◌, Ok, Err, refl, sym, ap, length, map, arith, append_assoc}
 use Rattle.cdm_files.proofs.Words.{append-nil, length-append, ◌≤◌, option_map, option_to_list, length-map, nil_from_length, accepted, after_one}
 use Rattle.cdm_files.proofs.Words.{refusal, AirportRows, Update, RefusalWord, CalendarDate, DayRecord}
-use Rattle.cdm_files.specs.FeedDay.{accepted_in, refusals_in, spelled_in}
+use Rattle.cdm_files.specs.FeedDay.{accepted_in, refusals_in}
 use Rattle.cdm_files.specs.Parsing.{parse_of}
 use Rattle.cdm_files.specs.Records.{records_of}
 use Rattle.cdm_files.specs.Refused.{Spelled, refused_in, updates_in}
@@ -50,14 +50,7 @@ pub all-left : (g : AirportRows) (day : CalendarDate) (feed : List ℕ) (s : Day
     → IsLeft g day feed s refused 0 left
 unfolding accepted_in refusals_in
 all-left g day feed s refused left is fresh none all few =
-    let spelled : spelled_in g feed ≡ map (parse_of day) left = λ i. map (parse_of (sym is i)) (sym all i) in
-    let first : s.journal ≡ [] = ap (λ (x : DayRecord). x.journal) fresh in
-    record {
-      airport = ap (λ (x : DayRecord). x.airport) fresh;
-      count = omega (arith, few);
-      journal = λ i. accepted g (sym first i) (updates_in (spelled i));
-      all = λ i. sym none i ++ refused_in g (sym first i) 1 (spelled i);
-    }
+    rw (fresh, none, all, is) (record { airport = refl; count = omega (arith, rw all at few); journal = refl; all = refl })
 
 pub next-left : (g : AirportRows) (day : CalendarDate) (feed : List ℕ) (s t : DayRecord) (refused after : List (ℕ × RefusalWord)) (n m : ℕ)
     (old new : List (List (List ℕ))) (parsed : List Spelled) → IsLeft g day feed s refused n old
@@ -67,28 +60,14 @@ pub next-left : (g : AirportRows) (day : CalendarDate) (feed : List ℕ) (s t : 
     → IsLeft g day feed t after m new
 next-left g day feed s t refused after n m old new parsed left split made told more =
     let rest = map (parse_of day) new in
-    let journal : t.journal ≡ accepted g s.journal (updates_in parsed) =
-    ap (λ (x : DayRecord). x.journal) made ∙ ap (λ (h : AirportRows). accepted h s.journal (updates_in parsed)) left.airport in
     let fewer = fewer-left (parse_of day) old new parsed split in
-    let few = left.count in
-    let these : after ≡ refused ++ refused_in g s.journal (n + 1) parsed =
-    told ∙ ap (λ (h : AirportRows). refused ++ refused_in h s.journal (n + 1) parsed) left.airport in
-    let number : n + 1 + length parsed ≡ m + 1 = omega (arith, more) in
-    let both : refused_in g s.journal (n + 1) (parsed ++ rest) ≡ refused_in g s.journal (n + 1) parsed ++ refused_in g t.journal (m + 1) rest =
-    refused-both g s.journal (n + 1) parsed rest ∙ (λ i. refused_in g s.journal (n + 1) parsed ++ refused_in g (sym journal i) (number i) rest) in
-    record {
-      airport = ap (λ (x : DayRecord). x.airport) made ∙ left.airport;
-      count = omega (arith, few, fewer, more);
-      journal = left.journal
-          ∙ ap (λ (xs : List Spelled). accepted g s.journal (updates_in xs)) split
-          ∙ accepted-both g s.journal parsed rest
-          ∙ ap (λ (a : List Update). accepted g a (updates_in rest)) (sym journal);
-      all = left.all
-          ∙ ap (λ (xs : List Spelled). refused ++ refused_in g s.journal (n + 1) xs) split
-          ∙ ap (λ (rs : List (ℕ × RefusalWord)). refused ++ rs) both
-          ∙ sym (append_assoc refused (refused_in g s.journal (n + 1) parsed) (refused_in g t.journal (m + 1) rest))
-          ∙ ap (λ (rs : List (ℕ × RefusalWord)). rs ++ refused_in g t.journal (m + 1) rest) (sym these);
-    }
+    let number : n + 1 + length parsed ≡ n + length parsed + 1 = omega arith in
+    rw (made, told, more, left.airport) (record {
+      airport = refl;
+      count = omega (arith, left.count, fewer);
+      journal = rw (← accepted-both g s.journal parsed rest, ← split) left.journal;
+      all = rw (append_assoc, ← number, ← refused-both g s.journal (n + 1) parsed rest, ← split) left.all;
+    })
 
 pub none-left : (g : AirportRows) (day : CalendarDate) (feed : List ℕ) (s : DayRecord) (refused : List (ℕ × RefusalWord)) (n : ℕ)
     (old new : List (List (List ℕ))) (parsed : List Spelled) → IsLeft g day feed s refused n old

@@ -24,30 +24,25 @@ returns-in-Ok-None-2-clause-rest g c =
 pub returns-in-Ok-Some-eq10-clause-line : goal.returns-in-Ok-Some-eq10-clause-line
 returns-in-Ok-Some-eq10-clause-line g c =
     let consumes = rw (c.in-Ok-Some-eq10.field-0-is, c.in-Ok-Some-eq10.field-0-0-test) at (c.in-Ok-Some-eq10.ensures).byte in
-    let long : 4096 < length c.loop.line.items = omega arith in
-    long_passed _ _ _ _ c.loop.invariant consumes long
+    long_passed _ _ _ _ c.loop.invariant consumes (omega arith)
 
 pub returns-in-Ok-Some-eq10-clause-rest : goal.returns-in-Ok-Some-eq10-clause-rest
 returns-in-Ok-Some-eq10-clause-rest g c =
-    let consumes = rw (c.in-Ok-Some-eq10.field-0-is, c.in-Ok-Some-eq10.field-0-0-test) at (c.in-Ok-Some-eq10.ensures).byte in
-    through _ _ _ _ c.loop.invariant consumes
+    through _ _ _ _ c.loop.invariant (rw (c.in-Ok-Some-eq10.field-0-is, c.in-Ok-Some-eq10.field-0-0-test) at (c.in-Ok-Some-eq10.ensures).byte)
 
 pub returns-in-Ok-Some-eq10-2-clause-heard : goal.returns-in-Ok-Some-eq10-2-clause-heard
 returns-in-Ok-Some-eq10-2-clause-heard g c =
     let consumes = rw (c.in-Ok-Some-eq10.field-0-is, c.in-Ok-Some-eq10.field-0-0-test) at (c.in-Ok-Some-eq10.ensures).byte in
-    let few : length c.loop.line.items ≤ 4096 = omega arith in
-    (line_heard _ _ _ _ c.loop.invariant consumes few).1
+    (line_heard _ _ _ _ c.loop.invariant consumes (omega arith)).1
 
 pub returns-in-Ok-Some-eq10-2-clause-line : goal.returns-in-Ok-Some-eq10-2-clause-line
 returns-in-Ok-Some-eq10-2-clause-line g c =
     let consumes = rw (c.in-Ok-Some-eq10.field-0-is, c.in-Ok-Some-eq10.field-0-0-test) at (c.in-Ok-Some-eq10.ensures).byte in
-    let few : length c.loop.line.items ≤ 4096 = omega arith in
-    (line_heard _ _ _ _ c.loop.invariant consumes few).0
+    (line_heard _ _ _ _ c.loop.invariant consumes (omega arith)).0
 
 pub returns-in-Ok-Some-eq10-2-clause-rest : goal.returns-in-Ok-Some-eq10-2-clause-rest
 returns-in-Ok-Some-eq10-2-clause-rest g c =
-    let consumes = rw (c.in-Ok-Some-eq10.field-0-is, c.in-Ok-Some-eq10.field-0-0-test) at (c.in-Ok-Some-eq10.ensures).byte in
-    through _ _ _ _ c.loop.invariant consumes
+    through _ _ _ _ c.loop.invariant (rw (c.in-Ok-Some-eq10.field-0-is, c.in-Ok-Some-eq10.field-0-0-test) at (c.in-Ok-Some-eq10.ensures).byte)
 
 -- another byte was read
 
