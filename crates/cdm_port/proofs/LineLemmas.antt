@@ -109,8 +109,7 @@ module _ (before now next : Option (List ℕ)) (line : List ℕ) (so_far : ReadS
       where
         by : (b n : Option (List ℕ)) → Consumes b n (given ++ 10 ∷ []) → DropsThrough b n 10
         by None n is = tt
-        by (Some xs) (Some ys) is =
-            ap Some (sym (ap (drop_through 10) (is ∙ append_assoc given (10 ∷ []) ys) ∙ rest_behind given ys so_far.none))
+        by (Some xs) (Some ys) is = ap Some (sym (ap (drop_through 10) (is ∙ append_assoc given (10 ∷ []) ys) ∙ rest_behind given ys so_far.none))
         by (Some xs) None is = absurd is
 
     abbrev Heard : Event → Type 0
