@@ -20,8 +20,7 @@ use Rattle.cdm_files.specs.declared.airport_file.AirportRecord.TheVariants.{Day,
 
 pub own_journal : (g : AirportRows) (feed : List ℕ) → IsDistinct same_name (flights_in (accepted_in g feed))
 unfolding accepted_in IsDistinct
-own_journal g feed =
-    accepted-keeps (λ a. IsDistinct same_name (flights_in a)) g (names_after g) [] (updates_in (spelled_in g feed)) tt
+own_journal g feed = accepted-keeps (λ a. IsDistinct same_name (flights_in a)) g (names_after g) [] (updates_in (spelled_in g feed)) tt
 
 -- An airport file gives its runways names of their own.
 

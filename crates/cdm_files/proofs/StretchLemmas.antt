@@ -1,5 +1,5 @@
 -- A feed is judged stretch by stretch.
-use Rattle.cdm_files.proofs.Words.{◌≡◌, ◌<◌, ◌+◌, ◌∙◌, ℕ, suc, List, [], ◌∷◌, ◌++◌, Ok, Err, refl, sym, ap, length, map, arith, append_assoc}
+use Rattle.cdm_files.proofs.Words.{◌≡◌, ◌<◌, ◌+◌, ℕ, suc, List, [], ◌∷◌, ◌++◌, Ok, Err, refl, sym, ap, length, map, arith, append_assoc}
 use Rattle.cdm_files.proofs.Words.{append-nil, length-append, ◌≤◌, option_map, option_to_list, length-map, nil_from_length, accepted, after_one}
 use Rattle.cdm_files.proofs.Words.{refusal, AirportRows, Update, RefusalWord, CalendarDate, DayRecord}
 use Rattle.cdm_files.specs.FeedDay.{accepted_in, refusals_in}
@@ -29,8 +29,7 @@ refused-both g a n (Ok p ∷ xs) ys =
 
 -- how many records are left
 pub fewer-left : {X Y : Type 0} (f : X → Y) (old new : List X) (parsed : List Y) → map f old ≡ parsed ++ map f new → length old ≡ length parsed + length new
-fewer-left f old new parsed is =
-    omega (arith, ap length is, length-map old f, length-append parsed (map f new), length-map new f)
+fewer-left f old new parsed is = omega (arith, ap length is, length-map old f, length-append parsed (map f new), length-map new f)
 
 -- a stretch that may hold all records leaves none
 pub none-after : {X Y : Type 0} (f : X → Y) (old new : List X) (parsed : List Y) (most : ℕ) → length old ≤ most
@@ -75,8 +74,6 @@ pub none-left : (g : AirportRows) (day : CalendarDate) (feed : List ℕ) (s : Da
     → (s ≡ record { airport = g; journal = accepted_in g feed }) × (refused ≡ refusals_in g feed)
 unfolding accepted updates_in refused_in
 none-left g day feed s refused n old new parsed left split none last =
-    let empty = nil_from_length parsed none in
-    let ended : map (parse_of day) old ≡ [] = split ∙ (λ i. empty i ++ map (parse_of day) (last i)) in
-    let journal : accepted_in g feed ≡ s.journal = left.journal ∙ ap (λ (xs : List Spelled). accepted g s.journal (updates_in xs)) ended in
-    let all : refusals_in g feed ≡ refused ++ [] = left.all ∙ ap (λ (xs : List Spelled). refused ++ refused_in g s.journal (n + 1) xs) ended in
-    ((λ i. record { airport = left.airport i; journal = sym journal i }), sym (all ∙ append-nil refused))
+    let ended = rw (nil_from_length parsed none, last) at split in
+    let journal = rw ended at left.journal in
+    ((λ i. record { airport = left.airport i; journal = sym journal i }), sym (rw (ended, append-nil) at left.all))

@@ -14,26 +14,19 @@ line_with end fields = record { fields = fields; end = end }
 
 -- AIRPORT
 
-abbrev day : List (List ℕ)
-day = codes "DAY" ∷ codes "2025-03-10" ∷ []
-
-abbrev runway : List (List ℕ)
-runway = codes "RUNWAY" ∷ codes "27L" ∷ codes "10" ∷ codes "2" ∷ []
-
-abbrev default : List (List ℕ)
-default = codes "TAXI" ∷ codes "*" ∷ codes "27L" ∷ codes "15" ∷ []
-
-abbrev stand : List (List ℕ)
-stand = codes "TAXI" ∷ codes "A1" ∷ codes "27L" ∷ codes "10" ∷ []
+abbrev rows : List (List (List ℕ))
+rows =
+    (codes "DAY" ∷ codes "2025-03-10" ∷ []) ∷ (codes "RUNWAY" ∷ codes "27L" ∷ codes "10" ∷ codes "2" ∷ [])
+    ∷ (codes "TAXI" ∷ codes "*" ∷ codes "27L" ∷ codes "15" ∷ []) ∷ (codes "TAXI" ∷ codes "A1" ∷ codes "27L" ∷ codes "10" ∷ []) ∷ []
 
 abbrev airport : List Line
-airport = map (line_with Lf) (plain day ∷ plain runway ∷ plain default ∷ plain stand ∷ [])
+airport = map (λ fields. line_with Lf (plain fields)) rows
 
 airport_written : AreWritten airport []
 unfolding strip_bom after_commas
 airport_written = record { each = All-from_recursion Told airport (refl, (refl, (refl, (refl, tt)))); at_end = refl; unmarked = refl }
 
-airport_read : records_of (codes "DAY,2025-03-10\nRUNWAY,27L,10,2\nTAXI,*,27L,15\nTAXI,A1,27L,10\n") ≡ day ∷ runway ∷ default ∷ stand ∷ []
+airport_read : records_of (codes "DAY,2025-03-10\nRUNWAY,27L,10,2\nTAXI,*,27L,15\nTAXI,A1,27L,10\n") ≡ rows
 unfolding after_commas
 airport_read = read_back airport [] airport_written
 
