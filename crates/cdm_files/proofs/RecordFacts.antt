@@ -168,6 +168,4 @@ strip_bom-length _ = omega arith
 pub records_of-length : (text : List ℕ) → length (records_of text) ≤ length text
 unfolding records_of
 records_of-length text =
-    let a = records_from-length (length (strip_bom text) + 1) st.StartRecord (strip_bom text) refl in
-    let b = strip_bom-length text in
-    omega (arith, a, b)
+    omega (arith, records_from-length (length (strip_bom text) + 1) st.StartRecord (strip_bom text) refl, strip_bom-length text)

@@ -58,14 +58,12 @@ pub next-left : (g : AirportRows) (day : CalendarDate) (feed : List ℕ) (s t : 
     → after ≡ refused ++ refused_in s.airport s.journal (n + 1) parsed → m ≡ n + length parsed
     → IsLeft g day feed t after m new
 next-left g day feed s t refused after n m old new parsed left split made told more =
-    let rest = map (parse_of day) new in
-    let fewer = fewer-left (parse_of day) old new parsed split in
     let number : n + 1 + length parsed ≡ n + length parsed + 1 = omega arith in
     rw (made, told, more, left.airport) (record {
       airport = refl;
-      count = omega (arith, left.count, fewer);
-      journal = rw (← accepted-both g s.journal parsed rest, ← split) left.journal;
-      all = rw (append_assoc, ← number, ← refused-both g s.journal (n + 1) parsed rest, ← split) left.all;
+      count = omega (arith, left.count, fewer-left (parse_of day) old new parsed split);
+      journal = rw (← accepted-both g s.journal parsed (map (parse_of day) new), ← split) left.journal;
+      all = rw (append_assoc, ← number, ← refused-both g s.journal (n + 1) parsed (map (parse_of day) new), ← split) left.all;
     })
 
 pub none-left : (g : AirportRows) (day : CalendarDate) (feed : List ℕ) (s : DayRecord) (refused : List (ℕ × RefusalWord)) (n : ℕ)
@@ -75,5 +73,4 @@ pub none-left : (g : AirportRows) (day : CalendarDate) (feed : List ℕ) (s : Da
 unfolding accepted updates_in refused_in
 none-left g day feed s refused n old new parsed left split none last =
     let ended = rw (nil_from_length parsed none, last) at split in
-    let journal = rw ended at left.journal in
-    ((λ i. record { airport = left.airport i; journal = sym journal i }), sym (rw (ended, append-nil) at left.all))
+    ((λ i. record { airport = left.airport i; journal = sym (rw ended at left.journal) i }), sym (rw (ended, append-nil) at left.all))

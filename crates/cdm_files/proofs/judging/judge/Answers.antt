@@ -11,8 +11,8 @@ stretches-init g c =
 pub returns-then-is_empty : goal.returns-then-is_empty
 returns-then-is_empty g c =
     let none : length c.in_ok-parsed.parsed.items ≡ 0 = grind (arith, nat_tests, c.in_ok-parsed.parsed.ok.0, c.if-is_empty.ensures) in
-    let read = c.in_ok-parsed.ensures in
-    let judged = none-left _ _ _ _ _ _ _ _ _ c.stretches.invariant read.spelled none (read.all (omega (arith, none))) in
+    let all = c.in_ok-parsed.ensures.all (omega (arith, none)) in
+    let judged = none-left _ _ _ _ _ _ _ _ _ c.stretches.invariant c.in_ok-parsed.ensures.spelled none all in
     record { state = judged.0; refused = judged.1 }
 
 pub stretches-smaller : goal.stretches-smaller
