@@ -18,5 +18,6 @@ loop-preserved g c =
             within = grind (arith, common_steps);
             written = rw (take-add n w.in-Ok.more bytes) (Appends-trans _ _ _ _ _ c.loop.invariant.written taken);
           })
-      | in-Err w ↦ rw w.count-is (record { within = c.loop.invariant.within; written = appends_kept _ _ _ _ c.loop.invariant.written (w.in-Err.ensures).bytes })
+      | in-Err w ↦
+          rw w.count-is (record { within = c.loop.invariant.within; written = appends_kept _ _ _ _ c.loop.invariant.written (w.in-Err.ensures).bytes })
     ]
