@@ -1,17 +1,9 @@
 -- What the day of an airport file and a feed keeps.
-use Rattle.std.proofs.Common.{◌≡◌, ℕ, ◌+◌, Bool, true, false, not, List, [], ◌∷◌, Option, None, Some, Result, Ok, Err, IfOk, refl, subst}
-use Rattle.std.specs.Prelude.{⊤, if◌then◌else◌}
-use Rattle.std.specs.Result.{result_map_both}
-use Rattle.std.specs.List.{IsDistinct}
-use Rattle.std.specs.Option.{ok_or}
-use Rattle.cdm_flight.specs.Accepted.{has_runway}
-use Rattle.cdm_flight.specs.Journal.{AirportRows}
+use Rattle.cdm_files.proofs.Words.{◌≡◌, ℕ, ◌+◌, Bool, true, false, not, List, [], ◌∷◌, Option, None, Some, Result, Ok, Err, IfOk, refl, subst, ⊤}
+use Rattle.cdm_files.proofs.Words.{if◌then◌else◌, result_map_both, IsDistinct, ok_or, has_runway, AirportRows, RefusalWord, Order, Unknown}
+use Rattle.cdm_files.proofs.Words.{with_runway, with_space, with_taxi, flights_in}
 use Rattle.cdm_flight.specs.Names.{same_name}
-use Rattle.cdm_flight.specs.declared.word.RefusalWord.{RefusalWord}
-use Rattle.cdm_flight.specs.declared.word.RefusalWord.TheVariants.{Order, Unknown}
-use Rattle.cdm_day.specs.Airport.{with_runway, with_space, with_taxi}
 use Rattle.cdm_plan.specs.Airport.{IsAirport}
-use Rattle.cdm_plan.specs.Day.{flights_in}
 use Rattle.cdm_day.proofs.BatchLemmas.{accepted-keeps}
 use Rattle.cdm_day.proofs.AirportLemmas.{airport_after_runway, airport_after_taxi, airport_with_space, airport_without_rows}
 use Rattle.cdm_plan.proofs.JournalFacts.{names_after}
@@ -28,8 +20,7 @@ use Rattle.cdm_files.specs.declared.airport_file.AirportRecord.TheVariants.{Day,
 
 pub own_journal : (g : AirportRows) (feed : List ℕ) → IsDistinct same_name (flights_in (accepted_in g feed))
 unfolding accepted_in IsDistinct
-own_journal g feed =
-    accepted-keeps (λ a. IsDistinct same_name (flights_in a)) g (names_after g) [] (updates_in (spelled_in g feed)) tt
+own_journal g feed = accepted-keeps (λ a. IsDistinct same_name (flights_in a)) g (names_after g) [] (updates_in (spelled_in g feed)) tt
 
 -- An airport file gives its runways names of their own.
 
@@ -48,9 +39,7 @@ unless-refused false word g h k e = let same : g ≡ h = cc in subst IsAirport s
 record-kept : (s : Option AirportRows) (said : AirportRecord) → Keeps s → IfOk (with_record s said) Keeps
 unfolding with_record
 record-kept None (Day day) k = airport_without_rows _ refl refl
-record-kept None (Runway r cell cap) k = tt
-record-kept None (Taxi place r minutes) k = tt
-record-kept None (Space r group minutes) k = tt
+record-kept None _ k = tt
 record-kept (Some g) (Day day) k = tt
 record-kept (Some g) (Runway r cell cap) k = row-kept (with_runway g r cell cap) (λ h. airport_after_runway g h r cell cap k)
 record-kept (Some g) (Taxi place r minutes) k = row-kept (with_taxi g place r minutes) (λ h. airport_after_taxi g h place r minutes k)
@@ -58,11 +47,10 @@ record-kept (Some g) (Space r group minutes) k =
     row-kept (with_space g r group minutes) (λ h. unless-refused (not (has_runway g r)) Unknown _ h (airport_with_space r group minutes g k))
 
 fields-kept : (s : Option AirportRows) (fields : List (List ℕ)) → Keeps s → IfOk (and_then (airport_record_of fields) (with_record s)) Keeps
-fields-kept s fields k = by (airport_record_of fields)
-  where
-    by : (r : Result AirportRecord RefusalWord) → IfOk (and_then r (with_record s)) Keeps
-    by (Ok said) = record-kept s said k
-    by (Err word) = tt
+fields-kept s fields k = elim (airport_record_of fields) as (λ r. IfOk (and_then r (with_record s)) Keeps) [
+  | Ok said ↦ record-kept s said k
+  | Err word ↦ tt
+]
 
 records-kept : (s : Option AirportRows) (number : ℕ) (records : List (List (List ℕ))) → Keeps s
     → IfOk (after_records airport_record_of with_record s number records) Keeps
@@ -79,8 +67,7 @@ records-kept s number (fields ∷ later) k = by (λ next. records-kept next (num
 began-kept : (r : Result (Option AirportRows) (ℕ × RefusalWord)) (fault : ℕ × RefusalWord) → IfOk r Keeps
     → IfOk (and_then r (λ rows. ok_or rows fault)) IsAirport
 began-kept (Ok (Some g)) fault h = h
-began-kept (Ok None) fault h = tt
-began-kept (Err other) fault h = tt
+began-kept _ fault h = tt
 
 pub own_airport : (text : List ℕ) (g : AirportRows) → airport_in text ≡ Ok g → IsAirport g
 unfolding airport_in

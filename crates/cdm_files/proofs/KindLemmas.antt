@@ -1,11 +1,8 @@
 -- A record is of the kind that it names, and has as many fields as that kind.
-use Rattle.std.proofs.Common.{◌≡◌, ◌≢◌, ◌∙◌, ◌+◌, ◌-◌, ◌<◌, ◌≤◌, ℕ, zero, suc, List, [], ◌∷◌, length, drop, take, Option, Some, None, Result, Ok, Err, ap, refl, sym, subst, arith, length-drop}
+use Rattle.cdm_files.proofs.Words.{◌≡◌, ◌≢◌, ◌∙◌, ◌+◌, ◌-◌, ◌<◌, ◌≤◌, ℕ, zero, suc, List, [], ◌∷◌, length, drop, take, Option, Some, None, Result, Ok}
+use Rattle.cdm_files.proofs.Words.{Err, ap, refl, sym, subst, arith, length-drop, field_at, CalendarDate, Update, RefusalWord}
 use Rattle.std.specs.Prelude.{ok_or}
-use Rattle.csv.specs.Records.{field_at}
-use Rattle.cdm_time.specs.declared.calendar.CalendarDate.{CalendarDate}
 use Rattle.cdm_flight.specs.declared.role.Role.{Role}
-use Rattle.cdm_flight.specs.declared.update.Update.{Update}
-use Rattle.cdm_flight.specs.declared.word.RefusalWord.{RefusalWord}
 use Rattle.cdm_flight.specs.declared.word.RefusalWord.TheVariants as word
 use Rattle.cdm_kinds.specs.Kinds.{fields_of, kind_named, kind_of}
 use Rattle.cdm_kinds.specs.declared.kind.Kind.{Kind}
@@ -94,14 +91,8 @@ named-made day (Some k) fields u is = ap Some (sym (by-kind day k fields u is))
 named-made day None fields u is = cc
 
 with-role-made : (role : Option Role) (r : Result Update RefusalWord) (x : Role) (u : Update) → with_role role r ≡ Ok (x, u) → r ≡ Ok u
-with-role-made (Some role) r x u is = by r is
-  where
-    by : (r : Result Update RefusalWord) → of_one {X = Role × Update} (λ v. (role, v)) r ≡ Ok (x, u) → r ≡ Ok u
-    by (Ok v) e =
-        let pair : (role, v) ≡ (x, u) = cc in
-        let same : v ≡ u = ap (λ (p : Role × Update). p.1) pair in
-        ap Ok same
-    by (Err w) e = cc
+with-role-made (Some role) (Ok v) x u is = let pair : (role, v) ≡ (x, u) = cc in ap (λ (p : Role × Update). Ok p.1) pair
+with-role-made (Some role) (Err w) x u is = cc
 with-role-made None (Err word.Fields) x u is = cc
 with-role-made None r x u is = cc
 

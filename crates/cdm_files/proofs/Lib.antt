@@ -1,3 +1,4 @@
+mod Words
 pub mod RecordFacts
 pub mod RefusedLemmas
 pub mod WrittenLemmas

@@ -1,7 +1,9 @@
 -- What a read of one record does to the records that a reader has still to give.
-use Rattle.std.proofs.Common.{◌≡◌, ◌≤◌, ◌<◌, ◌+◌, ◌∷◌, ◌++◌, ◌∙◌, ℕ, zero, suc, Bool, true, false, not, List, [], length, Option, Some, None, refl, sym, ap, arith, if◌then◌else◌, ◌==◌, ◌||◌, Bor, add-one, inl}
-use Rattle.csv.specs.Machine.{Read, after_end, ends_at_end, field_after, fields_after, in_field, is_end, next_record, start_field, start_record, step}
-use Rattle.csv.specs.Reading.{NextIs, ReadRecord, ReadsNext, default_config, is_flexible, pending_of, records_from, records_next, took_first, strip_bom, is_bom}
+use Rattle.std.proofs.lemmas.Bool.{cases_Bool}
+use Rattle.std.proofs.Common.{inr}
+use Rattle.std.proofs.Common.{rules, tests, ◌≡◌, ◌≤◌, ◌<◌, ◌+◌, ◌∷◌, ◌++◌, ◌∙◌, ℕ, zero, suc, Bool, true, false, not, List, [], length, Option, Some, None, refl, sym, ap, arith, if◌then◌else◌, Bor, add-one, inl}
+use Rattle.csv.specs.Machine.{Read, ends_at_end, fields_after, is_end, next_record, step}
+use Rattle.csv.specs.Reading.{NextIs, ReadRecord, ReadsNext, default_config, is_flexible, pending_of, records_from, records_next, took_first, strip_bom}
 use Rattle.csv.specs.declared.reader.Reader.{Reader}
 use Rattle.csv.specs.declared.parser.Action.{Action}
 use Rattle.csv.specs.declared.parser.Action.TheVariants as act
@@ -14,43 +16,10 @@ use Rattle.cdm_files.specs.inner.RecordsLeft.{IsBetweenRecords, records_at, reco
 abbrev pub EndsBetween : State × Action → Type 0
 EndsBetween o = is_end o.1 ≡ true → ends_at_end o.0 ≡ false
 
-choice-between : (b : Bool) (x y : State × Action) → EndsBetween x → EndsBetween y → EndsBetween (if b then x else y)
-choice-between true x y f g = f
-choice-between false x y f g = g
-
-after_end-between : (b : Bool) → ends_at_end (if b then st.AfterCr else st.StartRecord) ≡ false
-after_end-between true = refl
-after_end-between false = refl
-
-in_field-between : (c : ℕ) → EndsBetween (in_field default_config c)
-in_field-between c =
-    choice-between (c == 44) (st.StartField, act.EndField) _ (λ h. cc)
-    (choice-between ((c == 13) || (c == 10)) (after_end default_config.terminator c, act.EndRecord) (st.InField, act.Copy)
-    (λ h. after_end-between (c == 13)) (λ h. cc))
-
-start_field-between : (c : ℕ) → EndsBetween (start_field default_config c)
-start_field-between c =
-    choice-between (c == 34) (st.InQuoted, act.Skip) (in_field default_config c) (λ h. cc) (in_field-between c)
-
-start_record-between : (c : ℕ) → EndsBetween (start_record default_config c)
-start_record-between c =
-    choice-between ((c == 13) || (c == 10)) (st.StartRecord, act.Skip) (start_field default_config c)
-    (λ h. cc) (start_field-between c)
-
 -- where a byte ends a record, the machine is between two records
 pub step-between : (s : State) (c : ℕ) → EndsBetween (step default_config s c)
-step-between st.StartRecord c = start_record-between c
-step-between st.StartField c = start_field-between c
-step-between st.InField c = in_field-between c
-step-between st.InQuoted c =
-    choice-between (c == 34) (st.AfterQuote, act.Skip) (st.InQuoted, act.Copy) (λ h. cc) (λ h. cc)
-step-between st.InEscape c = λ h. cc
-step-between st.AfterQuote c =
-    choice-between (c == 34) (st.InQuoted, act.Copy) (in_field default_config c) (λ h. cc) (in_field-between c)
-step-between st.InComment c =
-    choice-between (c == 10) (st.StartRecord, act.Skip) (st.InComment, act.Skip) (λ h. cc) (λ h. cc)
-step-between st.AfterCr c =
-    choice-between (c == 10) (st.StartRecord, act.Skip) (start_record default_config c) (λ h. cc) (start_record-between c)
+step-between st.StartRecord c = search rules
+step-between _ c = grind (arith, tests)
 
 -- after a record the machine is between two records, and no more bytes are left than there were
 record AfterRecord (xs : List ℕ) (p : Read) : Type 0 where
@@ -60,45 +29,30 @@ record AfterRecord (xs : List ℕ) (p : Read) : Type 0 where
 next_record-after : (s : State) (fields : List (List ℕ)) (field xs : List ℕ) (p : Read)
     → next_record default_config s fields field xs ≡ Some p → AfterRecord xs p
 unfolding next_record
-next_record-after s fields field [] p e = by (ends_at_end s) refl
-  where
-    by : (b : Bool) → ends_at_end s ≡ b → AfterRecord [] p
-    by true h =
-        let q = rw h at e in
-        let i : (fields ++ (field ∷ []), st.StartRecord, []) ≡ p = cc q in
-        rw (← i) (record { state = refl; no_longer = omega arith })
-    by false h = let q = rw h at e in cc q
-next_record-after s fields field (c ∷ xs) p e = by (is_end (step default_config s c).1) refl (next_record-after (step default_config s c).0 _ _ xs p)
-  where
-    by : (b : Bool) → is_end (step default_config s c).1 ≡ b
-        → (next_record default_config (step default_config s c).0 (fields_after (step default_config s c).1 fields field)
-        (field_after (step default_config s c).1 c field) xs ≡ Some p → AfterRecord xs p)
-        → AfterRecord (c ∷ xs) p
-    by true h more =
-        let q = rw h at e in
-        let i : (fields_after (step default_config s c).1 fields field, (step default_config s c).0, xs) ≡ p = cc q in
-        rw (← i) (record { state = step-between s c h; no_longer = omega arith })
-    by false h more =
-        let q = rw h at e in
-        let m = more q in
-        record { state = m.state; no_longer = omega (arith, m.no_longer) }
+next_record-after s fields field [] p e = elim (cases_Bool (ends_at_end s)) [
+  | inl h ↦
+      let i : (fields ++ (field ∷ []), st.StartRecord, []) ≡ p = cc (rw h at e) in rw (← i) (record { state = refl; no_longer = omega arith })
+  | inr h ↦ cc (rw h at e)
+]
+next_record-after s fields field (c ∷ xs) p e = elim (cases_Bool (is_end (step default_config s c).1)) [
+  | inl h ↦
+      let i : (fields_after (step default_config s c).1 fields field, (step default_config s c).0, xs) ≡ p = cc (rw h at e) in
+      rw (← i) (record { state = step-between s c h; no_longer = omega arith })
+  | inr h ↦
+      let m = next_record-after (step default_config s c).0 _ _ xs p (rw h at e) in
+      record { state = m.state; no_longer = omega (arith, m.no_longer) }
+]
 
 -- a record that is read between two records takes a byte at least
 next_record-shorter : (s : State) (xs : List ℕ) (p : Read) → ends_at_end s ≡ false
     → next_record default_config s [] [] xs ≡ Some p → length p.2 < length xs
 unfolding next_record
-next_record-shorter s [] p h e = let q = rw h at e in cc q
-next_record-shorter s (c ∷ xs) p h e = by (is_end (step default_config s c).1) refl
-  where
-    by : (b : Bool) → is_end (step default_config s c).1 ≡ b → length p.2 < length (c ∷ xs)
-    by true t =
-        let q = rw t at e in
-        let i : (fields_after (step default_config s c).1 [] [], (step default_config s c).0, xs) ≡ p = cc q in
-        rw (← i) (omega arith)
-    by false t =
-        let q = rw t at e in
-        let m = next_record-after _ _ _ xs p q in
-        omega (arith, m.no_longer)
+next_record-shorter s [] p h e = cc (rw h at e)
+next_record-shorter s (c ∷ xs) p h e = elim (cases_Bool (is_end (step default_config s c).1)) [
+  | inl t ↦
+      let i : (fields_after (step default_config s c).1 [] [], (step default_config s c).0, xs) ≡ p = cc (rw t at e) in rw (← i) (omega arith)
+  | inr t ↦ let m = next_record-after (step default_config s c).0 _ _ xs p (rw t at e) in omega (arith, m.no_longer)
+]
 
 -- the records of a text don't depend on the count, where it is large enough
 records_from-count : (n m : ℕ) (s : State) (xs : List ℕ) → ends_at_end s ≡ false → length xs < n → length xs < m
@@ -207,19 +161,11 @@ records_from-length (suc n) s xs h = by (records_from-length n) (next_record def
 
 strip_bom-length : (xs : List ℕ) → length (strip_bom xs) ≤ length xs
 unfolding strip_bom
-strip_bom-length [] = omega arith
-strip_bom-length (a ∷ []) = omega arith
-strip_bom-length (a ∷ b ∷ []) = omega arith
-strip_bom-length (a ∷ b ∷ c ∷ rest) = by (is_bom a b c)
-  where
-    by : (t : Bool) → length (if t then rest else (a ∷ b ∷ c ∷ rest)) ≤ suc (suc (suc (length rest)))
-    by true = omega arith
-    by false = omega arith
+strip_bom-length (a ∷ b ∷ c ∷ rest) = grind (arith, tests)
+strip_bom-length _ = omega arith
 
 -- a text has no more records than bytes
 pub records_of-length : (text : List ℕ) → length (records_of text) ≤ length text
 unfolding records_of
 records_of-length text =
-    let a = records_from-length (length (strip_bom text) + 1) st.StartRecord (strip_bom text) refl in
-    let b = strip_bom-length text in
-    omega (arith, a, b)
+    omega (arith, records_from-length (length (strip_bom text) + 1) st.StartRecord (strip_bom text) refl, strip_bom-length text)

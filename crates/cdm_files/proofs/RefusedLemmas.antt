@@ -1,11 +1,8 @@
 -- The refused records of a feed, from the replies to its updates.
-use Rattle.std.proofs.Common.{◌≡◌, ◌+◌, ℕ, List, [], ◌∷◌, ◌++◌, Option, None, Some, Ok, Err, refl, ap, map}
-use Rattle.cdm_flight.specs.Accepted.{after_one, refusal, replies_to}
-use Rattle.cdm_flight.specs.Journal.{AirportRows}
-use Rattle.cdm_flight.specs.declared.update.Update.{Update}
-use Rattle.cdm_flight.specs.declared.word.RefusalWord.{RefusalWord}
+use Rattle.cdm_files.proofs.Words.{◌≡◌, ◌+◌, ℕ, List, [], ◌∷◌, Option, None, Some, Ok, Err, refl, map, after_one, refusal, replies_to, AirportRows}
+use Rattle.cdm_files.proofs.Words.{Update, RefusalWord}
 use Rattle.cdm_day.specs.Replies.{reply_of}
-use Rattle.cdm_files.specs.Refused.{Spelled, if_refused, refused_by_replies, refused_in, updates_in, word_in}
+use Rattle.cdm_files.specs.Refused.{Spelled, refused_by_replies, refused_in, updates_in, word_in}
 
 word_in-reply : (word : Option RefusalWord) → word_in (reply_of word) ≡ word
 word_in-reply None = refl
@@ -16,9 +13,5 @@ pub refused_by_day : (g : AirportRows) (a : List Update) (number : ℕ) (parsed 
     → refused_by_replies number parsed (map reply_of (replies_to g a (updates_in parsed))) ≡ refused_in g a number parsed
 unfolding updates_in replies_to refused_in refused_by_replies
 refused_by_day g a number [] = refl
-refused_by_day g a number (Err word ∷ later) =
-    ap (λ (rs : List (ℕ × RefusalWord)). (number, word) ∷ rs) (refused_by_day g a (number + 1) later)
-refused_by_day g a number (Ok p ∷ later) =
-    let word = word_in-reply (refusal g a p.0 p.1) in
-    let rest = refused_by_day g (after_one g a p) (number + 1) later in
-    λ i. if_refused number (word i) ++ rest i
+refused_by_day g a number (Err word ∷ later) = cc (refused_by_day g a (number + 1) later)
+refused_by_day g a number (Ok p ∷ later) = cc (word_in-reply (refusal g a p.0 p.1), refused_by_day g (after_one g a p) (number + 1) later)

@@ -1,20 +1,11 @@
 -- A row that the airport refuses is refused by the same word.
-use Rattle.std.proofs.Common.{◌≡◌, Some, Result, Ok, Err}
-use Rattle.std.specs.Result.{result_err}
-use Rattle.cdm_flight.specs.Journal.{AirportRows}
-use Rattle.cdm_flight.specs.declared.word.RefusalWord.{RefusalWord}
-use Rattle.cdm_day.specs.Airport.{word_of}
+use Rattle.cdm_files.proofs.Words.{◌≡◌, Some, Result, Ok, Err, result_err, AirportRows, RefusalWord, word_of}
 use Rattle.cdm_day.specs.declared.airport.AirportFault.{AirportFault}
-use Rattle.cdm_day.specs.declared.airport.AirportFault.TheVariants.{Unknown, Exists, Full, Memory}
+use Rattle.cdm_day.specs.declared.airport.AirportFault.TheVariants.{Memory}
 use Rattle.cdm_files.specs.Fields.{of_one}
 use Rattle.cdm_files.specs.inner.RecordFaults.{IsRecordFaultOf, row_fault}
 
 pub row_refused : (r : Result AirportRows RefusalWord) (fault : AirportFault) → word_of fault ≡ result_err r → IsRecordFaultOf (of_one Some r) (row_fault fault)
 row_refused (Ok g) Memory h = tt
-row_refused (Ok g) Unknown h = cc
-row_refused (Ok g) Exists h = cc
-row_refused (Ok g) Full h = cc
 row_refused (Err word) Memory h = tt
-row_refused (Err word) Unknown h = cc
-row_refused (Err word) Exists h = cc
-row_refused (Err word) Full h = cc
+row_refused _ _ h = cc

@@ -1,5 +1,5 @@
 -- Faults of a run, and what holds of its inputs.
-use Rattle.std.proofs.Common.{◌≡◌, ℕ, List, Option, None, Some, IfSome, sym, ap, subst, ◌∙◌}
+use Rattle.std.proofs.Common.{◌≡◌, ℕ, List, Option, Some, IfSome, sym, ap, subst, ◌∙◌}
 use Rattle.std.proofs.lemmas.Option.{IfSome_then}
 use Rattle.cdm_files.specs.AirportFile.{airport_in}
 use Rattle.cdm_files.specs.CommonFaults.{IsAirportFault, IsFirstCommonFault, IsFirstInputFault}
@@ -9,21 +9,17 @@ use Rattle.cdm_files.specs.declared.common_fault.CommonFault.TheVariants as comm
 
 -- a fault of the inputs is the first, whatever is asked of them
 pub input_fault-first : (a s t : Reading) (Good : Type 0) (e : CommonFault) → IsFirstInputFault a s t e → IsFirstCommonFault a s t Good e
-input_fault-first a s t Good (common.Read name) fault = fault
-input_fault-first a s t Good (common.TooLong name) fault = fault
 input_fault-first a s t Good (common.Airport number word) fault = absurd fault
-input_fault-first a s t Good common.Memory fault = fault
 input_fault-first a s t Good common.Write fault = absurd fault
+input_fault-first a s t Good _ fault = fault
 
 -- and so is a fault of the airport file, where they were read
 pub airport_record-first : (a s t : Reading) (Good : Type 0) (airport : List ℕ) (e : CommonFault) → AreRead a s t
     → IfSome a.before (λ bytes. airport ≡ bytes) → IsAirportFault airport e → IsFirstCommonFault a s t Good e
-airport_record-first a s t Good airport (common.Read name) read is fault = absurd fault
-airport_record-first a s t Good airport (common.TooLong name) read is fault = absurd fault
 airport_record-first a s t Good airport (common.Airport number word) read is fault =
     (read, IfSome_then a.before is (λ bytes same. sym (ap airport_in same) ∙ fault))
 airport_record-first a s t Good airport common.Memory read is fault = (read.0.unfailed, read.1.unfailed, read.2.unfailed)
-airport_record-first a s t Good airport common.Write read is fault = absurd fault
+airport_record-first a s t Good airport _ read is fault = absurd fault
 
 -- what is said of the bytes that were read is said of the inputs
 pub of_both : (P : List ℕ → List ℕ → Type 0) (a s : Option (List ℕ)) (airport scenarios : List ℕ)
@@ -45,7 +41,5 @@ of_told {Q = Q} a s t of more =
 
 -- what holds of all bytes holds of those that readers have left
 pub of_known : (P : List ℕ → List ℕ → List ℕ → Type 0) (a s t : Option (List ℕ)) → ((x y z : List ℕ) → P x y z) → IfTold a s t P
-of_known P None s t p = tt
-of_known P (Some x) None t p = tt
-of_known P (Some x) (Some y) None p = tt
 of_known P (Some x) (Some y) (Some z) p = p x y z
+of_known P _ _ _ p = tt

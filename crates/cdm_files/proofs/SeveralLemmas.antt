@@ -1,6 +1,5 @@
 -- What the values of several fields make.
-use Rattle.std.proofs.Common.{◌≡◌, Result, Ok, Err, refl, sym}
-use Rattle.cdm_flight.specs.declared.word.RefusalWord.{RefusalWord}
+use Rattle.cdm_files.proofs.Words.{◌≡◌, Result, Ok, Err, refl, sym, RefusalWord}
 use Rattle.cdm_files.specs.Fields.{both, of_four, of_one, of_three}
 use Rattle.cdm_files.specs.inner.Several.{all_four, all_three}
 

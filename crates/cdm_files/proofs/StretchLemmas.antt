@@ -1,14 +1,8 @@
 -- A feed is judged stretch by stretch.
-use Rattle.std.proofs.Common.{◌≡◌, ◌<◌, ◌+◌, ◌∙◌, ℕ, zero, suc, List, [], ◌∷◌, ◌++◌, Ok, Err, refl, sym, ap, length, map, arith, append_assoc, append-nil, length-append, ◌≤◌}
-use Rattle.std.specs.Option.{option_map, option_to_list}
-use Rattle.std.proofs.lemmas.List.{length-map, nil_from_length}
-use Rattle.cdm_flight.specs.Accepted.{accepted, after_one, refusal}
-use Rattle.cdm_flight.specs.Journal.{AirportRows}
-use Rattle.cdm_flight.specs.declared.update.Update.{Update}
-use Rattle.cdm_flight.specs.declared.word.RefusalWord.{RefusalWord}
-use Rattle.cdm_time.specs.declared.calendar.CalendarDate.{CalendarDate}
-use Rattle.cdm_plan.specs.Day.{DayRecord}
-use Rattle.cdm_files.specs.FeedDay.{accepted_in, refusals_in, spelled_in}
+use Rattle.cdm_files.proofs.Words.{◌≡◌, ◌<◌, ◌+◌, ℕ, suc, List, [], ◌∷◌, ◌++◌, Ok, Err, refl, sym, ap, length, map, arith, append_assoc}
+use Rattle.cdm_files.proofs.Words.{append-nil, length-append, ◌≤◌, option_map, option_to_list, length-map, nil_from_length, accepted, after_one}
+use Rattle.cdm_files.proofs.Words.{refusal, AirportRows, Update, RefusalWord, CalendarDate, DayRecord}
+use Rattle.cdm_files.specs.FeedDay.{accepted_in, refusals_in}
 use Rattle.cdm_files.specs.Parsing.{parse_of}
 use Rattle.cdm_files.specs.Records.{records_of}
 use Rattle.cdm_files.specs.Refused.{Spelled, refused_in, updates_in}
@@ -27,30 +21,21 @@ pub refused-both : (g : AirportRows) (a : List Update) (n : ℕ) (xs ys : List S
 unfolding updates_in accepted refused_in
 refused-both g a n [] ys = let same : n ≡ n + 0 = omega arith in ap (λ (k : ℕ). refused_in g a k ys) same
 refused-both g a n (Err word ∷ xs) ys =
-    let same : n + 1 + length xs ≡ n + suc (length xs) = omega arith in
-    ap (λ (rs : List (ℕ × RefusalWord)). (n, word) ∷ rs)
-    (refused-both g a (n + 1) xs ys ∙ ap (λ (k : ℕ). refused_in g a (n + 1) xs ++ refused_in g (accepted g a (updates_in xs)) k ys) same)
+    let same : n + 1 + length xs ≡ n + suc (length xs) = omega arith in cc (same, refused-both g a (n + 1) xs ys)
 refused-both g a n (Ok p ∷ xs) ys =
-    let b = after_one g a p in
-    let here = option_to_list (option_map (λ (word : RefusalWord). (n, word)) (refusal g a p.0 p.1)) in
     let same : n + 1 + length xs ≡ n + suc (length xs) = omega arith in
-    ap (λ (rs : List (ℕ × RefusalWord)). here ++ rs)
-    (refused-both g b (n + 1) xs ys ∙ ap (λ (k : ℕ). refused_in g b (n + 1) xs ++ refused_in g (accepted g b (updates_in xs)) k ys) same)
-    ∙ sym (append_assoc here (refused_in g b (n + 1) xs) (refused_in g (accepted g b (updates_in xs)) (n + suc (length xs)) ys))
+    let both = rw same at (refused-both g (after_one g a p) (n + 1) xs ys) in
+    rw both (sym (append_assoc (option_to_list (option_map (λ (word : RefusalWord). (n, word)) (refusal g a p.0 p.1))) _ _))
 
 -- how many records are left
 pub fewer-left : {X Y : Type 0} (f : X → Y) (old new : List X) (parsed : List Y) → map f old ≡ parsed ++ map f new → length old ≡ length parsed + length new
-fewer-left f old new parsed is =
-    sym (length-map old f) ∙ ap length is ∙ length-append parsed (map f new) ∙ ap (λ (k : ℕ). length parsed + k) (length-map new f)
+fewer-left f old new parsed is = omega (arith, ap length is, length-map old f, length-append parsed (map f new), length-map new f)
 
 -- a stretch that may hold all records leaves none
 pub none-after : {X Y : Type 0} (f : X → Y) (old new : List X) (parsed : List Y) (most : ℕ) → length old ≤ most
     → map f old ≡ parsed ++ map f new → (length parsed < most → new ≡ []) → new ≡ []
-none-after f old new parsed most few split all = by (length new) refl
-  where
-    by : (k : ℕ) → length new ≡ k → new ≡ []
-    by zero none = nil_from_length new none
-    by (suc k) some = let fewer = fewer-left f old new parsed split in all (omega (arith, few, fewer, some))
+none-after f old [] parsed most few split all = refl
+none-after f old (x ∷ new) parsed most few split all = let fewer = fewer-left f old (x ∷ new) parsed split in all (omega (arith, few, fewer))
 
 -- the records that are left of a feed tell, after those that were judged, what the whole feed tells
 pub record IsLeft (g : AirportRows) (day : CalendarDate) (feed : List ℕ) (s : DayRecord) (refused : List (ℕ × RefusalWord)) (judged : ℕ) (left : List (List (List ℕ))) : Type 0 where
@@ -64,14 +49,7 @@ pub all-left : (g : AirportRows) (day : CalendarDate) (feed : List ℕ) (s : Day
     → IsLeft g day feed s refused 0 left
 unfolding accepted_in refusals_in
 all-left g day feed s refused left is fresh none all few =
-    let spelled : spelled_in g feed ≡ map (parse_of day) left = λ i. map (parse_of (sym is i)) (sym all i) in
-    let first : s.journal ≡ [] = ap (λ (x : DayRecord). x.journal) fresh in
-    record {
-      airport = ap (λ (x : DayRecord). x.airport) fresh;
-      count = omega (arith, few);
-      journal = λ i. accepted g (sym first i) (updates_in (spelled i));
-      all = λ i. sym none i ++ refused_in g (sym first i) 1 (spelled i);
-    }
+    rw (fresh, none, all, is) (record { airport = refl; count = omega (arith, rw all at few); journal = refl; all = refl })
 
 pub next-left : (g : AirportRows) (day : CalendarDate) (feed : List ℕ) (s t : DayRecord) (refused after : List (ℕ × RefusalWord)) (n m : ℕ)
     (old new : List (List (List ℕ))) (parsed : List Spelled) → IsLeft g day feed s refused n old
@@ -80,29 +58,13 @@ pub next-left : (g : AirportRows) (day : CalendarDate) (feed : List ℕ) (s t : 
     → after ≡ refused ++ refused_in s.airport s.journal (n + 1) parsed → m ≡ n + length parsed
     → IsLeft g day feed t after m new
 next-left g day feed s t refused after n m old new parsed left split made told more =
-    let rest = map (parse_of day) new in
-    let journal : t.journal ≡ accepted g s.journal (updates_in parsed) =
-    ap (λ (x : DayRecord). x.journal) made ∙ ap (λ (h : AirportRows). accepted h s.journal (updates_in parsed)) left.airport in
-    let fewer = fewer-left (parse_of day) old new parsed split in
-    let few = left.count in
-    let these : after ≡ refused ++ refused_in g s.journal (n + 1) parsed =
-    told ∙ ap (λ (h : AirportRows). refused ++ refused_in h s.journal (n + 1) parsed) left.airport in
-    let number : n + 1 + length parsed ≡ m + 1 = omega (arith, more) in
-    let both : refused_in g s.journal (n + 1) (parsed ++ rest) ≡ refused_in g s.journal (n + 1) parsed ++ refused_in g t.journal (m + 1) rest =
-    refused-both g s.journal (n + 1) parsed rest ∙ (λ i. refused_in g s.journal (n + 1) parsed ++ refused_in g (sym journal i) (number i) rest) in
-    record {
-      airport = ap (λ (x : DayRecord). x.airport) made ∙ left.airport;
-      count = omega (arith, few, fewer, more);
-      journal = left.journal
-          ∙ ap (λ (xs : List Spelled). accepted g s.journal (updates_in xs)) split
-          ∙ accepted-both g s.journal parsed rest
-          ∙ ap (λ (a : List Update). accepted g a (updates_in rest)) (sym journal);
-      all = left.all
-          ∙ ap (λ (xs : List Spelled). refused ++ refused_in g s.journal (n + 1) xs) split
-          ∙ ap (λ (rs : List (ℕ × RefusalWord)). refused ++ rs) both
-          ∙ sym (append_assoc refused (refused_in g s.journal (n + 1) parsed) (refused_in g t.journal (m + 1) rest))
-          ∙ ap (λ (rs : List (ℕ × RefusalWord)). rs ++ refused_in g t.journal (m + 1) rest) (sym these);
-    }
+    let number : n + 1 + length parsed ≡ n + length parsed + 1 = omega arith in
+    rw (made, told, more, left.airport) (record {
+      airport = refl;
+      count = omega (arith, left.count, fewer-left (parse_of day) old new parsed split);
+      journal = rw (← accepted-both g s.journal parsed (map (parse_of day) new), ← split) left.journal;
+      all = rw (append_assoc, ← number, ← refused-both g s.journal (n + 1) parsed (map (parse_of day) new), ← split) left.all;
+    })
 
 pub none-left : (g : AirportRows) (day : CalendarDate) (feed : List ℕ) (s : DayRecord) (refused : List (ℕ × RefusalWord)) (n : ℕ)
     (old new : List (List (List ℕ))) (parsed : List Spelled) → IsLeft g day feed s refused n old
@@ -110,8 +72,5 @@ pub none-left : (g : AirportRows) (day : CalendarDate) (feed : List ℕ) (s : Da
     → (s ≡ record { airport = g; journal = accepted_in g feed }) × (refused ≡ refusals_in g feed)
 unfolding accepted updates_in refused_in
 none-left g day feed s refused n old new parsed left split none last =
-    let empty = nil_from_length parsed none in
-    let ended : map (parse_of day) old ≡ [] = split ∙ (λ i. empty i ++ map (parse_of day) (last i)) in
-    let journal : accepted_in g feed ≡ s.journal = left.journal ∙ ap (λ (xs : List Spelled). accepted g s.journal (updates_in xs)) ended in
-    let all : refusals_in g feed ≡ refused ++ [] = left.all ∙ ap (λ (xs : List Spelled). refused ++ refused_in g s.journal (n + 1) xs) ended in
-    ((λ i. record { airport = left.airport i; journal = sym journal i }), sym (all ∙ append-nil refused))
+    let ended = rw (nil_from_length parsed none, last) at split in
+    ((λ i. record { airport = left.airport i; journal = sym (rw ended at left.journal) i }), sym (rw (ended, append-nil) at left.all))

@@ -1,12 +1,10 @@
 -- The bytes of two files of examples, read back: `one_flight/airport.csv` as it stands, and `one_flight/feed.csv`
 -- with CR LF, a blank line and no line end after the last record.
-use Rattle.std.proofs.Common.{◌≡◌, List, ℕ, [], ◌∷◌, refl}
-use Rattle.std.specs.Prelude.{codes, map}
-use Rattle.std.proofs.lemmas.List.Elements.{All-from_recursion}
-use Rattle.csv.specs.Reading.{strip_bom}
+use Rattle.cdm_files.proofs.Words.{◌≡◌, List, ℕ, [], ◌∷◌, refl, codes, All-from_recursion, strip_bom}
+use Rattle.std.specs.Prelude.{map}
 use Rattle.cdm_files.specs.Records.{records_of}
 use Rattle.cdm_files.specs.Written.{AreWritten, Field, Line, LineEnd, Lf, CrLf, Plain, after_commas}
-use Rattle.cdm_files.proofs.WrittenLemmas.{Told, read-back}
+use Rattle.cdm_files.proofs.WrittenLemmas.{Told, read_back}
 
 abbrev plain : List (List ℕ) → List Field
 plain fields = map Plain fields
@@ -16,28 +14,21 @@ line_with end fields = record { fields = fields; end = end }
 
 -- AIRPORT
 
-abbrev day : List (List ℕ)
-day = codes "DAY" ∷ codes "2025-03-10" ∷ []
-
-abbrev runway : List (List ℕ)
-runway = codes "RUNWAY" ∷ codes "27L" ∷ codes "10" ∷ codes "2" ∷ []
-
-abbrev default : List (List ℕ)
-default = codes "TAXI" ∷ codes "*" ∷ codes "27L" ∷ codes "15" ∷ []
-
-abbrev stand : List (List ℕ)
-stand = codes "TAXI" ∷ codes "A1" ∷ codes "27L" ∷ codes "10" ∷ []
+abbrev rows : List (List (List ℕ))
+rows =
+    (codes "DAY" ∷ codes "2025-03-10" ∷ []) ∷ (codes "RUNWAY" ∷ codes "27L" ∷ codes "10" ∷ codes "2" ∷ [])
+    ∷ (codes "TAXI" ∷ codes "*" ∷ codes "27L" ∷ codes "15" ∷ []) ∷ (codes "TAXI" ∷ codes "A1" ∷ codes "27L" ∷ codes "10" ∷ []) ∷ []
 
 abbrev airport : List Line
-airport = map (line_with Lf) (plain day ∷ plain runway ∷ plain default ∷ plain stand ∷ [])
+airport = map (λ fields. line_with Lf (plain fields)) rows
 
 airport_written : AreWritten airport []
 unfolding strip_bom after_commas
 airport_written = record { each = All-from_recursion Told airport (refl, (refl, (refl, (refl, tt)))); at_end = refl; unmarked = refl }
 
-airport_read : records_of (codes "DAY,2025-03-10\nRUNWAY,27L,10,2\nTAXI,*,27L,15\nTAXI,A1,27L,10\n") ≡ day ∷ runway ∷ default ∷ stand ∷ []
+airport_read : records_of (codes "DAY,2025-03-10\nRUNWAY,27L,10,2\nTAXI,*,27L,15\nTAXI,A1,27L,10\n") ≡ rows
 unfolding after_commas
-airport_read = read-back airport [] airport_written
+airport_read = read_back airport [] airport_written
 
 -- FEED
 
@@ -59,4 +50,4 @@ feed_written = record { each = All-from_recursion Told feed (refl, (refl, (refl,
 
 feed_read : records_of (codes "AP,FLT,AB1,5\r\n\r\nATC,RWY,AB1,27L\r\nAO,TOBT,AB1,2025-03-10T06:00Z") ≡ flt ∷ rwy ∷ tobt ∷ []
 unfolding after_commas
-feed_read = read-back feed (plain tobt) feed_written
+feed_read = read_back feed (plain tobt) feed_written

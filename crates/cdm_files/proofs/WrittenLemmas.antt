@@ -1,13 +1,11 @@
 -- Written records are read back.
-use Rattle.std.proofs.Common.{◌≡◌, ◌<◌, ◌≤◌, ◌+◌, ◌∷◌, ◌++◌, ◌∙◌, ◌==◌, ◌||◌, ℕ, zero, suc, false, List, [], length, map, Option, Some, IsTrue, refl, sym, ap, arith, append_assoc}
+use Rattle.cdm_files.proofs.Words.{◌≡◌, ◌<◌, ◌≤◌, ◌+◌, ◌∷◌, ◌++◌, ◌∙◌, ◌==◌, ◌||◌, ℕ, zero, suc, false, List, [], length, map, Option, Some, IsTrue}
+use Rattle.cdm_files.proofs.Words.{refl, sym, ap, arith, append_assoc, All-head, All-tail, All, filter_map, flat_map, list_any, list_all, cons_option}
+use Rattle.cdm_files.proofs.Words.{default_config, records_from, State}
 use Rattle.std.proofs.lemmas.Bool.{and_parts, not-true, or_parts}
 use Rattle.std.proofs.lemmas.List.{length-append, append-nil}
-use Rattle.std.proofs.lemmas.List.Elements.{All-head, All-tail}
-use Rattle.std.specs.List.{All, filter_map, flat_map, list_any, list_all, cons_option}
 use Rattle.csv.specs.Machine.{Read, next_record}
-use Rattle.csv.specs.Reading.{default_config, records_from}
 use Rattle.csv.specs.Writing.{default_writer, escaped, needs_byte}
-use Rattle.csv.specs.declared.parser.State.{State}
 use Rattle.csv.specs.declared.parser.State.TheVariants as st
 use Rattle.csv.proofs.RoundTrip.{plain-run, quoted-run, record-same, start-same}
 use Rattle.cdm_files.specs.Records.{records_of}
@@ -60,26 +58,22 @@ comma : (fields : List (List ℕ)) (f : Field) (tail : List ℕ)
     → next_record default_config (state_in f) fields (field_bytes f) (44 ∷ tail) ≡ next_record default_config st.StartField (fields ++ field_bytes f ∷ []) [] tail
 unfolding next_record
 comma fields (Plain []) tail = refl
-comma fields (Plain (b ∷ bs)) tail = refl
-comma fields (InQuotes x) tail = refl
+comma fields _ tail = refl
 
 -- and so does the end of a line
 line_end : (fields : List (List ℕ)) (f : Field) (end : LineEnd) (tail : List ℕ)
     → next_record default_config (state_in f) fields (field_bytes f) (end_of end ++ tail) ≡ Some (fields ++ field_bytes f ∷ [], state_after end, bytes_after end tail)
 unfolding next_record
 line_end fields (Plain []) Lf tail = refl
-line_end fields (Plain []) CrLf tail = refl
 line_end fields (Plain (b ∷ bs)) Lf tail = refl
-line_end fields (Plain (b ∷ bs)) CrLf tail = refl
 line_end fields (InQuotes x) Lf tail = refl
-line_end fields (InQuotes x) CrLf tail = refl
+line_end fields _ _ tail = refl
 
 -- and that of the text
 text_end : (fields : List (List ℕ)) (f : Field) → next_record default_config (state_in f) fields (field_bytes f) [] ≡ Some (fields ++ field_bytes f ∷ [], st.StartRecord, [])
 unfolding next_record
 text_end fields (Plain []) = refl
-text_end fields (Plain (b ∷ bs)) = refl
-text_end fields (InQuotes x) = refl
+text_end fields _ = refl
 
 -- Records.
 
@@ -124,16 +118,14 @@ module _ (ended : List (List ℕ) → Option Read) (tail : List ℕ) (ends : End
 -- a line feed after a record is passed over
 after_line : (n : ℕ) (end : LineEnd) (tail : List ℕ) → records_from default_config n (state_after end) (bytes_after end tail) ≡ records_from default_config n st.StartRecord tail
 unfolding records_from next_record
-after_line n Lf tail = refl
-after_line zero CrLf tail = refl
 after_line (suc n) CrLf tail = refl
+after_line _ _ tail = refl
 
 -- and so is a blank line
 blank_line : (n : ℕ) (end : LineEnd) (tail : List ℕ) → records_from default_config n st.StartRecord (end_of end ++ tail) ≡ records_from default_config n st.StartRecord tail
 unfolding records_from next_record
-blank_line zero end tail = refl
 blank_line (suc n) Lf tail = refl
-blank_line (suc n) CrLf tail = refl
+blank_line _ _ tail = refl
 
 no_more : (n : ℕ) → records_from default_config n st.StartRecord [] ≡ []
 unfolding records_from next_record
@@ -180,8 +172,8 @@ lines_read (suc n) (line ∷ lines) last each at_end few =
     rw split (line_read n line.fields line.end (text_of lines last) (records_in lines last) (All-head Told line lines each)
     (λ k le short. lines_read k lines last (All-tail Told line lines each) at_end short) (rw split at few))
 
-pub read-back : (lines : List Line) (last : List Field) → AreWritten lines last → records_of (text_of lines last) ≡ records_in lines last
+pub read_back : (lines : List Line) (last : List Field) → AreWritten lines last → records_of (text_of lines last) ≡ records_in lines last
 unfolding records_of
-read-back lines last h =
+read_back lines last h =
     let text = text_of lines last in
     ap (λ (t : List ℕ). records_from default_config (length t + 1) st.StartRecord t) h.unmarked ∙ lines_read (length text + 1) lines last h.each h.at_end (omega arith)

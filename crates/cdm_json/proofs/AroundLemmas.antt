@@ -1,34 +1,16 @@
 -- The text of values, piece by piece, and of a plan around its flights.
-use Rattle.std.proofs.Common.{arith, ◌≡◌, ◌∙◌, ◌++◌, ◌+◌, ◌==◌, ℕ, zero, suc, Bool, true, false, cond, List, [], ◌∷◌, Some, append_assoc, append-nil, fold, map, refl, sym, ap, take}
-use Rattle.std.specs.Prelude.{codes, flat_map, slice_get}
-use Rattle.std.specs.List.{cons_option}
+use Rattle.cdm_json.proofs.Words.{arith, ◌≡◌, ◌∙◌, ◌++◌, ◌+◌, ◌==◌, ℕ, zero, suc, Bool, true, false, cond, List, [], ◌∷◌, Some, append_assoc}
+use Rattle.cdm_json.proofs.Words.{append-nil, fold, map, refl, sym, ap, take, codes, flat_map, slice_get, cons_option, map-append, Json, ends, print}
+use Rattle.cdm_json.proofs.Words.{print_from, Token, begin_array, begin_object, end_array, end_object, key, json_tokens, CalendarDate, RefusalWord}
+use Rattle.cdm_json.proofs.Words.{take-next, Plan, counts_of, Value, array_of, member_tokens, object_of, row_json, Row}
 use Rattle.std.proofs.lemmas.Bool.Decides.{nat_tests}
 use Rattle.std.proofs.lemmas.Grind.{flat_map-append, fold-append}
-use Rattle.std.proofs.lemmas.List.{map-append}
-use Rattle.json.specs.Json.{Json}
-use Rattle.json.specs.Print.{ends, print, print_from}
-use Rattle.json.specs.Token.{Token, begin_array, begin_object, end_array, end_object, key}
-use Rattle.json.specs.Tree.{json_tokens}
 use Rattle.json.proofs.Printed.Tokens.{ends_push, print_from-append}
-use Rattle.cdm_time.specs.declared.calendar.CalendarDate.{CalendarDate}
-use Rattle.cdm_flight.specs.declared.word.RefusalWord.{RefusalWord}
-use Rattle.cdm_plan.proofs.NameLemmas.{take-next}
-use Rattle.cdm_sequence.specs.declared.plan.Plan.{Plan}
-use Rattle.cdm_report.specs.Counts.{counts_of}
-use Rattle.cdm_row.specs.Columns.{Value}
-use Rattle.cdm_row.specs.Json.{array_of, member_tokens, object_of, row_json}
-use Rattle.cdm_row.specs.declared.row.Row.{Row}
-use Rattle.cdm_row.proofs.TokenLemmas.{array_written, object_written}
 use Rattle.cdm_json.specs.Lines.{head_members, json_line}
 use Rattle.cdm_json.specs.Plans.{count_members, day_members, flights_text, number_of, plan_line, plan_members, refused_json, refused_members, rules_json, scenario_of}
 use Rattle.cdm_json.specs.declared.plan.PlanOf.{PlanOf}
+use Rattle.cdm_json.proofs.TokenLemmas.{array_tokens, object_tokens}
 use Rattle.cdm_json.specs.inner.Around.{first_members, text_before, text_behind}
-
-object_tokens : (ms : List (List ℕ × Json)) → json_tokens (object_of ms) ≡ begin_object ∷ (flat_map member_tokens ms ++ end_object ∷ [])
-object_tokens ms = sym (object_written [] (begin_object ∷ []) (begin_object ∷ flat_map member_tokens ms) (begin_object ∷ (flat_map member_tokens ms ++ end_object ∷ [])) ms refl refl refl)
-
-array_tokens : (js : List Json) → json_tokens (array_of js) ≡ begin_array ∷ (flat_map json_tokens js ++ end_array ∷ [])
-array_tokens js = sym (array_written [] (begin_array ∷ []) (begin_array ∷ flat_map json_tokens js) (begin_array ∷ (flat_map json_tokens js ++ end_array ∷ [])) js refl refl refl)
 
 -- whether a value ends where the tokens end, which come after one or not
 abbrev ends_after : Bool → List Token → Bool

@@ -1,3 +1,4 @@
+mod Words
 pub mod TokenLemmas
 pub mod OneAnswer
 pub mod AroundLemmas

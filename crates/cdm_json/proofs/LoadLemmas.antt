@@ -1,13 +1,6 @@
 -- How full runways are, whichever they are by name.
-use Rattle.std.proofs.Common.{◌≡◌, ◌∙◌, ◌++◌, ℕ, List, [], Option}
-use Rattle.std.specs.Prelude.{filter, flat_map}
-use Rattle.cdm_flight.specs.Journal.{AirportRows}
-use Rattle.cdm_runway.specs.Rules.{RunwayRules}
-use Rattle.cdm_sequence.specs.declared.plan.Plan.{Plan}
-use Rattle.cdm_plan.specs.Day.{DayRecord}
-use Rattle.cdm_plan.specs.DayPlan.{AreByName}
-use Rattle.cdm_plan.proofs.NameLemmas.{rules_by_name, rules_in}
-use Rattle.cdm_view.specs.Load.{is_asked}
+use Rattle.cdm_json.proofs.Words.{◌≡◌, ◌∙◌, ◌++◌, ℕ, List, [], Option, filter, flat_map, AirportRows, RunwayRules, Plan, DayRecord, AreByName}
+use Rattle.cdm_json.proofs.Words.{rules_by_name, rules_in, is_asked}
 use Rattle.cdm_json.specs.Loads.{AreLoadLines, load_line}
 
 pub load_told : (d : DayRecord) (h : AirportRows) (number : Option ℕ) (plan : Plan) (asked : Option (List ℕ)) (none text : List ℕ) → h ≡ d.airport → none ≡ []

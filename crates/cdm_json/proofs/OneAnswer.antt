@@ -1,28 +1,17 @@
 -- A question has one answer in JSON.
-use Rattle.std.proofs.Common.{◌≡◌, ◌∙◌, ℕ, List, Option, None, Some, ap, sym}
-use Rattle.std.specs.Prelude.{filter, flat_map}
-use Rattle.std.specs.List.{IsDistinct}
-use Rattle.std.specs.Option.{IsSomeAnd, option_map_or}
-use Rattle.cdm_flight.specs.Journal.{flight_of}
+use Rattle.cdm_json.proofs.Words.{◌≡◌, ◌∙◌, ℕ, List, Option, None, Some, ap, sym, filter, flat_map, IsDistinct, IsSomeAnd, option_map_or, flight_of}
+use Rattle.cdm_json.proofs.Words.{Flight, Plan, DayRecord, flights_in, IsDayPlan, in_order, is_asked, row_named, codes}
 use Rattle.cdm_flight.specs.Names.{same_name}
-use Rattle.cdm_flight.specs.declared.flight.Flight.{Flight}
-use Rattle.cdm_sequence.specs.declared.plan.Plan.{Plan}
 use Rattle.cdm_plan.specs.Airport.{IsAirport}
-use Rattle.cdm_plan.specs.Day.{DayRecord, flights_in}
-use Rattle.cdm_plan.specs.DayPlan.{IsDayPlan}
-use Rattle.cdm_plan.proofs.NameLemmas.{in_order}
-use Rattle.cdm_view.specs.Load.{is_asked}
 use Rattle.cdm_view.specs.Why.{own_slot, waits_for}
 use Rattle.cdm_view.specs.declared.question.Question.{Question}
 use Rattle.cdm_view.specs.declared.question.Question.TheVariants.{Why, Load}
 use Rattle.cdm_view.proofs.AnswerLemmas.{waits_one}
-use Rattle.cdm_row.specs.Changed.{row_named}
 use Rattle.cdm_row.proofs.RowLemmas.{one_rows}
 use Rattle.cdm_json.specs.Answers.{IsJsonAnswer}
 use Rattle.cdm_json.specs.Lines.{answer_line}
 use Rattle.cdm_json.specs.Loads.{AreLoadLines, load_line}
 use Rattle.cdm_json.specs.Whys.{IsWhyLine, why_members}
-use Rattle.std.specs.Prelude.{codes}
 
 load_one : (d : DayRecord) (number : Option ℕ) (plan : Plan) (asked : Option (List ℕ)) (x y : List ℕ) → IsAirport d.airport
     → AreLoadLines d number plan asked x → AreLoadLines d number plan asked y → x ≡ y

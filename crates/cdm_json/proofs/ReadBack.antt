@@ -1,10 +1,6 @@
 -- A value is read back from its text.
-use Rattle.std.proofs.Common.{◌≡◌, ◌∙◌, ◌≤◌, [], ap, append-nil, sym}
-use Rattle.std.specs.Option.{option_and_then}
-use Rattle.json.specs.Json.{Json, if_last, max_depth, value}
+use Rattle.cdm_json.proofs.Words.{◌≡◌, ◌∙◌, ◌≤◌, [], ap, append-nil, sym, option_and_then, Json, if_last, max_depth, value, print, depth, json_tokens}
 use Rattle.json.specs.Lex.{tokens}
-use Rattle.json.specs.Print.{print}
-use Rattle.json.specs.Tree.{depth, json_tokens}
 use Rattle.json.proofs.Printed.Trees.{value-json_tokens}
 use Rattle.cdm_json.specs.Lines.{IsReadBack}
 

@@ -1,28 +1,33 @@
 -- Members and objects, written token by token.
-use Rattle.std.proofs.Common.{◌≡◌, ◌∙◌, ◌++◌, ◌+◌, ◌-◌, ◌<◌, ◌≤◌, ℕ, List, [], ◌∷◌, append_assoc, arith, get_or, length, map, refl, sym, take, ap, Result, Ok, Err, IfOk}
-use Rattle.std.specs.Prelude.{codes, flat_map, zip}
-use Rattle.std.specs.List.{range_with_len}
+use Rattle.cdm_json.proofs.Words.{◌≡◌, ◌∙◌, ◌++◌, ◌+◌, ◌-◌, ◌<◌, ◌≤◌, ℕ, List, [], ◌∷◌, append_assoc, arith, get_or, length, map, refl, sym, take, ap}
+use Rattle.cdm_json.proofs.Words.{Result, Ok, Err, IfOk, codes, flat_map, zip, range_with_len, flat_map_more, take_more, Json, string, Token}
+use Rattle.cdm_json.proofs.Words.{begin_array, begin_object, end_array, end_object, key, json_tokens, date_text, time_text, CalendarDate, text_of}
+use Rattle.cdm_json.proofs.Words.{RefusalWord, RunwayRules, Value, array_of, count_json, json_value, member_tokens, array_written}
+use Rattle.cdm_json.proofs.Words.{object_written, object_of}
 use Rattle.cdm_view.proofs.RangeLemmas.{range-append}
 use Rattle.std.proofs.lemmas.Grind.{flat_map-append}
-use Rattle.std.proofs.lemmas.List.{append-nil, flat_map_more, take_more}
+use Rattle.std.proofs.lemmas.List.{append-nil}
 use Rattle.std.proofs.lemmas.Slice.Zip.{get_or-zip, length-zip}
-use Rattle.json.specs.Json.{Json, string}
-use Rattle.json.specs.Token.{Token, begin_array, begin_object, end_array, end_object, key}
-use Rattle.json.specs.Tree.{json_tokens}
-use Rattle.cdm_time.specs.Times.{date_text, time_text}
-use Rattle.cdm_time.specs.declared.calendar.CalendarDate.{CalendarDate}
-use Rattle.cdm_flight.specs.Words.{text_of}
-use Rattle.cdm_flight.specs.declared.word.RefusalWord.{RefusalWord}
-use Rattle.cdm_runway.specs.Rules.{RunwayRules}
-use Rattle.cdm_row.specs.Columns.{Value}
-use Rattle.cdm_row.specs.Json.{array_of, count_json, json_value, member_tokens}
-use Rattle.cdm_row.proofs.TokenLemmas.{array_written}
 use Rattle.cdm_json.specs.Loads.{runway_members}
 use Rattle.cdm_json.specs.Plans.{day_members, refused_json}
 
 -- parts of members
 pub two_parts : (a b : List (List ℕ × Json)) → flat_map member_tokens (a ++ b) ≡ flat_map member_tokens a ++ flat_map member_tokens b
 two_parts a b = flat_map-append member_tokens a b
+
+-- the tokens of an object, and of an array
+pub object_tokens : (ms : List (List ℕ × Json)) → json_tokens (object_of ms) ≡ begin_object ∷ (flat_map member_tokens ms ++ end_object ∷ [])
+object_tokens ms =
+    sym (object_written [] (begin_object ∷ []) (begin_object ∷ flat_map member_tokens ms) (begin_object ∷ (flat_map member_tokens ms ++ end_object ∷ [])) ms refl refl refl)
+
+pub array_tokens : (js : List Json) → json_tokens (array_of js) ≡ begin_array ∷ (flat_map json_tokens js ++ end_array ∷ [])
+array_tokens js =
+    sym (array_written [] (begin_array ∷ []) (begin_array ∷ flat_map json_tokens js) (begin_array ∷ (flat_map json_tokens js ++ end_array ∷ [])) js refl refl refl)
+
+-- an object of two parts
+pub part_tokens : (a b : List (List ℕ × Json))
+    → json_tokens (object_of (a ++ b)) ≡ begin_object ∷ (flat_map member_tokens a ++ (flat_map member_tokens b ++ end_object ∷ []))
+part_tokens a b = object_tokens (a ++ b) ∙ rw (two_parts, append_assoc) refl
 
 -- members, one after another
 pub day_tokens : (day : CalendarDate) (scenario : Value) (now : ℕ) → flat_map member_tokens (day_members day scenario now)

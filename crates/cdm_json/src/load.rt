@@ -77,6 +77,7 @@ fn push_numbers(
 }
 
 // Writes the object of a cell.
+#[tactic(auto, using(crate::proofs::TokenLemmas::part_tokens))]
 fn push_cell(
     writer: &mut Writer<Global>,
     day: Day,

@@ -125,6 +125,7 @@ fn push_minutes(writer: &mut Writer<Global>, day: Day, run: &Run) -> Result<(), 
 }
 
 // Writes the object of a wait.
+#[tactic(auto, using(crate::proofs::TokenLemmas::part_tokens))]
 fn push_wait(writer: &mut Writer<Global>, day: Day, run: &Run) -> Result<(), AllocError>
     ensures tokens { OnOk result (writer.new.tokens ≡ writer.old.tokens ++ json_tokens (wait_json day run.now)) }
     ensures before { writer.new.before ≡ writer.old.before }

@@ -15,12 +15,9 @@ use Rattle.cdm_port.specs.inner.Reading.{line_with}
 abbrev pub HasNoLf : List ℕ → Type 0
 HasNoLf bytes = AllByRecursion (λ byte. byte ≢ 10) bytes
 
-cons_some : (byte : ℕ) (bytes : List ℕ) → byte ∷ bytes ≡ [] → ⊥
-cons_some byte bytes is = cc
-
 pub not_empty : (line : List ℕ) → (length line == 0) ≡ false → line ≢ []
 not_empty [] some = cc some
-not_empty (byte ∷ line) some = cons_some byte line
+not_empty (byte ∷ line) some = λ is. cc
 
 no_lf_more : (bytes : List ℕ) (byte : ℕ) → HasNoLf bytes → byte ≢ 10 → HasNoLf (bytes ++ byte ∷ [])
 no_lf_more [] byte none other = (other, tt)
@@ -65,17 +62,11 @@ kept_many given many = length-take-le (line_limit + 1) given (omega (arith, many
 
 -- a line that isn't too long has all bytes
 all_kept : (given : List ℕ) → length (kept given) ≤ line_limit → length given ≤ line_limit
-all_kept given few = elim (leb_tells (length given) line_limit) [
-  | inl is ↦ is.1
-  | inr is ↦ let long = kept_many given is.1 in absurd (omega (arith, few, long))
-]
+all_kept given few = grind (arith, kept_many)
 
 -- one that is too long shows it
 many_kept : (given : List ℕ) → line_limit < length (kept given) → line_limit < length given
-many_kept given many = elim (leb_tells (length given) line_limit) [
-  | inl is ↦ let same = ap length (kept_few given is.1) in let few = is.1 in absurd (omega (arith, many, same, few))
-  | inr is ↦ is.1
-]
+many_kept given many = grind (arith, kept_few)
 
 not_few : (count : ℕ) → line_limit < count → nat_le count line_limit ≡ false
 not_few count many = elim (leb_tells count line_limit) [ inl is ↦ let few = is.1 in absurd (omega (arith, many, few)) | inr is ↦ is.0 ]
@@ -84,8 +75,7 @@ kept_more : (given : List ℕ) (byte : ℕ) → line_with (kept given) byte ≡ 
 kept_more given byte = elim (leb_tells (length given) line_limit) [
   | inl is ↦
       let few = is.1 in
-      let long = length-append given (byte ∷ []) in
-      rw (kept_few given few, is.0) (sym (take_all (line_limit + 1) (given ++ byte ∷ []) (omega (arith, few, long))))
+      rw (kept_few given few, is.0) (sym (take_all (line_limit + 1) (given ++ byte ∷ []) (omega (arith, few, length-append given (byte ∷ [])))))
   | inr is ↦
       let many = is.1 in
       let long = kept_many given many in
@@ -119,8 +109,7 @@ module _ (before now next : Option (List ℕ)) (line : List ℕ) (so_far : ReadS
       where
         by : (b n : Option (List ℕ)) → Consumes b n (given ++ 10 ∷ []) → DropsThrough b n 10
         by None n is = tt
-        by (Some xs) (Some ys) is =
-            ap Some (sym (ap (drop_through 10) (is ∙ append_assoc given (10 ∷ []) ys) ∙ rest_behind given ys so_far.none))
+        by (Some xs) (Some ys) is = ap Some (sym (ap (drop_through 10) (is ∙ append_assoc given (10 ∷ []) ys) ∙ rest_behind given ys so_far.none))
         by (Some xs) None is = absurd is
 
     abbrev Heard : Event → Type 0
@@ -182,7 +171,7 @@ module _ (before now next : Option (List ℕ)) (line : List ℕ) (so_far : ReadS
         by : (bytes : List ℕ) → kept bytes ≡ [] → End ≡ heard_in bytes
         by [] is = refl
         by (b ∷ bs) is = elim (leb_tells (length (b ∷ bs)) line_limit) [
-          | inl t ↦ let same = sym (kept_few (b ∷ bs) t.1) ∙ is in absurd (cons_some b bs same)
+          | inl t ↦ let same = sym (kept_few (b ∷ bs) t.1) ∙ is in cc same
           | inr t ↦ let long = sym (kept_many (b ∷ bs) t.1) ∙ ap length is in absurd (omega (arith, long))
         ]
 

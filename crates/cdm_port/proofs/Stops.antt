@@ -2,7 +2,7 @@
 use Rattle.std.proofs.Common.{◌≡◌, ◌⊎◌, inl, inr, ℕ, List, [], ◌∷◌, ◌++◌, length, refl, sym, ◌∙◌, ap, subst, append_assoc}
 use Rattle.std.proofs.lemmas.List.{drop_at}
 use Rattle.cdm_port.specs.Event.{Event}
-use Rattle.cdm_port.specs.Event.Event.{Appended, Broken, End, Flushed, LeftOut, Line, Marked, Read, Renamed, Replied, Synced}
+use Rattle.cdm_port.specs.Event.Event.{Appended, Replied}
 use Rattle.cdm_port.specs.Stop.{IsPrefix, IsStopOf, IsTorn, Stops, since}
 
 -- the front of a run
@@ -39,15 +39,7 @@ torn_of (Replied bytes) moment done torn stop =
       | inr (inl again) ↦ inr (again.0, prefix_of again.0 torn.0 bytes again.1 torn.1, again.2)
       | inr (inr all) ↦ inr (torn.0, torn.1, all.1 ∙ ap (λ (l : List Event). Replied torn.0 ∷ l) all.2)
     ]
-torn_of (Read bytes) moment done torn stop = absurd torn
-torn_of (Renamed bytes) moment done torn stop = absurd torn
-torn_of Marked moment done torn stop = absurd torn
-torn_of (LeftOut bytes) moment done torn stop = absurd torn
-torn_of (Line bytes) moment done torn stop = absurd torn
-torn_of Broken moment done torn stop = absurd torn
-torn_of End moment done torn stop = absurd torn
-torn_of Synced moment done torn stop = absurd torn
-torn_of Flushed moment done torn stop = absurd torn
+torn_of _ moment done torn stop = absurd torn
 
 -- a moment before a stop is a stop
 pub earlier : (moment done whole : List Event) → IsStopOf moment done → IsStopOf done whole → IsStopOf moment whole

@@ -1,18 +1,15 @@
 -- Lines of scenarios, some at a time.
-use Rattle.std.proofs.Common.{◌≡◌, ◌∙◌, ◌++◌, ℕ, List, [], ◌∷◌, sym, ap, subst, append_assoc, append-nil}
-use Rattle.std.specs.List.{AllZip, concat}
+use Rattle.cdm_table.proofs.Words.{◌≡◌, ◌∙◌, ◌++◌, ℕ, List, [], ◌∷◌, sym, ap, subst, append_assoc, append-nil, AllZip, concat, DayRecord}
+use Rattle.cdm_table.proofs.Words.{ScenarioRecord}
 use Rattle.std.proofs.lemmas.List.Folds.{concat-append}
-use Rattle.cdm_plan.specs.Day.{DayRecord}
-use Rattle.cdm_scenario.specs.Scenarios.{ScenarioRecord}
 use Rattle.cdm_table.specs.Plans.{IsScenarioLine}
 use Rattle.cdm_table.specs.inner.Lines.{HasLinesOf}
 
 zip-append : {A B : Type 0} (R : A → B → Type 0) (xs : List A) (ys : List B) (more : List A) (others : List B)
     → AllZip R xs ys → AllZip R more others → AllZip R (xs ++ more) (ys ++ others)
 zip-append R [] [] more others first later = later
-zip-append R [] (y ∷ ys) more others first later = absurd first
-zip-append R (x ∷ xs) [] more others first later = absurd first
 zip-append R (x ∷ xs) (y ∷ ys) more others first later = (first.0, zip-append R xs ys more others first.1 later)
+zip-append R _ _ more others first later = absurd first
 
 module _ (d : DayRecord) (all : List ScenarioRecord) (before : List ℕ) where
   -- these scenarios are left of all, and the text has the lines of those before them

@@ -1,3 +1,4 @@
+mod Words
 pub mod TableLemmas
 pub mod MemberLemmas
 mod LineLemmas

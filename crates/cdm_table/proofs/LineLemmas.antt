@@ -1,10 +1,7 @@
 -- Lines of scenarios, one after another.
-use Rattle.std.proofs.Common.{◌≡◌, ◌∙◌, ◌++◌, ◌+◌, ◌<◌, ℕ, List, [], ◌∷◌, Option, None, Some, length, take, length-take-le, append_assoc, refl, sym, ap, arith}
-use Rattle.std.specs.Prelude.{slice_get}
-use Rattle.std.specs.List.{cons_option, filter_map}
-use Rattle.cdm_plan.proofs.NameLemmas.{take-next}
-use Rattle.cdm_report.specs.declared.counts.Counts.{Counts}
-use Rattle.cdm_scenario.specs.Scenarios.{ScenarioRecord}
+use Rattle.cdm_table.proofs.Words.{◌≡◌, ◌∙◌, ◌++◌, ◌+◌, ◌<◌, ℕ, List, [], ◌∷◌, Option, None, Some, length, take, length-take-le, append_assoc, sym}
+use Rattle.cdm_table.proofs.Words.{ap, arith, slice_get, cons_option, filter_map, take-next, Counts, ScenarioRecord}
+use Rattle.std.proofs.lemmas.List.Elements.{filter_map-append}
 use Rattle.cdm_table.specs.Comparison.{all_lines, lines_from}
 use Rattle.cdm_table.specs.declared.line.Line.{Line}
 use Rattle.cdm_table.specs.declared.line.Summary.{Summary}
@@ -21,15 +18,13 @@ lines_from-push : (n : ℕ) (ss : List ScenarioRecord) (xs : List Summary) (s : 
     → lines_from n (ss ++ s ∷ []) (xs ++ x ∷ []) ≡ lines_from n ss xs ++ line_at (n + length ss) s x ∷ []
 unfolding lines_from
 lines_from-push n [] [] s x same =
-    let here : n ≡ n + 0 = omega arith in
-    ap (λ k. line_at k s x ∷ []) here
+    let here : n ≡ n + 0 = omega arith in ap (λ k. line_at k s x ∷ []) here
 lines_from-push n (t ∷ ss) (y ∷ xs) s x same =
     let rest : lines_from (n + 1) (ss ++ s ∷ []) (xs ++ x ∷ []) ≡ lines_from (n + 1) ss xs ++ line_at (n + 1 + length ss) s x ∷ [] =
     lines_from-push (n + 1) ss xs s x (omega (arith, same)) in
     let here : n + 1 + length ss ≡ n + length (t ∷ ss) = omega arith in
     ap (λ (l : List Line). line_at n t y ∷ l) (rest ∙ ap (λ k. lines_from (n + 1) ss xs ++ line_at k s x ∷ []) here)
-lines_from-push n [] (y ∷ xs) s x same = absurd (omega (arith, same))
-lines_from-push n (t ∷ ss) [] s x same = absurd (omega (arith, same))
+lines_from-push n _ _ s x same = absurd (omega (arith, same))
 
 -- the line of one more scenario stands behind the others
 pub one_more_line : (counts : Counts) (ss : List ScenarioRecord) (xs : List Summary) (k : ℕ) (s : ScenarioRecord) (x : Summary) → length xs ≡ length ss
@@ -45,19 +40,11 @@ one_more_line counts ss xs k s x same within at also =
     (λ i. all_lines counts (scenarios i) (summaries i))
     ∙ ap (λ (l : List Line). line_at_day counts ∷ l) (pushed ∙ ap (λ n. lines_from 1 (take k ss) (take k xs) ++ line_at n s x ∷ []) place)
 
-filter_map-push : {X Y : Type 0} (f : X → Option Y) (xs : List X) (x : X) → filter_map f (xs ++ x ∷ []) ≡ filter_map f xs ++ cons_option (f x) []
-filter_map-push f [] x = refl
-filter_map-push {X} {Y} f (y ∷ ys) x = by (f y) (filter_map-push f ys x)
-  where
-    by : (o : Option Y) → filter_map f (ys ++ x ∷ []) ≡ filter_map f ys ++ cons_option (f x) []
-        → cons_option o (filter_map f (ys ++ x ∷ [])) ≡ cons_option o (filter_map f ys) ++ cons_option (f x) []
-    by None rest = rest
-    by (Some z) rest = ap (λ (l : List Y). z ∷ l) rest
-
 -- what one more element gives stands behind what those before it give
 pub filter_map-next : {X Y : Type 0} (f : X → Option Y) (xs : List X) (k : ℕ) (x : X) → slice_get xs k ≡ Some x
     → filter_map f (take (k + 1) xs) ≡ filter_map f (take k xs) ++ cons_option (f x) []
-filter_map-next f xs k x at = ap (filter_map f) (take-next xs k ∙ ap (λ o. take k xs ++ cons_option o []) at) ∙ filter_map-push f (take k xs) x
+filter_map-next f xs k x at =
+    ap (filter_map f) (take-next xs k ∙ ap (λ o. take k xs ++ cons_option o []) at) ∙ filter_map-append f (take k xs) (x ∷ [])
 
 -- one more field of a row that has had some since
 pub one_more_field : {X : Type 0} (row fields longer longest : List X) (field : X) → longer ≡ row ++ fields → longest ≡ longer ++ field ∷ []

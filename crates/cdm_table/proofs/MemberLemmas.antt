@@ -1,10 +1,6 @@
 -- Members, one after another.
-use Rattle.std.proofs.Common.{◌≡◌, ◌++◌, ℕ, refl}
-use Rattle.std.specs.Prelude.{codes, flat_map}
-use Rattle.json.specs.Json.{string}
+use Rattle.cdm_table.proofs.Words.{◌≡◌, ◌++◌, ℕ, refl, codes, flat_map, string, RefusalWord, count_json, member_tokens}
 use Rattle.cdm_flight.specs.Words.{text_of}
-use Rattle.cdm_flight.specs.declared.word.RefusalWord.{RefusalWord}
-use Rattle.cdm_row.specs.Json.{count_json, member_tokens}
 use Rattle.cdm_table.specs.Plans.{refusal_members}
 
 pub refusal_tokens : (number : ℕ) (word : RefusalWord) → flat_map member_tokens (refusal_members number word)

@@ -1,7 +1,6 @@
 -- A scenario's name on the left of its column, and columns with blanks between them.
-use Rattle.std.proofs.Common.{ℕ, ◌≡◌, ◌-◌, ◌^◌, ◌<◌, ◌≤◌, ◌++◌, List, ◌∷◌, [], length, slice_index, ap, refl, sym, ◌∙◌, arith}
+use Rattle.cdm_table.proofs.Words.{ℕ, ◌≡◌, ◌-◌, ◌^◌, ◌<◌, ◌≤◌, ◌++◌, List, ◌∷◌, [], length, slice_index, ap, refl, sym, ◌∙◌, arith, join_with_byte}
 use Rattle.std.specs.Fmt.{format_spec, fill_text, styled_text}
-use Rattle.std.specs.List.{join_with_byte}
 use Rattle.std.proofs.Padding.{take_chars_all, repeat_ascii, padded_is}
 use Rattle.cdm_report.specs.Columns.{left_in}
 use Rattle.cdm_report.proofs.Widths.{char_count-ascii}

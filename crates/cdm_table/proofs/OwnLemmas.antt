@@ -1,22 +1,14 @@
 -- A row under a scenario's name is the name, and then the row under none.
-use Rattle.std.proofs.Common.{◌≡◌, ◌∙◌, ◌++◌, ◌==◌, ◌||◌, ◌&&◌, ◌+◌, ℕ, Bool, true, false, List, [], ◌∷◌, Some, refl, sym, ap, inl, inr, append_assoc, map, take}
-use Rattle.std.specs.List.{cons_option, list_all, list_any}
-use Rattle.std.specs.Prelude.{nat_eq, nat_le, length, slice_get}
-use Rattle.std.proofs.lemmas.Bool.{and_parts, cases_Bool, false≢true}
+use Rattle.cdm_table.proofs.Words.{◌≡◌, ◌∙◌, ◌++◌, ◌==◌, ◌||◌, ◌&&◌, ◌+◌, ℕ, Bool, true, false, List, [], ◌∷◌, Some, refl, ap}
+use Rattle.cdm_table.proofs.Words.{append_assoc, map, take, cons_option, list_all, list_any, nat_le, slice_get, and_parts, flat_map-append}
+use Rattle.cdm_table.proofs.Words.{map-append, default_writer, fields_text, is_blank, needs_byte, row_text, CalendarDate, is_letter_or_digit}
+use Rattle.cdm_table.proofs.Words.{take-next, columns, field, Row}
+use Rattle.std.proofs.Common.{sym, inl, inr, length}
+use Rattle.std.proofs.lemmas.Bool.{cases_Bool, false≢true}
 use Rattle.std.proofs.lemmas.Bool.Decides.{Decides-eqb}
-use Rattle.std.proofs.lemmas.Grind.{flat_map-append}
-use Rattle.std.proofs.lemmas.List.{append-nil, map-append}
-use Rattle.csv.specs.Writing.{default_writer, fields_text, is_blank, needs_byte, row_text}
-use Rattle.cdm_time.specs.declared.calendar.CalendarDate.{CalendarDate}
-use Rattle.cdm_flight.specs.Names.{is_letter_or_digit}
-use Rattle.cdm_plan.proofs.NameLemmas.{take-next}
+use Rattle.std.proofs.lemmas.List.{append-nil}
 use Rattle.cdm_scenario.specs.Names.{is_scenario_name}
-use Rattle.cdm_row.specs.Columns.{columns, field}
-use Rattle.cdm_row.specs.declared.row.Row.{Row}
 use Rattle.cdm_table.specs.Rows.{csv_text, flight_row}
-
-same_number : (a b : ℕ) → nat_eq a b ≡ true → a ≡ b
-same_number a b h = (Decides-eqb a b).0 h
 
 -- Names need no quotes.
 
@@ -26,17 +18,13 @@ is_name_byte b = is_letter_or_digit b || (b == 45)
 -- a byte that no name has is another one than a name's
 other_byte : (b c : ℕ) → is_name_byte b ≡ true → is_name_byte c ≡ false → (b == c) ≡ false
 other_byte b c is none = elim (cases_Bool (b == c)) [
-  | inl same ↦ (let e : b ≡ c = same_number b c same in absurd (false≢true (sym none ∙ (ap is_name_byte (sym e) ∙ is))))
+  | inl same ↦ (let e : b ≡ c = (Decides-eqb b c).0 same in absurd (false≢true (sym none ∙ (ap is_name_byte (sym e) ∙ is))))
   | inr other ↦ other
 ]
 
 plain_byte : (b : ℕ) → is_name_byte b ≡ true → needs_byte default_writer b ≡ false
 plain_byte b is =
-    let comma = other_byte b 44 is refl in
-    let quote = other_byte b 34 is refl in
-    let return = other_byte b 13 is refl in
-    let feed = other_byte b 10 is refl in
-    rw (comma, quote, return, feed) refl
+    rw (other_byte b 44 is refl, other_byte b 34 is refl, other_byte b 13 is refl, other_byte b 10 is refl) refl
 
 plain_bytes : (name : List ℕ) → list_all is_name_byte name ≡ true → list_any (needs_byte default_writer) name ≡ false
 plain_bytes [] all = refl

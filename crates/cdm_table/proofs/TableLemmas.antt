@@ -1,29 +1,19 @@
 -- A day and its scenarios have one table.
-use Rattle.std.proofs.Common.{◌≡◌, ◌∙◌, ◌++◌, ◌+◌, ◌≤◌, ◌<◌, ℕ, List, [], ◌∷◌, Option, None, Some, inl, inr, sym, ap, subst, arith, map}
-use Rattle.std.specs.Prelude.{Contains, flat_map}
+use Rattle.cdm_table.proofs.Words.{◌≡◌, ◌∙◌, ◌++◌, ◌+◌, ◌≤◌, ◌<◌, ℕ, List, [], ◌∷◌, Option, None, Some, inl, inr, sym, ap, subst, arith, map}
+use Rattle.cdm_table.proofs.Words.{Contains, flat_map, IsDistinct, concat, Equal, nat_tests, nat_cmp_total, on_total, then_total, counts_of, Counts}
+use Rattle.cdm_table.proofs.Words.{DayRecord, flights_in, AreStandings, RefusalWord, IsPlanLine, ScenarioRecord}
 use Rattle.std.specs.Cmp.{IsTotalOrder, bool_cmp_total}
-use Rattle.std.specs.List.{IsDistinct, concat}
 use Rattle.std.specs.Ordering.{nat_cmp}
-use Rattle.std.specs.declared.cmp.Ordering.TheVariants.{Equal}
-use Rattle.std.proofs.lemmas.Bool.Decides.{nat_tests}
-use Rattle.std.proofs.lemmas.Cmp.{nat_cmp_total, on_total, then_total}
 use Rattle.cdm_flight.specs.Names.{same_name}
 use Rattle.cdm_flight.proofs.Lists.{contains_cases}
 use Rattle.cdm_sequence.proofs.OneLemmas.{one_order}
 use Rattle.cdm_sequence.proofs.OrderLemmas.{last_ties}
 use Rattle.cdm_sequence.specs.declared.plan.Plan.{Plan}
-use Rattle.cdm_report.specs.Counts.{counts_of}
-use Rattle.cdm_report.specs.declared.counts.Counts.{Counts}
 use Rattle.cdm_plan.specs.Airport.{runway_names}
-use Rattle.cdm_plan.specs.Day.{DayRecord, flights_in}
 use Rattle.cdm_plan.proofs.OnePlanLemmas.{one_day_plan}
-use Rattle.cdm_view.specs.Standings.{AreStandings}
 use Rattle.cdm_view.specs.declared.standing.Standing.{Standing}
 use Rattle.cdm_view.proofs.StandingLemmas.{one_standings}
-use Rattle.cdm_flight.specs.declared.word.RefusalWord.{RefusalWord}
-use Rattle.cdm_json.specs.Plans.{IsPlanLine}
 use Rattle.cdm_json.specs.declared.plan.PlanOf.TheVariants as of
-use Rattle.cdm_scenario.specs.Scenarios.{ScenarioRecord}
 use Rattle.cdm_scenario.specs.inner.OneOutcome.{one_each}
 use Rattle.cdm_table.specs.Comparison.{AreRanked, IsComparison, IsComparisonCsv, IsRanking, IsSummary, IsToldIf, all_lines, blocked_in, delay_in, heading, is_refused, line_cmp, line_columns, line_fields, line_text, lines_from}
 use Rattle.cdm_table.specs.ComparisonJson.{AreChangeLinesIf, IsComparisonJson, summary_line}
@@ -46,8 +36,7 @@ later_places place (s ∷ ss) (x ∷ xs) line i = elim (contains_cases _ (lines_
   | inl e ↦ let here : place ≡ line.place = ap (λ (l : Line). l.place) e in omega (arith, here)
   | inr j ↦ let later : place + 1 ≤ line.place = later_places (place + 1) ss xs line j in omega (arith, later)
 ]
-later_places place [] xs line i = omega (arith, i.1)
-later_places place (s ∷ ss) [] line i = omega (arith, i.1)
+later_places place _ _ line i = omega (arith, i.1)
 
 one_in : (first : Line) (rest : List Line) → ((line : Line) → Contains rest line → first.place < line.place)
     → ((a b : Line) → Contains rest a → Contains rest b → a.place ≡ b.place → a ≡ b)
@@ -74,8 +63,7 @@ one_from place (s ∷ ss) (x ∷ xs) a b i j same =
     one_in (record { place = place; name = Some s.name; summary = x }) (lines_from (place + 1) ss xs)
     (λ line k. let later : place + 1 ≤ line.place = later_places (place + 1) ss xs line k in omega (arith, later))
     (one_from (place + 1) ss xs) a b i j same
-one_from place [] xs a b i j same = absurd (omega (arith, i.1))
-one_from place (s ∷ ss) [] a b i j same = absurd (omega (arith, i.1))
+one_from place _ _ a b i j same = absurd (omega (arith, i.1))
 
 one_line : (counts : Counts) (ss : List ScenarioRecord) (xs : List Summary) (a b : Line) → Contains (all_lines counts ss xs) a → Contains (all_lines counts ss xs) b
     → a.place ≡ b.place → a ≡ b
@@ -147,11 +135,9 @@ module _ (d : DayRecord) (runways : IsDistinct same_name (runway_names d.airport
       → IsComparison d scenarios asked y → x ≡ y
   one_comparison scenarios asked x y a b =
       let same = one_ranked scenarios a.before b.before a.ranked b.ranked a.lines b.lines in
-      let before = same.0 in
-      let ranked = same.1 in
-      let asked_for : IsToldIf d a.before asked b.told = subst (λ (l : List Standing). IsToldIf d l asked b.told) (sym before) b.of_asked in
+      let asked_for : IsToldIf d a.before asked b.told = subst (λ (l : List Standing). IsToldIf d l asked b.told) (sym same.0) b.of_asked in
       let told : a.told ≡ b.told = one_told_if a.before asked a.told b.told a.of_asked asked_for in
-      a.bytes ∙ ((λ i. heading ++ flat_map line_text (ranked i) ++ told i) ∙ sym b.bytes)
+      a.bytes ∙ ((λ i. heading ++ flat_map line_text (same.1 i) ++ told i) ∙ sym b.bytes)
 
   one_comparison_csv : (scenarios : List ScenarioRecord) (x y : List ℕ) → IsComparisonCsv d scenarios x → IsComparisonCsv d scenarios y → x ≡ y
   one_comparison_csv scenarios x y a b =
@@ -166,9 +152,8 @@ module _ (d : DayRecord) (runways : IsDistinct same_name (runway_names d.airport
       → IsComparisonJson d scenarios asked y → x ≡ y
   one_comparison_json scenarios asked x y a b =
       let same = one_ranked scenarios a.stood b.stood a.ranked b.ranked a.lines b.lines in
-      let ranked = same.1 in
       let told : a.told ≡ b.told = one_lines_if asked a.told b.told a.of_asked b.of_asked in
-      a.bytes ∙ ((λ i. flat_map summary_line (ranked i) ++ told i) ∙ sym b.bytes)
+      a.bytes ∙ ((λ i. flat_map summary_line (same.1 i) ++ told i) ∙ sym b.bytes)
 
   pub one_table : (table : Table) (scenarios : List ScenarioRecord) (x y : List ℕ) → IsTable table d scenarios x → IsTable table d scenarios y → x ≡ y
   one_table Csv scenarios x y a b = one_csv scenarios x y a b

@@ -1,6 +1,4 @@
-use Rattle.std.proofs.Common.{◌≡◌, ◌+◌, ◌≤◌, length}
-use Rattle.std.specs.Option.{ok_or}
-use Rattle.cdm_flight.specs.declared.word.RefusalWord.TheVariants.{Order}
+use Rattle.cdm_files.proofs.Words.{◌≡◌, ◌+◌, ◌≤◌, length, ok_or, Order}
 use Rattle.cdm_files.specs.AirportFile.{airport_in, airport_record_of, with_record}
 use Rattle.cdm_files.specs.Fields.{and_then}
 use Rattle.cdm_files.specs.Files.{after_records}

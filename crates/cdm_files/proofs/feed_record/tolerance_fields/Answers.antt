@@ -1,8 +1,5 @@
-use Rattle.std.proofs.Common.{◌≡◌, ℕ, Bool, true, false, Ok, Err, sym, ◌∙◌, refl}
-use Rattle.std.specs.Prelude.{Result, if◌then◌else◌}
-use Rattle.std.proofs.lemmas.Result.{err_from_is_err_and}
-use Rattle.cdm_flight.specs.declared.word.RefusalWord.{RefusalWord}
-use Rattle.cdm_flight.specs.declared.word.RefusalWord.TheVariants.{Text, Range}
+use Rattle.cdm_files.proofs.Words.{◌≡◌, ℕ, Bool, true, false, Ok, Err, sym, ◌∙◌, refl, if◌then◌else◌, err_from_is_err_and, RefusalWord, Text, Range}
+use Rattle.std.specs.Prelude.{Result}
 use Rattle.cdm_files.specs.Fields.{both, number_field, tolerance_fields}
 use Rattle.cdm_files.proofs.feed_record.tolerance_fields.Goals as goal
 

@@ -1,5 +1,4 @@
-use Rattle.std.proofs.Common.{refl}
-use Rattle.std.proofs.lemmas.Result.{err_from_is_err_and}
+use Rattle.cdm_files.proofs.Words.{refl, err_from_is_err_and}
 use Rattle.cdm_files.specs.inner.Several.{all_three}
 use Rattle.cdm_files.proofs.field.all_three.Goals as goal
 
@@ -7,5 +6,4 @@ pub returns-in_err-one : goal.returns-in_err-one
 unfolding all_three
 returns-in_err-one g c =
     let p = err_from_is_err_and c.from_residual.result c.from_residual.ensures.1 in
-    let e = c.in_err-one.ensures in
-    rw (p.1, p.2, ← c.both.ensures, ← e) refl
+    rw (p.1, p.2, ← c.both.ensures, ← c.in_err-one.ensures) refl

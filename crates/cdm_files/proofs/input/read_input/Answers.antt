@@ -1,16 +1,10 @@
-use Rattle.std.proofs.Common.{take, ◌++◌, arith, length-append}
-use Rattle.std.proofs.lemmas.Grind.{common_steps}
-use Rattle.std.proofs.KnownBytes.{Consumes-trans}
+use Rattle.cdm_files.proofs.Words.{arith, length-append, common_steps, Consumes-trans}
 use Rattle.cdm_files.proofs.input.read_input.Goals as goal
 
 pub returns-then-len-count-gt-INPUT_LIMIT-clause-too_long : goal.returns-then-len-count-gt-INPUT_LIMIT-clause-too_long
 returns-then-len-count-gt-INPUT_LIMIT-clause-too_long g c = λ _.
-    let bs = c.loop-count.input.items in
-    let cs = take c.in-Ok.count c.read.new.buf in
-    (bs ++ cs, Consumes-trans _ _ _ bs cs c.loop-count.invariant.bytes c.in-Ok.ensures.bytes.0, grind (arith, common_steps, length-append))
+    (_, Consumes-trans _ _ _ _ _ c.loop-count.invariant.bytes c.in-Ok.ensures.bytes.0, grind (arith, common_steps, length-append))
 
 pub returns-in_err-extend_from_slice-clause-within : goal.returns-in_err-extend_from_slice-clause-within
 returns-in_err-extend_from_slice-clause-within g c = λ _.
-    let bs = c.loop-count.input.items in
-    let cs = take c.in-Ok.count c.read.new.buf in
-    (bs ++ cs, Consumes-trans _ _ _ bs cs c.loop-count.invariant.bytes c.in-Ok.ensures.bytes.0, grind (arith, common_steps, length-append))
+    (_, Consumes-trans _ _ _ _ _ c.loop-count.invariant.bytes c.in-Ok.ensures.bytes.0, grind (arith, common_steps, length-append))

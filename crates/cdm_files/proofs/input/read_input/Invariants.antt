@@ -1,5 +1,4 @@
-use Rattle.std.proofs.Common.{◌≡◌, ◌≤◌, ◌-◌, false, vec_len}
-use Rattle.std.specs.Io.KnownBytes.{Consumes}
+use Rattle.cdm_files.proofs.Words.{◌≡◌, ◌≤◌, ◌-◌, false, vec_len, Consumes}
 use Rattle.cdm_files.specs.Input.{input_limit}
 use Rattle.cdm_files.proofs.input.read_input.Given as goal
 

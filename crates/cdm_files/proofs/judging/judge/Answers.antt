@@ -1,14 +1,8 @@
-use Rattle.std.proofs.Common.{◌≡◌, ◌<◌, ℕ, true, false, ◌==◌, arith}
+use Rattle.std.proofs.Common.{length, ◌≡◌, arith}
 use Rattle.std.proofs.lemmas.Bool.Decides.{nat_tests}
 use Rattle.cdm_files.specs.Parsing.{parse_of}
 use Rattle.cdm_files.proofs.StretchLemmas.{all-left, fewer-left, next-left, none-left}
 use Rattle.cdm_files.proofs.judging.judge.Goals as goal
-
-no-length : (n m : ℕ) → n ≡ m → true ≡ (n == 0) → m ≡ 0
-no-length n m same test = grind (arith, nat_tests, same, test)
-
-some-length : (n m : ℕ) → n ≡ m → false ≡ (n == 0) → 0 < m
-some-length n m same test = grind (arith, nat_tests, same, test)
 
 pub stretches-init : goal.stretches-init
 stretches-init g c =
@@ -16,22 +10,19 @@ stretches-init g c =
 
 pub returns-then-is_empty : goal.returns-then-is_empty
 returns-then-is_empty g c =
-    let none = no-length _ _ c.in_ok-parsed.parsed.ok.0 c.if-is_empty.ensures in
-    let read = c.in_ok-parsed.ensures in
-    let judged = none-left _ _ _ _ _ _ _ _ _ c.stretches.invariant read.spelled none (read.all (omega (arith, none))) in
+    let none : length c.in_ok-parsed.parsed.items ≡ 0 = grind (arith, nat_tests, c.in_ok-parsed.parsed.ok.0, c.if-is_empty.ensures) in
+    let all = c.in_ok-parsed.ensures.all (omega (arith, none)) in
+    let judged = none-left _ _ _ _ _ _ _ _ _ c.stretches.invariant c.in_ok-parsed.ensures.spelled none all in
     record { state = judged.0; refused = judged.1 }
 
 pub stretches-smaller : goal.stretches-smaller
 stretches-smaller g c =
     let fewer = fewer-left (parse_of c.day-day.result.now) _ _ _ c.in_ok-parsed.ensures.spelled in
-    let some = some-length _ _ c.in_ok-parsed.parsed.ok.0 c.if-is_empty.ensures in
-    omega (arith, fewer, some)
+    grind (arith, nat_tests, fewer, c.in_ok-parsed.parsed.ok.0, c.if-is_empty.ensures)
 
 pub stretches-preserved : goal.stretches-preserved
 stretches-preserved g c =
     let is = c.deref.ensures.value in
     let judged = c.in_ok-judge_next.ensures in
-    let state = rw is at judged.state in
-    let refused = rw is at judged.refused in
-    let records = rw is at judged.records in
-    next-left _ _ _ _ _ _ _ _ _ _ _ _ c.stretches.invariant c.in_ok-parsed.ensures.spelled state refused records
+    next-left _ _ _ _ _ _ _ _ _ _ _ _ c.stretches.invariant c.in_ok-parsed.ensures.spelled (rw is at judged.state) (rw is at judged.refused)
+    (rw is at judged.records)

@@ -1,21 +1,15 @@
-use Rattle.std.proofs.Common.{◌≡◌, ◌-◌, length, take, drop, arith, take-add}
-use Rattle.std.proofs.lemmas.Grind.{common_steps}
-use Rattle.std.proofs.KnownBytes.{Appends-trans}
+use Rattle.cdm_files.proofs.Words.{◌≡◌, ◌-◌, length, take, drop, arith, take-add, common_steps, Appends-trans}
 use Rattle.cdm_files.proofs.output.write_text.Goals as goal
 
 -- the bytes written so far, and then those that this write took
 pub loop-written-preserved : goal.loop-written-preserved
 loop-written-preserved g c =
-    let before = g.W.Write.contents c.args.device.now.inner in
-    let here = g.W.Write.contents c.loop-written.device.inner in
-    let after = g.W.Write.contents c.write.new.self.inner in
     let text = c.args.text.now in
     let n = c.loop-written.written in
     let rest : take (length text - n) (drop n text) ≡ drop n text = grind (arith, common_steps) in
     let taken = rw rest at c.in-Ok.ensures.bytes in
     record {
       within = grind (arith, common_steps);
-      bytes = rw (take-add n c.in-Ok.count text)
-          (Appends-trans before here after (take n text) (take c.in-Ok.count (drop n text)) c.loop-written.invariant.bytes taken);
+      bytes = rw (take-add n c.in-Ok.count text) (Appends-trans _ _ _ _ _ c.loop-written.invariant.bytes taken);
       fresh = grind (arith, common_steps);
     }

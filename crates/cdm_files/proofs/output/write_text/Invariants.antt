@@ -1,5 +1,4 @@
-use Rattle.std.proofs.Common.{◌≡◌, ◌≤◌, ◌-◌, false, length, take}
-use Rattle.std.specs.Io.KnownBytes.{Appends}
+use Rattle.cdm_files.proofs.Words.{◌≡◌, ◌≤◌, ◌-◌, false, length, take, Appends}
 use Rattle.cdm_files.proofs.output.write_text.Given as goal
 
 abbrev pub invariant-loop-written : goal.invariant-loop-written

@@ -1,6 +1,4 @@
-use Rattle.std.proofs.Common.{arith}
-use Rattle.std.proofs.lemmas.Grind.{common_steps}
-use Rattle.std.proofs.lemmas.List.Elements.{filter_map-append}
+use Rattle.cdm_files.proofs.Words.{arith, common_steps, filter_map-append}
 use Rattle.cdm_files.proofs.refused.updates_of.Goals as goal
 use Rattle.cdm_files.proofs.refused.updates_of.Goals.{in-Ok+in_ok-push_last, in_default}
 

@@ -1,6 +1,4 @@
-use Rattle.std.proofs.Common.{◌≡◌, take}
-use Rattle.std.specs.List.{filter_map}
-use Rattle.std.specs.Result.{result_ok}
+use Rattle.cdm_files.proofs.Words.{◌≡◌, take, filter_map, result_ok}
 use Rattle.cdm_files.proofs.refused.updates_of.Given as goal
 
 abbrev pub invariant-loop-spelled : goal.invariant-loop-spelled

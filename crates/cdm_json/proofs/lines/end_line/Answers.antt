@@ -1,10 +1,5 @@
-use Rattle.std.proofs.Common.{◌≡◌, ◌∙◌, ◌++◌, [], ◌∷◌, List, ℕ, ap, refl, rules}
+use Rattle.cdm_json.proofs.Words.{◌≡◌, ◌∙◌, ◌++◌, [], ◌∷◌, List, ℕ, ap, refl, rules, print, begin_object, json_tokens, object_of, object_written}
 use Rattle.json.specs.Lex.{tokens}
-use Rattle.json.specs.Print.{print}
-use Rattle.json.specs.Token.{begin_object}
-use Rattle.json.specs.Tree.{json_tokens}
-use Rattle.cdm_row.specs.Json.{object_of}
-use Rattle.cdm_row.proofs.TokenLemmas.{object_written}
 use Rattle.cdm_json.specs.Lines.{json_line}
 use Rattle.cdm_json.proofs.ReadBack.{read_back}
 use Rattle.cdm_json.proofs.lines.end_line.Goals as goal

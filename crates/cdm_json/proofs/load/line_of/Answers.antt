@@ -1,12 +1,8 @@
-use Rattle.std.proofs.Common.{◌≡◌, ◌∙◌, ◌++◌, ap}
-use Rattle.std.specs.Prelude.{codes, flat_map}
-use Rattle.cdm_view.specs.Load.{usual_cap}
+use Rattle.cdm_json.proofs.Words.{◌≡◌, ◌∙◌, ◌++◌, ap, codes, flat_map, usual_cap, member_tokens}
 use Rattle.cdm_view.specs.Reasons.{slots_on}
-use Rattle.cdm_row.specs.Json.{member_tokens}
 use Rattle.cdm_json.specs.Loads.{cells_members, load_members, runway_members}
-use Rattle.cdm_json.proofs.TokenLemmas.{more_parts}
+use Rattle.cdm_json.proofs.TokenLemmas.{more_parts, line_written, ok_then}
 use Rattle.cdm_json.specs.Lines.{answer_line, head_members}
-use Rattle.cdm_json.proofs.TokenLemmas.{line_written, ok_then}
 use Rattle.cdm_json.proofs.load.line_of.Goals as goal
 
 pub returns : goal.returns

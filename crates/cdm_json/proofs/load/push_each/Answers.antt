@@ -1,8 +1,4 @@
-use Rattle.std.proofs.Common.{◌≡◌, ◌∙◌, ◌-◌, ◌++◌, ℕ, List, ap, arith, sym}
-use Rattle.std.specs.Prelude.{flat_map}
-use Rattle.std.specs.List.{range_with_len}
-use Rattle.json.specs.Token.{Token}
-use Rattle.json.specs.Tree.{json_tokens}
+use Rattle.cdm_json.proofs.Words.{◌≡◌, ◌∙◌, ◌-◌, ◌++◌, ℕ, List, ap, arith, sym, flat_map, range_with_len, Token, json_tokens}
 use Rattle.cdm_json.specs.Loads.{cell_json}
 use Rattle.cdm_json.proofs.TokenLemmas.{mapped, number_more}
 use Rattle.cdm_json.proofs.load.push_each.Goals as goal

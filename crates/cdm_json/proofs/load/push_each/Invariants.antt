@@ -1,7 +1,4 @@
-use Rattle.std.proofs.Common.{◌≡◌, ◌-◌, ◌++◌}
-use Rattle.std.specs.Prelude.{flat_map}
-use Rattle.std.specs.List.{range_with_len}
-use Rattle.json.specs.Tree.{json_tokens}
+use Rattle.cdm_json.proofs.Words.{◌≡◌, ◌-◌, ◌++◌, flat_map, range_with_len, json_tokens}
 use Rattle.cdm_json.specs.Loads.{cell_json}
 use Rattle.cdm_json.proofs.load.push_each.Given as goal
 

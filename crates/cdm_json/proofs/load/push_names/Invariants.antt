@@ -1,7 +1,4 @@
-use Rattle.std.proofs.Common.{◌≡◌, ◌++◌, map, take}
-use Rattle.std.specs.Prelude.{flat_map}
-use Rattle.json.specs.Tree.{json_tokens}
-use Rattle.cdm_view.specs.Load.{flights_in_cell}
+use Rattle.cdm_json.proofs.Words.{◌≡◌, ◌++◌, map, take, flat_map, json_tokens, flights_in_cell}
 use Rattle.cdm_json.specs.Loads.{name_json}
 use Rattle.cdm_json.proofs.load.push_names.Given as goal
 

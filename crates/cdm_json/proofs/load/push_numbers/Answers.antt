@@ -1,29 +1,10 @@
-use Rattle.std.proofs.Common.{ℕ, List, [], ◌∷◌, ◌*◌, length}
-use Rattle.std.specs.Prelude.{codes}
-use Rattle.std.proofs.lemmas.Result.{on_ok_weaker}
-use Rattle.json.specs.Json.{Json, string}
-use Rattle.cdm_time.specs.Times.{time_text}
-use Rattle.cdm_view.specs.Load.{cap_of_cell, closed_in_cell, flights_in_cell}
-use Rattle.cdm_row.specs.Json.{count_json}
-use Rattle.cdm_json.proofs.TokenLemmas.{more_members, one_member}
+use Rattle.cdm_json.proofs.Words.{◌∙◌, append_assoc, on_ok_weaker}
 use Rattle.cdm_json.proofs.load.push_numbers.Goals as goal
 
 pub returns-clause-tokens : goal.returns-clause-tokens
 returns-clause-tokens c =
-    let rules = c.args.runway.now in
-    let slots = c.args.slots.now in
-    let k = c.args.cell in
-    let old = c.args.writer.now.tokens in
-    let first : List ℕ × Json = (codes "from", string (time_text c.args.day (k * rules.cell))) in
-    let placed : List ℕ × Json = (codes "placed", count_json (length (flights_in_cell rules slots k))) in
-    let cap : List ℕ × Json = (codes "cap", count_json (cap_of_cell rules k)) in
-    let closed : List ℕ × Json = (codes "closed", count_json (closed_in_cell rules k)) in
-    let minute = rw c.first_minute.ensures.value at c.in_ok-push_minute.ensures.tokens in
-    let one = one_member old _ first minute in
-    let count = rw c.flights_in_cell-placed.ensures at c.in_ok-push_count.ensures.tokens in
-    let two = more_members old _ _ (first ∷ []) placed one count in
-    let most = rw (c.from.ensures, c.cap_of_cell.ensures) at c.in_ok-push_count-2.ensures.tokens in
-    let three = more_members old _ _ (first ∷ placed ∷ []) cap two most in
-    on_ok_weaker c.push_count-3.result (λ is.
-    more_members old _ _ (first ∷ placed ∷ cap ∷ []) closed three (rw (c.from-2.ensures, c.closed_in_cell.ensures) at is))
+    on_ok_weaker c.push_count-3.result
+    (λ last. last ∙ simp (c.in_ok-push_count-2.ensures.tokens, c.in_ok-push_count.ensures.tokens, c.in_ok-push_minute.ensures.tokens)
+    (simp (c.first_minute.ensures.value, c.flights_in_cell-placed.ensures, append_assoc)
+    (simp (c.from.ensures, c.cap_of_cell.ensures, c.from-2.ensures, c.closed_in_cell.ensures))))
     c.push_count-3.ensures.tokens

@@ -1,7 +1,4 @@
-use Rattle.std.proofs.Common.{◌≡◌, ◌++◌, take}
-use Rattle.std.specs.Prelude.{filter, flat_map}
-use Rattle.cdm_plan.proofs.NameLemmas.{rules_in}
-use Rattle.cdm_view.specs.Load.{is_asked}
+use Rattle.cdm_json.proofs.Words.{◌≡◌, ◌++◌, take, filter, flat_map, rules_in, is_asked}
 use Rattle.cdm_json.specs.Loads.{load_line}
 use Rattle.cdm_json.proofs.load.push_runways.Given as goal
 

@@ -1,8 +1,4 @@
-use Rattle.std.proofs.Common.{◌∙◌, ◌++◌, [], ◌∷◌, append_assoc, ap}
-use Rattle.std.specs.Prelude.{flat_map}
-use Rattle.json.specs.Print.{print}
-use Rattle.json.specs.Token.{end_object}
-use Rattle.cdm_row.specs.Json.{member_tokens}
+use Rattle.cdm_json.proofs.Words.{◌∙◌, ◌++◌, [], ◌∷◌, append_assoc, ap, flat_map, print, end_object, member_tokens}
 use Rattle.cdm_json.specs.Plans.{refused_members}
 use Rattle.cdm_json.proofs.plan.end_plan.Goals as goal
 

@@ -1,5 +1,4 @@
-use Rattle.std.proofs.Common.{◌≡◌, ◌∙◌, ◌++◌, ℕ, List, ap}
-use Rattle.cdm_row.specs.declared.row.Row.{Row}
+use Rattle.cdm_json.proofs.Words.{◌≡◌, ◌∙◌, ◌++◌, ℕ, List, ap, Row}
 use Rattle.cdm_json.specs.Plans.{flights_text, plan_line}
 use Rattle.cdm_json.specs.inner.Around.{text_before, text_behind}
 use Rattle.cdm_json.proofs.AroundLemmas.{plan_around}

@@ -1,9 +1,4 @@
-use Rattle.std.proofs.Common.{◌≡◌, ◌++◌, ℕ, List, [], ◌∷◌}
-use Rattle.std.specs.Prelude.{codes}
-use Rattle.std.proofs.lemmas.Result.{on_ok_weaker}
-use Rattle.json.specs.Json.{Json}
-use Rattle.cdm_report.specs.Counts.{counts_of}
-use Rattle.cdm_row.specs.Columns.{value_of}
+use Rattle.cdm_json.proofs.Words.{◌≡◌, ◌++◌, ℕ, List, [], ◌∷◌, codes, on_ok_weaker, Json, counts_of, value_of}
 use Rattle.cdm_json.specs.Plans.{count_members, day_members, rules_json}
 use Rattle.cdm_json.proofs.TokenLemmas.{more_parts, named_member, one_member}
 use Rattle.cdm_json.proofs.plan.push_first.Goals as goal

@@ -1,11 +1,6 @@
-use Rattle.std.proofs.Common.{◌∙◌, ◌++◌, ℕ, List, rules, ap, sym, get_or}
-use Rattle.std.specs.Prelude.{flat_map, zip}
-use Rattle.cdm_plan.proofs.NameLemmas.{all_taken}
-use Rattle.json.specs.Token.{Token}
-use Rattle.cdm_sequence.specs.Words.{all_rules}
+use Rattle.cdm_json.proofs.Words.{◌∙◌, ◌++◌, ℕ, List, rules, ap, sym, get_or, flat_map, zip, all_taken, Token, all_rules, member_tokens}
 use Rattle.cdm_sequence.specs.declared.rule.Rule.{Rule}
 use Rattle.cdm_sequence.specs.declared.rule.Rule.TheVariants.{Tobt}
-use Rattle.cdm_row.specs.Json.{member_tokens}
 use Rattle.cdm_json.specs.Plans.{rule_members}
 use Rattle.cdm_json.proofs.TokenLemmas.{nested, pair_more}
 use Rattle.cdm_json.proofs.plan.push_rule_members.Goals as goal

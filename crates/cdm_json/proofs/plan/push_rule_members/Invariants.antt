@@ -1,7 +1,4 @@
-use Rattle.std.proofs.Common.{◌≡◌, ◌++◌, take}
-use Rattle.std.specs.Prelude.{flat_map, zip}
-use Rattle.cdm_sequence.specs.Words.{all_rules}
-use Rattle.cdm_row.specs.Json.{member_tokens}
+use Rattle.cdm_json.proofs.Words.{◌≡◌, ◌++◌, take, flat_map, zip, all_rules, member_tokens}
 use Rattle.cdm_json.specs.Plans.{rule_members}
 use Rattle.cdm_json.proofs.plan.push_rule_members.Given as goal
 

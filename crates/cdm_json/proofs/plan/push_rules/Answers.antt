@@ -1,7 +1,4 @@
-use Rattle.std.specs.Prelude.{flat_map, zip}
-use Rattle.std.proofs.lemmas.Result.{on_ok_weaker}
-use Rattle.cdm_sequence.specs.Words.{all_rules}
-use Rattle.cdm_row.proofs.TokenLemmas.{object_written}
+use Rattle.cdm_json.proofs.Words.{flat_map, zip, on_ok_weaker, all_rules, object_written}
 use Rattle.cdm_json.specs.Plans.{rule_members}
 use Rattle.cdm_json.proofs.plan.push_rules.Goals as goal
 

@@ -1,7 +1,4 @@
-use Rattle.std.proofs.Common.{◌∙◌, ◌++◌, [], ◌∷◌, ap}
-use Rattle.std.specs.Prelude.{codes}
-use Rattle.json.specs.Print.{print}
-use Rattle.json.specs.Token.{key}
+use Rattle.cdm_json.proofs.Words.{◌∙◌, ◌++◌, [], ◌∷◌, ap, codes, print, key}
 use Rattle.cdm_json.specs.Lines.{head_members}
 use Rattle.cdm_json.specs.Plans.{number_of, scenario_of}
 use Rattle.cdm_json.specs.inner.Around.{first_members}

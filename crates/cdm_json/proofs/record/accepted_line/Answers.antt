@@ -1,5 +1,4 @@
-use Rattle.std.proofs.Common.{◌≡◌, ◌++◌, Some}
-use Rattle.std.specs.Prelude.{codes}
+use Rattle.cdm_json.proofs.Words.{◌≡◌, ◌++◌, Some, codes}
 use Rattle.cdm_json.specs.Records.{accepted_members}
 use Rattle.cdm_json.specs.Lines.{answer_line, head_members}
 use Rattle.cdm_json.proofs.TokenLemmas.{line_written, ok_then}

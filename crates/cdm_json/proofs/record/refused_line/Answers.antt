@@ -1,11 +1,7 @@
-use Rattle.std.proofs.Common.{◌≡◌, ◌++◌, ℕ, List, Some}
-use Rattle.std.specs.Prelude.{codes}
-use Rattle.json.specs.Json.{Json, string}
-use Rattle.cdm_flight.specs.Words.{text_of}
+use Rattle.cdm_json.proofs.Words.{◌≡◌, ◌++◌, ℕ, List, Some, codes, Json, string, text_of}
 use Rattle.cdm_json.specs.Records.{refused_members}
-use Rattle.cdm_json.proofs.TokenLemmas.{one_member}
+use Rattle.cdm_json.proofs.TokenLemmas.{one_member, line_written, ok_then}
 use Rattle.cdm_json.specs.Lines.{answer_line, head_members}
-use Rattle.cdm_json.proofs.TokenLemmas.{line_written, ok_then}
 use Rattle.cdm_json.proofs.record.refused_line.Goals as goal
 
 pub returns : goal.returns

@@ -1,6 +1,4 @@
-use Rattle.std.proofs.Common.{◌≡◌, ◌++◌, map, take}
-use Rattle.std.specs.Prelude.{flat_map}
-use Rattle.json.specs.Tree.{json_tokens}
+use Rattle.cdm_json.proofs.Words.{◌≡◌, ◌++◌, map, take, flat_map, json_tokens}
 use Rattle.cdm_json.specs.Whys.{wait_json}
 use Rattle.cdm_json.proofs.why.push_each.Given as goal
 

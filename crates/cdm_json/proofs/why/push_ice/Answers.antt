@@ -1,22 +1,9 @@
-use Rattle.std.proofs.Common.{ℕ, List, [], ◌∷◌}
-use Rattle.std.specs.Prelude.{codes}
-use Rattle.std.proofs.lemmas.Result.{on_ok_weaker}
-use Rattle.json.specs.Json.{Json, string}
-use Rattle.cdm_row.specs.Json.{count_json}
-use Rattle.cdm_row.proofs.TokenLemmas.{object_written}
-use Rattle.cdm_json.specs.Whys.{ice_kind, ice_minutes}
-use Rattle.cdm_json.proofs.TokenLemmas.{more_members, one_member}
+use Rattle.cdm_json.proofs.Words.{◌∙◌, append_assoc, on_ok_weaker}
 use Rattle.cdm_json.proofs.why.push_ice.Goals as goal
 
 pub returns-clause-tokens : goal.returns-clause-tokens
 returns-clause-tokens c =
-    let kind : List ℕ × Json = (codes "kind", string (ice_kind c.args.ice.now)) in
-    let minutes : List ℕ × Json = (codes "minutes", count_json (ice_minutes c.args.ice.now)) in
-    let begun = c.begin_object.new.self.tokens in
     let first = rw c.in_ok-begin_object.was at c.begin_object.ensures.ok in
-    let word = rw c.ice_kind.ensures at c.in_ok-push_text.ensures.tokens in
-    let number = rw (c.from.ensures, c.ice_minutes.ensures) at c.in_ok-push_count.ensures.tokens in
-    let both = more_members begun _ _ (kind ∷ []) minutes (one_member begun _ kind word) number in
-    on_ok_weaker c.end_object.result (λ last.
-    object_written c.args.writer.now.tokens begun c.push_count.new.writer.tokens c.end_object.new.self.tokens (kind ∷ minutes ∷ []) first both last)
-    c.end_object.ensures.ok
+    on_ok_weaker c.end_object.result
+    (λ last. last ∙ simp (c.in_ok-push_count.ensures.tokens, c.in_ok-push_text.ensures.tokens, first, append_assoc)
+    (simp (c.ice_kind.ensures, c.from.ensures, c.ice_minutes.ensures))) c.end_object.ensures.ok

@@ -1,26 +1,8 @@
-use Rattle.std.proofs.Common.{ℕ, List, [], ◌∷◌}
-use Rattle.std.specs.Prelude.{codes}
-use Rattle.std.proofs.lemmas.Result.{on_ok_weaker}
-use Rattle.json.specs.Json.{Json, string}
-use Rattle.cdm_time.specs.Times.{time_text}
-use Rattle.cdm_row.specs.Json.{json_value}
-use Rattle.cdm_json.specs.Whys.{reason_cap, reason_word}
-use Rattle.cdm_json.proofs.TokenLemmas.{more_members, one_member}
+use Rattle.cdm_json.proofs.Words.{◌∙◌, append_assoc, append-nil, on_ok_weaker}
 use Rattle.cdm_json.proofs.why.push_minutes.Goals as goal
 
 pub returns-clause-tokens : goal.returns-clause-tokens
 returns-clause-tokens c =
-    let run = c.args.run.now in
-    let day = c.args.day in
-    let old = c.args.writer.now.tokens in
-    let first : List ℕ × Json = (codes "from", string (time_text day run.first)) in
-    let last : List ℕ × Json = (codes "to", string (time_text day run.last)) in
-    let reason : List ℕ × Json = (codes "reason", string (reason_word run.reason)) in
-    let cap : List ℕ × Json = (codes "cap", json_value day (reason_cap run.reason)) in
-    let one = one_member old _ first c.in_ok-push_minute.ensures.tokens in
-    let two = more_members old _ _ (first ∷ []) last one c.in_ok-push_minute-2.ensures.tokens in
-    let word = rw c.reason_word.ensures at c.in_ok-push_text.ensures.tokens in
-    let three = more_members old _ _ (first ∷ last ∷ []) reason two word in
-    on_ok_weaker c.push_member.result (λ is.
-    more_members old _ _ (first ∷ last ∷ reason ∷ []) cap three (rw c.reason_cap.ensures at is))
-    c.push_member.ensures.tokens
+    on_ok_weaker c.push_member.result
+    (λ last. last ∙ simp (c.in_ok-push_text.ensures.tokens, c.in_ok-push_minute-2.ensures.tokens, c.in_ok-push_minute.ensures.tokens)
+    (simp (c.reason_word.ensures, c.reason_cap.ensures, append_assoc, append-nil))) c.push_member.ensures.tokens

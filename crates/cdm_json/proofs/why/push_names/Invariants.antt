@@ -1,7 +1,4 @@
-use Rattle.std.proofs.Common.{◌≡◌, ◌++◌, map, take}
-use Rattle.std.specs.Prelude.{flat_map}
-use Rattle.json.specs.Json.{string}
-use Rattle.json.specs.Tree.{json_tokens}
+use Rattle.cdm_json.proofs.Words.{◌≡◌, ◌++◌, map, take, flat_map, string, json_tokens}
 use Rattle.cdm_json.proofs.why.push_names.Given as goal
 
 abbrev pub invariant-loop-name : goal.invariant-loop-name

@@ -1,11 +1,8 @@
-use Rattle.std.specs.Prelude.{codes, map}
-use Rattle.std.proofs.lemmas.Result.{on_ok_weaker}
-use Rattle.cdm_json.specs.Whys.{wait_json}
+use Rattle.cdm_json.proofs.Words.{on_ok_weaker}
 use Rattle.cdm_json.proofs.TokenLemmas.{array_member}
 use Rattle.cdm_json.proofs.why.push_waits.Goals as goal
 
 pub returns-clause-tokens : goal.returns-clause-tokens
 returns-clause-tokens c =
     on_ok_weaker c.end_array.result
-    (array_member _ _ _ _ _ (codes "waits") (map (wait_json c.args.day) c.args.runs.now) c.in_ok-key.ensures.ok c.in_ok-begin_array.ensures.ok c.in_ok-push_each.ensures.tokens)
-    c.end_array.ensures.ok
+    (array_member _ _ _ _ _ _ _ c.in_ok-key.ensures.ok c.in_ok-begin_array.ensures.ok c.in_ok-push_each.ensures.tokens) c.end_array.ensures.ok

@@ -1,12 +1,5 @@
-use Rattle.std.proofs.Common.{◌≡◌, ◌∙◌, ◌++◌, ℕ, List, [], ◌∷◌, Option, Some, subst, sym}
-use Rattle.std.specs.Prelude.{codes, flat_map}
-use Rattle.std.specs.Option.{IsSomeAnd, option_copied}
-use Rattle.json.specs.Json.{Json, string}
-use Rattle.cdm_time.specs.Times.{time_text}
-use Rattle.cdm_flight.specs.Journal.{flight_of}
-use Rattle.cdm_flight.specs.declared.flight.Flight.{Flight}
-use Rattle.cdm_row.specs.Changed.{row_named}
-use Rattle.cdm_row.specs.Json.{member_tokens}
+use Rattle.cdm_json.proofs.Words.{◌≡◌, ◌∙◌, ◌++◌, ℕ, List, [], ◌∷◌, Option, Some, subst, sym, codes, flat_map, IsSomeAnd, option_copied, Json, string}
+use Rattle.cdm_json.proofs.Words.{time_text, flight_of, Flight, row_named, member_tokens}
 use Rattle.cdm_json.specs.Lines.{head_members}
 use Rattle.cdm_json.specs.Whys.{IsWhyLine, known_members, waits_members, why_members}
 use Rattle.cdm_json.proofs.TokenLemmas.{line_written, more_parts, one_member}

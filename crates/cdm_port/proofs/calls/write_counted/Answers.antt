@@ -8,9 +8,6 @@ use Rattle.cdm_port.proofs.calls.write_counted.Goals as goal
 -- the bytes written so far, and then those that this write took
 pub loop-preserved : goal.loop-preserved
 loop-preserved g c =
-    let before = g.W.Write.contents c.args.writer.now in
-    let here = g.W.Write.contents c.loop.writer in
-    let after = g.W.Write.contents c.write.new.self in
     let bytes = c.args.bytes.now in
     let n = c.loop.count in
     elim c.match-write.branch [
@@ -19,8 +16,8 @@ loop-preserved g c =
           let taken = rw rest at (w.in-Ok.ensures).bytes in
           rw w.count-is (record {
             within = grind (arith, common_steps);
-            written = rw (take-add n w.in-Ok.more bytes)
-                (Appends-trans before here after (take n bytes) (take w.in-Ok.more (drop n bytes)) c.loop.invariant.written taken);
+            written = rw (take-add n w.in-Ok.more bytes) (Appends-trans _ _ _ _ _ c.loop.invariant.written taken);
           })
-      | in-Err w ↦ rw w.count-is (record { within = c.loop.invariant.within; written = appends_kept before here after (take n bytes) c.loop.invariant.written (w.in-Err.ensures).bytes })
+      | in-Err w ↦
+          rw w.count-is (record { within = c.loop.invariant.within; written = appends_kept _ _ _ _ c.loop.invariant.written (w.in-Err.ensures).bytes })
     ]

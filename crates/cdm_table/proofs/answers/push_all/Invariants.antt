@@ -1,5 +1,4 @@
-use Rattle.std.proofs.Common.{◌≡◌, ◌++◌}
-use Rattle.std.specs.List.{concat}
+use Rattle.cdm_table.proofs.Words.{◌≡◌, ◌++◌, concat}
 use Rattle.cdm_table.proofs.answers.push_all.Given as goal
 
 abbrev pub invariant-loop-answer : goal.invariant-loop-answer

@@ -1,5 +1,4 @@
-use Rattle.std.proofs.Common.{arith, rules, ◌≡◌, ◌∙◌, ◌++◌, ◌+◌, [], ◌∷◌, Some, length, refl, sym, ap}
-use Rattle.std.proofs.lemmas.Option.{slice_get-get_or, slice_get_read}
+use Rattle.cdm_table.proofs.Words.{arith, rules, ◌≡◌, ◌∙◌, ◌++◌, ◌+◌, [], ◌∷◌, Some, length, refl, sym, ap, slice_get-get_or, slice_get_read}
 use Rattle.cdm_table.specs.Comparison.{lines_from}
 use Rattle.cdm_table.specs.declared.line.Line.{Line}
 use Rattle.cdm_table.proofs.LineLemmas.{line_at, one_more_line}

@@ -1,6 +1,4 @@
-use Rattle.std.proofs.Common.{◌≡◌, ◌++◌, take}
-use Rattle.std.specs.Prelude.{flat_map}
-use Rattle.std.specs.String.{string_bytes}
+use Rattle.cdm_table.proofs.Words.{◌≡◌, ◌++◌, take, flat_map, string_bytes}
 use Rattle.cdm_table.specs.Comparison.{line_text}
 use Rattle.cdm_table.proofs.comparison.push_lines.Given as goal
 

@@ -1,10 +1,5 @@
-use Rattle.std.proofs.Common.{◌≡◌, ◌∙◌, ◌++◌, []}
-use Rattle.std.specs.Prelude.{flat_map}
+use Rattle.cdm_table.proofs.Words.{◌≡◌, ◌∙◌, ◌++◌, [], flat_map, flight_name, row_named, member_tokens, line_written, ok_then}
 use Rattle.std.specs.Option.{option_copied}
-use Rattle.cdm_view.specs.Standings.{flight_name}
-use Rattle.cdm_row.specs.Changed.{row_named}
-use Rattle.cdm_row.specs.Json.{member_tokens}
-use Rattle.cdm_json.proofs.TokenLemmas.{line_written, ok_then}
 use Rattle.cdm_table.specs.ComparisonJson.{change_line, change_members}
 use Rattle.cdm_table.proofs.comparison_json.change_line.Goals as goal
 

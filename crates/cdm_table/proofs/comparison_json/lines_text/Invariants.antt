@@ -1,5 +1,4 @@
-use Rattle.std.proofs.Common.{◌≡◌, take}
-use Rattle.std.specs.Prelude.{flat_map}
+use Rattle.cdm_table.proofs.Words.{◌≡◌, take, flat_map}
 use Rattle.cdm_table.specs.ComparisonJson.{summary_line}
 use Rattle.cdm_table.proofs.comparison_json.lines_text.Given as goal
 

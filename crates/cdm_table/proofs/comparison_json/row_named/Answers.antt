@@ -1,17 +1,9 @@
-use Rattle.std.proofs.Common.{◌≡◌, ℕ, ◌<◌, true, List, length, get_or, Option, None, Some, Err, refl, sym, ◌∙◌, ap, inl}
-use Rattle.std.proofs.Common.{inr, arith, rules}
-use Rattle.std.specs.declared.cmp.Ordering.TheVariants.{Less, Equal, Greater}
-use Rattle.std.specs.List.{HoldsAt}
+use Rattle.cdm_table.proofs.Words.{◌≡◌, ℕ, ◌<◌, true, List, length, get_or, Option, None, Some, Err, refl, sym, ◌∙◌, ap, inl, inr, arith, rules, Less}
+use Rattle.cdm_table.proofs.Words.{Equal, Greater, HoldsAt, cases_lt, nat_list_cmp_total, tied_itself, searchable_from_sorted, find_only, find_some}
+use Rattle.cdm_table.proofs.Words.{row_named, KeepsRows, Row}
 use Rattle.std.specs.List.Sorted.{IsBinarySearchResult, IsPartitionPoint}
-use Rattle.std.proofs.lemmas.Bool.{cases_lt}
-use Rattle.std.proofs.lemmas.Cmp.{nat_list_cmp_total, tied_itself}
-use Rattle.std.proofs.lemmas.List.Sorted.{searchable_from_sorted}
 use Rattle.cdm_plan.proofs.ListWords.{Contains, one_of_key, answers_always}
 use Rattle.cdm_plan.proofs.PlanWords.{is_same, name_cmp, same_flips, same_is, same_name, tied_names}
-use Rattle.cdm_plan.proofs.NameLemmas.{find_only, find_some}
-use Rattle.cdm_row.specs.Changed.{row_named}
-use Rattle.cdm_row.specs.Rows.{KeepsRows}
-use Rattle.cdm_row.specs.declared.row.Row.{Row}
 use Rattle.cdm_table.proofs.comparison_json.row_named.Goals as goal
 
 -- a Row is found by the name of its flight

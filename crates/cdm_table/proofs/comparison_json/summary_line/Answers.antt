@@ -1,5 +1,4 @@
-use Rattle.std.proofs.Common.{◌≡◌, ◌++◌, []}
-use Rattle.cdm_json.proofs.TokenLemmas.{line_written, more_parts, ok_then}
+use Rattle.cdm_table.proofs.Words.{◌≡◌, ◌++◌, [], line_written, more_parts, ok_then}
 use Rattle.cdm_table.specs.ComparisonJson.{name_members, summary_line, summary_members}
 use Rattle.cdm_table.proofs.comparison_json.summary_line.Goals as goal
 

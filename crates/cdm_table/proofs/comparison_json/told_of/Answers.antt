@@ -1,11 +1,4 @@
-use Rattle.std.proofs.Common.{◌≡◌, ◌∙◌, Ok, Err, refl}
-use Rattle.std.specs.Prelude.{flat_map}
-use Rattle.cdm_report.specs.Counts.{counts_of}
-use Rattle.cdm_plan.specs.DayPlan.{IsDayPlan}
-use Rattle.cdm_view.specs.Standings.{IsChangedTo}
-use Rattle.cdm_scenario.specs.Outcome.{IsLaid}
-use Rattle.cdm_scenario.specs.Overlay.{with_updates}
-use Rattle.cdm_row.specs.Rows.{AreRows}
+use Rattle.cdm_table.proofs.Words.{◌≡◌, ◌∙◌, Ok, Err, refl, flat_map, counts_of, IsDayPlan, IsChangedTo, IsLaid, with_updates, AreRows}
 use Rattle.cdm_table.specs.ComparisonJson.{AreDayRows, change_line}
 use Rattle.cdm_table.proofs.comparison_json.told_of.Goals as goal
 
@@ -30,7 +23,4 @@ returns-in_ok-text-in-Ok c =
 
 pub returns-in-Err : goal.returns-in-Err
 returns-in-Err c =
-    let refusal = c.in-Err.field-0 in
-    let laid : IsLaid c.args.base.now c.args.scenario.now.updates (Err refusal) =
-    rw (c.in-Err.is, c.updates.ensures.value) at c.in_ok-day.ensures in
-    (Err refusal, laid, c.new.ensures.items)
+    let laid = rw (c.in-Err.is, c.updates.ensures.value) at c.in_ok-day.ensures in (Err c.in-Err.field-0, laid, c.new.ensures.items)

@@ -1,11 +1,5 @@
-use Rattle.std.proofs.Common.{◌≡◌, ◌∙◌, All, Ok, Err, refl, subst, sym}
-use Rattle.cdm_time.specs.declared.calendar.CalendarDate.{CalendarDate}
-use Rattle.cdm_report.specs.Counts.{counts_of}
-use Rattle.cdm_plan.specs.DayPlan.{IsDayPlan}
-use Rattle.cdm_scenario.specs.Outcome.{IsLaid}
-use Rattle.cdm_scenario.specs.Overlay.{with_updates}
+use Rattle.cdm_table.proofs.Words.{◌≡◌, ◌∙◌, All, Ok, refl, subst, sym, CalendarDate, counts_of, IsDayPlan, IsLaid, with_updates, AreRows}
 use Rattle.cdm_scenario.specs.declared.outcome.Outcome.TheVariants.{Planned, Refused}
-use Rattle.cdm_row.specs.Rows.{AreRows}
 use Rattle.cdm_table.specs.Rows.{flights_text}
 use Rattle.cdm_table.specs.inner.OwnRows.{IsOwnRow, csv_row}
 use Rattle.cdm_table.proofs.csv_rows.scenario_rows.Goals as goal
@@ -28,8 +22,5 @@ flight_rows-requires c = subst (λ (day : CalendarDate). All (IsOwnRow (csv_row 
 
 pub returns-in_ok-text-in-Err : goal.returns-in_ok-text-in-Err
 returns-in_ok-text-in-Err c =
-    let number = c.in-Err.field-0-0 in
-    let word = c.in-Err.word in
-    let laid : IsLaid c.args.base.now c.args.scenario.now.updates (Err (number, word)) =
-    rw (c.in-Err.is, c.updates.ensures.value) at c.in_ok-day.ensures in
-    (Refused number word, laid, rw c.name-name.ensures at c.in_ok-text-in-Err.ensures)
+    let laid = rw (c.in-Err.is, c.updates.ensures.value) at c.in_ok-day.ensures in
+    (Refused c.in-Err.field-0-0 c.in-Err.word, laid, rw c.name-name.ensures at c.in_ok-text-in-Err.ensures)

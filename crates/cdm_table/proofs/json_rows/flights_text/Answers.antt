@@ -1,13 +1,5 @@
-use Rattle.std.proofs.Common.{◌∙◌, ◌++◌, ◌∷◌, ◌==◌, ℕ, List, [], cond, length, map, refl, rules, sym, ap}
-use Rattle.std.specs.Prelude.{flat_map}
-use Rattle.std.proofs.lemmas.Option.{slice_get_read}
-use Rattle.json.specs.Print.{print, print_from}
-use Rattle.json.specs.Token.{begin_array}
-use Rattle.json.specs.Tree.{json_tokens}
-use Rattle.cdm_plan.proofs.NameLemmas.{all_taken}
-use Rattle.cdm_row.specs.Json.{row_json, row_members}
-use Rattle.cdm_row.specs.declared.row.Row.{Row}
-use Rattle.cdm_json.specs.Plans.{flights_text}
+use Rattle.cdm_table.proofs.Words.{◌∙◌, ◌++◌, ◌∷◌, ◌==◌, ℕ, List, [], cond, length, map, refl, rules, sym, ap, flat_map, slice_get_read, print}
+use Rattle.cdm_table.proofs.Words.{print_from, begin_array, json_tokens, all_taken, row_json, row_members, Row, flights_text}
 use Rattle.cdm_json.proofs.AroundLemmas.{item_next, items_closed}
 use Rattle.cdm_table.specs.inner.OwnRows.{json_row}
 use Rattle.cdm_table.proofs.json_rows.flights_text.Goals as goal

@@ -1,9 +1,4 @@
-use Rattle.std.proofs.Common.{◌≡◌, ◌∷◌, All, map, take}
-use Rattle.std.specs.Prelude.{flat_map}
-use Rattle.json.specs.Print.{print}
-use Rattle.json.specs.Token.{begin_array}
-use Rattle.json.specs.Tree.{json_tokens}
-use Rattle.cdm_row.specs.Json.{row_json}
+use Rattle.cdm_table.proofs.Words.{◌≡◌, ◌∷◌, All, map, take, flat_map, print, begin_array, json_tokens, row_json}
 use Rattle.cdm_table.specs.inner.OwnRows.{IsOwnRow, json_row}
 use Rattle.cdm_table.proofs.json_rows.flights_text.Given as goal
 

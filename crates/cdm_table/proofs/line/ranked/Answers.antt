@@ -1,5 +1,4 @@
-use Rattle.std.proofs.Common.{rules}
-use Rattle.std.proofs.lemmas.List.Sorted.{answers_always}
+use Rattle.cdm_table.proofs.Words.{rules, answers_always}
 use Rattle.cdm_table.specs.Comparison.{blocked_in, delay_in, is_refused}
 use Rattle.cdm_table.proofs.line.ranked.Goals as goal
 

@@ -1,5 +1,4 @@
-use Rattle.std.proofs.Common.{◌∙◌, ap}
-use Rattle.cdm_json.specs.Plans.{IsPlanLine, plan_line}
+use Rattle.cdm_table.proofs.Words.{◌∙◌, ap, IsPlanLine, plan_line}
 use Rattle.cdm_json.specs.declared.plan.PlanOf.TheVariants as of
 use Rattle.cdm_table.proofs.TableLemmas.{one_plans}
 use Rattle.cdm_table.proofs.plans.plans_json.Goals as goal

@@ -1,5 +1,4 @@
-use Rattle.std.proofs.Common.{rules, arith, ◌≡◌, ◌∙◌, ◌==◌, ◌++◌, true, List, [], ◌∷◌, length, refl, sym}
-use Rattle.std.proofs.lemmas.List.{take-append-drop}
+use Rattle.cdm_table.proofs.Words.{rules, arith, ◌≡◌, ◌∙◌, ◌==◌, ◌++◌, true, List, [], ◌∷◌, length, refl, sym, take-append-drop}
 use Rattle.cdm_table.proofs.LeftLemmas.{leaves_all, leaves_none, leaves_others}
 use Rattle.cdm_table.proofs.plans.push_scenarios.Goals as goal
 
@@ -20,7 +19,6 @@ scenarios-smaller g c = search rules
 
 pub scenarios-preserved : goal.scenarios-preserved
 scenarios-preserved g c =
-    leaves_others c.args.job.now.base.now c.args.scenarios.now c.args.text.now.items c.scenarios.left.now c.split_at.result.0.now c.split_at.result.1.now
-    c.scenarios.text.items c.push_all.new.text.items c.in_ok-answers.answers.items c.scenarios.invariant
+    leaves_others _ _ _ _ _ _ _ _ _ c.scenarios.invariant
     (sym (take-append-drop c.min.result c.scenarios.left.now) ∙ (λ i. sym c.split_at.ensures.front i ++ sym c.split_at.ensures.back i))
     c.in_ok-answers.ensures c.in_ok-push_all.ensures

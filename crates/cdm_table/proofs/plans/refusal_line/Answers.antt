@@ -1,7 +1,4 @@
-use Rattle.std.proofs.Common.{◌≡◌, ℕ, List, [], ◌∷◌}
-use Rattle.std.specs.Prelude.{codes}
-use Rattle.json.specs.Json.{Json, string}
-use Rattle.cdm_json.proofs.TokenLemmas.{line_written, more_parts, ok_then, one_member}
+use Rattle.cdm_table.proofs.Words.{◌≡◌, ℕ, List, [], ◌∷◌, codes, Json, string, line_written, more_parts, ok_then, one_member}
 use Rattle.cdm_table.specs.Plans.{refusal_line, refusal_members}
 use Rattle.cdm_table.proofs.plans.refusal_line.Goals as goal
 

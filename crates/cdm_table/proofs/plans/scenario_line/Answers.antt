@@ -1,11 +1,5 @@
-use Rattle.std.proofs.Common.{◌≡◌, ◌∙◌, [], Ok, Err, refl}
-use Rattle.cdm_report.specs.Counts.{counts_of}
-use Rattle.cdm_plan.specs.DayPlan.{IsDayPlan}
-use Rattle.cdm_scenario.specs.Outcome.{IsLaid}
-use Rattle.cdm_scenario.specs.Overlay.{with_updates}
+use Rattle.cdm_table.proofs.Words.{◌≡◌, ◌∙◌, [], Ok, refl, counts_of, IsDayPlan, IsLaid, with_updates, AreRows, IsPlanLine, plan_line}
 use Rattle.cdm_scenario.specs.declared.outcome.Outcome.TheVariants.{Planned, Refused}
-use Rattle.cdm_row.specs.Rows.{AreRows}
-use Rattle.cdm_json.specs.Plans.{IsPlanLine, plan_line}
 use Rattle.cdm_json.specs.declared.plan.PlanOf.TheVariants as of
 use Rattle.cdm_table.proofs.plans.scenario_line.Goals as goal
 
@@ -27,8 +21,5 @@ returns-in_ok-line-in-Ok c =
 
 pub returns-in_ok-line-in-Err : goal.returns-in_ok-line-in-Err
 returns-in_ok-line-in-Err c =
-    let number = c.in-Err.number in
-    let word = c.in-Err.word in
-    let laid : IsLaid c.args.base.now c.args.scenario.now.updates (Err (number, word)) =
-    rw (c.in-Err.is, c.updates.ensures.value) at c.in_ok-day.ensures in
-    (Refused number word, laid, rw c.name-name.ensures at c.in_ok-line-in-Err.ensures)
+    let laid = rw (c.in-Err.is, c.updates.ensures.value) at c.in_ok-day.ensures in
+    (Refused c.in-Err.number c.in-Err.word, laid, rw c.name-name.ensures at c.in_ok-line-in-Err.ensures)

@@ -1,7 +1,5 @@
-use Rattle.std.proofs.Common.{◌≤◌, ◌∙◌, ◌∷◌, List, ℕ, ap, arith, length, map, sym}
+use Rattle.cdm_table.proofs.Words.{◌≤◌, ◌∙◌, ◌∷◌, List, ℕ, ap, arith, length, map, sym, all_taken, field, value_of}
 use Rattle.std.proofs.lemmas.Simd.{map-map}
-use Rattle.cdm_plan.proofs.NameLemmas.{all_taken}
-use Rattle.cdm_row.specs.Columns.{field, value_of}
 use Rattle.cdm_table.proofs.row.set_flight.Goals as goal
 
 pub returns : goal.returns

@@ -1,5 +1,4 @@
-use Rattle.std.proofs.Common.{◌≡◌, ◌∷◌, map, take}
-use Rattle.cdm_row.specs.Columns.{field, value_of}
+use Rattle.cdm_table.proofs.Words.{◌≡◌, ◌∷◌, map, take, field, value_of}
 use Rattle.cdm_table.proofs.row.set_flight.Given as goal
 
 abbrev pub invariant-loop-value : goal.invariant-loop-value

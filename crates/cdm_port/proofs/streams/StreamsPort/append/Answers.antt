@@ -1,18 +1,13 @@
 use Rattle.std.proofs.Common.{◌≡◌, ◌++◌, ◌∷◌, [], take, rules}
-use Rattle.std.specs.Io.KnownBytes.{Appends}
 use Rattle.cdm_port.specs.declared.happening.Happening.TheVariants as happening
 use Rattle.cdm_port.proofs.WriteLemmas.{append_torn, on_err, one_more}
 use Rattle.cdm_port.proofs.streams.StreamsPort.append.Goals as goal
 
 pub returns-clause-err : goal.returns-clause-err
-returns-clause-err g c =
-    let count = c.append_counted-count.result.0 in
-    let is : c.answer.new.self.notes ≡ c.args.self.now.notes ++ (happening.Appended, take count c.args.bytes.now) ∷ [] = search rules in
-    on_err c.answer.result (append_torn count c.args.bytes.now c.args.self.now.notes c.answer.new.self.notes is)
+returns-clause-err g c = on_err c.answer.result (append_torn c.append_counted-count.result.0 _ _ _ (search rules))
 
 pub returns-clause-written : goal.returns-clause-written
 returns-clause-written g c =
     let part = take c.append_counted-count.result.0 c.args.bytes.now in
     let is : c.answer.new.self.notes ≡ c.args.self.now.notes ++ (happening.Appended, part) ∷ [] = search rules in
-    let wrote : Appends (g.J.Write.contents c.args.self.now.journal) (g.J.Write.contents c.answer.new.self.journal) part = search rules in
-    (part, one_more c.args.self.now.notes c.answer.new.self.notes (happening.Appended, part) is, wrote)
+    (part, one_more _ _ _ is, search rules)

@@ -8,25 +8,8 @@ pub returns-in-Planned-clause-writes : goal.returns-in-Planned-clause-writes
 unfolding summary_text
 returns-in-Planned-clause-writes g c = λ plain ok.
     let counts = c.in-Planned.counts in
-    let placed = right_number 6 counts.placed in
-    let delay = right_number 6 counts.delay in
-    let greatest = right_number 5 counts.greatest in
-    let late = right_number 5 counts.late in
-    let blocked = right_number 7 counts.blocked in
-    let moved = right_number 6 c.in-Planned.moved in
     has_written_of_eq _ _ _ _ _
-    (rw (
-      c.laid_out.ensures,
-      c.laid_out-in-Planned.ensures,
-      c.laid_out-in-Planned-2.ensures,
-      c.laid_out-in-Planned-3.ensures,
-      c.laid_out-in-Planned-4.ensures,
-      c.laid_out-in-Planned-5.ensures,
-      placed,
-      delay,
-      greatest,
-      late,
-      blocked,
-      moved,
-      c.in-Planned.is,
-    ) (six_columns _ _ _ _ _ _)) (c.write.ensures.writes plain ok)
+    (rw (c.laid_out.ensures, c.laid_out-in-Planned.ensures, c.laid_out-in-Planned-2.ensures, c.laid_out-in-Planned-3.ensures)
+    (rw (c.laid_out-in-Planned-4.ensures, c.laid_out-in-Planned-5.ensures, right_number 6 counts.placed, right_number 6 counts.delay)
+    (rw (right_number 5 counts.greatest, right_number 5 counts.late, right_number 7 counts.blocked, right_number 6 c.in-Planned.moved)
+    (rw c.in-Planned.is (six_columns _ _ _ _ _ _))))) (c.write.ensures.writes plain ok)
