@@ -19,6 +19,7 @@ use Rattle.cdm_flight.proofs.Lists.{apart_from_head, sorted_rest}
 use Rattle.cdm_plan.proofs.ListWords.{IsDistinct, IsDistinct-tail, contains_map, list_any, slice_get}
 use Rattle.cdm_plan.proofs.PlanWords.{is_same, name_cmp, same_is, same_name, tied_names}
 use Rattle.cdm_view.proofs.ListLemmas.{any_without}
+use Rattle.std.proofs.lemmas.Grind.{common_steps}
 
 -- what holds of no element that is passed holds of one of the rest, if of any
 any_left : {X : Type 0} (p q : X → Bool) (xs : List X) → ((x : X) → p x ≡ true → q x ≡ false)
@@ -97,19 +98,14 @@ module _ {X : Type 0} (name_of : X → List ℕ) (alike : X → X → Bool) wher
   -- the items that weren't there before, up to a place and with it
   pub new_next : (before items : List X) (place : ℕ) (x : X) → place < length items → get_or items place x ≡ x → (b : Bool) → has before x ≡ b
       → filter (λ t. not (has before t)) (take (place + 1) items) ≡ filter (λ t. not (has before t)) (take place items) ++ cond (not b) (x ∷ []) []
-  new_next before items place x within at b e =
-      let new : X → Bool = λ t. not (has before t) in
-      let here = (λ i. cond (new (at i)) (at i ∷ []) []) ∙ ap (λ v. cond (not v) (x ∷ []) []) e in
-      filter_more new items place x within ∙ ap (λ l. filter new (take place items) ++ l) here
+  new_next before items place x within at b e = grind (arith, common_steps, has, filter_more)
 
   module _ (unlike : (a b : X) → same_name (name_of a) (name_of b) ≡ false → alike a b ≡ false) where
     -- where the first doesn't come before a name, only the first can be the item of the name
     first_only : (left : List X) (x : X) → AreByName left
         → ((y : X) → slice_get left 0 ≡ Some y → is_below (name_of x) y ≡ false) → has left x ≡ has_first left x
     first_only [] x keeps first = refl
-    first_only (y ∷ left) x keeps first =
-        let later = any_without (λ u. alike u x) left (λ u i. unlike u x (later_others y left x keeps (first y refl) i.0 u i.1 i.2)) in
-        ap (λ b. alike y x || b) later ∙ or-false (alike y x)
+    first_only (y ∷ left) x keeps first = grind (arith, common_steps, any_without, later_others, or-false)
 
     module _ (before left items : List X) (keeps : AreByName items) (place : ℕ) (x : X) (within : place < length items)
         (at : get_or items place x ≡ x) (still : StillHas before left items place) where

@@ -11,6 +11,7 @@ use Rattle.std.proofs.lemmas.List.Sums.{sum_by-append}
 use Rattle.cdm_view.specs.Load.{is_between}
 use Rattle.cdm_view.proofs.ListLemmas.{any_with, any_without, filter_all, filter_none}
 use Rattle.cdm_view.specs.inner.Ends.{AreEnds}
+use Rattle.std.proofs.lemmas.Grind.{common_steps}
 
 -- as many numbers, and then as many more
 pub range-append : (a m n : ℕ) → range_with_len a (m + n) ≡ range_with_len a m ++ range_with_len (a + m) n
@@ -47,10 +48,7 @@ pub range-contains : (n k : ℕ) → k < n → Contains (range_with_len 0 n) k
 range-contains n k below = (k, rw length-range_with_len below, get_or-range_with_len 0 n k k below ∙ zero-add k)
 
 pub range-bounds : (a n k : ℕ) → Contains (range_with_len a n) k → (a ≤ k) × (k < a + n)
-range-bounds a n k (i, within, at) =
-    let short : i < n = rw length-range_with_len at within in
-    let same = sym (get_or-range_with_len a n i k short) ∙ at in
-    (omega arith, omega arith)
+range-bounds a n k (i, within, at) = grind (arith, common_steps, length-range_with_len, get_or-range_with_len)
 
 -- a number is between two that pass
 is_among : (test : ℕ → Bool) (n first k last : ℕ) → first ≤ k → k ≤ last → last < n → test first ≡ true
@@ -93,8 +91,8 @@ module _ (test : ℕ → Bool) (n from to : ℕ) (ends : AreEnds test n from to)
       let none = none_there (λ j. nat_le k j) (λ j h begun ended. let order = leb-true k j h in omega arith) in
       and_right _ _ none
 
-  pub between-is_range : filter (is_between test (range_with_len 0 n)) (range_with_len 0 n) ≡ range_with_len from (to - from)
-  between-is_range =
+  pub between_is_range : filter (is_between test (range_with_len 0 n)) (range_with_len 0 n) ≡ range_with_len from (to - from)
+  between_is_range =
       let passes = is_between test (range_with_len 0 n) in
       let order = ends.order in
       let bound = ends.within in

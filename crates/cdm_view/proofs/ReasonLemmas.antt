@@ -20,6 +20,7 @@ use Rattle.cdm_sequence.specs.declared.rule.Rule.TheVariants as rule
 use Rattle.cdm_view.specs.Reasons.{reason_at, Waiting, held_at, met_at}
 use Rattle.cdm_view.specs.Waits.{place_of, rule_of}
 use Rattle.cdm_view.specs.declared.reason.Reason.{Reason}
+use Rattle.std.proofs.lemmas.Grind.{common_steps}
 
 -- Lists.
 
@@ -93,10 +94,7 @@ module _ (w : Waiting) (m : ℕ) where
 
   -- one rule more
   pub and_next : (q : Rule) → KeepsBefore w m (place_of q) → Keeps w m q → KeepsBefore w m (suc (place_of q))
-  and_next q before here r below = elim (cases_lt (place_of r) (place_of q)) [
-    | inl less ↦ before r less
-    | inr other ↦ subst (Keeps w m) (one_place q r (omega arith)) here
-  ]
+  and_next q before here r below = grind (arith, common_steps, cases_lt, one_place)
 
   pub none_before : KeepsBefore w m 3
   none_before r below = grind arith

@@ -20,6 +20,7 @@ use Rattle.cdm_flight.specs.declared.flight.Status.TheVariants as status
 use Rattle.cdm_view.specs.declared.standing.Standing.{Standing}
 use Rattle.cdm_view.specs.declared.standing.Standing.TheVariants.{OnRunway, Blocked, Cancelled}
 use Rattle.cdm_view.specs.Standings.{AreStandings, cancelled, flight_name, is_cancelled, on_runway, standings_of}
+use Rattle.std.proofs.lemmas.Grind.{common_steps}
 
 -- Lists.
 
@@ -91,9 +92,7 @@ module _ (d : DayRecord) (plan : Plan) where
 
   -- what stands isn't cancelled
   stands_apart : (f : Flight) → stands f ≡ true → is_some (cancelled f) ≡ false
-  stands_apart f h =
-      let none : f.status ≡ status.Cancelled → stands f ≡ false = λ gone. nowhere f gone plan.runways in
-      grind arith
+  stands_apart f h = grind (arith, common_steps, stands, nowhere)
 
   module _ (own : IsDistinct same_name (runway_names d.airport)) (is : IsDayPlan d plan) where
     abbrev parts : Parts

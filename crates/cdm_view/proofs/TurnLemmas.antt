@@ -1,6 +1,6 @@
 -- A flight's turn: what the slots before it take, its earliest minute, and what blocks its target.
 use Rattle.std.proofs.Common.{◌≡◌, ℕ, Bool, true, false, List, [], ◌∷◌, ◌++◌, filter, map, Option, Some, None, refl}
-use Rattle.std.proofs.Common.{sym, ◌∙◌, ap, subst, suc, ◌+◌, ◌<◌, ◌≤◌, ◌/◌, ◌==◌, cond, arith}
+use Rattle.std.proofs.Common.{sym, ◌∙◌, ap, subst, suc, ◌+◌, ◌<◌, ◌≤◌, arith}
 use Rattle.std.proofs.lemmas.List.Elements.{filter-append}
 use Rattle.cdm_plan.proofs.ListWords.{Contains, IsPermutation, IsPermutation-map, filter_map, map-append}
 use Rattle.cdm_plan.proofs.ListWords.{filter_map-filter, filter_map_same, if_so, option_map}
@@ -26,6 +26,7 @@ use Rattle.cdm_sequence.specs.declared.rule.Rule.{Rule}
 use Rattle.cdm_sequence.specs.declared.rule.Rule.TheVariants as rule
 use Rattle.cdm_view.specs.Reasons.{Waiting, reason_at}
 use Rattle.cdm_view.specs.Waits.{place_of}
+use Rattle.std.proofs.lemmas.Grind.{common_steps}
 
 -- what passes a test of what elements give is given by those that pass another
 filter_given : {X Y : Type 0} (q : Y → Bool) (p : X → Bool) (h : X → Option Y) (xs : List X)
@@ -67,10 +68,7 @@ module _ (r : RunwayRules) (p : Placing) where
     -- in whatever order the slots stand
     pub earlier_taken : (slots : List Slot) → IsPermutation (fixed ++ filter_map slot_for targets) slots
         → IsPermutation (taken_before r (takeoffs r fixed) targets p t) (map (taken_as r) (filter earlier slots))
-    earlier_taken slots same =
-        let all = fixed ++ filter_map slot_for targets in
-        subst (λ (ts : List Taken). IsPermutation ts (map (taken_as r) (filter earlier slots))) earlier_take
-        (IsPermutation-map (taken_as r) (filter earlier all) (filter earlier slots) (IsPermutation-filter earlier all slots same))
+    earlier_taken slots same = grind (arith, common_steps, filter_map, slot_for, taken_as, earlier_take, IsPermutation-map, IsPermutation-filter)
 
 -- what is known of a flight's slot
 pub record IsPlaced (w : Waiting) (s : Slot) : Type 0 where
@@ -97,9 +95,7 @@ module _ (w : Waiting) (t : Target) (taken : List Taken) (turn : IsTurn w t take
 
   -- how full a cell is and whom the flight meets doesn't depend on the order of what is taken
   held_is : (k : ℕ) → held_in_cell w.rules.cell (taken_for w) k ≡ held_in_cell w.rules.cell taken k
-  held_is k =
-      sum_by-IsPermutation (λ (t : Taken). cond (t.minute / w.rules.cell == k / w.rules.cell) 1 0) taken (taken_for w)
-      turn.same
+  held_is k = grind (arith, common_steps, sum_by-IsPermutation, taken_for)
 
   spaced_for : (k : ℕ) → IsSpaced w.rules taken t.group k → IsSpacedFor w k
   spaced_for k spaced =
