@@ -1,18 +1,14 @@
 -- An update that cancels no flight leaves the cancelled ones.
-use Rattle.std.proofs.Common.{◌≡◌, ℕ, Bool, true, false, ◌||◌, List, [], ◌∷◌, ◌++◌, Option, None, Some, refl, sym, ◌∙◌, ap, filter}
-use Rattle.std.proofs.lemmas.Bool.{false_from_ne_true}
-use Rattle.cdm_flight.proofs.Lists.{list_any-push}
-use Rattle.cdm_plan.proofs.ListWords.{filter_map, filter_map-filter, if_so, list_any, option_and_then, option_map, option_map_or, option_or}
-use Rattle.cdm_plan.proofs.PlanWords.{AirportRows, DayRecord, Flight, Update, flight_of, if_passes, of_flight, reach_of}
-use Rattle.cdm_plan.proofs.PlanWords.{records_in, refusal_of, same_reach}
-use Rattle.cdm_plan.proofs.JournalFacts.{not_first}
-use Rattle.cdm_plan.proofs.KeptLemmas.{flights_same}
-use Rattle.cdm_flight.proofs.JournalLemmas.{same_name-refl, touching-push}
+use Rattle.std.proofs.Common.{◌≡◌, ℕ, Bool, true, false, ◌||◌, List, [], ◌∷◌, ◌++◌, Option, None, Some, refl, sym, ◌∙◌, ap, filter, arith}
+use Rattle.std.proofs.lemmas.{Bool.false_from_ne_true, Grind.common_steps}
+use Rattle.cdm_flight.proofs.{Lists.list_any-push, JournalLemmas.same_name-refl, JournalLemmas.touching-push}
 use Rattle.cdm_flight.specs.Journal.{is_cancel, record_with, status_from}
-use Rattle.cdm_flight.specs.declared.reach.Reach.TheVariants as reach
+use Rattle.cdm_plan.proofs.{JournalFacts.not_first, KeptLemmas.flights_same}
+use Rattle.cdm_plan.proofs.ListWords.{filter_map, filter_map-filter, if_so, list_any, option_and_then, option_map, option_map_or, option_or}
+use Rattle.cdm_plan.proofs.PlanWords.{AirportRows, DayRecord, Flight, Update, flight_of, if_passes, of_flight, reach_of, records_in, refusal_of}
+use Rattle.cdm_plan.proofs.PlanWords.{same_reach}
 use Rattle.cdm_view.specs.Standings.{cancelled, is_cancelled}
-use Rattle.std.proofs.Common.{arith}
-use Rattle.std.proofs.lemmas.Grind.{common_steps}
+use Rattle.cdm_flight.specs.declared.reach.Reach.TheVariants as reach
 
 abbrev is_off : Flight → Bool
 is_off f = is_cancelled f.status
@@ -35,7 +31,8 @@ none_cancelled g a k none = grind (arith, common_steps, is_off, option_map, by_s
 -- an update of a cancelled flight is refused
 not_ended : (g : AirportRows) (a : List Update) (u : Update) (k : List ℕ) → refusal_of g a u ≡ None → reach_of u ≡ reach.Flight k → has_cancel a k ≡ false
 unfolding refusal_of flight_of
-not_ended g a u k good e = grind (arith, common_steps, false_from_ne_true, has_cancel, not_first, option_map_or, option_or, option_map, option_and_then)
+not_ended g a u k good e =
+    grind (arith, common_steps, false_from_ne_true, has_cancel, not_first, option_map_or, option_or, option_map, option_and_then)
 
 -- the cancelled flights are those that pass the test
 only_off : (fs : List Flight) → filter_map cancelled (filter is_off fs) ≡ filter_map cancelled fs

@@ -1,15 +1,10 @@
 -- A minute has a cause exactly where it has a reason.
-use Rattle.std.proofs.Common.{ℕ, Bool, true, false, Option, Some, None}
-use Rattle.std.specs.Prelude.{◌↔◌, if◌then◌else◌}
-use Rattle.std.specs.Option.{IsSome}
-use Rattle.cdm_view.specs.Reasons.{Waiting, reason_at}
-use Rattle.cdm_view.specs.Causes.{cause_at}
-use Rattle.cdm_view.specs.declared.cause.Cause.{Cause}
-use Rattle.cdm_view.specs.declared.cause.Cause.TheVariants as cause
-use Rattle.cdm_view.specs.declared.reason.Reason.{Reason}
-use Rattle.cdm_view.specs.declared.reason.Reason.TheVariants as reason
-use Rattle.std.proofs.Common.{arith}
+use Rattle.std.proofs.Common.{ℕ, Bool, true, false, Option, Some, None, arith}
 use Rattle.std.proofs.lemmas.Grind.{common_steps}
+use Rattle.std.specs.{Prelude.◌↔◌, Prelude.if◌then◌else◌, Option.IsSome}
+use Rattle.cdm_view.specs.{Reasons.Waiting, Reasons.reason_at, Causes.cause_at, declared.cause.Cause.Cause, declared.reason.Reason.Reason}
+use Rattle.cdm_view.specs.declared.cause.Cause.TheVariants as cause
+use Rattle.cdm_view.specs.declared.reason.Reason.TheVariants as reason
 
 -- of the same tests, those of the first that asks one early and those of the second that asks it last find something in the same cases
 abbrev reason_by : Bool → Bool → Bool → Bool → Bool → Bool → Reason × Reason → Option Reason

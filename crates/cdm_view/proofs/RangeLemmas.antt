@@ -1,17 +1,12 @@
 -- Numbers one after another, and those among them that lie between numbers that pass a test.
-use Rattle.std.proofs.Common.{ℕ, suc, zero, ◌≡◌, ◌+◌, ◌-◌, ◌<◌, ◌≤◌, Bool, true, false, cond, List, [], ◌∷◌, ◌++◌, refl, sym, ap, ◌∙◌, arith, add-zero, zero-add}
-use Rattle.std.specs.Prelude.{◌&&◌, nat_le, filter}
-use Rattle.std.specs.List.{list_any, range_with_len, count_by, Contains, flat_map}
-use Rattle.std.proofs.lemmas.Bool.Decides.{nat_tests}
-use Rattle.std.proofs.lemmas.List.{append-nil, flat_map_more}
-use Rattle.std.proofs.lemmas.List.Elements.{filter-append}
-use Rattle.std.proofs.lemmas.Bool.{and_left, and_parts, and_right, false_from_ne_true, leb-true}
-use Rattle.std.proofs.lemmas.List.FromFn.{get_or-range_with_len, length-range_with_len}
-use Rattle.std.proofs.lemmas.List.Sums.{sum_by-append}
-use Rattle.cdm_view.specs.Load.{is_between}
+use Rattle.std.proofs.Common.{ℕ, suc, zero, ◌≡◌, ◌+◌, ◌-◌, ◌<◌, ◌≤◌, Bool, true, false, cond, List, [], ◌∷◌, ◌++◌, refl, sym, ap, ◌∙◌, arith}
+use Rattle.std.proofs.Common.{add-zero, zero-add}
+use Rattle.std.proofs.lemmas.{Bool.Decides.nat_tests, Bool.and_left, Bool.and_parts, Bool.and_right, Bool.false_from_ne_true, Bool.leb-true}
+use Rattle.std.proofs.lemmas.{List.append-nil, List.flat_map_more, List.Elements.filter-append, List.FromFn.get_or-range_with_len}
+use Rattle.std.proofs.lemmas.{List.FromFn.length-range_with_len, List.Sums.sum_by-append, Grind.common_steps}
+use Rattle.std.specs.{Prelude.◌&&◌, Prelude.nat_le, Prelude.filter, List.list_any, List.range_with_len, List.count_by, List.Contains, List.flat_map}
+use Rattle.cdm_view.specs.{Load.is_between, inner.Ends.AreEnds}
 use Rattle.cdm_view.proofs.ListLemmas.{any_with, any_without, filter_all, filter_none}
-use Rattle.cdm_view.specs.inner.Ends.{AreEnds}
-use Rattle.std.proofs.lemmas.Grind.{common_steps}
 
 -- as many numbers, and then as many more
 pub range-append : (a m n : ℕ) → range_with_len a (m + n) ≡ range_with_len a m ++ range_with_len (a + m) n

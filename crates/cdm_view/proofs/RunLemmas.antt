@@ -1,10 +1,8 @@
 -- Runs of minutes, and how one more minute changes them.
-use Rattle.std.proofs.Common.{◌≡◌, ℕ, ◌+◌, ◌<◌, ◌≤◌, List, [], ◌∷◌, ◌++◌, Option, Some, None, ◌⊎◌, inl, inr, ap, sym}
-use Rattle.std.proofs.Common.{◌∙◌, refl, subst, append_assoc, arith}
-use Rattle.cdm_view.specs.declared.reason.Reason.{Reason}
-use Rattle.cdm_view.specs.declared.runs.Run.{Run}
-use Rattle.cdm_view.specs.Runs.{AreRuns, IsNextRun}
+use Rattle.std.proofs.Common.{◌≡◌, ℕ, ◌+◌, ◌<◌, ◌≤◌, List, [], ◌∷◌, ◌++◌, Option, Some, None, ◌⊎◌, inl, inr, ap, sym, ◌∙◌, refl, subst, append_assoc}
+use Rattle.std.proofs.Common.{arith}
 use Rattle.std.proofs.lemmas.Grind.{common_steps}
+use Rattle.cdm_view.specs.{declared.reason.Reason.Reason, declared.runs.Run.Run, Runs.AreRuns, Runs.IsNextRun}
 
 -- There is one list of runs.
 
@@ -79,7 +77,8 @@ runs_behind : (told : ℕ → Option Reason) (m : ℕ) (r : Run) (next : List Ru
     → AreRuns told from (m + 1) (before ++ next)
 unfolding AreRuns
 runs_behind told m r next step from [] a = step from a
-runs_behind told m r next step from (p ∷ before) a = grind (arith, common_steps, some_minute, next_grows, runs_behind told m r next step (p.last + 1) before a.1)
+runs_behind told m r next step from (p ∷ before) a =
+    grind (arith, common_steps, some_minute, next_grows, runs_behind told m r next step (p.last + 1) before a.1)
 
 -- a new run behind the others
 pub runs_other : (told : ℕ → Option Reason) (from m : ℕ) (reason : Reason) (before : List Run) (r : Run) → AreRuns told from m (before ++ r ∷ []) → told m ≡ Some reason

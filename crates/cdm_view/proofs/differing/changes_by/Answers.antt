@@ -1,9 +1,7 @@
-use Rattle.cdm_plan.proofs.KeptLemmas.{same_elsewhere}
-use Rattle.cdm_plan.specs.Kept.{IsMade}
+use Rattle.cdm_plan.{proofs.KeptLemmas.same_elsewhere, specs.Kept.IsMade}
 use Rattle.cdm_view.proofs.ChangeLemmas.{changed_to, left_apart}
+use Rattle.std.proofs.{Common.arith, lemmas.Grind.common_steps}
 use Rattle.cdm_view.proofs.differing.changes_by.Goals as goal
-use Rattle.std.proofs.Common.{arith}
-use Rattle.std.proofs.lemmas.Grind.{common_steps}
 
 pub differing_plans-requires : goal.differing_plans-requires
 differing_plans-requires c =

@@ -1,7 +1,6 @@
 use Rattle.cdm_view.proofs.ChangeLemmas.{changed_to, left_apart}
+use Rattle.std.proofs.{Common.arith, lemmas.Grind.common_steps}
 use Rattle.cdm_view.proofs.differing.changes_to.Goals as goal
-use Rattle.std.proofs.Common.{arith}
-use Rattle.std.proofs.lemmas.Grind.{common_steps}
 
 pub changes_of-requires-clause-before : goal.changes_of-requires-clause-before
 changes_of-requires-clause-before g c =

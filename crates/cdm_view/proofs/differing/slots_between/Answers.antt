@@ -1,13 +1,9 @@
-use Rattle.std.proofs.Common.{◌≡◌, ◌∙◌, List, ℕ, ap, map, subst, sym}
-use Rattle.std.proofs.lemmas.Bool.{not-false}
+use Rattle.std.proofs.Common.{◌≡◌, ◌∙◌, List, ℕ, ap, map, subst, sym, arith}
+use Rattle.std.proofs.lemmas.{Bool.not-false, Grind.common_steps}
 use Rattle.cdm_plan.proofs.PlanWords.{RunwayPlan, same_is, same_name}
-use Rattle.cdm_view.specs.Standings.{on_runway}
-use Rattle.cdm_view.specs.declared.standing.Standing.TheVariants.{OnRunway}
-use Rattle.cdm_view.specs.inner.Left.{AreRests}
+use Rattle.cdm_view.specs.{Standings.on_runway, declared.standing.Standing.TheVariants.OnRunway, inner.Left.AreRests}
 use Rattle.cdm_view.proofs.ChangeLemmas.{rests_all, rests_map}
 use Rattle.cdm_view.proofs.differing.slots_between.Goals as goal
-use Rattle.std.proofs.Common.{arith}
-use Rattle.std.proofs.lemmas.Grind.{common_steps}
 
 pub returns-then-ne : goal.returns-then-ne
 returns-then-ne c = grind (arith, common_steps, rests_all)

@@ -1,7 +1,6 @@
-use Rattle.std.proofs.Common.{arith}
+use Rattle.std.proofs.{Common.arith, lemmas.Grind.common_steps}
 use Rattle.cdm_view.proofs.RangeLemmas.{numbers_more}
 use Rattle.cdm_view.proofs.loading.push_cells.Goals as goal
-use Rattle.std.proofs.lemmas.Grind.{common_steps}
 
 pub loop-cell-preserved : goal.loop-cell-preserved
 loop-cell-preserved c = grind (arith, common_steps, numbers_more)

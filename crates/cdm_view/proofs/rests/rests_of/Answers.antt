@@ -1,7 +1,6 @@
-use Rattle.std.proofs.Common.{arith}
+use Rattle.std.proofs.{Common.arith, lemmas.Grind.common_steps}
 use Rattle.cdm_view.proofs.ChangeLemmas.{rests_one, rests_other, rests_shared, rests_whole}
 use Rattle.cdm_view.proofs.rests.rests_of.Goals as goal
-use Rattle.std.proofs.lemmas.Grind.{common_steps}
 
 pub places-preserved-in-Equal : goal.places-preserved-in-Equal
 places-preserved-in-Equal g c = grind (arith, common_steps, rests_shared)

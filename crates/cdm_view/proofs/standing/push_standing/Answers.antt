@@ -1,9 +1,7 @@
-use Rattle.std.proofs.Common.{arith}
-use Rattle.std.proofs.lemmas.Grind.{common_steps}
+use Rattle.std.proofs.{Common.arith, lemmas.Grind.common_steps}
 use Rattle.cdm_plan.proofs.ListWords.{append-nil}
 use Rattle.cdm_report.proofs.Widths.{left_text}
-use Rattle.cdm_view.proofs.LoadLemmas.{left_short}
-use Rattle.cdm_view.specs.Standings.{standing_line}
+use Rattle.cdm_view.{proofs.LoadLemmas.left_short, specs.Standings.standing_line}
 use Rattle.cdm_view.proofs.standing.push_standing.Goals as goal
 
 pub returns-in-OnRunway : goal.returns-in-OnRunway

@@ -1,11 +1,8 @@
-use Rattle.std.proofs.Common.{map}
+use Rattle.std.proofs.{Common.map, Common.arith, lemmas.Grind.common_steps}
 use Rattle.cdm_plan.proofs.ListWords.{IsPermutation, IsPermutation-map, IsPermutation-trans}
 use Rattle.cdm_view.specs.Standings.{flight_name, standings_of}
-use Rattle.cdm_view.proofs.KnownLemmas.{each_stands}
-use Rattle.cdm_view.proofs.StandingLemmas.{one_standings, standings_apart}
+use Rattle.cdm_view.proofs.{KnownLemmas.each_stands, StandingLemmas.one_standings, StandingLemmas.standings_apart}
 use Rattle.cdm_view.proofs.standings.Standings.of.Goals as goal
-use Rattle.std.proofs.Common.{arith}
-use Rattle.std.proofs.lemmas.Grind.{common_steps}
 
 pub by_name-requires : goal.by_name-requires
 by_name-requires g c = grind (arith, common_steps, standings_apart)

@@ -1,12 +1,9 @@
 use Rattle.std.proofs.Common.{◌≡◌, ◌+◌, ◌∙◌, ap, ltb, take, arith, rules, tests}
-use Rattle.std.proofs.lemmas.Iterator.{YieldsList-from_slice}
-use Rattle.std.proofs.lemmas.Iterator.Consumers.{count_from_yields_List}
-use Rattle.std.proofs.lemmas.Iterator.Search.{YieldsList-from_take_while}
+use Rattle.std.proofs.lemmas.Iterator.{YieldsList-from_slice, Consumers.count_from_yields_List, Search.YieldsList-from_take_while}
 use Rattle.std.proofs.lemmas.List.Folds.{length-prefix_len}
 use Rattle.cdm_flight.specs.Spacing.{occupancy_of}
 use Rattle.cdm_sequence.specs.declared.slot.Slot.{Slot}
-use Rattle.cdm_view.specs.inner.Earlier.{met_among}
-use Rattle.cdm_view.proofs.EarlierLemmas.{met_before}
+use Rattle.cdm_view.{specs.inner.Earlier.met_among, proofs.EarlierLemmas.met_before}
 use Rattle.cdm_view.proofs.waiting.Waiting.before_end.Goals as goal
 
 pub returns : goal.returns

@@ -1,9 +1,6 @@
 use Rattle.std.proofs.Common.{◌∙◌, ap, drop, rules, tests}
-use Rattle.std.proofs.lemmas.Iterator.{YieldsList-from_slice}
-use Rattle.std.proofs.lemmas.Iterator.Consumers.{count_from_yields_List}
-use Rattle.std.proofs.lemmas.Iterator.Search.{YieldsList-from_take_while}
-use Rattle.std.proofs.lemmas.List.{take_rest}
-use Rattle.std.proofs.lemmas.List.Folds.{length-prefix_len}
+use Rattle.std.proofs.lemmas.Iterator.{YieldsList-from_slice, Consumers.count_from_yields_List, Search.YieldsList-from_take_while}
+use Rattle.std.proofs.lemmas.List.{take_rest, Folds.length-prefix_len}
 use Rattle.cdm_view.specs.inner.Earlier.{is_passed}
 use Rattle.cdm_view.proofs.waiting.Waiting.not_passed.Goals as goal
 
