@@ -1,14 +1,9 @@
-use Rattle.std.proofs.Common.{suc, zero, ◌≡◌, ◌≤◌, ◌<◌, ℕ, List, [], ◌∷◌, ◌++◌, length, take, map, sym, ap, ◌∙◌, subst, arith, length-append}
-use Rattle.std.proofs.lemmas.List.{take_all, map-append}
-use Rattle.std.proofs.lemmas.List.Elements.{All-append, All-nil}
-use Rattle.std.specs.List.{All}
-use Rattle.cdm_flight.specs.declared.update.Update.{Update}
-use Rattle.cdm_flight.specs.Journal.{AirportRows}
+use Rattle.std.proofs.Common.{◌≡◌, ◌≤◌, ◌<◌, ℕ, List, [], ◌∷◌, ◌++◌, length, take, map, sym, ap, ◌∙◌, subst, arith, length-append}
+use Rattle.std.proofs.lemmas.List.{take_all, map-append, Elements.All-nil, Elements.All-push}
+use Rattle.cdm_flight.specs.{declared.update.Update.Update, Journal.AirportRows}
 use Rattle.cdm_plan.specs.Day.{DayRecord}
-use Rattle.cdm_board.specs.History.{day_of}
-use Rattle.cdm_board.specs.declared.receipt.Entry.{Entry}
-use Rattle.cdm_board.specs.History.{Call, BoardRecord, board_of, journal_by, journal_of, IsLegal, IsAnswered, IsDesk, with_call}
-use Rattle.cdm_board.specs.Receipts.{IsBoard, entry_of}
+use Rattle.cdm_board.specs.{declared.receipt.Entry.Entry, Receipts.IsBoard, Receipts.entry_of}
+use Rattle.cdm_board.specs.History.{day_of, Call, BoardRecord, board_of, journal_by, journal_of, IsLegal, IsAnswered, IsDesk, with_call}
 use Rattle.cdm_board.proofs.Histories.{journal_of-snoc, IsLegal-snoc}
 
 pub IsBoard-new : (g : AirportRows) (a : List Update) → IsBoard g (take (length a) a) [] a
@@ -20,16 +15,12 @@ IsBoard-new g a = record {
   short = omega arith;
 }
 
-All-one : (d : ℕ) (c : Call) → IsDesk d → All (λ (e : ℕ × Call). IsDesk e.0) ((d, c) ∷ [])
-All-one d c desk zero x below = desk
-All-one d c desk (suc k) x below = absurd (omega arith)
-
 pub IsBoard-snoc : (g : AirportRows) (opening : List Update) (h : List (ℕ × Call)) (journal : List Update) (d : ℕ) (c : Call) → IsDesk d
     → length h < 4096 → IsAnswered g journal c → IsBoard g opening h journal → IsBoard g opening (h ++ (d, c) ∷ []) (journal_by g journal c)
 IsBoard-snoc g opening h journal d c desk room answered board = record {
   legal = IsLegal-snoc g opening h d c board.legal (subst (λ j. IsAnswered g j c) board.journal_is answered);
   journal_is = ap (λ j. journal_by g j c) board.journal_is ∙ sym (journal_of-snoc g opening h d c);
-  desks = All-append (λ (x : ℕ × Call). IsDesk x.0) h ((d, c) ∷ []) board.desks (All-one d c desk);
+  desks = All-push (λ (x : ℕ × Call). IsDesk x.0) h (d, c) board.desks desk;
   short = omega (arith, length-append h ((d, c) ∷ []));
 }
 

@@ -1,27 +1,19 @@
-use Rattle.std.proofs.Common.{subst, inl, inr, suc, ◌≡◌, ◌≢◌, ◌≤◌, ◌<◌, ◌+◌, ℕ, Bool, true, false, ◌==◌, List, [], ◌∷◌, refl, sym, ◌∙◌, arith, IsTrue, count_by}
-use Rattle.std.proofs.lemmas.Bool.{ne_eqb}
-use Rattle.std.proofs.lemmas.Bool.Decides.{leb_tells}
+use Rattle.std.proofs.Common.{inl, inr, ◌≡◌, ◌≤◌, ◌<◌, ◌+◌, ℕ, Bool, true, false, ◌==◌, List, [], ◌∷◌, refl, sym, ◌∙◌, arith, IsTrue, count_by}
+use Rattle.std.proofs.lemmas.{Bool.ne_eqb, Bool.Decides.leb_tells, List.Elements.All-tail}
 use Rattle.std.specs.List.{All}
 use Rattle.cdm_board.specs.History.{Call, DeskRecord, calls_of, receipts_of, IsDesk, IsMerge}
-
-All-tail : {X : Type 0} (P : X → Type 0) → (x : X) (xs : List X) → All P (x ∷ xs) → All P xs
-All-tail P x xs h k d lt = h (suc k) d (omega arith)
 
 calls-none : (d : ℕ) (h : List (ℕ × Call)) → All (λ (e : ℕ × Call). IsDesk e.0) h → 16 < d → calls_of d h ≡ []
 calls-none d [] all far = refl
 calls-none d (e ∷ es) all far =
     let here : IsDesk e.0 = all 0 e (omega arith) in
-    let apart : e.0 ≢ d = omega arith in
-    let b : (e.0 == d) ≡ false = ne_eqb e.0 d apart in
-    rw b (calls-none d es (All-tail (λ (x : ℕ × Call). IsDesk x.0) e es all) far)
+    rw (ne_eqb e.0 d (omega arith)) (calls-none d es (All-tail (λ (x : ℕ × Call). IsDesk x.0) e es all) far)
 
 receipts-none : (d n : ℕ) (ks : List DeskRecord) → All (λ (k : DeskRecord). (1 ≤ k.number) × (k.number ≤ n)) ks → n < d → receipts_of d ks ≡ []
 receipts-none d n [] all far = refl
 receipts-none d n (k ∷ ks) all far =
     let here : (1 ≤ k.number) × (k.number ≤ n) = all 0 k (omega arith) in
-    let apart : k.number ≢ d = omega arith in
-    let b : (k.number == d) ≡ false = ne_eqb k.number d apart in
-    rw b (receipts-none d n ks (All-tail (λ (x : DeskRecord). (1 ≤ x.number) × (x.number ≤ n)) k ks all) far)
+    rw (ne_eqb k.number d (omega arith)) (receipts-none d n ks (All-tail (λ (x : DeskRecord). (1 ≤ x.number) × (x.number ≤ n)) k ks all) far)
 
 -- where the numbers up to 16 agree, all do
 pub merge-all : (n : ℕ) (h : List (ℕ × Call)) (ks : List DeskRecord) → n ≤ 16 → All (λ (e : ℕ × Call). IsDesk e.0) h
@@ -42,7 +34,6 @@ once-more n ks c is one below d low high =
     elim (leb_tells d n) [
       | inl before ↦ below d low before.1
       | inr after ↦
-          (let e : n + 1 ≡ d = omega (arith, after.1) in
-          let P : ℕ → Type 0 = λ m. count_by (λ (k : DeskRecord). k.number == m) ks ≡ 1 in
-          subst P e (sym is ∙ one))
+          (let e : d ≡ n + 1 = omega (arith, after.1) in
+          rw e (sym is ∙ one))
     ]

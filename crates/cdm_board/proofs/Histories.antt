@@ -1,7 +1,6 @@
 -- Histories that grow by one call.
 use Rattle.std.proofs.Common.{◌≡◌, ℕ, List, [], ◌∷◌, ◌++◌, refl}
-use Rattle.cdm_flight.specs.declared.update.Update.{Update}
-use Rattle.cdm_flight.specs.Journal.{AirportRows}
+use Rattle.cdm_flight.specs.{declared.update.Update.Update, Journal.AirportRows}
 use Rattle.cdm_board.specs.History.{Call, journal_by, journal_of, IsLegal, IsAnswered}
 
 pub journal_of-snoc : (g : AirportRows) (a : List Update) (h : List (ℕ × Call)) (d : ℕ) (c : Call) → journal_of g a (h ++ (d, c) ∷ []) ≡ journal_by g (journal_of g a h) c

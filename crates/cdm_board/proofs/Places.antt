@@ -1,10 +1,9 @@
-use Rattle.std.proofs.Common.{suc, zero, ◌≡◌, ◌≢◌, ◌≤◌, ◌<◌, ◌+◌, ℕ, true, false, ◌==◌, Some, None, List, [], ◌∷◌, ◌++◌, length, take, drop, map, get_or, refl, sym, ap, ◌∙◌, arith, add-one, append_assoc}
-use Rattle.std.proofs.lemmas.List.{at_drop_more, append-nil, take_all}
-use Rattle.std.proofs.lemmas.Bool.{eq-eqb, ne_eqb}
+use Rattle.std.proofs.Common.{suc, zero, ◌≡◌, ◌≢◌, ◌≤◌, ◌<◌, ◌+◌, ℕ, Some, None, List, [], ◌∷◌, ◌++◌, length, take, drop, map}
+use Rattle.std.proofs.Common.{get_or, refl, sym, ap, ◌∙◌, arith, add-one, append_assoc}
+use Rattle.std.proofs.lemmas.{List.at_drop_more, Bool.eq-eqb, Bool.ne_eqb}
 use Rattle.std.specs.List.{slice_get}
-use Rattle.cdm_board.specs.declared.receipt.Entry.{Entry}
+use Rattle.cdm_board.specs.{declared.receipt.Entry.Entry, Receipts.entry_of, Receipts.call_of}
 use Rattle.cdm_board.specs.History.{Call, calls_of, IsFirstDifference}
-use Rattle.cdm_board.specs.Receipts.{entry_of, call_of}
 
 take-with : (ys : List Call) (n : ℕ) (c : Call) → slice_get ys n ≡ Some c → take (suc n) ys ≡ take n ys ++ c ∷ []
 take-with [] n c e = cc
@@ -47,19 +46,14 @@ pub place-short : (xs ys : List Call) (n : ℕ) → n < length ys → xs ≡ tak
 place-short xs ys n lt e =
     (n, refl, ap (take n) e ∙ take-seam ys [] n (omega arith), λ same. get-some ys n lt (sym same ∙ (ap (λ zs. slice_get zs n) e ∙ get-none ys n)))
 
-pub place-none : (xs ys : List Call) (n : ℕ) → length ys ≤ n → xs ≡ take n ys ++ [] → xs ≡ ys
-place-none xs ys n le e = e ∙ (append-nil (take n ys) ∙ take_all n ys le)
-
 -- the calls of a desk, one entry on
 pub calls-here : (d : ℕ) (es : List Entry) (i : ℕ) (e : Entry) → i < length es → e ≡ get_or es i e → e.desk ≡ d
     → calls_of d (map entry_of (drop i es)) ≡ call_of e.receipt ∷ calls_of d (map entry_of (drop (i + 1) es))
 calls-here d es i e lt item here =
     let F : List Entry → List Call = λ l. calls_of d (map entry_of l) in
-    let b : (e.desk == d) ≡ true = eq-eqb e.desk d here in
-    at_drop_more F es i e lt ∙ (ap (λ (x : Entry). F (x ∷ drop (i + 1) es)) (sym item) ∙ rw b refl)
+    at_drop_more F es i e lt ∙ (ap (λ (x : Entry). F (x ∷ drop (i + 1) es)) (sym item) ∙ rw (eq-eqb e.desk d here) refl)
 
 pub calls-past : (d : ℕ) (es : List Entry) (i : ℕ) (e : Entry) → i < length es → e ≡ get_or es i e → e.desk ≢ d → calls_of d (map entry_of (drop i es)) ≡ calls_of d (map entry_of (drop (i + 1) es))
 calls-past d es i e lt item past =
     let F : List Entry → List Call = λ l. calls_of d (map entry_of l) in
-    let b : (e.desk == d) ≡ false = ne_eqb e.desk d past in
-    at_drop_more F es i e lt ∙ (ap (λ (x : Entry). F (x ∷ drop (i + 1) es)) (sym item) ∙ rw b refl)
+    at_drop_more F es i e lt ∙ (ap (λ (x : Entry). F (x ∷ drop (i + 1) es)) (sym item) ∙ rw (ne_eqb e.desk d past) refl)

@@ -1,8 +1,6 @@
 -- Scenarios and what comes of them, place by place.
-use Rattle.std.proofs.Common.{◌≡◌, ℕ, List, Some}
-use Rattle.std.specs.List.{AllZip, slice_get}
-use Rattle.std.specs.Option.{IsSomeAnd}
-use Rattle.std.proofs.lemmas.Slice.Zip.{AllZip-left}
+use Rattle.std.proofs.{Common.◌≡◌, Common.ℕ, Common.List, Common.Some, lemmas.Slice.Zip.AllZip-left}
+use Rattle.std.specs.{List.AllZip, List.slice_get, Option.IsSomeAnd}
 
 -- what holds place by place holds of the items of a place
 pub zip_at : {A B : Type 0} (R : A → B → Type 0) (xs : List A) (ys : List B) (k : ℕ) (x : A) (y : B) → AllZip R xs ys

@@ -1,17 +1,11 @@
 -- What spans have, and the hours round them.
 use Rattle.std.proofs.Common.{◌≡◌, ◌∙◌, ◌++◌, ◌+◌, ◌≤◌, ℕ, List, [], length, take, Some, sym, ap, subst}
-use Rattle.std.specs.Prelude.{All, slice_get}
-use Rattle.std.specs.List.{cons_option}
 use Rattle.std.proofs.lemmas.List.Elements.{All-push, All-weaker}
+use Rattle.std.specs.{Prelude.All, Prelude.slice_get, List.cons_option}
 use Rattle.cdm_plan.proofs.NameLemmas.{all_taken, take-next}
-use Rattle.cdm_scenario.specs.declared.outcome.Outcome.{Outcome}
-use Rattle.cdm_scenario.specs.declared.outcome.Outcome.TheVariants.{Planned, Refused}
-use Rattle.cdm_sequence.specs.declared.plan.Plan.{Plan}
-use Rattle.cdm_sequence.specs.declared.plan.RunwayPlan.{RunwayPlan}
-use Rattle.cdm_sequence.specs.declared.slot.Slot.{Slot}
-use Rattle.cdm_picture.specs.Places.{HaveTakeOffs, IsWithin}
-use Rattle.cdm_picture.specs.declared.hours.Hours.{Hours}
-use Rattle.cdm_picture.specs.declared.spans.Span.{Span}
+use Rattle.cdm_scenario.specs.declared.outcome.Outcome.{Outcome, TheVariants.Planned, TheVariants.Refused}
+use Rattle.cdm_sequence.specs.declared.{plan.Plan.Plan, plan.RunwayPlan.RunwayPlan, slot.Slot.Slot}
+use Rattle.cdm_picture.specs.{Places.HaveTakeOffs, Places.IsWithin, declared.hours.Hours.Hours, declared.spans.Span.Span}
 use Rattle.cdm_picture.specs.inner.Spans.{Has, HasOutcome, HasPlan, HasSlots, HaveOutcome, Keeps}
 
 -- what holds of the first elements, and then of one more

@@ -1,17 +1,11 @@
 -- Rows that `==` finds equal are equal, and only those.
-use Rattle.std.proofs.Common.{◌≡◌, rules}
-use Rattle.std.specs.Bool.{Decides}
-use Rattle.std.specs.Prelude.{nat_eq}
-use Rattle.std.proofs.lemmas.Bool.Decides.{Decides-eqb}
+use Rattle.std.{proofs.Common.◌≡◌, proofs.Common.rules, proofs.lemmas.Bool.Decides.Decides-eqb, specs.Bool.Decides, specs.Prelude.nat_eq}
 use Rattle.cdm_plan.proofs.PlanWords.{same_name}
+use Rattle.cdm_sequence.{specs.declared.rule.Rule.Rule, proofs.EqualLemmas.also, proofs.EqualLemmas.any_decide, proofs.EqualLemmas.decide_by}
+use Rattle.cdm_sequence.{proofs.EqualLemmas.groups_decide, proofs.EqualLemmas.times_decide, proofs.OrderLemmas.names_decide}
+use Rattle.cdm_row.specs.{declared.row.Row.Row, declared.row.RowStatus.RowStatus, Changed.same_row}
 use Rattle.cdm_sequence.specs.contracts.rule.RulePartialEq.TheImpl as rule_eq
-use Rattle.cdm_sequence.specs.declared.rule.Rule.{Rule}
-use Rattle.cdm_sequence.proofs.EqualLemmas.{also, any_decide, decide_by, groups_decide, times_decide}
-use Rattle.cdm_sequence.proofs.OrderLemmas.{names_decide}
 use Rattle.cdm_row.specs.contracts.row.RowStatusPartialEq.TheImpl as status_eq
-use Rattle.cdm_row.specs.declared.row.Row.{Row}
-use Rattle.cdm_row.specs.declared.row.RowStatus.{RowStatus}
-use Rattle.cdm_row.specs.Changed.{same_row}
 
 statuses_decide : (a b : RowStatus) → Decides ((status_eq.ghosts).eq a b) (a ≡ b)
 statuses_decide a b = search rules

@@ -1,25 +1,18 @@
 -- Who puts the changed Rows over those that he had has all Rows.
-use Rattle.std.proofs.Common.{◌≡◌, ◌∙◌, ℕ, Bool, true, false, List, ◌++◌, Option, None, Some, refl, sym, ap, subst, not}
-use Rattle.std.specs.Prelude.{Contains}
-use Rattle.std.specs.List.{IsDistinct, find}
-use Rattle.std.specs.Option.{option_or}
-use Rattle.std.proofs.lemmas.Bool.{false≢true}
-use Rattle.std.proofs.lemmas.List.Elements.{All-contains, Contains-append_left, filter_map-append, filter_passes}
-use Rattle.std.proofs.lemmas.List.Sorted.{Contains-permutation, IsPermutation-sym}
-use Rattle.cdm_flight.proofs.Lists.{contains_all, contains_from_map, contains_kept, contains_map, distinct_filter, distinct_left, list_any-find, one_of_key}
-use Rattle.cdm_flight.specs.Names.{same_name}
-use Rattle.cdm_flight.specs.declared.update.Update.{Update}
-use Rattle.cdm_plan.proofs.ListWords.{IsDistinct-IsPermutation, is_some}
+use Rattle.std.proofs.Common.{◌≡◌, ◌∙◌, ℕ, Bool, true, false, List, ◌++◌, Option, None, Some, refl, sym, ap, subst, not, arith}
+use Rattle.std.proofs.lemmas.{Bool.false≢true, List.Elements.All-contains, List.Elements.Contains-append_left, List.Elements.filter_map-append}
+use Rattle.std.proofs.lemmas.{List.Elements.filter_passes, List.Sorted.Contains-permutation, List.Sorted.IsPermutation-sym, Grind.common_steps}
+use Rattle.std.specs.{Prelude.Contains, List.IsDistinct, List.find, Option.option_or}
+use Rattle.cdm_flight.proofs.Lists.{contains_all, contains_from_map, contains_kept, contains_map, distinct_filter, distinct_left, list_any-find}
+use Rattle.cdm_flight.proofs.Lists.{one_of_key}
+use Rattle.cdm_flight.specs.{Names.same_name, declared.update.Update.Update}
+use Rattle.cdm_plan.proofs.{ListWords.IsDistinct-IsPermutation, ListWords.is_some, PlanWords.is_same, PlanWords.same_flips, PlanWords.same_is}
 use Rattle.cdm_plan.proofs.NameLemmas.{find_none, find_only, find_some}
-use Rattle.cdm_plan.proofs.PlanWords.{is_same, same_flips, same_is}
-use Rattle.cdm_plan.specs.Day.{DayRecord, flights_in}
-use Rattle.cdm_plan.specs.Sound.{IsSound}
+use Rattle.cdm_plan.specs.{Day.DayRecord, Day.flights_in, Sound.IsSound}
 use Rattle.cdm_sequence.specs.declared.plan.Plan.{Plan}
+use Rattle.cdm_row.specs.{Rows.AreRows, declared.row.Row.Row}
 use Rattle.cdm_row.specs.Changed.{Suffice, changed_rows, has_row, row_named, row_put_over, same_row}
-use Rattle.cdm_row.specs.Rows.{AreRows}
-use Rattle.cdm_row.specs.declared.row.Row.{Row}
-use Rattle.cdm_row.proofs.EqualRows.{rows_decide}
-use Rattle.cdm_row.proofs.RowLemmas.{flights, one_row}
+use Rattle.cdm_row.proofs.{EqualRows.rows_decide, RowLemmas.flights, RowLemmas.one_row}
 
 -- it finds nothing where none passes
 nothing_found : {X : Type 0} (p : X → Bool) (xs : List X) → ((x : X) → Contains xs x → p x ≡ true → ⊥) → find p xs ≡ None
@@ -42,13 +35,7 @@ module _ (rows : List Row) (own : IsDistinct same_name (flights rows)) (name : L
 
 -- one of the Rows that has another is that one
 had_itself : (had : List Row) (r : Row) → has_row had r ≡ true → Contains had r
-had_itself had r h = by (find (λ row. same_row row r) had) refl
-  where
-    by : (o : Option Row) → find (λ row. same_row row r) had ≡ o → Contains had r
-    by None e = absurd (false≢true (sym (list_any-find (λ row. same_row row r) had ∙ ap is_some e) ∙ h))
-    by (Some a) e =
-        let there = find_some (λ row. same_row row r) had a e in
-        subst (Contains had) ((rows_decide a r).0 there.1) there.0
+had_itself had r h = grind (arith, common_steps, false≢true, list_any-find, is_some, find_some, rows_decide)
 
 module _ (had after : List Row) (own : IsDistinct same_name (flights had)) (own_after : IsDistinct same_name (flights after))
     (stays : (name : List ℕ) → Contains (flights had) name → Contains (flights after) name) where
@@ -64,9 +51,7 @@ module _ (had after : List Row) (own : IsDistinct same_name (flights had)) (own_
   module _ (name : List ℕ) where
     -- a flight that has a Row after
     with_row : (r : Row) → Contains after r → same_name r.flight name ≡ true → (b : Bool) → has_row had r ≡ b → row_put_over had changed name ≡ Some r
-    with_row r i h false e =
-        ap (λ o. option_or o (row_named had name))
-        (found changed (distinct_filter same_name (λ (x : Row). x.flight) new after own_after) name r (contains_kept new after r i (ap not e)) h)
+    with_row r i h false e = grind (arith, common_steps, found, changed, distinct_filter, new, contains_kept)
     with_row r i h true e =
         let none = nothing_found (λ (row : Row). same_name row.flight name) changed (λ x j k.
         let same : x ≡ r = one_named after own_after name x r (contains_all new after x j) i k h in

@@ -2,10 +2,8 @@
 use Rattle.std.proofs.Common.{◌≡◌, ℕ, false, List, sym, ◌∙◌, ap}
 use Rattle.std.proofs.lemmas.Bool.{false_from_ne_true, false≢true}
 use Rattle.cdm_plan.proofs.PlanWords.{is_same, same_name}
+use Rattle.cdm_row.{specs.Changed.same_row, specs.declared.row.Row.Row, proofs.EqualRows.rows_decide}
 use Rattle.cdm_view.proofs.PassedLemmas as passed
-use Rattle.cdm_row.specs.Changed.{same_row}
-use Rattle.cdm_row.specs.declared.row.Row.{Row}
-use Rattle.cdm_row.proofs.EqualRows.{rows_decide}
 
 -- Rows of two flights are two
 pub unlike : (a b : Row) → same_name a.flight b.flight ≡ false → same_row a b ≡ false

@@ -1,30 +1,19 @@
 -- Each known flight has one Row, and the Rows are by name.
-use Rattle.std.proofs.Common.{◌≡◌, ◌∙◌, ◌+◌, ◌<◌, ℕ, true, List, [], ◌∷◌, ◌++◌, Option, None, Some, refl, sym, ap, subst, arith, get_or, length, map, take}
+use Rattle.std.proofs.Common.{◌≡◌, ◌∙◌, ◌+◌, ◌<◌, ℕ, true, List, [], ◌∷◌, ◌++◌, Option, None, Some, refl, sym, ap, subst, arith, get_or, length, map}
+use Rattle.std.proofs.Common.{take}
+use Rattle.std.proofs.lemmas.{Bool.false≢true, Grind.common_steps}
+use Rattle.std.proofs.lemmas.List.{get_or-map, length-map, Elements.filter_map-append, Sorted.Contains-permutation, Sorted.IsPermutation-sym}
+use Rattle.std.specs.{List.IsDistinct, List.cons_option, List.filter_map, Option.option_map, Ordering.is_lt}
 use Rattle.std.specs.Prelude.{Contains, IsPermutation, IsSortedByKey, is_some, slice_get}
-use Rattle.std.specs.List.{IsDistinct, cons_option, filter_map}
-use Rattle.std.specs.Option.{option_map}
-use Rattle.std.specs.Ordering.{is_lt}
-use Rattle.std.proofs.lemmas.Bool.{false≢true}
-use Rattle.std.proofs.lemmas.List.{get_or-map, length-map}
-use Rattle.std.proofs.lemmas.List.Elements.{filter_map-append}
-use Rattle.std.proofs.lemmas.List.Sorted.{Contains-permutation, IsPermutation-sym}
 use Rattle.cdm_flight.proofs.Lists.{contains_head, contains_map, contains_tail}
-use Rattle.cdm_flight.specs.Journal.{flight_of}
-use Rattle.cdm_flight.specs.Names.{name_cmp, same_name}
-use Rattle.cdm_flight.specs.declared.flight.Flight.{Flight}
+use Rattle.cdm_flight.specs.{Journal.flight_of, Names.name_cmp, Names.same_name, declared.flight.Flight.Flight}
 use Rattle.cdm_sequence.specs.declared.plan.Plan.{Plan}
-use Rattle.cdm_plan.specs.Airport.{runway_names}
-use Rattle.cdm_plan.specs.Day.{DayRecord, flights_in}
-use Rattle.cdm_plan.specs.DayPlan.{IsDayPlan}
-use Rattle.cdm_plan.proofs.DayPlanLemmas.{record_name}
-use Rattle.cdm_plan.proofs.NameLemmas.{take-next}
+use Rattle.cdm_plan.specs.{Airport.runway_names, Day.DayRecord, Day.flights_in, DayPlan.IsDayPlan}
+use Rattle.cdm_plan.proofs.{DayPlanLemmas.record_name, NameLemmas.take-next}
 use Rattle.cdm_view.specs.Standings.{AreStandings, KeepsFlights, flight_name}
-use Rattle.cdm_view.specs.declared.standing.Standing.{Standing}
-use Rattle.cdm_view.specs.declared.standing.Standing.TheVariants.{Cancelled}
-use Rattle.cdm_view.proofs.KnownLemmas.{each_recorded}
-use Rattle.cdm_view.proofs.StandingLemmas.{one_standings}
-use Rattle.cdm_row.specs.Rows.{AreRows, KeepsRows, row_of, standing_row}
-use Rattle.cdm_row.specs.declared.row.Row.{Row}
+use Rattle.cdm_view.specs.declared.standing.Standing.{Standing, TheVariants.Cancelled}
+use Rattle.cdm_view.proofs.{KnownLemmas.each_recorded, StandingLemmas.one_standings}
+use Rattle.cdm_row.specs.{Rows.AreRows, Rows.KeepsRows, Rows.row_of, Rows.standing_row, declared.row.Row.Row}
 
 abbrev pub flights : List Row → List (List ℕ)
 flights rows = map (λ row. row.flight) rows
@@ -36,18 +25,11 @@ module _ (d : DayRecord) where
   -- the Row of a known flight is its own
   named : (s : Standing) (rest : List Row) → Known s → flights (cons_option (standing_row d s) rest) ≡ flight_name s ∷ flights rest
   unfolding row_of
-  named s rest known = by (flight_of d.airport d.journal (flight_name s)) refl known
-    where
-      by : (o : Option Flight) → flight_of d.airport d.journal (flight_name s) ≡ o → is_some o ≡ true
-          → flights (cons_option (option_map (λ f. row_of d f s) o) rest) ≡ flight_name s ∷ flights rest
-      by None e h = absurd (false≢true h)
-      by (Some f) e h = ap (λ n. n ∷ flights rest) (record_name d.airport d.journal (flight_name s) f e)
+  named s rest known = grind (arith, common_steps, flights, false≢true, record_name)
 
   all_named : (standings : List Standing) → ((s : Standing) → Contains standings s → Known s) → flights (filter_map (standing_row d) standings) ≡ map flight_name standings
   all_named [] known = refl
-  all_named (s ∷ later) known =
-      named s (filter_map (standing_row d) later) (known s (contains_head s later))
-      ∙ ap (λ ns. flight_name s ∷ ns) (all_named later (λ t i. known t (contains_tail s later t i)))
+  all_named (s ∷ later) known = grind (arith, common_steps, named, contains_head, contains_tail, all_named later (λ t i. known t (contains_tail s later t i)))
 
   pub rows_named : (plan : Plan) (standings : List Standing) → AreStandings d plan standings
       → flights (filter_map (standing_row d) standings) ≡ map flight_name standings
@@ -63,9 +45,7 @@ module _ (d : DayRecord) where
   -- the Rows of one standing more
   pub rows_next : (standings : List Standing) (k : ℕ) (s : Standing) → slice_get standings k ≡ Some s
       → filter_map (standing_row d) (take (k + 1) standings) ≡ filter_map (standing_row d) (take k standings) ++ cons_option (standing_row d s) []
-  rows_next standings k s at =
-      ap (filter_map (standing_row d)) (take-next standings k ∙ ap (λ o. take k standings ++ cons_option o []) at)
-      ∙ filter_map-append (standing_row d) (take k standings) (s ∷ [])
+  rows_next standings k s at = grind (arith, common_steps, take-next, filter_map-append)
 
 -- Rows of the flights of standings by name are by name
 sorted_named : (standings : List Standing) (rows : List Row) → flights rows ≡ map flight_name standings

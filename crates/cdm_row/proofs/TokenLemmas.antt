@@ -1,18 +1,14 @@
 -- Objects and arrays, written token by token.
-use Rattle.std.proofs.Common.{◌≡◌, ◌∙◌, ◌+◌, ◌++◌, ℕ, zero, suc, List, [], ◌∷◌, Some, append_assoc, refl, sym, ap, map, take, arith, get_or, length, ◌<◌}
-use Rattle.std.specs.Prelude.{flat_map, slice_get}
-use Rattle.std.specs.List.{cons_option}
-use Rattle.std.proofs.lemmas.Grind.{flat_map-append}
-use Rattle.std.proofs.lemmas.List.{append-nil, get_or-map, length-map}
-use Rattle.std.proofs.lemmas.Option.{slice_get-get_or}
-use Rattle.json.specs.Json.{Json}
+use Rattle.std.proofs.Common.{◌≡◌, ◌∙◌, ◌+◌, ◌++◌, ℕ, zero, suc, List, [], ◌∷◌, Some, append_assoc, refl, sym, ap, map, take, arith, get_or, length}
+use Rattle.std.proofs.Common.{◌<◌}
+use Rattle.std.proofs.lemmas.{Grind.flat_map-append, Grind.common_steps, List.append-nil, List.get_or-map, List.length-map, Option.slice_get-get_or}
+use Rattle.std.specs.{Prelude.flat_map, Prelude.slice_get, List.cons_option}
+use Rattle.json.specs.{Json.Json, Tree.items_tokens, Tree.json_tokens, Tree.members_tokens}
 use Rattle.json.specs.Token.{Token, begin_array, begin_object, end_array, end_object}
-use Rattle.json.specs.Tree.{items_tokens, json_tokens, members_tokens}
 use Rattle.cdm_plan.proofs.NameLemmas.{take-next}
 use Rattle.cdm_time.specs.declared.calendar.CalendarDate.{CalendarDate}
-use Rattle.cdm_row.specs.Columns.{Value, column_names, columns, values}
+use Rattle.cdm_row.specs.{Columns.Value, Columns.column_names, Columns.columns, Columns.values, declared.row.Row.Row}
 use Rattle.cdm_row.specs.Json.{array_of, items_of, json_value, member_tokens, members_of, object_of, row_members}
-use Rattle.cdm_row.specs.declared.row.Row.{Row}
 
 members_written : (ms : List (List ℕ × Json)) → members_tokens (members_of ms) ≡ flat_map member_tokens ms ++ end_object ∷ []
 members_written [] = refl
@@ -27,38 +23,23 @@ items_written (j ∷ js) =
 -- an object is written where its bracket, its members and its end are
 pub object_written : (old begun more ended : List Token) (ms : List (List ℕ × Json)) → begun ≡ old ++ begin_object ∷ []
     → more ≡ begun ++ flat_map member_tokens ms → ended ≡ more ++ end_object ∷ [] → ended ≡ old ++ json_tokens (object_of ms)
-object_written old begun more ended ms first then last =
-    last ∙ ap (λ ts. ts ++ end_object ∷ []) then
-    ∙ append_assoc begun (flat_map member_tokens ms) (end_object ∷ [])
-    ∙ (λ i. first i ++ sym (members_written ms) i)
-    ∙ append_assoc old (begin_object ∷ []) (members_tokens (members_of ms))
+object_written old begun more ended ms first then last = grind (arith, common_steps, members_written)
 
 -- and an array
 pub array_written : (old begun more ended : List Token) (js : List Json) → begun ≡ old ++ begin_array ∷ []
     → more ≡ begun ++ flat_map json_tokens js → ended ≡ more ++ end_array ∷ [] → ended ≡ old ++ json_tokens (array_of js)
-array_written old begun more ended js first then last =
-    last ∙ ap (λ ts. ts ++ end_array ∷ []) then
-    ∙ append_assoc begun (flat_map json_tokens js) (end_array ∷ [])
-    ∙ (λ i. first i ++ sym (items_written js) i)
-    ∙ append_assoc old (begin_array ∷ []) (items_tokens (items_of js))
+array_written old begun more ended js first then last = grind (arith, common_steps, items_written)
 
 -- one more piece behind those before it
 pub pieces_next : {X : Type 0} (piece : X → List Token) (xs : List X) (k : ℕ) (x : X) (initial before after : List Token) → slice_get xs k ≡ Some x
     → before ≡ initial ++ flat_map piece (take k xs) → after ≡ before ++ piece x → after ≡ initial ++ flat_map piece (take (k + 1) xs)
-pieces_next {X} piece xs k x initial before after at so_far next =
-    let longer : flat_map piece (take (k + 1) xs) ≡ flat_map piece (take k xs) ++ piece x =
-    ap (flat_map piece) (take-next xs k ∙ ap (λ o. take k xs ++ cons_option o []) at)
-    ∙ flat_map-append piece (take k xs) (x ∷ []) ∙ ap (λ ts. flat_map piece (take k xs) ++ ts) (append-nil (piece x)) in
-    next ∙ ap (λ ts. ts ++ piece x) so_far ∙ append_assoc initial (flat_map piece (take k xs)) (piece x) ∙ ap (λ ts. initial ++ ts) (sym longer)
+pieces_next {X} piece xs k x initial before after at so_far next = grind (arith, common_steps, take-next, flat_map-append, append-nil)
 
 -- a column's name and its value at the same place
 pub column_at : {N R V J : Type 0} (columns : List (N × (R → V))) (row : R) (f : V → J) (k : ℕ) (n : N) (v : V) → slice_get (map (λ c. c.0) columns) k ≡ Some n
     → slice_get (map (λ c. c.1 row) columns) k ≡ Some v → slice_get {X = N × J} (map (λ c. (c.0, f (c.1 row))) columns) k ≡ Some (n, f v)
 column_at [] row f k n v at also = cc
-column_at (c ∷ columns) row f zero n v at also =
-    let name : c.0 ≡ n = cc in
-    let value : c.1 row ≡ v = cc in
-    λ i. Some (name i, f (value i))
+column_at (c ∷ columns) row f zero n v at also = grind (arith, common_steps)
 column_at (c ∷ columns) row f (suc k) n v at also = column_at columns row f k n v at also
 
 -- what stands at a place of a list that tells of another

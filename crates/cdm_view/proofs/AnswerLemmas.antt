@@ -1,20 +1,12 @@
 -- A question has one answer.
 use Rattle.std.proofs.Common.{◌≡◌, ◌∙◌, ℕ, ◌+◌, List, [], MatchOption, Option, None, Some, ap, sym}
 use Rattle.std.specs.Option.{IsSomeAnd, option_map_or}
-use Rattle.cdm_flight.specs.Journal.{flight_of}
-use Rattle.cdm_flight.specs.declared.flight.Flight.{Flight}
+use Rattle.cdm_flight.specs.{Journal.flight_of, declared.flight.Flight.Flight}
 use Rattle.cdm_sequence.specs.declared.plan.Plan.{Plan}
-use Rattle.cdm_plan.specs.Airport.{IsAirport}
-use Rattle.cdm_plan.specs.Day.{DayRecord}
-use Rattle.cdm_plan.proofs.NameLemmas.{in_order}
-use Rattle.cdm_view.specs.declared.question.Question.{Question}
-use Rattle.cdm_view.specs.declared.question.Question.TheVariants.{Why, Load}
-use Rattle.cdm_view.specs.Load.{IsLoad, load_text}
-use Rattle.cdm_view.specs.Questions.{IsAnswer}
-use Rattle.cdm_view.specs.Reasons.{Waiting, reason_at}
-use Rattle.cdm_view.specs.Runs.{AreRuns}
+use Rattle.cdm_plan.{specs.Airport.IsAirport, specs.Day.DayRecord, proofs.NameLemmas.in_order}
+use Rattle.cdm_view.specs.{Load.IsLoad, Load.load_text, Questions.IsAnswer, Reasons.Waiting, Reasons.reason_at, Runs.AreRuns}
+use Rattle.cdm_view.specs.declared.{question.Question.Question, question.Question.TheVariants.Why, question.Question.TheVariants.Load, runs.Run.Run}
 use Rattle.cdm_view.specs.Why.{IsWhy, own_slot, waits_for, why_bytes}
-use Rattle.cdm_view.specs.declared.runs.Run.{Run}
 use Rattle.cdm_view.proofs.RunLemmas.{runs_one}
 
 load_same : (d : DayRecord) (plan : Plan) (asked : Option (List ℕ)) (x y : List ℕ) → IsAirport d.airport

@@ -1,15 +1,9 @@
 -- A minute has a cause exactly where it has a reason.
-use Rattle.std.proofs.Common.{ℕ, ◌+◌, ◌==◌, Bool, true, false, not, length, Option, Some, None}
-use Rattle.std.specs.Prelude.{◌↔◌, nat_le, nat_lt, if◌then◌else◌}
-use Rattle.std.specs.Option.{IsSome, option_map_or}
-use Rattle.cdm_time.specs.Windows.{is_in_tolerance}
-use Rattle.cdm_flight.specs.Taxi.{stand_minutes}
-use Rattle.cdm_runway.specs.Room.{cap_at, is_closed}
-use Rattle.cdm_view.specs.Reasons.{Waiting, held_at, met_at, names_of, reason_at}
-use Rattle.cdm_view.specs.Causes.{cause_at}
-use Rattle.cdm_view.specs.declared.cause.Cause.{Cause}
+use Rattle.std.proofs.Common.{ℕ, Bool, true, false, Option, Some, None, arith}
+use Rattle.std.proofs.lemmas.Grind.{common_steps}
+use Rattle.std.specs.{Prelude.◌↔◌, Prelude.if◌then◌else◌, Option.IsSome}
+use Rattle.cdm_view.specs.{Reasons.Waiting, Reasons.reason_at, Causes.cause_at, declared.cause.Cause.Cause, declared.reason.Reason.Reason}
 use Rattle.cdm_view.specs.declared.cause.Cause.TheVariants as cause
-use Rattle.cdm_view.specs.declared.reason.Reason.{Reason}
 use Rattle.cdm_view.specs.declared.reason.Reason.TheVariants as reason
 
 -- of the same tests, those of the first that asks one early and those of the second that asks it last find something in the same cases
@@ -38,7 +32,4 @@ either false false false false false false r = (λ x. x, λ x. x)
 
 pub both : (w : Waiting) (m : ℕ) → IsSome (reason_at w m) ↔ IsSome (cause_at w m)
 unfolding reason_at cause_at
-both w m =
-    either (nat_lt m (w.tobt + stand_minutes w.flight.ice + w.exot)) (not (option_map_or (λ c. is_in_tolerance w.values.tolerance c m) w.flight.ctot true))
-    (is_closed w.rules m) (not (length (met_at w m) == 0)) (nat_le (cap_at w.rules m) (length (held_at w m))) (nat_lt m (w.values.clock + w.exot))
-    (reason.Spacing (names_of (met_at w m)), reason.Rate (cap_at w.rules m) (names_of (held_at w m)))
+both w m = grind (arith, common_steps, either)

@@ -1,36 +1,21 @@
 -- Changes: those told before are passed flight by flight, and standings that both days have can be left out.
-use Rattle.std.proofs.Common.{◌≡◌, ℕ, ◌+◌, ◌-◌, ◌<◌, Bool, true, false, ◌&&◌, ◌||◌, List, [], ◌∷◌}
-use Rattle.std.proofs.Common.{◌++◌, length, length-drop, get_or, drop, map, take, not, refl, sym, ◌∙◌, ap}
-use Rattle.std.proofs.Common.{arith, subst, filter}
-use Rattle.std.specs.Cmp.{IsStrictWeakOrder}
-use Rattle.std.specs.Cmp.Lexicographic.{pointwise}
-use Rattle.std.specs.Ordering.{is_lt}
-use Rattle.std.specs.Prelude.{nat_eq}
-use Rattle.std.proofs.lemmas.Bool.{and_from}
-use Rattle.std.proofs.lemmas.Cmp.{nat_list_cmp_total}
-use Rattle.std.proofs.lemmas.List.{take-append-drop, take_all, take_more}
-use Rattle.std.proofs.lemmas.List.Elements.{filter-append}
-use Rattle.std.proofs.lemmas.List.Folds.{list_any-append}
+use Rattle.std.proofs.Common.{◌≡◌, ℕ, ◌+◌, ◌-◌, ◌<◌, Bool, true, false, ◌&&◌, ◌||◌, List, [], ◌∷◌, ◌++◌, length, length-drop, get_or, drop, map, take}
+use Rattle.std.proofs.Common.{not, refl, sym, ◌∙◌, ap, arith, subst, filter}
+use Rattle.std.proofs.lemmas.{Bool.and_from, Cmp.nat_list_cmp_total}
+use Rattle.std.proofs.lemmas.List.{take-append-drop, take_all, take_more, Elements.filter-append, Folds.list_any-append, Kept.IsSortedBy-filter}
 use Rattle.std.proofs.lemmas.List.Sorted.{ranks_by, list_any-IsPermutation}
+use Rattle.std.specs.{Cmp.IsStrictWeakOrder, Cmp.Lexicographic.pointwise, Ordering.is_lt, Prelude.nat_eq, List.Sorted.IsSortedByKey}
 use Rattle.cdm_flight.proofs.Lists.{IsPermutation-filter, apart_from_rest, filter_same}
-use Rattle.cdm_plan.proofs.ListWords.{contains_map, Contains, IsDistinct}
-use Rattle.cdm_plan.proofs.ListWords.{IsDistinct-IsPermutation, IsPermutation, append_assoc, distinct_right}
-use Rattle.cdm_plan.proofs.ListWords.{list_any-append, map-append, IsPermutation-append_comm, IsPermutation-append_left}
-use Rattle.cdm_plan.proofs.ListWords.{IsPermutation-append_right, IsPermutation-map, IsPermutation-refl, IsPermutation-sym}
-use Rattle.cdm_plan.proofs.ListWords.{IsPermutation-append, IsPermutation-trans, append-nil, distinct_filter}
-use Rattle.cdm_plan.proofs.PlanWords.{is_same, name_cmp, same_name, DayRecord, IsDayPlan}
-use Rattle.cdm_plan.proofs.PlanWords.{IsSound, Plan, flights_in, runway_names, same_flips}
-use Rattle.cdm_plan.proofs.NameLemmas.{by_name}
-use Rattle.cdm_plan.proofs.OnePlanLemmas.{one_day_plan}
+use Rattle.cdm_plan.proofs.{NameLemmas.by_name, OnePlanLemmas.one_day_plan}
+use Rattle.cdm_plan.proofs.ListWords.{contains_map, Contains, IsDistinct, IsDistinct-IsPermutation, IsPermutation, append_assoc, distinct_right}
+use Rattle.cdm_plan.proofs.ListWords.{list_any-append, map-append, IsPermutation-append_comm, IsPermutation-append_left, IsPermutation-append_right}
+use Rattle.cdm_plan.proofs.ListWords.{IsPermutation-map, IsPermutation-refl, IsPermutation-sym, IsPermutation-append, IsPermutation-trans, append-nil}
+use Rattle.cdm_plan.proofs.ListWords.{distinct_filter}
+use Rattle.cdm_plan.proofs.PlanWords.{is_same, name_cmp, same_name, DayRecord, IsDayPlan, IsSound, Plan, flights_in, runway_names, same_flips}
 use Rattle.cdm_time.specs.declared.calendar.CalendarDate.{CalendarDate}
-use Rattle.cdm_view.specs.declared.standing.Standing.{Standing}
-use Rattle.cdm_view.specs.Standings.{changes, flight_name, is_same_told, is_told, standing_line}
-use Rattle.cdm_view.specs.Standings.{AreChanges, IsChangedTo, standings_of}
-use Rattle.cdm_view.proofs.ListLemmas.{any_without, any_with, filter_none}
-use Rattle.std.proofs.lemmas.List.Kept.{IsSortedBy-filter}
-use Rattle.std.specs.List.Sorted.{IsSortedByKey}
-use Rattle.cdm_view.proofs.StandingLemmas.{standings_apart}
-use Rattle.cdm_view.specs.inner.Left.{AreRests}
+use Rattle.cdm_view.specs.{declared.standing.Standing.Standing, inner.Left.AreRests}
+use Rattle.cdm_view.specs.Standings.{changes, flight_name, is_same_told, is_told, standing_line, AreChanges, IsChangedTo, standings_of}
+use Rattle.cdm_view.proofs.{ListLemmas.any_without, ListLemmas.any_with, ListLemmas.filter_none, StandingLemmas.standings_apart}
 
 -- standings are sorted by flight
 abbrev pub order : IsStrictWeakOrder (λ (a b : Standing). is_lt (name_cmp (flight_name a) (flight_name b)))

@@ -1,30 +1,20 @@
 -- Slots that stand by take-off: those at some minutes are one part of them.
-use Rattle.std.proofs.Common.{◌≡◌, ℕ, ◌+◌, ◌-◌, ◌*◌, ◌/◌, ◌==◌, ◌<◌, ◌≤◌, max, min, Bool, true, false, List, [], ◌∷◌, ◌++◌, length, take, drop, filter}
+use Rattle.std.proofs.Common.{◌≡◌, ℕ, ◌+◌, ◌-◌, ◌*◌, ◌/◌, ◌==◌, ◌≤◌, max, min, Bool, true, false, List, [], ◌∷◌, ◌++◌, length, take, drop, filter}
 use Rattle.std.proofs.Common.{get_or, ltb, map, refl, sym, subst, ◌∙◌, ap, arith}
-use Rattle.std.specs.List.{All, prefix_len}
-use Rattle.std.specs.List.Sorted.{IsPartitionPoint, IsSorted}
-use Rattle.std.specs.Ordering.{is_lt}
-use Rattle.std.specs.Prelude.{nat_le, nat_lt}
-use Rattle.std.proofs.lemmas.Bool.{and_from, false_from_ne_true, le-leb, leb-true, lt-ltb, ltb-false, ltb-true}
-use Rattle.std.proofs.lemmas.Bool.Decides.{nat_tests}
-use Rattle.std.proofs.lemmas.Nat.{div-add-mod', div_below, le-div}
+use Rattle.std.proofs.lemmas.{Nat.div-add-mod', Nat.div_below, Nat.le-div, Grind.common_steps}
+use Rattle.std.proofs.lemmas.Bool.{and_from, false_from_ne_true, le-leb, leb-true, lt-ltb, ltb-false, ltb-true, Decides.nat_tests}
 use Rattle.std.proofs.lemmas.List.{append-nil, get_or-drop, get_or-take, length-drop, length-take, take-append-drop, take_rest}
-use Rattle.std.proofs.lemmas.List.Sums.{prefix_len_passes, prefix_len_stops}
+use Rattle.std.proofs.lemmas.List.{Sums.prefix_len_passes, Sums.prefix_len_stops, Kept.IsNonDecreasingBy-filter}
 use Rattle.std.proofs.lemmas.List.Elements.{All-contains, All-take, filter-append, filter_agree}
-use Rattle.std.proofs.lemmas.Grind.{common_steps}
-use Rattle.std.proofs.lemmas.List.Kept.{IsNonDecreasingBy-filter}
 use Rattle.std.proofs.lemmas.List.Sorted.{IsNonDecreasingBy-drop, IsNonDecreasingBy-from_all_adjacent}
+use Rattle.std.specs.{List.All, List.prefix_len, List.Sorted.IsPartitionPoint, List.Sorted.IsSorted, Ordering.is_lt, Prelude.nat_le, Prelude.nat_lt}
 use Rattle.cdm_time.specs.Windows.{window_has}
-use Rattle.cdm_sequence.specs.Slots.{slot_cmp}
-use Rattle.cdm_sequence.specs.declared.slot.Slot.{Slot}
-use Rattle.cdm_view.specs.inner.Earlier.{IsAhead, IsByTakeOff, is_passed, met_among, not_passed, taken_slots}
-use Rattle.cdm_view.specs.Turns.{turn_in}
+use Rattle.cdm_sequence.specs.{Slots.slot_cmp, declared.slot.Slot.Slot}
+use Rattle.cdm_view.specs.{Turns.turn_in, Reasons.Waiting, Reasons.held_at, Reasons.is_earlier, Reasons.met_at}
+use Rattle.cdm_view.specs.inner.Earlier.{IsAhead, IsByTakeOff, met_among, not_passed, taken_slots}
 use Rattle.cdm_view.proofs.ListLemmas.{filter_all, filter_none}
-use Rattle.cdm_flight.specs.Spacing.{occupancy_of}
-use Rattle.cdm_flight.specs.declared.group.Group.{Group}
+use Rattle.cdm_flight.specs.{Spacing.occupancy_of, declared.group.Group.Group, declared.key.Key.Key}
 use Rattle.cdm_runway.specs.Room.{meets, taken_by}
-use Rattle.cdm_view.specs.Reasons.{Waiting, held_at, is_earlier, met_at}
-use Rattle.cdm_flight.specs.declared.key.Key.{Key}
 use Rattle.cdm_plan.specs.Day.{DayRecord}
 
 -- The order.
@@ -113,9 +103,7 @@ part_is {X} n from to i j xs ys zs same other first last =
 -- two flights can meet only if the other takes off less than the longest occupancy before the minute, or while the one occupies the runway
 pub meets_near : (m t own other longest : ℕ) → other ≤ longest → nat_lt (max m t) (min (m + own) (t + other)) ≡ true
     → window_has (m - longest) (m + own) t ≡ true
-meets_near m t own other longest short h =
-    let met = ltb-true (max m t) (min (m + own) (t + other)) h in
-    and_from (nat_le (m - longest) t) (nat_lt t (m + own)) (le-leb (m - longest) t (omega arith)) (lt-ltb t (m + own) (omega arith))
+meets_near m t own other longest short h = grind (arith, common_steps, ltb-true, and_from, le-leb, lt-ltb)
 
 -- the minutes of a cell are those from its first one on, as many as it is long
 pub in_cell : (c m t : ℕ) → 1 ≤ c → window_has (m / c * c) (m / c * c + c) t ≡ (t / c == m / c)
@@ -130,15 +118,11 @@ module _ (w : Waiting) (m : ℕ) where
   pub near_part : (from to longest : ℕ) → ((g : Group) → occupancy_of w.rules.spacing g ≤ longest) → from ≡ m - longest
       → to ≡ m + occupancy_of w.rules.spacing w.flight.group
       → met_among w m (filter (λ s. window_has from to s.ttot) w.earlier) ≡ met_at w m
-  near_part from to longest covers first last =
-      filter_among (λ (s : Slot). meets (taken_by w.rules w.flight.group m) (taken_by w.rules s.group s.ttot)) (λ (s : Slot). window_has from to s.ttot) w.earlier
-      (λ s h. rw (first, last) (meets_near m s.ttot (occupancy_of w.rules.spacing w.flight.group) (occupancy_of w.rules.spacing s.group) longest (covers s.group) h))
+  near_part from to longest covers first last = grind (arith, common_steps, filter_among, meets_near)
 
   -- and the slots in the minute's cell are those at its minutes
   pub cell_part : (c n : ℕ) → 1 ≤ c → c ≡ w.rules.cell → n ≡ m → filter (λ s. window_has (n / c * c) (n / c * c + c) s.ttot) w.earlier ≡ held_at w m
-  cell_part c n positive same at =
-      filter_agree (λ (s : Slot). window_has (n / c * c) (n / c * c + c) s.ttot) (λ (s : Slot). s.ttot / w.rules.cell == m / w.rules.cell)
-      (λ s. in_cell c n s.ttot positive ∙ (ap (λ k. s.ttot / k == n / k) same ∙ ap (λ k. s.ttot / w.rules.cell == k / w.rules.cell) at)) w.earlier
+  cell_part c n positive same at = grind (arith, common_steps, filter_agree, in_cell)
 
 -- The first slots, one after another.
 
@@ -147,9 +131,7 @@ module _ {X : Type 0} (p q : X → Bool) (xs : List X) where
   parted = ap (filter q) (sym (take-append-drop (prefix_len p xs) xs)) ∙ filter-append q (take (prefix_len p xs) xs) (drop (prefix_len p xs) xs)
 
   first_pass : All (λ x. p x ≡ true) (take (prefix_len p xs) xs)
-  first_pass k d l =
-      let short : k < prefix_len p xs = omega (arith, l, length-take (prefix_len p xs) xs) in
-      ap p (get_or-take (prefix_len p xs) xs k d short) ∙ prefix_len_passes p xs k d short
+  first_pass k d l = grind (arith, common_steps, length-take, get_or-take, prefix_len_passes)
 
   -- where a test fails for what passes another, the first that pass that one can be left out
   kept_left : ((x : X) → p x ≡ true → q x ≡ false) → filter q (drop (prefix_len p xs) xs) ≡ filter q xs
@@ -167,9 +149,7 @@ module _ {X : Type 0} (p q : X → Bool) (xs : List X) where
 
 -- a flight that has left the runway by a minute meets none that takes off at it or later
 apart_passed : (m k t own other : ℕ) → m ≤ k → nat_le (t + other) m ≡ true → nat_lt (max k t) (min (k + own) (t + other)) ≡ false
-apart_passed m k t own other later passed =
-    let end = leb-true (t + other) m passed in
-    false_from_ne_true _ (λ met. absurd (omega (arith, later, end, ltb-true (max k t) (min (k + own) (t + other)) met)))
+apart_passed m k t own other later passed = grind (arith, common_steps, leb-true, false_from_ne_true, ltb-true)
 
 -- nor does one that takes off when the other has left it
 apart_behind : (m t own other end : ℕ) → end ≡ m + own → end ≤ t → nat_lt (max m t) (min (m + own) (t + other)) ≡ false
@@ -179,11 +159,7 @@ apart_behind m t own other end same behind =
 module _ (w : Waiting) (m : ℕ) (slots : List Slot) where
   -- the slots ahead are left when those that are passed are not
   pub ahead_left : IsAhead w m slots → IsAhead w m (not_passed w m slots)
-  ahead_left a = record {
-    in_order = IsNonDecreasingBy-drop (λ (s : Slot). s.ttot) (prefix_len (is_passed w m) slots) slots a.in_order;
-    met = λ k later. kept_left (is_passed w m) (λ (s : Slot). meets (taken_by w.rules w.flight.group k) (taken_by w.rules s.group s.ttot)) slots
-        (λ s passed. apart_passed m k s.ttot (occupancy_of w.rules.spacing w.flight.group) (occupancy_of w.rules.spacing s.group) later passed) ∙ a.met k later;
-  }
+  ahead_left a = grind (arith, common_steps, IsNonDecreasingBy-drop, kept_left, apart_passed)
 
   -- as it is read of minutes and slots that have two names
   pub ahead_step : (n : ℕ) (rest : List Slot) → n ≡ m → rest ≡ not_passed w n slots → IsAhead w m slots → IsAhead w n rest

@@ -1,16 +1,12 @@
 -- Standings that `==` finds equal are equal.
-use Rattle.std.proofs.Common.{◌≡◌, true, ap, rules}
+use Rattle.std.proofs.{Common.◌≡◌, Common.true, Common.ap, Common.rules, lemmas.Bool.and_parts, lemmas.Bool.false≢true}
 use Rattle.std.specs.Bool.{Decides}
-use Rattle.std.proofs.lemmas.Bool.{and_parts, false≢true}
 use Rattle.cdm_plan.proofs.PlanWords.{same_is, same_name}
-use Rattle.cdm_sequence.specs.declared.slot.Slot.{Slot}
+use Rattle.cdm_sequence.{specs.declared.slot.Slot.Slot, specs.declared.slot.BlockedFlight.BlockedFlight, proofs.EqualLemmas.slots_decide}
+use Rattle.cdm_view.specs.declared.standing.Standing.{Standing, TheVariants.OnRunway, TheVariants.Blocked, TheVariants.Cancelled}
 use Rattle.cdm_sequence.specs.contracts.slot.BlockedFlightPartialEq.TheImpl as blocked_eq
 use Rattle.cdm_sequence.specs.contracts.slot.SlotPartialEq.TheImpl as slot_eq
-use Rattle.cdm_sequence.specs.declared.slot.BlockedFlight.{BlockedFlight}
-use Rattle.cdm_sequence.proofs.EqualLemmas.{slots_decide}
 use Rattle.cdm_view.specs.contracts.standing.StandingPartialEq.TheImpl as standing_eq
-use Rattle.cdm_view.specs.declared.standing.Standing.{Standing}
-use Rattle.cdm_view.specs.declared.standing.Standing.TheVariants.{OnRunway, Blocked, Cancelled}
 
 blocked_decide : (a b : BlockedFlight) → Decides ((blocked_eq.ghosts).eq a b) (a ≡ b)
 blocked_decide a b = search rules

@@ -1,32 +1,22 @@
 -- Each known flight has a standing.
-use Rattle.std.proofs.Common.{◌≡◌, ℕ, Bool, true, false, ◌||◌, List, [], ◌∷◌, ◌++◌, Option, None, Some, IfSome, IsTrue}
-use Rattle.std.proofs.Common.{refl, sym, ◌∙◌, ap, subst, inl, inr, arith, map, take, ◌+◌}
+use Rattle.std.proofs.Common.{◌≡◌, ℕ, Bool, true, false, ◌||◌, List, [], ◌∷◌, ◌++◌, Option, None, Some, IfSome, IsTrue, refl, sym, ◌∙◌, ap, subst}
+use Rattle.std.proofs.Common.{inl, inr, arith, map, take, ◌+◌}
+use Rattle.std.proofs.lemmas.{List.Elements.All-append, List.Elements.All-contains, Map.Views.Contains-from_any, Grind.common_steps}
 use Rattle.std.specs.Option.{ForSome}
-use Rattle.std.proofs.lemmas.List.Elements.{All-append, All-contains}
-use Rattle.cdm_flight.proofs.JournalLemmas.{same_name-refl}
-use Rattle.cdm_flight.specs.Record.{is_sound}
-use Rattle.cdm_flight.specs.declared.flight.Status.{Status}
-use Rattle.cdm_flight.specs.declared.flight.Status.TheVariants as status
-use Rattle.cdm_plan.proofs.ListWords.{All, All-cons, All-nil, append_assoc, cons_option, filter_map, filter_map-append}
-use Rattle.cdm_plan.proofs.ListWords.{option_and_then, slice_get, Contains, Contains-permutation, IsPermutation}
-use Rattle.cdm_plan.proofs.ListWords.{contains_cases, false≢true, if_so, is_some, map_fixed, option_map_or}
-use Rattle.cdm_plan.proofs.ListWords.{or_right, list_any-find, list_any-map, list_any-same}
-use Rattle.cdm_plan.proofs.DayPlanLemmas.{record_name, records-next}
-use Rattle.cdm_plan.proofs.JournalFacts.{known-among}
-use Rattle.std.proofs.lemmas.Map.Views.{Contains-from_any}
-use Rattle.cdm_plan.proofs.PlanWords.{same_flips, AimResult, DayRecord, DayValues, IsAim, IsDayPlan, IsSound}
-use Rattle.cdm_plan.proofs.PlanWords.{Plan, Flight, RunwayPlan, RunwayRow, Early, Ready, TaxiTimes}
-use Rattle.cdm_plan.proofs.PlanWords.{aim_means, aim_of, blocked_in, fixed_slot, flight_of, flights_in, is_known}
-use Rattle.cdm_plan.proofs.PlanWords.{is_on, is_planned, records_in, same_is, same_name, slot_by}
-use Rattle.cdm_plan.proofs.PlanWords.{status_of-record, taxi_of, values_of}
+use Rattle.cdm_flight.{proofs.JournalLemmas.same_name-refl, specs.Record.is_sound, specs.declared.flight.Status.Status}
+use Rattle.cdm_plan.proofs.{DayPlanLemmas.record_name, DayPlanLemmas.records-next, JournalFacts.known-among}
+use Rattle.cdm_plan.proofs.ListWords.{All, All-cons, All-nil, append_assoc, cons_option, filter_map, filter_map-append, option_and_then, slice_get}
+use Rattle.cdm_plan.proofs.ListWords.{Contains, Contains-permutation, IsPermutation, contains_cases, false≢true, if_so, is_some, map_fixed}
+use Rattle.cdm_plan.proofs.ListWords.{option_map_or, or_right, list_any-find, list_any-map, list_any-same}
+use Rattle.cdm_plan.proofs.PlanWords.{same_flips, AimResult, DayRecord, DayValues, IsAim, IsDayPlan, IsSound, Plan, Flight, RunwayPlan, RunwayRow}
+use Rattle.cdm_plan.proofs.PlanWords.{Early, Ready, TaxiTimes, aim_means, aim_of, blocked_in, fixed_slot, flight_of, flights_in, is_on, is_planned}
+use Rattle.cdm_plan.proofs.PlanWords.{records_in, same_is, same_name, slot_by, status_of-record, taxi_of, values_of}
 use Rattle.cdm_plan.proofs.PlanningLemmas.{early_at, fixed_at, stands, stands_in, target_at}
 use Rattle.cdm_sequence.proofs.NameLemmas.{names_given}
-use Rattle.cdm_view.specs.declared.standing.Standing.{Standing}
-use Rattle.cdm_view.proofs.ListLemmas.{any_with, filter_all}
+use Rattle.cdm_view.{specs.declared.standing.Standing.Standing, specs.Standings.cancelled, specs.Standings.flight_name, specs.Standings.standings_of}
+use Rattle.cdm_view.{specs.inner.Known.AllSound, proofs.ListLemmas.any_with, proofs.ListLemmas.filter_all, proofs.WaitingLemmas.told}
+use Rattle.cdm_flight.specs.declared.flight.Status.TheVariants as status
 use Rattle.cdm_view.proofs.StandingLemmas as standing
-use Rattle.cdm_view.proofs.WaitingLemmas.{told}
-use Rattle.cdm_view.specs.Standings.{cancelled, flight_name, standings_of}
-use Rattle.cdm_view.specs.inner.Known.{AllSound}
 
 -- Flights one after another.
 
@@ -38,17 +28,11 @@ module _ (h : List ℕ → Option Flight) (names : List (List ℕ)) (place : ℕ
   -- the cancelled ones of one flight more
   pub cancelled_next : (first before after : List Standing) → before ≡ first ++ filter_map cancelled (filter_map h (take place names))
       → after ≡ before ++ filter_map cancelled (cons_option o []) → after ≡ first ++ filter_map cancelled (filter_map h (take (place + 1) names))
-  cancelled_next first before after so_far more =
-      let earlier = filter_map h (take place names) in
-      let whole = append_assoc first (filter_map cancelled earlier) (filter_map cancelled (cons_option o [])) in
-      rw (flights_next, filter_map-append cancelled earlier (cons_option o []), ← whole, ← so_far) more
+  cancelled_next first before after so_far more = grind (arith, common_steps, filter_map, append_assoc, cons_option, flights_next, filter_map-append)
 
   -- what holds of each, with one more
   pub all_next : (P : Flight → Type 0) → All P (filter_map h (take place names)) → ForSome o P → All P (filter_map h (take (place + 1) names))
-  all_next P so_far here = rw flights_next (All-append P (filter_map h (take place names)) (cons_option o []) so_far (one o here))
-    where
-      one : (q : Option Flight) → ForSome q P → All P (cons_option q [])
-      one q k = grind (arith, k, All-nil P, All-cons P)
+  all_next P so_far here = grind (arith, common_steps, flights_next, All-append, filter_map, cons_option, All-nil, All-cons)
 
 -- A flight that a plan shows.
 
@@ -109,11 +93,7 @@ module _ (d : DayRecord) where
   -- the journal says something of each flight that it makes known
   pub each_recorded : (f : List ℕ) → Contains (flights_in d.journal) f → is_some (flight_of d.airport d.journal f) ≡ true
   unfolding flight_of
-  each_recorded f i =
-      let a = d.journal in
-      let among = any_with (same_name f) (flights_in a) f i (same_name-refl f) in
-      let known : is_known a f ≡ true = known-among a f ∙ among in
-      grind arith
+  each_recorded f i = grind (arith, common_steps, any_with, same_name-refl, known-among)
 
   -- so the known flights are those that it says something of
   known_named : map (λ (f : Flight). f.name) flights ≡ flights_in d.journal

@@ -1,12 +1,9 @@
 -- Lists and choices: what is among what elements give, and what a filter keeps.
-use Rattle.std.proofs.Common.{◌≡◌, Bool, true, false, get_or, List, [], ◌∷◌, Option, Some, None, filter, refl}
-use Rattle.std.proofs.Common.{sym, ◌∙◌, ap, subst, inl, inr, arith}
-use Rattle.std.proofs.lemmas.Option.{same_Some}
-use Rattle.std.proofs.lemmas.List.Elements.{Contains-append_cases, Contains-append_left, Contains-append_right}
-use Rattle.std.proofs.lemmas.List.Elements.{Contains-get_or}
-use Rattle.std.proofs.lemmas.List.Folds.{list_any_none}
-use Rattle.cdm_plan.proofs.ListWords.{Contains, cons_option, contains_cases, contains_head, contains_tail, filter_map}
-use Rattle.cdm_plan.proofs.ListWords.{flat_map, list_any, list_any_at, option_map}
+use Rattle.std.proofs.Common.{◌≡◌, Bool, true, false, get_or, List, [], ◌∷◌, Option, Some, None, filter, refl, sym, ◌∙◌, ap, subst, inl, inr, arith}
+use Rattle.std.proofs.lemmas.{Option.same_Some, List.Elements.Contains-append_cases, List.Elements.Contains-append_left}
+use Rattle.std.proofs.lemmas.{List.Elements.Contains-append_right, List.Elements.Contains-get_or, List.Folds.list_any_none}
+use Rattle.cdm_plan.proofs.ListWords.{Contains, cons_option, contains_cases, contains_head, contains_tail, filter_map, flat_map, list_any}
+use Rattle.cdm_plan.proofs.ListWords.{list_any_at, option_map}
 
 pub option_map_some : {X Y : Type 0} (f : X → Y) (o : Option X) (y : Y) → option_map f o ≡ Some y
     → (x : X) × (o ≡ Some x) × (f x ≡ y)

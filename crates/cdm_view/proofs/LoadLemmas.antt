@@ -1,44 +1,41 @@
 -- Cells of a runway, the columns of their lines, and their counts.
-use Rattle.std.proofs.Common.{ℕ, ◌≡◌, ◌+◌, ◌-◌, ◌*◌, ◌/◌, ◌^◌, ◌<◌, ◌≤◌, Bool, true, IsTrue, List, [], ◌++◌, length}
-use Rattle.std.proofs.Common.{take, refl, sym, ◌∙◌, arith, append_assoc, eq-eqb, eqb-true, suc, zero, false, cond}
-use Rattle.std.proofs.Common.{◌∷◌, subst, add-one, zero-add}
+use Rattle.std.proofs.Common.{ℕ, ◌≡◌, ◌+◌, ◌-◌, ◌/◌, ◌^◌, ◌<◌, ◌≤◌, Bool, true, IsTrue, List, [], ◌++◌, length, ap, slice_index, take, refl, sym, ◌∙◌}
+use Rattle.std.proofs.Common.{arith, append_assoc, eq-eqb, eqb-true, suc, zero, false, cond, ◌∷◌, subst, add-one, zero-add}
+use Rattle.std.proofs.Padding.{char_count-nil, padded_is, repeat_ascii, styled_decimal_is, take_chars_all}
+use Rattle.std.proofs.lemmas.List.{Concat.flat_map-append, Elements.All-contains, Elements.filter-append, Elements.filter_passes, Sums.sum_by-cons}
+use Rattle.std.proofs.lemmas.Bool.{both_ways, cond-false, cond-true, le-ltb, lt-ltb, ne_eqb, Decides.nat_tests}
+use Rattle.std.proofs.lemmas.Grind.{common_steps}
 use Rattle.std.specs.Prelude.{◌==◌, nat_lt, filter, Option, slice_get}
 use Rattle.std.specs.List.{Contains, cons_option, flat_map, All, count_by, range_with_len, sum_by}
-use Rattle.std.specs.Fmt.{format_spec, decimal, styled_decimal, char_count, padded_integral}
-use Rattle.std.proofs.Padding.{char_count-nil, styled_decimal_is, repeat_ascii}
-use Rattle.std.proofs.Math.Nat.{mul-le-mul_right}
-use Rattle.std.proofs.lemmas.List.Concat.{flat_map-append}
-use Rattle.std.proofs.lemmas.List.Elements.{All-contains, filter-append, filter_passes}
-use Rattle.std.proofs.lemmas.Bool.Decides.{nat_tests}
-use Rattle.cdm_flight.specs.Cells.{is_cell_length}
+use Rattle.std.specs.Fmt.{format_spec, decimal, padded, styled_decimal, styled_text, padded_integral}
+use Rattle.cdm_report.{proofs.Widths.char_count-ascii, specs.Columns.left_in, specs.Report.day_line}
+use Rattle.cdm_flight.specs.{Cells.is_cell_length, Journal.AirportRows}
 use Rattle.cdm_flight.proofs.Lists.{contains_kept, contains_head, contains_tail, sum_by-add, sum_by-zero}
-use Rattle.cdm_runway.specs.Rules.{RunwayRules}
-use Rattle.cdm_runway.proofs.CellLemmas.{cell_below, cells-fill}
-use Rattle.cdm_sequence.specs.declared.plan.Plan.{Plan}
-use Rattle.cdm_sequence.specs.declared.slot.Slot.{Slot}
-use Rattle.cdm_report.specs.Columns.{left_in}
-use Rattle.cdm_report.specs.Report.{day_line}
+use Rattle.cdm_runway.{specs.Rules.RunwayRules, proofs.CellLemmas.cell_below}
+use Rattle.cdm_sequence.specs.declared.{plan.Plan.Plan, slot.Slot.Slot}
 use Rattle.cdm_time.specs.declared.calendar.CalendarDate.{CalendarDate}
-use Rattle.cdm_flight.specs.Journal.{AirportRows}
-use Rattle.cdm_plan.specs.Day.{DayRecord}
-use Rattle.cdm_plan.specs.DayPlan.{AreByName}
+use Rattle.cdm_plan.specs.{Day.DayRecord, DayPlan.AreByName}
 use Rattle.cdm_plan.proofs.NameLemmas.{rules_by_name, rules_in, take-next}
-use Rattle.cdm_view.specs.Load.{IsInOneLine, IsLoad, cells_of, flights_in_cell, is_asked, is_between, load_text}
-use Rattle.cdm_view.specs.Load.{runway_load, tells, told_cells}
+use Rattle.cdm_view.specs.Load.{IsInOneLine, IsLoad, cells_of, flights_in_cell, is_asked, is_between, load_text, runway_load, tells, told_cells}
 use Rattle.cdm_view.proofs.RangeLemmas.{between_itself, range-contains, count_more, range-bounds}
-use Rattle.std.proofs.lemmas.Bool.{both_ways, cond-false, cond-true, le-ltb, lt-ltb}
-use Rattle.std.proofs.lemmas.List.Sums.{sum_by-cons}
-
--- each cell is whole within the horizon
-pub cell_whole : (c k : ℕ) → IsTrue (is_cell_length c) → k < 2880 / c → k * c + c ≤ 2880
-cell_whole c k h below = omega (arith, cells-fill c h, mul-le-mul_right c below)
 
 -- a number on the left of a width
 pub left_number : (width n : ℕ) → styled_decimal (format_spec 32 1 0 width (2 ^ 64 - 1)) n ≡ left_in width (decimal n)
 unfolding left_in padded_integral
-left_number width n =
-    let none : width - length (decimal n) - 0 - char_count [] - 0 ≡ width - length (decimal n) = omega (arith, char_count-nil) in
-    styled_decimal_is (format_spec 32 1 0 width (2 ^ 64 - 1)) n ∙ rw (none, repeat_ascii (width - length (decimal n)) 32 (omega arith)) refl
+left_number width n = grind (arith, common_steps, char_count-nil, styled_decimal_is, repeat_ascii)
+
+-- an ASCII text on the left of a width
+pub left_short : (width : ℕ) (text : List ℕ) → ((k : ℕ) → slice_index text k < 128) → length text ≤ width → 0 < width → width ≤ 7
+    → styled_text (format_spec 32 1 0 width (2 ^ 64 - 1)) text ≡ left_in width text
+unfolding left_in
+left_short width text ascii short some few =
+    let spec = format_spec 32 1 0 width (2 ^ 64 - 1) in
+    let blanks = repeat_ascii (width - length text) 32 (omega arith) in
+    let none : width - length text - 0 ≡ width - length text = omega arith in
+    let missing = ap (λ n. width - n) (sym (char_count-ascii text ascii)) in
+    let styled : styled_text spec text ≡ padded spec text = rw (ne_eqb width 0 (omega arith)) refl in
+    styled ∙ sym (padded_is spec text text (width - length text) 0 (sym (take_chars_all _ text (omega arith))) missing refl)
+    ∙ rw (none, blanks) refl
 
 -- what is told of the runways asked, one after another
 pub runways_more : (told : RunwayRules → List ℕ) (asked : RunwayRules → Bool) (start before after : List ℕ) (runways : List RunwayRules) (place : ℕ)
@@ -72,10 +69,7 @@ module _ (d : DayRecord) (h : AirportRows) (plan : Plan) (asked : Option (List �
 pub told_with_flight : (rules : RunwayRules) (usual : ℕ) (slots : List Slot) (k : ℕ) → k < 2880 / rules.cell
     → 0 < length (flights_in_cell rules slots k) → is_between (tells rules usual slots) (cells_of rules) k ≡ true
 unfolding tells
-told_with_flight rules usual slots k below more =
-    let some : nat_lt 0 (length (flights_in_cell rules slots k)) ≡ true = grind (arith, nat_tests) in
-    let telling : tells rules usual slots k ≡ true = rw some refl in
-    between_itself (tells rules usual slots) (2880 / rules.cell) k below telling
+told_with_flight rules usual slots k below more = grind (arith, common_steps, between_itself)
 
 -- a flight is told in one line, that of the cell of its take-off
 pub in_one_line : (rules : RunwayRules) (usual : ℕ) (slots : List Slot) (flight : Slot)
@@ -115,9 +109,7 @@ there_once t (suc n) =
 sum_kept : (f : ℕ → ℕ) (test : ℕ → Bool) (xs : List ℕ) → ((k : ℕ) → Contains xs k → test k ≡ false → f k ≡ 0) → sum_by f (filter test xs) ≡ sum_by f xs
 sum_kept f test [] none = refl
 sum_kept f test (x ∷ xs) none =
-    let rest = sum_kept f test xs (λ k i. none k (contains_tail x xs k i)) in
-    let here = none x (contains_head x xs) in
-    grind (arith, sum_by-cons f x xs, sum_by-cons f x (filter test xs))
+    grind (arith, common_steps, contains_tail, contains_head, sum_by-cons, sum_kept f test xs (λ k i. none k (contains_tail x xs k i)))
 
 -- each slot is in one of the cells
 module _ (c n : ℕ) where

@@ -1,47 +1,31 @@
 -- A planned flight that waits has a slot at the first minute without a reason, or is blocked as its reasons say.
-use Rattle.std.proofs.Common.{◌≡◌, ◌⊎◌, ℕ, ◌+◌, ◌<◌, ◌≤◌, true, false, List, ◌++◌, Option, Some, None, is_none, map, []}
-use Rattle.std.proofs.Common.{filter, refl, sym, ◌∙◌, ap, subst, inl, inr, arith, Bool}
-use Rattle.std.proofs.lemmas.Bool.{both_ways, false≢true, or_left}
-use Rattle.std.proofs.lemmas.Option.{same_Some}
+use Rattle.std.proofs.Common.{◌≡◌, ◌⊎◌, ℕ, ◌+◌, ◌<◌, ◌≤◌, true, false, List, ◌++◌, Option, Some, None, is_none, map, [], filter, refl, sym, ◌∙◌, ap}
+use Rattle.std.proofs.Common.{subst, inl, inr, arith, Bool}
+use Rattle.std.proofs.lemmas.{Bool.both_ways, Bool.false≢true, Bool.or_left, Option.same_Some, Map.Views.Contains-from_any}
 use Rattle.std.proofs.lemmas.List.Elements.{Contains-append_cases, Contains-append_left, Contains-append_right}
-use Rattle.std.proofs.lemmas.Map.Views.{Contains-from_any}
-use Rattle.cdm_plan.proofs.ListWords.{All-contains, Contains, Contains-permutation, IsPermutation-sym, contains_all}
-use Rattle.cdm_plan.proofs.ListWords.{contains_from_map, contains_kept, contains_map, filter_map, filter_passes}
-use Rattle.cdm_plan.proofs.ListWords.{flat_map, option_map, IsDistinct, IsDistinct-IsPermutation, IsPermutation}
-use Rattle.cdm_plan.proofs.ListWords.{one_of_key, option_and_then, option_map_or}
-use Rattle.cdm_plan.proofs.PlanWords.{AimResult, BlockedFlight, DayRecord, DayValues, Early, IsAim, Placing, Plan}
-use Rattle.cdm_plan.proofs.PlanWords.{Ready, Flight, RunwayPlan, RunwayRules, Slot, Target, TaxiTimes}
-use Rattle.cdm_plan.proofs.PlanWords.{aim_means, aim_of, blocked_in, fixed_on, flight_of, flights_in, is_known}
-use Rattle.cdm_plan.proofs.PlanWords.{is_planned, is_same, planned_of, records_in, same_is, same_name, status_of-record}
-use Rattle.cdm_plan.proofs.PlanWords.{takeoffs, target_in, taxi_of, values_of, IsSequence, IsSequenceBy, RunwayRow}
-use Rattle.cdm_plan.proofs.PlanWords.{day_rules, rules_of, same_flips, targets_on}
-use Rattle.cdm_plan.proofs.JournalFacts.{known-among}
-use Rattle.cdm_plan.proofs.PlanningLemmas.{blocked_early, targets_of}
+use Rattle.cdm_plan.proofs.{JournalFacts.known-among, PlanningLemmas.blocked_early, PlanningLemmas.targets_of, OnePlanLemmas.partner}
+use Rattle.cdm_plan.proofs.ListWords.{All-contains, Contains, Contains-permutation, IsPermutation-sym, contains_all, contains_from_map, contains_kept}
+use Rattle.cdm_plan.proofs.ListWords.{contains_map, filter_map, filter_passes, flat_map, option_map, IsDistinct, IsDistinct-IsPermutation}
+use Rattle.cdm_plan.proofs.ListWords.{IsPermutation, one_of_key, option_and_then, option_map_or}
+use Rattle.cdm_plan.proofs.PlanWords.{AimResult, BlockedFlight, DayRecord, DayValues, Early, IsAim, Placing, Plan, Ready, Flight, RunwayPlan}
+use Rattle.cdm_plan.proofs.PlanWords.{RunwayRules, Slot, Target, TaxiTimes, aim_means, aim_of, blocked_in, fixed_on, flight_of, flights_in, is_known}
+use Rattle.cdm_plan.proofs.PlanWords.{is_planned, is_same, planned_of, records_in, same_is, same_name, status_of-record, takeoffs, target_in, taxi_of}
+use Rattle.cdm_plan.proofs.PlanWords.{values_of, IsSequence, IsSequenceBy, RunwayRow, day_rules, rules_of, same_flips, targets_on}
+use Rattle.cdm_plan.proofs.NameLemmas.{day_rules_differ, find_only, find_some}
 use Rattle.cdm_flight.proofs.JournalLemmas.{aobt_of, atot_of, is_cancelled, planned_says}
 use Rattle.cdm_flight.proofs.Lists.{contains_from_given}
-use Rattle.cdm_flight.specs.Journal.{exot_of}
-use Rattle.cdm_flight.specs.declared.flight.Status.{Status}
-use Rattle.cdm_flight.specs.declared.flight.Status.TheVariants.{Planned}
+use Rattle.cdm_flight.specs.{Journal.exot_of, Order.is_before, Record.key_of}
+use Rattle.cdm_flight.specs.declared.{flight.Status.Status, flight.Status.TheVariants.Planned, key.Key.Key}
 use Rattle.cdm_runway.specs.declared.load.Taken.{Taken}
-use Rattle.cdm_sequence.specs.Aims.{ReachesAt, is_candidate, ready_at, IsTarget}
-use Rattle.cdm_sequence.specs.Plan.{IsLeast, taken_before}
-use Rattle.cdm_sequence.specs.Sequence.{IsRightlyBlocked, planned_slot}
-use Rattle.cdm_sequence.specs.declared.rule.Rule.{Rule}
-use Rattle.cdm_sequence.specs.declared.rule.Rule.TheVariants as rule
-use Rattle.cdm_view.specs.Reasons.{Waiting, slots_on, is_earlier}
-use Rattle.cdm_view.specs.Waits.{Waits}
+use Rattle.cdm_sequence.specs.{Aims.ReachesAt, Aims.is_candidate, Aims.ready_at, Aims.IsTarget, Plan.IsLeast, Plan.taken_before}
+use Rattle.cdm_sequence.specs.{Sequence.IsRightlyBlocked, Sequence.planned_slot, declared.rule.Rule.Rule, Slots.is_fixed}
+use Rattle.cdm_view.specs.{Reasons.Waiting, Reasons.slots_on, Reasons.is_earlier, Waits.Waits}
 use Rattle.cdm_view.proofs.TurnLemmas.{slot_for, earlier_taken, IsPlaced, IsTurn, blocked_for, placed_at}
 use Rattle.cdm_view.proofs.ListLemmas.{contains_flat, contains_given, contains_in_flat, option_map_some}
-use Rattle.cdm_view.proofs.ReasonLemmas.{and_next, earliest_for, is_candidate_for, none_before, taken_as, Blocked}
-use Rattle.cdm_view.proofs.ReasonLemmas.{always}
+use Rattle.cdm_view.proofs.ReasonLemmas.{and_next, earliest_for, is_candidate_for, none_before, taken_as, Blocked, always}
 use Rattle.cdm_view.proofs.WaitingLemmas.{IsMadeOf, fixed_flight, flight_aimed, key_says, made_of, same_flight, told}
-use Rattle.cdm_plan.proofs.NameLemmas.{day_rules_differ, find_only, find_some}
-use Rattle.cdm_plan.proofs.OnePlanLemmas.{partner}
-use Rattle.cdm_flight.specs.Order.{is_before}
-use Rattle.cdm_flight.specs.Record.{key_of}
-use Rattle.cdm_flight.specs.declared.key.Key.{Key}
-use Rattle.cdm_sequence.specs.Slots.{is_fixed}
 use Rattle.cdm_view.proofs.StandingLemmas.{Parts, parts_on, plans_named}
+use Rattle.cdm_sequence.specs.declared.rule.Rule.TheVariants as rule
 
 blocked_says : (name : List ℕ) (a : AimResult) (b : BlockedFlight) → blocked_in name a ≡ Some b → (a ≡ Early b.rule) × (b.name ≡ name)
 blocked_says name a b h = grind arith

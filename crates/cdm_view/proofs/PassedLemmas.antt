@@ -1,20 +1,12 @@
 -- Items by name that changed: those before are passed name by name.
-use Rattle.std.proofs.Common.{◌≡◌, ℕ, zero, suc, ◌+◌, ◌<◌, ◌≤◌, Bool, true, false, cond, ◌||◌, List, [], ◌∷◌}
-use Rattle.std.proofs.Common.{◌++◌, length, length-drop, get_or, drop, map, take, filter, not, Some, refl, sym, ◌∙◌, ap, add-zero, arith}
-use Rattle.std.specs.Cmp.{IsStrictWeakOrder}
-use Rattle.std.specs.List.{prefix_len}
-use Rattle.std.specs.List.Sorted.{IsSortedByKey}
-use Rattle.std.specs.Option.{option_map_or}
-use Rattle.std.specs.Ordering.{is_lt}
+use Rattle.std.proofs.Common.{◌≡◌, ℕ, zero, suc, ◌+◌, ◌<◌, ◌≤◌, Bool, true, false, cond, ◌||◌, List, [], ◌∷◌, ◌++◌, length, length-drop, get_or, drop}
+use Rattle.std.proofs.Common.{map, take, filter, not, Some, refl, sym, ◌∙◌, ap, add-zero, arith}
 use Rattle.std.proofs.Math.Bool.{or-false}
-use Rattle.std.proofs.lemmas.Bool.{false_from_ne_true, false≢true}
-use Rattle.std.proofs.lemmas.Cmp.{nat_list_cmp_total}
-use Rattle.std.proofs.lemmas.List.{get_or-drop, get_or-take, get_or_default, take-append-drop}
-use Rattle.std.proofs.lemmas.List.Sums.{prefix_len_passes, prefix_len_stops}
-use Rattle.std.proofs.lemmas.List.Elements.{filter_more}
-use Rattle.std.proofs.lemmas.List.Folds.{length-prefix_len, list_any-append, list_any_none}
-use Rattle.std.proofs.lemmas.List.Sorted.{ranks_by, sorted_far}
-use Rattle.std.proofs.lemmas.Option.{get_or_from_slice_get, slice_get_within}
+use Rattle.std.proofs.lemmas.{Bool.false_from_ne_true, Bool.false≢true, Cmp.nat_list_cmp_total, List.get_or-drop, List.get_or-take}
+use Rattle.std.proofs.lemmas.{List.get_or_default, List.take-append-drop, List.Sums.prefix_len_passes, List.Sums.prefix_len_stops}
+use Rattle.std.proofs.lemmas.{List.Elements.filter_more, List.Folds.length-prefix_len, List.Folds.list_any-append, List.Folds.list_any_none}
+use Rattle.std.proofs.lemmas.{List.Sorted.ranks_by, List.Sorted.sorted_far, Option.get_or_from_slice_get, Option.slice_get_within, Grind.common_steps}
+use Rattle.std.specs.{Cmp.IsStrictWeakOrder, List.prefix_len, List.Sorted.IsSortedByKey, Option.option_map_or, Ordering.is_lt}
 use Rattle.cdm_flight.proofs.Lists.{apart_from_head, sorted_rest}
 use Rattle.cdm_plan.proofs.ListWords.{IsDistinct, IsDistinct-tail, contains_map, list_any, slice_get}
 use Rattle.cdm_plan.proofs.PlanWords.{is_same, name_cmp, same_is, same_name, tied_names}
@@ -97,19 +89,14 @@ module _ {X : Type 0} (name_of : X → List ℕ) (alike : X → X → Bool) wher
   -- the items that weren't there before, up to a place and with it
   pub new_next : (before items : List X) (place : ℕ) (x : X) → place < length items → get_or items place x ≡ x → (b : Bool) → has before x ≡ b
       → filter (λ t. not (has before t)) (take (place + 1) items) ≡ filter (λ t. not (has before t)) (take place items) ++ cond (not b) (x ∷ []) []
-  new_next before items place x within at b e =
-      let new : X → Bool = λ t. not (has before t) in
-      let here = (λ i. cond (new (at i)) (at i ∷ []) []) ∙ ap (λ v. cond (not v) (x ∷ []) []) e in
-      filter_more new items place x within ∙ ap (λ l. filter new (take place items) ++ l) here
+  new_next before items place x within at b e = grind (arith, common_steps, has, filter_more)
 
   module _ (unlike : (a b : X) → same_name (name_of a) (name_of b) ≡ false → alike a b ≡ false) where
     -- where the first doesn't come before a name, only the first can be the item of the name
     first_only : (left : List X) (x : X) → AreByName left
         → ((y : X) → slice_get left 0 ≡ Some y → is_below (name_of x) y ≡ false) → has left x ≡ has_first left x
     first_only [] x keeps first = refl
-    first_only (y ∷ left) x keeps first =
-        let later = any_without (λ u. alike u x) left (λ u i. unlike u x (later_others y left x keeps (first y refl) i.0 u i.1 i.2)) in
-        ap (λ b. alike y x || b) later ∙ or-false (alike y x)
+    first_only (y ∷ left) x keeps first = grind (arith, common_steps, any_without, later_others, or-false)
 
     module _ (before left items : List X) (keeps : AreByName items) (place : ℕ) (x : X) (within : place < length items)
         (at : get_or items place x ≡ x) (still : StillHas before left items place) where

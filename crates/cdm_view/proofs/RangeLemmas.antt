@@ -1,16 +1,12 @@
 -- Numbers one after another, and those among them that lie between numbers that pass a test.
-use Rattle.std.proofs.Common.{ℕ, suc, zero, ◌≡◌, ◌+◌, ◌-◌, ◌<◌, ◌≤◌, Bool, true, false, cond, List, [], ◌∷◌, ◌++◌, refl, sym, ap, ◌∙◌, arith, add-zero, zero-add}
-use Rattle.std.specs.Prelude.{◌&&◌, nat_le, filter}
-use Rattle.std.specs.List.{list_any, range_with_len, count_by, Contains, flat_map}
-use Rattle.std.proofs.lemmas.Bool.Decides.{nat_tests}
-use Rattle.std.proofs.lemmas.List.{append-nil, flat_map_more}
-use Rattle.std.proofs.lemmas.List.Elements.{filter-append}
-use Rattle.std.proofs.lemmas.Bool.{and_left, and_parts, and_right, false_from_ne_true, leb-true}
-use Rattle.std.proofs.lemmas.List.FromFn.{get_or-range_with_len, length-range_with_len}
-use Rattle.std.proofs.lemmas.List.Sums.{sum_by-append}
-use Rattle.cdm_view.specs.Load.{is_between}
+use Rattle.std.proofs.Common.{ℕ, suc, zero, ◌≡◌, ◌+◌, ◌-◌, ◌<◌, ◌≤◌, Bool, true, false, cond, List, [], ◌∷◌, ◌++◌, refl, sym, ap, ◌∙◌, arith}
+use Rattle.std.proofs.Common.{add-zero, zero-add}
+use Rattle.std.proofs.lemmas.{Bool.Decides.nat_tests, Bool.and_left, Bool.and_parts, Bool.and_right, Bool.false_from_ne_true, Bool.leb-true}
+use Rattle.std.proofs.lemmas.{List.append-nil, List.flat_map_more, List.Elements.filter-append, List.FromFn.get_or-range_with_len}
+use Rattle.std.proofs.lemmas.{List.FromFn.length-range_with_len, List.Sums.sum_by-append, Grind.common_steps}
+use Rattle.std.specs.{Prelude.◌&&◌, Prelude.nat_le, Prelude.filter, List.list_any, List.range_with_len, List.count_by, List.Contains, List.flat_map}
+use Rattle.cdm_view.specs.{Load.is_between, inner.Ends.AreEnds}
 use Rattle.cdm_view.proofs.ListLemmas.{any_with, any_without, filter_all, filter_none}
-use Rattle.cdm_view.specs.inner.Ends.{AreEnds}
 
 -- as many numbers, and then as many more
 pub range-append : (a m n : ℕ) → range_with_len a (m + n) ≡ range_with_len a m ++ range_with_len (a + m) n
@@ -47,10 +43,7 @@ pub range-contains : (n k : ℕ) → k < n → Contains (range_with_len 0 n) k
 range-contains n k below = (k, rw length-range_with_len below, get_or-range_with_len 0 n k k below ∙ zero-add k)
 
 pub range-bounds : (a n k : ℕ) → Contains (range_with_len a n) k → (a ≤ k) × (k < a + n)
-range-bounds a n k (i, within, at) =
-    let short : i < n = rw length-range_with_len at within in
-    let same = sym (get_or-range_with_len a n i k short) ∙ at in
-    (omega arith, omega arith)
+range-bounds a n k (i, within, at) = grind (arith, common_steps, length-range_with_len, get_or-range_with_len)
 
 -- a number is between two that pass
 is_among : (test : ℕ → Bool) (n first k last : ℕ) → first ≤ k → k ≤ last → last < n → test first ≡ true
@@ -93,8 +86,8 @@ module _ (test : ℕ → Bool) (n from to : ℕ) (ends : AreEnds test n from to)
       let none = none_there (λ j. nat_le k j) (λ j h begun ended. let order = leb-true k j h in omega arith) in
       and_right _ _ none
 
-  pub between-is_range : filter (is_between test (range_with_len 0 n)) (range_with_len 0 n) ≡ range_with_len from (to - from)
-  between-is_range =
+  pub between_is_range : filter (is_between test (range_with_len 0 n)) (range_with_len 0 n) ≡ range_with_len from (to - from)
+  between_is_range =
       let passes = is_between test (range_with_len 0 n) in
       let order = ends.order in
       let bound = ends.within in

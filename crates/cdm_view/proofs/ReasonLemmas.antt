@@ -1,25 +1,19 @@
 -- What a reason to wait at a minute says of it, and which rule blocks a flight, by its reasons.
-use Rattle.std.proofs.Common.{◌≡◌, ℕ, suc, ◌+◌, ◌<◌, ◌≤◌, ◌/◌, ◌==◌, Bool, true, false, not, cond, ◌&&◌, List}
-use Rattle.std.proofs.Common.{length, filter, map, Option, Some, None, refl, sym, ◌∙◌, subst, inl, inr, arith}
-use Rattle.std.specs.Bool.{Decides}
-use Rattle.std.specs.Option.{IsSome, IfSome, IsSomeAnd}
-use Rattle.std.proofs.lemmas.Bool.{and_from, and_parts, both_ways, cases_lt, cond_both, le-leb, leb-false, leb-true}
-use Rattle.std.proofs.lemmas.Bool.{lt-ltb, ltb-false, ltb-true, not-false, not-true, not_from_false}
-use Rattle.std.proofs.lemmas.Bool.Decides.{Decides-by_and, nat_tests}
-use Rattle.std.proofs.lemmas.List.Sums.{length-filter}
-use Rattle.cdm_flight.proofs.Lists.{sum_map}
+use Rattle.std.proofs.Common.{◌≡◌, ℕ, suc, ◌+◌, ◌<◌, ◌≤◌, ◌/◌, ◌==◌, Bool, true, false, not, cond, ◌&&◌, List, length, filter, map, Option, Some}
+use Rattle.std.proofs.Common.{None, refl, sym, ◌∙◌, subst, inl, inr, arith}
+use Rattle.std.proofs.lemmas.{List.Sums.length-filter, Grind.common_steps}
+use Rattle.std.proofs.lemmas.Bool.{and_from, and_parts, both_ways, cases_lt, cond_both, le-leb, leb-false, leb-true, lt-ltb, ltb-false, ltb-true}
+use Rattle.std.proofs.lemmas.Bool.{not-false, not-true, not_from_false, Decides.Decides-by_and, Decides.nat_tests}
+use Rattle.std.specs.{Bool.Decides, Option.IsSome, Option.IfSome, Option.IsSomeAnd}
+use Rattle.cdm_flight.{proofs.Lists.sum_map, specs.Taxi.stand_minutes}
 use Rattle.cdm_plan.proofs.ListWords.{All, count_by, nat_le, nat_lt, option_map_or}
 use Rattle.cdm_plan.proofs.PlanWords.{RunwayRules, Slot}
 use Rattle.cdm_time.specs.Windows.{is_in_tolerance}
-use Rattle.cdm_runway.specs.Room.{cap_at, held_in_cell, is_closed, meets, taken_by, IsSpaced}
-use Rattle.cdm_runway.specs.declared.load.Taken.{Taken}
-use Rattle.cdm_flight.specs.Taxi.{stand_minutes}
-use Rattle.cdm_sequence.specs.Aims.{is_candidate, ready_at}
-use Rattle.cdm_sequence.specs.declared.rule.Rule.{Rule}
-use Rattle.cdm_sequence.specs.declared.rule.Rule.TheVariants as rule
+use Rattle.cdm_runway.specs.{Room.cap_at, Room.held_in_cell, Room.is_closed, Room.meets, Room.taken_by, Room.IsSpaced, declared.load.Taken.Taken}
+use Rattle.cdm_sequence.specs.{Aims.is_candidate, Aims.ready_at, declared.rule.Rule.Rule}
+use Rattle.cdm_view.specs.{Waits.place_of, Waits.rule_of, declared.reason.Reason.Reason}
 use Rattle.cdm_view.specs.Reasons.{reason_at, Waiting, held_at, met_at}
-use Rattle.cdm_view.specs.Waits.{place_of, rule_of}
-use Rattle.cdm_view.specs.declared.reason.Reason.{Reason}
+use Rattle.cdm_sequence.specs.declared.rule.Rule.TheVariants as rule
 
 -- Lists.
 
@@ -93,10 +87,7 @@ module _ (w : Waiting) (m : ℕ) where
 
   -- one rule more
   pub and_next : (q : Rule) → KeepsBefore w m (place_of q) → Keeps w m q → KeepsBefore w m (suc (place_of q))
-  and_next q before here r below = elim (cases_lt (place_of r) (place_of q)) [
-    | inl less ↦ before r less
-    | inr other ↦ subst (Keeps w m) (one_place q r (omega arith)) here
-  ]
+  and_next q before here r below = grind (arith, common_steps, cases_lt, one_place)
 
   pub none_before : KeepsBefore w m 3
   none_before r below = grind arith

@@ -1,9 +1,8 @@
 -- Runs of minutes, and how one more minute changes them.
-use Rattle.std.proofs.Common.{◌≡◌, ℕ, ◌+◌, ◌<◌, ◌≤◌, List, [], ◌∷◌, ◌++◌, Option, Some, None, ◌⊎◌, inl, inr, ap, sym}
-use Rattle.std.proofs.Common.{◌∙◌, refl, subst, append_assoc, arith}
-use Rattle.cdm_view.specs.declared.reason.Reason.{Reason}
-use Rattle.cdm_view.specs.declared.runs.Run.{Run}
-use Rattle.cdm_view.specs.Runs.{AreRuns, IsNextRun}
+use Rattle.std.proofs.Common.{◌≡◌, ℕ, ◌+◌, ◌<◌, ◌≤◌, List, [], ◌∷◌, ◌++◌, Option, Some, None, ◌⊎◌, inl, inr, ap, sym, ◌∙◌, refl, subst, append_assoc}
+use Rattle.std.proofs.Common.{arith}
+use Rattle.std.proofs.lemmas.Grind.{common_steps}
+use Rattle.cdm_view.specs.{declared.reason.Reason.Reason, declared.runs.Run.Run, Runs.AreRuns, Runs.IsNextRun}
 
 -- There is one list of runs.
 
@@ -19,17 +18,7 @@ none_longer told from to r s a b first reason h =
 
 -- two first runs are one
 next_one : (told : ℕ → Option Reason) (from to : ℕ) (r s : Run) → IsNextRun told from to r → IsNextRun told from to s → r ≡ s
-next_one told from to r s a b =
-    let one_first : r.first < s.first → ⊥ = λ h. begins told from to r a (b.none_before r.first a.after h) in
-    let other_first : s.first < r.first → ⊥ = λ h. begins told from to s b (a.none_before s.first b.after h) in
-    let first : r.first ≡ s.first = omega (arith, one_first, other_first) in
-    let here : told r.first ≡ Some r.reason = a.held r.first (omega arith) a.order in
-    let there : told s.first ≡ Some s.reason = b.held s.first (omega arith) b.order in
-    let reason : r.reason ≡ s.reason = cc in
-    let one_last : r.last < s.last → ⊥ = none_longer told from to r s a b first reason in
-    let other_last : s.last < r.last → ⊥ = none_longer told from to s r b a (sym first) (sym reason) in
-    let last : r.last ≡ s.last = omega (arith, one_last, other_last) in
-    λ i. record { first = first i; last = last i; reason = reason i }
+next_one told from to r s a b = grind (arith, common_steps, begins, none_longer)
 
 pub runs_one : (told : ℕ → Option Reason) (from to : ℕ) (xs ys : List Run) → AreRuns told from to xs → AreRuns told from to ys → xs ≡ ys
 unfolding AreRuns
@@ -49,14 +38,7 @@ runs_one told from to (r ∷ xs) (s ∷ ys) a b =
 -- a run stays as long as it can be, unless the minute after it has its reason
 next_grows : (told : ℕ → Option Reason) (from m : ℕ) (r : Run) → IsNextRun told from m r → (r.last + 1 ≡ m → told m ≡ Some r.reason → ⊥)
     → IsNextRun told from (m + 1) r
-next_grows told from m r a other = record {
-  after = a.after;
-  order = a.order;
-  within = omega (arith, a.within);
-  none_before = a.none_before;
-  held = a.held;
-  longest = λ h e. grind (arith, a.longest, other);
-}
+next_grows told from m r a other = grind (arith, common_steps)
 
 -- a minute without a reason changes no run
 pub runs_none : (told : ℕ → Option Reason) (from m : ℕ) (runs : List Run) → AreRuns told from m runs → told m ≡ None → AreRuns told from (m + 1) runs
@@ -71,14 +53,7 @@ run_at m reason = record { first = m; last = m; reason = reason }
 -- it is the first run where no minute before it has a reason
 run_of_one : (told : ℕ → Option Reason) (from m : ℕ) (reason : Reason) → ((k : ℕ) → from ≤ k → k < m → told k ≡ None) → from ≤ m → told m ≡ Some reason
     → IsNextRun told from (m + 1) (run_at m reason)
-run_of_one told from m reason none after here = record {
-  after = after;
-  order = omega arith;
-  within = omega arith;
-  none_before = none;
-  held = λ k low high. grind arith;
-  longest = λ h e. absurd (omega (arith, h));
-}
+run_of_one told from m reason none after here = grind (arith, common_steps)
 
 no_minute : (told : ℕ → Option Reason) (m : ℕ) → AreRuns told (m + 1) (m + 1) []
 unfolding AreRuns
@@ -103,10 +78,7 @@ runs_behind : (told : ℕ → Option Reason) (m : ℕ) (r : Run) (next : List Ru
 unfolding AreRuns
 runs_behind told m r next step from [] a = step from a
 runs_behind told m r next step from (p ∷ before) a =
-    let more : p.last + 1 < m = some_minute told (p.last + 1) m before r a.1 in (
-      next_grows told from m p a.0 (λ end e. absurd (omega (arith, more, end))),
-      runs_behind told m r next step (p.last + 1) before a.1,
-    )
+    grind (arith, common_steps, some_minute, next_grows, runs_behind told m r next step (p.last + 1) before a.1)
 
 -- a new run behind the others
 pub runs_other : (told : ℕ → Option Reason) (from m : ℕ) (reason : Reason) (before : List Run) (r : Run) → AreRuns told from m (before ++ r ∷ []) → told m ≡ Some reason
@@ -123,18 +95,7 @@ runs_other told from m reason before r a here other =
 pub runs_same : (told : ℕ → Option Reason) (from m : ℕ) (reason : Reason) (before : List Run) (r : Run) → AreRuns told from m (before ++ r ∷ [])
     → told m ≡ Some reason → r.reason ≡ reason → r.last + 1 ≡ m → AreRuns told from (m + 1) (before ++ record { first = r.first; last = m; reason = reason } ∷ [])
 unfolding AreRuns
-runs_same told from m reason before r a here same end =
-    runs_behind told m r (record { first = r.first; last = m; reason = reason } ∷ []) (λ k b. (
-      record {
-        after = b.0.after;
-        order = omega (arith, b.0.order, end);
-        within = omega arith;
-        none_before = b.0.none_before;
-        held = λ j low high. grind (arith, b.0.held j);
-        longest = λ h e. absurd (omega (arith, h));
-      },
-      no_minute told m,
-    )) from before a
+runs_same told from m reason before r a here same end = grind (arith, common_steps, runs_behind, no_minute)
 
 -- no minute, and no run
 pub runs_start : (told : ℕ → Option Reason) (from m : ℕ) (runs : List Run) → runs ≡ [] → m ≡ from → AreRuns told from m runs

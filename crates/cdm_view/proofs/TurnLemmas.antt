@@ -1,31 +1,22 @@
 -- A flight's turn: what the slots before it take, its earliest minute, and what blocks its target.
-use Rattle.std.proofs.Common.{◌≡◌, ℕ, Bool, true, false, List, [], ◌∷◌, ◌++◌, filter, map, Option, Some, None, refl}
-use Rattle.std.proofs.Common.{sym, ◌∙◌, ap, subst, suc, ◌+◌, ◌<◌, ◌≤◌, ◌/◌, ◌==◌, cond, arith}
-use Rattle.std.proofs.lemmas.List.Elements.{filter-append}
-use Rattle.cdm_plan.proofs.ListWords.{Contains, IsPermutation, IsPermutation-map, filter_map, map-append}
-use Rattle.cdm_plan.proofs.ListWords.{filter_map-filter, filter_map_same, if_so, option_map}
-use Rattle.cdm_plan.proofs.ListWords.{All-permutation, IsPermutation-sym, sum_by-IsPermutation}
+use Rattle.std.proofs.Common.{◌≡◌, ℕ, Bool, true, false, List, [], ◌∷◌, ◌++◌, filter, map, Option, Some, None, refl, sym, ◌∙◌, ap, subst, suc, ◌+◌}
+use Rattle.std.proofs.Common.{◌<◌, ◌≤◌, arith}
+use Rattle.std.proofs.lemmas.{List.Elements.filter-append, Bool.Decides.nat_tests, Bool.both_ways, Grind.common_steps}
+use Rattle.std.specs.Option.{IsSome, IsSomeAnd}
+use Rattle.cdm_plan.proofs.ListWords.{Contains, IsPermutation, IsPermutation-map, filter_map, map-append, filter_map-filter, filter_map_same, if_so}
+use Rattle.cdm_plan.proofs.ListWords.{option_map, All-permutation, IsPermutation-sym, sum_by-IsPermutation}
 use Rattle.cdm_plan.proofs.PlanningLemmas.{filter-filter_map}
 use Rattle.cdm_plan.proofs.PlanWords.{if_passes, Placing, RunwayRules, Slot, Target, takeoffs}
-use Rattle.cdm_flight.proofs.Lists.{IsPermutation-filter}
-use Rattle.cdm_flight.specs.Order.{is_before}
+use Rattle.cdm_flight.{proofs.Lists.IsPermutation-filter, specs.Order.is_before, specs.declared.group.Group.Group}
 use Rattle.cdm_runway.specs.declared.load.Taken.{Taken}
-use Rattle.cdm_sequence.specs.Plan.{taken_before, taken_of}
-use Rattle.cdm_sequence.specs.Sequence.{planned_slot, Blocks}
-use Rattle.cdm_view.proofs.ListLemmas.{filter_all, option_map_some}
-use Rattle.cdm_view.proofs.ReasonLemmas.{taken_as, IsSpacedFor, KeepsBefore, and_next, candidate_keeps}
-use Rattle.cdm_view.proofs.ReasonLemmas.{candidate_within, free_keeps, is_candidate_for, none_when, some_unless}
-use Rattle.cdm_view.proofs.ReasonLemmas.{taken_for, Blocked}
-use Rattle.std.specs.Option.{IsSome, IsSomeAnd}
-use Rattle.std.proofs.lemmas.Bool.Decides.{nat_tests}
-use Rattle.std.proofs.lemmas.Bool.{both_ways}
-use Rattle.cdm_flight.specs.declared.group.Group.{Group}
-use Rattle.cdm_time.specs.Windows.{window_has}
 use Rattle.cdm_runway.specs.Room.{held_in_cell, is_closed, meets, taken_by, IsEarliest, IsFree, IsSpaced}
-use Rattle.cdm_sequence.specs.declared.rule.Rule.{Rule}
+use Rattle.cdm_sequence.specs.{Plan.taken_before, Plan.taken_of, Sequence.planned_slot, Sequence.Blocks, declared.rule.Rule.Rule}
+use Rattle.cdm_view.proofs.ListLemmas.{filter_all, option_map_some}
+use Rattle.cdm_view.proofs.ReasonLemmas.{taken_as, IsSpacedFor, KeepsBefore, and_next, candidate_keeps, candidate_within, free_keeps}
+use Rattle.cdm_view.proofs.ReasonLemmas.{is_candidate_for, none_when, some_unless, taken_for, Blocked}
+use Rattle.cdm_view.specs.{Reasons.Waiting, Reasons.reason_at, Waits.place_of}
+use Rattle.cdm_time.specs.Windows.{window_has}
 use Rattle.cdm_sequence.specs.declared.rule.Rule.TheVariants as rule
-use Rattle.cdm_view.specs.Reasons.{Waiting, reason_at}
-use Rattle.cdm_view.specs.Waits.{place_of}
 
 -- what passes a test of what elements give is given by those that pass another
 filter_given : {X Y : Type 0} (q : Y → Bool) (p : X → Bool) (h : X → Option Y) (xs : List X)
@@ -67,10 +58,7 @@ module _ (r : RunwayRules) (p : Placing) where
     -- in whatever order the slots stand
     pub earlier_taken : (slots : List Slot) → IsPermutation (fixed ++ filter_map slot_for targets) slots
         → IsPermutation (taken_before r (takeoffs r fixed) targets p t) (map (taken_as r) (filter earlier slots))
-    earlier_taken slots same =
-        let all = fixed ++ filter_map slot_for targets in
-        subst (λ (ts : List Taken). IsPermutation ts (map (taken_as r) (filter earlier slots))) earlier_take
-        (IsPermutation-map (taken_as r) (filter earlier all) (filter earlier slots) (IsPermutation-filter earlier all slots same))
+    earlier_taken slots same = grind (arith, common_steps, filter_map, slot_for, taken_as, earlier_take, IsPermutation-map, IsPermutation-filter)
 
 -- what is known of a flight's slot
 pub record IsPlaced (w : Waiting) (s : Slot) : Type 0 where
@@ -97,9 +85,7 @@ module _ (w : Waiting) (t : Target) (taken : List Taken) (turn : IsTurn w t take
 
   -- how full a cell is and whom the flight meets doesn't depend on the order of what is taken
   held_is : (k : ℕ) → held_in_cell w.rules.cell (taken_for w) k ≡ held_in_cell w.rules.cell taken k
-  held_is k =
-      sum_by-IsPermutation (λ (t : Taken). cond (t.minute / w.rules.cell == k / w.rules.cell) 1 0) taken (taken_for w)
-      turn.same
+  held_is k = grind (arith, common_steps, sum_by-IsPermutation, taken_for)
 
   spaced_for : (k : ℕ) → IsSpaced w.rules taken t.group k → IsSpacedFor w k
   spaced_for k spaced =

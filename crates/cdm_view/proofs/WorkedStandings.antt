@@ -1,13 +1,8 @@
 -- One line of each kind, written out.
-use Rattle.std.proofs.Common.{◌≡◌, None, Some, refl}
-use Rattle.std.specs.Prelude.{codes}
-use Rattle.std.specs.Fmt.{digits}
-use Rattle.cdm_time.specs.Times.{stamp}
-use Rattle.cdm_time.specs.declared.calendar.CalendarDate.{CalendarDate}
+use Rattle.std.{proofs.Common.◌≡◌, proofs.Common.None, proofs.Common.Some, proofs.Common.refl, specs.Prelude.codes, specs.Fmt.digits}
+use Rattle.cdm_time.specs.{Times.stamp, declared.calendar.CalendarDate.CalendarDate}
 use Rattle.cdm_flight.specs.declared.group.Group.TheVariants.{Medium}
-use Rattle.cdm_sequence.specs.declared.rule.Rule.TheVariants.{Tobt}
-use Rattle.cdm_sequence.specs.declared.slot.Mark.TheVariants.{Planned}
-use Rattle.cdm_sequence.specs.declared.slot.Slot.{Slot}
+use Rattle.cdm_sequence.specs.declared.{rule.Rule.TheVariants.Tobt, slot.Mark.TheVariants.Planned, slot.Slot.Slot}
 use Rattle.cdm_report.specs.Columns.{delay_column, flight_line, left_in, mark_letter, right_in, time_column}
 use Rattle.cdm_view.specs.declared.standing.Standing.TheVariants.{OnRunway, Blocked, Cancelled}
 use Rattle.cdm_view.specs.Standings.{standing_line}

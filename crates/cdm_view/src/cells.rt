@@ -94,6 +94,7 @@ fn ends_of_told(runway: &Runway, usual: u16, slots: &[Slot]) -> (u16, u16)
 
 /// The cells of a runway that are told, by the cap that it usually has: the first that tells something, a flight, a closed minute or
 /// another cap, and the first one behind the last that does.
+#[tactic(auto, using(crate::proofs::RangeLemmas::between_is_range), unfolding(crate::specs::Load::told_cells))]
 pub fn told_cells(runway: &Runway, usual: u16, slots: &[Slot]) -> (u16, u16)
     ensures cells { told_cells runway.now usual slots.now ≡ range_with_len result.0 (result.1 - result.0) }
     ensures order { result.0 ≤ result.1 }

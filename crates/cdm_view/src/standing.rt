@@ -71,6 +71,7 @@ fn line_of(alloc: Global, day: Day, standing: &Standing) -> Result<String, Alloc
 }
 
 /// Whether two standings are of one flight, and have one line.
+#[tactic(auto, using(crate::proofs::EqualLemmas::equal_standings, crate::proofs::ChangeLemmas::told_alike))]
 pub(crate) fn are_told_alike(
     alloc: Global,
     day: Day,

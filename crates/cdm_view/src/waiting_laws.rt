@@ -41,6 +41,7 @@ pub fn a_blocked_flight_waits_always()
 {}
 
 /// A planned flight that waits waits for its own runway: it has a slot on it or is blocked, and not both.
+#[tactic(auto, using(crate::proofs::OutcomeLemmas::on_runway, crate::proofs::OutcomeLemmas::either, crate::proofs::OutcomeLemmas::not_both))]
 pub fn a_waiting_flight_is_placed_or_blocked()
     ensures runway { (d : DayRecord) (plan : Plan) (f : Flight) (w : Waiting) → Waits d plan f w →
         f.runway ≡ Some w.rules.name }

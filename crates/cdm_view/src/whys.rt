@@ -67,6 +67,7 @@ fn end_of_wait(slot: Option<&Slot>) -> Bound
 
 /// What the flight waits for on its stand: nothing once it has left or is cancelled, nor without a TOBT, a runway of the
 /// airport and a taxi-out time to it.
+#[tactic(auto, using(crate::proofs::WaitingLemmas::no_runway))]
 pub fn waits_for<'a, R: Records>(
     alloc: Global,
     records: &'a R,
@@ -105,6 +106,7 @@ fn waits_by<'a, R: Records>(
 
 /// The runs of minutes for which a planned flight waits for the same, from its TOBT and taxi-out time up to its
 /// take-off, or up to the horizon's end where it is blocked. No run of a flight that waits for nothing.
+#[tactic(auto, using(crate::proofs::WaitingLemmas::no_runway))]
 pub fn waits_of<R: Records>(
     alloc: Global,
     records: &R,

@@ -1,10 +1,6 @@
-use Rattle.std.proofs.Common.{◌≡◌, List, subst}
-use Rattle.std.specs.Prelude.{IfOk}
-use Rattle.std.specs.List.{AllZip}
+use Rattle.std.{proofs.Common.◌≡◌, proofs.Common.List, proofs.Common.subst, specs.Prelude.IfOk, specs.List.AllZip}
 use Rattle.cdm_plan.specs.Day.{DayRecord}
-use Rattle.cdm_scenario.specs.Outcome.{IsOutcome}
-use Rattle.cdm_scenario.specs.Scenarios.{ScenarioRecord}
-use Rattle.cdm_scenario.specs.declared.outcome.Outcome.{Outcome}
+use Rattle.cdm_scenario.specs.{Outcome.IsOutcome, Scenarios.ScenarioRecord, declared.outcome.Outcome.Outcome}
 use Rattle.cdm_board.proofs.snapshot.what_if.Goals as goal
 
 AreOutcomes : DayRecord → List ScenarioRecord → List Outcome → Type 0

@@ -1,17 +1,12 @@
-use Rattle.std.proofs.Common.{[], ◌≡◌, ◌+◌, ◌++◌, ℕ, List, length, take, drop, map, ap, ◌∙◌, arith, Bool, true, false, IsTrue}
+use Rattle.std.proofs.Common.{[], ◌≡◌, ◌+◌, ◌++◌, ℕ, List, length, take, drop, map, ap, ◌∙◌, arith, true, false}
 use Rattle.std.proofs.lemmas.List.{length-map, drop_all}
-use Rattle.cdm_board.specs.History.{Call, calls_of}
-use Rattle.cdm_board.specs.Receipts.{call_of, entry_of}
-use Rattle.cdm_board.specs.declared.receipt.Entry.{Entry}
-use Rattle.cdm_board.proofs.Places.{place-next, place-differs, place-short, calls-here, calls-past}
-use Rattle.cdm_board.proofs.state.first_difference.Goals as goal
+use Rattle.cdm_board.specs.{History.Call, History.calls_of, Receipts.call_of, Receipts.entry_of, declared.receipt.Entry.Entry}
+use Rattle.cdm_board.proofs.{Desks.not_so, Places.place-next, Places.place-differs, Places.place-short, Places.calls-here, Places.calls-past}
 use Rattle.cdm_board.proofs.state.first_difference.Goals.{then-entry-desk+else-not-is_call_at, else-entry-desk}
+use Rattle.cdm_board.proofs.state.first_difference.Goals as goal
 
 none-left : (d : ℕ) (es : List Entry) (i : ℕ) → length es ≡ i → calls_of d (map entry_of (drop i es)) ≡ []
 none-left d es i end = ap (λ l. calls_of d (map entry_of l)) (drop_all i es (omega arith))
-
-not_so : {P : Type 0} → (r : Bool) → r ≡ false → (P → IsTrue r) → P → ⊥
-not_so r never so p = (let yes : r ≡ true = so p in cc)
 
 pub returns-then-not-is_call_at : goal.returns-then-not-is_call_at
 returns-then-not-is_call_at c =

@@ -1,6 +1,5 @@
 use Rattle.std.proofs.Common.{◌≡◌, ◌≤◌, ◌++◌, length, take, drop, map}
-use Rattle.cdm_board.specs.History.{calls_of}
-use Rattle.cdm_board.specs.Receipts.{call_of, entry_of}
+use Rattle.cdm_board.specs.{History.calls_of, Receipts.call_of, Receipts.entry_of}
 use Rattle.cdm_board.proofs.state.first_difference.Given as goal
 
 abbrev pub invariant-loop-entry : goal.invariant-loop-entry

@@ -1,14 +1,8 @@
-use Rattle.std.proofs.Common.{◌≡◌, ◌∙◌, length, ap, subst, sym}
-use Rattle.std.specs.Prelude.{All}
-use Rattle.std.proofs.lemmas.List.Elements.{All-weaker}
-use Rattle.std.proofs.lemmas.Slice.Zip.{AllZip-long}
+use Rattle.std.proofs.{Common.◌≡◌, Common.◌∙◌, Common.length, Common.ap, lemmas.List.Elements.All-weaker, lemmas.Slice.Zip.AllZip-long}
 use Rattle.cdm_report.specs.Report.{day_line}
-use Rattle.cdm_scenario.specs.Outcome.{IsOutcome}
-use Rattle.cdm_scenario.specs.Scenarios.{ScenarioRecord}
-use Rattle.cdm_scenario.specs.declared.outcome.Outcome.{Outcome}
+use Rattle.cdm_scenario.specs.{Outcome.IsOutcome, Scenarios.ScenarioRecord, declared.outcome.Outcome.Outcome}
 use Rattle.cdm_sequence.specs.declared.plan.Plan.{Plan}
-use Rattle.cdm_picture.specs.Svg.{picture_text}
-use Rattle.cdm_picture.specs.inner.Spans.{HasOutcome, HaveOutcome, Keeps}
+use Rattle.cdm_picture.specs.{Svg.picture_text, inner.Spans.HasOutcome, inner.Spans.HaveOutcome, inner.Spans.Keeps}
 use Rattle.cdm_picture.proofs.SpanLemmas.{outcome_within, plan_kept, plan_within}
 use Rattle.cdm_picture.proofs.scenes.picture.Goals as goal
 
@@ -20,20 +14,17 @@ scenario_sections-requires-clause-long g c =
 
 pub plan_section-requires : goal.plan_section-requires
 plan_section-requires g c =
-    let first = c.with_plan.result in
-    let span = c.with_outcomes.result in
-    let keeps : Keeps first span = λ m h. c.with_outcomes.ensures.keeps m (c.with_closures-span.ensures m h) in
-    plan_within span c.hours-hours.result c.hours-hours.ensures c.plan-plan.result.now
-    (plan_kept first span keeps c.plan-plan.result.now c.with_plan.ensures.plan)
+    let keeps : Keeps c.with_plan.result c.with_outcomes.result = λ m h. c.with_outcomes.ensures.keeps m (c.with_closures-span.ensures m h) in
+    let plan = c.plan-plan.result.now in
+    plan_within c.with_outcomes.result c.hours-hours.result c.hours-hours.ensures plan
+    (plan_kept c.with_plan.result c.with_outcomes.result keeps plan c.with_plan.ensures.plan)
 
 pub scenario_sections-requires-clause-within : goal.scenario_sections-requires-clause-within
 scenario_sections-requires-clause-within g c =
     let span = c.with_outcomes.result in
-    let hours = c.hours-hours.result in
-    let outcomes = c.in_ok-outcomes.outcomes.items in
-    let told : All (HasOutcome span) outcomes = rw c.deref.ensures.value at c.with_outcomes.ensures.outcomes in
-    subst (All (HaveOutcome hours)) (sym c.deref-2.ensures.value)
-    (All-weaker (HasOutcome span) (HaveOutcome hours) (outcome_within span hours c.hours-hours.ensures) outcomes told)
+    let told = rw c.deref.ensures.value at c.with_outcomes.ensures.outcomes in
+    rw c.deref-2.ensures.value
+    (All-weaker (HasOutcome span) (HaveOutcome c.hours-hours.result) (outcome_within span c.hours-hours.result c.hours-hours.ensures) _ told)
 
 pub returns : goal.returns
 returns g c =

@@ -1,11 +1,7 @@
-use Rattle.std.proofs.Common.{length, arith, refl}
-use Rattle.std.proofs.lemmas.Option.{slice_get_read}
+use Rattle.std.proofs.{Common.length, Common.arith, Common.refl, lemmas.Option.slice_get_read}
 use Rattle.cdm_phase.proofs.Values.{AllZip-step}
-use Rattle.cdm_scenario.specs.Outcome.{IsOutcome}
-use Rattle.cdm_scenario.specs.Scenarios.{ScenarioRecord}
-use Rattle.cdm_scenario.specs.declared.outcome.Outcome.{Outcome}
-use Rattle.cdm_picture.specs.Pictures.{IsScenarioDrawn}
-use Rattle.cdm_picture.proofs.SceneLemmas.{zip_at}
+use Rattle.cdm_scenario.specs.{Outcome.IsOutcome, Scenarios.ScenarioRecord, declared.outcome.Outcome.Outcome}
+use Rattle.cdm_picture.{specs.Pictures.IsScenarioDrawn, proofs.SceneLemmas.zip_at}
 use Rattle.cdm_picture.proofs.scenes.scenario_sections.Goals as goal
 
 pub scenario_section-requires-clause-of : goal.scenario_section-requires-clause-of

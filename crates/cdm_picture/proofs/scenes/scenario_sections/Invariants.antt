@@ -1,5 +1,4 @@
-use Rattle.std.proofs.Common.{take}
-use Rattle.std.specs.List.{AllZip}
+use Rattle.std.{proofs.Common.take, specs.List.AllZip}
 use Rattle.cdm_picture.specs.Pictures.{IsScenarioDrawn}
 use Rattle.cdm_picture.proofs.scenes.scenario_sections.Given as goal
 

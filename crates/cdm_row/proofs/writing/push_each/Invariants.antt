@@ -1,5 +1,4 @@
-use Rattle.std.proofs.Common.{◌≡◌, ◌++◌, map, take}
-use Rattle.std.specs.Prelude.{flat_map}
+use Rattle.std.{proofs.Common.◌≡◌, proofs.Common.◌++◌, proofs.Common.map, proofs.Common.take, specs.Prelude.flat_map}
 use Rattle.json.specs.Tree.{json_tokens}
 use Rattle.cdm_row.specs.Json.{row_json}
 use Rattle.cdm_row.proofs.writing.push_each.Given as goal

@@ -1,9 +1,7 @@
-use Rattle.std.proofs.Common.{◌∙◌, ◌++◌, ap}
+use Rattle.std.proofs.{Common.◌∙◌, Common.◌++◌, Common.ap, Common.arith, lemmas.Grind.common_steps}
 use Rattle.std.specs.Prelude.{flat_map}
 use Rattle.cdm_plan.proofs.NameLemmas.{all_taken}
-use Rattle.cdm_row.specs.Columns.{columns, value_of}
-use Rattle.cdm_row.specs.Json.{member_tokens, row_members}
-use Rattle.cdm_row.proofs.TokenLemmas.{members_next}
+use Rattle.cdm_row.{specs.Columns.columns, specs.Columns.value_of, specs.Json.member_tokens, specs.Json.row_members, proofs.TokenLemmas.members_next}
 use Rattle.cdm_row.proofs.writing.push_members.Goals as goal
 
 pub loop-place-preserved : goal.loop-place-preserved
@@ -16,7 +14,4 @@ loop-place-preserved c = record {
 
 pub returns-clause-tokens : goal.returns-clause-tokens
 unfolding columns
-returns-clause-tokens c =
-    c.loop-place.invariant.tokens
-    ∙ ap (λ ms. c.args.writer.now.tokens ++ flat_map member_tokens ms)
-    (all_taken (row_members c.args.day c.args.row.now) c.loop-place.place c.loop-place-test.false)
+returns-clause-tokens c = grind (arith, common_steps, all_taken)

@@ -1,5 +1,4 @@
-use Rattle.std.proofs.Common.{◌≡◌, ◌++◌, take}
-use Rattle.std.specs.Prelude.{flat_map}
+use Rattle.std.{proofs.Common.◌≡◌, proofs.Common.◌++◌, proofs.Common.take, specs.Prelude.flat_map}
 use Rattle.cdm_row.specs.Json.{member_tokens, row_members}
 use Rattle.cdm_row.proofs.writing.push_members.Given as goal
 

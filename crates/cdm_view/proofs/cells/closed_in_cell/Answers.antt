@@ -1,7 +1,6 @@
 use Rattle.std.proofs.Common.{◌≡◌, ◌+◌, ◌-◌, arith}
 use Rattle.cdm_runway.specs.Room.{is_closed}
-use Rattle.cdm_view.proofs.RangeLemmas.{count_more}
-use Rattle.cdm_view.proofs.cells.closed_in_cell.Goals.{then-closed, else-closed}
+use Rattle.cdm_view.proofs.{RangeLemmas.count_more, cells.closed_in_cell.Goals.then-closed, cells.closed_in_cell.Goals.else-closed}
 use Rattle.cdm_view.proofs.cells.closed_in_cell.Goals as goal
 
 pub loop-number-preserved : goal.loop-number-preserved

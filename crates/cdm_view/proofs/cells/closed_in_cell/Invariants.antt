@@ -1,5 +1,4 @@
-use Rattle.std.proofs.Common.{◌≡◌, ◌-◌, ◌≤◌}
-use Rattle.std.specs.List.{count_by, range_with_len}
+use Rattle.std.{proofs.Common.◌≡◌, proofs.Common.◌-◌, proofs.Common.◌≤◌, specs.List.count_by, specs.List.range_with_len}
 use Rattle.cdm_runway.specs.Room.{is_closed}
 use Rattle.cdm_view.proofs.cells.closed_in_cell.Given as goal
 

@@ -1,5 +1,4 @@
-use Rattle.cdm_view.specs.Load.{tells}
-use Rattle.cdm_view.specs.inner.Ends.{AreEnds}
+use Rattle.cdm_view.specs.{Load.tells, inner.Ends.AreEnds}
 use Rattle.cdm_view.proofs.cells.ends_of_told.Given as goal
 
 -- the ends among the cells so far

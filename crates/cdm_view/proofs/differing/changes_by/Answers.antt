@@ -1,6 +1,6 @@
-use Rattle.cdm_plan.proofs.KeptLemmas.{same_elsewhere}
-use Rattle.cdm_plan.specs.Kept.{IsMade}
+use Rattle.cdm_plan.{proofs.KeptLemmas.same_elsewhere, specs.Kept.IsMade}
 use Rattle.cdm_view.proofs.ChangeLemmas.{changed_to, left_apart}
+use Rattle.std.proofs.{Common.arith, lemmas.Grind.common_steps}
 use Rattle.cdm_view.proofs.differing.changes_by.Goals as goal
 
 pub differing_plans-requires : goal.differing_plans-requires
@@ -20,6 +20,4 @@ changes_of-requires-clause-after c =
     left_apart c.args.after.now c.plan-2.result.now are.same _ c.plan-2.ensures.sound c.plan-2.ensures.of_day are.of_other
 
 pub returns : goal.returns
-returns c =
-    changed_to c.args.before.now c.args.after.now c.plan.result.now c.plan-2.result.now c.plan-2.ensures.sound c.plan.ensures.of_day c.plan-2.ensures.of_day
-    _ _ _ (c.in_ok-push_cancelled_by.ensures _ _ c.in_ok-differing.ensures) (rw c.day.ensures at c.in_ok-changed.ensures.all) c.in_ok-changed.ensures.by_name
+returns c = grind (arith, common_steps, changed_to)

@@ -1,4 +1,5 @@
 use Rattle.cdm_view.proofs.ChangeLemmas.{changed_to, left_apart}
+use Rattle.std.proofs.{Common.arith, lemmas.Grind.common_steps}
 use Rattle.cdm_view.proofs.differing.changes_to.Goals as goal
 
 pub changes_of-requires-clause-before : goal.changes_of-requires-clause-before
@@ -12,7 +13,4 @@ changes_of-requires-clause-after g c =
     left_apart (g.R.Records.day c.args.after.now) c.args.plan.now are.same _ c.in_ok-push_cancelled_of.ensures.sound c.requires are.of_other
 
 pub returns : goal.returns
-returns g c =
-    let are = c.in_ok-push_cancelled_of.ensures.pushed _ _ c.in_ok-differing.ensures in
-    changed_to c.args.before.now (g.R.Records.day c.args.after.now) c.plan.result.now c.args.plan.now c.in_ok-push_cancelled_of.ensures.sound
-    c.plan.ensures.of_day c.requires _ _ _ are (rw c.day.ensures at c.in_ok-changed.ensures.all) c.in_ok-changed.ensures.by_name
+returns g c = grind (arith, common_steps, changed_to)

@@ -1,7 +1,5 @@
-use Rattle.std.proofs.Common.{take}
-use Rattle.std.specs.List.{flat_map}
-use Rattle.cdm_view.specs.Standings.{on_runway}
-use Rattle.cdm_view.specs.inner.Left.{AreLeft}
+use Rattle.std.{proofs.Common.take, specs.List.flat_map}
+use Rattle.cdm_view.specs.{Standings.on_runway, inner.Left.AreLeft}
 use Rattle.cdm_view.proofs.differing.differing_slots.Given as goal
 
 abbrev pub invariant-loop-place : goal.invariant-loop-place

@@ -1,6 +1,5 @@
 use Rattle.std.proofs.Common.{map}
-use Rattle.cdm_view.specs.declared.standing.Standing.TheVariants.{Blocked}
-use Rattle.cdm_view.proofs.ChangeLemmas.{rests_map, rests_more}
+use Rattle.cdm_view.{specs.declared.standing.Standing.TheVariants.Blocked, proofs.ChangeLemmas.rests_map, proofs.ChangeLemmas.rests_more}
 use Rattle.cdm_view.proofs.differing.push_blocked_of.Goals as goal
 
 pub returns : goal.returns

@@ -1,8 +1,6 @@
 use Rattle.std.proofs.Common.{◌∙◌, ◌++◌, ap, subst, sym}
 use Rattle.cdm_plan.proofs.PlanWords.{RunwayPlan, is_touched, same_is}
-use Rattle.cdm_view.specs.Standings.{on_runway}
-use Rattle.cdm_view.specs.inner.Left.{AreLeft}
-use Rattle.cdm_view.proofs.ChangeLemmas.{rests_same}
+use Rattle.cdm_view.{specs.Standings.on_runway, specs.inner.Left.AreLeft, proofs.ChangeLemmas.rests_same}
 use Rattle.cdm_view.proofs.differing.push_if_touched.Goals as goal
 
 pub returns-then-not-has : goal.returns-then-not-has

@@ -1,8 +1,6 @@
 use Rattle.std.proofs.Common.{◌∙◌, ◌++◌, List, ℕ, ap, map}
 use Rattle.cdm_plan.proofs.PlanWords.{RunwayPlan}
-use Rattle.cdm_view.specs.Standings.{on_runway}
-use Rattle.cdm_view.specs.declared.standing.Standing.TheVariants.{OnRunway}
-use Rattle.cdm_view.proofs.ChangeLemmas.{rests_more}
+use Rattle.cdm_view.{specs.Standings.on_runway, specs.declared.standing.Standing.TheVariants.OnRunway, proofs.ChangeLemmas.rests_more}
 use Rattle.cdm_view.proofs.differing.push_runway.Goals as goal
 
 pub returns : goal.returns

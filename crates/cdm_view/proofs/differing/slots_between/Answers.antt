@@ -1,18 +1,12 @@
-use Rattle.std.proofs.Common.{◌≡◌, ◌∙◌, List, ℕ, ap, map, subst, sym}
-use Rattle.std.proofs.lemmas.Bool.{not-false}
+use Rattle.std.proofs.Common.{◌≡◌, ◌∙◌, List, ℕ, ap, map, subst, sym, arith}
+use Rattle.std.proofs.lemmas.{Bool.not-false, Grind.common_steps}
 use Rattle.cdm_plan.proofs.PlanWords.{RunwayPlan, same_is, same_name}
-use Rattle.cdm_view.specs.Standings.{on_runway}
-use Rattle.cdm_view.specs.declared.standing.Standing.TheVariants.{OnRunway}
-use Rattle.cdm_view.specs.inner.Left.{AreRests}
+use Rattle.cdm_view.specs.{Standings.on_runway, declared.standing.Standing.TheVariants.OnRunway, inner.Left.AreRests}
 use Rattle.cdm_view.proofs.ChangeLemmas.{rests_all, rests_map}
 use Rattle.cdm_view.proofs.differing.slots_between.Goals as goal
 
 pub returns-then-ne : goal.returns-then-ne
-returns-then-ne c =
-    let slots = ap (λ (p : RunwayPlan). p.slots) c.before-2.view_is in
-    let others = ap (λ (p : RunwayPlan). p.slots) c.after.view_is in
-    rw (c.in_ok-from_slice.ensures.items ∙ c.as_slice-slots.ensures ∙ slots, c.in_ok-from_slice-2.ensures.items ∙ c.as_slice-others.ensures ∙ others)
-    (rests_all (on_runway c.args.before.now) (on_runway c.args.after.now))
+returns-then-ne c = grind (arith, common_steps, rests_all)
 
 pub returns : goal.returns
 returns c =

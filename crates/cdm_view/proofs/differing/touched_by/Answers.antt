@@ -1,5 +1,4 @@
-use Rattle.cdm_plan.proofs.KeptLemmas.{since_itself, since_taken}
-use Rattle.cdm_plan.specs.declared.touched.Noting.TheVariants.{CountedFlights}
+use Rattle.cdm_plan.{proofs.KeptLemmas.since_itself, proofs.KeptLemmas.since_taken, specs.declared.touched.Noting.TheVariants.CountedFlights}
 use Rattle.cdm_view.proofs.differing.touched_by.Goals as goal
 
 pub returns : goal.returns

@@ -1,6 +1,5 @@
 use Rattle.std.proofs.Common.{◌≡◌, ◌++◌, IsTrue, take}
-use Rattle.cdm_plan.proofs.ListWords.{All, filter_map}
-use Rattle.cdm_plan.proofs.PlanWords.{flight_of, flights_in, Flight}
+use Rattle.cdm_plan.proofs.{ListWords.All, ListWords.filter_map, PlanWords.flight_of, PlanWords.flights_in, PlanWords.Flight}
 use Rattle.cdm_flight.specs.Record.{is_sound}
 use Rattle.cdm_view.specs.Standings.{cancelled}
 use Rattle.cdm_view.proofs.gathering.push_cancelled.Given as goal

@@ -1,10 +1,8 @@
 use Rattle.std.proofs.Common.{ℕ, ◌≤◌, List, ◌++◌, length, sym, ap, ◌∙◌, arith}
-use Rattle.std.specs.List.{filter, flat_map}
-use Rattle.std.specs.String.{string_bytes}
+use Rattle.std.specs.{List.filter, List.flat_map, String.string_bytes}
 use Rattle.cdm_plan.proofs.NameLemmas.{all_taken, in_order, length-by_name, rules_by_name, rules_in, runway_is}
 use Rattle.cdm_runway.specs.Rules.{RunwayRules}
-use Rattle.cdm_view.specs.Load.{is_asked, runway_load}
-use Rattle.cdm_view.proofs.LoadLemmas.{runways_more}
+use Rattle.cdm_view.{specs.Load.is_asked, specs.Load.runway_load, proofs.LoadLemmas.runways_more}
 use Rattle.cdm_view.proofs.loading.push_runways.Goals as goal
 
 pub loop-place-preserved : goal.loop-place-preserved

@@ -1,6 +1,4 @@
-use Rattle.std.proofs.Common.{◌≡◌, ◌++◌, take}
-use Rattle.std.specs.Prelude.{filter, flat_map}
-use Rattle.std.specs.String.{string_bytes}
+use Rattle.std.{proofs.Common.◌≡◌, proofs.Common.◌++◌, proofs.Common.take, specs.Prelude.filter, specs.Prelude.flat_map, specs.String.string_bytes}
 use Rattle.cdm_plan.proofs.NameLemmas.{rules_in}
 use Rattle.cdm_view.specs.Load.{is_asked, runway_load}
 use Rattle.cdm_view.proofs.loading.push_runways.Given as goal

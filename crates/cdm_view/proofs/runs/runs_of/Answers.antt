@@ -1,10 +1,7 @@
-use Rattle.std.proofs.Common.{◌≡◌, ℕ, ◌+◌, ◌⊎◌, ◌≤◌, inl, inr, refl, Some, None, ap, sym, ◌∙◌, subst, arith}
+use Rattle.std.proofs.Common.{◌≡◌, ℕ, ◌+◌, ◌≤◌, inl, Some, None, ap, sym, ◌∙◌, subst, arith}
 use Rattle.std.proofs.lemmas.Grind.{common_steps}
-use Rattle.cdm_view.specs.Reasons.{Waiting, reason_at}
-use Rattle.cdm_view.specs.Runs.{AreRuns}
-use Rattle.cdm_view.specs.inner.Earlier.{IsAhead, IsByTakeOff, met_among}
-use Rattle.cdm_view.proofs.EarlierLemmas.{ahead_next, ahead_step}
-use Rattle.cdm_view.proofs.RunLemmas.{runs_end, runs_none, runs_start}
+use Rattle.cdm_view.specs.{Reasons.Waiting, Reasons.reason_at, Runs.AreRuns, inner.Earlier.IsAhead}
+use Rattle.cdm_view.proofs.{EarlierLemmas.ahead_next, EarlierLemmas.ahead_step, RunLemmas.runs_end, RunLemmas.runs_none, RunLemmas.runs_start}
 use Rattle.cdm_view.proofs.runs.runs_of.Goals.{in-Some+in_ok-add_minute, in_default}
 use Rattle.cdm_view.proofs.runs.runs_of.Goals as goal
 
@@ -13,17 +10,7 @@ begins : (v w : Waiting) (tobt : ℕ) → tobt ≡ v.tobt → v ≡ w → tobt +
 begins v w tobt same is = ap (λ t. t + v.exot) same ∙ ap (λ (x : Waiting). x.tobt + x.exot) is
 
 pub loop-number-init : goal.loop-number-init
-loop-number-init c =
-    let w = c.args.waiting.now in
-    let all : c.as_slice-ahead.result.now ≡ w.earlier = c.as_slice-ahead.ensures.value ∙ ap (λ (v : Waiting). v.earlier) c.waiting.view_is in
-    record {
-      runs = runs_start (reason_at w) (w.tobt + w.exot) _ _ c.new-runs.ensures.items (begins _ w _ c.get.ensures.value c.waiting.view_is);
-      ahead = record {
-        in_order = subst IsByTakeOff (sym c.as_slice-ahead.ensures.value) c.waiting.invariant.in_order;
-        met = λ k later. ap (met_among w k) all;
-      };
-      short = inr refl;
-    }
+loop-number-init c = grind (arith, common_steps, runs_start, begins)
 
 -- the slots ahead of a minute
 pub reason_at-requires : goal.reason_at-requires
@@ -57,11 +44,4 @@ loop-number-preserved c =
     record { runs = runs; ahead = ahead; short = inl (omega arith) }
 
 pub returns : goal.returns
-returns c =
-    let w = c.args.waiting.now in
-    let begin : c.get.result + c.waiting.inside.exot ≡ w.tobt + w.exot = begins _ w _ c.get.ensures.value c.waiting.view_is in
-    let end : (c.loop-number.number ≡ c.args.to) ⊎ (c.loop-number.number ≡ w.tobt + w.exot) = elim c.loop-number.invariant.short [
-      | inl short ↦ inl (omega (arith, short, c.get-number-end.ensures.value, c.loop-number-test.false))
-      | inr same ↦ inr (same ∙ begin)
-    ] in
-    runs_end (reason_at w) (w.tobt + w.exot) c.loop-number.number c.args.to _ c.loop-number.invariant.runs (omega (arith, c.get-number-end.ensures.value, c.loop-number-test.false)) end
+returns c = grind (arith, common_steps, begins, runs_end)

@@ -1,7 +1,5 @@
 use Rattle.std.proofs.Common.{◌≡◌, ◌+◌, ◌≤◌, ◌⊎◌}
-use Rattle.cdm_view.specs.inner.Earlier.{IsAhead}
-use Rattle.cdm_view.specs.Reasons.{reason_at}
-use Rattle.cdm_view.specs.Runs.{AreRuns}
+use Rattle.cdm_view.specs.{inner.Earlier.IsAhead, Reasons.reason_at, Runs.AreRuns}
 use Rattle.cdm_view.proofs.runs.runs_of.Given as goal
 
 abbrev pub invariant-loop-number : goal.invariant-loop-number

@@ -1,9 +1,6 @@
-use Rattle.std.proofs.Common.{◌≡◌, ◌-◌, ◌∙◌, ap, drop, length, length-drop, take, arith, rules, tests}
-use Rattle.std.proofs.lemmas.Iterator.{YieldsList-from_slice}
-use Rattle.std.proofs.lemmas.Iterator.Consumers.{count_from_yields_List}
-use Rattle.std.proofs.lemmas.Iterator.Search.{YieldsList-from_take_while}
-use Rattle.std.proofs.lemmas.List.{take_all}
-use Rattle.std.proofs.lemmas.List.Folds.{length-prefix_len}
+use Rattle.std.proofs.Common.{◌∙◌, ap, drop, rules, tests}
+use Rattle.std.proofs.lemmas.Iterator.{YieldsList-from_slice, Consumers.count_from_yields_List, Search.YieldsList-from_take_while}
+use Rattle.std.proofs.lemmas.List.{take_rest, Folds.length-prefix_len}
 use Rattle.cdm_view.specs.inner.Passed.{is_below}
 use Rattle.cdm_view.proofs.standings.from_flight.Goals as goal
 
@@ -11,11 +8,7 @@ pub returns : goal.returns
 returns c =
     let all = c.args.standings.now in
     let test = is_below c.args.name in
-    let n = c.count-below.result in
-    let closure = c.take_while.ensures.closure in
-    let done = c.take_while.ensures.done in
     let count = count_from_yields_List c.take_while.result _ c.count-below.ensures.ran
-    (YieldsList-from_take_while _ test (YieldsList-from_slice all (cc)) closure done (λ x b q k. search (rules, tests)))
-    ∙ length-prefix_len test all in
-    let whole : take (length all - n) (drop n all) ≡ drop n all = take_all (length all - n) (drop n all) (rw length-drop (omega arith)) in
-    whole ∙ ap (λ k. drop k all) count
+    (YieldsList-from_take_while _ test (YieldsList-from_slice all cc) c.take_while.ensures.closure c.take_while.ensures.done
+    (λ x b q k. search (rules, tests))) ∙ length-prefix_len test all in
+    take_rest all c.count-below.result ∙ ap (λ k. drop k all) count

@@ -1,16 +1,11 @@
-use Rattle.std.proofs.Common.{◌≡◌, ℕ, ◌<◌, true, List, length, get_or, Option, None, Some, Err, refl, sym, ◌∙◌, ap, inl}
-use Rattle.std.proofs.Common.{inr, arith, rules}
+use Rattle.std.proofs.Common.{◌≡◌, ℕ, ◌<◌, true, List, length, get_or, Option, None, Some, Err, refl, sym, ◌∙◌, ap, inl, inr, arith, rules}
+use Rattle.std.proofs.lemmas.{Bool.cases_lt, Cmp.nat_list_cmp_total, Cmp.tied_itself, List.Sorted.searchable_from_sorted}
 use Rattle.std.specs.declared.cmp.Ordering.TheVariants.{Less, Equal, Greater}
-use Rattle.std.specs.List.{HoldsAt}
-use Rattle.std.specs.List.Sorted.{IsBinarySearchResult, IsPartitionPoint}
-use Rattle.std.proofs.lemmas.Bool.{cases_lt}
-use Rattle.std.proofs.lemmas.Cmp.{nat_list_cmp_total, tied_itself}
-use Rattle.std.proofs.lemmas.List.Sorted.{searchable_from_sorted}
+use Rattle.std.specs.List.{HoldsAt, Sorted.IsBinarySearchResult, Sorted.IsPartitionPoint}
 use Rattle.cdm_plan.proofs.ListWords.{Contains, find, one_of_key, answers_always}
 use Rattle.cdm_plan.proofs.PlanWords.{is_same, name_cmp, same_flips, same_is, same_name, tied_names}
 use Rattle.cdm_plan.proofs.NameLemmas.{find_only, find_some}
-use Rattle.cdm_view.specs.declared.standing.Standing.{Standing}
-use Rattle.cdm_view.specs.Standings.{KeepsFlights, flight_name}
+use Rattle.cdm_view.specs.{declared.standing.Standing.Standing, Standings.KeepsFlights, Standings.flight_name}
 use Rattle.cdm_view.proofs.standings.standing_of.Goals as goal
 
 -- a standing is found by the name of its flight

@@ -1,5 +1,5 @@
 use Rattle.std.proofs.Common.{◌≡◌, map, take}
-use Rattle.cdm_view.specs.Turns.{turn_in}
+use Rattle.cdm_view.{specs.Turns.turn_in}
 use Rattle.cdm_view.proofs.turns.turns_in.Given as goal
 
 abbrev pub invariant-loop-slot : goal.invariant-loop-slot

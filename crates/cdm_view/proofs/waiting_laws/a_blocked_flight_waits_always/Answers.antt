@@ -1,5 +1,4 @@
-use Rattle.cdm_view.proofs.OutcomeLemmas.{blocked}
-use Rattle.cdm_view.proofs.ReasonLemmas.{always, among, last}
+use Rattle.cdm_view.proofs.{OutcomeLemmas.blocked, ReasonLemmas.always, ReasonLemmas.among, ReasonLemmas.last}
 use Rattle.cdm_view.proofs.waiting_laws.a_blocked_flight_waits_always.Goals as goal
 
 pub returns : goal.returns

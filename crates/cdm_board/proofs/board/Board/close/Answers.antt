@@ -1,36 +1,26 @@
-use Rattle.std.proofs.Common.{◌≡◌, ℕ, List, refl, sym, ap, ◌∙◌, MatchOption, Some, Option, subst}
+use Rattle.std.proofs.Common.{◌≡◌, ℕ, List, refl, sym, ap, ◌∙◌, MatchOption, Some, Option}
 use Rattle.std.specs.Global.{Vec}
-use Rattle.cdm_flight.specs.Journal.{AirportRows}
+use Rattle.cdm_flight.specs.{declared.update.Update.Update}
 use Rattle.cdm_plan.specs.Day.{DayRecord}
-use Rattle.cdm_board.specs.History.{day_of}
-use Rattle.cdm_flight.specs.declared.update.Update.{Update}
-use Rattle.cdm_board.specs.History.{Call, DeskRecord, Opened, BoardRecord, AreNumbered, IsLegal, IsMerge, IsMismatch, journal_of, day_now}
+use Rattle.cdm_board.specs.History.{Call, DeskRecord, Opened, BoardRecord, AreNumbered, IsLegal, IsMerge, IsMismatch, day_now}
 use Rattle.cdm_board.specs.Closing.{IsClosed}
 use Rattle.cdm_board.proofs.Desks.{not_so}
 use Rattle.cdm_board.proofs.board.Board.close.Goals as goal
 
 same_desks : (n m : ℕ) (ks js : List DeskRecord) → n ≡ m → ks ≡ js → AreNumbered n ks → AreNumbered m js
-same_desks n m ks js e f h =
-    let P : List DeskRecord → Type 0 = λ l. AreNumbered m l in
-    let Q : ℕ → Type 0 = λ k. AreNumbered k ks in
-    subst P f (subst Q e h)
+same_desks n m ks js e f h = rw (← e, ← f) h
 
 found : (o : Option (ℕ × ℕ)) (p : ℕ × ℕ) (P : Type 0) (Q : ℕ × ℕ → Type 0) → MatchOption o P Q → o ≡ Some p → Q p
-found o p P Q h e = let F : Option (ℕ × ℕ) → Type 0 = λ x. MatchOption x P Q in subst F e h
+found o p P Q h e = rw e at h
 
 closed : (b : Opened) (ks : List DeskRecord) (s : BoardRecord) (h : List (ℕ × Call)) (d : DayRecord) → AreNumbered b.desks ks → s.airport ≡ b.airport
     → s.opening ≡ b.opening → h ≡ s.history → d ≡ day_now s → IsLegal s.airport s.opening s.history → IsMerge s.history ks → IsClosed b ks h d
-closed b ks s h d numbered e f g k legal merge =
-    let L : AirportRows → Type 0 = λ x. IsLegal x s.opening s.history in
-    let M : List Update → Type 0 = λ x. IsLegal b.airport x s.history in
-    let N : List (ℕ × Call) → Type 0 = λ x. IsLegal b.airport b.opening x in (
-      subst N (sym g) (subst M f (subst L e legal)),
-      λ n. rw g (merge n),
-      k ∙ (ap (λ x. day_of x (journal_of x s.opening s.history)) e
-          ∙ (ap (λ x. day_of b.airport (journal_of b.airport x s.history)) f
-          ∙ ap (λ x. day_of b.airport (journal_of b.airport b.opening x)) (sym g))),
-      numbered,
-    )
+closed b ks s h d numbered e f g k legal merge = (
+  rw (g, ← e, ← f) legal,
+  λ n. rw g (merge n),
+  rw (g, ← e, ← f) k,
+  numbered,
+)
 
 pub returns-then-not-are_numbered : goal.returns-then-not-are_numbered
 returns-then-not-are_numbered c =

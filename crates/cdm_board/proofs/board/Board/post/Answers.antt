@@ -1,11 +1,6 @@
-use Rattle.std.proofs.Common.{◌≡◌, List, length, ap, ◌∙◌}
-use Rattle.std.proofs.lemmas.List.{length-map}
-use Rattle.std.proofs.lemmas.Result.{IfOk-weaker}
-use Rattle.cdm_flight.specs.declared.update.Update.{Update}
-use Rattle.cdm_flight.specs.Accepted.{replies_to}
-use Rattle.cdm_flight.specs.Journal.{AirportRows}
-use Rattle.cdm_day.specs.Replies.{reply_of}
-use Rattle.cdm_day.proofs.BatchLemmas.{replies_to-length}
+use Rattle.std.proofs.{Common.◌≡◌, Common.List, Common.length, Common.ap, Common.◌∙◌, lemmas.List.length-map, lemmas.Result.IfOk-weaker}
+use Rattle.cdm_flight.specs.{declared.update.Update.Update, Accepted.replies_to, Journal.AirportRows}
+use Rattle.cdm_day.{specs.Replies.reply_of, proofs.BatchLemmas.replies_to-length}
 use Rattle.cdm_board.specs.History.{answers_to, journal_now}
 use Rattle.cdm_board.proofs.board.Board.post.Goals as goal
 

@@ -1,8 +1,6 @@
 use Rattle.std.proofs.Common.{◌≡◌, refl, ap, ◌∙◌}
 use Rattle.cdm_plan.specs.Day.{DayRecord}
-use Rattle.cdm_board.specs.History.{Call, Looks}
-use Rattle.cdm_board.specs.Receipts.{call_of}
-use Rattle.cdm_board.proofs.Boards.{grows}
+use Rattle.cdm_board.{specs.History.Call, specs.History.Looks, specs.Receipts.call_of, proofs.Boards.grows}
 use Rattle.cdm_board.proofs.state.BoardState.look_twice.Goals as goal
 
 pub invariant_of-self-2 : goal.invariant_of-self-2

@@ -1,12 +1,6 @@
-use Rattle.std.proofs.Common.{◌≡◌, ap, ◌∙◌, arith, List}
-use Rattle.cdm_day.specs.declared.reply.Reply.{Reply}
-use Rattle.cdm_flight.specs.Accepted.{accepted}
-use Rattle.cdm_plan.specs.Day.{DayRecord}
-use Rattle.cdm_board.specs.History.{day_of, answers_to}
-use Rattle.cdm_board.specs.History.{Call, Posts}
-use Rattle.cdm_board.specs.Receipts.{call_of}
-use Rattle.cdm_board.proofs.Boards.{grows}
+use Rattle.std.proofs.Common.{◌≡◌, ap, arith}
 use Rattle.cdm_day.proofs.BatchLemmas.{take-accepted, length-accepted}
+use Rattle.cdm_board.{specs.History.Call, specs.History.Posts, specs.Receipts.call_of, proofs.Boards.grows}
 use Rattle.cdm_board.proofs.state.BoardState.post_twice.Goals as goal
 
 pub invariant_of-self-2 : goal.invariant_of-self-2
@@ -14,10 +8,9 @@ invariant_of-self-2 c =
     let s = c.self.inside.day in
     let vs = c.args.batch.now in
     let rs = c.in_ok-replies.replies.items in
-    let e : call_of c.in_ok-kept.kept ≡ Posts vs rs = c.in_ok-kept.ensures ∙ ap (λ (x : List Reply). Posts vs x) c.as_slice.ensures.value in
-    let next : c.apply.new.self ≡ day_of s.airport (accepted s.airport s.journal vs) = c.in_ok-replies.ensures.ok
-    ∙ ap (λ (d : DayRecord). day_of d.airport (accepted d.airport d.journal vs)) c.in_ok-day.ensures in
-    let answered : rs ≡ answers_to s.airport s.journal vs = c.in_ok-replies.ensures.replies ∙ ap (λ (d : DayRecord). answers_to d.airport d.journal vs) c.in_ok-day.ensures in
+    let e : call_of c.in_ok-kept.kept ≡ Posts vs rs = rw c.as_slice.ensures.value at c.in_ok-kept.ensures in
+    let next = rw c.in_ok-day.ensures at c.in_ok-replies.ensures.ok in
+    let answered = rw c.in_ok-day.ensures at c.in_ok-replies.ensures.replies in
     let l = length-accepted s.airport s.journal vs in
     (grows s c.apply.new.self c.self.inside.opened c.args.self.now c.self.inside.entries.items c.push.new.self.items _ c.args.desk (Posts vs rs)
     c.self.invariant.0 c.self.invariant.1 c.self.view_is next answered (omega (arith, c.self.invariant.0)) (take-accepted s.airport s.journal vs c.self.inside.opened c.self.invariant.0)
@@ -28,10 +21,9 @@ returns-clause-state c =
     let s = c.self.inside.day in
     let vs = c.args.batch.now in
     let rs = c.in_ok-replies.replies.items in
-    let e : call_of c.in_ok-kept.kept ≡ Posts vs rs = c.in_ok-kept.ensures ∙ ap (λ (x : List Reply). Posts vs x) c.as_slice.ensures.value in
-    let next : c.apply.new.self ≡ day_of s.airport (accepted s.airport s.journal vs) = c.in_ok-replies.ensures.ok
-    ∙ ap (λ (d : DayRecord). day_of d.airport (accepted d.airport d.journal vs)) c.in_ok-day.ensures in
-    let answered : rs ≡ answers_to s.airport s.journal vs = c.in_ok-replies.ensures.replies ∙ ap (λ (d : DayRecord). answers_to d.airport d.journal vs) c.in_ok-day.ensures in
+    let e : call_of c.in_ok-kept.kept ≡ Posts vs rs = rw c.as_slice.ensures.value at c.in_ok-kept.ensures in
+    let next = rw c.in_ok-day.ensures at c.in_ok-replies.ensures.ok in
+    let answered = rw c.in_ok-day.ensures at c.in_ok-replies.ensures.replies in
     let l = length-accepted s.airport s.journal vs in
     (grows s c.apply.new.self c.self.inside.opened c.args.self.now c.self.inside.entries.items c.push.new.self.items _ c.args.desk (Posts vs rs)
     c.self.invariant.0 c.self.invariant.1 c.self.view_is next answered (omega (arith, c.self.invariant.0)) (take-accepted s.airport s.journal vs c.self.inside.opened c.self.invariant.0)

@@ -1,6 +1,5 @@
 use Rattle.std.proofs.Common.{◌≡◌, ◌++◌, take, map}
-use Rattle.cdm_picture.specs.Places.{slot_place}
-use Rattle.cdm_picture.specs.Sections.{place_of}
+use Rattle.cdm_picture.specs.{Places.slot_place, Sections.place_of}
 use Rattle.cdm_picture.proofs.section.Drawing.push_flights.Given as goal
 
 abbrev pub invariant-loop-slot : goal.invariant-loop-slot

@@ -1,7 +1,5 @@
-use Rattle.std.proofs.Common.{◌≡◌, ◌++◌, take, map}
-use Rattle.std.specs.Prelude.{flat_map}
-use Rattle.cdm_picture.specs.Places.{runway_places}
-use Rattle.cdm_picture.specs.Sections.{place_of}
+use Rattle.std.{proofs.Common.◌≡◌, proofs.Common.◌++◌, proofs.Common.take, proofs.Common.map, specs.Prelude.flat_map}
+use Rattle.cdm_picture.specs.{Places.runway_places, Sections.place_of}
 use Rattle.cdm_picture.proofs.section.Drawing.push_runways.Given as goal
 
 abbrev pub invariant-loop-runway : goal.invariant-loop-runway

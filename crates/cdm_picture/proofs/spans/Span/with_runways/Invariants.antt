@@ -1,5 +1,4 @@
-use Rattle.std.proofs.Common.{take}
-use Rattle.std.specs.Prelude.{All}
+use Rattle.std.{proofs.Common.take, specs.Prelude.All}
 use Rattle.cdm_picture.specs.inner.Spans.{HasSlots, Keeps}
 use Rattle.cdm_picture.proofs.spans.Span.with_runways.Given as goal
 

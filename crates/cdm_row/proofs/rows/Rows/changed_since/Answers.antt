@@ -1,11 +1,9 @@
 use Rattle.std.proofs.Common.{◌≡◌, ◌+◌, ℕ, List, ◌∙◌, sym, ap, subst, cond, not, [], ◌∷◌, ◌++◌, take}
 use Rattle.std.proofs.lemmas.List.{append-nil}
-use Rattle.cdm_row.specs.Changed.{changed_rows, has_row, same_row}
-use Rattle.cdm_row.specs.inner.Passed.{from_name, is_first}
-use Rattle.cdm_row.specs.declared.row.Row.{Row}
-use Rattle.cdm_row.proofs.PassedLemmas.{StillHas, unlike}
+use Rattle.cdm_row.{specs.Changed.changed_rows, specs.Changed.has_row, specs.Changed.same_row, specs.inner.Passed.from_name}
+use Rattle.cdm_row.{specs.inner.Passed.is_first, specs.declared.row.Row.Row, proofs.PassedLemmas.StillHas, proofs.PassedLemmas.unlike}
+use Rattle.cdm_row.{proofs.rows.Rows.changed_since.Goals.else-not-is_first, proofs.rows.Rows.changed_since.Goals.then-not-is_first+in_ok-push_last}
 use Rattle.cdm_view.proofs.PassedLemmas.{AreByName, had_first, new_next, still_has}
-use Rattle.cdm_row.proofs.rows.Rows.changed_since.Goals.{else-not-is_first, then-not-is_first+in_ok-push_last}
 use Rattle.cdm_row.proofs.rows.Rows.changed_since.Goals as goal
 
 pub loop-row-preserved : goal.loop-row-preserved

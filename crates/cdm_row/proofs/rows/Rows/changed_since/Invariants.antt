@@ -1,6 +1,5 @@
 use Rattle.std.proofs.Common.{◌≡◌, take}
-use Rattle.cdm_row.specs.Changed.{changed_rows}
-use Rattle.cdm_row.proofs.PassedLemmas.{StillHas}
+use Rattle.cdm_row.{specs.Changed.changed_rows, proofs.PassedLemmas.StillHas}
 use Rattle.cdm_row.proofs.rows.Rows.changed_since.Given as goal
 
 -- the changed Rows so far, and what is left of those before

@@ -1,21 +1,12 @@
-use Rattle.std.proofs.Common.{◌∙◌, ◌++◌, List, [], length, refl, sym, ap, subst}
+use Rattle.std.proofs.Common.{◌∙◌, ◌++◌, List, [], length, refl, sym, ap, subst, arith}
+use Rattle.std.proofs.lemmas.{Option.slice_get_read, Grind.common_steps}
 use Rattle.std.specs.List.{cons_option, filter_map}
-use Rattle.std.proofs.lemmas.Option.{slice_get_read}
 use Rattle.cdm_plan.proofs.NameLemmas.{all_taken}
-use Rattle.cdm_row.specs.Rows.{KeepsRows, standing_row}
-use Rattle.cdm_row.specs.declared.row.Row.{Row}
-use Rattle.cdm_row.proofs.RowLemmas.{rows_keep, rows_next}
+use Rattle.cdm_row.{specs.Rows.KeepsRows, specs.Rows.standing_row, specs.declared.row.Row.Row, proofs.RowLemmas.rows_keep, proofs.RowLemmas.rows_next}
 use Rattle.cdm_row.proofs.rows.Rows.of.Goals as goal
 
 pub loop-standing-preserved : goal.loop-standing-preserved
-loop-standing-preserved g c =
-    let d = g.R.Records.day c.args.records.now in
-    let xs = c.as_slice-standing-items.result.now in
-    let k = c.loop-standing.standing-index in
-    let item = c.standing-item.result in
-    let next = rows_next d xs k item (slice_get_read xs (length xs) k item refl c.loop-standing-test.true c.standing-item.is) in
-    let more = cons_option (standing_row d item) [] in
-    c.in_ok-push_standing.ensures ∙ (ap (λ (l : List Row). l ++ more) c.loop-standing.invariant ∙ sym next)
+loop-standing-preserved g c = grind (arith, common_steps, rows_next, slice_get_read)
 
 pub invariant_of-result : goal.invariant_of-result
 invariant_of-result g c =

@@ -1,5 +1,4 @@
-use Rattle.std.proofs.Common.{◌≡◌, take}
-use Rattle.std.specs.List.{filter_map}
+use Rattle.std.{proofs.Common.◌≡◌, proofs.Common.take, specs.List.filter_map}
 use Rattle.cdm_row.specs.Rows.{standing_row}
 use Rattle.cdm_row.proofs.rows.Rows.of.Given as goal
 

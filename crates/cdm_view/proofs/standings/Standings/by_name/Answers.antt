@@ -1,7 +1,6 @@
 use Rattle.std.proofs.Common.{rules}
 use Rattle.cdm_flight.specs.Names.{same_name}
-use Rattle.cdm_plan.proofs.ListWords.{IsDistinct-IsPermutation, IsPermutation-map, answers_always}
-use Rattle.cdm_plan.proofs.PlanWords.{same_flips}
+use Rattle.cdm_plan.proofs.{ListWords.IsDistinct-IsPermutation, ListWords.IsPermutation-map, ListWords.answers_always, PlanWords.same_flips}
 use Rattle.cdm_view.specs.Standings.{flight_name}
 use Rattle.cdm_view.proofs.standings.Standings.by_name.Goals as goal
 

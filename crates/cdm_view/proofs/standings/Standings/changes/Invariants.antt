@@ -1,6 +1,5 @@
 use Rattle.std.proofs.Common.{◌≡◌, take}
-use Rattle.cdm_view.specs.Standings.{changes, flight_name, is_same_told}
-use Rattle.cdm_view.proofs.PassedLemmas.{StillHas}
+use Rattle.cdm_view.{specs.Standings.changes, specs.Standings.flight_name, specs.Standings.is_same_told, proofs.PassedLemmas.StillHas}
 use Rattle.cdm_view.proofs.standings.Standings.changes.Given as goal
 
 -- the changes so far, and what is left of those told before

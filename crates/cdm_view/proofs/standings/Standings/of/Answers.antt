@@ -1,16 +1,11 @@
-use Rattle.std.proofs.Common.{map, sym, subst}
-use Rattle.cdm_flight.specs.Names.{same_name}
-use Rattle.cdm_plan.proofs.ListWords.{IsDistinct, IsPermutation, IsPermutation-map, IsPermutation-trans}
+use Rattle.std.proofs.{Common.map, Common.arith, lemmas.Grind.common_steps}
+use Rattle.cdm_plan.proofs.ListWords.{IsPermutation, IsPermutation-map, IsPermutation-trans}
 use Rattle.cdm_view.specs.Standings.{flight_name, standings_of}
-use Rattle.cdm_view.proofs.KnownLemmas.{each_stands}
-use Rattle.cdm_view.proofs.StandingLemmas.{one_standings, standings_apart}
+use Rattle.cdm_view.proofs.{KnownLemmas.each_stands, StandingLemmas.one_standings, StandingLemmas.standings_apart}
 use Rattle.cdm_view.proofs.standings.Standings.of.Goals as goal
 
 pub by_name-requires : goal.by_name-requires
-by_name-requires g c =
-    let sound = c.in_ok-items.ensures.sound.day in
-    subst (λ l. IsDistinct same_name (map flight_name l)) (sym c.in_ok-items.ensures.all)
-    (standings_apart (g.R.Records.day c.args.records.now) c.args.plan.now sound.airport.names sound.names c.requires)
+by_name-requires g c = grind (arith, common_steps, standings_apart)
 
 pub returns-clause-all : goal.returns-clause-all
 returns-clause-all g c =

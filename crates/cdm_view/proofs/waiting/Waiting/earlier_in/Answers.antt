@@ -1,9 +1,7 @@
 use Rattle.std.proofs.Common.{ltb, sym, subst, ◌∙◌, ap, rules}
 use Rattle.std.proofs.lemmas.List.Sorted.{IsNonDecreasingBy-drop, IsNonDecreasingBy-take, IsPartitionPoint-from_clause, IsPartitionedBy-ltb}
 use Rattle.cdm_sequence.specs.declared.slot.Slot.{Slot}
-use Rattle.cdm_view.specs.Reasons.{Waiting}
-use Rattle.cdm_view.specs.inner.Earlier.{IsByTakeOff}
-use Rattle.cdm_view.proofs.EarlierLemmas.{part_is}
+use Rattle.cdm_view.{specs.Reasons.Waiting, specs.inner.Earlier.IsByTakeOff, proofs.EarlierLemmas.part_is}
 use Rattle.cdm_view.proofs.waiting.Waiting.earlier_in.Goals as goal
 
 pub returns : goal.returns

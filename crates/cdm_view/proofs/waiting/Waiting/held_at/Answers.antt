@@ -1,7 +1,6 @@
 use Rattle.std.proofs.Common.{◌≡◌, ◌∙◌, ap}
 use Rattle.cdm_runway.proofs.CellLemmas.{cell_length-divides}
-use Rattle.cdm_view.specs.Reasons.{Waiting}
-use Rattle.cdm_view.proofs.EarlierLemmas.{cell_part}
+use Rattle.cdm_view.{specs.Reasons.Waiting, proofs.EarlierLemmas.cell_part}
 use Rattle.cdm_view.proofs.waiting.Waiting.held_at.Goals as goal
 
 pub returns : goal.returns

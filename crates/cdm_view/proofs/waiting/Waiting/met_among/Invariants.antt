@@ -1,6 +1,5 @@
 use Rattle.std.proofs.Common.{◌≡◌, take}
-use Rattle.cdm_view.specs.inner.Earlier.{met_among}
-use Rattle.cdm_view.specs.Reasons.{names_of}
+use Rattle.cdm_view.specs.{inner.Earlier.met_among, Reasons.names_of}
 use Rattle.cdm_view.proofs.waiting.Waiting.met_among.Given as goal
 
 abbrev pub invariant-loop-slot : goal.invariant-loop-slot
