@@ -1,6 +1,5 @@
-use Rattle.std.proofs.Common.{inl, inr, ◌≡◌, ◌≤◌, ◌<◌, ◌+◌, ℕ, Bool, true, false, ◌==◌, List, [], ◌∷◌, refl, sym, ◌∙◌, arith, IsTrue, count_by}
-use Rattle.std.proofs.lemmas.{Bool.ne_eqb, Bool.Decides.leb_tells, List.Elements.All-tail}
-use Rattle.std.specs.List.{All}
+use Rattle.std.proofs.Common.{inl, inr, ◌≡◌, ◌≤◌, ◌<◌, ◌+◌, ℕ, Bool, true, false, ◌==◌, List, [], ◌∷◌, refl, sym, ◌∙◌, arith, IsTrue}
+use Rattle.std.{proofs.Common.count_by, proofs.lemmas.{Bool.ne_eqb, Bool.Decides.leb_tells, List.Elements.All-tail}, specs.List.All}
 use Rattle.cdm_board.specs.History.{Call, DeskRecord, calls_of, receipts_of, IsDesk, IsMerge}
 
 calls-none : (d : ℕ) (h : List (ℕ × Call)) → All (λ (e : ℕ × Call). IsDesk e.0) h → 16 < d → calls_of d h ≡ []

@@ -1,9 +1,7 @@
-use Rattle.std.proofs.Common.{suc, zero, ◌≡◌, ◌≢◌, ◌≤◌, ◌<◌, ◌+◌, ℕ, Some, None, List, [], ◌∷◌, ◌++◌, length, take, drop, map}
-use Rattle.std.proofs.Common.{get_or, refl, sym, ap, ◌∙◌, arith, add-one, append_assoc}
-use Rattle.std.proofs.lemmas.{List.at_drop_more, Bool.eq-eqb, Bool.ne_eqb}
+use Rattle.std.proofs.Common.{suc, zero, ◌≡◌, ◌≢◌, ◌≤◌, ◌<◌, ◌+◌, ℕ, Some, None, List, [], ◌∷◌, ◌++◌, length, take, drop, map, get_or, refl}
+use Rattle.std.proofs.{Common.{sym, ap, ◌∙◌, arith, add-one, append_assoc}, lemmas.{List.at_drop_more, Bool.eq-eqb, Bool.ne_eqb}}
 use Rattle.std.specs.List.{slice_get}
-use Rattle.cdm_board.specs.{declared.receipt.Entry.Entry, Receipts.entry_of, Receipts.call_of}
-use Rattle.cdm_board.specs.History.{Call, calls_of, IsFirstDifference}
+use Rattle.cdm_board.specs.{declared.receipt.Entry.Entry, Receipts.entry_of, Receipts.call_of, History.{Call, calls_of, IsFirstDifference}}
 
 take-with : (ys : List Call) (n : ℕ) (c : Call) → slice_get ys n ≡ Some c → take (suc n) ys ≡ take n ys ++ c ∷ []
 take-with [] n c e = cc

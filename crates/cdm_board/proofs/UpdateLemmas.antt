@@ -1,12 +1,10 @@
 -- What `==` says of updates.
-use Rattle.std.proofs.Common.{rules, ◌≡◌, Bool, true, false, ◌&&◌, ap}
-use Rattle.std.specs.Bool.{Decides}
-use Rattle.std.proofs.lemmas.Bool.Decides.{Decides-and}
+use Rattle.std.{proofs.Common.{rules, ◌≡◌, Bool, true, false, ◌&&◌, ap}, proofs.lemmas.Bool.Decides.Decides-and, specs.Bool.Decides}
 use Rattle.cdm_flight.specs.contracts.update.UpdatePartialEq.TheImpl as update_eq
 use Rattle.cdm_flight.specs.contracts.role.RolePartialEq.TheImpl as role_eq
-use Rattle.cdm_flight.specs.declared.role.Role.{Role}
-use Rattle.cdm_flight.specs.declared.update.Update.{Update}
-use Rattle.cdm_flight.specs.declared.update.Update.TheVariants.{Flt, Tobt, Stand, Rwy, Ctot, Ice, Prio, Group, Off, Air, Cnl, Rate, Close, Reopen, Taxi, Clock, Tol}
+use Rattle.cdm_flight.specs.declared.{role.Role.Role, update.Update.Update}
+use Rattle.cdm_flight.specs.declared.update.Update.TheVariants.{Flt, Tobt, Stand, Rwy, Ctot, Ice, Prio, Group, Off, Air, Cnl, Rate, Close}
+use Rattle.cdm_flight.specs.declared.update.Update.TheVariants.{Reopen, Taxi, Clock, Tol}
 
 apart : {P : Type 0} → (P → ⊥) → Decides false P
 apart never = ((λ (untrue : false ≡ true). cc), λ p. absurd (never p))

@@ -1,16 +1,11 @@
 -- The lines of findings and of hints, one after another.
-use Rattle.std.proofs.Common.{◌≡◌, ◌≤◌, ◌<◌, ◌+◌, ◌%◌, ◌^◌, ◌∙◌, ◌++◌, ◌&&◌, ℕ, zero, suc, Bool, true, false, cond, codes, List, [], ◌∷◌, length, take, drop, map, get_or, refl, sym, ap, subst, arith, filter, length-append, append_assoc, Result, Ok, Err}
-use Rattle.std.proofs.lemmas.Grind.{common_steps}
+use Rattle.std.proofs.Common.{◌≡◌, ◌≤◌, ◌<◌, ◌+◌, ◌%◌, ◌^◌, ◌∙◌, ◌++◌, ◌&&◌, ℕ, zero, suc, Bool, true, false, cond, codes, List, [], ◌∷◌}
+use Rattle.std.proofs.Common.{length, take, drop, map, get_or, refl, sym, ap, subst, arith, filter, length-append, append_assoc, Result, Ok}
+use Rattle.std.proofs.{Common.Err, lemmas.Grind.common_steps}
 use Rattle.std.proofs.lemmas.List.{append-nil, length-map, map_more, take-append-drop, take-append-le, take-map, take_all}
-use Rattle.std.proofs.lemmas.List.Elements.{All-append, All-cons, All-nil}
-use Rattle.std.proofs.lemmas.List.Folds.{concat-append, list_all-append}
-use Rattle.std.proofs.lemmas.Bool.Decides.{nat_tests}
-use Rattle.std.proofs.lemmas.Fmt.{decimal_by_steps, length-decimal-le}
-use Rattle.std.proofs.lemmas.Nat.{mod_below}
-use Rattle.std.proofs.lemmas.Str.{IsUtf8-from_ascii}
-use Rattle.std.specs.Fmt.{decimal}
-use Rattle.std.specs.List.{concat, list_all}
-use Rattle.std.specs.Str.{IsAscii, IsUtf8}
+use Rattle.std.proofs.lemmas.List.{Elements.{All-append, All-cons, All-nil}, Folds.{concat-append, list_all-append}}
+use Rattle.std.proofs.lemmas.{Bool.Decides.nat_tests, Fmt.{decimal_by_steps, length-decimal-le}, Nat.mod_below, Str.IsUtf8-from_ascii}
+use Rattle.std.specs.{Fmt.decimal, List.{concat, list_all}, Str.{IsAscii, IsUtf8}}
 use Rattle.cdm_phase.proofs.Values.{AllZip-append}
 use Rattle.cdm_flight.specs.declared.word.RefusalWord.{RefusalWord}
 use Rattle.cdm_kinds.specs.declared.format.Format.{Format}
@@ -163,9 +158,6 @@ module _ (format : Format) where
       subst (λ (found : List Finding). AreLinesOf format found x) (sym front) told
 
   -- Hints.
-
-  pub no_hints : (path : List ℕ) → AreHintsOf format path []
-  no_hints path = record { lines = []; each = All-nil (IsHintOf format path); bytes = refl }
 
   -- one more hint
   pub next_hint : (path x line : List ℕ) → AreHintsOf format path x → IsHintOf format path line → AreHintsOf format path (x ++ line)

@@ -1,21 +1,14 @@
 -- All records of a file that is no feed are refused.
-use Rattle.std.proofs.Common.{◌≡◌, ◌∙◌, ◌&&◌, ℕ, ◌+◌, suc, Bool, true, false, List, [], ◌∷◌, length, map, is_none, is_err, refl, ap, Option, Some, None, Result, Ok, Err}
-use Rattle.std.proofs.lemmas.Bool.{false≢true}
-use Rattle.std.proofs.lemmas.List.{length-map}
+use Rattle.std.proofs.Common.{◌≡◌, ◌∙◌, ◌&&◌, ℕ, ◌+◌, suc, Bool, true, false, List, [], ◌∷◌, length, map, is_none, is_err, refl, ap, Option}
+use Rattle.std.proofs.{Common.{Some, None, Result, Ok, Err}, lemmas.Bool.false≢true, lemmas.List.length-map}
 use Rattle.std.specs.List.{list_all}
 use Rattle.csv.specs.Records.{field_at}
 use Rattle.cdm_time.specs.declared.calendar.CalendarDate.{CalendarDate}
-use Rattle.cdm_flight.specs.Journal.{AirportRows}
-use Rattle.cdm_flight.specs.declared.role.Role.{Role}
-use Rattle.cdm_flight.specs.declared.update.Update.{Update}
+use Rattle.cdm_flight.specs.{Journal.AirportRows, declared.role.Role.Role, declared.update.Update.Update}
 use Rattle.cdm_flight.specs.declared.word.RefusalWord.{RefusalWord}
 use Rattle.cdm_flight.specs.declared.word.RefusalWord.TheVariants as word
-use Rattle.cdm_files.specs.FeedDay.{refusals_in}
-use Rattle.cdm_files.specs.Kinds.{update_of}
-use Rattle.cdm_files.specs.Parsing.{parse_of, with_role}
-use Rattle.cdm_files.specs.Records.{records_of}
-use Rattle.cdm_files.specs.Refused.{Spelled, refused_in}
-use Rattle.cdm_files.specs.Roles.{role_of}
+use Rattle.cdm_files.specs.{FeedDay.refusals_in, Kinds.update_of, Parsing.{parse_of, with_role}, Records.records_of}
+use Rattle.cdm_files.specs.{Refused.{Spelled, refused_in}, Roles.role_of}
 use Rattle.cdm_check.specs.Findings.{has_no_role, is_no_feed}
 
 without_role : (r : Result Update RefusalWord) → is_err (with_role None r) ≡ true

@@ -1,6 +1,5 @@
 -- The members of the lines of a check, written token by token.
-use Rattle.std.proofs.Common.{◌≡◌, ◌++◌, ℕ, List, refl}
-use Rattle.std.specs.Prelude.{codes, flat_map}
+use Rattle.std.{proofs.Common.{◌≡◌, ◌++◌, ℕ, List, refl}, specs.Prelude.{codes, flat_map}}
 use Rattle.json.specs.Json.{string}
 use Rattle.cdm_row.specs.Json.{count_json, member_tokens}
 use Rattle.cdm_check.specs.Check.{hint_members, last_members, place_members}

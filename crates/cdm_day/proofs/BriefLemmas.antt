@@ -1,9 +1,8 @@
 -- Flights in brief, beside the flights of a table.
-use Rattle.cdm_day.proofs.Words.{rules, ◌≡◌, ℕ, zero, suc, ◌+◌, ◌≤◌, ◌<◌, Bool, List, [], ◌∷◌, ◌++◌, map, length, set, None, refl, ap, arith, keys_of}
-use Rattle.cdm_day.proofs.Words.{values_of, insert_entry}
+use Rattle.cdm_day.proofs.Words.{rules, ◌≡◌, ℕ, zero, suc, ◌+◌, ◌≤◌, ◌<◌, Bool, List, [], ◌∷◌, ◌++◌, map, length, set, None, refl, ap}
+use Rattle.cdm_day.{proofs.Words.{arith, keys_of, values_of, insert_entry}, specs.inner.Briefs.{AreKeptAs, put_at}}
 use Rattle.std.specs.List.{position_or_len}
 use Rattle.cdm_plan.specs.declared.brief.Brief.{Brief}
-use Rattle.cdm_day.specs.inner.Briefs.{AreKeptAs, put_at}
 
 -- where nothing is kept, it is what it should be
 pub none : {briefs : List Brief} → AreKeptAs None briefs

@@ -1,13 +1,11 @@
 -- A cell of a runway has one capacity.
-use Rattle.cdm_day.proofs.Words.{rules, ◌≡◌, ◌<◌, ◌*◌, ◌/◌, ◌%◌, ◌==◌, ◌||◌, ◌&&◌, ℕ, Bool, true, false, not, None, Some, List, [], ◌∷◌, ◌++◌, refl}
-use Rattle.cdm_day.proofs.Words.{sym, ap, ◌∙◌, arith, mul-div_cancel, Role, accepted_is, cell_from, cell_to}
-use Rattle.std.specs.Prelude.{nat_le, nat_lt}
-use Rattle.std.specs.Option.{option_or}
-use Rattle.std.proofs.lemmas.Bool.Decides.{nat_tests}
-use Rattle.cdm_plan.proofs.PlanWords.{same_is}
+use Rattle.cdm_day.proofs.Words.{rules, ◌≡◌, ◌<◌, ◌*◌, ◌/◌, ◌%◌, ◌==◌, ◌||◌, ◌&&◌, ℕ, Bool, true, false, not, None, Some, List, [], ◌∷◌}
+use Rattle.cdm_day.proofs.Words.{◌++◌, refl, sym, ap, ◌∙◌, arith, mul-div_cancel, Role, accepted_is, cell_from, cell_to}
 use Rattle.cdm_day.proofs.BatchLemmas.{accepted-keeps}
-use Rattle.cdm_day.proofs.DayWords.{AirportRows, Rate, RunwayRow, Update, accepted, cap_given, cap_of, last_value, last_value-push, reach_of}
-use Rattle.cdm_day.proofs.DayWords.{refusal_of, runway_row, same_reach, touching, touching-push, untouched, window_has, then_some}
+use Rattle.cdm_day.proofs.DayWords.{AirportRows, Rate, RunwayRow, Update, accepted, cap_given, cap_of, last_value, last_value-push}
+use Rattle.cdm_day.proofs.DayWords.{reach_of, refusal_of, runway_row, same_reach, touching, touching-push, untouched, window_has, then_some}
+use Rattle.std.{specs.Prelude.{nat_le, nat_lt}, specs.Option.option_or, proofs.lemmas.Bool.Decides.nat_tests}
+use Rattle.cdm_plan.proofs.PlanWords.{same_is}
 use Rattle.cdm_flight.specs.declared.reach.Reach.TheVariants as reach
 
 module _ (g : AirportRows) (row : RunwayRow) (there : runway_row g row.name ≡ Some row) (positive : 0 < row.cell) where

@@ -2,20 +2,15 @@
 use Rattle.cdm_day.proofs.Words.{rules, ◌≡◌, ℕ, ◌≤◌, Bool, true, false, List, [], ◌∷◌, ◌++◌, Option, None, Some, refl, sym, ap, ◌∙◌, subst}
 use Rattle.cdm_day.proofs.Words.{true≢false, arith, if◌then◌else◌, nat_lt, Contains, cons_option, nat_list_eq_equiv, option_map, nat_tests}
 use Rattle.cdm_day.proofs.Words.{record_name, flights_in-push, new_flight-old, find_some, one_row}
-use Rattle.cdm_day.proofs.DayWords.{RunwayRow, Update, flight_in, reach_of, same_name, same_name-refl, same_reach, Flight, is_fresh, TaxiRows}
-use Rattle.cdm_day.proofs.DayWords.{AirportRows, runway_row, flight_of, values_of, flight_of-untouched, values_of-untouched, refusal_of, RunwayRules}
-use Rattle.cdm_day.proofs.DayWords.{is_rate_window, IsAirport, DayRecord, flights_in, rules_of, with_update, IsSound, TellTaxi, ChangesRunway}
-use Rattle.cdm_day.proofs.DayWords.{IsChange, has_window, with_change, Flt, Rate, Close, Reopen}
+use Rattle.cdm_day.proofs.DayWords.{RunwayRow, Update, flight_in, reach_of, same_name, same_name-refl, same_reach, Flight, is_fresh}
+use Rattle.cdm_day.proofs.DayWords.{TaxiRows, AirportRows, runway_row, flight_of, values_of, flight_of-untouched, values_of-untouched}
+use Rattle.cdm_day.proofs.DayWords.{refusal_of, RunwayRules, is_rate_window, IsAirport, DayRecord, flights_in, rules_of, with_update}
+use Rattle.cdm_day.proofs.DayWords.{IsSound, TellTaxi, ChangesRunway, IsChange, has_window, with_change, Flt, Rate, Close, Reopen}
+use Rattle.cdm_day.proofs.{RunwayLemmas.{rules-closed, rules-rate}, SoundLemmas.sound_after, TaxiLemmas.{taxi_after_other, taxi_after_taxi}}
+use Rattle.cdm_day.specs.{inner.Put.{flight_with, if_named, made_known, rows_with, rules_with, values_with}, declared.change.Change.Change}
+use Rattle.cdm_day.specs.declared.change.{Change.TheVariants.{NewFlight, NextRecord, Runway, TaxiRow, Values}, RunwayChange.RunwayChange}
 use Rattle.cdm_flight.specs.declared.reach.Reach.{Reach}
-use Rattle.cdm_plan.proofs.RunwayLemmas.{rules-same}
-use Rattle.cdm_plan.proofs.PlanWords.{new_flight}
-use Rattle.cdm_day.proofs.RunwayLemmas.{rules-closed, rules-rate}
-use Rattle.cdm_day.proofs.SoundLemmas.{sound_after}
-use Rattle.cdm_day.proofs.TaxiLemmas.{taxi_after_other, taxi_after_taxi}
-use Rattle.cdm_day.specs.inner.Put.{flight_with, if_named, made_known, rows_with, rules_with, values_with}
-use Rattle.cdm_day.specs.declared.change.Change.{Change}
-use Rattle.cdm_day.specs.declared.change.Change.TheVariants.{NewFlight, NextRecord, Runway, TaxiRow, Values}
-use Rattle.cdm_day.specs.declared.change.RunwayChange.{RunwayChange}
+use Rattle.cdm_plan.proofs.{RunwayLemmas.rules-same, PlanWords.new_flight}
 use Rattle.cdm_flight.specs.declared.reach.Reach.TheVariants as reach
 use Rattle.cdm_day.specs.declared.change.RunwayChange.TheVariants as change
 

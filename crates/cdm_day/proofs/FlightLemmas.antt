@@ -1,9 +1,9 @@
 -- The taxi-out time that the code takes is the journal's where it matters.
 use Rattle.cdm_day.proofs.Words.{◌≡◌, ℕ, List, Option, Some, sym, ap, ◌∙◌, rules, option_and_then}
-use Rattle.cdm_day.proofs.DayWords.{Place, Update, Flight, step_of, TaxiRows, taxi_out, AirportRows, is_known, is_cancelled, of_flight, aobt_of}
-use Rattle.cdm_day.proofs.DayWords.{atot_of, exot_now, exot_of, record_with, flight_of, taxi_of, before_off-all, status_of-record, planned_says}
-use Rattle.cdm_flight.specs.declared.flight.Status.{Status}
-use Rattle.cdm_flight.specs.declared.flight.Status.TheVariants.{Planned}
+use Rattle.cdm_day.proofs.DayWords.{Place, Update, Flight, step_of, TaxiRows, taxi_out, AirportRows, is_known, is_cancelled, of_flight}
+use Rattle.cdm_day.proofs.DayWords.{aobt_of, atot_of, exot_now, exot_of, record_with, flight_of, taxi_of, before_off-all, status_of-record}
+use Rattle.cdm_day.proofs.DayWords.{planned_says}
+use Rattle.cdm_flight.specs.declared.flight.Status.{Status, TheVariants.Planned}
 use Rattle.std.specs.FinMap as map_of
 
 -- only OFF of a planned flight asks for the taxi-out time

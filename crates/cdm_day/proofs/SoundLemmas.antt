@@ -1,10 +1,10 @@
 -- A day stays sound with every update that no word refuses.
-use Rattle.cdm_day.proofs.Words.{common_steps, rules, ◌≡◌, ℕ, ◌≤◌, Bool, true, false, List, [], ◌∷◌, ◌++◌, length, None, Some, refl, sym, ap, ◌∙◌}
-use Rattle.cdm_day.proofs.Words.{subst, true≢false, arith, length-append, nat_le, is_some, or_parts, nat_tests, list_any, append-nil, accepted_is}
-use Rattle.cdm_day.proofs.Words.{flight_named, flights_in-push, names_after}
-use Rattle.cdm_day.proofs.DayWords.{Update, flight_in, reach_of, same_reach, is_fresh, AirportRows, last_value, of_flight, runway_given, is_known}
-use Rattle.cdm_day.proofs.DayWords.{flight_of, runway_of, has_runway, is_unknown, is_full, refusal_of, last_value-push, touching-push, untouched}
-use Rattle.cdm_day.proofs.DayWords.{DayRecord, flights_in, with_update, IsSound, Flt}
+use Rattle.cdm_day.proofs.Words.{common_steps, rules, ◌≡◌, ℕ, ◌≤◌, Bool, true, false, List, [], ◌∷◌, ◌++◌, length, None, Some, refl, sym}
+use Rattle.cdm_day.proofs.Words.{ap, ◌∙◌, subst, true≢false, arith, length-append, nat_le, is_some, or_parts, nat_tests, list_any}
+use Rattle.cdm_day.proofs.Words.{append-nil, accepted_is, flight_named, flights_in-push, names_after}
+use Rattle.cdm_day.proofs.DayWords.{Update, flight_in, reach_of, same_reach, is_fresh, AirportRows, last_value, of_flight, runway_given}
+use Rattle.cdm_day.proofs.DayWords.{is_known, flight_of, runway_of, has_runway, is_unknown, is_full, refusal_of, last_value-push}
+use Rattle.cdm_day.proofs.DayWords.{touching-push, untouched, DayRecord, flights_in, with_update, IsSound, Flt}
 use Rattle.cdm_day.proofs.WordLemmas.{flight_of-unknown, flt-accepted, known_from, known_is, named_runway}
 use Rattle.cdm_flight.specs.declared.reach.Reach.TheVariants as reach
 

@@ -1,10 +1,11 @@
 -- Taxi times after one more update.
-use Rattle.cdm_day.proofs.Words.{◌≡◌, ℕ, Bool, true, false, ◌&&◌, ◌||◌, List, [], ◌∷◌, ◌++◌, Option, None, Some, refl, sym, ap, ◌∙◌, true≢false}
-use Rattle.cdm_day.proofs.Words.{if◌then◌else◌, option_or, cons_option, append_assoc, append-nil, get-insert_row}
+use Rattle.cdm_day.proofs.Words.{◌≡◌, ℕ, Bool, true, false, ◌&&◌, ◌||◌, List, [], ◌∷◌, ◌++◌, Option, None, Some, refl, sym, ap, ◌∙◌}
+use Rattle.cdm_day.proofs.Words.{true≢false, if◌then◌else◌, option_or, cons_option, append_assoc, append-nil, get-insert_row}
+use Rattle.cdm_day.proofs.DayWords.{Place, Update, reach_of, same_name, same_name-refl, same_reach, touching, touching-push, TaxiRows}
+use Rattle.cdm_day.proofs.DayWords.{stand_of_place, stands_in, AirportRows, last_value, last_value-push, then_some, same_place, taxi_given}
+use Rattle.cdm_day.proofs.DayWords.{taxi_of, taxi_of-untouched, stand_with_taxi, stands_with_rows, TellTaxi, is_stand_of, has_row-insert}
+use Rattle.cdm_day.proofs.DayWords.{Taxi}
 use Rattle.cdm_plan.proofs.ListWords.{filter_map, list_any-append, or_comm, filter_map-append}
-use Rattle.cdm_day.proofs.DayWords.{Place, Update, reach_of, same_name, same_name-refl, same_reach, touching, touching-push, TaxiRows, stand_of_place}
-use Rattle.cdm_day.proofs.DayWords.{stands_in, AirportRows, last_value, last_value-push, then_some, same_place, taxi_given, taxi_of}
-use Rattle.cdm_day.proofs.DayWords.{taxi_of-untouched, stand_with_taxi, stands_with_rows, TellTaxi, is_stand_of, has_row-insert, Taxi}
 use Rattle.std.specs.Set.{is_member}
 use Rattle.std.specs.FinMap as map_of
 use Rattle.cdm_flight.specs.declared.place.Place.TheVariants as place

@@ -1,20 +1,14 @@
 -- An update that is posted, and its reply.
-use Rattle.std.proofs.Common.{◌≡◌, ◌∙◌, Bool, true, false, List, [], ◌∷◌, ◌++◌, map, Option, None, Some, refl, sym, subst}
+use Rattle.std.proofs.Common.{◌≡◌, ◌∙◌, Bool, true, false, List, [], ◌∷◌, ◌++◌, map, Option, None, Some, sym, subst}
 use Rattle.std.specs.Prelude.{if◌then◌else◌, is_none}
-use Rattle.cdm_day.specs.Replies.{reply_of}
-use Rattle.cdm_day.specs.declared.reply.Reply.{Reply}
-use Rattle.cdm_flight.specs.Accepted.{accepted, after_one, refusal, refusal_of, replies_to}
-use Rattle.cdm_flight.specs.Authority.{may_make}
+use Rattle.cdm_day.specs.{Replies.reply_of, declared.reply.Reply.Reply}
+use Rattle.cdm_flight.specs.{Accepted.{accepted, after_one, refusal, refusal_of, replies_to}, Authority.may_make, declared.role.Role.Role}
+use Rattle.cdm_flight.specs.declared.{update.Update.Update, word.RefusalWord.RefusalWord}
 use Rattle.cdm_flight.specs.declared.word.RefusalWord.TheVariants as word
-use Rattle.cdm_flight.specs.declared.role.Role.{Role}
-use Rattle.cdm_flight.specs.declared.update.Update.{Update}
-use Rattle.cdm_flight.specs.declared.word.RefusalWord.{RefusalWord}
 use Rattle.cdm_plan.specs.Day.{DayRecord, with_update}
-use Rattle.cdm_view.specs.declared.standing.Standing.{Standing}
+use Rattle.cdm_view.specs.{declared.standing.Standing.Standing, Standings.IsChangedTo}
 use Rattle.cdm_row.specs.declared.row.Row.{Row}
-use Rattle.cdm_view.specs.Standings.{IsChangedTo}
-use Rattle.cdm_desk.specs.Replies.{AreChangedRows, IsReplyBy, IsRowReplyBy}
-use Rattle.cdm_desk.specs.declared.reply.DeskReply.TheVariants.{Accepted, Refused}
+use Rattle.cdm_desk.specs.{Replies.{AreChangedRows, IsReplyBy, IsRowReplyBy}, declared.reply.DeskReply.TheVariants.Accepted}
 use Rattle.cdm_desk.specs.declared.reply.RowReply.TheVariants as row_reply
 
 module _ (d : DayRecord) (u : Role × Update) where
@@ -44,9 +38,6 @@ module _ (d : DayRecord) (u : Role × Update) where
   word_said copy replies word same are is =
       sym (is said (are ∙ (λ i. map reply_of (replies_to (same i).airport (same i).journal (u ∷ [])))))
 
-  pub refused_reply : (word : RefusalWord) → said ≡ Some word → IsReplyBy said d with_it (Refused word)
-  refused_reply word is = subst (λ o. IsReplyBy o d with_it (Refused word)) (sym is) refl
-
   -- a refused update leaves the day as it was
   pub refused_day : (word : RefusalWord) → said ≡ Some word → d ≡ with_it
   refused_day word is = λ i. record d { journal = if is_none (sym is i) then d.journal ++ u.1 ∷ [] else d.journal }
@@ -66,9 +57,6 @@ module _ (d : DayRecord) (u : Role × Update) where
   pub day_taken : (copy next : DayRecord) → copy ≡ d → next ≡ record copy { journal = accepted copy.airport copy.journal (u ∷ []) }
       → next ≡ record d { journal = accepted d.airport d.journal (u ∷ []) }
   day_taken copy next same is = is ∙ (λ i. record (same i) { journal = accepted (same i).airport (same i).journal (u ∷ []) })
-
-  pub refused_rows : (word : RefusalWord) → said ≡ Some word → IsRowReplyBy said d with_it (row_reply.Refused word)
-  refused_rows word is = subst (λ o. IsRowReplyBy o d with_it (row_reply.Refused word)) (sym is) refl
 
   pub accepted_rows : (next : DayRecord) (changed told : List Row) → said ≡ None → next ≡ with_it → told ≡ changed → AreChangedRows d next changed
       → IsRowReplyBy said d with_it (row_reply.Accepted told)

@@ -1,15 +1,9 @@
 -- The changed Rows of a reply suffice.
-use Rattle.std.proofs.Common.{◌≡◌, ◌++◌, List, [], ◌∷◌, Bool, true, false, refl, sym, subst}
+use Rattle.std.proofs.{Common.{◌≡◌, ◌++◌, List, [], ◌∷◌, Bool, true, false, refl, sym, subst}, lemmas.List.append-nil}
 use Rattle.std.specs.Prelude.{if◌then◌else◌, is_none}
-use Rattle.std.proofs.lemmas.List.{append-nil}
-use Rattle.cdm_flight.specs.Accepted.{refusal}
-use Rattle.cdm_flight.specs.declared.role.Role.{Role}
-use Rattle.cdm_flight.specs.declared.update.Update.{Update}
-use Rattle.cdm_plan.specs.Day.{DayRecord}
-use Rattle.cdm_plan.specs.Sound.{IsSound}
-use Rattle.cdm_row.specs.Changed.{Suffice}
-use Rattle.cdm_row.specs.declared.row.Row.{Row}
-use Rattle.cdm_row.proofs.OverLemmas.{changed_suffice}
+use Rattle.cdm_flight.specs.{Accepted.refusal, declared.role.Role.Role, declared.update.Update.Update}
+use Rattle.cdm_plan.specs.{Day.DayRecord, Sound.IsSound}
+use Rattle.cdm_row.{specs.Changed.Suffice, specs.declared.row.Row.Row, proofs.OverLemmas.changed_suffice}
 use Rattle.cdm_desk.specs.Replies.{AreChangedRows, with_one}
 
 -- what an update adds to the journal

@@ -1,20 +1,16 @@
 -- What is asked of the scenario that has a name is asked of what it makes of the day.
-use Rattle.std.proofs.Common.{◌≡◌, ℕ, List, Option, None, Some, Result, Ok, Err, IfErr, IfOk, refl, sym, subst}
-use Rattle.std.specs.Option.{IsSomeAnd}
+use Rattle.std.{proofs.Common.{◌≡◌, ℕ, List, Option, None, Some, Result, Ok, Err, IfErr, IfOk, refl, sym, subst}, specs.Option.IsSomeAnd}
 use Rattle.cdm_flight.specs.declared.word.RefusalWord.{RefusalWord}
 use Rattle.cdm_plan.specs.Day.{DayRecord}
 use Rattle.cdm_view.specs.declared.fault.ViewFault.{ViewFault}
 use Rattle.cdm_view.specs.declared.fault.ViewFault.TheVariants as view
-use Rattle.cdm_shift.specs.Answers.{IsNotAnswered}
-use Rattle.cdm_shift.specs.declared.question.DayQuestion.{DayQuestion}
-use Rattle.cdm_scenario.specs.Outcome.{IsLaid}
-use Rattle.cdm_scenario.specs.Scenarios.{ScenarioRecord, scenario_named}
+use Rattle.cdm_shift.specs.{Answers.IsNotAnswered, declared.question.DayQuestion.DayQuestion}
+use Rattle.cdm_scenario.specs.{Outcome.IsLaid, Scenarios.{ScenarioRecord, scenario_named}}
 use Rattle.cdm_kinds.specs.declared.format.Format.{Format}
 use Rattle.cdm_files.specs.declared.common_fault.CommonFault.TheVariants as common
 use Rattle.cdm_files.specs.declared.run_error.RunError.{RunError}
 use Rattle.cdm_files.specs.declared.run_error.RunError.TheVariants as error
-use Rattle.cdm_feed.specs.Made.{IsAskedOf, IsUntold, IsView, view_error}
-use Rattle.cdm_feed.specs.declared.asked.DayText.TheVariants.{Answer}
+use Rattle.cdm_feed.specs.{Made.{IsAskedOf, IsUntold, IsView, view_error}, declared.asked.DayText.TheVariants.Answer}
 use Rattle.cdm_feed.specs.inner.Over.{IsUntoldOver}
 
 -- what follows from what is said of an answer, and of an error

@@ -1,45 +1,25 @@
 -- A run has one text.
-use Rattle.std.proofs.Common.{◌≡◌, ◌++◌, ◌∙◌, ℕ, List, Option, None, Some, Result, Ok, Err, sym, subst, subst₂}
-use Rattle.std.specs.Option.{IsSomeAnd}
-use Rattle.std.specs.Result.{IsOkAnd}
-use Rattle.std.specs.List.{AllZip, IsDistinct, concat}
+use Rattle.std.{proofs.Common.{◌≡◌, ◌++◌, ◌∙◌, ℕ, List, Option, None, Some, Result, Ok, Err, sym, subst, subst₂}, specs.Option.IsSomeAnd}
+use Rattle.std.specs.{Result.IsOkAnd, List.{AllZip, IsDistinct, concat}}
 use Rattle.cdm_time.specs.declared.day.TimeFault.{TimeFault}
-use Rattle.cdm_flight.specs.Journal.{AirportRows}
-use Rattle.cdm_flight.specs.Names.{same_name}
-use Rattle.cdm_flight.specs.declared.update.Update.{Update}
-use Rattle.cdm_flight.specs.declared.word.RefusalWord.{RefusalWord}
-use Rattle.cdm_plan.specs.Airport.{IsAirport, runway_names}
-use Rattle.cdm_plan.specs.Day.{DayRecord, flights_in}
-use Rattle.cdm_plan.specs.DayPlan.{IsDayPlan}
+use Rattle.cdm_flight.specs.{Journal.AirportRows, Names.same_name, declared.update.Update.Update, declared.word.RefusalWord.RefusalWord}
+use Rattle.cdm_plan.specs.{Airport.{IsAirport, runway_names}, Day.{DayRecord, flights_in}, DayPlan.IsDayPlan}
 use Rattle.cdm_plan.proofs.OnePlanLemmas.{one_day_plan}
-use Rattle.cdm_scenario.specs.inner.OneOutcome.{names_with_all, one_each}
-use Rattle.cdm_scenario.specs.Outcome.{IsLaid}
-use Rattle.cdm_scenario.specs.Scenarios.{ScenarioRecord, scenario_named}
-use Rattle.cdm_report.specs.Counts.{counts_of}
-use Rattle.cdm_report.specs.Report.{report_bytes}
+use Rattle.cdm_scenario.specs.{inner.OneOutcome.{names_with_all, one_each}, Outcome.IsLaid, Scenarios.{ScenarioRecord, scenario_named}}
+use Rattle.cdm_report.specs.{Counts.counts_of, Report.report_bytes}
 use Rattle.cdm_sequence.specs.declared.plan.Plan.{Plan}
-use Rattle.cdm_kinds.specs.declared.format.Format.{Format}
-use Rattle.cdm_kinds.specs.declared.format.Format.TheVariants.{Text, Json}
+use Rattle.cdm_kinds.specs.declared.format.Format.{Format, TheVariants.{Text, Json}}
 use Rattle.cdm_table.proofs.TableLemmas.{one_plans, one_table}
-use Rattle.cdm_trace.specs.Traces.{IsTrace, from_minute}
-use Rattle.cdm_trace.proofs.OneTrace.{one}
-use Rattle.cdm_shift.specs.Answers.{IsDayAnswer}
-use Rattle.cdm_shift.specs.declared.question.DayQuestion.{DayQuestion}
-use Rattle.cdm_shift.proofs.OneAnswer.{answer_one}
-use Rattle.cdm_files.specs.FeedDay.{day_in}
-use Rattle.cdm_files.proofs.FeedDayLemmas.{own_airport, own_journal}
-use Rattle.cdm_feed.specs.Answers.{IsAnswer}
-use Rattle.cdm_feed.specs.Made.{HaveOne, IsAskedOf, IsMade, IsPlanIn, IsTextOf, IsTraceSince, IsView}
-use Rattle.cdm_feed.specs.Output.{HaveOneText, IsMadeBy, IsReport}
-use Rattle.cdm_feed.specs.inner.OneAnswer.{one_answer}
-use Rattle.cdm_feed.specs.declared.asked.DayText.{DayText}
-use Rattle.cdm_feed.specs.declared.asked.DayText.TheVariants.{Table, Picture, Answer, Trace}
-use Rattle.cdm_feed.specs.declared.asked.DayText.TheVariants as told
-use Rattle.cdm_feed.specs.declared.asked.Asked.{Asked}
-use Rattle.cdm_feed.specs.declared.asked.Asked.TheVariants as ask
-use Rattle.cdm_feed.specs.declared.counted.Counted.{Counted}
-use Rattle.cdm_feed.specs.declared.counted.Counted.TheVariants as counted
+use Rattle.cdm_trace.{specs.Traces.{IsTrace, from_minute}, proofs.OneTrace.one}
+use Rattle.cdm_shift.{specs.Answers.IsDayAnswer, specs.declared.question.DayQuestion.DayQuestion, proofs.OneAnswer.answer_one}
+use Rattle.cdm_files.{specs.FeedDay.day_in, proofs.FeedDayLemmas.{own_airport, own_journal}}
+use Rattle.cdm_feed.specs.{Answers.IsAnswer, Made.{HaveOne, IsAskedOf, IsMade, IsPlanIn, IsTextOf, IsTraceSince, IsView}}
+use Rattle.cdm_feed.specs.{Output.{HaveOneText, IsMadeBy, IsReport}, inner.OneAnswer.one_answer, declared.asked.DayText.DayText}
+use Rattle.cdm_feed.specs.declared.{asked.DayText.TheVariants.{Table, Picture, Answer, Trace}, asked.Asked.Asked, counted.Counted.Counted}
 use Rattle.cdm_feed.specs.declared.runs.RunCounts.{RunCounts}
+use Rattle.cdm_feed.specs.declared.asked.DayText.TheVariants as told
+use Rattle.cdm_feed.specs.declared.asked.Asked.TheVariants as ask
+use Rattle.cdm_feed.specs.declared.counted.Counted.TheVariants as counted
 
 -- the day's runways have names of their own, and so have its flights
 abbrev Own : DayRecord → Type 0

@@ -1,32 +1,17 @@
 -- The first fault of a run, by why its whole inputs make no text.
-use Rattle.std.proofs.Common.{◌≡◌, ℕ, List, Option, IfSome, Result, Ok, Err, ap, refl, sym, subst}
-use Rattle.std.proofs.lemmas.Option.{IfSome_then}
-use Rattle.std.specs.Prelude.{IsOk}
-use Rattle.std.specs.Result.{IsErrOf, IsOkAnd}
-use Rattle.cdm_flight.specs.Journal.{AirportRows}
-use Rattle.cdm_flight.specs.declared.word.RefusalWord.{RefusalWord}
-use Rattle.cdm_plan.specs.Day.{DayRecord}
-use Rattle.cdm_scenario.specs.Scenarios.{ScenarioRecord}
-use Rattle.cdm_files.specs.AirportFile.{airport_in}
-use Rattle.cdm_files.specs.CommonFaults.{IsFirstInputFault}
-use Rattle.cdm_files.specs.FeedDay.{day_in}
-use Rattle.cdm_files.specs.Readings.{AreRead, OfBytes, Reading}
-use Rattle.cdm_files.specs.RunFaults.{Asks, IsFirstFault, IsRecordFault}
-use Rattle.cdm_files.specs.ScenarioFile.{scenarios_in}
-use Rattle.cdm_files.specs.declared.common_fault.CommonFault.{CommonFault}
-use Rattle.cdm_files.specs.declared.common_fault.CommonFault.TheVariants as common
-use Rattle.cdm_files.specs.declared.run_error.RunError.{RunError}
-use Rattle.cdm_files.specs.declared.run_error.RunError.TheVariants as error
+use Rattle.std.proofs.{Common.{◌≡◌, ℕ, List, Option, IfSome, Result, Ok, Err, ap, refl, sym, subst}, lemmas.Option.IfSome_then}
+use Rattle.std.specs.{Prelude.IsOk, Result.{IsErrOf, IsOkAnd}}
+use Rattle.cdm_files.specs.{AirportFile.airport_in, CommonFaults.IsFirstInputFault, Readings.{AreRead, OfBytes, Reading}}
+use Rattle.cdm_files.specs.{RunFaults.{Asks, IsFirstFault, IsRecordFault}, ScenarioFile.scenarios_in}
+use Rattle.cdm_files.specs.declared.{common_fault.CommonFault.CommonFault, run_error.RunError.RunError}
 use Rattle.cdm_files.proofs.RunLemmas.{airport_record-first, input_fault-first}
-use Rattle.cdm_feed.specs.Made.{HaveText, IsFirstOf, IsMade, IsUnmade, IsUntold}
-use Rattle.cdm_feed.specs.Output.{IsOutput}
-use Rattle.cdm_feed.specs.Counts.{day_counts}
-use Rattle.cdm_feed.specs.declared.asked.DayText.{DayText}
+use Rattle.cdm_files.specs.declared.common_fault.CommonFault.TheVariants as common
+use Rattle.cdm_files.specs.declared.run_error.RunError.TheVariants as error
+use Rattle.cdm_feed.specs.{Made.{HaveText, IsFirstOf, IsMade, IsUnmade}, Output.IsOutput, Counts.day_counts}
+use Rattle.cdm_feed.specs.declared.{asked.DayText.DayText, asked.Asked.Asked, counted.Counted.Counted}
 use Rattle.cdm_kinds.specs.declared.format.Format.TheVariants.{Text}
 use Rattle.cdm_feed.specs.declared.asked.DayText.TheVariants as told
-use Rattle.cdm_feed.specs.declared.asked.Asked.{Asked}
 use Rattle.cdm_feed.specs.declared.asked.Asked.TheVariants as ask
-use Rattle.cdm_feed.specs.declared.counted.Counted.{Counted}
 use Rattle.cdm_feed.specs.declared.counted.Counted.TheVariants as counted
 
 -- what is said of these bytes, which are those that were read
@@ -56,24 +41,6 @@ pub record-unmade : (asked : DayText) (a f s : List ℕ) (e : RunError) → IsRe
 record-unmade asked a f s (error.Common e) fault = fault
 record-unmade asked a f s (error.Scenario number word) fault = fault
 record-unmade asked a f s _ fault = absurd fault
-
--- and what their day doesn't know
-unknown-unmade : (asked : DayText) (a f s : List ℕ) (d : DayRecord) (questions : List ScenarioRecord) (e : RunError)
-    → airport_in a ≡ Ok d.airport → d ≡ day_in d.airport f → scenarios_in d.airport.day s ≡ Ok questions → IsUntold asked d questions e
-    → IsOkAnd (airport_in a) (λ g. IsOkAnd (scenarios_in g.day s) (λ asks. IsUntold asked (day_in g f) asks e))
-unknown-unmade asked a f s d questions e airport is said fault =
-    let known : IsUntold asked (day_in d.airport f) questions e = subst (λ (x : DayRecord). IsUntold asked x questions e) is fault in
-    let so : IsOkAnd (scenarios_in d.airport.day s) (λ asks. IsUntold asked (day_in d.airport f) asks e) =
-    subst (λ (r : Result (List ScenarioRecord) (ℕ × RefusalWord)). IsOkAnd r (λ asks. IsUntold asked (day_in d.airport f) asks e)) (sym said) known in
-    subst (λ (r : Result AirportRows (ℕ × RefusalWord)). IsOkAnd r (λ g. IsOkAnd (scenarios_in g.day s) (λ asks. IsUntold asked (day_in g f) asks e))) (sym airport) so
-
-pub untold-unmade : (asked : DayText) (a f s : List ℕ) (d : DayRecord) (questions : List ScenarioRecord) (e : RunError)
-    → airport_in a ≡ Ok d.airport → d ≡ day_in d.airport f → scenarios_in d.airport.day s ≡ Ok questions → IsUntold asked d questions e
-    → IsUnmade (ask.Day asked) a f s e
-untold-unmade asked a f s d questions (error.Common common.Memory) airport is said fault = tt
-untold-unmade asked a f s d questions (error.Common _) airport is said fault = absurd fault
-untold-unmade asked a f s d questions (error.Scenario number word) airport is said fault = absurd fault
-untold-unmade asked a f s d questions e airport is said fault = unknown-unmade asked a f s d questions e airport is said fault
 
 -- and so is a failed write of a text that they make
 pub write-first : (asked : Asked) (a f s : Reading) → AreRead a f s → OfBytes a.before f.before s.before (HaveText asked) → IsFirstOf asked a f s (error.Common common.Write)

@@ -1,20 +1,14 @@
 -- What the day of an airport file and a feed keeps.
-use Rattle.cdm_files.proofs.Words.{◌≡◌, ℕ, ◌+◌, Bool, true, false, not, List, [], ◌∷◌, Option, None, Some, Result, Ok, Err, IfOk, refl, subst, ⊤}
-use Rattle.cdm_files.proofs.Words.{if◌then◌else◌, result_map_both, IsDistinct, ok_or, has_runway, AirportRows, RefusalWord, Order, Unknown}
-use Rattle.cdm_files.proofs.Words.{with_runway, with_space, with_taxi, flights_in}
+use Rattle.cdm_files.proofs.Words.{◌≡◌, ℕ, ◌+◌, Bool, true, false, not, List, [], ◌∷◌, Option, None, Some, Result, Ok, Err, IfOk, refl}
+use Rattle.cdm_files.proofs.Words.{subst, ⊤, if◌then◌else◌, result_map_both, IsDistinct, ok_or, has_runway, AirportRows, RefusalWord, Order}
+use Rattle.cdm_files.proofs.Words.{Unknown, with_runway, with_space, with_taxi, flights_in}
+use Rattle.cdm_files.specs.{AirportFile.{airport_in, airport_record_of, with_record}, Fields.{and_then, of_one}}
+use Rattle.cdm_files.specs.{FeedDay.{accepted_in, spelled_in}, Files.after_records, Records.records_of, Refused.updates_in}
+use Rattle.cdm_files.specs.declared.airport_file.AirportRecord.{AirportRecord, TheVariants.{Day, Runway, Space, Taxi}}
 use Rattle.cdm_flight.specs.Names.{same_name}
-use Rattle.cdm_plan.specs.Airport.{IsAirport}
+use Rattle.cdm_plan.{specs.Airport.IsAirport, proofs.JournalFacts.names_after}
 use Rattle.cdm_day.proofs.BatchLemmas.{accepted-keeps}
 use Rattle.cdm_day.proofs.AirportLemmas.{airport_after_runway, airport_after_taxi, airport_with_space, airport_without_rows}
-use Rattle.cdm_plan.proofs.JournalFacts.{names_after}
-use Rattle.cdm_files.specs.AirportFile.{airport_in, airport_record_of, with_record}
-use Rattle.cdm_files.specs.Fields.{and_then, of_one}
-use Rattle.cdm_files.specs.FeedDay.{accepted_in, spelled_in}
-use Rattle.cdm_files.specs.Files.{after_records}
-use Rattle.cdm_files.specs.Records.{records_of}
-use Rattle.cdm_files.specs.Refused.{updates_in}
-use Rattle.cdm_files.specs.declared.airport_file.AirportRecord.{AirportRecord}
-use Rattle.cdm_files.specs.declared.airport_file.AirportRecord.TheVariants.{Day, Runway, Space, Taxi}
 
 -- Each flight becomes known once.
 
@@ -74,6 +68,3 @@ unfolding airport_in
 own_airport text g h =
     let kept = began-kept (after_records airport_record_of with_record None 1 (records_of text)) (1, Order) (records-kept None 1 (records_of text) tt) in
     subst (λ (r : Result AirportRows (ℕ × RefusalWord)). IfOk r IsAirport) h kept
-
-pub same-ok : {T E : Type 0} (r : Result T E) (x y : T) → r ≡ Ok x → r ≡ Ok y → x ≡ y
-same-ok r x y a b = cc

@@ -1,16 +1,13 @@
 -- A record is of the kind that it names, and has as many fields as that kind.
-use Rattle.cdm_files.proofs.Words.{◌≡◌, ◌≢◌, ◌∙◌, ◌+◌, ◌-◌, ◌<◌, ◌≤◌, ℕ, zero, suc, List, [], ◌∷◌, length, drop, take, Option, Some, None, Result, Ok}
-use Rattle.cdm_files.proofs.Words.{Err, ap, refl, sym, subst, arith, length-drop, field_at, CalendarDate, Update, RefusalWord}
+use Rattle.cdm_files.proofs.Words.{◌≡◌, ◌≢◌, ◌∙◌, ◌+◌, ◌-◌, ◌<◌, ◌≤◌, ℕ, zero, suc, List, [], ◌∷◌, length, drop, take, Option, Some, None}
+use Rattle.cdm_files.proofs.Words.{Result, Ok, Err, ap, refl, sym, subst, arith, length-drop, field_at, CalendarDate, Update, RefusalWord}
+use Rattle.cdm_files.specs.{Fields.{and_then, field, of_four, of_one, of_three}, Kinds.{update_by, update_of}}
+use Rattle.cdm_files.specs.{Parsing.{parse_of, with_role}, Roles.role_of}
 use Rattle.std.specs.Prelude.{ok_or}
 use Rattle.cdm_flight.specs.declared.role.Role.{Role}
 use Rattle.cdm_flight.specs.declared.word.RefusalWord.TheVariants as word
-use Rattle.cdm_kinds.specs.Kinds.{fields_of, kind_named, kind_of}
-use Rattle.cdm_kinds.specs.declared.kind.Kind.{Kind}
+use Rattle.cdm_kinds.specs.{Kinds.{fields_of, kind_named, kind_of}, declared.kind.Kind.Kind}
 use Rattle.cdm_kinds.specs.declared.kind.Kind.TheVariants as kind
-use Rattle.cdm_files.specs.Fields.{and_then, field, of_four, of_one, of_three}
-use Rattle.cdm_files.specs.Kinds.{update_by, update_of}
-use Rattle.cdm_files.specs.Parsing.{parse_of, with_role}
-use Rattle.cdm_files.specs.Roles.{role_of}
 
 -- The number of fields.
 

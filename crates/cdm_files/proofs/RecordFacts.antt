@@ -1,16 +1,14 @@
 -- What a read of one record does to the records that a reader has still to give.
 use Rattle.std.proofs.lemmas.Bool.{cases_Bool}
-use Rattle.std.proofs.Common.{inr}
-use Rattle.std.proofs.Common.{rules, tests, ◌≡◌, ◌≤◌, ◌<◌, ◌+◌, ◌∷◌, ◌++◌, ◌∙◌, ℕ, zero, suc, Bool, true, false, not, List, [], length, Option, Some, None, refl, sym, ap, arith, if◌then◌else◌, Bor, add-one, inl}
+use Rattle.std.proofs.Common.{inr, rules, tests, ◌≡◌, ◌≤◌, ◌<◌, ◌+◌, ◌∷◌, ◌++◌, ◌∙◌, ℕ, zero, suc, Bool, true, false, not, List, [], length}
+use Rattle.std.proofs.Common.{Option, Some, None, refl, sym, ap, arith, if◌then◌else◌, Bor, add-one, inl}
 use Rattle.csv.specs.Machine.{Read, ends_at_end, fields_after, is_end, next_record, step}
-use Rattle.csv.specs.Reading.{NextIs, ReadRecord, ReadsNext, default_config, is_flexible, pending_of, records_from, records_next, took_first, strip_bom}
-use Rattle.csv.specs.declared.reader.Reader.{Reader}
-use Rattle.csv.specs.declared.parser.Action.{Action}
-use Rattle.csv.specs.declared.parser.Action.TheVariants as act
+use Rattle.csv.specs.Reading.{NextIs, ReadRecord, ReadsNext, default_config, is_flexible, pending_of, records_from, records_next}
+use Rattle.csv.specs.{Reading.{took_first, strip_bom}, declared.reader.Reader.Reader, declared.parser.Action.Action}
 use Rattle.csv.specs.declared.parser.State.{State}
+use Rattle.csv.specs.declared.parser.Action.TheVariants as act
 use Rattle.csv.specs.declared.parser.State.TheVariants as st
-use Rattle.cdm_files.specs.Records.{records_of}
-use Rattle.cdm_files.specs.inner.RecordsLeft.{IsBetweenRecords, records_at, records_left, unread}
+use Rattle.cdm_files.specs.{Records.records_of, inner.RecordsLeft.{IsBetweenRecords, records_at, records_left, unread}}
 
 -- an outcome that ends a record is between two records
 abbrev pub EndsBetween : State × Action → Type 0

@@ -1,8 +1,8 @@
 -- The refused records of a feed, from the replies to its updates.
-use Rattle.cdm_files.proofs.Words.{◌≡◌, ◌+◌, ℕ, List, [], ◌∷◌, Option, None, Some, Ok, Err, refl, map, after_one, refusal, replies_to, AirportRows}
-use Rattle.cdm_files.proofs.Words.{Update, RefusalWord}
-use Rattle.cdm_day.specs.Replies.{reply_of}
+use Rattle.cdm_files.proofs.Words.{◌≡◌, ◌+◌, ℕ, List, [], ◌∷◌, Option, None, Some, Ok, Err, refl, map, after_one, refusal, replies_to}
+use Rattle.cdm_files.proofs.Words.{AirportRows, Update, RefusalWord}
 use Rattle.cdm_files.specs.Refused.{Spelled, refused_by_replies, refused_in, updates_in, word_in}
+use Rattle.cdm_day.specs.Replies.{reply_of}
 
 word_in-reply : (word : Option RefusalWord) → word_in (reply_of word) ≡ word
 word_in-reply None = refl

@@ -1,10 +1,7 @@
 -- Faults of a run, and what holds of its inputs.
-use Rattle.std.proofs.Common.{◌≡◌, ℕ, List, Option, Some, IfSome, sym, ap, subst, ◌∙◌}
-use Rattle.std.proofs.lemmas.Option.{IfSome_then}
-use Rattle.cdm_files.specs.AirportFile.{airport_in}
-use Rattle.cdm_files.specs.CommonFaults.{IsAirportFault, IsFirstCommonFault, IsFirstInputFault}
-use Rattle.cdm_files.specs.Readings.{AreRead, IfTold, OfBytes, Reading}
-use Rattle.cdm_files.specs.declared.common_fault.CommonFault.{CommonFault}
+use Rattle.std.proofs.{Common.{◌≡◌, ℕ, List, Option, Some, IfSome, sym, ap, subst, ◌∙◌}, lemmas.Option.IfSome_then}
+use Rattle.cdm_files.specs.{AirportFile.airport_in, CommonFaults.{IsAirportFault, IsFirstCommonFault, IsFirstInputFault}}
+use Rattle.cdm_files.specs.{Readings.{AreRead, IfTold, OfBytes, Reading}, declared.common_fault.CommonFault.CommonFault}
 use Rattle.cdm_files.specs.declared.common_fault.CommonFault.TheVariants as common
 
 -- a fault of the inputs is the first, whatever is asked of them

@@ -1,6 +1,5 @@
 -- What the values of several fields make.
-use Rattle.cdm_files.proofs.Words.{◌≡◌, Result, Ok, Err, refl, sym, RefusalWord}
-use Rattle.cdm_files.specs.Fields.{both, of_four, of_one, of_three}
+use Rattle.cdm_files.{proofs.Words.{◌≡◌, Result, Ok, Err, refl, sym, RefusalWord}, specs.Fields.{both, of_four, of_one, of_three}}
 use Rattle.cdm_files.specs.inner.Several.{all_four, all_three}
 
 pub of_one-twice : {A B C : Type 0} (f : A → B) (g : B → C) (r : Result A RefusalWord) → of_one g (of_one f r) ≡ of_one (λ a. g (f a)) r

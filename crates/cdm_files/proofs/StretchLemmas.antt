@@ -1,10 +1,8 @@
 -- A feed is judged stretch by stretch.
 use Rattle.cdm_files.proofs.Words.{◌≡◌, ◌<◌, ◌+◌, ℕ, suc, List, [], ◌∷◌, ◌++◌, Ok, Err, refl, sym, ap, length, map, arith, append_assoc}
-use Rattle.cdm_files.proofs.Words.{append-nil, length-append, ◌≤◌, option_map, option_to_list, length-map, nil_from_length, accepted, after_one}
-use Rattle.cdm_files.proofs.Words.{refusal, AirportRows, Update, RefusalWord, CalendarDate, DayRecord}
-use Rattle.cdm_files.specs.FeedDay.{accepted_in, refusals_in}
-use Rattle.cdm_files.specs.Parsing.{parse_of}
-use Rattle.cdm_files.specs.Records.{records_of}
+use Rattle.cdm_files.proofs.Words.{append-nil, length-append, ◌≤◌, option_map, option_to_list, length-map, nil_from_length, accepted}
+use Rattle.cdm_files.proofs.Words.{after_one, refusal, AirportRows, Update, RefusalWord, CalendarDate, DayRecord}
+use Rattle.cdm_files.specs.{FeedDay.{accepted_in, refusals_in}, Parsing.parse_of, Records.records_of}
 use Rattle.cdm_files.specs.Refused.{Spelled, refused_in, updates_in}
 
 -- the journal after two stretches

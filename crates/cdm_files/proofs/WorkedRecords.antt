@@ -1,10 +1,8 @@
 -- The bytes of two files of examples, read back: `one_flight/airport.csv` as it stands, and `one_flight/feed.csv`
 -- with CR LF, a blank line and no line end after the last record.
-use Rattle.cdm_files.proofs.Words.{◌≡◌, List, ℕ, [], ◌∷◌, refl, codes, All-from_recursion, strip_bom}
+use Rattle.cdm_files.proofs.{Words.{◌≡◌, List, ℕ, [], ◌∷◌, refl, codes, All-from_recursion, strip_bom}, WrittenLemmas.{Told, read_back}}
+use Rattle.cdm_files.specs.{Records.records_of, Written.{AreWritten, Field, Line, LineEnd, Lf, CrLf, Plain, after_commas}}
 use Rattle.std.specs.Prelude.{map}
-use Rattle.cdm_files.specs.Records.{records_of}
-use Rattle.cdm_files.specs.Written.{AreWritten, Field, Line, LineEnd, Lf, CrLf, Plain, after_commas}
-use Rattle.cdm_files.proofs.WrittenLemmas.{Told, read_back}
 
 abbrev plain : List (List ℕ) → List Field
 plain fields = map Plain fields

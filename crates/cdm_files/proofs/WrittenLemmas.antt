@@ -1,15 +1,13 @@
 -- Written records are read back.
-use Rattle.cdm_files.proofs.Words.{◌≡◌, ◌<◌, ◌≤◌, ◌+◌, ◌∷◌, ◌++◌, ◌∙◌, ◌==◌, ◌||◌, ℕ, zero, suc, false, List, [], length, map, Option, Some, IsTrue}
-use Rattle.cdm_files.proofs.Words.{refl, sym, ap, arith, append_assoc, All-head, All-tail, All, filter_map, flat_map, list_any, list_all, cons_option}
-use Rattle.cdm_files.proofs.Words.{default_config, records_from, State}
-use Rattle.std.proofs.lemmas.Bool.{and_parts, not-true, or_parts}
-use Rattle.std.proofs.lemmas.List.{length-append, append-nil}
-use Rattle.csv.specs.Machine.{Read, next_record}
-use Rattle.csv.specs.Writing.{default_writer, escaped, needs_byte}
-use Rattle.csv.specs.declared.parser.State.TheVariants as st
+use Rattle.cdm_files.proofs.Words.{◌≡◌, ◌<◌, ◌≤◌, ◌+◌, ◌∷◌, ◌++◌, ◌∙◌, ◌==◌, ◌||◌, ℕ, zero, suc, false, List, [], length, map, Option, Some}
+use Rattle.cdm_files.proofs.Words.{IsTrue, refl, sym, ap, arith, append_assoc, All-head, All-tail, All, filter_map, flat_map, list_any}
+use Rattle.cdm_files.{proofs.Words.{list_all, cons_option, default_config, records_from, State}, specs.Records.records_of}
+use Rattle.cdm_files.specs.Written.{AreWritten, Field, InQuotes, Line, LineEnd, Lf, CrLf, Plain, after_commas, end_of, field_bytes}
+use Rattle.cdm_files.specs.Written.{field_text, is_field, is_mark, is_written, joined, record_of, records_in, text_of}
+use Rattle.std.proofs.lemmas.{Bool.{and_parts, not-true, or_parts}, List.{length-append, append-nil}}
+use Rattle.csv.specs.{Machine.{Read, next_record}, Writing.{default_writer, escaped, needs_byte}}
 use Rattle.csv.proofs.RoundTrip.{plain-run, quoted-run, record-same, start-same}
-use Rattle.cdm_files.specs.Records.{records_of}
-use Rattle.cdm_files.specs.Written.{AreWritten, Field, InQuotes, Line, LineEnd, Lf, CrLf, Plain, after_commas, end_of, field_bytes, field_text, is_field, is_mark, is_written, joined, record_of, records_in, text_of}
+use Rattle.csv.specs.declared.parser.State.TheVariants as st
 
 -- the state of the reader after the bytes of a field
 abbrev state_in : Field → State

@@ -1,33 +1,20 @@
 -- What one more update changes in what a journal says.
-use Rattle.std.proofs.Common.{◌≡◌, ℕ, Bool, true, false, cond, not, ◌&&◌, ◌||◌, List, [], ◌∷◌, ◌++◌, Option, None, Some, refl, sym, ap, ◌∙◌, arith}
-use Rattle.std.proofs.Common.{rules}
-use Rattle.std.specs.Prelude.{is_some, unwrap_or}
-use Rattle.std.specs.Option.{option_or}
-use Rattle.std.specs.FinMap as map
+use Rattle.std.proofs.Common.{◌≡◌, ℕ, Bool, true, false, cond, not, ◌&&◌, ◌||◌, List, [], ◌∷◌, ◌++◌, Option, None, Some, refl, sym, ap, ◌∙◌}
+use Rattle.std.proofs.{Common.{arith, rules}, lemmas.Grind.common_steps, lemmas.List.append-nil, lemmas.List.Elements.filter-append}
+use Rattle.std.{proofs.lemmas.List.Sums.{fold-append, take_while-cons}, specs.Prelude.{is_some, unwrap_or}, specs.Option.option_or}
 use Rattle.std.specs.List.{fold, list_all, list_any, take_while}
-use Rattle.std.proofs.lemmas.Grind.{common_steps}
-use Rattle.std.proofs.lemmas.List.{append-nil}
-use Rattle.std.proofs.lemmas.List.Elements.{filter-append}
-use Rattle.std.proofs.lemmas.List.Sums.{fold-append, take_while-cons}
+use Rattle.std.specs.FinMap as map
 use Rattle.cdm_time.specs.declared.tolerance.Tolerance.{Tolerance}
-use Rattle.cdm_flight.proofs.Lists.{list_any-push, take_while-all, take_while-append}
-use Rattle.cdm_flight.specs.declared.flight.Status.{Status}
-use Rattle.cdm_flight.specs.declared.flight.Status.TheVariants.{Planned, OffBlock}
-use Rattle.cdm_flight.specs.declared.group.Group.TheVariants.{Medium}
-use Rattle.cdm_flight.specs.declared.ice.Ice.TheVariants.{NoIce}
-use Rattle.cdm_flight.specs.declared.place.Place.{Place}
-use Rattle.cdm_flight.specs.declared.reach.Reach.{Reach}
-use Rattle.cdm_flight.specs.declared.reach.Reach.TheVariants as reach
-use Rattle.cdm_flight.specs.declared.update.Update.{Update}
-use Rattle.cdm_flight.specs.declared.update.Update.TheVariants.{Flt, Off, Air, Cnl, Clock, Tol}
-use Rattle.cdm_flight.specs.Names.{same_name}
-use Rattle.cdm_flight.specs.Reach.{reach_of, same_reach, touching}
-use Rattle.cdm_flight.specs.Record.{fresh}
-use Rattle.cdm_flight.specs.declared.flight.Flight.{Flight}
+use Rattle.cdm_flight.{proofs.Lists.{list_any-push, take_while-all, take_while-append}, specs.declared.flight.Status.Status}
+use Rattle.cdm_flight.specs.declared.{flight.Status.TheVariants.{Planned, OffBlock}, group.Group.TheVariants.Medium}
+use Rattle.cdm_flight.specs.declared.{ice.Ice.TheVariants.NoIce, place.Place.Place, reach.Reach.Reach, update.Update.Update}
+use Rattle.cdm_flight.specs.{declared.update.Update.TheVariants.{Flt, Off, Air, Cnl, Clock, Tol}, Names.same_name}
+use Rattle.cdm_flight.specs.{Reach.{reach_of, same_reach, touching}, Record.fresh, declared.flight.Flight.Flight}
 use Rattle.cdm_flight.specs.Step.{is_fresh, off_block_from, stepped, step_refusal}
 use Rattle.cdm_flight.specs.Journal.{AirportRows, last_value, tobt_given, stand_given, runway_given, ctot_given, ice_given, group_given}
 use Rattle.cdm_flight.specs.Journal.{priority_given, aobt_given, atot_given, is_cancel, taxi_given, taxi_of, of_flight, is_known, exot_now}
 use Rattle.cdm_flight.specs.Journal.{status_from, status_of, record_with, exot_of, flight_of, values_of}
+use Rattle.cdm_flight.specs.declared.reach.Reach.TheVariants as reach
 
 -- Last values of a flight.
 

@@ -1,22 +1,18 @@
 -- Lists: their elements, their sums, and their permutations.
 use Rattle.std.proofs.lemmas.Grind.{common_steps}
-use Rattle.std.proofs.Common.{◌≡◌, ℕ, zero, suc, ◌+◌, ◌<◌, Bool, true, false, cond, List, [], ◌∷◌, ◌++◌, Option, Some, None, IfSome, sym, ◌∙◌}
-use Rattle.std.proofs.Common.{ap, subst, refl, arith, inl, inr, ◌⊎◌, ◌||◌, sum_by, filter, map, set, get_or, length, append_assoc, rules}
-use Rattle.std.specs.Cmp.{IsStrictWeakOrder}
-use Rattle.std.specs.Prelude.{is_some, if◌then◌else◌}
-use Rattle.std.specs.List.{filter_map, find, list_all, list_any, take_while, All, Contains, cons_option, swap, AllByRecursion, IsDistinct}
-use Rattle.std.specs.List.Sorted.{IsPermutation, IsSortedBy}
-use Rattle.std.specs.Option.{option_to_list}
-use Rattle.std.proofs.Math.Bool.{or-false, or_comm}
-use Rattle.std.proofs.lemmas.Bool.{cases_order, cond_both, false≢true, false_from_ne_true, true_from_ne_false}
-use Rattle.std.proofs.lemmas.List.Edits.{swap_is}
+use Rattle.std.proofs.Common.{◌≡◌, ℕ, zero, suc, ◌+◌, ◌<◌, Bool, true, false, cond, List, [], ◌∷◌, ◌++◌, Option, Some, None, IfSome, sym}
+use Rattle.std.proofs.Common.{◌∙◌, ap, subst, refl, arith, inl, inr, ◌⊎◌, ◌||◌, sum_by, filter, map, set, get_or, length, append_assoc}
+use Rattle.std.proofs.{Common.rules, Math.Bool.{or-false, or_comm}}
+use Rattle.std.proofs.lemmas.{Bool.{cases_order, cond_both, false≢true, false_from_ne_true, true_from_ne_false}, List.Edits.swap_is}
 use Rattle.std.proofs.lemmas.List.{get_or-map, get_or_append_left, get_or_default, length-append, length-map}
 use Rattle.std.proofs.lemmas.List.Elements.{Contains-append_right, All-from_recursion, All-contains, All-contains_itself, All-filter}
 use Rattle.std.proofs.lemmas.List.Folds.{fold-map, list_any-append}
 use Rattle.std.proofs.lemmas.List.Sorted.{IsPermutation-refl, IsPermutation-trans, IsPermutation-append_left, IsPermutation-append_right}
-use Rattle.std.proofs.lemmas.List.Sorted.{IsPermutation-append_comm, IsPermutation-keeps, sorted_far}
-use Rattle.std.proofs.lemmas.List.Sums.{sum_by-cons, take_while-cons}
+use Rattle.std.proofs.lemmas.List.{Sorted.{IsPermutation-append_comm, IsPermutation-keeps, sorted_far}, Sums.{sum_by-cons, take_while-cons}}
 use Rattle.std.proofs.lemmas.Map.Keys.{apart_from_distinct, IsDistinct-from_apart, IsDistinct-cons, IsDistinct-head, IsDistinct-tail}
+use Rattle.std.specs.{Cmp.IsStrictWeakOrder, Prelude.{is_some, if◌then◌else◌}}
+use Rattle.std.specs.List.{filter_map, find, list_all, list_any, take_while, All, Contains, cons_option, swap, AllByRecursion, IsDistinct}
+use Rattle.std.specs.{List.Sorted.{IsPermutation, IsSortedBy}, Option.option_to_list}
 
 -- Elements.
 

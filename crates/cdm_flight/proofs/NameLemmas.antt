@@ -1,6 +1,5 @@
 -- Names are ASCII.
-use Rattle.std.proofs.lemmas.Grind.{common_steps}
-use Rattle.std.proofs.Common.{◌≡◌, ℕ, ◌<◌, Bool, true, false, ◌&&◌, List, slice_index, IsTrue, arith, refl}
+use Rattle.std.proofs.{lemmas.Grind.common_steps, Common.{◌≡◌, ℕ, ◌<◌, Bool, true, false, ◌&&◌, List, slice_index, IsTrue, arith, refl}}
 use Rattle.std.specs.List.{list_all}
 pub use Rattle.cdm_time.proofs.Ascii.{IsOk-from_utf8}
 use Rattle.cdm_flight.specs.Names.{is_letter_or_digit, is_name}

@@ -1,20 +1,11 @@
 -- Names are in the order of their numbers.
 use Rattle.std.proofs.lemmas.Grind.{common_steps}
 use Rattle.std.proofs.Common.{◌≡◌, ℕ, ◌+◌, ◌*◌, ◌^◌, ◌<◌, ◌≤◌, true, zero, suc, List, [], ◌∷◌, length, IsTrue, arith, refl, sym, ap, ◌∙◌}
-use Rattle.std.specs.Prelude.{nat_eq}
-use Rattle.std.specs.Int.{w64, from_be_bytes}
-use Rattle.std.specs.Ordering.{MatchOrdering, nat_cmp, ordering_then, is_eq}
-use Rattle.std.specs.declared.cmp.Ordering.{Ordering}
-use Rattle.std.specs.declared.cmp.Ordering.TheVariants.{Less, Equal, Greater}
-use Rattle.std.specs.Cmp.{nat_cmp_is, unsigned_ties}
-use Rattle.std.specs.Cmp.Lexicographic.{texts_ties}
-use Rattle.std.specs.List.{list_all}
-use Rattle.std.proofs.lemmas.Bool.Decides.{nat_tests}
-use Rattle.std.proofs.lemmas.Cmp.{ranked}
-use Rattle.std.proofs.lemmas.Nat.{mul-add-lt}
-use Rattle.cdm_flight.specs.Names.{is_letter_or_digit, name_cmp, same_name}
-use Rattle.cdm_flight.specs.inner.Padded.{digits, padded}
-use Rattle.cdm_flight.proofs.NameLemmas.{both}
+use Rattle.std.{proofs.lemmas.Bool.Decides.nat_tests, proofs.lemmas.Cmp.ranked, proofs.lemmas.Nat.mul-add-lt, specs.Prelude.nat_eq}
+use Rattle.std.specs.{Int.{w64, from_be_bytes}, Ordering.{MatchOrdering, nat_cmp, ordering_then, is_eq}, declared.cmp.Ordering.Ordering}
+use Rattle.std.specs.{declared.cmp.Ordering.TheVariants.{Less, Equal, Greater}, Cmp.{nat_cmp_is, unsigned_ties}}
+use Rattle.std.specs.{Cmp.Lexicographic.texts_ties, List.list_all}
+use Rattle.cdm_flight.{specs.Names.{is_letter_or_digit, name_cmp, same_name}, specs.inner.Padded.{digits, padded}, proofs.NameLemmas.both}
 
 -- letters and digits are no zeros, and bytes
 digit : (b : ℕ) → is_letter_or_digit b ≡ true → (0 < b) × (b < 256)

@@ -1,14 +1,8 @@
 -- The words of the journal are those of the flight's record.
-use Rattle.std.proofs.Common.{◌≡◌, false, List, ℕ, None, Some, refl, ap, rules}
-use Rattle.std.specs.Prelude.{if◌then◌else◌}
-use Rattle.std.specs.Option.{option_or}
+use Rattle.std.{proofs.Common.{◌≡◌, false, List, ℕ, None, Some, refl, ap, rules}, specs.Prelude.if◌then◌else◌, specs.Option.option_or}
 use Rattle.cdm_flight.specs.declared.reach.Reach.TheVariants as reach
-use Rattle.cdm_flight.specs.declared.update.Update.{Update}
-use Rattle.cdm_flight.specs.declared.word.RefusalWord.TheVariants.{Full}
-use Rattle.cdm_flight.specs.Reach.{flight_in, reach_of}
-use Rattle.cdm_flight.specs.declared.flight.Flight.{Flight}
-use Rattle.cdm_flight.specs.Step.{is_fresh, step_refusal}
-use Rattle.cdm_flight.specs.Journal.{AirportRows, exot_of, flight_of}
+use Rattle.cdm_flight.specs.{declared.update.Update.Update, declared.word.RefusalWord.TheVariants.Full, Reach.{flight_in, reach_of}}
+use Rattle.cdm_flight.specs.{declared.flight.Flight.Flight, Step.{is_fresh, step_refusal}, Journal.{AirportRows, exot_of, flight_of}}
 use Rattle.cdm_flight.specs.Accepted.{is_unknown, is_disordered, is_full, refusal_of}
 
 -- a flight's update is no clock and has no window

@@ -1,19 +1,14 @@
 -- The definitions of the day, computed on worked examples: a runway 27L with cells of 10 minutes for
 -- two flights, and a taxi time of 15 minutes from everywhere.
-use Rattle.std.proofs.Common.{◌≡◌, ℕ, true, false, List, [], ◌∷◌, ◌++◌, None, Some, refl}
-use Rattle.std.specs.Prelude.{codes}
+use Rattle.std.{proofs.Common.{◌≡◌, ℕ, true, false, List, [], ◌∷◌, ◌++◌, None, Some, refl}, specs.Prelude.codes}
 use Rattle.std.specs.FinMap as map
-use Rattle.cdm_flight.specs.declared.ice.Ice.TheVariants.{Remote}
+use Rattle.cdm_flight.specs.declared.{ice.Ice.TheVariants.Remote, role.Role.Role, update.Update.Update}
+use Rattle.cdm_flight.specs.Journal.{AirportRows, cap_of, closed_of, exot_of, flight_of, values_of}
+use Rattle.cdm_flight.specs.{Accepted.{refusal, refusal_of, replies_to}, Order.is_before, Spacing.no_spacing}
 use Rattle.cdm_flight.specs.declared.place.Place.TheVariants as place
-use Rattle.cdm_flight.specs.declared.role.Role.{Role}
 use Rattle.cdm_flight.specs.declared.role.Role.TheVariants as role
-use Rattle.cdm_flight.specs.declared.update.Update.{Update}
 use Rattle.cdm_flight.specs.declared.update.Update.TheVariants as update
 use Rattle.cdm_flight.specs.declared.word.RefusalWord.TheVariants as word
-use Rattle.cdm_flight.specs.Journal.{AirportRows, cap_of, closed_of, exot_of, flight_of, values_of}
-use Rattle.cdm_flight.specs.Accepted.{refusal, refusal_of, replies_to}
-use Rattle.cdm_flight.specs.Order.{is_before}
-use Rattle.cdm_flight.specs.Spacing.{no_spacing}
 
 abbrev r27 : List ℕ
 r27 = codes "27L"

@@ -1,29 +1,18 @@
 -- How long a journal's lines are.
-use Rattle.std.proofs.Common.{◌≡◌, ◌<◌, ◌≤◌, ◌+◌, ◌*◌, ◌==◌, ℕ, true, List, [], ◌∷◌, length, Option, Some, None, Result, refl, arith, inl, inr, Bool, Ok, Err}
+use Rattle.std.proofs.Common.{◌≡◌, ◌<◌, ◌≤◌, ◌+◌, ◌*◌, ◌==◌, ℕ, true, List, [], ◌∷◌, length, Option, Some, None, Result, refl, arith, inl}
+use Rattle.std.proofs.{Common.{inr, Bool, Ok, Err}, lemmas.Grind.common_steps, lemmas.Bool.cases_Bool, lemmas.List.length-append}
+use Rattle.std.proofs.lemmas.List.{Concat.length-flat_map, Elements.All-weaker, Sums.sum_by-le}
 use Rattle.std.specs.Prelude.{is_ok, is_some, ok_or}
-use Rattle.std.proofs.lemmas.Grind.{common_steps}
-use Rattle.std.proofs.lemmas.Bool.{cases_Bool}
-use Rattle.std.proofs.lemmas.List.{length-append}
-use Rattle.std.proofs.lemmas.List.Concat.{length-flat_map}
-use Rattle.std.proofs.lemmas.List.Elements.{All-weaker}
-use Rattle.std.proofs.lemmas.List.Sums.{sum_by-le}
 use Rattle.csv.specs.Writing.{default_writer, escaped, field_text, fields_text, is_blank, needs_quotes}
-use Rattle.cdm_time.specs.declared.calendar.CalendarDate.{CalendarDate}
-use Rattle.cdm_flight.specs.Journal.{AirportRows}
-use Rattle.cdm_flight.specs.declared.update.Update.{Update}
-use Rattle.cdm_flight.specs.declared.word.RefusalWord.{RefusalWord}
-use Rattle.cdm_kinds.specs.Kinds.{kind_name, kind_named}
-use Rattle.cdm_kinds.specs.declared.kind.Kind.{Kind}
+use Rattle.cdm_time.specs.{declared.calendar.CalendarDate.CalendarDate, Times.{is_time_text, minute_up_to}}
+use Rattle.cdm_flight.specs.{Journal.AirportRows, declared.update.Update.Update, declared.word.RefusalWord.RefusalWord, Names.is_name}
+use Rattle.cdm_kinds.specs.{Kinds.{kind_name, kind_named}, declared.kind.Kind.Kind}
 use Rattle.cdm_kinds.specs.declared.kind.Kind.TheVariants as kind
-use Rattle.cdm_files.specs.Fields.{and_then, both, ctot_field, group_field, ice_field, name_field, number_field, of_four, of_three, place_field, refused_by_word, tolerance_fields}
-use Rattle.cdm_files.specs.Kinds.{update_by, update_of}
-use Rattle.cdm_files.specs.Parsing.{parse_of}
+use Rattle.cdm_files.specs.Fields.{and_then, both, ctot_field, group_field, ice_field, name_field, number_field, of_four, of_three}
+use Rattle.cdm_files.specs.{Fields.{place_field, refused_by_word, tolerance_fields}, Kinds.{update_by, update_of}, Parsing.parse_of}
 use Rattle.cdm_files.specs.Roles.{role_of}
-use Rattle.cdm_journal.specs.Journal.{journal_line, journal_text}
-use Rattle.cdm_journal.specs.Laws.{Make}
+use Rattle.cdm_journal.specs.{Journal.{journal_line, journal_text}, Laws.Make}
 use Rattle.cdm_journal.proofs.RecordLemmas.{Spells, each-taken, of-kind, of-role, both-spelled}
-use Rattle.cdm_time.specs.Times.{is_time_text, minute_up_to}
-use Rattle.cdm_flight.specs.Names.{is_name}
 use Rattle.cdm_flight.specs.declared.word.RefusalWord.TheVariants as word
 
 -- Fields.

@@ -1,19 +1,14 @@
 -- A line without a line feed has none in the fields of its records.
 use Rattle.std.proofs.Common.{arith, ◌≡◌, ◌||◌, ◌==◌, ℕ, zero, suc, Bool, false, List, [], ◌∷◌, Option, Some, None, refl, inl, inr}
+use Rattle.std.proofs.lemmas.{Grind.common_steps, Bool.{cases_Bool, or_from, or_parts}, List.Folds.list_any-append}
 use Rattle.std.specs.List.{list_any}
-use Rattle.std.proofs.lemmas.Grind.{common_steps}
-use Rattle.std.proofs.lemmas.Bool.{cases_Bool, or_from, or_parts}
-use Rattle.std.proofs.lemmas.List.Folds.{list_any-append}
 use Rattle.csv.specs.Machine.{Read, field_after, fields_after, is_end, next_record, step}
-use Rattle.csv.specs.Reading.{default_config, records_from, records_next, strip_bom}
-use Rattle.csv.specs.declared.parser.Action.{Action}
-use Rattle.csv.specs.declared.parser.Action.TheVariants as act
+use Rattle.csv.specs.{Reading.{default_config, records_from, records_next, strip_bom}, declared.parser.Action.Action}
 use Rattle.csv.specs.declared.parser.State.{State}
+use Rattle.csv.specs.declared.parser.Action.TheVariants as act
 use Rattle.csv.specs.declared.parser.State.TheVariants as st
 use Rattle.cdm_files.specs.Records.{records_of}
-use Rattle.cdm_journal.specs.Journal.{has_line_feed}
-use Rattle.cdm_journal.specs.Lines.{line_record, record_among}
-use Rattle.cdm_journal.specs.Lines.LineRecord.{One}
+use Rattle.cdm_journal.specs.{Journal.has_line_feed, Lines.{line_record, record_among}, Lines.LineRecord.One}
 
 -- no field has one
 abbrev Feedless : List (List ℕ) → Type 0

@@ -1,27 +1,16 @@
 -- A journal is read back.
 use Rattle.std.proofs.Common.{◌≡◌, ◌<◌, ◌≤◌, ◌+◌, ◌∙◌, ℕ, zero, suc, List, [], ◌∷◌, ◌++◌, length, map, Ok, refl, ap, arith}
-use Rattle.std.proofs.lemmas.List.{length-append, map-append}
-use Rattle.std.proofs.lemmas.List.Concat.{flat_map-append}
-use Rattle.std.proofs.lemmas.List.{append-nil}
-use Rattle.csv.specs.Reading.{default_config, records_from, strip_bom}
-use Rattle.csv.specs.Machine.{next_record}
-use Rattle.csv.specs.Writing.{fields_text, is_blank, read_back}
-use Rattle.csv.specs.declared.parser.State.TheVariants as st
-use Rattle.csv.proofs.RoundTrip.{read-write}
-use Rattle.cdm_flight.specs.Accepted.{accepted}
-use Rattle.cdm_flight.specs.Journal.{AirportRows}
-use Rattle.cdm_flight.specs.declared.update.Update.{Update}
-use Rattle.cdm_files.specs.FeedDay.{accepted_in, refusals_in}
-use Rattle.cdm_files.specs.Parsing.{parse_of}
-use Rattle.cdm_files.specs.Records.{records_of}
-use Rattle.cdm_files.specs.Refused.{Spelled, refused_in, updates_in}
-use Rattle.cdm_files.specs.Roles.{role_of}
-use Rattle.cdm_files.proofs.StretchLemmas.{accepted-both, refused-both}
-use Rattle.cdm_journal.specs.Journal.{journal_line, journal_text}
-use Rattle.cdm_journal.specs.Laws.{IsTaken, Make}
-use Rattle.cdm_journal.proofs.RecordLemmas.{Spells, both-spelled, each-taken, of-role}
+use Rattle.std.proofs.lemmas.List.{length-append, map-append, append-nil, Concat.flat_map-append, Elements.{All-head, All-tail}}
 use Rattle.std.specs.List.{All}
-use Rattle.std.proofs.lemmas.List.Elements.{All-head, All-tail}
+use Rattle.csv.specs.{Reading.{default_config, records_from, strip_bom}, Machine.next_record, Writing.{fields_text, is_blank, read_back}}
+use Rattle.csv.proofs.RoundTrip.{read-write}
+use Rattle.csv.specs.declared.parser.State.TheVariants as st
+use Rattle.cdm_flight.specs.{Accepted.accepted, Journal.AirportRows, declared.update.Update.Update}
+use Rattle.cdm_files.specs.{FeedDay.{accepted_in, refusals_in}, Parsing.parse_of, Records.records_of}
+use Rattle.cdm_files.specs.{Refused.{Spelled, refused_in, updates_in}, Roles.role_of}
+use Rattle.cdm_files.proofs.StretchLemmas.{accepted-both, refused-both}
+use Rattle.cdm_journal.specs.{Journal.{journal_line, journal_text}, Laws.{IsTaken, Make}}
+use Rattle.cdm_journal.proofs.RecordLemmas.{Spells, both-spelled, each-taken, of-role}
 use Rattle.cdm_time.specs.declared.calendar.CalendarDate.{CalendarDate}
 
 -- Lines.

@@ -1,25 +1,17 @@
 -- Records that spell updates.
-use Rattle.std.proofs.Common.{◌≡◌, ◌<◌, ◌≤◌, ◌+◌, ℕ, true, false, List, [], ◌∷◌, ◌++◌, length, map, Option, Some, None, Result, Ok, Err, refl, sym, ap, subst, arith, inl, inr, length-append}
-use Rattle.std.specs.Prelude.{bytes_eq, codes, is_ok, is_some, option_map}
-use Rattle.std.specs.List.{All, find}
-use Rattle.std.proofs.lemmas.Bool.{cases_Bool, leb-false, or_parts}
-use Rattle.std.proofs.lemmas.List.Elements.{All-nil, All-cons}
-use Rattle.std.proofs.lemmas.Slice.Eq.{bytes_eq-Decides}
+use Rattle.std.proofs.Common.{◌≡◌, ◌<◌, ◌≤◌, ◌+◌, ℕ, true, false, List, [], ◌∷◌, ◌++◌, length, map, Option, Some, None, Result, Ok, Err}
+use Rattle.std.proofs.{Common.{refl, sym, ap, subst, arith, inl, inr, length-append}, lemmas.Bool.{cases_Bool, leb-false, or_parts}}
+use Rattle.std.proofs.lemmas.{List.Elements.{All-nil, All-cons}, Slice.Eq.bytes_eq-Decides}
+use Rattle.std.specs.{Prelude.{bytes_eq, codes, is_ok, is_some, option_map}, List.{All, find}}
 use Rattle.cdm_time.specs.declared.calendar.CalendarDate.{CalendarDate}
-use Rattle.cdm_flight.specs.Accepted.{after_one, is_full, refusal}
-use Rattle.cdm_flight.specs.Journal.{AirportRows}
-use Rattle.cdm_flight.specs.declared.role.Role.{Role}
-use Rattle.cdm_flight.specs.declared.update.Update.{Update}
+use Rattle.cdm_flight.specs.{Accepted.{after_one, is_full, refusal}, Journal.AirportRows, declared.role.Role.Role}
+use Rattle.cdm_flight.specs.declared.{update.Update.Update, word.RefusalWord.RefusalWord}
 use Rattle.cdm_flight.specs.declared.update.Update.TheVariants as update
-use Rattle.cdm_flight.specs.declared.word.RefusalWord.{RefusalWord}
 use Rattle.cdm_flight.specs.declared.word.RefusalWord.TheVariants as word
 use Rattle.cdm_plan.proofs.JournalFacts.{accepted_is}
 use Rattle.cdm_day.proofs.BatchLemmas.{good_from}
-use Rattle.cdm_kinds.specs.Kinds.{all_kinds, kind_name, kind_named}
-use Rattle.cdm_kinds.specs.declared.kind.Kind.{Kind}
-use Rattle.cdm_files.specs.Parsing.{parse_of, with_role}
-use Rattle.cdm_files.specs.Refused.{Spelled, if_refused, refused_in}
-use Rattle.cdm_files.specs.Roles.{named_roles, role_of}
+use Rattle.cdm_kinds.specs.{Kinds.{all_kinds, kind_name, kind_named}, declared.kind.Kind.Kind}
+use Rattle.cdm_files.specs.{Parsing.{parse_of, with_role}, Refused.{Spelled, if_refused, refused_in}, Roles.{named_roles, role_of}}
 
 -- Words.
 

@@ -1,5 +1,6 @@
 -- A record's text, field by field.
-use Rattle.std.proofs.Common.{◌≡◌, ◌+◌, ◌<◌, ◌∙◌, ℕ, zero, suc, List, [], ◌∷◌, ◌++◌, length, take, refl, sym, ap, append_assoc, add-one, arith}
+use Rattle.std.proofs.Common.{◌≡◌, ◌+◌, ◌<◌, ◌∙◌, ℕ, zero, suc, List, [], ◌∷◌, ◌++◌, length, take, refl, sym, ap, append_assoc, add-one}
+use Rattle.std.proofs.Common.{arith}
 use Rattle.csv.specs.Records.{field_at}
 use Rattle.cdm_files.specs.Fields.{field}
 use Rattle.cdm_journal.specs.Journal.{record_text}

@@ -1,16 +1,12 @@
 -- The whole lines of a journal.
-use Rattle.std.proofs.Common.{◌≡◌, ◌≢◌, ◌<◌, ◌≤◌, ◌+◌, ◌∙◌, ◌==◌, ℕ, zero, suc, true, false, List, [], ◌∷◌, ◌++◌, length, take, slice_index, Option, Some, None, refl, sym, ap, arith, add-one, inl, inr, if◌then◌else◌, append_assoc}
+use Rattle.std.proofs.Common.{◌≡◌, ◌≢◌, ◌<◌, ◌≤◌, ◌+◌, ◌∙◌, ◌==◌, ℕ, zero, suc, true, false, List, [], ◌∷◌, ◌++◌, length, take, slice_index}
+use Rattle.std.proofs.Common.{Option, Some, None, refl, sym, ap, arith, add-one, inl, inr, if◌then◌else◌, append_assoc}
+use Rattle.std.proofs.lemmas.{Bool.{cases_Bool, false_from_ne_true}, List.{append-nil, length-append, nil_from_length}, Grind.common_steps}
+use Rattle.std.proofs.lemmas.List.{Elements.All-from_get_or, Folds.{list_any-append, list_any_at, list_any_none}}
 use Rattle.std.specs.List.{list_any}
-use Rattle.std.proofs.lemmas.Bool.{cases_Bool, false_from_ne_true}
-use Rattle.std.proofs.lemmas.List.{append-nil, length-append, nil_from_length}
-use Rattle.std.proofs.lemmas.Grind.{common_steps}
-use Rattle.std.proofs.lemmas.List.Elements.{All-from_get_or}
-use Rattle.std.proofs.lemmas.List.Folds.{list_any-append, list_any_at, list_any_none}
 use Rattle.csv.specs.Writing.{default_writer, escaped, field_text, fields_text, is_blank, needs_quotes, row_body}
 use Rattle.memchr.specs.Find.{IsLastByte, is_byte}
-use Rattle.cdm_journal.specs.Journal.{has_line_feed, journal_line, journal_text, whole_lines}
-use Rattle.cdm_journal.specs.Lines.{line_record}
-use Rattle.cdm_journal.specs.Lines.LineRecord.{One}
+use Rattle.cdm_journal.specs.{Journal.{has_line_feed, journal_line, journal_text, whole_lines}, Lines.line_record, Lines.LineRecord.One}
 use Rattle.cdm_journal.proofs.LineLemmas.{one-feedless}
 
 -- Lines.

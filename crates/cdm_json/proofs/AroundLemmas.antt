@@ -1,16 +1,15 @@
 -- The text of values, piece by piece, and of a plan around its flights.
-use Rattle.cdm_json.proofs.Words.{arith, ◌≡◌, ◌∙◌, ◌++◌, ◌+◌, ◌==◌, ℕ, zero, suc, Bool, true, false, cond, List, [], ◌∷◌, Some, append_assoc}
-use Rattle.cdm_json.proofs.Words.{append-nil, fold, map, refl, sym, ap, take, codes, flat_map, slice_get, cons_option, map-append, Json, ends, print}
-use Rattle.cdm_json.proofs.Words.{print_from, Token, begin_array, begin_object, end_array, end_object, key, json_tokens, CalendarDate, RefusalWord}
-use Rattle.cdm_json.proofs.Words.{take-next, Plan, counts_of, Value, array_of, member_tokens, object_of, row_json, Row}
-use Rattle.std.proofs.lemmas.Bool.Decides.{nat_tests}
-use Rattle.std.proofs.lemmas.Grind.{flat_map-append, fold-append}
-use Rattle.json.proofs.Printed.Tokens.{ends_push, print_from-append}
+use Rattle.cdm_json.proofs.Words.{arith, ◌≡◌, ◌∙◌, ◌++◌, ◌+◌, ◌==◌, ℕ, zero, suc, Bool, true, false, cond, List, [], ◌∷◌, Some}
+use Rattle.cdm_json.proofs.Words.{append_assoc, append-nil, fold, map, refl, sym, ap, take, codes, flat_map, slice_get, cons_option}
+use Rattle.cdm_json.proofs.Words.{map-append, Json, ends, print, print_from, Token, begin_array, begin_object, end_array, end_object, key}
+use Rattle.cdm_json.proofs.Words.{json_tokens, CalendarDate, RefusalWord, take-next, Plan, counts_of, Value, array_of, member_tokens}
+use Rattle.cdm_json.proofs.{Words.{object_of, row_json, Row}, TokenLemmas.{array_tokens, object_tokens}}
 use Rattle.cdm_json.specs.Lines.{head_members, json_line}
-use Rattle.cdm_json.specs.Plans.{count_members, day_members, flights_text, number_of, plan_line, plan_members, refused_json, refused_members, rules_json, scenario_of}
-use Rattle.cdm_json.specs.declared.plan.PlanOf.{PlanOf}
-use Rattle.cdm_json.proofs.TokenLemmas.{array_tokens, object_tokens}
+use Rattle.cdm_json.specs.Plans.{count_members, day_members, flights_text, number_of, plan_line, plan_members, refused_json}
+use Rattle.cdm_json.specs.{Plans.{refused_members, rules_json, scenario_of}, declared.plan.PlanOf.PlanOf}
 use Rattle.cdm_json.specs.inner.Around.{first_members, text_before, text_behind}
+use Rattle.std.proofs.lemmas.{Bool.Decides.nat_tests, Grind.{flat_map-append, fold-append}}
+use Rattle.json.proofs.Printed.Tokens.{ends_push, print_from-append}
 
 -- whether a value ends where the tokens end, which come after one or not
 abbrev ends_after : Bool → List Token → Bool

@@ -1,7 +1,6 @@
 -- How full runways are, whichever they are by name.
-use Rattle.cdm_json.proofs.Words.{◌≡◌, ◌∙◌, ◌++◌, ℕ, List, [], Option, filter, flat_map, AirportRows, RunwayRules, Plan, DayRecord, AreByName}
-use Rattle.cdm_json.proofs.Words.{rules_by_name, rules_in, is_asked}
-use Rattle.cdm_json.specs.Loads.{AreLoadLines, load_line}
+use Rattle.cdm_json.proofs.Words.{◌≡◌, ◌∙◌, ◌++◌, ℕ, List, [], Option, filter, flat_map, AirportRows, RunwayRules, Plan, DayRecord}
+use Rattle.cdm_json.{proofs.Words.{AreByName, rules_by_name, rules_in, is_asked}, specs.Loads.{AreLoadLines, load_line}}
 
 pub load_told : (d : DayRecord) (h : AirportRows) (number : Option ℕ) (plan : Plan) (asked : Option (List ℕ)) (none text : List ℕ) → h ≡ d.airport → none ≡ []
     → ((runways : List RunwayRules) → AreByName d runways → text ≡ none ++ flat_map (load_line h number plan) (filter (is_asked asked) runways))

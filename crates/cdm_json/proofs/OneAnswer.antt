@@ -1,17 +1,12 @@
 -- A question has one answer in JSON.
-use Rattle.cdm_json.proofs.Words.{◌≡◌, ◌∙◌, ℕ, List, Option, None, Some, ap, sym, filter, flat_map, IsDistinct, IsSomeAnd, option_map_or, flight_of}
-use Rattle.cdm_json.proofs.Words.{Flight, Plan, DayRecord, flights_in, IsDayPlan, in_order, is_asked, row_named, codes}
+use Rattle.cdm_json.proofs.Words.{◌≡◌, ◌∙◌, ℕ, List, Option, None, Some, ap, sym, filter, flat_map, IsDistinct, IsSomeAnd, option_map_or}
+use Rattle.cdm_json.proofs.Words.{flight_of, Flight, Plan, DayRecord, flights_in, IsDayPlan, in_order, is_asked, row_named, codes}
+use Rattle.cdm_json.specs.{Answers.IsJsonAnswer, Lines.answer_line, Loads.{AreLoadLines, load_line}, Whys.{IsWhyLine, why_members}}
 use Rattle.cdm_flight.specs.Names.{same_name}
 use Rattle.cdm_plan.specs.Airport.{IsAirport}
-use Rattle.cdm_view.specs.Why.{own_slot, waits_for}
-use Rattle.cdm_view.specs.declared.question.Question.{Question}
-use Rattle.cdm_view.specs.declared.question.Question.TheVariants.{Why, Load}
-use Rattle.cdm_view.proofs.AnswerLemmas.{waits_one}
+use Rattle.cdm_view.specs.{Why.{own_slot, waits_for}, declared.question.Question.Question}
+use Rattle.cdm_view.{specs.declared.question.Question.TheVariants.{Why, Load}, proofs.AnswerLemmas.waits_one}
 use Rattle.cdm_row.proofs.RowLemmas.{one_rows}
-use Rattle.cdm_json.specs.Answers.{IsJsonAnswer}
-use Rattle.cdm_json.specs.Lines.{answer_line}
-use Rattle.cdm_json.specs.Loads.{AreLoadLines, load_line}
-use Rattle.cdm_json.specs.Whys.{IsWhyLine, why_members}
 
 load_one : (d : DayRecord) (number : Option ℕ) (plan : Plan) (asked : Option (List ℕ)) (x y : List ℕ) → IsAirport d.airport
     → AreLoadLines d number plan asked x → AreLoadLines d number plan asked y → x ≡ y

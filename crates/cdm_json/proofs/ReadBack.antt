@@ -1,8 +1,7 @@
 -- A value is read back from its text.
-use Rattle.cdm_json.proofs.Words.{◌≡◌, ◌∙◌, ◌≤◌, [], ap, append-nil, sym, option_and_then, Json, if_last, max_depth, value, print, depth, json_tokens}
-use Rattle.json.specs.Lex.{tokens}
-use Rattle.json.proofs.Printed.Trees.{value-json_tokens}
-use Rattle.cdm_json.specs.Lines.{IsReadBack}
+use Rattle.cdm_json.proofs.Words.{◌≡◌, ◌∙◌, ◌≤◌, [], ap, append-nil, sym, option_and_then, Json, if_last, max_depth, value, print, depth}
+use Rattle.cdm_json.{proofs.Words.json_tokens, specs.Lines.IsReadBack}
+use Rattle.json.{specs.Lex.tokens, proofs.Printed.Trees.value-json_tokens}
 
 pub read_back : (v : Json) → tokens (print (json_tokens v)) ≡ json_tokens v → depth v ≤ max_depth → IsReadBack v
 read_back v same shallow =

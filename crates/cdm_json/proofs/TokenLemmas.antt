@@ -1,15 +1,12 @@
 -- Members and objects, written token by token.
-use Rattle.cdm_json.proofs.Words.{◌≡◌, ◌∙◌, ◌++◌, ◌+◌, ◌-◌, ◌<◌, ◌≤◌, ℕ, List, [], ◌∷◌, append_assoc, arith, get_or, length, map, refl, sym, take, ap}
-use Rattle.cdm_json.proofs.Words.{Result, Ok, Err, IfOk, codes, flat_map, zip, range_with_len, flat_map_more, take_more, Json, string, Token}
-use Rattle.cdm_json.proofs.Words.{begin_array, begin_object, end_array, end_object, key, json_tokens, date_text, time_text, CalendarDate, text_of}
-use Rattle.cdm_json.proofs.Words.{RefusalWord, RunwayRules, Value, array_of, count_json, json_value, member_tokens, array_written}
-use Rattle.cdm_json.proofs.Words.{object_written, object_of}
-use Rattle.cdm_view.proofs.RangeLemmas.{range-append}
-use Rattle.std.proofs.lemmas.Grind.{flat_map-append}
-use Rattle.std.proofs.lemmas.List.{append-nil}
-use Rattle.std.proofs.lemmas.Slice.Zip.{get_or-zip, length-zip}
-use Rattle.cdm_json.specs.Loads.{runway_members}
+use Rattle.cdm_json.proofs.Words.{◌≡◌, ◌∙◌, ◌++◌, ◌+◌, ◌-◌, ◌<◌, ◌≤◌, ℕ, List, [], ◌∷◌, append_assoc, arith, get_or, length, map, refl, sym}
+use Rattle.cdm_json.proofs.Words.{take, ap, Result, Ok, Err, IfOk, codes, flat_map, zip, range_with_len, flat_map_more, take_more, Json}
+use Rattle.cdm_json.proofs.Words.{string, Token, begin_array, begin_object, end_array, end_object, key, json_tokens, date_text, time_text}
+use Rattle.cdm_json.proofs.Words.{CalendarDate, text_of, RefusalWord, RunwayRules, Value, array_of, count_json, json_value, member_tokens}
+use Rattle.cdm_json.{proofs.Words.{array_written, object_written, object_of}, specs.Loads.runway_members}
 use Rattle.cdm_json.specs.Plans.{day_members, refused_json}
+use Rattle.cdm_view.proofs.RangeLemmas.{range-append}
+use Rattle.std.proofs.lemmas.{Grind.flat_map-append, List.append-nil, Slice.Zip.{get_or-zip, length-zip}}
 
 -- parts of members
 pub two_parts : (a b : List (List ℕ × Json)) → flat_map member_tokens (a ++ b) ≡ flat_map member_tokens a ++ flat_map member_tokens b
@@ -62,10 +59,6 @@ array_member old named begun more ended name js first then items last =
     ∙ ap (λ ts. ts ++ json_tokens (array_of js)) first
     ∙ append_assoc old (key name ∷ []) (json_tokens (array_of js))
     ∙ ap (λ ts. old ++ ts) (sym (append-nil (member_tokens (name, array_of js))))
-
--- two members
-pub two_members : (a b : List ℕ) (x y : Json) → flat_map member_tokens ((a, x) ∷ (b, y) ∷ []) ≡ (key a ∷ []) ++ (json_tokens x ++ ((key b ∷ []) ++ json_tokens y))
-two_members a b x y = ap (λ ts. key a ∷ (json_tokens x ++ ts)) (append-nil (member_tokens (b, y)))
 
 -- what is told of one more pair
 pub pair_more : {A B : Type 0} (f : A × B → List Token) (initial before after : List Token) (xs : List A) (ys : List B) (i : ℕ) (a : A) (b : B)

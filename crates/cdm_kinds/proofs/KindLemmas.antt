@@ -1,13 +1,10 @@
 -- Who may send each kind, and what comes first in it.
-use Rattle.std.proofs.Common.{◌≡◌, List, ◌∷◌, refl}
-use Rattle.std.specs.Prelude.{filter}
-use Rattle.cdm_flight.specs.Authority.{may_make}
-use Rattle.cdm_flight.specs.declared.update.Update.{Update}
+use Rattle.std.{proofs.Common.{◌≡◌, List, ◌∷◌, refl}, specs.Prelude.filter}
+use Rattle.cdm_flight.specs.{Authority.may_make, declared.update.Update.Update}
 use Rattle.cdm_flight.specs.declared.update.Update.TheVariants as update
-use Rattle.cdm_kinds.specs.Kinds.{all_roles, fields_of, kind_of, roles_of, subject_of}
-use Rattle.cdm_kinds.specs.declared.field.Field.{Field}
-use Rattle.cdm_kinds.specs.declared.field.Field.TheVariants as field
+use Rattle.cdm_kinds.specs.{Kinds.{all_roles, fields_of, kind_of, roles_of, subject_of}, declared.field.Field.Field}
 use Rattle.cdm_kinds.specs.declared.kind.Kind.{Kind}
+use Rattle.cdm_kinds.specs.declared.field.Field.TheVariants as field
 use Rattle.cdm_kinds.specs.declared.kind.Kind.TheVariants as kind
 use Rattle.cdm_kinds.specs.declared.subject.Subject.TheVariants as subject
 

@@ -1,14 +1,12 @@
 -- The tokens of the table's values.
 use Rattle.std.proofs.Common.{◌≡◌, ◌++◌, ◌∙◌, List, [], ◌∷◌, ap, append_assoc, map, refl, sym, Result, Ok, Err}
 use Rattle.std.specs.Prelude.{codes, flat_map, OnOk}
-use Rattle.json.specs.Json.{array}
-use Rattle.json.specs.Token.{Token, begin_array, begin_object, end_array, end_object, key, string}
+use Rattle.json.specs.{Json.array, Token.{Token, begin_array, begin_object, end_array, end_object, key, string}}
 use Rattle.json.specs.Tree.{items_tokens, json_tokens}
 use Rattle.cdm_flight.specs.declared.role.Role.{Role}
 use Rattle.cdm_kinds.specs.Kinds.{fields_of, kind_name, roles_of, subject_of}
 use Rattle.cdm_kinds.specs.Table.{field_items, field_json, kind_json, range_json, string_items}
-use Rattle.cdm_kinds.specs.Words.{field_form, field_name, field_range, role_name, subject_name}
-use Rattle.cdm_kinds.specs.declared.field.Field.{Field}
+use Rattle.cdm_kinds.specs.{Words.{field_form, field_name, field_range, role_name, subject_name}, declared.field.Field.Field}
 use Rattle.cdm_kinds.specs.declared.kind.Kind.{Kind}
 
 -- an array's tokens are its brackets and those of its items between them

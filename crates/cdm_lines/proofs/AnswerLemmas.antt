@@ -1,45 +1,30 @@
 -- Plans, answers and replies nest little.
-use Rattle.std.proofs.Common.{ℕ, ◌*◌, ◌==◌, ◌≤◌, Bool, true, false, cond, List, [], ◌∷◌, ◌++◌, length, map, arith, refl, Option, None, Some, codes}
-use Rattle.std.specs.Prelude.{flat_map, filter, zip}
-use Rattle.std.specs.Option.{IsSomeAnd}
+use Rattle.std.proofs.Common.{ℕ, ◌*◌, ◌==◌, ◌≤◌, Bool, true, false, cond, List, [], ◌∷◌, ◌++◌, length, map, arith, refl, Option, None, Some}
+use Rattle.std.{proofs.Common.codes, specs.Prelude.{flat_map, filter, zip}, specs.Option.IsSomeAnd}
 use Rattle.json.specs.Json.{Json, string}
-use Rattle.cdm_time.specs.Times.{date_text, time_text}
-use Rattle.cdm_time.specs.declared.calendar.CalendarDate.{CalendarDate}
-use Rattle.cdm_flight.specs.Journal.{AirportRows, flight_of}
-use Rattle.cdm_flight.specs.declared.flight.Flight.{Flight}
-use Rattle.cdm_flight.specs.declared.ice.Ice.{Ice}
-use Rattle.cdm_flight.specs.Words.{text_of}
+use Rattle.cdm_time.specs.{Times.{date_text, time_text}, declared.calendar.CalendarDate.CalendarDate}
+use Rattle.cdm_flight.specs.{Journal.{AirportRows, flight_of}, declared.flight.Flight.Flight, declared.ice.Ice.Ice, Words.text_of}
 use Rattle.cdm_flight.specs.declared.word.RefusalWord.{RefusalWord}
 use Rattle.cdm_runway.specs.Rules.{RunwayRules}
-use Rattle.cdm_sequence.specs.Words.{all_rules, rule_text}
-use Rattle.cdm_sequence.specs.declared.plan.Plan.{Plan}
-use Rattle.cdm_sequence.specs.declared.rule.Rule.{Rule}
-use Rattle.cdm_sequence.specs.declared.slot.Slot.{Slot}
-use Rattle.cdm_report.specs.Counts.{counts_of}
-use Rattle.cdm_report.specs.declared.counts.Counts.{Counts}
+use Rattle.cdm_sequence.specs.{Words.{all_rules, rule_text}, declared.plan.Plan.Plan, declared.rule.Rule.Rule, declared.slot.Slot.Slot}
+use Rattle.cdm_report.specs.{Counts.counts_of, declared.counts.Counts.Counts}
 use Rattle.cdm_plan.specs.Day.{DayRecord}
-use Rattle.cdm_view.specs.Load.{cap_of_cell, closed_in_cell, flights_in_cell, is_asked, told_cells, usual_cap}
-use Rattle.cdm_view.specs.Reasons.{slots_on}
-use Rattle.cdm_view.specs.declared.question.Question.{Question}
-use Rattle.cdm_view.specs.declared.question.Question.TheVariants.{Why, Load}
-use Rattle.cdm_view.specs.declared.runs.Run.{Run}
-use Rattle.cdm_row.specs.Changed.{row_named}
-use Rattle.cdm_row.specs.Columns.{Value, columns}
+use Rattle.cdm_view.specs.{Load.{cap_of_cell, closed_in_cell, flights_in_cell, is_asked, told_cells, usual_cap}, Reasons.slots_on}
+use Rattle.cdm_view.specs.declared.{question.Question.Question, question.Question.TheVariants.{Why, Load}, runs.Run.Run}
+use Rattle.cdm_row.specs.{Changed.row_named, Columns.{Value, columns}}
 use Rattle.cdm_row.specs.Columns.Value.{minute as a_minute, nothing, number as a_number, text as a_text}
-use Rattle.cdm_row.specs.Json.{array_of, count_json, json_value, object_of, row_json, row_members}
-use Rattle.cdm_row.specs.declared.row.Row.{Row}
-use Rattle.cdm_desk.specs.declared.reply.RowReply.{RowReply}
-use Rattle.cdm_desk.specs.declared.reply.RowReply.TheVariants.{Accepted, Refused}
-use Rattle.cdm_json.specs.Answers.{IsJsonAnswer}
-use Rattle.cdm_json.specs.Lines.{head_members}
+use Rattle.cdm_row.specs.{Json.{array_of, count_json, json_value, object_of, row_json, row_members}, declared.row.Row.Row}
+use Rattle.cdm_desk.specs.declared.reply.RowReply.{RowReply, TheVariants.{Accepted, Refused}}
+use Rattle.cdm_json.specs.{Answers.IsJsonAnswer, Lines.head_members}
 use Rattle.cdm_json.specs.Loads.{AreLoadLines, cell_json, cell_members, load_line, load_members, name_json, names_members}
-use Rattle.cdm_json.specs.Plans.{IsPlanLine, count_members, day_members, flight_members, number_of, plan_members, refused_json, refused_members, rule_members, rules_json, scenario_of}
+use Rattle.cdm_json.specs.Plans.{IsPlanLine, count_members, day_members, flight_members, number_of, plan_members, refused_json}
+use Rattle.cdm_json.specs.Plans.{refused_members, rule_members, rules_json, scenario_of}
 use Rattle.cdm_json.specs.Records.{accepted_members, refused_line, refused_members as word_members, reply_line}
-use Rattle.cdm_json.specs.Whys.{IsWhyLine, flights_members, ice_json, ice_kind, ice_minutes, minute_members, reason_cap, reason_flights, reason_word, wait_json, why_members}
-use Rattle.cdm_json.specs.declared.plan.PlanOf.{PlanOf}
-use Rattle.cdm_lines.specs.Lines.{AreLines, IsLine, FitsLine}
-use Rattle.cdm_lines.proofs.Texts.{fits, lines-flat_map, lines_same, one_line}
-use Rattle.cdm_lines.proofs.Values.{AreSmall, Small, small-append, small-flat_map, small_array, small_decimal, small_more, small_null, small_object, small_or_null, small_string}
+use Rattle.cdm_json.specs.Whys.{IsWhyLine, flights_members, ice_json, ice_kind, ice_minutes, minute_members, reason_cap, reason_flights}
+use Rattle.cdm_json.specs.{Whys.{reason_word, wait_json, why_members}, declared.plan.PlanOf.PlanOf}
+use Rattle.cdm_lines.{specs.Lines.{AreLines, IsLine, FitsLine}, proofs.Texts.{fits, lines-flat_map, lines_same, one_line}}
+use Rattle.cdm_lines.proofs.Values.{AreSmall, Small, small-append, small-flat_map, small_array, small_decimal, small_more, small_null}
+use Rattle.cdm_lines.proofs.Values.{small_object, small_or_null, small_string}
 
 -- Rows.
 

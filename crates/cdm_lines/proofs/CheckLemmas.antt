@@ -1,17 +1,14 @@
 -- A check is lines.
-use Rattle.std.proofs.Common.{◌≡◌, ◌∙◌, ◌++◌, ℕ, Bool, true, false, List, [], ◌∷◌, length, take, refl, sym, ap}
-use Rattle.std.proofs.lemmas.List.{append-nil}
-use Rattle.std.specs.List.{concat}
-use Rattle.std.proofs.lemmas.List.Elements.{recursion_from_All}
-use Rattle.cdm_flight.specs.Words.{text_of}
-use Rattle.cdm_flight.specs.declared.word.RefusalWord.{RefusalWord}
+use Rattle.std.proofs.{Common.{◌≡◌, ◌∙◌, ◌++◌, ℕ, Bool, true, false, List, [], ◌∷◌, length, take, refl, sym, ap}, lemmas.List.append-nil}
+use Rattle.std.{proofs.lemmas.List.Elements.recursion_from_All, specs.List.concat}
+use Rattle.cdm_flight.specs.{Words.text_of, declared.word.RefusalWord.RefusalWord}
 use Rattle.cdm_kinds.specs.declared.format.Format.TheVariants.{Json as AsJson}
 use Rattle.cdm_row.specs.Json.{object_of}
 use Rattle.cdm_files.specs.Records.{records_of}
-use Rattle.cdm_check.specs.Check.{AreFeedHintsOf, AreHintsOf, AreLinesOf, HasStandingHintOf, IsCheck, IsHintOf, IsLineOf, IsStandingHintOf, cause_members, counts_in, hint_members, last_line, last_members, most_told, place_members}
+use Rattle.cdm_check.specs.Check.{AreFeedHintsOf, AreHintsOf, AreLinesOf, HasStandingHintOf, IsCheck, IsHintOf, IsLineOf, IsStandingHintOf}
+use Rattle.cdm_check.specs.Check.{cause_members, counts_in, hint_members, last_line, last_members, most_told, place_members}
 use Rattle.cdm_check.specs.Findings.{File, Finding, is_stood_for, told_in}
-use Rattle.cdm_lines.specs.Lines.{AreLines, FitsLine}
-use Rattle.cdm_lines.proofs.Texts.{fits, lines-all, lines-concat, lines-zip, lines_same, one_line}
+use Rattle.cdm_lines.{specs.Lines.{AreLines, FitsLine}, proofs.Texts.{fits, lines-all, lines-concat, lines-zip, lines_same, one_line}}
 use Rattle.cdm_lines.proofs.Values.{small_decimal, small_object, small_string}
 
 pub finding_fits : (path : List ℕ) (line number : ℕ) (word : RefusalWord) (sentence : List ℕ)

@@ -1,17 +1,11 @@
 -- The table of kinds is lines.
-use Rattle.std.proofs.Common.{◌≡◌, ℕ, ◌≤◌, List, [], ◌∷◌, map, arith, refl}
-use Rattle.std.specs.Prelude.{flat_map}
+use Rattle.std.{proofs.Common.{◌≡◌, ℕ, ◌≤◌, List, [], ◌∷◌, map, arith, refl}, specs.Prelude.flat_map}
 use Rattle.json.specs.Tree.{HasNumbers, ItemsHaveNumbers, depth, items_depth}
 use Rattle.cdm_json.specs.Lines.{IsReadBack, json_line}
-use Rattle.cdm_kinds.specs.Kinds.{fields_of, roles_of}
-use Rattle.cdm_kinds.specs.Table.{field_items, json_line as kind_line, kind_json, range_json, string_items}
-use Rattle.cdm_kinds.specs.Words.{field_range, role_name}
-use Rattle.cdm_kinds.specs.declared.field.Field.{Field}
-use Rattle.cdm_kinds.specs.declared.kind.Kind.{Kind}
-use Rattle.cdm_lines.specs.Lines.{AreLines, FitsLine}
-use Rattle.cdm_lines.proofs.LineFeeds.{HasClean, ItemsClean}
-use Rattle.cdm_lines.proofs.Texts.{fits, lines-flat_map, one_line}
-use Rattle.cdm_lines.proofs.Values.{Small}
+use Rattle.cdm_kinds.specs.{Kinds.{fields_of, roles_of}, Table.{field_items, json_line as kind_line, kind_json, range_json, string_items}}
+use Rattle.cdm_kinds.specs.{Words.{field_range, role_name}, declared.field.Field.Field, declared.kind.Kind.Kind}
+use Rattle.cdm_lines.{specs.Lines.{AreLines, FitsLine}, proofs.LineFeeds.{HasClean, ItemsClean}}
+use Rattle.cdm_lines.proofs.{Texts.{fits, lines-flat_map, one_line}, Values.Small}
 
 -- texts
 texts_within : (texts : List (List ℕ)) → items_depth (string_items texts) ≤ 0

@@ -1,15 +1,11 @@
 -- What is printed of tokens has no line feed.
-use Rattle.std.proofs.Common.{◌≡◌, ◌∙◌, ℕ, zero, suc, ◌+◌, ◌/◌, ◌%◌, ◌<◌, ◌≤◌, ◌==◌, ◌⊎◌, inl, inr, Bool, true, false, cond, List, [], ◌∷◌, ◌++◌, ap, arith, rules, decimal, refl}
-use Rattle.std.specs.Prelude.{⊤, count_by}
-use Rattle.std.specs.Char.{digit_char}
+use Rattle.std.proofs.Common.{◌≡◌, ◌∙◌, ℕ, zero, suc, ◌+◌, ◌/◌, ◌%◌, ◌<◌, ◌≤◌, ◌==◌, ◌⊎◌, inl, inr, Bool, true, false, cond, List, [], ◌∷◌}
+use Rattle.std.proofs.{Common.{◌++◌, ap, arith, rules, decimal, refl}, lemmas.Bool.{cases_eq, cases_lt, ne_eqb}}
+use Rattle.std.{proofs.lemmas.List.Sums.sum_by-append, specs.Prelude.{⊤, count_by}}
 use Rattle.std.specs.Fmt.{digit_glyph, digits, digits_onto}
-use Rattle.std.proofs.lemmas.Bool.{cases_eq, cases_lt, ne_eqb}
-use Rattle.std.proofs.lemmas.List.Sums.{sum_by-append}
 use Rattle.json.specs.Json.{Json, null, boolean, number, string, array, object, Items, no_items, item, Members, no_members, member}
-use Rattle.json.specs.Print.{ends, escape, escape_byte, print_from, quoted, separator, token_text}
-use Rattle.json.specs.Token.{Token}
-use Rattle.json.proofs.Printed.Strings.{escape_byte_plain}
-use Rattle.json.specs.Tree.{items_tokens, json_tokens, members_tokens}
+use Rattle.json.specs.{Print.{ends, escape, escape_byte, print_from, quoted, separator, token_text}, Token.Token}
+use Rattle.json.{specs.Tree.{items_tokens, json_tokens, members_tokens}, proofs.Printed.Strings.escape_byte_plain}
 
 -- how many line feeds a text has
 abbrev pub feeds : List ℕ → ℕ
@@ -26,9 +22,6 @@ pub none_cons : (byte : ℕ) (text : List ℕ) → (byte ≡ 10 → ⊥) → fee
 none_cons byte text other rest = none_append (byte ∷ []) text (rw (ne_eqb byte 10 other) refl) rest
 
 -- digits
-
-digit_none : (d : ℕ) → d < 16 → digit_char d ≡ 10 → ⊥
-digit_none d small = grind arith
 
 glyph_none : (d : ℕ) → digit_glyph false d ≡ 10 → ⊥
 glyph_none d = grind arith

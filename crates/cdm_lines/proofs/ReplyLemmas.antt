@@ -1,48 +1,32 @@
 -- Each reply of a served day is one line.
-use Rattle.std.proofs.Common.{◌≡◌, ◌∙◌, ℕ, ◌==◌, Bool, true, false, cond, List, [], ◌∷◌, ◌++◌, length, drop, filter, map, ap, append-nil, refl, subst, sym, Option, None, Some, Result, Ok, Err, inl, inr, codes, true≢false}
-use Rattle.std.proofs.lemmas.Bool.{false≢true}
-use Rattle.std.specs.Prelude.{⊤, bytes_eq, find, flat_map, is_some}
-use Rattle.std.specs.Cmp.Lexicographic.{same_text}
-use Rattle.std.specs.List.{AllByRecursion, IsDistinct}
+use Rattle.std.proofs.Common.{◌≡◌, ◌∙◌, ℕ, ◌==◌, Bool, true, false, cond, List, [], ◌∷◌, ◌++◌, length, drop, filter, map, ap, append-nil}
+use Rattle.std.proofs.{Common.{refl, subst, sym, Option, None, Some, Result, Ok, Err, inl, inr, codes, true≢false}, lemmas.Bool.false≢true}
+use Rattle.std.specs.{Prelude.{⊤, bytes_eq, find, flat_map, is_some}, Cmp.Lexicographic.same_text, List.{AllByRecursion, IsDistinct}}
 use Rattle.std.specs.Option.{option_map}
 use Rattle.cdm_time.specs.declared.calendar.CalendarDate.{CalendarDate}
-use Rattle.cdm_flight.specs.Accepted.{has_runway}
-use Rattle.cdm_flight.specs.Journal.{AirportRows, flight_of, runway_row}
-use Rattle.cdm_flight.specs.Names.{same_name}
-use Rattle.cdm_flight.specs.declared.airport.RunwayRow.{RunwayRow}
-use Rattle.cdm_flight.specs.declared.word.RefusalWord.{RefusalWord}
+use Rattle.cdm_flight.specs.{Accepted.has_runway, Journal.{AirportRows, flight_of, runway_row}, Names.same_name}
+use Rattle.cdm_flight.specs.declared.{airport.RunwayRow.RunwayRow, word.RefusalWord.RefusalWord}
 use Rattle.cdm_flight.specs.declared.word.RefusalWord.TheVariants as word
 use Rattle.cdm_runway.specs.Rules.{RunwayRules}
-use Rattle.cdm_sequence.proofs.OrderLemmas.{same_flips}
-use Rattle.cdm_sequence.specs.declared.plan.Plan.{Plan}
-use Rattle.cdm_plan.specs.Airport.{IsAirport}
-use Rattle.cdm_plan.specs.Day.{DayRecord, rules_of}
-use Rattle.cdm_plan.proofs.NameLemmas.{by_name_differ, find-rules, in_order}
-use Rattle.cdm_view.specs.Load.{unknown_in}
-use Rattle.cdm_view.specs.declared.question.Question.TheVariants.{Why, Load}
+use Rattle.cdm_sequence.{proofs.OrderLemmas.same_flips, specs.declared.plan.Plan.Plan}
+use Rattle.cdm_plan.{specs.Airport.IsAirport, specs.Day.{DayRecord, rules_of}, proofs.NameLemmas.{by_name_differ, find-rules, in_order}}
+use Rattle.cdm_view.specs.{Load.unknown_in, declared.question.Question.TheVariants.{Why, Load}}
 use Rattle.cdm_row.specs.Json.{count_json, object_of}
 use Rattle.cdm_desk.specs.Replies.{day_after}
 use Rattle.cdm_kinds.specs.declared.format.Format.TheVariants.{Json}
-use Rattle.cdm_files.specs.Fields.{counted, field, flight_field, of_one, runway_field}
-use Rattle.cdm_files.specs.Parsing.{parse_of}
-use Rattle.cdm_journal.specs.Lines.{LineRecord}
-use Rattle.cdm_journal.specs.Lines.LineRecord.{Blank, One, Several}
+use Rattle.cdm_files.specs.{Fields.{counted, field, flight_field, of_one, runway_field}, Parsing.parse_of}
+use Rattle.cdm_journal.specs.Lines.{LineRecord, LineRecord.{Blank, One, Several}}
 use Rattle.cdm_json.specs.Loads.{AreLoadLines, load_line}
 use Rattle.cdm_json.specs.declared.plan.PlanOf.TheVariants as of
-use Rattle.cdm_port.specs.Event.{Event}
-use Rattle.cdm_port.specs.Event.Event.{Appended, Broken, End, Line, Replied}
-use Rattle.cdm_port.specs.Stop.{IsStopOf, IsTorn}
+use Rattle.cdm_port.specs.{Event.Event, Event.Event.{Appended, Broken, End, Line, Replied}, Stop.{IsStopOf, IsTorn}}
 use Rattle.cdm_serve.specs.Requests.{asked_by, flight_asked, request_in, request_of, runway_asked}
-use Rattle.cdm_serve.specs.Served.{AreReplies, Exchange, IsHeard, IsReplyTo, IsServed, IsStopped, answered, day_of, left_out, line_of, numbered, reading, said, served, start_text, started, told_of}
-use Rattle.cdm_serve.specs.Taken.{TakenRecord, after, day_with, taken}
-use Rattle.cdm_serve.specs.declared.asked.Asked.{Asked}
-use Rattle.cdm_serve.specs.declared.asked.Asked.TheVariants.{Plan as AskPlan, View}
-use Rattle.cdm_serve.specs.declared.request.Request.{Request}
+use Rattle.cdm_serve.specs.Served.{AreReplies, Exchange, IsHeard, IsReplyTo, IsServed, IsStopped, answered, day_of, left_out, line_of}
+use Rattle.cdm_serve.specs.Served.{numbered, reading, said, served, start_text, started, told_of}
+use Rattle.cdm_serve.specs.{Taken.{TakenRecord, after, day_with, taken}, declared.asked.Asked.Asked}
+use Rattle.cdm_serve.specs.declared.{asked.Asked.TheVariants.{Plan as AskPlan, View}, request.Request.Request}
 use Rattle.cdm_serve.specs.declared.request.Request.TheVariants.{Ask, Nothing, Post}
-use Rattle.cdm_lines.specs.Lines.{FitsLine, IsLine}
-use Rattle.cdm_lines.specs.Replies.{AreReplyLines, BeginsLine, RepliesBefore, RepliesLine}
-use Rattle.cdm_lines.proofs.AnswerLemmas.{is_load_line, is_plan_line, is_refused_line, is_reply_line, is_why}
-use Rattle.cdm_lines.proofs.Texts.{fits, line_same}
+use Rattle.cdm_lines.specs.{Lines.{FitsLine, IsLine}, Replies.{AreReplyLines, BeginsLine, RepliesBefore, RepliesLine}}
+use Rattle.cdm_lines.proofs.{AnswerLemmas.{is_load_line, is_plan_line, is_refused_line, is_reply_line, is_why}, Texts.{fits, line_same}}
 use Rattle.cdm_lines.proofs.Values.{small_decimal, small_object}
 
 -- The start.

@@ -1,20 +1,15 @@
 -- What a shift is told is lines.
-use Rattle.std.proofs.Common.{ℕ, List, codes, refl}
-use Rattle.std.specs.Prelude.{flat_map}
+use Rattle.std.{proofs.Common.{ℕ, List, codes, refl}, specs.Prelude.flat_map}
 use Rattle.cdm_time.specs.declared.calendar.CalendarDate.{CalendarDate}
 use Rattle.cdm_sequence.specs.declared.plan.Plan.{Plan}
 use Rattle.cdm_plan.specs.Day.{DayRecord}
 use Rattle.cdm_kinds.specs.declared.format.Format.TheVariants.{Json as AsJson}
 use Rattle.cdm_row.specs.Columns.{Value}
-use Rattle.cdm_shift.specs.Answers.{IsShiftText}
-use Rattle.cdm_shift.specs.Costs.{costs_of, on_stand, told_groups}
-use Rattle.cdm_shift.specs.Objects.{costs_members, group_object, object_line, start_up_members, warning_members}
-use Rattle.cdm_shift.specs.StartUps.{start_ups}
-use Rattle.cdm_shift.specs.Warnings.{warnings}
-use Rattle.cdm_shift.specs.declared.question.ShiftQuestion.{ShiftQuestion}
+use Rattle.cdm_shift.specs.{Answers.IsShiftText, Costs.{costs_of, on_stand, told_groups}}
+use Rattle.cdm_shift.specs.{Objects.{costs_members, group_object, object_line, start_up_members, warning_members}, StartUps.start_ups}
+use Rattle.cdm_shift.specs.{Warnings.warnings, declared.question.ShiftQuestion.ShiftQuestion}
 use Rattle.cdm_shift.specs.declared.question.ShiftQuestion.TheVariants.{Next, Warnings, Causes}
-use Rattle.cdm_lines.specs.Lines.{AreLines}
-use Rattle.cdm_lines.proofs.AnswerLemmas.{values_fit}
+use Rattle.cdm_lines.{specs.Lines.AreLines, proofs.AnswerLemmas.values_fit}
 use Rattle.cdm_lines.proofs.Texts.{lines-append, lines-flat_map, lines_same, one_line}
 
 is_object : (day : CalendarDate) (members : List (List ℕ × Value)) → AreLines (object_line day members)

@@ -1,31 +1,22 @@
 -- Plans and comparisons of a day and its scenarios are lines.
-use Rattle.std.proofs.Common.{ℕ, List, [], ◌∷◌, ◌++◌, arith, refl, Option, None, Some, Result, Ok, Err, codes}
-use Rattle.std.specs.Prelude.{flat_map}
+use Rattle.std.{proofs.Common.{ℕ, List, [], ◌∷◌, ◌++◌, arith, refl, Option, None, Some, Result, Ok, Err, codes}, specs.Prelude.flat_map}
 use Rattle.std.specs.List.{concat}
 use Rattle.json.specs.Json.{string}
 use Rattle.cdm_time.specs.declared.calendar.CalendarDate.{CalendarDate}
-use Rattle.cdm_flight.specs.Words.{text_of}
-use Rattle.cdm_flight.specs.declared.word.RefusalWord.{RefusalWord}
+use Rattle.cdm_flight.specs.{Words.text_of, declared.word.RefusalWord.RefusalWord}
 use Rattle.cdm_report.specs.declared.counts.Counts.{Counts}
 use Rattle.cdm_plan.specs.Day.{DayRecord}
-use Rattle.cdm_view.specs.Standings.{flight_name}
-use Rattle.cdm_view.specs.declared.standing.Standing.{Standing}
-use Rattle.cdm_row.specs.Changed.{row_named}
-use Rattle.cdm_row.specs.Json.{count_json, object_of, row_json}
-use Rattle.cdm_row.specs.declared.row.Row.{Row}
-use Rattle.cdm_scenario.specs.Overlay.{with_updates}
-use Rattle.cdm_scenario.specs.Scenarios.{ScenarioRecord}
-use Rattle.cdm_scenario.specs.declared.outcome.Outcome.{Outcome}
+use Rattle.cdm_view.specs.{Standings.flight_name, declared.standing.Standing.Standing}
+use Rattle.cdm_row.specs.{Changed.row_named, Json.{count_json, object_of, row_json}, declared.row.Row.Row}
+use Rattle.cdm_scenario.specs.{Overlay.with_updates, Scenarios.ScenarioRecord, declared.outcome.Outcome.Outcome}
 use Rattle.cdm_scenario.specs.declared.outcome.Outcome.TheVariants.{Planned, Refused}
 use Rattle.cdm_json.specs.Plans.{count_members}
 use Rattle.cdm_json.specs.declared.plan.PlanOf.TheVariants as of
-use Rattle.cdm_table.specs.ComparisonJson.{AreChangeLinesBy, AreChangeLinesIf, IsComparisonJson, change_line, change_members, name_members, summary_line, summary_members}
-use Rattle.cdm_table.specs.Plans.{IsLineBy, IsPlans, IsScenarioLine, refusal_members}
-use Rattle.cdm_table.specs.declared.line.Line.{Line}
-use Rattle.cdm_table.specs.declared.line.Summary.{Summary}
+use Rattle.cdm_table.specs.ComparisonJson.{AreChangeLinesBy, AreChangeLinesIf, IsComparisonJson, change_line, change_members, name_members}
+use Rattle.cdm_table.specs.{ComparisonJson.{summary_line, summary_members}, Plans.{IsLineBy, IsPlans, IsScenarioLine, refusal_members}}
+use Rattle.cdm_table.specs.declared.line.{Line.Line, Summary.Summary}
 use Rattle.cdm_table.specs.declared.line.Summary.TheVariants as summary
-use Rattle.cdm_lines.specs.Lines.{AreLines, FitsLine, IsLine}
-use Rattle.cdm_lines.proofs.AnswerLemmas.{is_plan_line, small_counts, small_row}
+use Rattle.cdm_lines.{specs.Lines.{AreLines, FitsLine, IsLine}, proofs.AnswerLemmas.{is_plan_line, small_counts, small_row}}
 use Rattle.cdm_lines.proofs.Texts.{fits, lines-append, lines-concat, lines-flat_map, lines-zip, lines_same, no_lines, one_line}
 use Rattle.cdm_lines.proofs.Values.{AreSmall, Small, small-append, small_decimal, small_more, small_object, small_or_null, small_string}
 

@@ -1,16 +1,9 @@
 -- Texts of lines.
-use Rattle.std.proofs.Common.{◌≡◌, ◌∙◌, ℕ, List, [], ◌∷◌, ◌++◌, append-nil, arith, refl, sym}
-use Rattle.std.specs.Prelude.{flat_map}
-use Rattle.std.specs.List.{AllByRecursion, AllZip, concat}
-use Rattle.std.proofs.lemmas.Grind.{flat_map-append}
-use Rattle.json.specs.Json.{Json}
-use Rattle.json.specs.Print.{print}
-use Rattle.json.specs.Tree.{json_tokens}
-use Rattle.json.proofs.Printed.Trees.{document-print}
+use Rattle.std.proofs.{Common.{◌≡◌, ◌∙◌, ℕ, List, [], ◌∷◌, ◌++◌, append-nil, arith, refl, sym}, lemmas.Grind.flat_map-append}
+use Rattle.std.specs.{Prelude.flat_map, List.{AllByRecursion, AllZip, concat}}
+use Rattle.json.{specs.Json.Json, specs.Print.print, specs.Tree.json_tokens, proofs.Printed.Trees.document-print}
 use Rattle.cdm_json.specs.Lines.{json_line}
-use Rattle.cdm_lines.specs.Lines.{AreLines, IsLine, FitsLine, deepest}
-use Rattle.cdm_lines.proofs.LineFeeds.{value_none}
-use Rattle.cdm_lines.proofs.Values.{Small}
+use Rattle.cdm_lines.{specs.Lines.{AreLines, IsLine, FitsLine, deepest}, proofs.LineFeeds.value_none, proofs.Values.Small}
 
 -- a value that nests so little fits a line
 pub fits : (value : Json) → Small deepest value → FitsLine value

@@ -5,18 +5,13 @@ use Rattle.json.specs.Json.{null, string}
 use Rattle.cdm_time.specs.declared.calendar.CalendarDate.{CalendarDate}
 use Rattle.cdm_flight.specs.Journal.{AirportRows}
 use Rattle.cdm_plan.specs.Day.{DayRecord}
-use Rattle.cdm_row.specs.Changed.{row_named}
-use Rattle.cdm_row.specs.Json.{object_of, row_json}
-use Rattle.cdm_row.specs.declared.row.Row.{Row}
-use Rattle.cdm_desk.specs.Replies.{day_after}
-use Rattle.cdm_desk.specs.declared.reply.RowReply.{RowReply}
-use Rattle.cdm_desk.specs.declared.reply.RowReply.TheVariants.{Accepted, Refused}
+use Rattle.cdm_row.specs.{Changed.row_named, Json.{object_of, row_json}, declared.row.Row.Row}
+use Rattle.cdm_desk.specs.{Replies.day_after, declared.reply.RowReply.RowReply, declared.reply.RowReply.TheVariants.{Accepted, Refused}}
 use Rattle.cdm_kinds.specs.declared.format.Format.TheVariants.{Json as AsJson}
-use Rattle.cdm_files.specs.Parsing.{parse_of}
-use Rattle.cdm_files.specs.Records.{records_of}
-use Rattle.cdm_trace.specs.Traces.{IsPiece, IsPieceBy, IsTold, IsTrace, field_json, is_before, json_of_all, json_of_flight, moved_line_if, record_members, told_json}
-use Rattle.cdm_lines.specs.Lines.{AreLines, FitsLine}
-use Rattle.cdm_lines.proofs.AnswerLemmas.{is_reply_line, small_row}
+use Rattle.cdm_files.specs.{Parsing.parse_of, Records.records_of}
+use Rattle.cdm_trace.specs.Traces.{IsPiece, IsPieceBy, IsTold, IsTrace, field_json, is_before, json_of_all, json_of_flight, moved_line_if}
+use Rattle.cdm_trace.specs.Traces.{record_members, told_json}
+use Rattle.cdm_lines.{specs.Lines.{AreLines, FitsLine}, proofs.AnswerLemmas.{is_reply_line, small_row}}
 use Rattle.cdm_lines.proofs.Texts.{fits, lines-append, lines_same, no_lines, one_line}
 use Rattle.cdm_lines.proofs.Values.{Small, small_array, small_decimal, small_more, small_null, small_object, small_string}
 

@@ -1,9 +1,7 @@
 -- Values that nest little, whose numbers are counts.
-use Rattle.std.proofs.Common.{ℕ, suc, ◌≤◌, List, [], ◌∷◌, ◌++◌, arith, decimal, map, Option, None, Some}
-use Rattle.std.specs.Prelude.{flat_map}
+use Rattle.std.{proofs.Common.{ℕ, suc, ◌≤◌, List, [], ◌∷◌, ◌++◌, arith, decimal, map, Option, None, Some}, specs.Prelude.flat_map}
 use Rattle.std.specs.List.{AllByRecursion}
-use Rattle.json.specs.Json.{Json, null, number, string}
-use Rattle.json.specs.Tree.{depth, items_depth, members_depth}
+use Rattle.json.specs.{Json.{Json, null, number, string}, Tree.{depth, items_depth, members_depth}}
 use Rattle.cdm_row.specs.Json.{array_of, items_of, members_of, object_of, or_null}
 use Rattle.cdm_lines.proofs.LineFeeds.{HasClean, ItemsClean, MembersClean, decimal_none}
 

@@ -1,13 +1,8 @@
 -- The batches that were posted, one after another.
-use Rattle.std.proofs.Common.{◌≡◌, ◌≤◌, ◌<◌, ◌+◌, ◌*◌, ◌∙◌, ℕ, min, List, [], ◌∷◌, ◌++◌, length, take, drop, map, sym, ap, subst, arith, length-append}
-use Rattle.std.proofs.Math.Seq.{drop-drop}
-use Rattle.std.proofs.lemmas.Grind.{common_steps}
-use Rattle.std.proofs.lemmas.List.{length-drop}
-use Rattle.std.proofs.lemmas.List.FromFn.{map-range_with_len_more}
-use Rattle.std.specs.Fork.{slice_chunk}
-use Rattle.std.specs.List.{AllZip, range_with_len}
-use Rattle.cdm_flight.specs.declared.role.Role.{Role}
-use Rattle.cdm_flight.specs.declared.update.Update.{Update}
+use Rattle.std.proofs.Common.{◌≡◌, ◌≤◌, ◌<◌, ◌+◌, ◌*◌, ◌∙◌, ℕ, min, List, [], ◌∷◌, ◌++◌, length, take, drop, map, sym, ap, subst, arith}
+use Rattle.std.proofs.{Common.length-append, Math.Seq.drop-drop, lemmas.Grind.common_steps, lemmas.List.length-drop}
+use Rattle.std.{proofs.lemmas.List.FromFn.map-range_with_len_more, specs.Fork.slice_chunk, specs.List.{AllZip, range_with_len}}
+use Rattle.cdm_flight.specs.declared.{role.Role.Role, update.Update.Update}
 use Rattle.cdm_board.specs.History.{Call}
 use Rattle.cdm_live.specs.Live.{IsPostOf, batch_count, batches}
 

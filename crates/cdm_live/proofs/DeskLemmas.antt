@@ -1,15 +1,10 @@
 -- What two desks have done when their board is closed.
-use Rattle.std.proofs.Common.{◌≡◌, ◌≢◌, ◌∙◌, ℕ, false, ◌==◌, List, [], ◌∷◌, ◌++◌, flat_map, refl, sym, ap, append-nil}
-use Rattle.std.proofs.lemmas.Bool.{ne_eqb}
-use Rattle.std.proofs.lemmas.Grind.{flat_map-append}
-use Rattle.std.specs.List.{AllZip}
-use Rattle.cdm_flight.specs.Journal.{AirportRows}
-use Rattle.cdm_flight.specs.declared.role.Role.{Role}
-use Rattle.cdm_flight.specs.declared.update.Update.{Update}
+use Rattle.std.proofs.{Common.{◌≡◌, ◌≢◌, ◌∙◌, ℕ, false, ◌==◌, List, [], ◌∷◌, ◌++◌, flat_map, refl, sym, ap, append-nil}, lemmas.Bool.ne_eqb}
+use Rattle.std.{proofs.lemmas.Grind.flat_map-append, specs.List.AllZip}
+use Rattle.cdm_flight.specs.{Journal.AirportRows, declared.role.Role.Role, declared.update.Update.Update}
 use Rattle.cdm_day.specs.declared.reply.Reply.{Reply}
 use Rattle.cdm_board.specs.History.{Call, DeskRecord, IsMerge, Looks, calls_of}
-use Rattle.cdm_live.specs.Live.{IsPostOf, batches, replies_of}
-use Rattle.cdm_live.specs.inner.LiveSteps.{HasWorked}
+use Rattle.cdm_live.specs.{Live.{IsPostOf, batches, replies_of}, inner.LiveSteps.HasWorked}
 
 -- a desk looks after its posts
 pub looked : (number : ℕ) (updates : List (Role × Update)) (posts : List Call) (desk : DeskRecord) (g : AirportRows) (a : List Update) (replies : List Reply)

@@ -1,25 +1,18 @@
 -- What the steps of a live run make of its inputs.
 use Rattle.std.proofs.Common.{◌≡◌, ◌≤◌, ◌<◌, ◌+◌, ◌∙◌, ℕ, List, [], ◌++◌, length, Ok, IfSome, ap, subst}
-use Rattle.cdm_flight.specs.Journal.{AirportRows}
-use Rattle.cdm_flight.specs.declared.role.Role.{Role}
-use Rattle.cdm_flight.specs.declared.update.Update.{Update}
+use Rattle.cdm_flight.specs.{Journal.AirportRows, declared.role.Role.Role, declared.update.Update.Update}
 use Rattle.cdm_report.specs.Report.{report_bytes}
-use Rattle.cdm_plan.specs.Day.{DayRecord}
-use Rattle.cdm_plan.specs.DayPlan.{IsDayPlan}
+use Rattle.cdm_plan.specs.{Day.DayRecord, DayPlan.IsDayPlan}
 use Rattle.cdm_day.specs.declared.reply.Reply.{Reply}
 use Rattle.cdm_board.specs.History.{Call, calls_of}
-use Rattle.cdm_files.specs.AirportFile.{airport_in}
-use Rattle.cdm_files.specs.FeedDay.{spelled_in}
-use Rattle.cdm_files.specs.Refused.{Spelled, refused_by_replies, updates_in}
-use Rattle.cdm_files.specs.Readings.{AreRead, Reading}
+use Rattle.cdm_files.specs.{AirportFile.airport_in, FeedDay.spelled_in, Refused.{Spelled, refused_by_replies, updates_in}}
+use Rattle.cdm_files.{specs.Readings.{AreRead, Reading}, proofs.RunLemmas.{airport_record-first, of_inputs}}
 use Rattle.cdm_files.specs.declared.common_fault.CommonFault.TheVariants as common
-use Rattle.cdm_files.proofs.RunLemmas.{airport_record-first, of_inputs}
 use Rattle.cdm_live.specs.Live.{IsCountedText, IsWorkOf, batch_count, desk_text}
-use Rattle.cdm_live.specs.LiveFaults.{FillsBoard, FitsBoard, IsFirstFault, calls_needed}
-use Rattle.cdm_live.specs.declared.live_error.LiveError.{LiveError}
-use Rattle.cdm_live.specs.declared.live_error.LiveError.TheVariants as error
+use Rattle.cdm_live.specs.{LiveFaults.{FillsBoard, FitsBoard, IsFirstFault, calls_needed}, declared.live_error.LiveError.LiveError}
 use Rattle.cdm_live.specs.declared.live_run.LiveCounts.{LiveCounts}
 use Rattle.cdm_live.specs.inner.LiveSteps.{HasMerged, IsBoardFault, IsMergedText, IsRecordFault, merged_counts}
+use Rattle.cdm_live.specs.declared.live_error.LiveError.TheVariants as error
 
 -- the report of two desks that have worked is that of their history
 pub counted_text : (g : AirportRows) (feed1 feed2 : List Spelled) (us vs : List (Role × Update)) (h : List (ℕ × Call)) (d : DayRecord) (rs ss : List Reply)

@@ -1,9 +1,7 @@
 -- The slots that pieces are put into.
-use Rattle.std.proofs.Common.{◌≡◌, ℕ, zero, suc, set, ◌<◌, List, [], ◌∷◌, length, get_or, sym, Option, Some, None, IsNone, IfSome, All, Contains}
-use Rattle.std.proofs.Common.{Vec, Global, arith}
-use Rattle.std.proofs.lemmas.List.Elements.{All-same, All-head, All-rest, All-contains_itself}
-use Rattle.cdm_phase.specs.inner.Slots.{AreSlotsOf}
-use Rattle.cdm_phase.specs.declared.piece.Piece.{Piece}
+use Rattle.std.proofs.Common.{◌≡◌, ℕ, zero, suc, set, ◌<◌, List, [], ◌∷◌, length, get_or, sym, Option, Some, None, IsNone, IfSome, All}
+use Rattle.std.proofs.{Common.{Contains, Vec, Global, arith}, lemmas.List.Elements.{All-same, All-head, All-rest, All-contains_itself}}
+use Rattle.cdm_phase.specs.{inner.Slots.AreSlotsOf, declared.piece.Piece.Piece}
 
 -- a fact of each place and its element, after a write
 each-set : {X : Type 0} (P : ℕ → X → Type 0) (xs : List X) (k : ℕ) (a : X) → P k a

@@ -1,9 +1,6 @@
 -- The values of a list of items, part by part.
 use Rattle.std.proofs.Common.{◌≡◌, ℕ, ◌+◌, ◌*◌, ◌<◌, List, [], ◌∷◌, ◌++◌, length, take, get_or, sym, ap, subst, ◌∙◌, arith}
-use Rattle.std.specs.List.{AllZip}
-use Rattle.std.proofs.Math.Seq.{take-add}
-use Rattle.std.proofs.lemmas.List.{take_more}
-use Rattle.std.proofs.lemmas.Slice.Zip.{all_zipped_more}
+use Rattle.std.{proofs.Math.Seq.take-add, proofs.lemmas.List.take_more, proofs.lemmas.Slice.Zip.all_zipped_more, specs.List.AllZip}
 use Rattle.cdm_phase.specs.Piece.{items_of}
 
 module _ {A B : Type 0} (R : A → B → Type 0) where

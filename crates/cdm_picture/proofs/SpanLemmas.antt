@@ -1,7 +1,6 @@
 -- What spans have, and the hours round them.
 use Rattle.std.proofs.Common.{◌≡◌, ◌∙◌, ◌++◌, ◌+◌, ◌≤◌, ℕ, List, [], length, take, Some, sym, ap, subst}
-use Rattle.std.proofs.lemmas.List.Elements.{All-push, All-weaker}
-use Rattle.std.specs.{Prelude.All, Prelude.slice_get, List.cons_option}
+use Rattle.std.{proofs.lemmas.List.Elements.{All-push, All-weaker}, specs.{Prelude.All, Prelude.slice_get, List.cons_option}}
 use Rattle.cdm_plan.proofs.NameLemmas.{all_taken, take-next}
 use Rattle.cdm_scenario.specs.declared.outcome.Outcome.{Outcome, TheVariants.Planned, TheVariants.Refused}
 use Rattle.cdm_sequence.specs.declared.{plan.Plan.Plan, plan.RunwayPlan.RunwayPlan, slot.Slot.Slot}

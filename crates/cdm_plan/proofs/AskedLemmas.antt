@@ -1,13 +1,12 @@
 -- What flights give that are asked, and those that need not be.
 use Rattle.std.proofs.lemmas.Grind.{common_steps}
 use Rattle.std.proofs.Common.{◌≡◌, ℕ, Bool, true, false, ◌&&◌, not, List, ◌++◌, None, Some, refl, sym, ◌∙◌, ap, arith, rules}
-use Rattle.cdm_plan.proofs.ListWords.{if◌then◌else◌, option_map_or, filter_map, filter_map-append, filter_map-filter, if_so}
-use Rattle.cdm_plan.proofs.ListWords.{IsPermutation, IsPermutation-filter_both, IsPermutation-filter_map, false_from_ne_true}
-use Rattle.cdm_plan.proofs.PlanWords.{DayValues, Flight, TaxiTimes, fixed_on, fixed_slot}
-use Rattle.cdm_plan.proofs.PlanWords.{asked_of, counts, is_on, is_touched, is_untouched, kept_of, targets_on}
-use Rattle.cdm_plan.specs.declared.touched.Touched.{Touched}
-use Rattle.cdm_plan.proofs.JournalFacts.{some_named}
+use Rattle.cdm_plan.proofs.ListWords.{if◌then◌else◌, option_map_or, filter_map, filter_map-append, filter_map-filter, if_so, IsPermutation}
+use Rattle.cdm_plan.proofs.ListWords.{IsPermutation-filter_both, IsPermutation-filter_map, false_from_ne_true}
+use Rattle.cdm_plan.proofs.PlanWords.{DayValues, Flight, TaxiTimes, fixed_on, fixed_slot, asked_of, counts, is_on, is_touched, is_untouched}
+use Rattle.cdm_plan.proofs.{PlanWords.{kept_of, targets_on}, JournalFacts.some_named}
 use Rattle.cdm_plan.proofs.PlanningLemmas.{blocked_early, early-given, early_at, no_target_at, targets_of, targets_on-given}
+use Rattle.cdm_plan.specs.declared.touched.Touched.{Touched}
 
 -- both of two tests hold
 pub both : (a b : Bool) → (a && b) ≡ true → (a ≡ true) × (b ≡ true)

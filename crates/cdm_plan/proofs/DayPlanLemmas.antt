@@ -1,16 +1,15 @@
 -- The plan of what records tell is that of their day.
-use Rattle.std.proofs.Common.{[]}
-use Rattle.std.proofs.Common.{rules, ◌≡◌, ℕ, ◌+◌, ◌≤◌, ◌++◌, take, List, length, IfSome, Option, None, Some, refl, sym, ap, subst, map, filter, arith}
+use Rattle.std.proofs.Common.{[], rules, ◌≡◌, ℕ, ◌+◌, ◌≤◌, ◌++◌, take, List, length, IfSome, Option, None, Some, refl, sym, ap, subst, map}
+use Rattle.std.proofs.Common.{filter, arith}
 use Rattle.cdm_plan.proofs.ListWords.{is_some, slice_get, option_and_then, AllZip, filter_map, cons_option, IsDistinct, IsPermutation}
 use Rattle.cdm_plan.proofs.ListWords.{filter_map-append, IsPermutation-refl, IsPermutation-sym, IsPermutation-trans, map_fixed}
 use Rattle.cdm_plan.proofs.ListWords.{distinct_filter, length-map}
 use Rattle.cdm_plan.proofs.PlanWords.{same_name, Flight, Update, AirportRows, flight_of, values_of, taxi_of, status_of-record, RunwayRules}
-use Rattle.cdm_plan.proofs.PlanWords.{IsSequence, Plan, RunwayPlan, Target, IsAirport, DayRecord, flights_in, IsDayPlan, day_rules, records_in}
-use Rattle.cdm_plan.proofs.PlanWords.{HasParts, planned_of, targets_on, IsPlanOn, fixed_in, IsSound}
+use Rattle.cdm_plan.proofs.PlanWords.{IsSequence, Plan, RunwayPlan, Target, IsAirport, DayRecord, flights_in, IsDayPlan, day_rules}
+use Rattle.cdm_plan.proofs.PlanWords.{records_in, HasParts, planned_of, targets_on, IsPlanOn, fixed_in, IsSound}
 use Rattle.cdm_plan.proofs.PlanningLemmas.{aim_list, aims_are, aims_mean, blocked_early, early-aims, few_names, targets-aims, targets_of}
+use Rattle.cdm_plan.proofs.{NameLemmas.{day_rules_differ, take-next}, PartLemmas.{AllZip-reordered, runways_make}}
 use Rattle.cdm_sequence.proofs.NameLemmas.{names_given}
-use Rattle.cdm_plan.proofs.NameLemmas.{day_rules_differ, take-next}
-use Rattle.cdm_plan.proofs.PartLemmas.{AllZip-reordered, runways_make}
 
 -- the record that the journal says of a flight has its name
 pub record_name : (g : AirportRows) (a : List Update) (f : List ℕ) (r : Flight) → flight_of g a f ≡ Some r → r.name ≡ f

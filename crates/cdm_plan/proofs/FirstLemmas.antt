@@ -1,18 +1,14 @@
 -- The plan of a day is first in order, and no other placing is.
-use Rattle.std.proofs.lemmas.Grind.{common_steps}
-use Rattle.std.proofs.Common.{◌≡◌, ℕ, true, List, Some, sym, ◌∙◌, ap, subst, inl, inr, map, arith, rules}
+use Rattle.std.proofs.{lemmas.Grind.common_steps, Common.{◌≡◌, ℕ, true, List, Some, sym, ◌∙◌, ap, subst, inl, inr, map, arith, rules}}
 use Rattle.cdm_plan.proofs.ListWords.{Contains, IsDistinct, list_any, contains_all, distinct_right, list_any-find, list_any-map}
 use Rattle.cdm_plan.proofs.PlanWords.{DayValues, same_name, Flight, TaxiTimes, Slot, Plan, Target, AimResult, Placing, IsEarlier}
-use Rattle.cdm_plan.proofs.PlanWords.{runway_names, DayRecord, flights_in, IsDayAllowed, IsDayFirst, IsDayPlanBy, IsSound, day_rules, records_in, has_runway}
-use Rattle.cdm_plan.proofs.PlanWords.{flight_of, status_of-record, values_of, taxi_of, RunwayRow, IsAim, AreAims, fixed_on, planned_of}
-use Rattle.cdm_plan.proofs.PlanWords.{is_planned, target_in, targets_in, targets_on}
+use Rattle.cdm_plan.proofs.PlanWords.{runway_names, DayRecord, flights_in, IsDayAllowed, IsDayFirst, IsDayPlanBy, IsSound, day_rules}
+use Rattle.cdm_plan.proofs.PlanWords.{records_in, has_runway, flight_of, status_of-record, values_of, taxi_of, RunwayRow, IsAim, AreAims}
+use Rattle.cdm_plan.proofs.PlanWords.{fixed_on, planned_of, is_planned, target_in, targets_in, targets_on}
+use Rattle.cdm_plan.proofs.{DayPlanLemmas.record_names_differ, NameLemmas.runway-names, OnePlanLemmas.partner}
+use Rattle.cdm_plan.proofs.{PlacingLemmas.{allowed_on, none_earlier_on}, PlanningLemmas.{aims_are, names_on, targets-aims, targets_of}}
 use Rattle.cdm_flight.proofs.Lists.{contains_from_given}
 use Rattle.cdm_sequence.proofs.DifferenceLemmas.{compared}
-use Rattle.cdm_plan.proofs.DayPlanLemmas.{record_names_differ}
-use Rattle.cdm_plan.proofs.NameLemmas.{runway-names}
-use Rattle.cdm_plan.proofs.OnePlanLemmas.{partner}
-use Rattle.cdm_plan.proofs.PlacingLemmas.{allowed_on, none_earlier_on}
-use Rattle.cdm_plan.proofs.PlanningLemmas.{aims_are, names_on, targets-aims, targets_of}
 
 -- a flight of a sound day has a runway of the airport
 known_runway : (d : DayRecord) → IsSound d → (f : Flight) (r : List ℕ) → Contains (records_in d.airport d.journal) f → f.runway ≡ Some r

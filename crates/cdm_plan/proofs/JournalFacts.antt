@@ -1,11 +1,10 @@
 -- The flights that a journal makes known, and what no word refuses.
-use Rattle.std.proofs.Common.{rules, []}
-use Rattle.std.proofs.Common.{◌≡◌, ℕ, ◌+◌, Bool, true, false, cond, ◌&&◌, ◌||◌, List, ◌∷◌, ◌++◌, length, Option, None, Some, refl, sym, ap, ◌∙◌, arith}
-use Rattle.cdm_plan.proofs.ListWords.{count_by, option_map_or, if◌then◌else◌, list_any, cons_option, IsDistinct, IsDistinct-push, append-nil}
-use Rattle.cdm_plan.proofs.ListWords.{filter_map-append, nat_list_eq_equiv}
-use Rattle.cdm_plan.proofs.PlanWords.{Update, flight_of_update, is_fresh, same_reach, AirportRows, is_disordered, is_full, is_known, is_unknown}
-use Rattle.cdm_plan.proofs.PlanWords.{refusal_of, new_flight, flights_in, of_flight, same_is, same_name, Flt}
-use Rattle.std.proofs.lemmas.Grind.{common_steps}
+use Rattle.std.proofs.Common.{rules, [], ◌≡◌, ℕ, ◌+◌, Bool, true, false, cond, ◌&&◌, ◌||◌, List, ◌∷◌, ◌++◌, length, Option, None, Some}
+use Rattle.std.proofs.{Common.{refl, sym, ap, ◌∙◌, arith}, lemmas.Grind.common_steps}
+use Rattle.cdm_plan.proofs.ListWords.{count_by, option_map_or, if◌then◌else◌, list_any, cons_option, IsDistinct, IsDistinct-push}
+use Rattle.cdm_plan.proofs.ListWords.{append-nil, filter_map-append, nat_list_eq_equiv}
+use Rattle.cdm_plan.proofs.PlanWords.{Update, flight_of_update, is_fresh, same_reach, AirportRows, is_disordered, is_full, is_known}
+use Rattle.cdm_plan.proofs.PlanWords.{is_unknown, refusal_of, new_flight, flights_in, of_flight, same_is, same_name, Flt}
 use Rattle.cdm_flight.specs.declared.reach.Reach.{Reach}
 use Rattle.cdm_flight.specs.declared.reach.Reach.TheVariants as reach
 use Rattle.cdm_flight.specs.declared.word.RefusalWord.TheVariants as word

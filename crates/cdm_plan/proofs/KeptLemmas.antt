@@ -1,39 +1,34 @@
 -- What updates do not touch stands.
 use Rattle.std.proofs.lemmas.Grind.{common_steps}
-use Rattle.std.proofs.Common.{arith, rules, []}
-use Rattle.std.proofs.Common.{◌≡◌, ℕ, Bool, true, false, ◌&&◌, not, cond, filter, List, ◌∷◌, ◌++◌, Option, None, Some, IfSome, refl, sym, ◌∙◌, ap, subst}
-use Rattle.std.proofs.lemmas.Bool.{and_left, and_right, true≢false}
-use Rattle.cdm_plan.proofs.ListWords.{is_some, option_map_or, if◌then◌else◌, All, Contains, cons_option, filter_map, find, flat_map, append-nil}
-use Rattle.cdm_plan.proofs.ListWords.{filter-append, filter_map-append, filter_map-filter, filter_map_same, Contains-permutation, IsPermutation, IsPermutation-filter}
-use Rattle.cdm_plan.proofs.ListWords.{IsPermutation-refl, IsPermutation-sym, All-head, All-tail, All-weaker, All-permutation}
-use Rattle.cdm_plan.proofs.ListWords.{contains_from_given, contains_from_map, contains_map, if_so, one_of_key}
-use Rattle.cdm_plan.proofs.PlanWords.{DayValues, RunwayRow, Place, Update, reach_of, same_name, same_reach, Flight, is_planned, flight_of, values_of}
-use Rattle.cdm_plan.proofs.PlanWords.{values_of-untouched, taxi_of, taxi_of-untouched, flight_of-untouched, RunwayRules, TaxiTimes, Slot, fixed_slot}
-use Rattle.cdm_plan.proofs.PlanWords.{takeoffs, IsSequence, IsSequenceBy, Plan, RunwayPlan, Target, AimResult, BlockedFlight, aim_means, aim_of}
-use Rattle.cdm_plan.proofs.PlanWords.{is_same, same_flips, same_is, if_on, if_passes, DayRecord, flights_in, new_flight, rules_of, with_update}
-use Rattle.cdm_plan.proofs.PlanWords.{IsDayPlan, day_rules, records_in, is_on, blocked_in, early_in, planned_of, target_in, targets_in, targets_on}
-use Rattle.cdm_plan.proofs.PlanWords.{fixed_on, Adds, AreAims, AreKept, AreSameElsewhere, IsMade, IsPlanOn, IsSince, counts, fixed_in, is_counted}
-use Rattle.cdm_plan.proofs.PlanWords.{is_early, is_kept_blocked, is_noted, counted_on, is_touched, is_untouched, kept_blocked, kept_of, kept_plan}
-use Rattle.cdm_flight.specs.declared.reach.Reach.{Reach}
-use Rattle.cdm_flight.specs.declared.reach.Reach.TheVariants as reach
-use Rattle.cdm_sequence.specs.Plan.{Placing, taken_before}
-use Rattle.cdm_sequence.specs.Sequence.{Blocks, IsRightlyBlocked}
-use Rattle.cdm_runway.specs.declared.load.Taken.{Taken}
-use Rattle.cdm_sequence.specs.declared.rule.Rule.{Rule}
-use Rattle.cdm_sequence.specs.declared.rule.Rule.TheVariants.{Runway}
-use Rattle.cdm_plan.specs.declared.touched.Noting.{Noting}
-use Rattle.cdm_plan.specs.declared.touched.Touched.{Touched}
-use Rattle.cdm_plan.specs.declared.touched.Touched.TheVariants as touched
+use Rattle.std.proofs.Common.{arith, rules, [], ◌≡◌, ℕ, Bool, true, false, ◌&&◌, not, cond, filter, List, ◌∷◌, ◌++◌, Option, None, Some}
+use Rattle.std.proofs.{Common.{IfSome, refl, sym, ◌∙◌, ap, subst}, lemmas.Bool.{and_left, and_right, true≢false}}
+use Rattle.cdm_plan.proofs.ListWords.{is_some, option_map_or, if◌then◌else◌, All, Contains, cons_option, filter_map, find, flat_map}
+use Rattle.cdm_plan.proofs.ListWords.{append-nil, filter-append, filter_map-append, filter_map-filter, filter_map_same}
+use Rattle.cdm_plan.proofs.ListWords.{Contains-permutation, IsPermutation, IsPermutation-filter, IsPermutation-refl, IsPermutation-sym}
+use Rattle.cdm_plan.proofs.ListWords.{All-head, All-tail, All-weaker, All-permutation, contains_from_given, contains_from_map, contains_map}
+use Rattle.cdm_plan.proofs.ListWords.{if_so, one_of_key}
+use Rattle.cdm_plan.proofs.PlanWords.{DayValues, RunwayRow, Place, Update, reach_of, same_name, same_reach, Flight, is_planned, flight_of}
+use Rattle.cdm_plan.proofs.PlanWords.{values_of, values_of-untouched, taxi_of, taxi_of-untouched, flight_of-untouched, RunwayRules}
+use Rattle.cdm_plan.proofs.PlanWords.{TaxiTimes, Slot, fixed_slot, takeoffs, IsSequence, IsSequenceBy, Plan, RunwayPlan, Target, AimResult}
+use Rattle.cdm_plan.proofs.PlanWords.{BlockedFlight, aim_means, aim_of, is_same, same_flips, same_is, if_on, if_passes, DayRecord}
+use Rattle.cdm_plan.proofs.PlanWords.{flights_in, new_flight, rules_of, with_update, IsDayPlan, day_rules, records_in, is_on, blocked_in}
+use Rattle.cdm_plan.proofs.PlanWords.{early_in, planned_of, target_in, targets_in, targets_on, fixed_on, Adds, AreAims, AreKept}
+use Rattle.cdm_plan.proofs.PlanWords.{AreSameElsewhere, IsMade, IsPlanOn, IsSince, counts, fixed_in, is_counted, is_early, is_kept_blocked}
+use Rattle.cdm_plan.proofs.PlanWords.{is_noted, counted_on, is_touched, is_untouched, kept_blocked, kept_of, kept_plan}
 use Rattle.cdm_plan.proofs.AskedLemmas.{both, untouched_counts, untouched_on, untouched_runway}
 use Rattle.cdm_plan.proofs.JournalFacts.{flight_named, flights_in-push, some_named}
-use Rattle.cdm_sequence.proofs.OneLemmas.{sequence_one}
 use Rattle.cdm_plan.proofs.DayPlanLemmas.{has_sequence, is_plan_on, record_name, record_names_differ, targets_at}
-use Rattle.cdm_plan.proofs.NameLemmas.{day_rules_differ, find_none, find_some}
-use Rattle.cdm_plan.proofs.OnePlanLemmas.{partner}
-use Rattle.cdm_plan.proofs.PlanningLemmas.{AllZip-weaker, aims_are, all_zipped, blocked_early, early-aims, early-given, early_at, filter-filter_map}
-use Rattle.cdm_plan.proofs.PlanningLemmas.{fixed_on-given, made_named, names_on, no_aim_at, no_fixed_at, no_target_at, target_at}
-use Rattle.cdm_plan.proofs.PlanningLemmas.{targets_of, targets_on-given}
-use Rattle.cdm_plan.proofs.RunwayLemmas.{rules-same}
+use Rattle.cdm_plan.proofs.{NameLemmas.{day_rules_differ, find_none, find_some}, OnePlanLemmas.partner}
+use Rattle.cdm_plan.proofs.PlanningLemmas.{AllZip-weaker, aims_are, all_zipped, blocked_early, early-aims, early-given, early_at}
+use Rattle.cdm_plan.proofs.PlanningLemmas.{filter-filter_map, fixed_on-given, made_named, names_on, no_aim_at, no_fixed_at, no_target_at}
+use Rattle.cdm_plan.proofs.{PlanningLemmas.{target_at, targets_of, targets_on-given}, RunwayLemmas.rules-same}
+use Rattle.cdm_plan.specs.declared.touched.{Noting.Noting, Touched.Touched}
+use Rattle.cdm_flight.specs.declared.reach.Reach.{Reach}
+use Rattle.cdm_flight.specs.declared.reach.Reach.TheVariants as reach
+use Rattle.cdm_sequence.specs.{Plan.{Placing, taken_before}, Sequence.{Blocks, IsRightlyBlocked}, declared.rule.Rule.Rule}
+use Rattle.cdm_sequence.{specs.declared.rule.Rule.TheVariants.Runway, proofs.OneLemmas.sequence_one}
+use Rattle.cdm_runway.specs.declared.load.Taken.{Taken}
+use Rattle.cdm_plan.specs.declared.touched.Touched.TheVariants as touched
 
 -- What an update that is not of a runway leaves there.
 

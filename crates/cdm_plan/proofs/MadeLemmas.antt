@@ -1,26 +1,21 @@
 -- The steps to a plan: what planned flights could have, the plans of runways that stand, and the others.
-use Rattle.std.proofs.Common.{[]}
-use Rattle.std.proofs.Common.{rules, Bor, ◌≡◌, ℕ, true, cond, List, ◌∷◌, ◌++◌, Option, None, Some, refl, ◌∙◌, ap, subst, arith, map, filter, length}
-use Rattle.std.proofs.lemmas.Grind.{common_steps}
+use Rattle.std.proofs.Common.{[], rules, Bor, ◌≡◌, ℕ, true, cond, List, ◌∷◌, ◌++◌, Option, None, Some, refl, ◌∙◌, ap, subst, arith, map}
+use Rattle.std.proofs.{Common.{filter, length}, lemmas.Grind.common_steps}
 use Rattle.cdm_plan.proofs.ListWords.{is_none, All, All-head, All-tail, AllZip, Contains, cons_option, filter_map, IsPermutation}
-use Rattle.cdm_plan.proofs.ListWords.{IsPermutation-append_comm, IsPermutation-append_left, IsPermutation-append_right, All-contains, All-weaker}
-use Rattle.cdm_plan.proofs.ListWords.{IsPermutation-middle, IsPermutation-refl, IsPermutation-sym, IsPermutation-trans, contains_head, contains_map}
-use Rattle.cdm_plan.proofs.ListWords.{Contains-permutation, contains_tail, filter_passes, filter_same, length_permutation}
-use Rattle.cdm_plan.proofs.PlanWords.{DayValues, Flight, is_planned, values_of, taxi_of, RunwayRules, TaxiTimes, IsSequence, Plan, RunwayPlan}
-use Rattle.cdm_plan.proofs.PlanWords.{BlockedFlight, CanSequence, IsAimed, IsAimedBy, early_among, target_for, DayRecord, day_rules, records_in}
-use Rattle.cdm_plan.proofs.PlanWords.{HasParts, fixed_on, planned_of, AreKept, Together, kept_plan, asked_of, is_touched, kept_blocked, kept_of}
-use Rattle.cdm_plan.specs.declared.aimed.Aimed.{Aimed}
-use Rattle.cdm_plan.specs.declared.aimed.Asked.{Asked}
-use Rattle.cdm_plan.specs.declared.touched.Touched.{Touched}
-use Rattle.cdm_plan.specs.declared.work.Work.{Work}
-use Rattle.cdm_plan.specs.inner.Work.{HasExot, IsWork}
-use Rattle.cdm_plan.proofs.AskedLemmas.{early-parted, fixed-asked, targets-asked}
+use Rattle.cdm_plan.proofs.ListWords.{IsPermutation-append_comm, IsPermutation-append_left, IsPermutation-append_right, All-contains}
+use Rattle.cdm_plan.proofs.ListWords.{All-weaker, IsPermutation-middle, IsPermutation-refl, IsPermutation-sym, IsPermutation-trans}
+use Rattle.cdm_plan.proofs.ListWords.{contains_head, contains_map, Contains-permutation, contains_tail, filter_passes, filter_same}
+use Rattle.cdm_plan.proofs.ListWords.{length_permutation}
+use Rattle.cdm_plan.proofs.PlanWords.{DayValues, Flight, is_planned, values_of, taxi_of, RunwayRules, TaxiTimes, IsSequence, Plan}
+use Rattle.cdm_plan.proofs.PlanWords.{RunwayPlan, BlockedFlight, CanSequence, IsAimed, IsAimedBy, early_among, target_for, DayRecord}
+use Rattle.cdm_plan.proofs.PlanWords.{day_rules, records_in, HasParts, fixed_on, planned_of, AreKept, Together, kept_plan, asked_of}
+use Rattle.cdm_plan.proofs.{PlanWords.{is_touched, kept_blocked, kept_of}, AskedLemmas.{early-parted, fixed-asked, targets-asked}}
 use Rattle.cdm_plan.proofs.DayPlanLemmas.{HasSequence, day_plan, few_records, has_sequence, record_names_differ, targets_at}
-use Rattle.cdm_plan.proofs.NameLemmas.{by_name_differ}
-use Rattle.cdm_plan.proofs.OnePlanLemmas.{one_day_plan}
-use Rattle.cdm_plan.proofs.PartLemmas.{All-given_by, AllZip-lent, few_parts}
-use Rattle.cdm_plan.proofs.PlanningLemmas.{aim_list, aimed, aimed_are, aims_mean, fixed-gone, blocked-among, blocked_early, can_sequence, early-aims}
-use Rattle.cdm_plan.proofs.PlanningLemmas.{planned_are, targets-among}
+use Rattle.cdm_plan.proofs.{NameLemmas.by_name_differ, OnePlanLemmas.one_day_plan, PartLemmas.{All-given_by, AllZip-lent, few_parts}}
+use Rattle.cdm_plan.proofs.PlanningLemmas.{aim_list, aimed, aimed_are, aims_mean, fixed-gone, blocked-among, blocked_early, can_sequence}
+use Rattle.cdm_plan.{proofs.PlanningLemmas.{early-aims, planned_are, targets-among}, specs.declared.aimed.Aimed.Aimed}
+use Rattle.cdm_plan.specs.declared.{aimed.Asked.Asked, touched.Touched.Touched, work.Work.Work}
+use Rattle.cdm_plan.specs.inner.Work.{HasExot, IsWork}
 
 abbrev now : Bor Flight → Flight
 now f = f.now

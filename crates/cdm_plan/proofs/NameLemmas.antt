@@ -1,17 +1,16 @@
 -- The runways by name.
 use Rattle.std.proofs.lemmas.Grind.{common_steps}
-use Rattle.std.proofs.Common.{◌≡◌, ℕ, ◌+◌, ◌≤◌, Bool, true, false, cond, List, ◌∷◌, ◌++◌, length, take, drop, map, Option, None, Some, refl, sym, ap}
-use Rattle.std.proofs.Common.{◌∙◌, subst, true≢false, zero, suc, add-one, ◌<◌, get_or, arith, rules, []}
-use Rattle.cdm_plan.proofs.ListWords.{is_some, slice_get, if◌then◌else◌, option_map, is_lt, Contains, cons_option, find, IsDistinct, IsPermutation}
-use Rattle.cdm_plan.proofs.ListWords.{same_text, false_from_ne_true, length-map, take_all, list_any_at, Contains-permutation, IsPermutation-refl}
-use Rattle.cdm_plan.proofs.ListWords.{IsPermutation-sym, IsPermutation-trans, IsPermutation-append_right, IsPermutation-map, IsPermutation-middle}
-use Rattle.cdm_plan.proofs.ListWords.{IsSortedBy, length_permutation, nat_list_cmp_total, ranks_by, IsDistinct-IsPermutation, contains_head}
-use Rattle.cdm_plan.proofs.ListWords.{contains_tail, list_any-find, one_of_key}
-use Rattle.std.proofs.lemmas.List.{get_or-map}
+use Rattle.std.proofs.Common.{◌≡◌, ℕ, ◌+◌, ◌≤◌, Bool, true, false, cond, List, ◌∷◌, ◌++◌, length, take, drop, map, Option, None, Some, refl}
+use Rattle.std.proofs.{Common.{sym, ap, ◌∙◌, subst, true≢false, zero, suc, add-one, ◌<◌, get_or, arith, rules, []}, lemmas.List.get_or-map}
+use Rattle.cdm_plan.proofs.ListWords.{is_some, slice_get, if◌then◌else◌, option_map, is_lt, Contains, cons_option, find, IsDistinct}
+use Rattle.cdm_plan.proofs.ListWords.{IsPermutation, same_text, false_from_ne_true, length-map, take_all, list_any_at, Contains-permutation}
+use Rattle.cdm_plan.proofs.ListWords.{IsPermutation-refl, IsPermutation-sym, IsPermutation-trans, IsPermutation-append_right}
+use Rattle.cdm_plan.proofs.ListWords.{IsPermutation-map, IsPermutation-middle, IsSortedBy, length_permutation, nat_list_cmp_total, ranks_by}
+use Rattle.cdm_plan.proofs.ListWords.{IsDistinct-IsPermutation, contains_head, contains_tail, list_any-find, one_of_key}
+use Rattle.cdm_plan.proofs.PlanWords.{RunwayRow, Update, no_spacing, same_name, name_cmp, AirportRows, runway_row, RunwayRules, same_flips}
+use Rattle.cdm_plan.proofs.PlanWords.{IsAirport, runway_names, rules_of, AreByName, DayRecord, IsRunwayAt, day_rules, is_same, tied_names}
 use Rattle.cdm_flight.proofs.Lists.{sorted_rest}
 use Rattle.cdm_sequence.proofs.OneLemmas.{one_order}
-use Rattle.cdm_plan.proofs.PlanWords.{RunwayRow, Update, no_spacing, same_name, name_cmp, AirportRows, runway_row, RunwayRules, same_flips, IsAirport, runway_names}
-use Rattle.cdm_plan.proofs.PlanWords.{rules_of, AreByName, DayRecord, IsRunwayAt, day_rules, is_same, tied_names}
 
 -- What `find` finds.
 

@@ -1,19 +1,17 @@
 -- A day has one plan.
 use Rattle.std.proofs.Common.{◌≡◌, ℕ, List, ◌∷◌, ◌++◌, refl, sym, ◌∙◌, ap, subst, inl, inr, map, arith, rules, []}
-use Rattle.cdm_plan.proofs.ListWords.{AllZip, Contains, IsDistinct, flat_map, IsPermutation, map-append, All-permutation, IsPermutation-append_comm}
-use Rattle.cdm_plan.proofs.ListWords.{IsPermutation-map, IsPermutation-refl, IsPermutation-trans, IsPermutation-append_left}
-use Rattle.cdm_plan.proofs.ListWords.{IsPermutation-append_right, append_assoc, IsDistinct-IsPermutation, contains_head, contains_tail}
-use Rattle.cdm_plan.proofs.ListWords.{contains_cases, distinct_filter, distinct_right}
-use Rattle.cdm_plan.proofs.PlanWords.{DayValues, same_name, Flight, RunwayRules, TaxiTimes, IsSequence, IsSequenceBy, Plan, RunwayPlan, Target}
-use Rattle.cdm_plan.proofs.PlanWords.{AimResult, BlockedFlight, Placing, same_flips, runway_names, DayRecord, flights_in, IsDayPlan, day_rules}
-use Rattle.cdm_plan.proofs.PlanWords.{records_in, values_of, taxi_of, AreAims, HasParts, IsPlanOf, early_in, fixed_on, planned_of, targets_in}
-use Rattle.cdm_plan.proofs.PlanWords.{targets_on}
+use Rattle.cdm_plan.proofs.ListWords.{AllZip, Contains, IsDistinct, flat_map, IsPermutation, map-append, All-permutation}
+use Rattle.cdm_plan.proofs.ListWords.{IsPermutation-append_comm, IsPermutation-map, IsPermutation-refl, IsPermutation-trans}
+use Rattle.cdm_plan.proofs.ListWords.{IsPermutation-append_left, IsPermutation-append_right, append_assoc, IsDistinct-IsPermutation}
+use Rattle.cdm_plan.proofs.ListWords.{contains_head, contains_tail, contains_cases, distinct_filter, distinct_right}
+use Rattle.cdm_plan.proofs.PlanWords.{DayValues, same_name, Flight, RunwayRules, TaxiTimes, IsSequence, IsSequenceBy, Plan, RunwayPlan}
+use Rattle.cdm_plan.proofs.PlanWords.{Target, AimResult, BlockedFlight, Placing, same_flips, runway_names, DayRecord, flights_in, IsDayPlan}
+use Rattle.cdm_plan.proofs.PlanWords.{day_rules, records_in, values_of, taxi_of, AreAims, HasParts, IsPlanOf, early_in, fixed_on}
+use Rattle.cdm_plan.proofs.{PlanWords.{planned_of, targets_in, targets_on}, DayPlanLemmas.record_names_differ}
+use Rattle.cdm_plan.proofs.{NameLemmas.{by_name, day_rules_differ}, PartLemmas.runways_make}
+use Rattle.cdm_plan.proofs.PlanningLemmas.{AllZip-weaker, aims_are, blocked_early, early-aims, made_named, names_on, once, Shows}
+use Rattle.cdm_plan.proofs.PlanningLemmas.{shows_made, stands_in, targets-aims, targets_of}
 use Rattle.cdm_sequence.proofs.OneLemmas.{sequence_one}
-use Rattle.cdm_plan.proofs.DayPlanLemmas.{record_names_differ}
-use Rattle.cdm_plan.proofs.NameLemmas.{by_name, day_rules_differ}
-use Rattle.cdm_plan.proofs.PartLemmas.{runways_make}
-use Rattle.cdm_plan.proofs.PlanningLemmas.{AllZip-weaker, aims_are, blocked_early, early-aims, made_named, names_on, once}
-use Rattle.cdm_plan.proofs.PlanningLemmas.{Shows, shows_made, stands_in, targets-aims, targets_of}
 
 -- Lists by name.
 

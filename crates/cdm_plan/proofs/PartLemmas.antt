@@ -1,13 +1,11 @@
 -- The plans of the runways, in some order, make the plan of the day.
-use Rattle.std.proofs.Common.{◌≡◌, ℕ, zero, suc, ◌+◌, ◌≤◌, ◌<◌, List, ◌∷◌, ◌++◌, refl, sym, subst, arith, Bor, map, length, length-append, sum_by}
-use Rattle.std.proofs.Common.{get_or, set, [], rules}
+use Rattle.std.proofs.Common.{◌≡◌, ℕ, zero, suc, ◌+◌, ◌≤◌, ◌<◌, List, ◌∷◌, ◌++◌, refl, sym, subst, arith, Bor, map, length, length-append}
+use Rattle.std.proofs.{Common.{sum_by, get_or, set, [], rules}, lemmas.List.Concat.length-flat_map, lemmas.Slice.Zip.AllZip-long}
 use Rattle.cdm_plan.proofs.ListWords.{length-map, All, AllZip, IsDistinct, flat_map, swap, IsPermutation, All-cons, All-head, All-nil}
-use Rattle.cdm_plan.proofs.ListWords.{All-tail, IsPermutation-keeps, IsPermutation-refl, IsPermutation-swap, IsPermutation-sym, IsPermutation-trans}
-use Rattle.cdm_plan.proofs.ListWords.{length_permutation, sum_by-IsPermutation, sum_by-add}
-use Rattle.cdm_plan.proofs.PlanWords.{DayValues, same_name, Flight, RunwayRules, TaxiTimes, Slot, IsSequence, Plan, RunwayPlan}
-use Rattle.cdm_plan.proofs.PlanWords.{AimResult, BlockedFlight, AreAims, HasParts, IsPlanOf, early_in, fixed_on, targets_in, targets_on}
-use Rattle.std.proofs.lemmas.List.Concat.{length-flat_map}
-use Rattle.std.proofs.lemmas.Slice.Zip.{AllZip-long}
+use Rattle.cdm_plan.proofs.ListWords.{All-tail, IsPermutation-keeps, IsPermutation-refl, IsPermutation-swap, IsPermutation-sym}
+use Rattle.cdm_plan.proofs.ListWords.{IsPermutation-trans, length_permutation, sum_by-IsPermutation, sum_by-add}
+use Rattle.cdm_plan.proofs.PlanWords.{DayValues, same_name, Flight, RunwayRules, TaxiTimes, Slot, IsSequence, Plan, RunwayPlan, AimResult}
+use Rattle.cdm_plan.proofs.PlanWords.{BlockedFlight, AreAims, HasParts, IsPlanOf, early_in, fixed_on, targets_in, targets_on}
 use Rattle.cdm_plan.proofs.PlacingLemmas.{placed, placing_of}
 use Rattle.cdm_plan.proofs.PlanningLemmas.{blocked_early, few_names, made_named, once, shows_made, stands_in, targets_of}
 use Rattle.cdm_sequence.proofs.NameLemmas.{shown}

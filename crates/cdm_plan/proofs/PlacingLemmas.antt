@@ -1,11 +1,11 @@
 -- One placing of a day, from those of its runways.
 use Rattle.std.proofs.Common.{◌≡◌, ℕ, Bool, true, false, cond, ◌||◌, List, ◌∷◌, None, sym, ◌∙◌, ap, refl, map, []}
-use Rattle.cdm_plan.proofs.ListWords.{All, AllByRecursion, AllZip, Contains, IsDistinct, list_any, false≢true, All-cons, All-contains, All-head, All-nil}
-use Rattle.cdm_plan.proofs.ListWords.{All-tail, filter_passes, IsDistinct-head, IsDistinct-tail, contains_all, contains_kept}
+use Rattle.cdm_plan.proofs.ListWords.{All, AllByRecursion, AllZip, Contains, IsDistinct, list_any, false≢true, All-cons, All-contains}
+use Rattle.cdm_plan.proofs.ListWords.{All-head, All-nil, All-tail, filter_passes, IsDistinct-head, IsDistinct-tail, contains_all}
+use Rattle.cdm_plan.proofs.ListWords.{contains_kept}
 use Rattle.cdm_plan.proofs.PlanWords.{same_name, RunwayRules, Slot, takeoffs, Placing, IsAllowed, IsEarlier, IsSequence, IsSequenceBy}
 use Rattle.cdm_plan.proofs.PlanWords.{RunwayPlan, Target, is_same, same_flips, same_is, targets_on}
-use Rattle.cdm_sequence.proofs.PlanLemmas.{none_earlier, plan_allowed}
-use Rattle.cdm_sequence.proofs.OneLemmas.{sequence_agree}
+use Rattle.cdm_sequence.proofs.{PlanLemmas.{none_earlier, plan_allowed}, OneLemmas.sequence_agree}
 
 module _ (fixed : List ℕ → List Slot) (targets : List Target) where
   abbrev on : List ℕ → List Target

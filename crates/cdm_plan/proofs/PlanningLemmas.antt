@@ -1,24 +1,22 @@
 -- Each flight of a day stands once: as a fixed flight or a target of one runway, or blocked early.
-use Rattle.std.proofs.lemmas.Grind.{common_steps}
-use Rattle.std.proofs.lemmas.Slice.Zip.{AllZip-map}
-use Rattle.std.proofs.Common.{Bor, ◌≡◌, ℕ, ◌+◌, ◌≤◌, Bool, true, false, not, cond, ◌||◌, List, ◌∷◌, ◌++◌, Option, None, Some, refl, sym, ◌∙◌, ap, []}
-use Rattle.std.proofs.Common.{subst, arith, map, filter, length, rules, IfSome, IsTrue, length-append}
-use Rattle.cdm_plan.proofs.ListWords.{is_some, zip, All, All-cons, All-head, All-nil, All-tail, append_assoc, filter_map}
-use Rattle.cdm_plan.proofs.ListWords.{flat_map, IsDistinct, AllByRecursion, IsPermutation, false_from_ne_true, false≢true, IsPermutation-append}
-use Rattle.cdm_plan.proofs.ListWords.{IsPermutation-refl, IsPermutation-trans, IsPermutation-append_right, IsPermutation-middle, IsPermutation-map}
-use Rattle.cdm_plan.proofs.ListWords.{IsPermutation-sym, IsDistinct-IsPermutation, IsDistinct-head, IsDistinct-tail, length-map, map-append}
-use Rattle.cdm_plan.proofs.ListWords.{All-given, distinct_filter, filter_map-map, filter_map-filter, if_so, length_permutation, AllZip, filter_passes}
-use Rattle.cdm_plan.proofs.PlanWords.{DayValues, same_name, Flight, is_planned, TaxiTimes, IsAim, aim_of, aim_is, aim_means, counts, same_flips}
-use Rattle.cdm_plan.proofs.PlanWords.{same_is, Slot, fixed_slot, slot_by, flight_names, IsSequence, Target, AimResult, BlockedFlight, early_in}
-use Rattle.cdm_plan.proofs.PlanWords.{gone_of, planned_of, target_in, targets_in, blocked_in, is_on, fixed_on, targets_on, IsAimed, if_on, if_passes}
-use Rattle.cdm_plan.proofs.PlanWords.{target_for, CanSequence, RunwayRules, RunwayPlan, Ready, Early}
+use Rattle.std.proofs.lemmas.{Grind.common_steps, Slice.Zip.AllZip-map}
+use Rattle.std.proofs.Common.{Bor, ◌≡◌, ℕ, ◌+◌, ◌≤◌, Bool, true, false, not, cond, ◌||◌, List, ◌∷◌, ◌++◌, Option, None, Some, refl, sym}
+use Rattle.std.proofs.Common.{◌∙◌, ap, [], subst, arith, map, filter, length, rules, IfSome, IsTrue, length-append}
 use Rattle.std.proofs.lemmas.List.Filters.{length-filter_both}
+use Rattle.cdm_plan.proofs.ListWords.{is_some, zip, All, All-cons, All-head, All-nil, All-tail, append_assoc, filter_map, flat_map}
+use Rattle.cdm_plan.proofs.ListWords.{IsDistinct, AllByRecursion, IsPermutation, false_from_ne_true, false≢true, IsPermutation-append}
+use Rattle.cdm_plan.proofs.ListWords.{IsPermutation-refl, IsPermutation-trans, IsPermutation-append_right, IsPermutation-middle}
+use Rattle.cdm_plan.proofs.ListWords.{IsPermutation-map, IsPermutation-sym, IsDistinct-IsPermutation, IsDistinct-head, IsDistinct-tail}
+use Rattle.cdm_plan.proofs.ListWords.{length-map, map-append, All-given, distinct_filter, filter_map-map, filter_map-filter, if_so}
+use Rattle.cdm_plan.proofs.ListWords.{length_permutation, AllZip, filter_passes}
+use Rattle.cdm_plan.proofs.PlanWords.{DayValues, same_name, Flight, is_planned, TaxiTimes, IsAim, aim_of, aim_is, aim_means, counts}
+use Rattle.cdm_plan.proofs.PlanWords.{same_flips, same_is, Slot, fixed_slot, slot_by, flight_names, IsSequence, Target, AimResult}
+use Rattle.cdm_plan.proofs.PlanWords.{BlockedFlight, early_in, gone_of, planned_of, target_in, targets_in, blocked_in, is_on, fixed_on}
+use Rattle.cdm_plan.proofs.PlanWords.{targets_on, IsAimed, if_on, if_passes, target_for, CanSequence, RunwayRules, RunwayPlan, Ready, Early}
+use Rattle.cdm_plan.{proofs.JournalFacts.some_named, specs.declared.aimed.Aimed.Aimed}
 use Rattle.cdm_flight.specs.declared.flight.Status.{Status}
 use Rattle.cdm_flight.specs.declared.flight.Status.TheVariants as status
-use Rattle.cdm_plan.specs.declared.aimed.Aimed.{Aimed}
-use Rattle.cdm_plan.proofs.JournalFacts.{some_named}
-use Rattle.cdm_sequence.specs.Slots.{is_fixed}
-use Rattle.cdm_sequence.proofs.NameLemmas.{all_shown, names_given, shown}
+use Rattle.cdm_sequence.{specs.Slots.is_fixed, proofs.NameLemmas.{all_shown, names_given, shown}}
 
 -- Aims.
 

@@ -3,7 +3,8 @@ use Rattle.std.proofs.Common.{◌≡◌, ◌*◌, ◌/◌, false, List, ◌∷�
 use Rattle.cdm_flight.specs.declared.reach.Reach.TheVariants as reach
 use Rattle.cdm_flight.proofs.JournalLemmas.{untouched}
 use Rattle.cdm_plan.proofs.ListWords.{option_map_or, range_with_len, unwrap_or}
-use Rattle.cdm_plan.proofs.PlanWords.{RunwayRow, Update, AirportRows, cap_given, closed_given, last_value, reach_of, rules_of, runway_row, same_reach}
+use Rattle.cdm_plan.proofs.PlanWords.{RunwayRow, Update, AirportRows, cap_given, closed_given, last_value, reach_of, rules_of, runway_row}
+use Rattle.cdm_plan.proofs.PlanWords.{same_reach}
 
 -- an update that touches something else
 pub rules-same : (g : AirportRows) (a : List Update) (row : RunwayRow) (u : Update) → same_reach (reach_of u) (reach.Runway row.name) ≡ false

@@ -1,15 +1,10 @@
 -- Lines that are read byte by byte.
-use Rattle.std.proofs.Common.{◌≡◌, ◌≢◌, ◌≤◌, ◌<◌, ◌+◌, ◌∙◌, ◌==◌, ℕ, true, false, nat_le, List, [], ◌∷◌, ◌++◌, length, take, Option, None, Some, IfSome, refl, sym, ap, subst, arith, append_assoc, inl, inr}
-use Rattle.std.specs.Io.BufRead.{DropsThrough, drop_through}
-use Rattle.std.specs.Io.KnownBytes.{Consumes, IsAtEnd}
+use Rattle.std.proofs.Common.{◌≡◌, ◌≢◌, ◌≤◌, ◌<◌, ◌+◌, ◌∙◌, ◌==◌, ℕ, true, false, nat_le, List, [], ◌∷◌, ◌++◌, length, take, Option, None}
+use Rattle.std.proofs.{Common.{Some, IfSome, refl, sym, ap, subst, arith, append_assoc, inl, inr}, lemmas.Bool.{le-leb, ne_eqb}}
+use Rattle.std.proofs.lemmas.{Bool.Decides.leb_tells, List.{append-nil, length-append, length-take-le, take-append-le, take_all}}
+use Rattle.std.{proofs.KnownBytes.Consumes-trans, specs.Io.BufRead.{DropsThrough, drop_through}, specs.Io.KnownBytes.{Consumes, IsAtEnd}}
 use Rattle.std.specs.List.{AllByRecursion}
-use Rattle.std.proofs.lemmas.Bool.{le-leb, ne_eqb}
-use Rattle.std.proofs.lemmas.Bool.Decides.{leb_tells}
-use Rattle.std.proofs.lemmas.List.{append-nil, length-append, length-take-le, take-append-le, take_all}
-use Rattle.std.proofs.KnownBytes.{Consumes-trans}
-use Rattle.cdm_port.specs.Event.{Event, line_limit}
-use Rattle.cdm_port.specs.Event.Event.{Broken, End, Line}
-use Rattle.cdm_port.specs.Heard.{IsLine, first_line, heard_as, heard_in}
+use Rattle.cdm_port.specs.{Event.{Event, line_limit}, Event.Event.{Broken, End, Line}, Heard.{IsLine, first_line, heard_as, heard_in}}
 use Rattle.cdm_port.specs.inner.Reading.{line_with}
 
 abbrev pub HasNoLf : List ℕ → Type 0
@@ -81,10 +76,6 @@ kept_more given byte = elim (leb_tells (length given) line_limit) [
       let long = kept_many given many in
       rw (not_few (length (kept given)) (omega (arith, long))) (sym (take-append-le (line_limit + 1) given (byte ∷ []) (omega (arith, many))))
 ]
-
-pub nothing_read : (before : Option (List ℕ)) → ReadSoFar before before []
-nothing_read None = record { given = []; consumed = tt; none = tt; keeps = refl }
-nothing_read (Some xs) = record { given = []; consumed = refl; none = tt; keeps = refl }
 
 module _ (before now next : Option (List ℕ)) (line : List ℕ) (so_far : ReadSoFar before now line) where
   abbrev given : List ℕ
@@ -163,17 +154,6 @@ module _ (before now next : Option (List ℕ)) (line : List ℕ) (so_far : ReadS
         by None n all end = tt
         by (Some xs) (Some ys) all end = is ∙ sym (ap heard_in (rw (end, append-nil, append-nil) at all))
         by (Some xs) None all end = absurd all
-
-    -- nothing was left
-    pub none_heard : line ≡ [] → IfSome before (λ bytes. End ≡ heard_in bytes)
-    none_heard none = end_heard End (by given (sym so_far.keeps ∙ none))
-      where
-        by : (bytes : List ℕ) → kept bytes ≡ [] → End ≡ heard_in bytes
-        by [] is = refl
-        by (b ∷ bs) is = elim (leb_tells (length (b ∷ bs)) line_limit) [
-          | inl t ↦ let same = sym (kept_few (b ∷ bs) t.1) ∙ is in cc same
-          | inr t ↦ let long = sym (kept_many (b ∷ bs) t.1) ∙ ap length is in absurd (omega (arith, long))
-        ]
 
     -- a last line that no line feed ends
     pub broken_heard : line ≢ [] → IfSome before (λ bytes. Broken ≡ heard_in bytes)

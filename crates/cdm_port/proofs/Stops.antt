@@ -1,9 +1,7 @@
 -- How stops of runs compose.
 use Rattle.std.proofs.Common.{◌≡◌, ◌⊎◌, inl, inr, ℕ, List, [], ◌∷◌, ◌++◌, length, refl, sym, ◌∙◌, ap, subst, append_assoc}
 use Rattle.std.proofs.lemmas.List.{drop_at}
-use Rattle.cdm_port.specs.Event.{Event}
-use Rattle.cdm_port.specs.Event.Event.{Appended, Replied}
-use Rattle.cdm_port.specs.Stop.{IsPrefix, IsStopOf, IsTorn, Stops, since}
+use Rattle.cdm_port.specs.{Event.Event, Event.Event.{Appended, Replied}, Stop.{IsPrefix, IsStopOf, IsTorn, Stops, since}}
 
 -- the front of a run
 pub front : (done rest : List Event) → IsStopOf done (done ++ rest)

@@ -1,7 +1,6 @@
 -- A reader that is read up to a limit.
 use Rattle.std.proofs.Common.{◌≡◌, ◌≤◌, ◌<◌, ◌+◌, ◌∙◌, ℕ, List, [], ◌++◌, length, take, Option, None, Some, IfSome, arith, ap}
-use Rattle.std.specs.Prelude.{option_map}
-use Rattle.std.proofs.lemmas.List.{length-take-le, take_all}
+use Rattle.std.{proofs.lemmas.List.{length-take-le, take_all}, specs.Prelude.option_map}
 
 module _ (most limit : ℕ) (old new : List ℕ) (is : limit ≡ most + 1) (none : old ≡ []) where
   -- fewer bytes than were asked for are all

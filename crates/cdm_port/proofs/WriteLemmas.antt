@@ -1,10 +1,7 @@
 -- Writes that stopped in their midst.
-use Rattle.std.proofs.Common.{◌≡◌, ℕ, List, [], ◌∷◌, ◌++◌, ◌∙◌, map, take, drop, refl, sym, ap, inl, inr, Option, None, Some, Result, Ok, Err, OnErr, OnOk}
-use Rattle.std.specs.Io.KnownBytes.{Appends, Keeps}
-use Rattle.std.proofs.lemmas.List.{map-append, take-append-drop}
-use Rattle.cdm_port.specs.Event.Event.{Appended, Renamed, Replied, Synced}
-use Rattle.cdm_port.specs.Notes.{noted}
-use Rattle.cdm_port.specs.Stop.{Stops}
+use Rattle.std.proofs.Common.{◌≡◌, ℕ, List, [], ◌∷◌, ◌++◌, ◌∙◌, map, take, drop, refl, sym, ap, inl, inr, Option, None, Some, Result, Ok}
+use Rattle.std.{proofs.Common.{Err, OnErr, OnOk}, proofs.lemmas.List.{map-append, take-append-drop}, specs.Io.KnownBytes.{Appends, Keeps}}
+use Rattle.cdm_port.specs.{Event.Event.{Appended, Renamed, Replied, Synced}, Notes.noted, Stop.Stops}
 use Rattle.cdm_port.specs.declared.happening.Happening.{Happening}
 use Rattle.cdm_port.specs.declared.happening.Happening.TheVariants as happening
 

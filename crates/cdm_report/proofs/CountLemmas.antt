@@ -1,15 +1,9 @@
 -- How the indicators grow by one more slot or runway.
-use Rattle.std.proofs.Common.{ℕ, suc, ◌≡◌, ◌+◌, ◌<◌, List, [], ◌∷◌, ◌++◌, length, get_or, take, Option, ap, sym, ◌∙◌, arith, fold, max, cond, add-zero, zero-add, ◌≤◌}
-use Rattle.std.specs.Prelude.{nat_lt}
-use Rattle.std.specs.List.{cons_option, flat_map}
-use Rattle.std.proofs.lemmas.List.{take_more, take_all}
-use Rattle.std.proofs.lemmas.List.Elements.{filter_map-append}
-use Rattle.std.proofs.lemmas.List.Sums.{fold-append}
-use Rattle.cdm_sequence.specs.declared.plan.Plan.{Plan}
-use Rattle.cdm_sequence.specs.declared.plan.RunwayPlan.{RunwayPlan}
-use Rattle.cdm_sequence.specs.declared.slot.Slot.{Slot}
-use Rattle.cdm_report.specs.declared.counts.Counts.{Counts}
-use Rattle.cdm_report.specs.Counts.{counts_of, delays_of}
+use Rattle.std.proofs.Common.{ℕ, suc, ◌≡◌, ◌+◌, ◌<◌, List, [], ◌∷◌, ◌++◌, length, get_or, take, Option, ap, sym, ◌∙◌, arith, fold, max}
+use Rattle.std.proofs.{Common.{cond, add-zero, zero-add, ◌≤◌}, lemmas.List.{take_more, take_all}, lemmas.List.Elements.filter_map-append}
+use Rattle.std.{proofs.lemmas.List.Sums.fold-append, specs.Prelude.nat_lt, specs.List.{cons_option, flat_map}}
+use Rattle.cdm_sequence.specs.declared.{plan.Plan.Plan, plan.RunwayPlan.RunwayPlan, slot.Slot.Slot}
+use Rattle.cdm_report.specs.{declared.counts.Counts.Counts, Counts.{counts_of, delays_of}}
 use Rattle.cdm_report.specs.inner.Counting.{delays_in, only_blocked, with_delay}
 
 -- one more slot

@@ -1,15 +1,9 @@
 -- How long a flight's line is.
 use Rattle.std.proofs.Common.{ℕ, ◌≡◌, ◌+◌, ◌<◌, ◌≤◌, List, [], ◌∷◌, length, Option, Some, None, refl, arith, length-append}
-use Rattle.std.proofs.lemmas.List.{length-replicate}
-use Rattle.std.specs.Option.{ForSome}
-use Rattle.std.specs.Fmt.{decimal}
+use Rattle.std.{proofs.lemmas.List.length-replicate, proofs.lemmas.Fmt.length-decimal-le, specs.Option.ForSome, specs.Fmt.decimal}
 use Rattle.std.specs.List.{join_with_byte}
-use Rattle.std.proofs.lemmas.Fmt.{length-decimal-le}
-use Rattle.cdm_time.specs.declared.calendar.CalendarDate.{CalendarDate}
-use Rattle.cdm_time.specs.Times.{stamp}
-use Rattle.cdm_sequence.specs.declared.slot.Mark.{Mark}
-use Rattle.cdm_sequence.specs.declared.slot.Mark.TheVariants.{Planned, OffBlock, Airborne}
-use Rattle.cdm_sequence.specs.declared.slot.Slot.{Slot}
+use Rattle.cdm_time.specs.{declared.calendar.CalendarDate.CalendarDate, Times.stamp}
+use Rattle.cdm_sequence.specs.declared.slot.{Mark.Mark, Mark.TheVariants.{Planned, OffBlock, Airborne}, Slot.Slot}
 use Rattle.cdm_report.specs.Columns.{left_in, right_in, time_column, delay_column, mark_letter, flight_line}
 
 length-left_in : (width : ℕ) (text : List ℕ) → length text ≤ width → length (left_in width text) ≡ width

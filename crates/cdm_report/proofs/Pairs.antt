@@ -1,8 +1,7 @@
 -- The texts of two lists, pair by pair.
 use Rattle.std.proofs.Common.{◌≡◌, ℕ, ◌+◌, ◌<◌, List, [], ◌∷◌, ◌++◌, length, get_or, take, sym, ap, ◌∙◌, arith}
+use Rattle.std.proofs.lemmas.{List.{flat_map_more, take_more}, Slice.Zip.{get_or-zip, length-zip}}
 use Rattle.std.specs.Prelude.{flat_map, zip}
-use Rattle.std.proofs.lemmas.List.{flat_map_more, take_more}
-use Rattle.std.proofs.lemmas.Slice.Zip.{get_or-zip, length-zip}
 
 -- the text of one more pair
 pub one_more_pair : {A B : Type 0} (f : A × B → List ℕ) (text : List ℕ) (xs : List A) (ys : List B) (i : ℕ) (a : A) (b : B)

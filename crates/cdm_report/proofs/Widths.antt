@@ -1,8 +1,9 @@
 -- What the widths of a format write.
-use Rattle.std.proofs.Common.{ℕ, ◌≡◌, ◌-◌, ◌^◌, ◌<◌, ◌≤◌, List, [], ◌∷◌, ◌++◌, length, slice_index, refl, ap, sym, ◌∙◌, arith, true, ltb, lt-ltb, suc, append_assoc}
-use Rattle.std.specs.Fmt.{format_spec, decimal, styled_text, styled_decimal, char_count, fill_text}
+use Rattle.std.proofs.Common.{ℕ, ◌≡◌, ◌-◌, ◌^◌, ◌<◌, ◌≤◌, List, [], ◌∷◌, ◌++◌, length, slice_index, refl, ap, sym, ◌∙◌, arith, true, ltb}
+use Rattle.std.proofs.Common.{lt-ltb, suc, append_assoc}
+use Rattle.std.proofs.Padding.{char_count-nil, char_count-cons, take_chars_all, padded_integral_right, styled_decimal_is, repeat_ascii}
+use Rattle.std.{proofs.Padding.padded_is, specs.Fmt.{format_spec, decimal, styled_text, styled_decimal, char_count, fill_text}}
 use Rattle.std.specs.List.{join_with_byte}
-use Rattle.std.proofs.Padding.{char_count-nil, char_count-cons, take_chars_all, padded_integral_right, styled_decimal_is, repeat_ascii, padded_is}
 use Rattle.cdm_report.specs.Columns.{left_in, right_in}
 
 -- a number on the right of a width

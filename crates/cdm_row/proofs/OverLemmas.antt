@@ -1,17 +1,16 @@
 -- Who puts the changed Rows over those that he had has all Rows.
 use Rattle.std.proofs.Common.{◌≡◌, ◌∙◌, ℕ, Bool, true, false, List, ◌++◌, Option, None, Some, refl, sym, ap, subst, not, arith}
-use Rattle.std.proofs.lemmas.{Bool.false≢true, List.Elements.All-contains, List.Elements.Contains-append_left, List.Elements.filter_map-append}
-use Rattle.std.proofs.lemmas.{List.Elements.filter_passes, List.Sorted.Contains-permutation, List.Sorted.IsPermutation-sym, Grind.common_steps}
+use Rattle.std.proofs.lemmas.{Bool.false≢true, List.Elements.All-contains, List.Elements.Contains-append_left}
+use Rattle.std.proofs.lemmas.{List.Elements.filter_map-append, List.Elements.filter_passes, List.Sorted.Contains-permutation}
+use Rattle.std.proofs.lemmas.{List.Sorted.IsPermutation-sym, Grind.common_steps}
 use Rattle.std.specs.{Prelude.Contains, List.IsDistinct, List.find, Option.option_or}
-use Rattle.cdm_flight.proofs.Lists.{contains_all, contains_from_map, contains_kept, contains_map, distinct_filter, distinct_left, list_any-find}
-use Rattle.cdm_flight.proofs.Lists.{one_of_key}
-use Rattle.cdm_flight.specs.{Names.same_name, declared.update.Update.Update}
-use Rattle.cdm_plan.proofs.{ListWords.IsDistinct-IsPermutation, ListWords.is_some, PlanWords.is_same, PlanWords.same_flips, PlanWords.same_is}
-use Rattle.cdm_plan.proofs.NameLemmas.{find_none, find_only, find_some}
+use Rattle.cdm_flight.proofs.Lists.{contains_all, contains_from_map, contains_kept, contains_map, distinct_filter, distinct_left}
+use Rattle.cdm_flight.{proofs.Lists.{list_any-find, one_of_key}, specs.{Names.same_name, declared.update.Update.Update}}
+use Rattle.cdm_plan.proofs.{ListWords.IsDistinct-IsPermutation, ListWords.is_some, PlanWords.is_same, PlanWords.same_flips}
+use Rattle.cdm_plan.proofs.{PlanWords.same_is, NameLemmas.{find_none, find_only, find_some}}
 use Rattle.cdm_plan.specs.{Day.DayRecord, Day.flights_in, Sound.IsSound}
 use Rattle.cdm_sequence.specs.declared.plan.Plan.{Plan}
-use Rattle.cdm_row.specs.{Rows.AreRows, declared.row.Row.Row}
-use Rattle.cdm_row.specs.Changed.{Suffice, changed_rows, has_row, row_named, row_put_over, same_row}
+use Rattle.cdm_row.specs.{Rows.AreRows, declared.row.Row.Row, Changed.{Suffice, changed_rows, has_row, row_named, row_put_over}}
 use Rattle.cdm_row.proofs.{EqualRows.rows_decide, RowLemmas.flights, RowLemmas.one_row}
 
 -- it finds nothing where none passes

@@ -1,6 +1,5 @@
 -- Rows that changed: those before are passed flight by flight.
-use Rattle.std.proofs.Common.{◌≡◌, ℕ, false, List, sym, ◌∙◌, ap}
-use Rattle.std.proofs.lemmas.Bool.{false_from_ne_true, false≢true}
+use Rattle.std.proofs.{Common.{◌≡◌, ℕ, false, List, sym, ◌∙◌, ap}, lemmas.Bool.{false_from_ne_true, false≢true}}
 use Rattle.cdm_plan.proofs.PlanWords.{is_same, same_name}
 use Rattle.cdm_row.{specs.Changed.same_row, specs.declared.row.Row.Row, proofs.EqualRows.rows_decide}
 use Rattle.cdm_view.proofs.PassedLemmas as passed

@@ -1,9 +1,9 @@
 -- Each known flight has one Row, and the Rows are by name.
-use Rattle.std.proofs.Common.{◌≡◌, ◌∙◌, ◌+◌, ◌<◌, ℕ, true, List, [], ◌∷◌, ◌++◌, Option, None, Some, refl, sym, ap, subst, arith, get_or, length, map}
-use Rattle.std.proofs.Common.{take}
-use Rattle.std.proofs.lemmas.{Bool.false≢true, Grind.common_steps}
-use Rattle.std.proofs.lemmas.List.{get_or-map, length-map, Elements.filter_map-append, Sorted.Contains-permutation, Sorted.IsPermutation-sym}
-use Rattle.std.specs.{List.IsDistinct, List.cons_option, List.filter_map, Option.option_map, Ordering.is_lt}
+use Rattle.std.proofs.Common.{◌≡◌, ◌∙◌, ◌+◌, ◌<◌, ℕ, true, List, [], ◌∷◌, ◌++◌, Some, refl, sym, ap, subst, arith, get_or}
+use Rattle.std.proofs.{Common.{length, map, take}, lemmas.{Bool.false≢true, Grind.common_steps}}
+use Rattle.std.proofs.lemmas.List.{get_or-map, length-map, Elements.filter_map-append, Sorted.Contains-permutation}
+use Rattle.std.proofs.lemmas.List.{Sorted.IsPermutation-sym}
+use Rattle.std.specs.{List.IsDistinct, List.cons_option, List.filter_map, Ordering.is_lt}
 use Rattle.std.specs.Prelude.{Contains, IsPermutation, IsSortedByKey, is_some, slice_get}
 use Rattle.cdm_flight.proofs.Lists.{contains_head, contains_map, contains_tail}
 use Rattle.cdm_flight.specs.{Journal.flight_of, Names.name_cmp, Names.same_name, declared.flight.Flight.Flight}

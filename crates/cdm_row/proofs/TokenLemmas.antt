@@ -1,8 +1,8 @@
 -- Objects and arrays, written token by token.
-use Rattle.std.proofs.Common.{◌≡◌, ◌∙◌, ◌+◌, ◌++◌, ℕ, zero, suc, List, [], ◌∷◌, Some, append_assoc, refl, sym, ap, map, take, arith, get_or, length}
-use Rattle.std.proofs.Common.{◌<◌}
-use Rattle.std.proofs.lemmas.{Grind.flat_map-append, Grind.common_steps, List.append-nil, List.get_or-map, List.length-map, Option.slice_get-get_or}
-use Rattle.std.specs.{Prelude.flat_map, Prelude.slice_get, List.cons_option}
+use Rattle.std.proofs.Common.{◌≡◌, ◌∙◌, ◌+◌, ◌++◌, ℕ, zero, suc, List, [], ◌∷◌, Some, append_assoc, refl, sym, ap, map, take, arith, get_or}
+use Rattle.std.proofs.Common.{length, ◌<◌}
+use Rattle.std.proofs.lemmas.{Grind.flat_map-append, Grind.common_steps, List.append-nil, List.get_or-map, List.length-map}
+use Rattle.std.{proofs.lemmas.Option.slice_get-get_or, specs.{Prelude.flat_map, Prelude.slice_get}}
 use Rattle.json.specs.{Json.Json, Tree.items_tokens, Tree.json_tokens, Tree.members_tokens}
 use Rattle.json.specs.Token.{Token, begin_array, begin_object, end_array, end_object}
 use Rattle.cdm_plan.proofs.NameLemmas.{take-next}

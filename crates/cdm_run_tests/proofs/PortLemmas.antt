@@ -1,12 +1,8 @@
 -- What a port in memory does.
 use Rattle.std.proofs.Common.{◌≡◌, ◌≢◌, ◌≤◌, inl, ℕ, ◌==◌, ◌||◌, Bool, true, false, List, [], ◌∷◌, length, refl, sym, ◌∙◌, arith}
-use Rattle.std.proofs.lemmas.List.{append-nil}
-use Rattle.std.specs.Prelude.{OnErr, Result, Ok, Err}
+use Rattle.std.{proofs.lemmas.List.append-nil, proofs.lemmas.Bool.Decides.nat_tests, specs.Prelude.{OnErr, Result, Ok, Err}}
 use Rattle.std.specs.List.{AllByRecursion, list_any}
-use Rattle.std.proofs.lemmas.Bool.Decides.{nat_tests}
-use Rattle.cdm_port.specs.Event.{Event}
-use Rattle.cdm_port.specs.Heard.{IsLine}
-use Rattle.cdm_port.specs.Stop.{Stops}
+use Rattle.cdm_port.specs.{Event.Event, Heard.IsLine, Stop.Stops}
 
 pub on_err : {T E P : Type 0} (r : Result T E) → P → OnErr r P
 on_err (Ok x) p = tt

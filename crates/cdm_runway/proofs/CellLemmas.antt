@@ -1,8 +1,6 @@
 -- Whole cells fill the horizon.
 use Rattle.std.proofs.Common.{◌≡◌, ℕ, ◌*◌, ◌/◌, ◌%◌, ◌<◌, ◌≤◌, nat_le, nat_lt, IsTrue, sym, ap, ◌∙◌, arith, rules}
-use Rattle.std.proofs.lemmas.Bool.Decides.{nat_tests}
-use Rattle.std.proofs.lemmas.Nat.{div-add-mod', div_below, le-div}
-use Rattle.std.proofs.Math.Nat.{mul-div_cancel, mul_assoc}
+use Rattle.std.proofs.{lemmas.Bool.Decides.nat_tests, lemmas.Nat.{div-add-mod', div_below, le-div}, Math.Nat.{mul-div_cancel, mul_assoc}}
 use Rattle.cdm_flight.specs.Cells.{is_cell_length}
 
 -- a cell length is one of 1 to 60 minutes and divides the hour

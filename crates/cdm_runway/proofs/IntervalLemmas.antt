@@ -1,12 +1,10 @@
 -- Intervals in order, and the values of their places.
-use Rattle.cdm_runway.proofs.Words.{◌≡◌, ℕ, zero, suc, ◌+◌, ◌<◌, ◌≤◌, min, max, List, [], ◌∷◌, ◌++◌, length, take, replicate, get_or, refl, rules}
-use Rattle.cdm_runway.proofs.Words.{sym, arith, if◌then◌else◌, nat_tests, get_or-replicate, length-replicate, get_or_past, window_has}
-use Rattle.std.proofs.lemmas.List.{take_more, same_lists}
-use Rattle.std.proofs.lemmas.List.FromFn.{get_or-map-range_with_len, length-map-range_with_len}
+use Rattle.cdm_runway.proofs.Words.{◌≡◌, ℕ, zero, suc, ◌+◌, ◌<◌, ◌≤◌, min, max, List, [], ◌∷◌, ◌++◌, length, take, replicate, get_or, refl}
+use Rattle.cdm_runway.proofs.Words.{rules, sym, arith, if◌then◌else◌, nat_tests, get_or-replicate, length-replicate, get_or_past}
+use Rattle.cdm_runway.proofs.{Words.window_has, RangeLemmas.{get_or-with_range, length-with_range}}
 use Rattle.cdm_runway.specs.declared.intervals.Interval.{Interval}
-use Rattle.cdm_runway.specs.inner.Intervals.{value_at, values_of, AreInOrder, end_of, IsPushed, NoneAfter, IsNext}
-use Rattle.cdm_runway.specs.Rules.{with_range}
-use Rattle.cdm_runway.proofs.RangeLemmas.{get_or-with_range, length-with_range}
+use Rattle.cdm_runway.specs.{inner.Intervals.{value_at, values_of, AreInOrder, end_of, IsPushed, NoneAfter, IsNext}, Rules.with_range}
+use Rattle.std.proofs.lemmas.List.{take_more, same_lists, FromFn.{get_or-map-range_with_len, length-map-range_with_len}}
 
 module _ {V : Type 0} where
   value_at-push : (xs : List (Interval V)) (x : Interval V) (k : ℕ) (rest : V)

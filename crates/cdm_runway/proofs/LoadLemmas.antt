@@ -1,14 +1,10 @@
 -- What a load keeps of the minutes that were taken, and whom a flight meets.
-use Rattle.cdm_runway.proofs.Words.{◌≡◌, ◌≢◌, ◌⊎◌, ℕ, ◌+◌, ◌-◌, ◌<◌, ◌≤◌, max, min, MatchOption, Option, List, [], ◌∷◌, ◌++◌, length, set, subst, sym}
-use Rattle.cdm_runway.proofs.Words.{ap, ◌∙◌, inl, inr, arith, slice_index, get_or-set_at, common_steps, get_or-set_other, length-set, All-push}
-use Rattle.cdm_runway.proofs.Words.{All-weaker, Contains-append_left, Contains-append_right, Group}
+use Rattle.cdm_runway.proofs.Words.{◌≡◌, ◌≢◌, ◌⊎◌, ℕ, ◌+◌, ◌-◌, ◌<◌, ◌≤◌, max, min, MatchOption, Option, List, [], ◌∷◌, ◌++◌, length, set}
+use Rattle.cdm_runway.proofs.Words.{subst, sym, ap, ◌∙◌, inl, inr, arith, slice_index, get_or-set_at, common_steps, get_or-set_other}
+use Rattle.cdm_runway.proofs.Words.{length-set, All-push, All-weaker, Contains-append_left, Contains-append_right, Group}
+use Rattle.cdm_runway.specs.{Rules.RunwayRules, Room.IsSpaced, declared.load.Taken.Taken, inner.Tally.{AreLongest, EndsBy, IsReach}}
 use Rattle.std.specs.List.{Contains}
-use Rattle.cdm_flight.proofs.Lists.{contains_head}
-use Rattle.cdm_flight.specs.Spacing.{occupancy_of}
-use Rattle.cdm_runway.specs.Rules.{RunwayRules}
-use Rattle.cdm_runway.specs.Room.{IsSpaced}
-use Rattle.cdm_runway.specs.declared.load.Taken.{Taken}
-use Rattle.cdm_runway.specs.inner.Tally.{AreLongest, EndsBy, IsReach}
+use Rattle.cdm_flight.{proofs.Lists.contains_head, specs.Spacing.occupancy_of}
 
 -- a number that grows at one place is nowhere less
 grows : (xs : List ℕ) (i v k : ℕ) → i < length xs → slice_index xs i ≤ v → slice_index xs k ≤ slice_index (set xs i v) k

@@ -1,15 +1,11 @@
 -- What was passed over stays so, whatever else is taken.
 use Rattle.cdm_runway.proofs.Words.{common_steps, ◌≡◌, ◌⊎◌, ℕ, ◌<◌, ◌≤◌, ◌/◌, false, List, ◌++◌, get_or, sym, ◌∙◌, inl, inr, arith, rules}
-use Rattle.cdm_runway.proofs.Words.{All-contains, Contains-append_left, Contains-get_or, Group}
+use Rattle.cdm_runway.{proofs.Words.{All-contains, Contains-append_left, Contains-get_or, Group}, specs.Rules.RunwayRules}
+use Rattle.cdm_runway.specs.Room.{cap_at, held_in_cell, meets, taken_by, AllClosed, IsFree, IsSpaced}
+use Rattle.cdm_runway.specs.{Passed.{ArePassed, IsIn, IsPassed, NoneFree, NoneSpaced, passed_of, with_passed}, declared.load.Taken.Taken}
+use Rattle.cdm_runway.specs.declared.passed.{Passed.Passed, PassedOver.PassedOver, Stretch.Stretch}
 use Rattle.std.proofs.lemmas.Bool.{false≢true}
 use Rattle.cdm_flight.specs.declared.group.Group.TheVariants.{Light, Medium, Heavy}
-use Rattle.cdm_runway.specs.Rules.{RunwayRules}
-use Rattle.cdm_runway.specs.Room.{cap_at, held_in_cell, meets, taken_by, AllClosed, IsFree, IsSpaced}
-use Rattle.cdm_runway.specs.Passed.{ArePassed, IsIn, IsPassed, NoneFree, NoneSpaced, passed_of, with_passed}
-use Rattle.cdm_runway.specs.declared.load.Taken.{Taken}
-use Rattle.cdm_runway.specs.declared.passed.Passed.{Passed}
-use Rattle.cdm_runway.specs.declared.passed.PassedOver.{PassedOver}
-use Rattle.cdm_runway.specs.declared.passed.Stretch.{Stretch}
 
 module _ (r : RunwayRules) (taken more : List Taken) (group : Group) where
   -- whoever meets none of more flights meets none of them

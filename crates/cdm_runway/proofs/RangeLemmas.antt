@@ -1,6 +1,6 @@
 -- A list after a range of it was given one value.
-use Rattle.cdm_runway.proofs.Words.{◌≡◌, ℕ, ◌≤◌, List, length, get_or, arith, if◌then◌else◌, nat_tests, get_or-replicate, places, window_has}
-use Rattle.cdm_runway.specs.Rules.{with_range}
+use Rattle.cdm_runway.proofs.Words.{◌≡◌, ℕ, ◌≤◌, List, length, get_or, arith, if◌then◌else◌, nat_tests, get_or-replicate, places}
+use Rattle.cdm_runway.{proofs.Words.window_has, specs.Rules.with_range}
 
 -- what a list has at a place after a range of it was given one value
 pub get_or-with_range : {X : Type 0} (xs : List X) (from to : ℕ) (x d : X) (k : ℕ) → from ≤ to → to ≤ length xs

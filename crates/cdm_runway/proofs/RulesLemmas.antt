@@ -1,10 +1,8 @@
 -- What the rules of a runway say of its minutes.
-use Rattle.cdm_runway.proofs.Words.{common_steps, ◌≡◌, ℕ, ◌<◌, ◌≤◌, ◌/◌, ◌%◌, Bool, true, List, length, arith, ◌∙◌, rules, if◌then◌else◌, not, ◌||◌}
-use Rattle.cdm_runway.proofs.Words.{◌==◌, nat_le, nat_tests, window_has}
-use Rattle.cdm_runway.specs.Rules.{RunwayRules, AreRules, is_rate_window, with_range, with_rate, with_closed}
-use Rattle.cdm_runway.specs.Room.{cap_at, is_closed}
-use Rattle.cdm_runway.proofs.RangeLemmas.{get_or-with_range, length-with_range}
+use Rattle.cdm_runway.proofs.Words.{common_steps, ◌≡◌, ℕ, ◌<◌, ◌≤◌, ◌/◌, ◌%◌, Bool, true, List, length, arith, ◌∙◌, rules, if◌then◌else◌}
+use Rattle.cdm_runway.proofs.{Words.{not, ◌||◌, ◌==◌, nat_le, nat_tests, window_has}, RangeLemmas.{get_or-with_range, length-with_range}}
 use Rattle.cdm_runway.proofs.CellLemmas.{cell_length-divides, cell_from, cell_to}
+use Rattle.cdm_runway.specs.{Rules.{RunwayRules, AreRules, is_rate_window, with_range, with_rate, with_closed}, Room.{cap_at, is_closed}}
 
 -- a rate's window has a minute and begins and ends with a cell
 pub rate_window-says : (cell from to : ℕ) → is_rate_window cell from to ≡ true → (from < to) × (from % cell ≡ 0) × (to % cell ≡ 0)

@@ -1,13 +1,12 @@
 -- The first update that a word refuses.
-use Rattle.cdm_scenario.proofs.Words.{◌≡◌, ℕ, ◌+◌, ◌≤◌, take, length, Option, None, Some, Ok, Err, List, ◌++◌, refl, sym, ap, ◌∙◌, arith, rules}
-use Rattle.cdm_scenario.proofs.Words.{is_none, slice_get, if◌then◌else◌, option_and_then, Update, refusal_of, DayRecord, with_update}
+use Rattle.cdm_scenario.proofs.Words.{◌≡◌, ℕ, ◌+◌, ◌≤◌, take, length, Option, None, Some, Ok, Err, List, ◌++◌, refl, sym, ap, ◌∙◌, arith}
+use Rattle.cdm_scenario.proofs.Words.{rules, is_none, slice_get, if◌then◌else◌, option_and_then, Update, refusal_of, DayRecord, with_update}
+use Rattle.cdm_scenario.specs.{Overlay.{after_judged, with_updates}, Outcome.{AreTaken, IsLaid, word_at}}
+use Rattle.cdm_scenario.specs.inner.OneOutcome.{no_more, one_more}
 use borrow.Author.Count.{below_more}
 use Rattle.cdm_flight.specs.declared.word.RefusalWord.{RefusalWord}
 use Rattle.cdm_day.specs.Replies.{reply_of}
 use Rattle.cdm_plan.proofs.NameLemmas.{all_taken}
-use Rattle.cdm_scenario.specs.Overlay.{after_judged, with_updates}
-use Rattle.cdm_scenario.specs.Outcome.{AreTaken, IsLaid, word_at}
-use Rattle.cdm_scenario.specs.inner.OneOutcome.{no_more, one_more}
 use Rattle.cdm_day.specs.declared.reply.Reply.TheVariants as reply
 
 -- the day has the first k updates, and no word refused one of them

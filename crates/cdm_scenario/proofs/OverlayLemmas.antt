@@ -1,34 +1,23 @@
 -- What is laid over a day, after one more update.
-use Rattle.cdm_scenario.proofs.Words.{common_steps, ◌≡◌, ℕ, zero, suc, ◌-◌, ◌<◌, ◌≤◌, Bool, true, false, List, [], ◌∷◌, ◌++◌, length, Option, None}
-use Rattle.cdm_scenario.proofs.Words.{Some, refl, sym, ap, ◌∙◌, subst, arith, rules, unwrap_or, is_some, slice_get, if◌then◌else◌, option_and_then}
-use Rattle.cdm_scenario.proofs.Words.{option_map, option_or, append_assoc, get, Updates, Update, same_name, Flight, AirportRows, flight_of}
-use Rattle.cdm_scenario.proofs.Words.{runway_row, values_of, refusal_of, DayRecord, flights_in, rules_of, IsRunwayAt, IsSince, is_touched, Runway}
-use Rattle.cdm_scenario.proofs.Words.{TaxiRow}
-use Rattle.std.specs.List.{Contains}
-use Rattle.std.specs.Cmp.Lexicographic.{same_text}
-use Rattle.std.proofs.lemmas.Cmp.{nat_list_eq_equiv}
-use Rattle.std.proofs.lemmas.List.Sorted.{Contains-permutation, IsPermutation-sym}
-use Rattle.std.proofs.lemmas.Map.Keys.{any_passes_from_place}
+use Rattle.cdm_scenario.proofs.Words.{common_steps, ◌≡◌, ℕ, zero, suc, ◌-◌, ◌<◌, ◌≤◌, Bool, true, false, List, [], ◌∷◌, ◌++◌, length}
+use Rattle.cdm_scenario.proofs.Words.{Option, None, Some, refl, sym, ap, ◌∙◌, subst, arith, rules, unwrap_or, is_some, slice_get}
+use Rattle.cdm_scenario.proofs.Words.{if◌then◌else◌, option_and_then, option_map, option_or, append_assoc, get, Updates, Update, same_name}
+use Rattle.cdm_scenario.proofs.Words.{Flight, AirportRows, flight_of, runway_row, values_of, refusal_of, DayRecord, flights_in, rules_of}
+use Rattle.cdm_scenario.proofs.Words.{IsRunwayAt, IsSince, is_touched, Runway, TaxiRow}
+use Rattle.cdm_scenario.specs.inner.Changed.{Runways, TaxiOver, TellChanged}
+use Rattle.std.{specs.List.Contains, specs.Cmp.Lexicographic.same_text, proofs.lemmas.Cmp.nat_list_eq_equiv}
+use Rattle.std.proofs.lemmas.{List.Sorted.{Contains-permutation, IsPermutation-sym}, Map.Keys.any_passes_from_place}
 use Rattle.std.proofs.lemmas.Option.{get_or_from_slice_get, slice_get-map, slice_get_within}
-use Rattle.cdm_flight.specs.declared.airport.RunwayRow.{RunwayRow}
-use Rattle.cdm_flight.specs.declared.place.Place.{Place}
-use Rattle.cdm_flight.specs.declared.values.DayValues.{DayValues}
-use Rattle.cdm_flight.specs.Taxi.{TaxiRows, is_one_stand_too_many, stands_in}
-use Rattle.cdm_flight.proofs.JournalLemmas.{same_name-refl}
+use Rattle.cdm_flight.specs.declared.{airport.RunwayRow.RunwayRow, place.Place.Place, values.DayValues.DayValues}
+use Rattle.cdm_flight.{specs.Taxi.{TaxiRows, is_one_stand_too_many, stands_in}, proofs.JournalLemmas.same_name-refl}
 use Rattle.cdm_runway.specs.Rules.{RunwayRules}
-use Rattle.cdm_plan.specs.Sound.{IsSound, TellTaxi}
-use Rattle.cdm_plan.specs.declared.touched.Touched.{Touched}
-use Rattle.cdm_day.specs.Changes.{ChangesRunway, IsChange, has_window, with_change}
-use Rattle.cdm_day.specs.declared.change.Change.{Change}
-use Rattle.cdm_day.specs.declared.change.RunwayChange.{RunwayChange}
-use Rattle.cdm_day.specs.inner.Put.{flight_with, made_known, rows_with, rules_with, values_with}
-use Rattle.cdm_day.specs.inner.Tables.{Flights}
-use Rattle.cdm_plan.proofs.DayPlanLemmas.{record_name}
+use Rattle.cdm_plan.{specs.Sound.{IsSound, TellTaxi}, specs.declared.touched.Touched.Touched, proofs.DayPlanLemmas.record_name}
 use Rattle.cdm_plan.proofs.JournalFacts.{known-among}
 use Rattle.cdm_plan.proofs.NameLemmas.{find_some, rows_by_name, rows_permutation, rules_by_name, rules_in, runway_is}
-use Rattle.cdm_day.proofs.ChangeLemmas.{SaysWith, says_with, the_row}
-use Rattle.cdm_day.proofs.WordLemmas.{known_is, taxi-fits}
-use Rattle.cdm_scenario.specs.inner.Changed.{Runways, TaxiOver, TellChanged}
+use Rattle.cdm_day.specs.{Changes.{ChangesRunway, IsChange, has_window, with_change}, declared.change.Change.Change}
+use Rattle.cdm_day.specs.declared.change.RunwayChange.{RunwayChange}
+use Rattle.cdm_day.specs.inner.{Put.{flight_with, made_known, rows_with, rules_with, values_with}, Tables.Flights}
+use Rattle.cdm_day.proofs.{ChangeLemmas.{SaysWith, says_with, the_row}, WordLemmas.{known_is, taxi-fits}}
 
 name_of_rules : (g : AirportRows) (a : List Update) (row : RunwayRow) → (rules_of g a row).name ≡ row.name
 unfolding rules_of

@@ -1,18 +1,12 @@
 -- There is one answer of an aim.
-use Rattle.cdm_sequence.proofs.Words.{common_steps, ◌≡◌, ℕ, ◌+◌, ◌<◌, ◌≤◌, Bool, true, false, List, Option, Some, None, subst, sym, ◌∙◌, refl, arith}
-use Rattle.cdm_sequence.proofs.Words.{ap, rules, nat_tests, Key}
-use Rattle.std.proofs.Common.{◌-◌, nat_le, nat_lt, max, min}
-use Rattle.std.specs.Prelude.{if◌then◌else◌}
-use Rattle.cdm_time.specs.Windows.{window_has}
-use Rattle.cdm_time.specs.declared.tolerance.Tolerance.{Tolerance}
-use Rattle.std.specs.declared.ops.Range.{Range}
-use Rattle.cdm_flight.specs.declared.values.DayValues.{DayValues}
-use Rattle.cdm_flight.specs.declared.flight.Flight.{Flight}
-use Rattle.cdm_sequence.specs.Aims.{TaxiTimes, ready_at, exot_to, is_candidate, IsAim}
-use Rattle.cdm_sequence.specs.declared.target.Target.{Target}
-use Rattle.cdm_sequence.specs.declared.aims.AimResult.{AimResult}
-use Rattle.cdm_sequence.specs.declared.aims.AimResult.TheVariants.{Ready, Early}
+use Rattle.cdm_sequence.proofs.Words.{common_steps, ◌≡◌, ℕ, ◌+◌, ◌<◌, ◌≤◌, Bool, true, false, List, Option, Some, None, subst, sym, ◌∙◌}
+use Rattle.cdm_sequence.proofs.Words.{refl, arith, ap, rules, nat_tests, Key}
+use Rattle.cdm_sequence.specs.{Aims.{TaxiTimes, ready_at, exot_to, is_candidate, IsAim}, declared.target.Target.Target}
+use Rattle.cdm_sequence.specs.declared.aims.AimResult.{AimResult, TheVariants.{Ready, Early}}
 use Rattle.cdm_sequence.specs.declared.rule.Rule.TheVariants.{Tobt, Runway, Exot, Horizon, Ctot}
+use Rattle.std.{proofs.Common.{◌-◌, nat_le, nat_lt, max, min}, specs.Prelude.if◌then◌else◌, specs.declared.ops.Range.Range}
+use Rattle.cdm_time.specs.{Windows.window_has, declared.tolerance.Tolerance.Tolerance}
+use Rattle.cdm_flight.specs.declared.{values.DayValues.DayValues, flight.Flight.Flight}
 
 -- Windows.
 

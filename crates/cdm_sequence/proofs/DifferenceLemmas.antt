@@ -1,9 +1,8 @@
 -- Of two placings that differ one is earlier.
-use Rattle.cdm_sequence.proofs.Words.{◌≡◌, ℕ, ◌==◌, Bool, true, false, not, List, Option, Some, None, sym, ◌∙◌, inl, inr, ◌⊎◌, filter, rules}
-use Rattle.cdm_sequence.proofs.Words.{Contains, false_from_ne_true, false≢true, All-contains, filter_passes, contains_all, contains_kept, is_before}
-use Rattle.cdm_sequence.specs.Plan.{Placing, IsSooner, IsEarlier}
-use Rattle.cdm_sequence.specs.declared.target.Target.{Target}
-use Rattle.cdm_sequence.proofs.OrderLemmas.{first_in, keys_weak}
+use Rattle.cdm_sequence.proofs.Words.{◌≡◌, ℕ, ◌==◌, Bool, true, false, not, List, Option, Some, None, sym, ◌∙◌, inl, inr, ◌⊎◌, filter}
+use Rattle.cdm_sequence.proofs.Words.{rules, Contains, false_from_ne_true, false≢true, All-contains, filter_passes, contains_all}
+use Rattle.cdm_sequence.proofs.{Words.{contains_kept, is_before}, OrderLemmas.{first_in, keys_weak}}
+use Rattle.cdm_sequence.specs.{Plan.{Placing, IsSooner, IsEarlier}, declared.target.Target.Target}
 
 abbrev unlike : Option ℕ → Option ℕ → Bool
 unlike None None = false

@@ -1,9 +1,7 @@
 -- Values that `==` finds equal are equal, and only those.
 use Rattle.cdm_sequence.proofs.Words.{◌≡◌, ◌&&◌, ℕ, Bool, Option, rules, Decides, option_eq, Decides-and, Decides-eqb, Decides-like}
+use Rattle.cdm_sequence.{proofs.OrderLemmas.names_decide, specs.declared.slot.Mark.Mark, specs.declared.slot.Slot.Slot}
 use Rattle.cdm_flight.specs.declared.group.Group.{Group}
-use Rattle.cdm_sequence.specs.declared.slot.Mark.{Mark}
-use Rattle.cdm_sequence.specs.declared.slot.Slot.{Slot}
-use Rattle.cdm_sequence.proofs.OrderLemmas.{names_decide}
 use Rattle.cdm_time.specs.contracts.minute.MinutePartialEq.TheImpl as minute_eq
 use Rattle.cdm_flight.specs.contracts.group.GroupPartialEq.TheImpl as group_eq
 use Rattle.cdm_sequence.specs.contracts.slot.MarkPartialEq.TheImpl as mark_eq

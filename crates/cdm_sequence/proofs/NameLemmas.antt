@@ -1,15 +1,10 @@
 -- The names that a sequence shows.
-use Rattle.cdm_sequence.proofs.Words.{rules, [], ◌≡◌, ℕ, not, List, ◌∷◌, ◌++◌, Option, Some, None, is_none, sym, ◌∙◌, ap, subst, refl, filter, map}
-use Rattle.cdm_sequence.proofs.Words.{append_assoc, filter_map, IsPermutation, is_some, option_map, map-append, IsPermutation-append}
-use Rattle.cdm_sequence.proofs.Words.{IsPermutation-append_right, IsPermutation-map, IsPermutation-trans, RunwayRules}
-use Rattle.std.proofs.Common.{IfSome}
-use Rattle.std.proofs.lemmas.List.Sorted.{IsPermutation-filter_both}
-use Rattle.cdm_sequence.specs.Plan.{Placing}
-use Rattle.cdm_sequence.specs.Sequence.{planned_slot, flight_names, IsSequence}
-use Rattle.cdm_sequence.specs.declared.plan.RunwayPlan.{RunwayPlan}
-use Rattle.cdm_sequence.specs.declared.slot.Slot.{Slot}
-use Rattle.cdm_sequence.specs.declared.target.Target.{Target}
-use Rattle.cdm_sequence.specs.inner.Shown.{slots_by, names_left}
+use Rattle.cdm_sequence.proofs.Words.{rules, [], ◌≡◌, ℕ, not, List, ◌∷◌, ◌++◌, Option, Some, None, is_none, sym, ◌∙◌, ap, subst, refl}
+use Rattle.cdm_sequence.proofs.Words.{filter, map, append_assoc, filter_map, IsPermutation, is_some, option_map, map-append}
+use Rattle.cdm_sequence.proofs.Words.{IsPermutation-append, IsPermutation-append_right, IsPermutation-map, IsPermutation-trans, RunwayRules}
+use Rattle.cdm_sequence.specs.{Plan.Placing, Sequence.{planned_slot, flight_names, IsSequence}, declared.plan.RunwayPlan.RunwayPlan}
+use Rattle.cdm_sequence.specs.{declared.slot.Slot.Slot, declared.target.Target.Target, inner.Shown.{slots_by, names_left}}
+use Rattle.std.proofs.{Common.IfSome, lemmas.List.Sorted.IsPermutation-filter_both}
 
 -- the names of what flights give are those of the flights that give something
 pub names_given : {X Y : Type 0} (name : Y → List ℕ) (key : X → List ℕ) (h : X → Option Y) → ((f : X) → IfSome (h f) (λ y. name y ≡ key f))

@@ -1,27 +1,20 @@
 -- A runway has one sequence, in whatever order its flights stand.
-use Rattle.cdm_sequence.proofs.Words.{rules, ◌≡◌, ℕ, ◌/◌, ◌==◌, Bool, false, cond, List, Option, is_none, sym, ◌∙◌, ap, subst, arith, filter, map}
-use Rattle.cdm_sequence.proofs.Words.{get_or, Ordering, Equal, is_lt, nat_cmp, IsTotalOrder, Contains, IsDistinct, IsPermutation, IsSortedBy}
-use Rattle.cdm_sequence.proofs.Words.{option_map, nat_cmp_total, nat_list_cmp_total, on_total, then_total, All-contains, All-weaker, ranks_by}
-use Rattle.cdm_sequence.proofs.Words.{All-permutation, Contains-permutation, IsPermutation-sym, IsPermutation-trans, IsPermutation-append}
-use Rattle.cdm_sequence.proofs.Words.{IsPermutation-map, IsDistinct-IsPermutation, name_cmp, same_name, is_before, filter_map_same}
-use Rattle.cdm_sequence.proofs.Words.{IsPermutation-filter_map, IsPermutation-filter, distinct_right, one_of_key, RunwayRules, held_in_cell, meets}
-use Rattle.cdm_sequence.proofs.Words.{taken_by, IsFree, IsSpaced, Taken}
-use Rattle.std.proofs.lemmas.List.Sorted.{sum_by-IsPermutation}
-use Rattle.cdm_flight.proofs.Lists.{filter_same, sum_map, sorted_one, distinct_left}
-use Rattle.cdm_sequence.specs.Fixed.{takeoffs}
+use Rattle.cdm_sequence.proofs.Words.{rules, ◌≡◌, ℕ, ◌/◌, ◌==◌, Bool, false, cond, List, Option, is_none, sym, ◌∙◌, ap, subst, arith}
+use Rattle.cdm_sequence.proofs.Words.{filter, map, get_or, Ordering, Equal, is_lt, nat_cmp, IsTotalOrder, Contains, IsDistinct}
+use Rattle.cdm_sequence.proofs.Words.{IsPermutation, IsSortedBy, option_map, nat_cmp_total, nat_list_cmp_total, on_total, then_total}
+use Rattle.cdm_sequence.proofs.Words.{All-contains, All-weaker, ranks_by, All-permutation, Contains-permutation, IsPermutation-sym}
+use Rattle.cdm_sequence.proofs.Words.{IsPermutation-trans, IsPermutation-append, IsPermutation-map, IsDistinct-IsPermutation, name_cmp}
+use Rattle.cdm_sequence.proofs.Words.{same_name, is_before, filter_map_same, IsPermutation-filter_map, IsPermutation-filter, distinct_right}
+use Rattle.cdm_sequence.proofs.Words.{one_of_key, RunwayRules, held_in_cell, meets, taken_by, IsFree, IsSpaced, Taken}
+use Rattle.cdm_sequence.proofs.{NameLemmas.shown_by, OrderLemmas.{same_flips, is_same, tied_names, last_ties}}
+use Rattle.cdm_sequence.{proofs.PlanLemmas.{plan_agree, plan_one, taken_agree}, specs.Fixed.takeoffs}
 use Rattle.cdm_sequence.specs.Plan.{Placing, taken_before, taken_of, IsLeast}
 use Rattle.cdm_sequence.specs.Sequence.{planned_slot, flight_names, Blocks, IsRightlyBlocked, IsSequenceBy, IsSequence}
-use Rattle.cdm_sequence.specs.inner.Shown.{slots_by, names_left}
-use Rattle.cdm_sequence.specs.Slots.{slot_cmp}
-use Rattle.cdm_sequence.specs.declared.plan.RunwayPlan.{RunwayPlan}
-use Rattle.cdm_sequence.specs.declared.slot.Slot.{Slot}
-use Rattle.cdm_sequence.specs.declared.target.Target.{Target}
-use Rattle.cdm_sequence.specs.declared.rule.Rule.{Rule}
-use Rattle.cdm_sequence.specs.declared.rule.Rule.TheVariants.{Closure, Spacing, Rate}
-use Rattle.cdm_sequence.specs.declared.slot.BlockedFlight.{BlockedFlight}
-use Rattle.cdm_sequence.proofs.NameLemmas.{shown_by}
-use Rattle.cdm_sequence.proofs.OrderLemmas.{same_flips, is_same, tied_names, last_ties}
-use Rattle.cdm_sequence.proofs.PlanLemmas.{plan_agree, plan_one, taken_agree}
+use Rattle.cdm_sequence.specs.{inner.Shown.{slots_by, names_left}, Slots.slot_cmp, declared.plan.RunwayPlan.RunwayPlan}
+use Rattle.cdm_sequence.specs.declared.{slot.Slot.Slot, target.Target.Target, rule.Rule.Rule}
+use Rattle.cdm_sequence.specs.declared.{rule.Rule.TheVariants.{Closure, Spacing, Rate}, slot.BlockedFlight.BlockedFlight}
+use Rattle.std.proofs.lemmas.List.Sorted.{sum_by-IsPermutation}
+use Rattle.cdm_flight.proofs.Lists.{filter_same, sum_map, sorted_one, distinct_left}
 
 -- Any order.
 

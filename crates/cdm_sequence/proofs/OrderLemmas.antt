@@ -1,13 +1,11 @@
 -- The order of sequence is a strict order, total on different names.
-use Rattle.cdm_sequence.proofs.Words.{◌≡◌, ℕ, Bool, true, false, List, ◌∷◌, sym, ◌∙◌, ap, refl, arith, inl, inr, ◌⊎◌, get_or, rules, [], Decides}
-use Rattle.cdm_sequence.proofs.Words.{Ordering, Less, Equal, Greater, is_lt, is_eq, ordering_reverse, ordering_then, nat_cmp, IsTotalOrder}
-use Rattle.cdm_sequence.proofs.Words.{IsStrictWeakOrder, Contains, All-contains, All-from_get_or, Contains-get_or, ranks_by, nat_cmp_total}
-use Rattle.cdm_sequence.proofs.Words.{nat_list_cmp_total, nat_list_eq_equiv, on_total, then_total, tied_itself, false≢true, Decides-eqb, Key}
-use Rattle.cdm_sequence.proofs.Words.{name_cmp, same_name, key_cmp, is_before}
-use Rattle.std.specs.Cmp.Lexicographic.{texts_ties}
-use Rattle.std.proofs.lemmas.List.MinMax.{IsFirstBest-from_best_of}
+use Rattle.cdm_sequence.proofs.Words.{◌≡◌, ℕ, Bool, true, false, List, ◌∷◌, sym, ◌∙◌, ap, refl, arith, inl, inr, ◌⊎◌, get_or, rules, []}
+use Rattle.cdm_sequence.proofs.Words.{Decides, Ordering, Less, Equal, Greater, is_lt, is_eq, ordering_reverse, ordering_then, nat_cmp}
+use Rattle.cdm_sequence.proofs.Words.{IsTotalOrder, IsStrictWeakOrder, Contains, All-contains, All-from_get_or, Contains-get_or, ranks_by}
+use Rattle.cdm_sequence.proofs.Words.{nat_cmp_total, nat_list_cmp_total, nat_list_eq_equiv, on_total, then_total, tied_itself, false≢true}
+use Rattle.cdm_sequence.{proofs.Words.{Decides-eqb, Key, name_cmp, same_name, key_cmp, is_before}, specs.declared.target.Target.Target}
+use Rattle.std.{specs.Cmp.Lexicographic.texts_ties, proofs.lemmas.List.MinMax.IsFirstBest-from_best_of}
 use Rattle.std.proofs.lemmas.Slice.Eq.{slice_eq-Decides}
-use Rattle.cdm_sequence.specs.declared.target.Target.{Target}
 
 pub names_decide : (m n : List ℕ) → Decides (same_name m n) (m ≡ n)
 names_decide m n = slice_eq-Decides Decides-eqb m n (same_name m n) refl

@@ -1,20 +1,17 @@
 -- What holds of a plan, whoever made it: it is the only one, it is allowed, and no allowed placing is earlier.
-use Rattle.cdm_sequence.proofs.Words.{common_steps, ◌≡◌, ℕ, ◌+◌, ◌<◌, ◌≤◌, ◌/◌, ◌==◌, ◌&&◌, Bool, true, false, not, List, ◌∷◌, ◌++◌, Option, Some}
-use Rattle.cdm_sequence.proofs.Words.{None, rules, [], sym, ◌∙◌, ap, subst, refl, arith, inl, inr, filter, map, length, get_or, filter_map, Contains}
-use Rattle.cdm_sequence.proofs.Words.{IsDistinct, option_map, option_map_or, false≢true, and_parts, not-true, true_from_ne_false, Decides-eqb}
-use Rattle.cdm_sequence.proofs.Words.{All-contains, Contains-get_or, filter_passes, same_name, is_before, apart_from_head, contains_all}
-use Rattle.cdm_sequence.proofs.Words.{contains_kept, contains_head, contains_tail, filter_map_same, RunwayRules, cap_at, held_in_cell, taken_by}
-use Rattle.cdm_sequence.proofs.Words.{IsFree, Taken}
-use Rattle.std.proofs.Common.{count_by, eq-eqb}
-use Rattle.std.specs.Prelude.{slice_index}
-use Rattle.std.specs.Option.{IfSome}
-use Rattle.std.proofs.lemmas.List.Sums.{sum_by-append}
-use Rattle.cdm_flight.proofs.Lists.{distinct_filter}
-use Rattle.cdm_sequence.specs.Plan.{Placing, taken_before, taken_of, IsLeast, IsPlan, MayHave, IsAllowed, IsSooner, IsEarlier, IsFirst}
-use Rattle.cdm_sequence.specs.declared.target.Target.{Target}
+use Rattle.cdm_sequence.proofs.Words.{common_steps, ◌≡◌, ℕ, ◌+◌, ◌<◌, ◌≤◌, ◌/◌, ◌==◌, ◌&&◌, Bool, true, false, not, List, ◌∷◌, ◌++◌, Option}
+use Rattle.cdm_sequence.proofs.Words.{Some, None, rules, [], sym, ◌∙◌, ap, subst, refl, arith, inl, inr, filter, map, length, get_or}
+use Rattle.cdm_sequence.proofs.Words.{filter_map, Contains, IsDistinct, option_map, option_map_or, false≢true, and_parts, not-true}
+use Rattle.cdm_sequence.proofs.Words.{true_from_ne_false, Decides-eqb, All-contains, Contains-get_or, filter_passes, same_name, is_before}
+use Rattle.cdm_sequence.proofs.Words.{apart_from_head, contains_all, contains_kept, contains_head, contains_tail, filter_map_same}
+use Rattle.cdm_sequence.proofs.Words.{RunwayRules, cap_at, held_in_cell, taken_by, IsFree, Taken}
 use Rattle.cdm_sequence.proofs.OrderLemmas.{before_itself, before_or_after, first_in, is_same, keys_weak, same_is}
 use Rattle.cdm_sequence.proofs.DifferenceLemmas.{compared}
-use Rattle.std.proofs.lemmas.List.Sorted.{IsStrictWeakOrder-flip}
+use Rattle.cdm_sequence.specs.Plan.{Placing, taken_before, taken_of, IsLeast, IsPlan, MayHave, IsAllowed, IsSooner, IsEarlier, IsFirst}
+use Rattle.cdm_sequence.specs.declared.target.Target.{Target}
+use Rattle.std.proofs.{Common.{count_by, eq-eqb}, lemmas.List.Sums.sum_by-append, lemmas.List.Sorted.IsStrictWeakOrder-flip}
+use Rattle.std.specs.{Prelude.slice_index, Option.IfSome}
+use Rattle.cdm_flight.proofs.Lists.{distinct_filter}
 
 -- placings that agree on the flights before f leave it the same
 pub taken_agree : (r : RunwayRules) (fixed : List Taken) (ts : List Target) (p q : Placing) (f : Target)

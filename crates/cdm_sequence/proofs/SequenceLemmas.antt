@@ -1,33 +1,23 @@
 -- What decisions that were made one after another show is the runway's sequence.
-use Rattle.cdm_sequence.proofs.Words.{common_steps, ◌≡◌, ℕ, ◌+◌, ◌≤◌, Bool, true, false, cond, List, ◌∷◌, ◌++◌, Option, [], sym, ◌∙◌, ap, subst, refl}
-use Rattle.cdm_sequence.proofs.Words.{arith, inl, inr, filter, map, length, get_or, append_assoc, rules, filter_map, AllPairs, Contains, IsDistinct}
-use Rattle.cdm_sequence.proofs.Words.{IsPermutation, IsSortedByKey, IsSorted, option_and_then, option_map, option_to_list, nat_list_eq_equiv}
-use Rattle.cdm_sequence.proofs.Words.{append-nil, All-contains, Contains-get_or, All-permutation, length_permutation, IsPermutation-sym}
-use Rattle.cdm_sequence.proofs.Words.{IsPermutation-map, IsDistinct-IsPermutation, apart_from_distinct, name_cmp, same_name, key_cmp, is_before}
-use Rattle.cdm_sequence.proofs.Words.{contains_cases, contains_from_map, contains_head, contains_tail, All-given, filter_map_same, distinct_right}
-use Rattle.cdm_sequence.proofs.Words.{RunwayRules, taken_by, Gives, Taken}
-use Rattle.std.proofs.Common.{suc, IfSome, Result, Ok, Err, length-append}
+use Rattle.cdm_sequence.proofs.Words.{common_steps, ◌≡◌, ℕ, ◌+◌, ◌≤◌, Bool, true, false, cond, List, ◌∷◌, ◌++◌, Option, [], sym, ◌∙◌, ap}
+use Rattle.cdm_sequence.proofs.Words.{subst, refl, arith, inl, inr, filter, map, length, get_or, append_assoc, rules, filter_map, AllPairs}
+use Rattle.cdm_sequence.proofs.Words.{Contains, IsDistinct, IsPermutation, IsSortedByKey, IsSorted, option_and_then, option_map}
+use Rattle.cdm_sequence.proofs.Words.{option_to_list, nat_list_eq_equiv, append-nil, All-contains, Contains-get_or, All-permutation}
+use Rattle.cdm_sequence.proofs.Words.{length_permutation, IsPermutation-sym, IsPermutation-map, IsDistinct-IsPermutation}
+use Rattle.cdm_sequence.proofs.Words.{apart_from_distinct, name_cmp, same_name, key_cmp, is_before, contains_cases, contains_from_map}
+use Rattle.cdm_sequence.proofs.Words.{contains_head, contains_tail, All-given, filter_map_same, distinct_right, RunwayRules, taken_by}
+use Rattle.cdm_sequence.proofs.{Words.{Gives, Taken}, OneLemmas.reordered}
+use Rattle.cdm_sequence.{proofs.OrderLemmas.{before_itself, before_or_after, keys_weak, not_back, same_flips}, specs.Fixed.takeoffs}
+use Rattle.cdm_sequence.specs.Plan.{Placing, taken_before, taken_of, IsLeast}
+use Rattle.cdm_sequence.specs.{Sequence.{planned_slot, flight_names, Blocks, IsRightlyBlocked, IsSequence}, inner.Shown.names_left}
+use Rattle.cdm_sequence.specs.{inner.Turns.{placed_at, taken_in, blocked_from, IsDecided, AreDecided}, Slots.slot_cmp}
+use Rattle.cdm_sequence.specs.{declared.plan.RunwayPlan.RunwayPlan, declared.slot.Slot.Slot, declared.target.Target.Target, Words.rule_for}
+use Rattle.cdm_sequence.specs.declared.{decision.Decision.Decision, slot.BlockedFlight.BlockedFlight}
+use Rattle.std.proofs.{Common.{suc, IfSome, Result, Ok, Err, length-append}, lemmas.List.Elements.filter_map-append}
+use Rattle.std.proofs.lemmas.{List.Sorted.{sorted_far, IsPermutation-refl}, Map.Views.lookup-from_Contains, Simd.map-map}
 use Rattle.std.specs.Map.{lookup}
-use Rattle.std.proofs.lemmas.List.Elements.{filter_map-append}
-use Rattle.std.proofs.lemmas.List.Sorted.{sorted_far, IsPermutation-refl}
-use Rattle.std.proofs.lemmas.Map.Views.{lookup-from_Contains}
-use Rattle.std.proofs.lemmas.Simd.{map-map}
 use Rattle.cdm_flight.proofs.Lists.{contains_map, filter_map-map, filter_map_cons, distinct_by}
 use Rattle.cdm_runway.specs.declared.load.Blocked.{Blocked}
-use Rattle.cdm_sequence.specs.Fixed.{takeoffs}
-use Rattle.cdm_sequence.specs.Plan.{Placing, taken_before, taken_of, IsLeast}
-use Rattle.cdm_sequence.specs.Sequence.{planned_slot, flight_names, Blocks, IsRightlyBlocked, IsSequence}
-use Rattle.cdm_sequence.specs.inner.Shown.{names_left}
-use Rattle.cdm_sequence.specs.inner.Turns.{placed_at, taken_in, blocked_from, IsDecided, AreDecided}
-use Rattle.cdm_sequence.specs.Slots.{slot_cmp}
-use Rattle.cdm_sequence.specs.declared.plan.RunwayPlan.{RunwayPlan}
-use Rattle.cdm_sequence.specs.declared.slot.Slot.{Slot}
-use Rattle.cdm_sequence.specs.declared.target.Target.{Target}
-use Rattle.cdm_sequence.specs.Words.{rule_for}
-use Rattle.cdm_sequence.specs.declared.decision.Decision.{Decision}
-use Rattle.cdm_sequence.specs.declared.slot.BlockedFlight.{BlockedFlight}
-use Rattle.cdm_sequence.proofs.OneLemmas.{reordered}
-use Rattle.cdm_sequence.proofs.OrderLemmas.{before_itself, before_or_after, keys_weak, not_back, same_flips}
 
 abbrev pub targets_of : List Decision → List Target
 targets_of ds = map (λ d. d.target) ds

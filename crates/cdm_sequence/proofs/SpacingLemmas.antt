@@ -1,15 +1,12 @@
 -- Asking each flight against those before it is asking all pairs.
-use Rattle.cdm_sequence.proofs.Words.{common_steps, ◌≡◌, ℕ, ◌+◌, Bool, true, false, List, ◌∷◌, ◌++◌, Option, Some, None, sym, ◌∙◌, ap, subst, refl}
-use Rattle.cdm_sequence.proofs.Words.{arith, inl, inr, map, filter, get_or, [], Contains, IsDistinct, cons_option, filter_map, option_map, false≢true}
-use Rattle.cdm_sequence.proofs.Words.{All-append, All-contains, Contains-get_or, filter_passes, same_name, is_before, All-given, contains_all}
-use Rattle.cdm_sequence.proofs.Words.{contains_cases, contains_head, contains_kept, contains_tail, one_of_key, RunwayRules, IsSpaced, meets, taken_by}
-use Rattle.cdm_sequence.proofs.Words.{Taken}
-use Rattle.std.specs.Prelude.{nat_lt}
-use Rattle.std.specs.Option.{IfSome}
-use Rattle.std.proofs.Math.Nat.{max_comm, min_comm}
-use Rattle.cdm_sequence.specs.Plan.{IsSpacedInOrder, IsSpacedInPairs, Placing, taken_before, taken_of}
-use Rattle.cdm_sequence.specs.declared.target.Target.{Target}
+use Rattle.cdm_sequence.proofs.Words.{common_steps, ◌≡◌, ℕ, ◌+◌, Bool, true, false, List, ◌∷◌, ◌++◌, Option, Some, None, sym, ◌∙◌, ap}
+use Rattle.cdm_sequence.proofs.Words.{subst, refl, arith, inl, inr, map, filter, get_or, [], Contains, IsDistinct, cons_option, filter_map}
+use Rattle.cdm_sequence.proofs.Words.{option_map, false≢true, All-append, All-contains, Contains-get_or, filter_passes, same_name}
+use Rattle.cdm_sequence.proofs.Words.{is_before, All-given, contains_all, contains_cases, contains_head, contains_kept, contains_tail}
+use Rattle.cdm_sequence.proofs.Words.{one_of_key, RunwayRules, IsSpaced, meets, taken_by, Taken}
 use Rattle.cdm_sequence.proofs.OrderLemmas.{before_itself, before_or_after, same_flips}
+use Rattle.cdm_sequence.specs.{Plan.{IsSpacedInOrder, IsSpacedInPairs, Placing, taken_before, taken_of}, declared.target.Target.Target}
+use Rattle.std.{specs.Prelude.nat_lt, specs.Option.IfSome, proofs.Math.Nat.{max_comm, min_comm}}
 
 meets_flips : (s t : Taken) → meets s t ≡ meets t s
 meets_flips s t = λ i. nat_lt (max_comm s.minute t.minute i) (min_comm (s.minute + s.occupancy) (t.minute + t.occupancy) i)

@@ -1,15 +1,10 @@
 -- What a line asks for, and what is done then.
-use Rattle.std.proofs.Common.{◌≡◌, ℕ, Bool, true, false, Result, Ok, Err, List, refl}
-use Rattle.std.specs.Prelude.{if◌then◌else◌, bytes_eq, codes}
+use Rattle.std.{proofs.Common.{◌≡◌, ℕ, Bool, true, false, Result, Ok, Err, List, refl}, specs.Prelude.{if◌then◌else◌, bytes_eq, codes}}
 use Rattle.cdm_time.specs.declared.calendar.CalendarDate.{CalendarDate}
-use Rattle.cdm_files.specs.Fields.{field}
-use Rattle.cdm_files.specs.Parsing.{parse_of}
+use Rattle.cdm_files.specs.{Fields.field, Parsing.parse_of}
 use Rattle.cdm_flight.specs.declared.word.RefusalWord.{RefusalWord}
-use Rattle.cdm_journal.specs.Lines.{LineRecord}
-use Rattle.cdm_journal.specs.Lines.LineRecord.{Blank, One, Several}
-use Rattle.cdm_serve.specs.Requests.{asked_by, request_in, request_of}
-use Rattle.cdm_serve.specs.declared.asked.Asked.{Asked}
-use Rattle.cdm_serve.specs.declared.request.Request.{Request}
+use Rattle.cdm_journal.specs.Lines.{LineRecord, LineRecord.{Blank, One, Several}}
+use Rattle.cdm_serve.specs.{Requests.{asked_by, request_in, request_of}, declared.asked.Asked.Asked, declared.request.Request.Request}
 use Rattle.cdm_serve.specs.declared.request.Request.TheVariants.{Ask, Nothing, Post}
 
 module _ (P : Request → Type 0) (day : CalendarDate) (fields : List (List ℕ)) (asked : (asked : Asked) → P (Ask asked)) (refused : (word : RefusalWord) → P (Post (Err word))) where

@@ -1,17 +1,12 @@
 -- The journal from the start of a served day on.
 use Rattle.std.proofs.Common.{◌≡◌, ◌⊎◌, inl, inr, ℕ, Bool, Option, None, List, [], ◌∷◌, ◌++◌, length, drop, refl, sym, subst, append_assoc}
 use Rattle.std.proofs.lemmas.List.{append-nil}
-use Rattle.cdm_files.specs.FeedDay.{accepted_in, refusals_in}
-use Rattle.cdm_files.specs.Records.{records_of}
+use Rattle.cdm_files.specs.{FeedDay.{accepted_in, refusals_in}, Records.records_of}
 use Rattle.cdm_flight.specs.Journal.{AirportRows}
-use Rattle.cdm_journal.specs.Journal.{journal_text}
-use Rattle.cdm_journal.specs.Laws.{Make}
-use Rattle.cdm_journal.proofs.ReadLemmas.{feed-makes}
+use Rattle.cdm_journal.{specs.Journal.journal_text, specs.Laws.Make, proofs.ReadLemmas.feed-makes}
 use Rattle.cdm_kinds.specs.declared.format.Format.{Format}
 use Rattle.cdm_plan.specs.Day.{DayRecord}
-use Rattle.cdm_port.specs.Event.{Event}
-use Rattle.cdm_port.specs.Event.Event.{Flushed, LeftOut, Marked, Read, Renamed, Replied, Synced}
-use Rattle.cdm_port.specs.Stop.{IsStopOf}
+use Rattle.cdm_port.specs.{Event.Event, Event.Event.{Flushed, LeftOut, Marked, Read, Renamed, Replied, Synced}, Stop.IsStopOf}
 use Rattle.cdm_port.proofs.Stops.{earlier}
 use Rattle.cdm_serve.specs.Disk.{Disk, IsAmong, MayBeLeft, disk_after, disk_with, found}
 use Rattle.cdm_serve.specs.Promises.{HasAll, IsKept, IsReadAs, rows_of, told, untold, updates_of}

@@ -1,38 +1,24 @@
 -- At each moment of a served day the journal has what was told.
-use Rattle.std.proofs.Common.{◌≡◌, ◌==◌, inl, inr, ℕ, Bool, true, false, Option, None, Some, Ok, Err, List, [], ◌∷◌, ◌++◌, length, refl, sym, ◌∙◌, ap, subst, append_assoc}
-use Rattle.std.specs.Prelude.{⊤, ◌≢◌}
-use Rattle.std.specs.List.{AllByRecursion}
-use Rattle.std.proofs.lemmas.Bool.{ne_eqb, or_from}
-use Rattle.std.proofs.lemmas.List.{append-nil, append_cancel_left, drop_all}
-use Rattle.std.proofs.lemmas.List.Prefix.{front_fits, front_rest}
+use Rattle.std.proofs.Common.{◌≡◌, ◌==◌, inl, inr, ℕ, Bool, true, false, Option, None, Some, Ok, Err, List, [], ◌∷◌, ◌++◌, length, refl}
+use Rattle.std.proofs.{Common.{sym, ◌∙◌, ap, subst, append_assoc}, lemmas.Bool.{ne_eqb, or_from}}
+use Rattle.std.proofs.lemmas.List.{append-nil, append_cancel_left, drop_all, Prefix.{front_fits, front_rest}}
+use Rattle.std.specs.{Prelude.{⊤, ◌≢◌}, List.AllByRecursion}
 use Rattle.cdm_time.specs.declared.calendar.CalendarDate.{CalendarDate}
-use Rattle.cdm_files.specs.FeedDay.{accepted_in, refusals_in}
-use Rattle.cdm_files.specs.Parsing.{parse_of}
-use Rattle.cdm_files.specs.Records.{records_of}
-use Rattle.cdm_flight.specs.Accepted.{refusal}
-use Rattle.cdm_flight.specs.Journal.{AirportRows}
-use Rattle.cdm_flight.specs.declared.role.Role.{Role}
-use Rattle.cdm_flight.specs.declared.update.Update.{Update}
+use Rattle.cdm_files.specs.{FeedDay.{accepted_in, refusals_in}, Parsing.parse_of, Records.records_of}
+use Rattle.cdm_flight.specs.{Accepted.refusal, Journal.AirportRows, declared.role.Role.Role, declared.update.Update.Update}
 use Rattle.cdm_flight.specs.declared.word.RefusalWord.{RefusalWord}
-use Rattle.cdm_journal.specs.Journal.{has_line_feed, journal_line, journal_text}
-use Rattle.cdm_journal.specs.Laws.{IsTaken, Make}
-use Rattle.cdm_journal.specs.Lines.{LineRecord, line_record}
-use Rattle.cdm_journal.specs.Lines.LineRecord.{Blank, One, Several}
-use Rattle.cdm_journal.proofs.ReadLemmas.{adds-line, adds-update, has-updates, reads-back}
+use Rattle.cdm_journal.specs.{Journal.{has_line_feed, journal_line, journal_text}, Laws.{IsTaken, Make}, Lines.{LineRecord, line_record}}
+use Rattle.cdm_journal.{specs.Lines.LineRecord.{Blank, One, Several}, proofs.ReadLemmas.{adds-line, adds-update, has-updates, reads-back}}
 use Rattle.cdm_journal.proofs.WholeLemmas.{is-whole, leaves-torn}
 use Rattle.cdm_kinds.specs.declared.format.Format.{Format}
 use Rattle.cdm_plan.specs.Day.{DayRecord}
-use Rattle.cdm_port.specs.Event.{Event}
-use Rattle.cdm_port.specs.Event.Event.{Appended, Broken, End, Flushed, Line, Replied, Synced}
-use Rattle.cdm_port.specs.Heard.{IsLine}
+use Rattle.cdm_port.specs.{Event.Event, Event.Event.{Appended, Broken, End, Flushed, Line, Replied, Synced}, Heard.IsLine}
 use Rattle.cdm_port.specs.Stop.{IsPrefix, IsStopOf, IsTorn}
 use Rattle.cdm_serve.specs.Disk.{Disk, IsAmong, MayBeLeft, disk_after, found}
-use Rattle.cdm_serve.specs.Promises.{HasAll, IsReadAs, rows_of, told, untold, updates_of}
-use Rattle.cdm_serve.specs.Requests.{request_in}
+use Rattle.cdm_serve.specs.{Promises.{HasAll, IsReadAs, rows_of, told, untold, updates_of}, Requests.request_in}
 use Rattle.cdm_serve.specs.Served.{AreReplies, Exchange, IsHeard, answered, line_of, said, served, start_text, told_of}
 use Rattle.cdm_serve.specs.Taken.{TakenRecord, after, day_with, record_heard, taken, taken_of, unless_refused}
-use Rattle.cdm_serve.specs.declared.request.Request.{Request}
-use Rattle.cdm_serve.specs.declared.request.Request.TheVariants.{Ask, Nothing, Post}
+use Rattle.cdm_serve.specs.declared.request.Request.{Request, TheVariants.{Ask, Nothing, Post}}
 use Rattle.cdm_serve.proofs.AnswerLemmas.{asks}
 
 -- Taken records.

@@ -2,20 +2,13 @@
 use Rattle.std.proofs.Common.{◌≡◌, ◌⊎◌, inl, inr, ℕ, Bool, Option, None, Some, List, [], ◌∷◌, ◌++◌, refl, sym, subst}
 use Rattle.std.proofs.lemmas.List.{append-nil}
 use Rattle.cdm_files.specs.FeedDay.{accepted_in, refusals_in}
-use Rattle.cdm_flight.specs.Journal.{AirportRows}
-use Rattle.cdm_flight.specs.declared.update.Update.{Update}
+use Rattle.cdm_flight.specs.{Journal.AirportRows, declared.update.Update.Update}
 use Rattle.cdm_kinds.specs.declared.format.Format.{Format}
-use Rattle.cdm_port.specs.Event.{Event}
-use Rattle.cdm_port.specs.Event.Event.{Read}
-use Rattle.cdm_port.specs.Stop.{IsStopOf}
-use Rattle.cdm_port.proofs.Stops.{front}
+use Rattle.cdm_port.{specs.Event.Event, specs.Event.Event.Read, specs.Stop.IsStopOf, proofs.Stops.front}
 use Rattle.cdm_serve.specs.Disk.{Disk, MayBeLeft, disk_after, found}
 use Rattle.cdm_serve.specs.Life.{AreAllOrOneMore, AreKept, Finds, IsLife, Start, disk_of, told_since, untold_since}
-use Rattle.cdm_serve.specs.Promises.{HasAll, untold, updates_of}
-use Rattle.cdm_serve.specs.Served.{IsStopped, start_text}
-use Rattle.cdm_serve.specs.Taken.{TakenRecord}
-use Rattle.cdm_serve.proofs.Begun.{IsGood, always_good}
-use Rattle.cdm_serve.proofs.Kept.{only_text}
+use Rattle.cdm_serve.specs.{Promises.{HasAll, untold, updates_of}, Served.{IsStopped, start_text}, Taken.TakenRecord}
+use Rattle.cdm_serve.proofs.{Begun.{IsGood, always_good}, Kept.only_text}
 
 -- the first that happens is that the journal is read
 abbrev Begins : List Event → Type 0

@@ -1,24 +1,19 @@
 -- A day that is served, line by line and to the end of the input.
-use Rattle.std.proofs.Common.{◌≡◌, inl, inr, ℕ, ◌+◌, ◌≤◌, ◌^◌, Option, None, Some, cond, count_by, arith, Result, Ok, Err, OnErr, List, [], ◌∷◌, ◌++◌, refl, sym, ◌∙◌, ap, append_assoc}
+use Rattle.std.proofs.Common.{◌≡◌, inl, inr, ℕ, ◌+◌, ◌≤◌, ◌^◌, Option, None, Some, cond, count_by, arith, Result, Ok, Err, OnErr, List, []}
+use Rattle.std.proofs.{Common.{◌∷◌, ◌++◌, refl, sym, ◌∙◌, ap, append_assoc}, lemmas.List.append-nil, lemmas.List.Sums.sum_by-append}
 use Rattle.std.specs.Prelude.{⊤}
-use Rattle.std.proofs.lemmas.List.{append-nil}
-use Rattle.std.proofs.lemmas.List.Sums.{sum_by-append}
-use Rattle.cdm_journal.specs.Lines.{LineRecord}
-use Rattle.cdm_journal.specs.Lines.LineRecord.{Blank, One, Several}
+use Rattle.cdm_journal.specs.Lines.{LineRecord, LineRecord.{Blank, One, Several}}
 use Rattle.cdm_kinds.specs.declared.format.Format.{Format}
 use Rattle.cdm_plan.specs.Day.{DayRecord}
 use Rattle.cdm_flight.specs.declared.word.RefusalWord.{RefusalWord}
-use Rattle.cdm_port.specs.Event.{Event}
-use Rattle.cdm_port.specs.Event.Event.{Broken, End, Line}
-use Rattle.cdm_port.specs.Stop.{IsStopOf, Stops}
+use Rattle.cdm_port.specs.{Event.Event, Event.Event.{Broken, End, Line}, Stop.{IsStopOf, Stops}}
 use Rattle.cdm_port.proofs.Stops.{front, longer, past}
-use Rattle.cdm_serve.specs.Faults.{IsFaultOf, is_line}
-use Rattle.cdm_serve.specs.Requests.{request_of}
+use Rattle.cdm_serve.specs.{Faults.{IsFaultOf, is_line}, Requests.request_of}
 use Rattle.cdm_serve.specs.Served.{AreReplies, Exchange, IsExchange, IsReplyTo, answered, line_of, numbered, said, served, told_of}
 use Rattle.cdm_serve.specs.Taken.{TakenRecord, after, taken}
 use Rattle.cdm_serve.specs.inner.Steps.{AreTooMany, HearsInVain, HearsLine, IsAnswerFault, IsLinesFault, IsPortFault, ServeStops, Serves}
-use Rattle.cdm_files.specs.declared.common_fault.CommonFault.TheVariants as common
 use Rattle.cdm_serve.specs.declared.fault.ServeError.{ServeError}
+use Rattle.cdm_files.specs.declared.common_fault.CommonFault.TheVariants as common
 use Rattle.cdm_serve.specs.declared.fault.ServeError.TheVariants as error
 
 -- How many lines were heard.

@@ -1,22 +1,14 @@
 -- A run of a served day, from its start to its end.
-use Rattle.std.proofs.Common.{◌≡◌, ◌+◌, ◌≤◌, ◌^◌, inl, inr, ℕ, Bool, Result, Ok, Err, IfErr, OnErr, OnOk, arith, cond, count_by, List, [], ◌∷◌, ◌++◌, refl, sym, ◌∙◌, ap, subst, append_assoc}
-use Rattle.std.proofs.lemmas.List.{append-nil}
-use Rattle.std.proofs.lemmas.List.Sums.{sum_by-append}
+use Rattle.std.proofs.Common.{◌≡◌, ◌+◌, ◌≤◌, ◌^◌, inl, inr, ℕ, Bool, Result, Ok, Err, IfErr, OnErr, OnOk, arith, cond, count_by, List, []}
+use Rattle.std.proofs.{Common.{◌∷◌, ◌++◌, refl, sym, ◌∙◌, ap, subst, append_assoc}, lemmas.List.append-nil, lemmas.List.Sums.sum_by-append}
 use Rattle.cdm_flight.specs.Journal.{AirportRows}
 use Rattle.cdm_kinds.specs.declared.format.Format.{Format}
 use Rattle.cdm_plan.specs.Day.{DayRecord}
-use Rattle.cdm_port.specs.Event.{Event}
-use Rattle.cdm_port.specs.Event.Event.{End}
-use Rattle.cdm_port.specs.Stop.{IsStopOf, since}
-use Rattle.cdm_port.proofs.Stops.{front, longer, past, since_is}
-use Rattle.cdm_serve.specs.Disk.{found}
-use Rattle.cdm_serve.specs.Promises.{AtEachMoment, IsKept}
-use Rattle.cdm_serve.specs.Served.{IsServed, IsStopped, day_of, reading, served, started}
+use Rattle.cdm_port.{specs.Event.Event, specs.Event.Event.End, specs.Stop.{IsStopOf, since}, proofs.Stops.{front, longer, past, since_is}}
+use Rattle.cdm_serve.specs.{Disk.found, Promises.{AtEachMoment, IsKept}, Served.{IsServed, IsStopped, day_of, reading, served, started}}
 use Rattle.cdm_serve.specs.Faults.{IsServeFault, is_line}
 use Rattle.cdm_serve.specs.inner.Steps.{AreTooMany, IsLinesFault, IsStartFault, ServeStops, Serves, StartStops, Starts}
-use Rattle.cdm_serve.specs.declared.fault.ServeError.{ServeError}
-use Rattle.cdm_serve.proofs.Begun.{always_good, is_kept}
-use Rattle.cdm_serve.proofs.Ran.{fault_weaker}
+use Rattle.cdm_serve.{specs.declared.fault.ServeError.ServeError, proofs.Begun.{always_good, is_kept}, proofs.Ran.fault_weaker}
 
 -- what holds where a run is over or stopped
 pub record Outcome (format : Format) (g : AirportRows) (marked : Bool) (old new : List Event) : Type 0 where

@@ -1,17 +1,12 @@
 -- The start of a served day, step by step.
-use Rattle.std.proofs.Common.{◌≡◌, inl, inr, ℕ, Bool, List, [], ◌++◌, length, refl, sym, ◌∙◌, ap, append_assoc}
-use Rattle.std.proofs.lemmas.List.{append-nil}
-use Rattle.cdm_files.specs.FeedDay.{refusals_in}
-use Rattle.cdm_files.specs.Records.{records_of}
+use Rattle.std.proofs.{Common.{◌≡◌, inl, inr, ℕ, Bool, List, [], ◌++◌, length, refl, sym, ◌∙◌, ap, append_assoc}, lemmas.List.append-nil}
+use Rattle.cdm_files.specs.{FeedDay.refusals_in, Records.records_of}
 use Rattle.cdm_flight.specs.Journal.{AirportRows}
 use Rattle.cdm_journal.specs.Journal.{journal_text}
 use Rattle.cdm_kinds.specs.declared.format.Format.{Format}
 use Rattle.cdm_plan.specs.Day.{DayRecord}
-use Rattle.cdm_port.specs.Event.{Event}
-use Rattle.cdm_port.specs.Stop.{Stops}
-use Rattle.cdm_port.proofs.Stops.{goes_on, longer, stops_behind}
-use Rattle.cdm_serve.specs.Served.{begun, day_of, reading, ready_text, start_text, started}
-use Rattle.cdm_serve.specs.inner.Steps.{StartStops, Starts}
+use Rattle.cdm_port.{specs.Event.Event, specs.Stop.Stops, proofs.Stops.{goes_on, longer, stops_behind}}
+use Rattle.cdm_serve.specs.{Served.{begun, day_of, reading, ready_text, start_text, started}, inner.Steps.{StartStops, Starts}}
 
 -- a stop of the first part is one of all
 pub stops_longer : (old part rest new : List Event) → Stops old part new → Stops old (part ++ rest) new

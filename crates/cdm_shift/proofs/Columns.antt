@@ -1,9 +1,7 @@
 -- Texts on the left of a column.
 use Rattle.std.proofs.Common.{ℕ, ◌≡◌, ◌-◌, ◌^◌, ◌<◌, ◌≤◌, List, ◌++◌, length, slice_index, refl, ap, sym, ◌∙◌, arith}
-use Rattle.std.specs.Fmt.{fill_text, format_spec, styled_text}
-use Rattle.std.proofs.Padding.{padded_is, repeat_ascii, take_chars_all}
-use Rattle.cdm_report.proofs.Widths.{char_count-ascii}
-use Rattle.cdm_report.specs.Columns.{left_in}
+use Rattle.std.{proofs.Padding.{padded_is, repeat_ascii, take_chars_all}, specs.Fmt.{fill_text, format_spec, styled_text}}
+use Rattle.cdm_report.{proofs.Widths.char_count-ascii, specs.Columns.left_in}
 
 -- an ASCII text on the left of 3
 pub left_three : (text : List ℕ) → ((k : ℕ) → slice_index text k < 128) → length text ≤ 3

@@ -1,15 +1,12 @@
 -- The minutes of the six causes add up.
-use Rattle.std.proofs.Common.{◌≡◌, suc, ◌+◌, List, [], ◌∷◌, cond, length, refl, arith}
+use Rattle.std.proofs.{Common.{◌≡◌, suc, ◌+◌, List, [], ◌∷◌, cond, length, refl, arith}, lemmas.List.Sums.sum_by-append}
 use Rattle.std.specs.Prelude.{flat_map}
-use Rattle.std.proofs.lemmas.List.Sums.{sum_by-append}
 use Rattle.cdm_sequence.specs.declared.plan.Plan.{Plan}
 use Rattle.cdm_plan.specs.Day.{DayRecord}
 use Rattle.cdm_row.specs.declared.row.Row.{Row}
-use Rattle.cdm_view.specs.Causes.{same_cause}
-use Rattle.cdm_view.specs.declared.cause.Cause.{Cause}
+use Rattle.cdm_view.specs.{Causes.same_cause, declared.cause.Cause.Cause}
 use Rattle.cdm_view.specs.declared.cause.Cause.TheVariants.{Ice, Ctot, Closure, Spacing, Rate, Now}
-use Rattle.cdm_shift.specs.Costs.{costs_of, minutes_of}
-use Rattle.cdm_shift.specs.Held.{causes_named}
+use Rattle.cdm_shift.specs.{Costs.{costs_of, minutes_of}, Held.causes_named}
 
 -- one more minute counts for its own cause alone
 one_more : (cause x : Cause) (causes : List Cause) → minutes_of cause (x ∷ causes) ≡ 0 + cond (same_cause cause x) 1 0 + minutes_of cause causes

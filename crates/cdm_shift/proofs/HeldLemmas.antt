@@ -1,21 +1,11 @@
 -- A flight with a slot is held for its delay.
 use Rattle.std.proofs.Common.{◌≡◌, ◌∙◌, ℕ, ◌+◌, ◌-◌, ◌<◌, List, Option, None, Some, ap, length, sym, arith}
-use Rattle.std.specs.Prelude.{Contains, IsSome, if◌then◌else◌}
-use Rattle.std.specs.List.{filter_map, find, range_with_len}
-use Rattle.std.specs.Option.{option_and_then}
-use Rattle.cdm_flight.specs.Names.{same_name}
-use Rattle.cdm_flight.specs.declared.flight.Flight.{Flight}
-use Rattle.cdm_sequence.specs.declared.plan.Plan.{Plan}
-use Rattle.cdm_sequence.specs.declared.slot.Slot.{Slot}
-use Rattle.cdm_plan.specs.Day.{DayRecord}
-use Rattle.cdm_plan.proofs.NameLemmas.{find_some}
-use Rattle.cdm_plan.proofs.PlanWords.{same_is}
-use Rattle.cdm_view.specs.Causes.{cause_at}
-use Rattle.cdm_view.specs.Reasons.{Waiting, slots_on, waiting_of}
-use Rattle.cdm_view.specs.Waits.{Waits}
-use Rattle.cdm_view.specs.Why.{own_slot, waits_for}
-use Rattle.cdm_shift.specs.Held.{causes_of, causes_until}
-use Rattle.cdm_shift.proofs.ListLemmas.{each_given}
+use Rattle.std.specs.{Prelude.{Contains, IsSome, if◌then◌else◌}, List.{filter_map, find, range_with_len}, Option.option_and_then}
+use Rattle.cdm_flight.specs.{Names.same_name, declared.flight.Flight.Flight}
+use Rattle.cdm_sequence.specs.declared.{plan.Plan.Plan, slot.Slot.Slot}
+use Rattle.cdm_plan.{specs.Day.DayRecord, proofs.NameLemmas.find_some, proofs.PlanWords.same_is}
+use Rattle.cdm_view.specs.{Causes.cause_at, Reasons.{Waiting, slots_on, waiting_of}, Waits.Waits, Why.{own_slot, waits_for}}
+use Rattle.cdm_shift.{specs.Held.{causes_of, causes_until}, proofs.ListLemmas.each_given}
 
 -- the flight's own slot is one of its runway, and of its name
 pub own_is : (plan : Plan) (f : Flight) (r : List ℕ) (s : Slot) → f.runway ≡ Some r → own_slot plan f ≡ Some s

@@ -1,11 +1,8 @@
 -- What numbers one after another give.
-use Rattle.std.proofs.Common.{append_assoc, get_or, ◌≡◌, ◌∙◌, ℕ, zero, suc, ◌+◌, ◌-◌, ◌<◌, ◌≤◌, ◌++◌, Bool, List, [], ◌∷◌, Option, None, Some, ap, length, map, refl, sym, take, arith}
-use Rattle.std.specs.Prelude.{IsSome, filter, flat_map, slice_get}
-use Rattle.std.specs.List.{cons_option, filter_map, range_with_len}
-use Rattle.std.proofs.lemmas.Bool.{false≢true}
-use Rattle.std.proofs.lemmas.Grind.{flat_map-append}
-use Rattle.std.proofs.lemmas.List.{append-nil, flat_map_more, map-append, take_more}
-use Rattle.std.proofs.lemmas.List.Elements.{filter-append, filter_map-append}
+use Rattle.std.proofs.Common.{append_assoc, get_or, ◌≡◌, ◌∙◌, ℕ, zero, suc, ◌+◌, ◌-◌, ◌<◌, ◌≤◌, ◌++◌, Bool, List, [], ◌∷◌, Option, None}
+use Rattle.std.proofs.{Common.{Some, ap, length, map, refl, sym, take, arith}, lemmas.Bool.false≢true, lemmas.Grind.flat_map-append}
+use Rattle.std.proofs.lemmas.List.{append-nil, flat_map_more, map-append, take_more, Elements.{filter-append, filter_map-append}}
+use Rattle.std.specs.{Prelude.{IsSome, filter, flat_map, slice_get}, List.{cons_option, filter_map, range_with_len}}
 use Rattle.cdm_plan.proofs.NameLemmas.{take-next}
 use Rattle.cdm_view.proofs.RangeLemmas.{range-append}
 

@@ -1,25 +1,16 @@
 -- A question has one answer.
-use Rattle.std.proofs.Common.{◌≡◌, ◌∙◌, ℕ, List, None, ap, sym}
-use Rattle.std.specs.List.{IsDistinct}
+use Rattle.std.{proofs.Common.{◌≡◌, ◌∙◌, ℕ, List, None, ap, sym}, specs.List.IsDistinct}
 use Rattle.cdm_flight.specs.Names.{same_name}
-use Rattle.cdm_kinds.specs.declared.format.Format.{Format}
-use Rattle.cdm_kinds.specs.declared.format.Format.TheVariants.{Text, Json}
+use Rattle.cdm_kinds.specs.declared.format.Format.{Format, TheVariants.{Text, Json}}
 use Rattle.cdm_runway.specs.Rules.{RunwayRules}
 use Rattle.cdm_sequence.specs.declared.plan.Plan.{Plan}
-use Rattle.cdm_plan.specs.Airport.{IsAirport}
-use Rattle.cdm_plan.specs.Day.{DayRecord, flights_in}
-use Rattle.cdm_plan.specs.DayPlan.{IsDayPlan}
-use Rattle.cdm_plan.proofs.NameLemmas.{in_order}
+use Rattle.cdm_plan.{specs.Airport.IsAirport, specs.Day.{DayRecord, flights_in}, specs.DayPlan.IsDayPlan, proofs.NameLemmas.in_order}
 use Rattle.cdm_json.proofs.OneAnswer.{answer_one as json_one}
-use Rattle.cdm_row.specs.declared.row.Row.{Row}
-use Rattle.cdm_row.proofs.RowLemmas.{one_rows}
+use Rattle.cdm_row.{specs.declared.row.Row.Row, proofs.RowLemmas.one_rows}
 use Rattle.cdm_view.proofs.AnswerLemmas.{answer_one as text_one}
-use Rattle.cdm_shift.specs.Answers.{IsDayAnswer, IsOfRows, IsOfRunways}
-use Rattle.cdm_shift.specs.Lines.{causes_text, next_text, warnings_text}
-use Rattle.cdm_shift.specs.Objects.{causes_lines, next_lines, warning_lines}
-use Rattle.cdm_shift.specs.declared.question.DayQuestion.{DayQuestion}
-use Rattle.cdm_shift.specs.declared.question.DayQuestion.TheVariants.{View, Shift}
-use Rattle.cdm_shift.specs.declared.question.ShiftQuestion.TheVariants.{Next, Warnings, Causes}
+use Rattle.cdm_shift.specs.{Answers.{IsDayAnswer, IsOfRows, IsOfRunways}, Lines.{causes_text, next_text, warnings_text}}
+use Rattle.cdm_shift.specs.{Objects.{causes_lines, next_lines, warning_lines}, declared.question.DayQuestion.DayQuestion}
+use Rattle.cdm_shift.specs.declared.question.{DayQuestion.TheVariants.{View, Shift}, ShiftQuestion.TheVariants.{Next, Warnings, Causes}}
 
 module _ (d : DayRecord) (plan : Plan) (airport : IsAirport d.airport) (flights : IsDistinct same_name (flights_in d.journal)) (is : IsDayPlan d plan) where
   of_rows : (bytes : List Row → List ℕ) (x y : List ℕ) → IsOfRows d plan bytes x → IsOfRows d plan bytes y → x ≡ y

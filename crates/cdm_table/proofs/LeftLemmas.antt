@@ -1,9 +1,7 @@
 -- Lines of scenarios, some at a time.
 use Rattle.cdm_table.proofs.Words.{◌≡◌, ◌∙◌, ◌++◌, ℕ, List, [], ◌∷◌, sym, ap, subst, append_assoc, append-nil, AllZip, concat, DayRecord}
-use Rattle.cdm_table.proofs.Words.{ScenarioRecord}
+use Rattle.cdm_table.{proofs.Words.ScenarioRecord, specs.Plans.IsScenarioLine, specs.inner.Lines.HasLinesOf}
 use Rattle.std.proofs.lemmas.List.Folds.{concat-append}
-use Rattle.cdm_table.specs.Plans.{IsScenarioLine}
-use Rattle.cdm_table.specs.inner.Lines.{HasLinesOf}
 
 zip-append : {A B : Type 0} (R : A → B → Type 0) (xs : List A) (ys : List B) (more : List A) (others : List B)
     → AllZip R xs ys → AllZip R more others → AllZip R (xs ++ more) (ys ++ others)

@@ -1,10 +1,7 @@
 -- Lines of scenarios, one after another.
-use Rattle.cdm_table.proofs.Words.{◌≡◌, ◌∙◌, ◌++◌, ◌+◌, ◌<◌, ℕ, List, [], ◌∷◌, Option, None, Some, length, take, length-take-le, append_assoc, sym}
-use Rattle.cdm_table.proofs.Words.{ap, arith, slice_get, cons_option, filter_map, take-next, Counts, ScenarioRecord}
-use Rattle.std.proofs.lemmas.List.Elements.{filter_map-append}
-use Rattle.cdm_table.specs.Comparison.{all_lines, lines_from}
-use Rattle.cdm_table.specs.declared.line.Line.{Line}
-use Rattle.cdm_table.specs.declared.line.Summary.{Summary}
+use Rattle.cdm_table.proofs.Words.{◌≡◌, ◌∙◌, ◌++◌, ◌+◌, ◌<◌, ℕ, List, [], ◌∷◌, None, Some, length, take, length-take-le}
+use Rattle.cdm_table.proofs.Words.{sym, ap, arith, slice_get, cons_option, take-next, Counts, ScenarioRecord}
+use Rattle.cdm_table.specs.{Comparison.{all_lines, lines_from}, declared.line.Line.Line, declared.line.Summary.Summary}
 use Rattle.cdm_table.specs.declared.line.Summary.TheVariants.{Planned}
 
 abbrev pub line_at : ℕ → ScenarioRecord → Summary → Line
@@ -39,14 +36,3 @@ one_more_line counts ss xs k s x same within at also =
     let pushed = lines_from-push 1 (take k ss) (take k xs) s x (many ∙ sym few) in
     (λ i. all_lines counts (scenarios i) (summaries i))
     ∙ ap (λ (l : List Line). line_at_day counts ∷ l) (pushed ∙ ap (λ n. lines_from 1 (take k ss) (take k xs) ++ line_at n s x ∷ []) place)
-
--- what one more element gives stands behind what those before it give
-pub filter_map-next : {X Y : Type 0} (f : X → Option Y) (xs : List X) (k : ℕ) (x : X) → slice_get xs k ≡ Some x
-    → filter_map f (take (k + 1) xs) ≡ filter_map f (take k xs) ++ cons_option (f x) []
-filter_map-next f xs k x at =
-    ap (filter_map f) (take-next xs k ∙ ap (λ o. take k xs ++ cons_option o []) at) ∙ filter_map-append f (take k xs) (x ∷ [])
-
--- one more field of a row that has had some since
-pub one_more_field : {X : Type 0} (row fields longer longest : List X) (field : X) → longer ≡ row ++ fields → longest ≡ longer ++ field ∷ []
-    → longest ≡ row ++ (fields ++ field ∷ [])
-one_more_field row fields longer longest field so_far next = next ∙ (ap (λ l. l ++ field ∷ []) so_far ∙ append_assoc row fields (field ∷ []))

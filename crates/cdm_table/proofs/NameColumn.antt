@@ -1,9 +1,8 @@
 -- A scenario's name on the left of its column, and columns with blanks between them.
-use Rattle.cdm_table.proofs.Words.{ℕ, ◌≡◌, ◌-◌, ◌^◌, ◌<◌, ◌≤◌, ◌++◌, List, ◌∷◌, [], length, slice_index, ap, refl, sym, ◌∙◌, arith, join_with_byte}
-use Rattle.std.specs.Fmt.{format_spec, fill_text, styled_text}
-use Rattle.std.proofs.Padding.{take_chars_all, repeat_ascii, padded_is}
-use Rattle.cdm_report.specs.Columns.{left_in}
-use Rattle.cdm_report.proofs.Widths.{char_count-ascii}
+use Rattle.cdm_table.proofs.Words.{ℕ, ◌≡◌, ◌-◌, ◌^◌, ◌<◌, ◌≤◌, ◌++◌, List, ◌∷◌, [], length, slice_index, ap, refl, sym, ◌∙◌, arith}
+use Rattle.cdm_table.proofs.Words.{join_with_byte}
+use Rattle.std.{specs.Fmt.{format_spec, fill_text, styled_text}, proofs.Padding.{take_chars_all, repeat_ascii, padded_is}}
+use Rattle.cdm_report.{specs.Columns.left_in, proofs.Widths.char_count-ascii}
 
 -- an ASCII text on the left of 16
 pub left_in-sixteen : (text : List ℕ) → ((k : ℕ) → slice_index text k < 128) → length text ≤ 16 → styled_text (format_spec 32 1 0 16 (2 ^ 64 - 1)) text ≡ left_in 16 text

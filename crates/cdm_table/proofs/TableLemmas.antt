@@ -1,32 +1,23 @@
 -- A day and its scenarios have one table.
-use Rattle.cdm_table.proofs.Words.{◌≡◌, ◌∙◌, ◌++◌, ◌+◌, ◌≤◌, ◌<◌, ℕ, List, [], ◌∷◌, Option, None, Some, inl, inr, sym, ap, subst, arith, map}
-use Rattle.cdm_table.proofs.Words.{Contains, flat_map, IsDistinct, concat, Equal, nat_tests, nat_cmp_total, on_total, then_total, counts_of, Counts}
-use Rattle.cdm_table.proofs.Words.{DayRecord, flights_in, AreStandings, RefusalWord, IsPlanLine, ScenarioRecord}
-use Rattle.std.specs.Cmp.{IsTotalOrder, bool_cmp_total}
-use Rattle.std.specs.Ordering.{nat_cmp}
-use Rattle.cdm_flight.specs.Names.{same_name}
-use Rattle.cdm_flight.proofs.Lists.{contains_cases}
-use Rattle.cdm_sequence.proofs.OneLemmas.{one_order}
-use Rattle.cdm_sequence.proofs.OrderLemmas.{last_ties}
-use Rattle.cdm_sequence.specs.declared.plan.Plan.{Plan}
-use Rattle.cdm_plan.specs.Airport.{runway_names}
-use Rattle.cdm_plan.proofs.OnePlanLemmas.{one_day_plan}
-use Rattle.cdm_view.specs.declared.standing.Standing.{Standing}
-use Rattle.cdm_view.proofs.StandingLemmas.{one_standings}
+use Rattle.cdm_table.proofs.Words.{◌≡◌, ◌∙◌, ◌++◌, ◌+◌, ◌≤◌, ◌<◌, ℕ, List, [], ◌∷◌, Option, None, Some, inl, inr, sym, ap, subst, arith}
+use Rattle.cdm_table.proofs.Words.{map, Contains, flat_map, IsDistinct, concat, Equal, nat_tests, nat_cmp_total, on_total, then_total}
+use Rattle.cdm_table.proofs.Words.{counts_of, Counts, DayRecord, flights_in, AreStandings, RefusalWord, IsPlanLine, ScenarioRecord}
+use Rattle.cdm_table.specs.Comparison.{AreRanked, IsComparison, IsComparisonCsv, IsRanking, IsSummary, IsToldIf, all_lines, blocked_in}
+use Rattle.cdm_table.specs.Comparison.{delay_in, heading, is_refused, line_cmp, line_columns, line_fields, line_text, lines_from}
+use Rattle.cdm_table.specs.{ComparisonJson.{AreChangeLinesIf, IsComparisonJson, summary_line}, Plans.{IsPlans, IsScenarioLine}}
+use Rattle.cdm_table.specs.{Rows.{AreFlightRows, AreScenarioRows, IsCsv, csv_text}, Tables.IsTable}
+use Rattle.cdm_table.specs.inner.OneTable.{one_change_lines, one_flight_rows, one_plan_line, one_scenario_line, one_scenario_rows}
+use Rattle.cdm_table.specs.{inner.OneTable.{one_summary, one_told}, declared.line.Line.Line, declared.line.Summary.Summary}
+use Rattle.cdm_table.specs.declared.{line.Summary.TheVariants.Planned, table.Table.Table}
+use Rattle.cdm_table.specs.declared.table.Table.TheVariants.{Csv, Comparison, ComparisonCsv, ComparisonJson}
+use Rattle.std.specs.{Cmp.{IsTotalOrder, bool_cmp_total}, Ordering.nat_cmp}
+use Rattle.cdm_flight.{specs.Names.same_name, proofs.Lists.contains_cases}
+use Rattle.cdm_sequence.{proofs.OneLemmas.one_order, proofs.OrderLemmas.last_ties, specs.declared.plan.Plan.Plan}
+use Rattle.cdm_plan.{specs.Airport.runway_names, proofs.OnePlanLemmas.one_day_plan}
+use Rattle.cdm_view.{specs.declared.standing.Standing.Standing, proofs.StandingLemmas.one_standings}
 use Rattle.cdm_json.specs.declared.plan.PlanOf.TheVariants as of
 use Rattle.cdm_scenario.specs.inner.OneOutcome.{one_each}
-use Rattle.cdm_table.specs.Comparison.{AreRanked, IsComparison, IsComparisonCsv, IsRanking, IsSummary, IsToldIf, all_lines, blocked_in, delay_in, heading, is_refused, line_cmp, line_columns, line_fields, line_text, lines_from}
-use Rattle.cdm_table.specs.ComparisonJson.{AreChangeLinesIf, IsComparisonJson, summary_line}
-use Rattle.cdm_table.specs.Plans.{IsPlans, IsScenarioLine}
 use Rattle.cdm_table.specs.Rows as rows
-use Rattle.cdm_table.specs.Rows.{AreFlightRows, AreScenarioRows, IsCsv, csv_text}
-use Rattle.cdm_table.specs.Tables.{IsTable}
-use Rattle.cdm_table.specs.inner.OneTable.{one_change_lines, one_flight_rows, one_plan_line, one_scenario_line, one_scenario_rows, one_summary, one_told}
-use Rattle.cdm_table.specs.declared.line.Line.{Line}
-use Rattle.cdm_table.specs.declared.line.Summary.{Summary}
-use Rattle.cdm_table.specs.declared.line.Summary.TheVariants.{Planned}
-use Rattle.cdm_table.specs.declared.table.Table.{Table}
-use Rattle.cdm_table.specs.declared.table.Table.TheVariants.{Csv, Comparison, ComparisonCsv, ComparisonJson}
 
 -- No two lines have one place.
 

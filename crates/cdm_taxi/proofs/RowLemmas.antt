@@ -1,23 +1,14 @@
 -- Rows in a `BTreeMap`, seen as a finite map.
 use Rattle.std.proofs.Common.{◌≡◌, ℕ, cond, List, [], ◌∷◌, Some, refl, sym, ap, subst, ◌∙◌}
-use Rattle.std.specs.Prelude.{Result, Ok, Err, OnErr}
-use Rattle.std.specs.declared.cmp.Ordering.{Ordering}
-use Rattle.std.specs.Ordering.{ordering_then, is_eq}
-use Rattle.std.specs.Option.{option_cmp}
-use Rattle.std.specs.Cmp.{IsTotalOrder, eq_by_cmp_equiv}
-use Rattle.std.specs.BTreeMap as tree
-use Rattle.std.specs.BTreeMap.{BTreeMap, is_at}
-use Rattle.std.specs.List.{AllZip}
-use Rattle.std.specs.Map.{lookup}
-use Rattle.std.specs.FinMap as map
+use Rattle.std.proofs.lemmas.Map.{Lookups.{CmpEqualImpliesEq, btree_map_from_get}, Entries.entries_from_clone}
+use Rattle.std.specs.{Prelude.{Result, Ok, Err, OnErr}, declared.cmp.Ordering.Ordering, Ordering.{ordering_then, is_eq}, Option.option_cmp}
+use Rattle.std.specs.{Cmp.{IsTotalOrder, eq_by_cmp_equiv}, BTreeMap.{BTreeMap, is_at}, List.AllZip, Map.lookup}
 use Rattle.std.specs.FinMap.{find, get-insert, get-from_entries, same_map}
-use Rattle.std.proofs.lemmas.Map.Lookups.{CmpEqualImpliesEq, btree_map_from_get}
-use Rattle.std.proofs.lemmas.Map.Entries.{entries_from_clone}
+use Rattle.std.specs.BTreeMap as tree
+use Rattle.std.specs.FinMap as map
 use Rattle.cdm_flight.specs.contracts.place.PlaceOrd.TheImpl as place_ord
-use Rattle.cdm_flight.specs.declared.place.Place.{Place}
+use Rattle.cdm_flight.specs.{declared.place.Place.Place, Names.name_cmp, Taxi.{TaxiRows, stand_of_place, taxi_cmp}}
 use Rattle.cdm_flight.specs.declared.place.Place.TheVariants as place
-use Rattle.cdm_flight.specs.Names.{name_cmp}
-use Rattle.cdm_flight.specs.Taxi.{TaxiRows, stand_of_place, taxi_cmp}
 use Rattle.cdm_taxi.proofs.TaxiLemmas.{taxi_cmp_total, taxi_cmp_same}
 
 abbrev pub Key : Type 0

@@ -1,31 +1,18 @@
 -- Which stands have rows, and how many.
 use Rattle.std.proofs.Common.{◌≡◌, ℕ, ◌+◌, Bool, true, false, cond, not, ◌||◌, List, [], ◌∷◌, length, map, refl, sym, ap, subst, ◌∙◌, arith}
-use Rattle.std.specs.Prelude.{Option, None, Some, if◌then◌else◌}
-use Rattle.std.specs.BTreeMap.{is_at}
-use Rattle.std.specs.BTreeSet.{BTreeSet, IsOrdered, contains}
-use Rattle.std.specs.declared.cmp.Ordering.{Ordering}
-use Rattle.std.specs.declared.cmp.Ordering.TheVariants.{Less, Equal, Greater}
-use Rattle.std.specs.Ordering.{eq_by_cmp}
-use Rattle.std.specs.Cmp.{IsEquivalence}
-use Rattle.std.specs.Cmp.Lexicographic.{nat_list_eq_equiv, texts_ties}
-use Rattle.std.specs.FinMap as map
-use Rattle.std.specs.FinMap.{IsAntisymmetric, keys, entries-insert, get-insert, same_map}
-use Rattle.std.specs.FinMap.Entries.{put, by_order}
-use Rattle.std.specs.List.{list_any, filter_map, cons_option, AllByRecursion, IsDistinct}
-use Rattle.std.specs.Option.{option_map_or}
+use Rattle.std.proofs.lemmas.{Bool.{cond_both, not-false, or_left, or_parts}, List.nil_from_length, Map.Keys.IsDistinct-from_sorted}
+use Rattle.std.proofs.lemmas.Map.{Made.length-from_keys, Steps.list_any_congr, Views.tells_apart}
+use Rattle.std.specs.{Prelude.{Option, None, Some, if◌then◌else◌}, BTreeMap.is_at, BTreeSet.{BTreeSet, IsOrdered, contains}}
+use Rattle.std.specs.{declared.cmp.Ordering.Ordering, declared.cmp.Ordering.TheVariants.{Less, Equal, Greater}, Ordering.eq_by_cmp}
+use Rattle.std.specs.Cmp.{IsEquivalence, Lexicographic.{nat_list_eq_equiv, texts_ties}}
+use Rattle.std.specs.FinMap.{IsAntisymmetric, keys, entries-insert, get-insert, same_map, Entries.{put, by_order}}
+use Rattle.std.specs.{List.{list_any, filter_map, cons_option, AllByRecursion, IsDistinct}, Option.option_map_or}
 use Rattle.std.specs.Set.{distinct_count, is_member, unique_keys}
-use Rattle.std.proofs.lemmas.Bool.{cond_both, not-false, or_left, or_parts}
-use Rattle.std.proofs.lemmas.List.{nil_from_length}
-use Rattle.std.proofs.lemmas.Map.Keys.{IsDistinct-from_sorted}
-use Rattle.std.proofs.lemmas.Map.Made.{length-from_keys}
-use Rattle.std.proofs.lemmas.Map.Steps.{list_any_congr}
-use Rattle.std.proofs.lemmas.Map.Views.{tells_apart}
-use Rattle.cdm_flight.specs.declared.place.Place.{Place}
-use Rattle.cdm_flight.specs.declared.place.Place.TheVariants as place
-use Rattle.cdm_flight.specs.Names.{name_cmp, same_name}
+use Rattle.std.specs.FinMap as map
+use Rattle.cdm_flight.specs.{declared.place.Place.Place, Names.{name_cmp, same_name}}
 use Rattle.cdm_flight.specs.Taxi.{TaxiRows, is_new_stand, stand_of_place, stands_in, taxi_cmp}
-use Rattle.cdm_taxi.specs.Stands.{has_row, stand_count}
-use Rattle.cdm_taxi.specs.inner.StandSet.{AreStandsOf}
+use Rattle.cdm_flight.specs.declared.place.Place.TheVariants as place
+use Rattle.cdm_taxi.specs.{Stands.{has_row, stand_count}, inner.StandSet.AreStandsOf}
 use Rattle.cdm_taxi.proofs.TaxiLemmas.{same_name-ties, taxi_cmp_total, taxi_cmp_same}
 
 or_swap : (a b c : Bool) → (a || (b || c)) ≡ (b || (a || c))

@@ -1,19 +1,12 @@
 -- The order of taxi rows, and what a row that is set changes.
 use Rattle.std.proofs.Common.{◌≡◌, ℕ, ◌&&◌, List, Some, refl, sym, ap, ◌∙◌, cond}
-use Rattle.std.specs.declared.cmp.Ordering.TheVariants.{Equal}
-use Rattle.std.specs.Ordering.{is_eq}
-use Rattle.std.specs.Option.{option_cmp}
-use Rattle.std.specs.Cmp.{IsTotalOrder, both_tied, eq_by_cmp_equiv, on_total, then_total}
-use Rattle.std.specs.Cmp.Lexicographic.{nat_list_cmp_total, options_total, texts_ties}
-use Rattle.std.specs.Prelude.{if◌then◌else◌}
+use Rattle.std.{proofs.lemmas.Map.Lookups.{CmpEqualImpliesEq, exact_bytes, exact_pairs}, specs.declared.cmp.Ordering.TheVariants.Equal}
+use Rattle.std.specs.{Ordering.is_eq, Option.option_cmp, Cmp.{IsTotalOrder, both_tied, eq_by_cmp_equiv, on_total, then_total}}
+use Rattle.std.specs.{Cmp.Lexicographic.{nat_list_cmp_total, options_total, texts_ties}, Prelude.if◌then◌else◌, FinMap.get-insert}
 use Rattle.std.specs.FinMap as map
-use Rattle.std.specs.FinMap.{get-insert}
-use Rattle.std.proofs.lemmas.Map.Lookups.{CmpEqualImpliesEq, exact_bytes, exact_pairs}
-use Rattle.cdm_flight.specs.declared.place.Place.{Place}
-use Rattle.cdm_flight.specs.declared.place.Place.TheVariants as place
-use Rattle.cdm_flight.specs.Names.{name_cmp, same_name}
-use Rattle.cdm_flight.specs.Taxi.{TaxiRows, stand_of_place, taxi_cmp}
+use Rattle.cdm_flight.specs.{declared.place.Place.Place, Names.{name_cmp, same_name}, Taxi.{TaxiRows, stand_of_place, taxi_cmp}}
 use Rattle.cdm_flight.specs.Journal.{same_place}
+use Rattle.cdm_flight.specs.declared.place.Place.TheVariants as place
 
 -- taxi rows have a total order
 pub taxi_cmp_total : IsTotalOrder taxi_cmp

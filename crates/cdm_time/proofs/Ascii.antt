@@ -1,7 +1,6 @@
 -- ASCII bytes are text.
-use Rattle.std.proofs.Common.{ℕ, List, Result, Ok, Err, IsOk, MatchResult, rules}
+use Rattle.std.proofs.{Common.{ℕ, List, Result, Ok, Err, IsOk, MatchResult, rules}, lemmas.Str.IsUtf8-from_ascii}
 use Rattle.std.specs.Str.{IsAscii, IsUtf8}
-use Rattle.std.proofs.lemmas.Str.{IsUtf8-from_ascii}
 
 -- what reads bytes as text doesn't fail on ASCII
 pub IsOk-from_utf8 : {T E : Type 0} (bytes : List ℕ) (P : T → Type 0) (Q : E → Type 0) (r : Result T E) → MatchResult r P (λ e. ¬ (IsUtf8 bytes) × Q e)

@@ -1,13 +1,8 @@
 -- The day after a date has the next day number.
 use Rattle.std.proofs.Common.{◌≡◌, ◌≤◌, ◌+◌, ℕ, Bool, true, false, ◌&&◌, nat_lt, nat_le, arith, ◌∙◌, ap, pos, ◌+ℤ◌, refl}
-use Rattle.std.proofs.lemmas.Bool.{and_parts}
-use Rattle.std.proofs.lemmas.Bool.Decides.{nat_tests}
-use Rattle.std.proofs.lemmas.Int.{ints}
-use Rattle.jiff.specs.Words.{days_in_month}
-use Rattle.jiff.proofs.Family.{days_from_civil-day, days_from_civil-next_month, days_from_civil-next_year}
-use Rattle.cdm_time.specs.Dates.{day_number, is_date, is_first_day}
-use Rattle.cdm_time.specs.Times.{next_date}
-use Rattle.cdm_time.specs.declared.calendar.CalendarDate.{CalendarDate}
+use Rattle.std.proofs.lemmas.{Bool.and_parts, Bool.Decides.nat_tests, Int.ints}
+use Rattle.jiff.{specs.Words.days_in_month, proofs.Family.{days_from_civil-day, days_from_civil-next_month, days_from_civil-next_year}}
+use Rattle.cdm_time.specs.{Dates.{day_number, is_date, is_first_day}, Times.next_date, declared.calendar.CalendarDate.CalendarDate}
 
 -- what the calendar asks of a date, fact by fact
 record IsCalendarDay (d : CalendarDate) : Type 0 where

@@ -1,13 +1,9 @@
 -- A record more in a batch.
 use Rattle.std.proofs.Common.{◌≡◌, ◌≤◌, ◌∙◌, ℕ, Bool, true, false, List, [], ◌∷◌, ◌++◌, Ok, Err, refl, sym, ap, subst, arith}
 use Rattle.std.specs.Prelude.{is_none, unwrap_or, if◌then◌else◌}
-use Rattle.cdm_flight.specs.Accepted.{accepted, after_one, refusal}
-use Rattle.cdm_flight.specs.Journal.{AirportRows, clock_given, values_of}
-use Rattle.cdm_flight.specs.declared.role.Role.{Role}
-use Rattle.cdm_flight.specs.declared.update.Update.{Update}
-use Rattle.cdm_flight.specs.declared.update.Update.TheVariants.{Clock, Tol}
-use Rattle.cdm_flight.specs.declared.values.DayValues.{DayValues}
-use Rattle.cdm_flight.specs.declared.word.RefusalWord.{RefusalWord}
+use Rattle.cdm_flight.specs.{Accepted.{accepted, after_one, refusal}, Journal.{AirportRows, clock_given, values_of}}
+use Rattle.cdm_flight.specs.declared.{role.Role.Role, update.Update.Update, update.Update.TheVariants.{Clock, Tol}}
+use Rattle.cdm_flight.specs.declared.{values.DayValues.DayValues, word.RefusalWord.RefusalWord}
 use Rattle.cdm_flight.proofs.JournalLemmas.{values_of-clock, values_of-tolerance, values_of-untouched}
 use Rattle.cdm_plan.specs.Day.{DayRecord}
 use Rattle.cdm_desk.specs.Replies.{day_after, with_one}

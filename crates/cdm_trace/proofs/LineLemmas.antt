@@ -1,13 +1,9 @@
 -- The members of a line, written token by token.
-use Rattle.std.proofs.Common.{◌≡◌, ◌∙◌, ◌+◌, ◌<◌, ◌++◌, ℕ, zero, suc, Bool, true, false, List, [], ◌∷◌, Some, length, map, take, refl, sym, ap, arith}
-use Rattle.std.specs.Prelude.{flat_map, slice_get}
-use Rattle.std.specs.Str.{IsUtf8, is_utf8}
-use Rattle.std.proofs.lemmas.Str.{IsUtf8-from_is_utf8, is_utf8-from_IsUtf8}
-use Rattle.std.proofs.lemmas.List.{take-map}
-use Rattle.json.specs.Json.{Json, null, string}
+use Rattle.std.proofs.Common.{◌≡◌, ◌∙◌, ◌+◌, ◌<◌, ◌++◌, ℕ, zero, suc, Bool, true, false, List, [], ◌∷◌, Some, length, map, take, refl, sym}
+use Rattle.std.proofs.{Common.{ap, arith}, lemmas.Str.{IsUtf8-from_is_utf8, is_utf8-from_IsUtf8}, lemmas.List.take-map}
+use Rattle.std.specs.{Prelude.{flat_map, slice_get}, Str.{IsUtf8, is_utf8}}
+use Rattle.json.specs.{Json.{Json, null, string}, Token.Token, Tree.json_tokens}
 use Rattle.json.specs.Token as token
-use Rattle.json.specs.Token.{Token}
-use Rattle.json.specs.Tree.{json_tokens}
 use Rattle.csv.specs.Records.{field_at}
 use Rattle.cdm_row.proofs.TokenLemmas.{pieces_next}
 use Rattle.cdm_files.specs.Fields.{field}

@@ -1,35 +1,20 @@
 -- A feed has one trace.
 use Rattle.std.proofs.Common.{◌≡◌, ◌∙◌, ◌+◌, ℕ, Bool, true, false, List, [], ◌∷◌, ◌++◌, Option, None, Some, Ok, Err, sym, ap, subst, length}
 use Rattle.std.specs.List.{IsDistinct}
-use Rattle.cdm_flight.specs.Accepted.{accepted, after_one, refusal}
-use Rattle.cdm_flight.specs.Journal.{AirportRows}
-use Rattle.cdm_flight.specs.Names.{same_name}
-use Rattle.cdm_flight.specs.declared.role.Role.{Role}
-use Rattle.cdm_flight.specs.declared.update.Update.{Update}
-use Rattle.cdm_flight.specs.declared.word.RefusalWord.{RefusalWord}
+use Rattle.cdm_flight.specs.{Accepted.{accepted, after_one, refusal}, Journal.AirportRows, Names.same_name, declared.role.Role.Role}
+use Rattle.cdm_flight.specs.declared.{update.Update.Update, word.RefusalWord.RefusalWord}
 use Rattle.cdm_sequence.specs.declared.plan.Plan.{Plan}
-use Rattle.cdm_plan.specs.Airport.{IsAirport}
-use Rattle.cdm_plan.specs.Day.{DayRecord, flights_in}
-use Rattle.cdm_plan.proofs.JournalFacts.{names_after}
+use Rattle.cdm_plan.{specs.Airport.IsAirport, specs.Day.{DayRecord, flights_in}, proofs.JournalFacts.names_after}
 use Rattle.cdm_plan.proofs.OnePlanLemmas.{one_day_plan}
 use Rattle.cdm_day.proofs.BatchLemmas.{accepted-keeps}
 use Rattle.cdm_view.proofs.ChangeLemmas.{Own, one_changed_to}
-use Rattle.cdm_row.specs.Changed.{changed_rows}
-use Rattle.cdm_row.specs.Rows.{AreRows}
-use Rattle.cdm_row.specs.declared.row.Row.{Row}
-use Rattle.cdm_row.proofs.RowLemmas.{one_rows}
+use Rattle.cdm_row.{specs.Changed.changed_rows, specs.Rows.AreRows, specs.declared.row.Row.Row, proofs.RowLemmas.one_rows}
 use Rattle.cdm_desk.specs.Replies.{AreChangedRows, IsReply, IsReplyBy, IsRowReply, IsRowReplyBy, day_after}
-use Rattle.cdm_desk.specs.declared.reply.DeskReply.{DeskReply}
-use Rattle.cdm_desk.specs.declared.reply.DeskReply.TheVariants.{Accepted, Refused}
-use Rattle.cdm_desk.specs.declared.reply.RowReply.{RowReply}
+use Rattle.cdm_desk.specs.declared.reply.{DeskReply.DeskReply, DeskReply.TheVariants.{Accepted, Refused}, RowReply.RowReply}
 use Rattle.cdm_desk.specs.declared.reply.RowReply.TheVariants as row_reply
-use Rattle.cdm_kinds.specs.declared.format.Format.{Format}
-use Rattle.cdm_kinds.specs.declared.format.Format.TheVariants.{Text, Json as AsJson}
-use Rattle.cdm_files.specs.Parsing.{parse_of}
-use Rattle.cdm_files.specs.Records.{records_of}
-use Rattle.cdm_files.specs.Refused.{Spelled}
-use Rattle.cdm_trace.specs.Traces.{IsPiece, IsPieceBy, IsTold, IsTrace, is_before, told, told_json}
-use Rattle.cdm_trace.proofs.TraceLemmas.{first_day}
+use Rattle.cdm_kinds.specs.declared.format.Format.{Format, TheVariants.{Text, Json as AsJson}}
+use Rattle.cdm_files.specs.{Parsing.parse_of, Records.records_of, Refused.Spelled}
+use Rattle.cdm_trace.{specs.Traces.{IsPiece, IsPieceBy, IsTold, IsTrace, is_before, told, told_json}, proofs.TraceLemmas.first_day}
 
 own_after : (d : DayRecord) (u : Role × Update) → IsDistinct same_name (flights_in d.journal) → IsDistinct same_name (flights_in (after_one d.airport d.journal u))
 unfolding accepted

@@ -1,8 +1,6 @@
 -- A text without the form of a time has its own fault.
-use Rattle.std.proofs.Common.{◌≡◌, ℕ, Bool, true, false, ℤ, pos, negsuc, List, Ok, Err, if◌then◌else◌, refl}
-use Rattle.std.specs.Prelude.{nat_le}
-use Rattle.cdm_time.specs.Times.{is_time_text, minute_up_to, minutes_between, up_to}
-use Rattle.cdm_time.specs.declared.calendar.CalendarDate.{CalendarDate}
+use Rattle.std.{proofs.Common.{◌≡◌, ℕ, Bool, true, false, ℤ, pos, negsuc, List, Ok, Err, if◌then◌else◌, refl}, specs.Prelude.nat_le}
+use Rattle.cdm_time.specs.{Times.{is_time_text, minute_up_to, minutes_between, up_to}, declared.calendar.CalendarDate.CalendarDate}
 use Rattle.cdm_time.specs.declared.day.TimeFault.TheVariants as fault
 
 -- of a time it is never told

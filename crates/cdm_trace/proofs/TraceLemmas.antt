@@ -1,11 +1,11 @@
 -- What is told of the records of a feed, one after the other.
-use Rattle.std.proofs.Common.{◌≡◌, ◌≤◌, ◌+◌, ◌∙◌, ℕ, List, [], ◌∷◌, ◌++◌, Option, refl, sym, ap, subst, length, arith, append_assoc, append-nil}
+use Rattle.std.proofs.Common.{◌≡◌, ◌≤◌, ◌+◌, ◌∙◌, ℕ, List, [], ◌∷◌, ◌++◌, Option, refl, sym, ap, subst, length, arith, append_assoc}
+use Rattle.std.proofs.Common.{append-nil}
 use Rattle.cdm_flight.specs.Journal.{AirportRows}
 use Rattle.cdm_plan.specs.Day.{DayRecord}
 use Rattle.cdm_desk.specs.Replies.{day_after}
 use Rattle.cdm_kinds.specs.declared.format.Format.{Format}
-use Rattle.cdm_files.specs.Parsing.{parse_of}
-use Rattle.cdm_files.specs.Records.{records_of}
+use Rattle.cdm_files.specs.{Parsing.parse_of, Records.records_of}
 use Rattle.cdm_trace.specs.Traces.{IsPieceFrom, IsTold}
 
 abbrev pub first_day : AirportRows → DayRecord

@@ -5,9 +5,8 @@ use Rattle.cdm_flight.specs.{Journal.flight_of, declared.flight.Flight.Flight}
 use Rattle.cdm_sequence.specs.declared.plan.Plan.{Plan}
 use Rattle.cdm_plan.{specs.Airport.IsAirport, specs.Day.DayRecord, proofs.NameLemmas.in_order}
 use Rattle.cdm_view.specs.{Load.IsLoad, Load.load_text, Questions.IsAnswer, Reasons.Waiting, Reasons.reason_at, Runs.AreRuns}
-use Rattle.cdm_view.specs.declared.{question.Question.Question, question.Question.TheVariants.Why, question.Question.TheVariants.Load, runs.Run.Run}
-use Rattle.cdm_view.specs.Why.{IsWhy, own_slot, waits_for, why_bytes}
-use Rattle.cdm_view.proofs.RunLemmas.{runs_one}
+use Rattle.cdm_view.specs.declared.{question.Question.Question, question.Question.TheVariants.Why, question.Question.TheVariants.Load}
+use Rattle.cdm_view.{specs.declared.runs.Run.Run, specs.Why.{IsWhy, own_slot, waits_for, why_bytes}, proofs.RunLemmas.runs_one}
 
 load_same : (d : DayRecord) (plan : Plan) (asked : Option (List ℕ)) (x y : List ℕ) → IsAirport d.airport
     → IsLoad d plan asked x → IsLoad d plan asked y → x ≡ y

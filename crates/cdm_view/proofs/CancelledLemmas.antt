@@ -5,8 +5,8 @@ use Rattle.cdm_flight.proofs.{Lists.list_any-push, JournalLemmas.same_name-refl,
 use Rattle.cdm_flight.specs.Journal.{is_cancel, record_with, status_from}
 use Rattle.cdm_plan.proofs.{JournalFacts.not_first, KeptLemmas.flights_same}
 use Rattle.cdm_plan.proofs.ListWords.{filter_map, filter_map-filter, if_so, list_any, option_and_then, option_map, option_map_or, option_or}
-use Rattle.cdm_plan.proofs.PlanWords.{AirportRows, DayRecord, Flight, Update, flight_of, if_passes, of_flight, reach_of, records_in, refusal_of}
-use Rattle.cdm_plan.proofs.PlanWords.{same_reach}
+use Rattle.cdm_plan.proofs.PlanWords.{AirportRows, DayRecord, Flight, Update, flight_of, if_passes, of_flight, reach_of, records_in}
+use Rattle.cdm_plan.proofs.PlanWords.{refusal_of, same_reach}
 use Rattle.cdm_view.specs.Standings.{cancelled, is_cancelled}
 use Rattle.cdm_flight.specs.declared.reach.Reach.TheVariants as reach
 

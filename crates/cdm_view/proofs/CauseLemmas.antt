@@ -1,6 +1,5 @@
 -- A minute has a cause exactly where it has a reason.
-use Rattle.std.proofs.Common.{ℕ, Bool, true, false, Option, Some, None, arith}
-use Rattle.std.proofs.lemmas.Grind.{common_steps}
+use Rattle.std.proofs.{Common.{ℕ, Bool, true, false, Option, Some, None, arith}, lemmas.Grind.common_steps}
 use Rattle.std.specs.{Prelude.◌↔◌, Prelude.if◌then◌else◌, Option.IsSome}
 use Rattle.cdm_view.specs.{Reasons.Waiting, Reasons.reason_at, Causes.cause_at, declared.cause.Cause.Cause, declared.reason.Reason.Reason}
 use Rattle.cdm_view.specs.declared.cause.Cause.TheVariants as cause

@@ -1,17 +1,17 @@
 -- Changes: those told before are passed flight by flight, and standings that both days have can be left out.
-use Rattle.std.proofs.Common.{◌≡◌, ℕ, ◌+◌, ◌-◌, ◌<◌, Bool, true, false, ◌&&◌, ◌||◌, List, [], ◌∷◌, ◌++◌, length, length-drop, get_or, drop, map, take}
-use Rattle.std.proofs.Common.{not, refl, sym, ◌∙◌, ap, arith, subst, filter}
-use Rattle.std.proofs.lemmas.{Bool.and_from, Cmp.nat_list_cmp_total}
-use Rattle.std.proofs.lemmas.List.{take-append-drop, take_all, take_more, Elements.filter-append, Folds.list_any-append, Kept.IsSortedBy-filter}
-use Rattle.std.proofs.lemmas.List.Sorted.{ranks_by, list_any-IsPermutation}
+use Rattle.std.proofs.Common.{◌≡◌, ℕ, ◌+◌, ◌-◌, ◌<◌, Bool, true, false, ◌&&◌, ◌||◌, List, [], ◌∷◌, ◌++◌, length, length-drop, get_or, drop}
+use Rattle.std.proofs.{Common.{map, take, not, refl, sym, ◌∙◌, ap, arith, subst, filter}, lemmas.{Bool.and_from, Cmp.nat_list_cmp_total}}
+use Rattle.std.proofs.lemmas.List.{take-append-drop, take_all, take_more, Elements.filter-append, Folds.list_any-append}
+use Rattle.std.proofs.lemmas.List.{Kept.IsSortedBy-filter, Sorted.{ranks_by, list_any-IsPermutation}}
 use Rattle.std.specs.{Cmp.IsStrictWeakOrder, Cmp.Lexicographic.pointwise, Ordering.is_lt, Prelude.nat_eq, List.Sorted.IsSortedByKey}
 use Rattle.cdm_flight.proofs.Lists.{IsPermutation-filter, apart_from_rest, filter_same}
 use Rattle.cdm_plan.proofs.{NameLemmas.by_name, OnePlanLemmas.one_day_plan}
-use Rattle.cdm_plan.proofs.ListWords.{contains_map, Contains, IsDistinct, IsDistinct-IsPermutation, IsPermutation, append_assoc, distinct_right}
-use Rattle.cdm_plan.proofs.ListWords.{list_any-append, map-append, IsPermutation-append_comm, IsPermutation-append_left, IsPermutation-append_right}
-use Rattle.cdm_plan.proofs.ListWords.{IsPermutation-map, IsPermutation-refl, IsPermutation-sym, IsPermutation-append, IsPermutation-trans, append-nil}
-use Rattle.cdm_plan.proofs.ListWords.{distinct_filter}
-use Rattle.cdm_plan.proofs.PlanWords.{is_same, name_cmp, same_name, DayRecord, IsDayPlan, IsSound, Plan, flights_in, runway_names, same_flips}
+use Rattle.cdm_plan.proofs.ListWords.{contains_map, Contains, IsDistinct, IsDistinct-IsPermutation, IsPermutation, append_assoc}
+use Rattle.cdm_plan.proofs.ListWords.{distinct_right, list_any-append, map-append, IsPermutation-append_comm, IsPermutation-append_left}
+use Rattle.cdm_plan.proofs.ListWords.{IsPermutation-append_right, IsPermutation-map, IsPermutation-refl, IsPermutation-sym}
+use Rattle.cdm_plan.proofs.ListWords.{IsPermutation-append, IsPermutation-trans, append-nil, distinct_filter}
+use Rattle.cdm_plan.proofs.PlanWords.{is_same, name_cmp, same_name, DayRecord, IsDayPlan, IsSound, Plan, flights_in, runway_names}
+use Rattle.cdm_plan.proofs.PlanWords.{same_flips}
 use Rattle.cdm_time.specs.declared.calendar.CalendarDate.{CalendarDate}
 use Rattle.cdm_view.specs.{declared.standing.Standing.Standing, inner.Left.AreRests}
 use Rattle.cdm_view.specs.Standings.{changes, flight_name, is_same_told, is_told, standing_line, AreChanges, IsChangedTo, standings_of}

@@ -1,13 +1,14 @@
 -- Slots that stand by take-off: those at some minutes are one part of them.
-use Rattle.std.proofs.Common.{◌≡◌, ℕ, ◌+◌, ◌-◌, ◌*◌, ◌/◌, ◌==◌, ◌≤◌, max, min, Bool, true, false, List, [], ◌∷◌, ◌++◌, length, take, drop, filter}
-use Rattle.std.proofs.Common.{get_or, ltb, map, refl, sym, subst, ◌∙◌, ap, arith}
+use Rattle.std.proofs.Common.{◌≡◌, ℕ, ◌+◌, ◌-◌, ◌*◌, ◌/◌, ◌==◌, ◌≤◌, max, min, Bool, true, false, List, [], ◌∷◌, ◌++◌, length, take, drop}
+use Rattle.std.proofs.Common.{filter, get_or, ltb, map, refl, sym, subst, ◌∙◌, ap, arith}
 use Rattle.std.proofs.lemmas.{Nat.div-add-mod', Nat.div_below, Nat.le-div, Grind.common_steps}
 use Rattle.std.proofs.lemmas.Bool.{and_from, false_from_ne_true, le-leb, leb-true, lt-ltb, ltb-false, ltb-true, Decides.nat_tests}
 use Rattle.std.proofs.lemmas.List.{append-nil, get_or-drop, get_or-take, length-drop, length-take, take-append-drop, take_rest}
 use Rattle.std.proofs.lemmas.List.{Sums.prefix_len_passes, Sums.prefix_len_stops, Kept.IsNonDecreasingBy-filter}
 use Rattle.std.proofs.lemmas.List.Elements.{All-contains, All-take, filter-append, filter_agree}
 use Rattle.std.proofs.lemmas.List.Sorted.{IsNonDecreasingBy-drop, IsNonDecreasingBy-from_all_adjacent}
-use Rattle.std.specs.{List.All, List.prefix_len, List.Sorted.IsPartitionPoint, List.Sorted.IsSorted, Ordering.is_lt, Prelude.nat_le, Prelude.nat_lt}
+use Rattle.std.specs.{List.All, List.prefix_len, List.Sorted.IsPartitionPoint, List.Sorted.IsSorted, Ordering.is_lt, Prelude.nat_le}
+use Rattle.std.specs.{Prelude.nat_lt}
 use Rattle.cdm_time.specs.Windows.{window_has}
 use Rattle.cdm_sequence.specs.{Slots.slot_cmp, declared.slot.Slot.Slot}
 use Rattle.cdm_view.specs.{Turns.turn_in, Reasons.Waiting, Reasons.held_at, Reasons.is_earlier, Reasons.met_at}

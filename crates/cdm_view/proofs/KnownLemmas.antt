@@ -1,16 +1,16 @@
 -- Each known flight has a standing.
-use Rattle.std.proofs.Common.{◌≡◌, ℕ, Bool, true, false, ◌||◌, List, [], ◌∷◌, ◌++◌, Option, None, Some, IfSome, IsTrue, refl, sym, ◌∙◌, ap, subst}
-use Rattle.std.proofs.Common.{inl, inr, arith, map, take, ◌+◌}
+use Rattle.std.proofs.Common.{◌≡◌, ℕ, Bool, true, false, ◌||◌, List, [], ◌∷◌, ◌++◌, Option, None, Some, IfSome, IsTrue, refl, sym, ◌∙◌, ap}
+use Rattle.std.proofs.Common.{subst, inl, inr, arith, map, take, ◌+◌}
 use Rattle.std.proofs.lemmas.{List.Elements.All-append, List.Elements.All-contains, Map.Views.Contains-from_any, Grind.common_steps}
 use Rattle.std.specs.Option.{ForSome}
 use Rattle.cdm_flight.{proofs.JournalLemmas.same_name-refl, specs.Record.is_sound, specs.declared.flight.Status.Status}
 use Rattle.cdm_plan.proofs.{DayPlanLemmas.record_name, DayPlanLemmas.records-next, JournalFacts.known-among}
-use Rattle.cdm_plan.proofs.ListWords.{All, All-cons, All-nil, append_assoc, cons_option, filter_map, filter_map-append, option_and_then, slice_get}
-use Rattle.cdm_plan.proofs.ListWords.{Contains, Contains-permutation, IsPermutation, contains_cases, false≢true, if_so, is_some, map_fixed}
-use Rattle.cdm_plan.proofs.ListWords.{option_map_or, or_right, list_any-find, list_any-map, list_any-same}
-use Rattle.cdm_plan.proofs.PlanWords.{same_flips, AimResult, DayRecord, DayValues, IsAim, IsDayPlan, IsSound, Plan, Flight, RunwayPlan, RunwayRow}
-use Rattle.cdm_plan.proofs.PlanWords.{Early, Ready, TaxiTimes, aim_means, aim_of, blocked_in, fixed_slot, flight_of, flights_in, is_on, is_planned}
-use Rattle.cdm_plan.proofs.PlanWords.{records_in, same_is, same_name, slot_by, status_of-record, taxi_of, values_of}
+use Rattle.cdm_plan.proofs.ListWords.{All, All-cons, All-nil, append_assoc, cons_option, filter_map, filter_map-append, option_and_then}
+use Rattle.cdm_plan.proofs.ListWords.{slice_get, Contains, Contains-permutation, IsPermutation, contains_cases, false≢true, if_so, is_some}
+use Rattle.cdm_plan.proofs.ListWords.{map_fixed, option_map_or, or_right, list_any-find, list_any-map, list_any-same}
+use Rattle.cdm_plan.proofs.PlanWords.{same_flips, AimResult, DayRecord, DayValues, IsAim, IsDayPlan, IsSound, Plan, Flight, RunwayPlan}
+use Rattle.cdm_plan.proofs.PlanWords.{RunwayRow, Early, Ready, TaxiTimes, aim_means, aim_of, blocked_in, fixed_slot, flight_of, flights_in}
+use Rattle.cdm_plan.proofs.PlanWords.{is_on, is_planned, records_in, same_is, same_name, slot_by, status_of-record, taxi_of, values_of}
 use Rattle.cdm_plan.proofs.PlanningLemmas.{early_at, fixed_at, stands, stands_in, target_at}
 use Rattle.cdm_sequence.proofs.NameLemmas.{names_given}
 use Rattle.cdm_view.{specs.declared.standing.Standing.Standing, specs.Standings.cancelled, specs.Standings.flight_name, specs.Standings.standings_of}

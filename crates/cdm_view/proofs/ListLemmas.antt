@@ -1,5 +1,6 @@
 -- Lists and choices: what is among what elements give, and what a filter keeps.
-use Rattle.std.proofs.Common.{◌≡◌, Bool, true, false, get_or, List, [], ◌∷◌, Option, Some, None, filter, refl, sym, ◌∙◌, ap, subst, inl, inr, arith}
+use Rattle.std.proofs.Common.{◌≡◌, Bool, true, false, get_or, List, [], ◌∷◌, Option, Some, None, filter, refl, sym, ◌∙◌, ap, subst, inl}
+use Rattle.std.proofs.Common.{inr, arith}
 use Rattle.std.proofs.lemmas.{Option.same_Some, List.Elements.Contains-append_cases, List.Elements.Contains-append_left}
 use Rattle.std.proofs.lemmas.{List.Elements.Contains-append_right, List.Elements.Contains-get_or, List.Folds.list_any_none}
 use Rattle.cdm_plan.proofs.ListWords.{Contains, cons_option, contains_cases, contains_head, contains_tail, filter_map, flat_map, list_any}

@@ -1,11 +1,10 @@
 -- Cells of a runway, the columns of their lines, and their counts.
-use Rattle.std.proofs.Common.{ℕ, ◌≡◌, ◌+◌, ◌-◌, ◌/◌, ◌^◌, ◌<◌, ◌≤◌, Bool, true, IsTrue, List, [], ◌++◌, length, ap, slice_index, take, refl, sym, ◌∙◌}
-use Rattle.std.proofs.Common.{arith, append_assoc, eq-eqb, eqb-true, suc, zero, false, cond, ◌∷◌, subst, add-one, zero-add}
+use Rattle.std.proofs.Common.{ℕ, ◌≡◌, ◌+◌, ◌-◌, ◌/◌, ◌^◌, ◌<◌, ◌≤◌, Bool, true, IsTrue, List, [], ◌++◌, length, ap, slice_index, take, refl}
+use Rattle.std.proofs.Common.{sym, ◌∙◌, arith, append_assoc, eq-eqb, eqb-true, suc, zero, false, cond, ◌∷◌, subst, add-one, zero-add}
 use Rattle.std.proofs.Padding.{char_count-nil, padded_is, repeat_ascii, styled_decimal_is, take_chars_all}
-use Rattle.std.proofs.lemmas.List.{Concat.flat_map-append, Elements.All-contains, Elements.filter-append, Elements.filter_passes, Sums.sum_by-cons}
-use Rattle.std.proofs.lemmas.Bool.{both_ways, cond-false, cond-true, le-ltb, lt-ltb, ne_eqb, Decides.nat_tests}
-use Rattle.std.proofs.lemmas.Grind.{common_steps}
-use Rattle.std.specs.Prelude.{◌==◌, nat_lt, filter, Option, slice_get}
+use Rattle.std.proofs.lemmas.List.{Concat.flat_map-append, Elements.All-contains, Elements.filter-append, Elements.filter_passes}
+use Rattle.std.proofs.lemmas.{List.Sums.sum_by-cons, Bool.{both_ways, cond-false, cond-true, le-ltb, lt-ltb, ne_eqb, Decides.nat_tests}}
+use Rattle.std.{proofs.lemmas.Grind.common_steps, specs.Prelude.{◌==◌, nat_lt, filter, Option, slice_get}}
 use Rattle.std.specs.List.{Contains, cons_option, flat_map, All, count_by, range_with_len, sum_by}
 use Rattle.std.specs.Fmt.{format_spec, decimal, padded, styled_decimal, styled_text, padded_integral}
 use Rattle.cdm_report.{proofs.Widths.char_count-ascii, specs.Columns.left_in, specs.Report.day_line}
@@ -14,10 +13,9 @@ use Rattle.cdm_flight.proofs.Lists.{contains_kept, contains_head, contains_tail,
 use Rattle.cdm_runway.{specs.Rules.RunwayRules, proofs.CellLemmas.cell_below}
 use Rattle.cdm_sequence.specs.declared.{plan.Plan.Plan, slot.Slot.Slot}
 use Rattle.cdm_time.specs.declared.calendar.CalendarDate.{CalendarDate}
-use Rattle.cdm_plan.specs.{Day.DayRecord, DayPlan.AreByName}
-use Rattle.cdm_plan.proofs.NameLemmas.{rules_by_name, rules_in, take-next}
-use Rattle.cdm_view.specs.Load.{IsInOneLine, IsLoad, cells_of, flights_in_cell, is_asked, is_between, load_text, runway_load, tells, told_cells}
-use Rattle.cdm_view.proofs.RangeLemmas.{between_itself, range-contains, count_more, range-bounds}
+use Rattle.cdm_plan.{specs.{Day.DayRecord, DayPlan.AreByName}, proofs.NameLemmas.{rules_by_name, rules_in, take-next}}
+use Rattle.cdm_view.specs.Load.{IsInOneLine, IsLoad, cells_of, flights_in_cell, is_asked, is_between, load_text, runway_load, tells}
+use Rattle.cdm_view.{specs.Load.told_cells, proofs.RangeLemmas.{between_itself, range-contains, count_more, range-bounds}}
 
 -- a number on the left of a width
 pub left_number : (width n : ℕ) → styled_decimal (format_spec 32 1 0 width (2 ^ 64 - 1)) n ≡ left_in width (decimal n)

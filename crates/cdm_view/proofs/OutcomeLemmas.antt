@@ -1,19 +1,18 @@
 -- A planned flight that waits has a slot at the first minute without a reason, or is blocked as its reasons say.
-use Rattle.std.proofs.Common.{◌≡◌, ◌⊎◌, ℕ, ◌+◌, ◌<◌, ◌≤◌, true, false, List, ◌++◌, Option, Some, None, is_none, map, [], filter, refl, sym, ◌∙◌, ap}
-use Rattle.std.proofs.Common.{subst, inl, inr, arith, Bool}
+use Rattle.std.proofs.Common.{◌≡◌, ◌⊎◌, ℕ, ◌+◌, ◌<◌, ◌≤◌, true, false, List, ◌++◌, Option, Some, None, is_none, map, [], filter, refl, sym}
+use Rattle.std.proofs.Common.{◌∙◌, ap, subst, inl, inr, arith, Bool}
 use Rattle.std.proofs.lemmas.{Bool.both_ways, Bool.false≢true, Bool.or_left, Option.same_Some, Map.Views.Contains-from_any}
 use Rattle.std.proofs.lemmas.List.Elements.{Contains-append_cases, Contains-append_left, Contains-append_right}
 use Rattle.cdm_plan.proofs.{JournalFacts.known-among, PlanningLemmas.blocked_early, PlanningLemmas.targets_of, OnePlanLemmas.partner}
-use Rattle.cdm_plan.proofs.ListWords.{All-contains, Contains, Contains-permutation, IsPermutation-sym, contains_all, contains_from_map, contains_kept}
-use Rattle.cdm_plan.proofs.ListWords.{contains_map, filter_map, filter_passes, flat_map, option_map, IsDistinct, IsDistinct-IsPermutation}
-use Rattle.cdm_plan.proofs.ListWords.{IsPermutation, one_of_key, option_and_then, option_map_or}
-use Rattle.cdm_plan.proofs.PlanWords.{AimResult, BlockedFlight, DayRecord, DayValues, Early, IsAim, Placing, Plan, Ready, Flight, RunwayPlan}
-use Rattle.cdm_plan.proofs.PlanWords.{RunwayRules, Slot, Target, TaxiTimes, aim_means, aim_of, blocked_in, fixed_on, flight_of, flights_in, is_known}
-use Rattle.cdm_plan.proofs.PlanWords.{is_planned, is_same, planned_of, records_in, same_is, same_name, status_of-record, takeoffs, target_in, taxi_of}
-use Rattle.cdm_plan.proofs.PlanWords.{values_of, IsSequence, IsSequenceBy, RunwayRow, day_rules, rules_of, same_flips, targets_on}
-use Rattle.cdm_plan.proofs.NameLemmas.{day_rules_differ, find_only, find_some}
-use Rattle.cdm_flight.proofs.JournalLemmas.{aobt_of, atot_of, is_cancelled, planned_says}
-use Rattle.cdm_flight.proofs.Lists.{contains_from_given}
+use Rattle.cdm_plan.proofs.ListWords.{All-contains, Contains, Contains-permutation, IsPermutation-sym, contains_all, contains_from_map}
+use Rattle.cdm_plan.proofs.ListWords.{contains_kept, contains_map, filter_map, filter_passes, flat_map, option_map, IsDistinct}
+use Rattle.cdm_plan.proofs.ListWords.{IsDistinct-IsPermutation, IsPermutation, one_of_key, option_and_then, option_map_or}
+use Rattle.cdm_plan.proofs.PlanWords.{AimResult, BlockedFlight, DayRecord, DayValues, Early, IsAim, Placing, Plan, Ready, Flight}
+use Rattle.cdm_plan.proofs.PlanWords.{RunwayPlan, RunwayRules, Slot, Target, TaxiTimes, aim_means, aim_of, blocked_in, fixed_on, flight_of}
+use Rattle.cdm_plan.proofs.PlanWords.{flights_in, is_known, is_planned, is_same, planned_of, records_in, same_is, same_name}
+use Rattle.cdm_plan.proofs.PlanWords.{status_of-record, takeoffs, target_in, taxi_of, values_of, IsSequence, IsSequenceBy, RunwayRow}
+use Rattle.cdm_plan.proofs.{PlanWords.{day_rules, rules_of, same_flips, targets_on}, NameLemmas.{day_rules_differ, find_only, find_some}}
+use Rattle.cdm_flight.proofs.{JournalLemmas.{aobt_of, atot_of, is_cancelled, planned_says}, Lists.contains_from_given}
 use Rattle.cdm_flight.specs.{Journal.exot_of, Order.is_before, Record.key_of}
 use Rattle.cdm_flight.specs.declared.{flight.Status.Status, flight.Status.TheVariants.Planned, key.Key.Key}
 use Rattle.cdm_runway.specs.declared.load.Taken.{Taken}

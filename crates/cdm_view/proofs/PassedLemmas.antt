@@ -1,11 +1,11 @@
 -- Items by name that changed: those before are passed name by name.
-use Rattle.std.proofs.Common.{◌≡◌, ℕ, zero, suc, ◌+◌, ◌<◌, ◌≤◌, Bool, true, false, cond, ◌||◌, List, [], ◌∷◌, ◌++◌, length, length-drop, get_or, drop}
-use Rattle.std.proofs.Common.{map, take, filter, not, Some, refl, sym, ◌∙◌, ap, add-zero, arith}
-use Rattle.std.proofs.Math.Bool.{or-false}
+use Rattle.std.proofs.Common.{◌≡◌, ℕ, zero, suc, ◌+◌, ◌<◌, ◌≤◌, Bool, true, false, cond, ◌||◌, List, [], ◌∷◌, ◌++◌, length, length-drop}
+use Rattle.std.proofs.{Common.{get_or, drop, map, take, filter, not, Some, refl, sym, ◌∙◌, ap, add-zero, arith}, Math.Bool.or-false}
 use Rattle.std.proofs.lemmas.{Bool.false_from_ne_true, Bool.false≢true, Cmp.nat_list_cmp_total, List.get_or-drop, List.get_or-take}
 use Rattle.std.proofs.lemmas.{List.get_or_default, List.take-append-drop, List.Sums.prefix_len_passes, List.Sums.prefix_len_stops}
 use Rattle.std.proofs.lemmas.{List.Elements.filter_more, List.Folds.length-prefix_len, List.Folds.list_any-append, List.Folds.list_any_none}
-use Rattle.std.proofs.lemmas.{List.Sorted.ranks_by, List.Sorted.sorted_far, Option.get_or_from_slice_get, Option.slice_get_within, Grind.common_steps}
+use Rattle.std.proofs.lemmas.{List.Sorted.ranks_by, List.Sorted.sorted_far, Option.get_or_from_slice_get, Option.slice_get_within}
+use Rattle.std.proofs.lemmas.{Grind.common_steps}
 use Rattle.std.specs.{Cmp.IsStrictWeakOrder, List.prefix_len, List.Sorted.IsSortedByKey, Option.option_map_or, Ordering.is_lt}
 use Rattle.cdm_flight.proofs.Lists.{apart_from_head, sorted_rest}
 use Rattle.cdm_plan.proofs.ListWords.{IsDistinct, IsDistinct-tail, contains_map, list_any, slice_get}

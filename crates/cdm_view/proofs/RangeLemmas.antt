@@ -1,12 +1,12 @@
 -- Numbers one after another, and those among them that lie between numbers that pass a test.
-use Rattle.std.proofs.Common.{ℕ, suc, zero, ◌≡◌, ◌+◌, ◌-◌, ◌<◌, ◌≤◌, Bool, true, false, cond, List, [], ◌∷◌, ◌++◌, refl, sym, ap, ◌∙◌, arith}
-use Rattle.std.proofs.Common.{add-zero, zero-add}
+use Rattle.std.proofs.Common.{ℕ, suc, zero, ◌≡◌, ◌+◌, ◌-◌, ◌<◌, ◌≤◌, Bool, true, false, cond, List, [], ◌∷◌, ◌++◌, refl, sym, ap, ◌∙◌}
+use Rattle.std.proofs.Common.{arith, add-zero, zero-add}
 use Rattle.std.proofs.lemmas.{Bool.Decides.nat_tests, Bool.and_left, Bool.and_parts, Bool.and_right, Bool.false_from_ne_true, Bool.leb-true}
 use Rattle.std.proofs.lemmas.{List.append-nil, List.flat_map_more, List.Elements.filter-append, List.FromFn.get_or-range_with_len}
 use Rattle.std.proofs.lemmas.{List.FromFn.length-range_with_len, List.Sums.sum_by-append, Grind.common_steps}
-use Rattle.std.specs.{Prelude.◌&&◌, Prelude.nat_le, Prelude.filter, List.list_any, List.range_with_len, List.count_by, List.Contains, List.flat_map}
-use Rattle.cdm_view.specs.{Load.is_between, inner.Ends.AreEnds}
-use Rattle.cdm_view.proofs.ListLemmas.{any_with, any_without, filter_all, filter_none}
+use Rattle.std.specs.{Prelude.◌&&◌, Prelude.nat_le, Prelude.filter, List.list_any, List.range_with_len, List.count_by, List.Contains}
+use Rattle.std.specs.{List.flat_map}
+use Rattle.cdm_view.{specs.{Load.is_between, inner.Ends.AreEnds}, proofs.ListLemmas.{any_with, any_without, filter_all, filter_none}}
 
 -- as many numbers, and then as many more
 pub range-append : (a m n : ℕ) → range_with_len a (m + n) ≡ range_with_len a m ++ range_with_len (a + m) n

@@ -1,18 +1,16 @@
 -- What a reason to wait at a minute says of it, and which rule blocks a flight, by its reasons.
-use Rattle.std.proofs.Common.{◌≡◌, ℕ, suc, ◌+◌, ◌<◌, ◌≤◌, ◌/◌, ◌==◌, Bool, true, false, not, cond, ◌&&◌, List, length, filter, map, Option, Some}
-use Rattle.std.proofs.Common.{None, refl, sym, ◌∙◌, subst, inl, inr, arith}
-use Rattle.std.proofs.lemmas.{List.Sums.length-filter, Grind.common_steps}
-use Rattle.std.proofs.lemmas.Bool.{and_from, and_parts, both_ways, cases_lt, cond_both, le-leb, leb-false, leb-true, lt-ltb, ltb-false, ltb-true}
-use Rattle.std.proofs.lemmas.Bool.{not-false, not-true, not_from_false, Decides.Decides-by_and, Decides.nat_tests}
+use Rattle.std.proofs.Common.{◌≡◌, ℕ, suc, ◌+◌, ◌<◌, ◌≤◌, ◌/◌, ◌==◌, Bool, true, false, not, cond, ◌&&◌, List, length, filter, map, Option}
+use Rattle.std.proofs.{Common.{Some, None, refl, sym, ◌∙◌, subst, inl, inr, arith}, lemmas.{List.Sums.length-filter, Grind.common_steps}}
+use Rattle.std.proofs.lemmas.Bool.{and_from, and_parts, both_ways, cases_lt, cond_both, le-leb, leb-false, leb-true, lt-ltb, ltb-false}
+use Rattle.std.proofs.lemmas.Bool.{ltb-true, not-false, not-true, not_from_false, Decides.Decides-by_and, Decides.nat_tests}
 use Rattle.std.specs.{Bool.Decides, Option.IsSome, Option.IfSome, Option.IsSomeAnd}
 use Rattle.cdm_flight.{proofs.Lists.sum_map, specs.Taxi.stand_minutes}
-use Rattle.cdm_plan.proofs.ListWords.{All, count_by, nat_le, nat_lt, option_map_or}
-use Rattle.cdm_plan.proofs.PlanWords.{RunwayRules, Slot}
+use Rattle.cdm_plan.proofs.{ListWords.{All, count_by, nat_le, nat_lt, option_map_or}, PlanWords.{RunwayRules, Slot}}
 use Rattle.cdm_time.specs.Windows.{is_in_tolerance}
-use Rattle.cdm_runway.specs.{Room.cap_at, Room.held_in_cell, Room.is_closed, Room.meets, Room.taken_by, Room.IsSpaced, declared.load.Taken.Taken}
+use Rattle.cdm_runway.specs.{Room.cap_at, Room.held_in_cell, Room.is_closed, Room.meets, Room.taken_by, Room.IsSpaced}
+use Rattle.cdm_runway.specs.{declared.load.Taken.Taken}
 use Rattle.cdm_sequence.specs.{Aims.is_candidate, Aims.ready_at, declared.rule.Rule.Rule}
-use Rattle.cdm_view.specs.{Waits.place_of, Waits.rule_of, declared.reason.Reason.Reason}
-use Rattle.cdm_view.specs.Reasons.{reason_at, Waiting, held_at, met_at}
+use Rattle.cdm_view.specs.{Waits.place_of, Waits.rule_of, declared.reason.Reason.Reason, Reasons.{reason_at, Waiting, held_at, met_at}}
 use Rattle.cdm_sequence.specs.declared.rule.Rule.TheVariants as rule
 
 -- Lists.

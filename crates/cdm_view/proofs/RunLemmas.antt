@@ -1,7 +1,6 @@
 -- Runs of minutes, and how one more minute changes them.
-use Rattle.std.proofs.Common.{◌≡◌, ℕ, ◌+◌, ◌<◌, ◌≤◌, List, [], ◌∷◌, ◌++◌, Option, Some, None, ◌⊎◌, inl, inr, ap, sym, ◌∙◌, refl, subst, append_assoc}
-use Rattle.std.proofs.Common.{arith}
-use Rattle.std.proofs.lemmas.Grind.{common_steps}
+use Rattle.std.proofs.Common.{◌≡◌, ℕ, ◌+◌, ◌<◌, ◌≤◌, List, [], ◌∷◌, ◌++◌, Option, Some, None, ◌⊎◌, inl, inr, ap, sym, ◌∙◌, refl, subst}
+use Rattle.std.proofs.{Common.{append_assoc, arith}, lemmas.Grind.common_steps}
 use Rattle.cdm_view.specs.{declared.reason.Reason.Reason, declared.runs.Run.Run, Runs.AreRuns, Runs.IsNextRun}
 
 -- There is one list of runs.

@@ -1,15 +1,18 @@
 -- The standings of a day have names of their own, and are one list.
-use Rattle.std.proofs.Common.{◌≡◌, ℕ, Bool, true, false, ◌||◌, List, [], ◌∷◌, ◌++◌, None, Some, refl, sym, ◌∙◌, ap, map, filter, IfSome, arith}
-use Rattle.std.proofs.lemmas.Grind.{common_steps}
+use Rattle.std.proofs.Common.{◌≡◌, ℕ, Bool, true, false, ◌||◌, List, [], ◌∷◌, ◌++◌, None, Some, refl, sym, ◌∙◌, ap, map, filter, IfSome}
+use Rattle.std.proofs.{Common.arith, lemmas.Grind.common_steps}
 use Rattle.cdm_plan.proofs.{NameLemmas.by_name, NameLemmas.runway-names, OnePlanLemmas.flat_map-parts}
 use Rattle.cdm_plan.proofs.ListWords.{is_some, All-permutation, AllZip, IsDistinct, IsDistinct-IsPermutation, IsPermutation}
 use Rattle.cdm_plan.proofs.ListWords.{IsPermutation-append_comm, IsPermutation-append_left, IsPermutation-append_right, IsPermutation-map}
-use Rattle.cdm_plan.proofs.ListWords.{IsPermutation-trans, append_assoc, distinct_filter, filter_map, flat_map, if_so, if◌then◌else◌, map-append}
-use Rattle.cdm_plan.proofs.PlanWords.{BlockedFlight, DayRecord, IsDayPlan, IsSequenceBy, Plan, Flight, RunwayPlan, RunwayRules, Slot, HasParts}
-use Rattle.cdm_plan.proofs.PlanWords.{day_rules, fixed_on, flights_in, DayValues, TaxiTimes, is_on, is_planned, planned_of, records_in, runway_names}
-use Rattle.cdm_plan.proofs.PlanWords.{same_flips, same_name, fixed_slot, blocked_in, aim_of, targets_in, targets_on, taxi_of, values_of}
+use Rattle.cdm_plan.proofs.ListWords.{IsPermutation-trans, append_assoc, distinct_filter, filter_map, flat_map, if_so, if◌then◌else◌}
+use Rattle.cdm_plan.proofs.ListWords.{map-append}
+use Rattle.cdm_plan.proofs.PlanWords.{BlockedFlight, DayRecord, IsDayPlan, IsSequenceBy, Plan, Flight, RunwayPlan, RunwayRules, Slot}
+use Rattle.cdm_plan.proofs.PlanWords.{HasParts, day_rules, fixed_on, flights_in, DayValues, TaxiTimes, is_on, is_planned, planned_of}
+use Rattle.cdm_plan.proofs.PlanWords.{records_in, runway_names, same_flips, same_name, fixed_slot, blocked_in, aim_of, targets_in}
+use Rattle.cdm_plan.proofs.PlanWords.{targets_on, taxi_of, values_of}
 use Rattle.cdm_plan.proofs.DayPlanLemmas.{HasSequence, has_sequence, record_names_differ, targets_at}
-use Rattle.cdm_plan.proofs.PlanningLemmas.{AllZip-weaker, Shows, aims_are, blocked_early, early-aims, made_named, once, shows_made, stands_in, parted}
+use Rattle.cdm_plan.proofs.PlanningLemmas.{AllZip-weaker, Shows, aims_are, blocked_early, early-aims, made_named, once, shows_made}
+use Rattle.cdm_plan.proofs.PlanningLemmas.{stands_in, parted}
 use Rattle.cdm_sequence.proofs.NameLemmas.{names_given}
 use Rattle.cdm_view.specs.declared.standing.Standing.{Standing, TheVariants.OnRunway, TheVariants.Blocked, TheVariants.Cancelled}
 use Rattle.cdm_view.specs.Standings.{AreStandings, cancelled, flight_name, is_cancelled, on_runway, standings_of}

@@ -1,15 +1,13 @@
 -- A flight's turn: what the slots before it take, its earliest minute, and what blocks its target.
-use Rattle.std.proofs.Common.{◌≡◌, ℕ, Bool, true, false, List, [], ◌∷◌, ◌++◌, filter, map, Option, Some, None, refl, sym, ◌∙◌, ap, subst, suc, ◌+◌}
-use Rattle.std.proofs.Common.{◌<◌, ◌≤◌, arith}
+use Rattle.std.proofs.Common.{◌≡◌, ℕ, Bool, true, false, List, [], ◌∷◌, ◌++◌, filter, map, Option, Some, None, refl, sym, ◌∙◌, ap, subst}
+use Rattle.std.proofs.Common.{suc, ◌+◌, ◌<◌, ◌≤◌, arith}
 use Rattle.std.proofs.lemmas.{List.Elements.filter-append, Bool.Decides.nat_tests, Bool.both_ways, Grind.common_steps}
 use Rattle.std.specs.Option.{IsSome, IsSomeAnd}
-use Rattle.cdm_plan.proofs.ListWords.{Contains, IsPermutation, IsPermutation-map, filter_map, map-append, filter_map-filter, filter_map_same, if_so}
-use Rattle.cdm_plan.proofs.ListWords.{option_map, All-permutation, IsPermutation-sym, sum_by-IsPermutation}
-use Rattle.cdm_plan.proofs.PlanningLemmas.{filter-filter_map}
-use Rattle.cdm_plan.proofs.PlanWords.{if_passes, Placing, RunwayRules, Slot, Target, takeoffs}
+use Rattle.cdm_plan.proofs.ListWords.{Contains, IsPermutation, IsPermutation-map, filter_map, map-append, filter_map-filter}
+use Rattle.cdm_plan.proofs.ListWords.{filter_map_same, if_so, option_map, All-permutation, IsPermutation-sym, sum_by-IsPermutation}
+use Rattle.cdm_plan.proofs.{PlanningLemmas.filter-filter_map, PlanWords.{if_passes, Placing, RunwayRules, Slot, Target, takeoffs}}
 use Rattle.cdm_flight.{proofs.Lists.IsPermutation-filter, specs.Order.is_before, specs.declared.group.Group.Group}
-use Rattle.cdm_runway.specs.declared.load.Taken.{Taken}
-use Rattle.cdm_runway.specs.Room.{held_in_cell, is_closed, meets, taken_by, IsEarliest, IsFree, IsSpaced}
+use Rattle.cdm_runway.specs.{declared.load.Taken.Taken, Room.{held_in_cell, is_closed, meets, taken_by, IsEarliest, IsFree, IsSpaced}}
 use Rattle.cdm_sequence.specs.{Plan.taken_before, Plan.taken_of, Sequence.planned_slot, Sequence.Blocks, declared.rule.Rule.Rule}
 use Rattle.cdm_view.proofs.ListLemmas.{filter_all, option_map_some}
 use Rattle.cdm_view.proofs.ReasonLemmas.{taken_as, IsSpacedFor, KeepsBefore, and_next, candidate_keeps, candidate_within, free_keeps}

@@ -1,11 +1,10 @@
 -- What a flight waits for, and flights with their slots, targets and keys.
 use Rattle.std.proofs.Common.{◌≡◌, ℕ, Bool, true, false, List, filter, Option, None, Some, refl, sym, ◌∙◌, ap, arith}
-use Rattle.std.proofs.lemmas.Option.{option_and_then_some, same_Some}
-use Rattle.std.specs.{Prelude.if◌then◌else◌, Option.option_and_then}
+use Rattle.std.{proofs.lemmas.Option.{option_and_then_some, same_Some}, specs.{Prelude.if◌then◌else◌, Option.option_and_then}}
 use Rattle.cdm_plan.proofs.{ListWords.Contains, ListWords.contains_all, DayPlanLemmas.record_name, PlanningLemmas.targets_of}
-use Rattle.cdm_plan.proofs.PlanWords.{AimResult, DayRecord, DayValues, IsAim, Plan, Flight, RunwayRow, Slot, Target, TaxiTimes, aim_means, aim_of}
-use Rattle.cdm_plan.proofs.PlanWords.{fixed_on, fixed_slot, flight_of, flights_in, is_on, is_planned, planned_of, records_in, rules_of, runway_row}
-use Rattle.cdm_plan.proofs.PlanWords.{target_in, taxi_of, values_of}
+use Rattle.cdm_plan.proofs.PlanWords.{AimResult, DayRecord, DayValues, IsAim, Plan, Flight, RunwayRow, Slot, Target, TaxiTimes, aim_means}
+use Rattle.cdm_plan.proofs.PlanWords.{aim_of, fixed_on, fixed_slot, flight_of, flights_in, is_on, is_planned, planned_of, records_in}
+use Rattle.cdm_plan.proofs.PlanWords.{rules_of, runway_row, target_in, taxi_of, values_of}
 use Rattle.cdm_flight.{proofs.Lists.contains_from_given, specs.Record.key_of, specs.declared.key.Key.Key}
 use Rattle.cdm_sequence.specs.{Aims.IsTarget, Aims.exot_to, Slots.is_fixed}
 use Rattle.cdm_view.specs.{Reasons.Waiting, Reasons.is_earlier, Reasons.slots_on, Reasons.waiting_of, Why.waits_for}

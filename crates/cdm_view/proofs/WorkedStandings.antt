@@ -4,8 +4,7 @@ use Rattle.cdm_time.specs.{Times.stamp, declared.calendar.CalendarDate.CalendarD
 use Rattle.cdm_flight.specs.declared.group.Group.TheVariants.{Medium}
 use Rattle.cdm_sequence.specs.declared.{rule.Rule.TheVariants.Tobt, slot.Mark.TheVariants.Planned, slot.Slot.Slot}
 use Rattle.cdm_report.specs.Columns.{delay_column, flight_line, left_in, mark_letter, right_in, time_column}
-use Rattle.cdm_view.specs.declared.standing.Standing.TheVariants.{OnRunway, Blocked, Cancelled}
-use Rattle.cdm_view.specs.Standings.{standing_line}
+use Rattle.cdm_view.specs.{declared.standing.Standing.TheVariants.{OnRunway, Blocked, Cancelled}, Standings.standing_line}
 
 abbrev day : CalendarDate
 day = record { year = 2025; month = 3; day = 10 }

@@ -1,5 +1,4 @@
-use Rattle.std.proofs.Common.{◌+◌, sym, ◌∙◌, arith, ap, ◌++◌, ◌∷◌, []}
-use Rattle.std.proofs.lemmas.List.FromFn.{map-range_with_len_more}
+use Rattle.std.proofs.{Common.{◌+◌, sym, ◌∙◌, arith, ap, ◌++◌, ◌∷◌, []}, lemmas.List.FromFn.map-range_with_len_more}
 use Rattle.cdm_board.specs.History.{fresh_desk, fresh_desks, DeskRecord}
 use Rattle.cdm_board.proofs.board.numbered.Goals as goal
 

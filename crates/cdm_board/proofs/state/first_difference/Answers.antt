@@ -1,8 +1,8 @@
 use Rattle.std.proofs.Common.{[], ◌≡◌, ◌+◌, ◌++◌, ℕ, List, length, take, drop, map, ap, ◌∙◌, arith, true, false}
 use Rattle.std.proofs.lemmas.List.{length-map, drop_all}
 use Rattle.cdm_board.specs.{History.Call, History.calls_of, Receipts.call_of, Receipts.entry_of, declared.receipt.Entry.Entry}
-use Rattle.cdm_board.proofs.{Desks.not_so, Places.place-next, Places.place-differs, Places.place-short, Places.calls-here, Places.calls-past}
-use Rattle.cdm_board.proofs.state.first_difference.Goals.{then-entry-desk+else-not-is_call_at, else-entry-desk}
+use Rattle.cdm_board.proofs.{Desks.not_so, Places.place-next, Places.place-differs, Places.place-short, Places.calls-here}
+use Rattle.cdm_board.proofs.{Places.calls-past, state.first_difference.Goals.{then-entry-desk+else-not-is_call_at, else-entry-desk}}
 use Rattle.cdm_board.proofs.state.first_difference.Goals as goal
 
 none-left : (d : ℕ) (es : List Entry) (i : ℕ) → length es ≡ i → calls_of d (map entry_of (drop i es)) ≡ []

@@ -1,5 +1,4 @@
-use Rattle.std.proofs.Common.{◌∙◌, ◌∷◌, [], ℕ, Bool, List, length, is_some, subst}
-use Rattle.std.specs.List.{concat}
+use Rattle.std.{proofs.Common.{◌∙◌, ◌∷◌, [], ℕ, Bool, List, length, is_some, subst}, specs.List.concat}
 use Rattle.cdm_files.specs.Records.{records_of}
 use Rattle.cdm_check.specs.Check.{AreFeedHintsOf, last_line}
 use Rattle.cdm_check.proofs.check_run.check_of.Goals as goal

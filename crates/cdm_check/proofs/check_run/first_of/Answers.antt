@@ -1,5 +1,4 @@
-use Rattle.std.proofs.Common.{◌≤◌, length, length-take-le, sym, arith}
-use Rattle.std.proofs.lemmas.List.{take_all}
+use Rattle.std.proofs.{Common.{◌≤◌, length, length-take-le, sym, arith}, lemmas.List.take_all}
 use Rattle.cdm_check.proofs.check_run.first_of.Goals as goal
 
 pub slice_bounds-result-end : goal.slice_bounds-result-end

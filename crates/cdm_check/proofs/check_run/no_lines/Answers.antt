@@ -1,6 +1,5 @@
 use Rattle.std.proofs.Common.{[], sym, subst}
-use Rattle.cdm_check.specs.Check.{AreLinesOf}
-use Rattle.cdm_check.proofs.LineLemmas.{no_lines}
+use Rattle.cdm_check.{specs.Check.AreLinesOf, proofs.LineLemmas.no_lines}
 use Rattle.cdm_check.proofs.check_run.no_lines.Goals as goal
 
 pub returns-clause-lines : goal.returns-clause-lines

@@ -1,8 +1,6 @@
 use Rattle.std.proofs.Common.{◌≡◌, ◌∙◌, ◌+◌, ◌++◌, ℕ, List, map, take, sym, ap, subst}
 use Rattle.cdm_flight.specs.declared.word.RefusalWord.TheVariants.{Fields}
-use Rattle.cdm_check.specs.Check.{AreLinesOf}
-use Rattle.cdm_check.specs.Findings.{finding}
-use Rattle.cdm_check.proofs.LineLemmas.{next_line}
+use Rattle.cdm_check.{specs.Check.AreLinesOf, specs.Findings.finding, proofs.LineLemmas.next_line}
 use Rattle.cdm_check.proofs.check_run.refused_lines.Goals as goal
 
 pub loop-refusal-preserved : goal.loop-refusal-preserved

@@ -1,6 +1,5 @@
 use Rattle.std.proofs.Common.{map, take}
-use Rattle.cdm_check.specs.Check.{AreLinesOf}
-use Rattle.cdm_check.specs.Findings.{finding}
+use Rattle.cdm_check.specs.{Check.AreLinesOf, Findings.finding}
 use Rattle.cdm_check.proofs.check_run.refused_lines.Given as goal
 
 abbrev pub invariant-loop-refusal : goal.invariant-loop-refusal

@@ -1,11 +1,8 @@
-use Rattle.std.proofs.Common.{◌≡◌, ◌≤◌, ◌<◌, ◌∙◌, ◌++◌, ℕ, List, [], Vec, Global, length, map, take, unwrap_or, sym, ap, subst, arith, if◌then◌else◌}
-use Rattle.std.specs.Option.{option_copied}
-use Rattle.cdm_flight.specs.Journal.{AirportRows}
-use Rattle.cdm_flight.specs.declared.word.RefusalWord.{RefusalWord}
-use Rattle.cdm_files.specs.FeedDay.{refusals_in}
-use Rattle.cdm_files.specs.ScenarioFile.{scenarios_in}
-use Rattle.cdm_check.specs.Check.{AreLinesOf}
-use Rattle.cdm_check.specs.Findings.{fault_at, finding, is_no_feed, listed}
+use Rattle.std.proofs.Common.{◌≡◌, ◌≤◌, ◌<◌, ◌∙◌, ◌++◌, ℕ, List, [], Vec, Global, length, map, take, unwrap_or, sym, ap, subst, arith}
+use Rattle.std.{proofs.Common.if◌then◌else◌, specs.Option.option_copied}
+use Rattle.cdm_flight.specs.{Journal.AirportRows, declared.word.RefusalWord.RefusalWord}
+use Rattle.cdm_files.specs.{FeedDay.refusals_in, ScenarioFile.scenarios_in}
+use Rattle.cdm_check.specs.{Check.AreLinesOf, Findings.{fault_at, finding, is_no_feed, listed}}
 use Rattle.cdm_check.proofs.LineLemmas.{counted, one_fault, with_room, without_room}
 use Rattle.cdm_check.proofs.check_run.told_of_judged.Goals.{then-listed-lt-MOST_TOLD+in_ok-extend_from_slice, else-listed-lt-MOST_TOLD}
 use Rattle.cdm_check.proofs.check_run.told_of_judged.Goals as goal

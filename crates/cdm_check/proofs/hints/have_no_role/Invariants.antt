@@ -1,5 +1,4 @@
-use Rattle.std.proofs.Common.{◌≡◌, length}
-use Rattle.std.specs.List.{list_all}
+use Rattle.std.{proofs.Common.{◌≡◌, length}, specs.List.list_all}
 use Rattle.cdm_files.specs.Records.{records_of}
 use Rattle.cdm_check.specs.Findings.{has_no_role}
 use Rattle.cdm_check.proofs.hints.have_no_role.Given as goal

@@ -1,6 +1,5 @@
 use Rattle.std.proofs.Common.{◌≡◌, ◌∙◌, ◌++◌, ℕ, List, sym, ap, subst}
-use Rattle.cdm_check.specs.Check.{AreHintsOf}
-use Rattle.cdm_check.proofs.LineLemmas.{next_hint}
+use Rattle.cdm_check.{specs.Check.AreHintsOf, proofs.LineLemmas.next_hint}
 use Rattle.cdm_check.proofs.hints.lines_of.Goals as goal
 
 pub loop-hint-preserved : goal.loop-hint-preserved

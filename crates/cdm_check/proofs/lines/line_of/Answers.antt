@@ -1,7 +1,6 @@
 use Rattle.std.proofs.lemmas.Result.{IfOk-weaker}
 use Rattle.cdm_kinds.specs.declared.format.Format.TheVariants.{Text, Json}
-use Rattle.cdm_check.specs.Findings.{finding}
-use Rattle.cdm_check.proofs.LineLemmas.{told_line}
+use Rattle.cdm_check.{specs.Findings.finding, proofs.LineLemmas.told_line}
 use Rattle.cdm_check.proofs.lines.line_of.Goals as goal
 
 pub returns-in-Text : goal.returns-in-Text

@@ -1,7 +1,5 @@
-use Rattle.std.proofs.Common.{◌≡◌, ◌∙◌, sym, subst, rules}
-use Rattle.std.specs.String.{string_bytes}
-use Rattle.cdm_check.specs.Check.{IsSentence}
-use Rattle.cdm_check.proofs.LineLemmas.{cut_sentence, sentence-utf8}
+use Rattle.std.{proofs.Common.{◌≡◌, ◌∙◌, sym, subst, rules}, specs.String.string_bytes}
+use Rattle.cdm_check.{specs.Check.IsSentence, proofs.LineLemmas.{cut_sentence, sentence-utf8}}
 use Rattle.cdm_check.proofs.lines.sentence_of.Goals as goal
 
 pub unwrap-requires : goal.unwrap-requires

@@ -1,9 +1,5 @@
-use Rattle.std.proofs.Common.{◌≡◌, ◌∙◌, [], ◌∷◌, codes, sym, subst, rules}
-use Rattle.std.proofs.lemmas.Result.{IfOk-weaker}
-use Rattle.std.specs.Fmt.{decimal}
-use Rattle.std.specs.List.{concat}
-use Rattle.std.specs.Str.{IsUtf8}
-use Rattle.std.specs.String.{string_bytes}
+use Rattle.std.{proofs.Common.{◌≡◌, ◌∙◌, [], ◌∷◌, codes, sym, subst, rules}, proofs.lemmas.Result.IfOk-weaker, specs.Fmt.decimal}
+use Rattle.std.specs.{List.concat, Str.IsUtf8, String.string_bytes}
 use Rattle.cdm_check.proofs.LineLemmas.{cut_utf8, is_standing}
 use Rattle.cdm_check.proofs.lines.standing_of.Goals as goal
 

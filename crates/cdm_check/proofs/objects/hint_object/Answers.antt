@@ -1,5 +1,4 @@
-use Rattle.std.proofs.Common.{[]}
-use Rattle.std.proofs.lemmas.Result.{IfOk-weaker}
+use Rattle.std.proofs.{Common.[], lemmas.Result.IfOk-weaker}
 use Rattle.cdm_json.proofs.TokenLemmas.{line_written}
 use Rattle.cdm_check.specs.Check.{hint_members}
 use Rattle.cdm_check.proofs.objects.hint_object.Goals as goal

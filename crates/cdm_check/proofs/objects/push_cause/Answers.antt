@@ -1,6 +1,4 @@
-use Rattle.std.proofs.Common.{ℕ, List, [], ◌∷◌}
-use Rattle.std.specs.Prelude.{codes}
-use Rattle.std.proofs.lemmas.Result.{on_ok_weaker}
+use Rattle.std.{proofs.Common.{ℕ, List, [], ◌∷◌}, proofs.lemmas.Result.on_ok_weaker, specs.Prelude.codes}
 use Rattle.json.specs.Json.{Json, string}
 use Rattle.cdm_flight.specs.Words.{text_of}
 use Rattle.cdm_json.proofs.TokenLemmas.{more_members, one_member}

@@ -1,5 +1,4 @@
-use Rattle.cdm_day.proofs.Words.{◌≡◌, ℕ, ◌<◌, ◌≤◌, get_or, RunwayRow}
-use Rattle.cdm_day.specs.Airport.{spaced}
+use Rattle.cdm_day.{proofs.Words.{◌≡◌, ℕ, ◌<◌, ◌≤◌, get_or, RunwayRow}, specs.Airport.spaced}
 use Rattle.cdm_day.proofs.airport.space_rows.Given as goal
 
 -- the rows before the place have the occupancy, and the others are as they were

@@ -1,5 +1,4 @@
-use Rattle.cdm_day.proofs.Words.{arith, common_steps}
-use Rattle.cdm_day.proofs.DayWords.{refusal_of}
+use Rattle.cdm_day.proofs.{Words.{arith, common_steps}, DayWords.refusal_of}
 use Rattle.cdm_day.proofs.judging.judge_clock.Goals as goal
 
 pub returns-then-lt : goal.returns-then-lt

@@ -1,5 +1,4 @@
-use Rattle.cdm_day.proofs.Words.{◌≡◌, ℕ, ◌≤◌, ◌<◌, true, false, arith, rules, nat_le, nat_lt, nat_tests}
-use Rattle.cdm_day.proofs.ChangeLemmas.{closure_changes}
+use Rattle.cdm_day.proofs.{Words.{◌≡◌, ℕ, ◌≤◌, ◌<◌, true, false, arith, rules, nat_le, nat_lt, nat_tests}, ChangeLemmas.closure_changes}
 use Rattle.cdm_day.proofs.WordLemmas.{closure-word, some_there, unless_full}
 use Rattle.cdm_day.proofs.judging.judge_closure.Goals as goal
 

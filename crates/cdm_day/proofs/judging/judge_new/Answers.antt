@@ -1,6 +1,5 @@
 use Rattle.cdm_day.proofs.Words.{◌≡◌, ℕ, ◌≤◌, ◌<◌, true, false, arith, rules, nat_le, or_right, nat_tests}
-use Rattle.cdm_day.proofs.DayWords.{refusal_of, flight_of-fresh}
-use Rattle.cdm_day.proofs.WordLemmas.{flt-word, known_is, unless_full}
+use Rattle.cdm_day.proofs.{DayWords.{refusal_of, flight_of-fresh}, WordLemmas.{flt-word, known_is, unless_full}}
 use Rattle.cdm_day.proofs.judging.judge_new.Goals as goal
 
 many : (n : ℕ) → 2000 ≤ n → nat_le 2000 n ≡ true

@@ -1,6 +1,5 @@
 use Rattle.std.proofs.Common.{rules}
-use Rattle.cdm_day.proofs.ChangeLemmas.{rate_changes}
-use Rattle.cdm_day.proofs.WordLemmas.{rate-word, unless_full}
+use Rattle.cdm_day.proofs.{ChangeLemmas.rate_changes, WordLemmas.{rate-word, unless_full}}
 use Rattle.cdm_day.proofs.judging.judge_rate.Goals as goal
 
 pub returns-in_default : goal.returns-in_default

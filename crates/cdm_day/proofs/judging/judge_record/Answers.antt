@@ -1,6 +1,5 @@
 use Rattle.std.proofs.Common.{rules}
-use Rattle.cdm_day.proofs.ChangeLemmas.{next_record}
-use Rattle.cdm_day.proofs.WordLemmas.{refused, unless_full}
+use Rattle.cdm_day.proofs.{ChangeLemmas.next_record, WordLemmas.{refused, unless_full}}
 use Rattle.cdm_day.proofs.judging.judge_record.Goals as goal
 
 pub returns-in-Ok : goal.returns-in-Ok

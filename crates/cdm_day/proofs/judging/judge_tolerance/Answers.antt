@@ -1,5 +1,4 @@
-use Rattle.cdm_day.proofs.Words.{common_steps, arith}
-use Rattle.cdm_day.proofs.DayWords.{refusal_of}
+use Rattle.cdm_day.proofs.{Words.{common_steps, arith}, DayWords.refusal_of}
 use Rattle.cdm_day.proofs.judging.judge_tolerance.Goals as goal
 
 pub returns : goal.returns

@@ -1,6 +1,4 @@
-use Rattle.std.proofs.Common.{arith}
-use Rattle.std.proofs.lemmas.Grind.{common_steps}
-use Rattle.std.proofs.lemmas.List.Concat.{concat_is}
+use Rattle.std.proofs.{Common.arith, lemmas.Grind.common_steps, lemmas.List.Concat.concat_is}
 use Rattle.cdm_feed.proofs.answers.push_all.Goals as goal
 
 pub loop-answer-preserved : goal.loop-answer-preserved

@@ -1,5 +1,4 @@
-use Rattle.std.proofs.Common.{◌≡◌, ◌++◌, take}
-use Rattle.std.specs.List.{concat}
+use Rattle.std.{proofs.Common.{◌≡◌, ◌++◌, take}, specs.List.concat}
 use Rattle.cdm_feed.proofs.answers.push_all.Given as goal
 
 abbrev pub invariant-loop-answer : goal.invariant-loop-answer

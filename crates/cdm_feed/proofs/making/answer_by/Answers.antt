@@ -1,8 +1,6 @@
 use Rattle.std.proofs.Common.{Some, sym}
 use Rattle.cdm_scenario.specs.Outcome.{IsLaid}
-use Rattle.cdm_feed.specs.Made.{IsAskedOf, IsUntold, IsView}
-use Rattle.cdm_feed.specs.declared.asked.DayText.TheVariants.{Answer}
-use Rattle.cdm_feed.specs.inner.Over.{IsUntoldOver}
+use Rattle.cdm_feed.specs.{Made.{IsAskedOf, IsUntold, IsView}, declared.asked.DayText.TheVariants.Answer, inner.Over.IsUntoldOver}
 use Rattle.cdm_feed.proofs.AskedLemmas.{err-then, ok-then, untold-of, view-of}
 use Rattle.cdm_feed.proofs.making.answer_by.Goals as goal
 

@@ -1,7 +1,6 @@
 use Rattle.std.proofs.Common.{ℕ, IfErr, IfOk, List, Option, Some, subst, sym}
 use Rattle.cdm_scenario.specs.Scenarios.{ScenarioRecord}
-use Rattle.cdm_feed.specs.Made.{IsAskedOf, IsUntold, IsView}
-use Rattle.cdm_feed.specs.declared.asked.DayText.TheVariants.{Answer}
+use Rattle.cdm_feed.specs.{Made.{IsAskedOf, IsUntold, IsView}, declared.asked.DayText.TheVariants.Answer}
 use Rattle.cdm_feed.proofs.making.answer_of.Goals as goal
 
 pub returns-in-None-clause-made : goal.returns-in-None-clause-made

@@ -1,7 +1,5 @@
 use Rattle.std.proofs.Common.{None, subst, sym}
-use Rattle.cdm_feed.specs.Made.{IsUntold}
-use Rattle.cdm_feed.specs.declared.asked.DayText.TheVariants.{Answer}
-use Rattle.cdm_feed.proofs.AskedLemmas.{base_fault}
+use Rattle.cdm_feed.{specs.Made.IsUntold, specs.declared.asked.DayText.TheVariants.Answer, proofs.AskedLemmas.base_fault}
 use Rattle.cdm_feed.proofs.making.answer_of_base.Goals as goal
 
 pub returns-in-Err-clause-fault : goal.returns-in-Err-clause-fault

@@ -1,10 +1,8 @@
 use Rattle.std.proofs.Common.{ℕ, List, Result, subst, sym}
-use Rattle.cdm_flight.specs.declared.update.Update.{Update}
-use Rattle.cdm_flight.specs.declared.word.RefusalWord.{RefusalWord}
+use Rattle.cdm_flight.specs.declared.{update.Update.Update, word.RefusalWord.RefusalWord}
 use Rattle.cdm_plan.specs.Day.{DayRecord}
 use Rattle.cdm_scenario.specs.Outcome.{IsLaid}
-use Rattle.cdm_feed.specs.inner.Over.{IsUntoldOver}
-use Rattle.cdm_feed.proofs.AskedLemmas.{over_fault}
+use Rattle.cdm_feed.{specs.inner.Over.IsUntoldOver, proofs.AskedLemmas.over_fault}
 use Rattle.cdm_feed.proofs.making.answer_over.Goals as goal
 
 pub returns-in-Ok-day_answer-clause-made : goal.returns-in-Ok-day_answer-clause-made

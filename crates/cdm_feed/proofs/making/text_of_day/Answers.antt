@@ -4,8 +4,7 @@ use Rattle.cdm_plan.specs.Day.{DayRecord}
 use Rattle.cdm_scenario.specs.Scenarios.{ScenarioRecord}
 use Rattle.cdm_files.specs.FeedDay.{refusals_in}
 use Rattle.cdm_picture.specs.Pictures.{IsPicture}
-use Rattle.cdm_feed.specs.Made.{IsAskedOf, IsPlanIn, IsTextOf, IsView}
-use Rattle.cdm_feed.specs.declared.asked.DayText.{DayText}
+use Rattle.cdm_feed.specs.{Made.{IsAskedOf, IsPlanIn, IsTextOf, IsView}, declared.asked.DayText.DayText}
 use Rattle.cdm_feed.proofs.making.text_of_day.Goals as goal
 
 pub returns-in_ok-plan_in-in-Plan-clause-made : goal.returns-in_ok-plan_in-in-Plan-clause-made

@@ -1,13 +1,9 @@
-use Rattle.std.proofs.Common.{sym, subst}
-use Rattle.std.proofs.lemmas.Result.{err_from_is_err_and}
+use Rattle.std.proofs.{Common.{sym, subst}, lemmas.Result.err_from_is_err_and}
 use Rattle.cdm_files.proofs.RunLemmas.{of_known, of_told}
 use Rattle.cdm_files.specs.declared.common_fault.CommonFault.TheVariants as common
 use Rattle.cdm_files.specs.declared.run_error.RunError.TheVariants as error
-use Rattle.cdm_feed.specs.Counts.{day_counts}
-use Rattle.cdm_feed.specs.Output.{HaveOneText, IsOutput}
-use Rattle.cdm_feed.specs.declared.runs.RunCounts.{RunCounts}
-use Rattle.cdm_feed.proofs.OutputLemmas.{one-output}
-use Rattle.cdm_feed.proofs.RunLemmas.{report-first, report-output, same-error}
+use Rattle.cdm_feed.specs.{Counts.day_counts, Output.{HaveOneText, IsOutput}, declared.runs.RunCounts.RunCounts}
+use Rattle.cdm_feed.proofs.{OutputLemmas.one-output, RunLemmas.{report-first, report-output, same-error}}
 use Rattle.cdm_feed.proofs.runs.run.Goals as goal
 
 pub returns-in_err-counted-clause-fault : goal.returns-in_err-counted-clause-fault

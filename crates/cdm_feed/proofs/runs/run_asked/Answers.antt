@@ -1,10 +1,6 @@
-use Rattle.std.proofs.Common.{ℕ, List, take, subst}
-use Rattle.std.specs.Io.KnownBytes.{Appends}
-use Rattle.std.proofs.lemmas.Result.{err_from_is_err_and}
+use Rattle.std.{proofs.Common.{ℕ, List, take, subst}, proofs.lemmas.Result.err_from_is_err_and, specs.Io.KnownBytes.Appends}
 use Rattle.cdm_files.proofs.RunLemmas.{of_known}
-use Rattle.cdm_feed.specs.Made.{HaveOne}
-use Rattle.cdm_feed.proofs.OutputLemmas.{one-each}
-use Rattle.cdm_feed.proofs.RunLemmas.{input-first, of-read, unmade-first, write-first}
+use Rattle.cdm_feed.{specs.Made.HaveOne, proofs.OutputLemmas.one-each, proofs.RunLemmas.{input-first, of-read, unmade-first, write-first}}
 use Rattle.cdm_feed.proofs.runs.run_asked.Goals as goal
 
 pub returns-in_err-inputs-clause-fault : goal.returns-in_err-inputs-clause-fault

@@ -1,7 +1,5 @@
-use Rattle.cdm_files.proofs.Words.{◌≡◌, ◌+◌, ◌≤◌, length, ok_or, Order}
-use Rattle.cdm_files.specs.AirportFile.{airport_in, airport_record_of, with_record}
-use Rattle.cdm_files.specs.Fields.{and_then}
-use Rattle.cdm_files.specs.Files.{after_records}
+use Rattle.cdm_files.{proofs.Words.{◌≡◌, ◌+◌, ◌≤◌, length, ok_or, Order}, specs.AirportFile.{airport_in, airport_record_of, with_record}}
+use Rattle.cdm_files.specs.{Fields.and_then, Files.after_records}
 use Rattle.cdm_files.proofs.airport_file.read_airport.Given as goal
 
 abbrev pub invariant-records : goal.invariant-records

@@ -1,7 +1,5 @@
 use Rattle.std.proofs.Common.{◌≡◌, ◌<◌, ◌≤◌, ◌++◌, ◌∙◌, ℕ, List, [], Result, Ok, Err, IfOk, Vec, Global, sym, ap, map, length, append-nil}
-use Rattle.cdm_files.specs.Parsing.{parse_of}
-use Rattle.cdm_files.specs.Refused.{Spelled}
-use Rattle.cdm_files.proofs.StretchLemmas.{none-after}
+use Rattle.cdm_files.{specs.Parsing.parse_of, specs.Refused.Spelled, proofs.StretchLemmas.none-after}
 use Rattle.cdm_files.proofs.feed.read_feed.Goals as goal
 
 -- a stretch that may hold all records has them all

@@ -1,6 +1,6 @@
-use Rattle.cdm_files.proofs.Words.{◌≡◌, ℕ, Bool, true, false, Ok, Err, sym, ◌∙◌, refl, if◌then◌else◌, err_from_is_err_and, RefusalWord, Text, Range}
+use Rattle.cdm_files.proofs.Words.{◌≡◌, ℕ, Bool, true, false, Ok, Err, sym, ◌∙◌, refl, if◌then◌else◌, err_from_is_err_and, RefusalWord}
+use Rattle.cdm_files.{proofs.Words.{Text, Range}, specs.Fields.{both, number_field, tolerance_fields}}
 use Rattle.std.specs.Prelude.{Result}
-use Rattle.cdm_files.specs.Fields.{both, number_field, tolerance_fields}
 use Rattle.cdm_files.proofs.feed_record.tolerance_fields.Goals as goal
 
 -- the form of each of two numbers is asked before the range of either

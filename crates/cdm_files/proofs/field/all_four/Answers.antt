@@ -1,5 +1,4 @@
-use Rattle.cdm_files.proofs.Words.{refl, err_from_is_err_and}
-use Rattle.cdm_files.specs.inner.Several.{all_four}
+use Rattle.cdm_files.{proofs.Words.{refl, err_from_is_err_and}, specs.inner.Several.all_four}
 use Rattle.cdm_files.proofs.field.all_four.Goals as goal
 
 pub returns-in_err-one : goal.returns-in_err-one

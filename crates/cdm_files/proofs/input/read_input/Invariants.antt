@@ -1,5 +1,4 @@
-use Rattle.cdm_files.proofs.Words.{◌≡◌, ◌≤◌, ◌-◌, false, vec_len, Consumes}
-use Rattle.cdm_files.specs.Input.{input_limit}
+use Rattle.cdm_files.{proofs.Words.{◌≡◌, ◌≤◌, ◌-◌, false, vec_len, Consumes}, specs.Input.input_limit}
 use Rattle.cdm_files.proofs.input.read_input.Given as goal
 
 abbrev pub invariant-loop-count : goal.invariant-loop-count

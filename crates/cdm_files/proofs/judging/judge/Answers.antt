@@ -1,7 +1,5 @@
-use Rattle.std.proofs.Common.{length, ◌≡◌, arith}
-use Rattle.std.proofs.lemmas.Bool.Decides.{nat_tests}
-use Rattle.cdm_files.specs.Parsing.{parse_of}
-use Rattle.cdm_files.proofs.StretchLemmas.{all-left, fewer-left, next-left, none-left}
+use Rattle.std.proofs.{Common.{length, ◌≡◌, arith}, lemmas.Bool.Decides.nat_tests}
+use Rattle.cdm_files.{specs.Parsing.parse_of, proofs.StretchLemmas.{all-left, fewer-left, next-left, none-left}}
 use Rattle.cdm_files.proofs.judging.judge.Goals as goal
 
 pub stretches-init : goal.stretches-init

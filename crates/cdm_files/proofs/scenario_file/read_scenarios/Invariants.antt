@@ -1,7 +1,5 @@
 use Rattle.std.proofs.Common.{◌≡◌, ◌+◌, ◌≤◌, length}
-use Rattle.cdm_files.specs.Files.{after_records}
-use Rattle.cdm_files.specs.ScenarioFile.{scenarios_in, with_line}
-use Rattle.cdm_files.specs.ScenarioRecords.{scenario_line_of}
+use Rattle.cdm_files.specs.{Files.after_records, ScenarioFile.{scenarios_in, with_line}, ScenarioRecords.scenario_line_of}
 use Rattle.cdm_files.proofs.scenario_file.read_scenarios.Given as goal
 
 abbrev pub invariant-records : goal.invariant-records

@@ -1,7 +1,6 @@
-use Rattle.cdm_json.proofs.Words.{◌≡◌, ◌∙◌, ◌++◌, [], ◌∷◌, List, ℕ, ap, refl, rules, print, begin_object, json_tokens, object_of, object_written}
+use Rattle.cdm_json.proofs.Words.{◌≡◌, ◌∙◌, ◌++◌, [], ◌∷◌, List, ℕ, ap, refl, rules, print, begin_object, json_tokens, object_of}
+use Rattle.cdm_json.{proofs.Words.object_written, proofs.ReadBack.read_back, specs.Lines.json_line}
 use Rattle.json.specs.Lex.{tokens}
-use Rattle.cdm_json.specs.Lines.{json_line}
-use Rattle.cdm_json.proofs.ReadBack.{read_back}
 use Rattle.cdm_json.proofs.lines.end_line.Goals as goal
 
 pub returns-clause-line : goal.returns-clause-line

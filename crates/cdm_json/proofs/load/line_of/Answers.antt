@@ -1,8 +1,7 @@
 use Rattle.cdm_json.proofs.Words.{◌≡◌, ◌∙◌, ◌++◌, ap, codes, flat_map, usual_cap, member_tokens}
-use Rattle.cdm_view.specs.Reasons.{slots_on}
-use Rattle.cdm_json.specs.Loads.{cells_members, load_members, runway_members}
-use Rattle.cdm_json.proofs.TokenLemmas.{more_parts, line_written, ok_then}
+use Rattle.cdm_json.{proofs.TokenLemmas.{more_parts, line_written, ok_then}, specs.Loads.{cells_members, load_members, runway_members}}
 use Rattle.cdm_json.specs.Lines.{answer_line, head_members}
+use Rattle.cdm_view.specs.Reasons.{slots_on}
 use Rattle.cdm_json.proofs.load.line_of.Goals as goal
 
 pub returns : goal.returns

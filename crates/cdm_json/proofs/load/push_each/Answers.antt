@@ -1,6 +1,5 @@
 use Rattle.cdm_json.proofs.Words.{◌≡◌, ◌∙◌, ◌-◌, ◌++◌, ℕ, List, ap, arith, sym, flat_map, range_with_len, Token, json_tokens}
-use Rattle.cdm_json.specs.Loads.{cell_json}
-use Rattle.cdm_json.proofs.TokenLemmas.{mapped, number_more}
+use Rattle.cdm_json.{proofs.TokenLemmas.{mapped, number_more}, specs.Loads.cell_json}
 use Rattle.cdm_json.proofs.load.push_each.Goals as goal
 
 pub loop-cell-preserved : goal.loop-cell-preserved

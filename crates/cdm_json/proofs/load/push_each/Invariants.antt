@@ -1,5 +1,4 @@
-use Rattle.cdm_json.proofs.Words.{◌≡◌, ◌-◌, ◌++◌, flat_map, range_with_len, json_tokens}
-use Rattle.cdm_json.specs.Loads.{cell_json}
+use Rattle.cdm_json.{proofs.Words.{◌≡◌, ◌-◌, ◌++◌, flat_map, range_with_len, json_tokens}, specs.Loads.cell_json}
 use Rattle.cdm_json.proofs.load.push_each.Given as goal
 
 abbrev pub invariant-loop-cell : goal.invariant-loop-cell

@@ -1,5 +1,4 @@
-use Rattle.cdm_json.proofs.Words.{on_ok_weaker}
-use Rattle.cdm_json.proofs.TokenLemmas.{array_member}
+use Rattle.cdm_json.proofs.{Words.on_ok_weaker, TokenLemmas.array_member}
 use Rattle.cdm_json.proofs.load.push_flights.Goals as goal
 
 pub returns-clause-tokens : goal.returns-clause-tokens

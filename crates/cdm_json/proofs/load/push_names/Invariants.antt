@@ -1,5 +1,4 @@
-use Rattle.cdm_json.proofs.Words.{◌≡◌, ◌++◌, map, take, flat_map, json_tokens, flights_in_cell}
-use Rattle.cdm_json.specs.Loads.{name_json}
+use Rattle.cdm_json.{proofs.Words.{◌≡◌, ◌++◌, map, take, flat_map, json_tokens, flights_in_cell}, specs.Loads.name_json}
 use Rattle.cdm_json.proofs.load.push_names.Given as goal
 
 abbrev pub invariant-loop-slot : goal.invariant-loop-slot

@@ -1,8 +1,7 @@
-use Rattle.cdm_json.proofs.Words.{ℕ, ◌≤◌, List, ◌++◌, length, sym, ap, ◌∙◌, arith, all_taken, in_order, length-by_name, rules_by_name, rules_in}
-use Rattle.cdm_json.proofs.Words.{runway_is, RunwayRules, is_asked}
+use Rattle.cdm_json.proofs.Words.{ℕ, ◌≤◌, List, ◌++◌, length, sym, ap, ◌∙◌, arith, all_taken, in_order, length-by_name, rules_by_name}
+use Rattle.cdm_json.{proofs.Words.{rules_in, runway_is, RunwayRules, is_asked}, specs.Loads.load_line}
 use Rattle.std.specs.List.{filter, flat_map}
 use Rattle.cdm_view.proofs.LoadLemmas.{runways_more}
-use Rattle.cdm_json.specs.Loads.{load_line}
 use Rattle.cdm_json.proofs.load.push_runways.Goals as goal
 
 pub loop-place-preserved : goal.loop-place-preserved

@@ -1,5 +1,4 @@
-use Rattle.cdm_json.proofs.Words.{◌≡◌, ◌++◌, take, filter, flat_map, rules_in, is_asked}
-use Rattle.cdm_json.specs.Loads.{load_line}
+use Rattle.cdm_json.{proofs.Words.{◌≡◌, ◌++◌, take, filter, flat_map, rules_in, is_asked}, specs.Loads.load_line}
 use Rattle.cdm_json.proofs.load.push_runways.Given as goal
 
 -- the runways so far

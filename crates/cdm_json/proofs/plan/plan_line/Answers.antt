@@ -1,6 +1,5 @@
 use Rattle.std.proofs.Common.{◌≡◌, ◌∙◌, ap}
-use Rattle.cdm_json.specs.Plans.{flights_text, plan_line}
-use Rattle.cdm_json.proofs.TokenLemmas.{ok_then}
+use Rattle.cdm_json.{specs.Plans.{flights_text, plan_line}, proofs.TokenLemmas.ok_then}
 use Rattle.cdm_json.proofs.plan.plan_line.Goals as goal
 
 pub returns : goal.returns

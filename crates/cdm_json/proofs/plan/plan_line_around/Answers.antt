@@ -1,8 +1,5 @@
-use Rattle.cdm_json.proofs.Words.{◌≡◌, ◌∙◌, ◌++◌, ℕ, List, ap, Row}
-use Rattle.cdm_json.specs.Plans.{flights_text, plan_line}
-use Rattle.cdm_json.specs.inner.Around.{text_before, text_behind}
-use Rattle.cdm_json.proofs.AroundLemmas.{plan_around}
-use Rattle.cdm_json.proofs.TokenLemmas.{ok_then}
+use Rattle.cdm_json.proofs.{Words.{◌≡◌, ◌∙◌, ◌++◌, ℕ, List, ap, Row}, AroundLemmas.plan_around, TokenLemmas.ok_then}
+use Rattle.cdm_json.specs.{Plans.{flights_text, plan_line}, inner.Around.{text_before, text_behind}}
 use Rattle.cdm_json.proofs.plan.plan_line_around.Goals as goal
 
 pub returns : goal.returns

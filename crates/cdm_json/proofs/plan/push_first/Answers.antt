@@ -1,6 +1,5 @@
 use Rattle.cdm_json.proofs.Words.{◌≡◌, ◌++◌, ℕ, List, [], ◌∷◌, codes, on_ok_weaker, Json, counts_of, value_of}
-use Rattle.cdm_json.specs.Plans.{count_members, day_members, rules_json}
-use Rattle.cdm_json.proofs.TokenLemmas.{more_parts, named_member, one_member}
+use Rattle.cdm_json.{proofs.TokenLemmas.{more_parts, named_member, one_member}, specs.Plans.{count_members, day_members, rules_json}}
 use Rattle.cdm_json.proofs.plan.push_first.Goals as goal
 
 pub returns-clause-tokens : goal.returns-clause-tokens

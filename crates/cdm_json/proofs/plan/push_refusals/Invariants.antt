@@ -1,5 +1,4 @@
-use Rattle.cdm_json.proofs.Words.{◌≡◌, ◌++◌, map, take, flat_map, json_tokens}
-use Rattle.cdm_json.specs.Plans.{refused_json}
+use Rattle.cdm_json.{proofs.Words.{◌≡◌, ◌++◌, map, take, flat_map, json_tokens}, specs.Plans.refused_json}
 use Rattle.cdm_json.proofs.plan.push_refusals.Given as goal
 
 abbrev pub invariant-loop-refusal : goal.invariant-loop-refusal

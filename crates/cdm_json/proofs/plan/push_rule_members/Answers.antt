@@ -1,8 +1,6 @@
 use Rattle.cdm_json.proofs.Words.{◌∙◌, ◌++◌, ℕ, List, rules, ap, sym, get_or, flat_map, zip, all_taken, Token, all_rules, member_tokens}
-use Rattle.cdm_sequence.specs.declared.rule.Rule.{Rule}
-use Rattle.cdm_sequence.specs.declared.rule.Rule.TheVariants.{Tobt}
-use Rattle.cdm_json.specs.Plans.{rule_members}
-use Rattle.cdm_json.proofs.TokenLemmas.{nested, pair_more}
+use Rattle.cdm_json.{proofs.TokenLemmas.{nested, pair_more}, specs.Plans.rule_members}
+use Rattle.cdm_sequence.specs.declared.rule.Rule.{Rule, TheVariants.Tobt}
 use Rattle.cdm_json.proofs.plan.push_rule_members.Goals as goal
 
 pub loop-place-preserved : goal.loop-place-preserved

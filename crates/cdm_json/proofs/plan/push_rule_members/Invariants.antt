@@ -1,5 +1,4 @@
-use Rattle.cdm_json.proofs.Words.{◌≡◌, ◌++◌, take, flat_map, zip, all_rules, member_tokens}
-use Rattle.cdm_json.specs.Plans.{rule_members}
+use Rattle.cdm_json.{proofs.Words.{◌≡◌, ◌++◌, take, flat_map, zip, all_rules, member_tokens}, specs.Plans.rule_members}
 use Rattle.cdm_json.proofs.plan.push_rule_members.Given as goal
 
 abbrev pub invariant-loop-place : goal.invariant-loop-place

@@ -1,5 +1,4 @@
-use Rattle.cdm_json.proofs.Words.{flat_map, zip, on_ok_weaker, all_rules, object_written}
-use Rattle.cdm_json.specs.Plans.{rule_members}
+use Rattle.cdm_json.{proofs.Words.{flat_map, zip, on_ok_weaker, all_rules, object_written}, specs.Plans.rule_members}
 use Rattle.cdm_json.proofs.plan.push_rules.Goals as goal
 
 pub returns-clause-tokens : goal.returns-clause-tokens

@@ -1,8 +1,5 @@
-use Rattle.cdm_json.proofs.Words.{◌∙◌, ◌++◌, [], ◌∷◌, ap, codes, print, key}
-use Rattle.cdm_json.specs.Lines.{head_members}
-use Rattle.cdm_json.specs.Plans.{number_of, scenario_of}
-use Rattle.cdm_json.specs.inner.Around.{first_members}
-use Rattle.cdm_json.proofs.TokenLemmas.{line_written}
+use Rattle.cdm_json.{proofs.Words.{◌∙◌, ◌++◌, [], ◌∷◌, ap, codes, print, key}, proofs.TokenLemmas.line_written, specs.Lines.head_members}
+use Rattle.cdm_json.specs.{Plans.{number_of, scenario_of}, inner.Around.first_members}
 use Rattle.cdm_json.proofs.plan.text_before.Goals as goal
 
 pub returns : goal.returns

@@ -1,7 +1,5 @@
-use Rattle.cdm_json.proofs.Words.{◌≡◌, ◌++◌, Some, codes}
-use Rattle.cdm_json.specs.Records.{accepted_members}
+use Rattle.cdm_json.{proofs.Words.{◌≡◌, ◌++◌, Some, codes}, proofs.TokenLemmas.{line_written, ok_then}, specs.Records.accepted_members}
 use Rattle.cdm_json.specs.Lines.{answer_line, head_members}
-use Rattle.cdm_json.proofs.TokenLemmas.{line_written, ok_then}
 use Rattle.cdm_json.proofs.record.accepted_line.Goals as goal
 
 pub returns : goal.returns

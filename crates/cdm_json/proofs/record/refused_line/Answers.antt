@@ -1,7 +1,5 @@
-use Rattle.cdm_json.proofs.Words.{◌≡◌, ◌++◌, ℕ, List, Some, codes, Json, string, text_of}
-use Rattle.cdm_json.specs.Records.{refused_members}
-use Rattle.cdm_json.proofs.TokenLemmas.{one_member, line_written, ok_then}
-use Rattle.cdm_json.specs.Lines.{answer_line, head_members}
+use Rattle.cdm_json.proofs.{Words.{◌≡◌, ◌++◌, ℕ, List, Some, codes, Json, string, text_of}, TokenLemmas.{one_member, line_written, ok_then}}
+use Rattle.cdm_json.specs.{Records.refused_members, Lines.{answer_line, head_members}}
 use Rattle.cdm_json.proofs.record.refused_line.Goals as goal
 
 pub returns : goal.returns

@@ -1,5 +1,4 @@
-use Rattle.cdm_json.proofs.Words.{◌≡◌, ◌++◌, map, take, flat_map, json_tokens}
-use Rattle.cdm_json.specs.Whys.{wait_json}
+use Rattle.cdm_json.{proofs.Words.{◌≡◌, ◌++◌, map, take, flat_map, json_tokens}, specs.Whys.wait_json}
 use Rattle.cdm_json.proofs.why.push_each.Given as goal
 
 abbrev pub invariant-loop-run : goal.invariant-loop-run

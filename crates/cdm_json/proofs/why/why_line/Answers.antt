@@ -1,8 +1,7 @@
-use Rattle.cdm_json.proofs.Words.{◌≡◌, ◌∙◌, ◌++◌, ℕ, List, [], ◌∷◌, Option, Some, subst, sym, codes, flat_map, IsSomeAnd, option_copied, Json, string}
-use Rattle.cdm_json.proofs.Words.{time_text, flight_of, Flight, row_named, member_tokens}
-use Rattle.cdm_json.specs.Lines.{head_members}
+use Rattle.cdm_json.proofs.Words.{◌≡◌, ◌∙◌, ◌++◌, ℕ, List, [], ◌∷◌, Option, Some, subst, sym, codes, flat_map, IsSomeAnd, option_copied}
+use Rattle.cdm_json.proofs.Words.{Json, string, time_text, flight_of, Flight, row_named, member_tokens}
+use Rattle.cdm_json.{proofs.TokenLemmas.{line_written, more_parts, one_member}, specs.Lines.head_members}
 use Rattle.cdm_json.specs.Whys.{IsWhyLine, known_members, waits_members, why_members}
-use Rattle.cdm_json.proofs.TokenLemmas.{line_written, more_parts, one_member}
 use Rattle.cdm_json.proofs.why.why_line.Goals as goal
 
 pub returns-clause-text : goal.returns-clause-text

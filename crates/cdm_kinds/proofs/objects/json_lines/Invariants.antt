@@ -1,5 +1,4 @@
-use Rattle.std.proofs.Common.{◌≡◌, take}
-use Rattle.std.specs.Prelude.{flat_map}
+use Rattle.std.{proofs.Common.{◌≡◌, take}, specs.Prelude.flat_map}
 use Rattle.cdm_kinds.specs.Table.{json_line}
 use Rattle.cdm_kinds.proofs.objects.json_lines.Given as goal
 

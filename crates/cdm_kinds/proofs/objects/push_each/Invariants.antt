@@ -1,5 +1,4 @@
-use Rattle.std.proofs.Common.{◌≡◌, ◌++◌, take}
-use Rattle.std.specs.Prelude.{flat_map}
+use Rattle.std.{proofs.Common.{◌≡◌, ◌++◌, take}, specs.Prelude.flat_map}
 use Rattle.json.specs.Tree.{json_tokens}
 use Rattle.cdm_kinds.specs.Table.{field_json}
 use Rattle.cdm_kinds.proofs.objects.push_each.Given as goal

@@ -1,5 +1,4 @@
-use Rattle.std.proofs.Common.{◌≡◌, ◌++◌, replicate}
-use Rattle.std.specs.String.{string_bytes}
+use Rattle.std.{proofs.Common.{◌≡◌, ◌++◌, replicate}, specs.String.string_bytes}
 use Rattle.cdm_kinds.proofs.table.push_left.Given as goal
 
 abbrev pub invariant-loop : goal.invariant-loop

@@ -1,10 +1,8 @@
-use Rattle.std.proofs.Common.{◌≡◌, ◌∙◌, List, [], ◌∷◌, ◌++◌, refl, sym, ap, rules, flat_map, append-nil}
-use Rattle.std.proofs.lemmas.Grind.{flat_map-append}
+use Rattle.std.proofs.{Common.{◌≡◌, ◌∙◌, List, [], ◌∷◌, ◌++◌, refl, sym, ap, rules, flat_map, append-nil}, lemmas.Grind.flat_map-append}
 use Rattle.std.specs.Slice.Iter.{chunks_rest}
 use Rattle.cdm_day.specs.declared.reply.Reply.{Reply}
 use Rattle.cdm_board.specs.History.{Call, DeskRecord, Posts}
-use Rattle.cdm_live.specs.Live.{replies_of}
-use Rattle.cdm_live.proofs.BatchLemmas.{one_posted, all_posted}
+use Rattle.cdm_live.{specs.Live.replies_of, proofs.BatchLemmas.{one_posted, all_posted}}
 use Rattle.cdm_live.proofs.desks.post_all.Goals as goal
 
 pub loop-batch-preserved : goal.loop-batch-preserved

@@ -1,7 +1,5 @@
-use Rattle.std.proofs.Common.{◌≡◌, flat_map}
-use Rattle.std.specs.Slice.Iter.{chunks_rest, chunks_size}
-use Rattle.cdm_live.specs.Live.{replies_of}
-use Rattle.cdm_live.proofs.BatchLemmas.{ArePosted}
+use Rattle.std.{proofs.Common.{◌≡◌, flat_map}, specs.Slice.Iter.{chunks_rest, chunks_size}}
+use Rattle.cdm_live.{specs.Live.replies_of, proofs.BatchLemmas.ArePosted}
 use Rattle.cdm_live.proofs.desks.post_all.Given as goal
 
 abbrev pub invariant-loop-batch : goal.invariant-loop-batch

@@ -1,8 +1,5 @@
-use Rattle.std.proofs.Common.{◌≤◌, ◌∙◌, length, sym, ap}
-use Rattle.std.proofs.lemmas.Result.{err_from_is_err_and}
-use Rattle.cdm_live.specs.Live.{batch_count}
-use Rattle.cdm_live.specs.LiveFaults.{calls_needed}
-use Rattle.cdm_live.specs.inner.LiveSteps.{IsBoardFault}
+use Rattle.std.proofs.{Common.{◌≤◌, ◌∙◌, length, sym, ap}, lemmas.Result.err_from_is_err_and}
+use Rattle.cdm_live.specs.{Live.batch_count, LiveFaults.calls_needed, inner.LiveSteps.IsBoardFault}
 use Rattle.cdm_live.proofs.LiveLemmas.{counted_text, subst-both}
 use Rattle.cdm_live.proofs.live_run.report_of.Goals as goal
 

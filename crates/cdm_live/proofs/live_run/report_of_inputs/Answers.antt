@@ -1,14 +1,8 @@
-use Rattle.std.proofs.Common.{◌≡◌, ◌≤◌, ◌∙◌, length, map, sym, ap}
-use Rattle.std.proofs.lemmas.Result.{err_from_is_err_and}
+use Rattle.std.{proofs.Common.{◌≡◌, ◌≤◌, ◌∙◌, length, map, sym, ap}, proofs.lemmas.Result.err_from_is_err_and, specs.Prelude.{ℕ, List, Ok}}
 use Rattle.cdm_flight.specs.Journal.{AirportRows}
 use Rattle.cdm_time.specs.declared.calendar.CalendarDate.{CalendarDate}
-use Rattle.std.specs.Prelude.{ℕ, List, Ok}
-use Rattle.cdm_files.specs.AirportFile.{airport_in}
-use Rattle.cdm_files.specs.Parsing.{parse_of}
-use Rattle.cdm_files.specs.Records.{records_of}
-use Rattle.cdm_files.specs.Refused.{Spelled, updates_in}
-use Rattle.cdm_live.specs.Live.{IsCountedText}
-use Rattle.cdm_live.specs.LiveFaults.{calls_needed}
+use Rattle.cdm_files.specs.{AirportFile.airport_in, Parsing.parse_of, Records.records_of, Refused.{Spelled, updates_in}}
+use Rattle.cdm_live.specs.{Live.IsCountedText, LiveFaults.calls_needed}
 use Rattle.cdm_live.proofs.LiveLemmas.{AreSpelled, board_fault-record, of_spelled}
 use Rattle.cdm_live.proofs.live_run.report_of_inputs.Goals as goal
 

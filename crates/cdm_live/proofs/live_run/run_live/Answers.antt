@@ -1,10 +1,6 @@
-use Rattle.std.proofs.Common.{ℕ, List, take, subst}
-use Rattle.std.specs.Io.KnownBytes.{Appends}
-use Rattle.std.proofs.lemmas.Result.{err_from_is_err_and}
+use Rattle.std.{proofs.Common.{ℕ, List, take, subst}, proofs.lemmas.Result.err_from_is_err_and, specs.Io.KnownBytes.Appends}
 use Rattle.cdm_files.proofs.RunLemmas.{input_fault-first, of_inputs}
-use Rattle.cdm_live.specs.Live.{IsCounted, IsLive}
-use Rattle.cdm_live.specs.LiveFaults.{FitsBoard}
-use Rattle.cdm_live.proofs.LiveLemmas.{record_fault-first}
+use Rattle.cdm_live.{specs.Live.{IsCounted, IsLive}, specs.LiveFaults.FitsBoard, proofs.LiveLemmas.record_fault-first}
 use Rattle.cdm_live.proofs.live_run.run_live.Goals as goal
 
 pub returns-in_err-inputs-clause-fault : goal.returns-in_err-inputs-clause-fault

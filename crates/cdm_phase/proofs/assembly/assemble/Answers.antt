@@ -1,5 +1,4 @@
-use Rattle.cdm_phase.proofs.Values.{AllZip-piece}
-use Rattle.cdm_phase.proofs.Slots.{AreSlotsOf-take}
+use Rattle.cdm_phase.proofs.{Values.AllZip-piece, Slots.AreSlotsOf-take}
 use Rattle.cdm_phase.proofs.assembly.assemble.Goals as goal
 
 pub loop-number-preserved : goal.loop-number-preserved

@@ -1,5 +1,4 @@
-use Rattle.std.proofs.Common.{◌*◌, take}
-use Rattle.std.specs.List.{AllZip}
+use Rattle.std.{proofs.Common.{◌*◌, take}, specs.List.AllZip}
 use Rattle.cdm_phase.specs.inner.Slots.{AreSlotsOf}
 use Rattle.cdm_phase.proofs.assembly.assemble.Given as goal
 

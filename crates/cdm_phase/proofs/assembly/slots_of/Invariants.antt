@@ -1,5 +1,4 @@
-use Rattle.std.proofs.Common.{◌≡◌, vec_len}
-use Rattle.std.specs.Vec.Iter.{into_iter_items}
+use Rattle.std.{proofs.Common.{◌≡◌, vec_len}, specs.Vec.Iter.into_iter_items}
 use Rattle.cdm_phase.proofs.Slots.{ArePut}
 use Rattle.cdm_phase.proofs.assembly.slots_of.Given as goal
 

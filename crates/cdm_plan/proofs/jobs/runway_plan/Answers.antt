@@ -1,7 +1,5 @@
 use Rattle.std.proofs.Common.{map, Bor, ◌≡◌}
-use Rattle.cdm_plan.proofs.ListWords.{filter_map}
-use Rattle.cdm_plan.proofs.PlanWords.{Flight, fixed_on, target_for}
-use Rattle.cdm_plan.proofs.PlanningLemmas.{on_it, fixed_on-lent}
+use Rattle.cdm_plan.proofs.{ListWords.filter_map, PlanWords.{Flight, fixed_on, target_for}, PlanningLemmas.{on_it, fixed_on-lent}}
 use Rattle.cdm_plan.proofs.jobs.runway_plan.Goals as goal
 
 pub sequence-requires-clause-runway : goal.sequence-requires-clause-runway

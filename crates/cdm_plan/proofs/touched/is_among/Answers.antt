@@ -1,8 +1,6 @@
-use Rattle.std.proofs.Common.{rules, List, ℕ}
+use Rattle.std.proofs.{Common.{rules, List, ℕ}, lemmas.Iterator.YieldsList-from_slice, lemmas.Iterator.Search.any_from_yields_List}
 use borrow.Author.Tests.{tests}
 use Rattle.cdm_plan.proofs.PlanWords.{same_name}
-use Rattle.std.proofs.lemmas.Iterator.{YieldsList-from_slice}
-use Rattle.std.proofs.lemmas.Iterator.Search.{any_from_yields_List}
 use Rattle.cdm_plan.proofs.touched.is_among.Goals as goal
 
 pub returns : goal.returns

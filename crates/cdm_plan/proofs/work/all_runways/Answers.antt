@@ -1,6 +1,5 @@
 use Rattle.std.proofs.Common.{◌++◌, ◌≤◌, length, sym, subst, ◌∙◌, arith, []}
-use Rattle.cdm_plan.proofs.ListWords.{cons_option}
-use Rattle.cdm_plan.proofs.PlanWords.{AreByName}
+use Rattle.cdm_plan.proofs.{ListWords.cons_option, PlanWords.AreByName}
 use Rattle.cdm_plan.proofs.NameLemmas.{all_taken, length-by_name, rules_by_name, rules_in, runway_is, take-next}
 use Rattle.cdm_plan.proofs.work.all_runways.Goals as goal
 

@@ -1,5 +1,4 @@
-use Rattle.std.proofs.Common.{◌≡◌, ◌-◌, ◌<◌, ◌≤◌, ℕ, true, length}
-use Rattle.std.specs.Prelude.{slice_get}
+use Rattle.std.{proofs.Common.{◌≡◌, ◌-◌, ◌<◌, ◌≤◌, ℕ, true, length}, specs.Prelude.slice_get}
 use Rattle.cdm_plan.specs.inner.Work.{is_standing}
 use Rattle.cdm_plan.proofs.work.first_touched.Given as goal
 

@@ -1,15 +1,11 @@
 use Rattle.std.proofs.lemmas.Grind.{common_steps}
 use Rattle.std.proofs.Common.{◌≡◌, ℕ, zero, suc, ◌+◌, ◌-◌, ◌<◌, Bool, true, List, ◌++◌, ◌∷◌, ◌≤◌, Option, Some, filter, map, not, slice_get}
-use Rattle.std.proofs.Common.{take, sym, ap, ◌∙◌, arith, []}
-use Rattle.std.specs.Prelude.{IfSome}
+use Rattle.std.{proofs.Common.{take, sym, ap, ◌∙◌, arith, []}, specs.Prelude.IfSome}
 use Rattle.cdm_plan.proofs.ListWords.{append-nil, All-nil, cons_option, filter_map, filter-append, option_and_then, option_map}
 use Rattle.cdm_plan.proofs.PlanWords.{Flight, asked_of, flight_of, flights_in, gone_of, is_planned, is_untouched, planned_of, taxi_of}
+use Rattle.cdm_plan.{proofs.DayPlanLemmas.records-next, specs.Brief.brief_of, specs.declared.brief.Brief.Brief}
+use Rattle.cdm_plan.specs.{declared.touched.Touched.Touched, inner.Work.{HasExot, is_standing}}
 use Rattle.cdm_sequence.specs.Aims.{TaxiTimes}
-use Rattle.cdm_plan.specs.Brief.{brief_of}
-use Rattle.cdm_plan.specs.declared.brief.Brief.{Brief}
-use Rattle.cdm_plan.specs.declared.touched.Touched.{Touched}
-use Rattle.cdm_plan.specs.inner.Work.{HasExot, is_standing}
-use Rattle.cdm_plan.proofs.DayPlanLemmas.{records-next}
 use Rattle.cdm_plan.proofs.work.touched_flights.Goals as goal
 
 -- what passes two tests in two lists

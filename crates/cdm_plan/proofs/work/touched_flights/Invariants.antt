@@ -1,7 +1,5 @@
-use Rattle.std.proofs.Common.{◌≡◌, ◌-◌, ◌≤◌, take, map}
-use Rattle.std.specs.Prelude.{vec_capacity, vec_len}
-use Rattle.cdm_plan.proofs.ListWords.{All, filter_map}
-use Rattle.cdm_plan.proofs.PlanWords.{asked_of, flight_of, flights_in, gone_of, planned_of, taxi_of}
+use Rattle.std.{proofs.Common.{◌≡◌, ◌-◌, ◌≤◌, take, map}, specs.Prelude.{vec_capacity, vec_len}}
+use Rattle.cdm_plan.proofs.{ListWords.{All, filter_map}, PlanWords.{asked_of, flight_of, flights_in, gone_of, planned_of, taxi_of}}
 use Rattle.cdm_plan.specs.inner.Work.{HasExot}
 use Rattle.cdm_plan.proofs.work.touched_flights.Given as goal
 

@@ -1,5 +1,4 @@
-use Rattle.std.proofs.Common.{rules, ◌≡◌, ◌==◌, false, length, arith}
-use Rattle.std.specs.Io.KnownBytes.{IsAtEnd}
+use Rattle.std.{proofs.Common.{rules, ◌≡◌, ◌==◌, false, length, arith}, specs.Io.KnownBytes.IsAtEnd}
 use Rattle.cdm_port.specs.inner.Reading.{line_with}
 use Rattle.cdm_port.proofs.LineLemmas.{broken_heard, line_heard, long_passed, not_empty, one_more, through, through_end}
 use Rattle.cdm_port.proofs.calls.next_line.Goals as goal

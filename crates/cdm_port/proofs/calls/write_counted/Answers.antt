@@ -1,8 +1,5 @@
-use Rattle.std.proofs.Common.{◌≡◌, ◌-◌, length, take, drop, arith, take-add}
-use Rattle.std.proofs.lemmas.Grind.{common_steps}
-use Rattle.std.proofs.KnownBytes.{Appends-trans}
-use Rattle.cdm_port.proofs.WriteLemmas.{appends_kept}
-use Rattle.cdm_port.proofs.calls.write_counted.Goals.{in-Ok, in-Err}
+use Rattle.std.proofs.{Common.{◌≡◌, ◌-◌, length, take, drop, arith, take-add}, lemmas.Grind.common_steps, KnownBytes.Appends-trans}
+use Rattle.cdm_port.proofs.{WriteLemmas.appends_kept, calls.write_counted.Goals.{in-Ok, in-Err}}
 use Rattle.cdm_port.proofs.calls.write_counted.Goals as goal
 
 -- the bytes written so far, and then those that this write took

@@ -1,5 +1,4 @@
-use Rattle.std.proofs.Common.{◌≤◌, length, take}
-use Rattle.std.specs.Io.KnownBytes.{Appends}
+use Rattle.std.{proofs.Common.{◌≤◌, length, take}, specs.Io.KnownBytes.Appends}
 use Rattle.cdm_port.proofs.calls.write_counted.Given as goal
 
 abbrev pub invariant-loop : goal.invariant-loop

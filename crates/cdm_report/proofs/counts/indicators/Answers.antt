@@ -1,7 +1,6 @@
 use Rattle.std.proofs.Common.{ap, ◌∙◌}
 use Rattle.cdm_sequence.specs.declared.plan.Plan.{Plan}
-use Rattle.cdm_report.specs.inner.Counting.{only_blocked}
-use Rattle.cdm_report.proofs.CountLemmas.{counted-is-counts_of}
+use Rattle.cdm_report.{specs.inner.Counting.only_blocked, proofs.CountLemmas.counted-is-counts_of}
 use Rattle.cdm_report.proofs.counts.indicators.Goals as goal
 
 pub returns : goal.returns

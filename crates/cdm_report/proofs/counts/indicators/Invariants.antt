@@ -1,5 +1,4 @@
-use Rattle.std.proofs.Common.{◌≡◌, ◌*◌, ◌≤◌, length, take, fold, sum_by}
-use Rattle.std.specs.List.{flat_map}
+use Rattle.std.{proofs.Common.{◌≡◌, ◌*◌, ◌≤◌, length, take, fold, sum_by}, specs.List.flat_map}
 use Rattle.cdm_report.specs.inner.Counting.{delays_in, with_delay}
 use Rattle.cdm_report.proofs.counts.indicators.Given as goal
 

@@ -1,11 +1,7 @@
-use Rattle.std.proofs.Common.{rules, ◌≡◌, ℕ, ◌++◌, get_or, length, take, ap, sym, ◌∙◌, arith}
-use Rattle.std.specs.Prelude.{flat_map, zip}
-use Rattle.std.specs.String.{string_bytes}
-use Rattle.std.proofs.lemmas.Slice.Zip.{get_or-zip, length-zip}
-use Rattle.cdm_sequence.specs.Words.{all_rules}
-use Rattle.cdm_sequence.specs.declared.rule.Rule.TheVariants.{Tobt}
-use Rattle.cdm_report.specs.Delta.{rule_change}
-use Rattle.cdm_report.proofs.Pairs.{one_more_pair}
+use Rattle.std.proofs.{Common.{rules, ◌≡◌, ℕ, ◌++◌, get_or, length, take, ap, sym, ◌∙◌, arith}, lemmas.Slice.Zip.{get_or-zip, length-zip}}
+use Rattle.std.specs.{Prelude.{flat_map, zip}, String.string_bytes}
+use Rattle.cdm_sequence.specs.{Words.all_rules, declared.rule.Rule.TheVariants.Tobt}
+use Rattle.cdm_report.{specs.Delta.rule_change, proofs.Pairs.one_more_pair}
 use Rattle.cdm_report.proofs.delta.push_rule_changes.Goals as goal
 
 pub loop-place-preserved : goal.loop-place-preserved

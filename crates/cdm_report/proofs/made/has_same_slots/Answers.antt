@@ -1,7 +1,5 @@
-use Rattle.std.proofs.Common.{◌≡◌, ◌∙◌, ap, sym}
-use Rattle.std.proofs.lemmas.Slice.Eq.{slice_eq-Decides}
-use Rattle.cdm_sequence.specs.declared.plan.RunwayPlan.{RunwayPlan}
-use Rattle.cdm_sequence.proofs.EqualLemmas.{slots_decide}
+use Rattle.std.proofs.{Common.{◌≡◌, ◌∙◌, ap, sym}, lemmas.Slice.Eq.slice_eq-Decides}
+use Rattle.cdm_sequence.{specs.declared.plan.RunwayPlan.RunwayPlan, proofs.EqualLemmas.slots_decide}
 use Rattle.cdm_report.proofs.made.has_same_slots.Goals as goal
 
 pub returns-then-eq-clause-slots : goal.returns-then-eq-clause-slots

@@ -1,8 +1,5 @@
-use Rattle.std.proofs.Common.{◌≡◌, ◌∙◌, ◌++◌, ◌<◌, [], ◌∷◌, codes, flat_map, length, rules, subst, sym}
-use Rattle.std.specs.List.{concat}
-use Rattle.cdm_report.specs.Columns.{flight_line}
-use Rattle.cdm_report.specs.Made.{AreLines}
-use Rattle.cdm_report.specs.Report.{line_end, runway_lines}
+use Rattle.std.{proofs.Common.{◌≡◌, ◌∙◌, ◌++◌, ◌<◌, [], ◌∷◌, codes, flat_map, length, rules, subst, sym}, specs.List.concat}
+use Rattle.cdm_report.specs.{Columns.flight_line, Made.AreLines, Report.{line_end, runway_lines}}
 use Rattle.cdm_report.proofs.made.lines_of_same.Goals as goal
 
 pub returns-then-has_same_slots : goal.returns-then-has_same_slots

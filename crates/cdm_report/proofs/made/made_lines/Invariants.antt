@@ -1,6 +1,5 @@
 use Rattle.std.proofs.Common.{◌≡◌, All, map, take}
-use Rattle.cdm_report.specs.Made.{AreLines}
-use Rattle.cdm_report.specs.declared.made.RunwayLines.{RunwayLines}
+use Rattle.cdm_report.specs.{Made.AreLines, declared.made.RunwayLines.RunwayLines}
 use Rattle.cdm_report.proofs.made.made_lines.Given as goal
 
 abbrev pub invariant-loop-plan : goal.invariant-loop-plan

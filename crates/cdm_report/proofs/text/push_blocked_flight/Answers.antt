@@ -1,5 +1,4 @@
-use Rattle.cdm_report.specs.Report.{blocked_line}
-use Rattle.cdm_report.proofs.Widths.{left_text}
+use Rattle.cdm_report.{specs.Report.blocked_line, proofs.Widths.left_text}
 use Rattle.cdm_report.proofs.text.push_blocked_flight.Goals as goal
 
 pub returns : goal.returns

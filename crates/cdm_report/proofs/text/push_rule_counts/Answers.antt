@@ -1,9 +1,6 @@
-use Rattle.std.proofs.Common.{rules, ◌++◌, get_or, ap, ◌∙◌}
-use Rattle.std.specs.String.{string_bytes}
-use Rattle.cdm_sequence.specs.Words.{all_rules}
-use Rattle.cdm_sequence.specs.declared.rule.Rule.TheVariants.{Tobt}
-use Rattle.cdm_report.specs.Report.{rule_count}
-use Rattle.cdm_report.proofs.Pairs.{one_more_pair}
+use Rattle.std.{proofs.Common.{rules, ◌++◌, get_or, ap, ◌∙◌}, specs.String.string_bytes}
+use Rattle.cdm_sequence.specs.{Words.all_rules, declared.rule.Rule.TheVariants.Tobt}
+use Rattle.cdm_report.{specs.Report.rule_count, proofs.Pairs.one_more_pair}
 use Rattle.cdm_report.proofs.text.push_rule_counts.Goals as goal
 
 pub loop-place-preserved : goal.loop-place-preserved

@@ -1,6 +1,4 @@
-use Rattle.std.proofs.Common.{◌≡◌, ◌++◌, take}
-use Rattle.std.specs.Prelude.{flat_map, zip}
-use Rattle.std.specs.String.{string_bytes}
+use Rattle.std.{proofs.Common.{◌≡◌, ◌++◌, take}, specs.Prelude.{flat_map, zip}, specs.String.string_bytes}
 use Rattle.cdm_sequence.specs.Words.{all_rules}
 use Rattle.cdm_report.specs.Report.{rule_count}
 use Rattle.cdm_report.proofs.text.push_rule_counts.Given as goal

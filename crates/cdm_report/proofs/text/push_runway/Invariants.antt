@@ -1,8 +1,5 @@
-use Rattle.std.proofs.Common.{◌≡◌, ◌++◌, take}
-use Rattle.std.specs.Prelude.{flat_map}
-use Rattle.std.specs.String.{string_bytes}
-use Rattle.cdm_report.specs.Columns.{flight_line}
-use Rattle.cdm_report.specs.Report.{line_end}
+use Rattle.std.{proofs.Common.{◌≡◌, ◌++◌, take}, specs.Prelude.flat_map, specs.String.string_bytes}
+use Rattle.cdm_report.specs.{Columns.flight_line, Report.line_end}
 use Rattle.cdm_report.proofs.text.push_runway.Given as goal
 
 abbrev pub invariant-loop-slot : goal.invariant-loop-slot

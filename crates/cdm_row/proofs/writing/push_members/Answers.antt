@@ -1,7 +1,6 @@
-use Rattle.std.proofs.{Common.◌∙◌, Common.◌++◌, Common.ap, Common.arith, lemmas.Grind.common_steps}
-use Rattle.std.specs.Prelude.{flat_map}
+use Rattle.std.proofs.{Common.◌∙◌, Common.arith, lemmas.Grind.common_steps}
 use Rattle.cdm_plan.proofs.NameLemmas.{all_taken}
-use Rattle.cdm_row.{specs.Columns.columns, specs.Columns.value_of, specs.Json.member_tokens, specs.Json.row_members, proofs.TokenLemmas.members_next}
+use Rattle.cdm_row.{specs.Columns.columns, specs.Columns.value_of, proofs.TokenLemmas.members_next}
 use Rattle.cdm_row.proofs.writing.push_members.Goals as goal
 
 pub loop-place-preserved : goal.loop-place-preserved

@@ -1,5 +1,5 @@
-use Rattle.std.proofs.{Common.map, Common.arith, lemmas.Result.on_ok_weaker, lemmas.Grind.common_steps}
-use Rattle.cdm_row.{specs.Json.row_json, proofs.TokenLemmas.array_written}
+use Rattle.std.proofs.{Common.arith, lemmas.Result.on_ok_weaker, lemmas.Grind.common_steps}
+use Rattle.cdm_row.proofs.TokenLemmas.{array_written}
 use Rattle.cdm_row.proofs.writing.push_rows.Goals as goal
 
 pub returns-clause-tokens : goal.returns-clause-tokens

@@ -1,5 +1,4 @@
-use Rattle.cdm_runway.proofs.Words.{◌≡◌, sym, arith, append-nil}
-use Rattle.cdm_runway.proofs.IntervalLemmas.{pushed, joined}
+use Rattle.cdm_runway.proofs.{Words.{◌≡◌, sym, arith, append-nil}, IntervalLemmas.{pushed, joined}}
 use Rattle.cdm_runway.proofs.intervals.push_joined.Goals.{in-Some+else-last-next+in_ok-push-2, in_default}
 use Rattle.cdm_runway.proofs.intervals.push_joined.Goals as goal
 

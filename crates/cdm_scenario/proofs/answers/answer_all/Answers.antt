@@ -1,9 +1,5 @@
-use Rattle.std.proofs.Common.{◌≡◌, List}
-use Rattle.std.specs.List.{AllZip}
-use Rattle.std.proofs.lemmas.Result.{IfOk-weaker}
-use Rattle.cdm_scenario.specs.declared.outcome.Outcome.{Outcome}
-use Rattle.cdm_scenario.specs.Outcome.{IsOutcome}
-use Rattle.cdm_scenario.specs.Scenarios.{ScenarioRecord}
+use Rattle.std.{proofs.Common.{◌≡◌, List}, proofs.lemmas.Result.IfOk-weaker, specs.List.AllZip}
+use Rattle.cdm_scenario.specs.{declared.outcome.Outcome.Outcome, Outcome.IsOutcome, Scenarios.ScenarioRecord}
 use Rattle.cdm_scenario.specs.inner.OneOutcome.{one_each, one_outcome}
 use Rattle.cdm_scenario.proofs.answers.answer_all.Goals as goal
 

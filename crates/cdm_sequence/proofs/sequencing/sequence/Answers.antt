@@ -1,14 +1,8 @@
 use Rattle.cdm_sequence.proofs.Words.{◌≡◌, ◌+◌, ◌<◌, Bor, List, [], ◌∷◌, length, map, ap, ◌∙◌, arith, get_or-map, length-map, IsSortedByKey}
-use Rattle.cdm_sequence.proofs.Words.{length_permutation, same_name, key_cmp, Load, taken_by, distinct_right}
-use Rattle.cdm_sequence.specs.declared.decision.Decision.{Decision}
-use Rattle.cdm_sequence.specs.Fixed.{takeoffs}
-use Rattle.cdm_sequence.specs.declared.slot.Slot.{Slot}
-use Rattle.cdm_sequence.specs.declared.target.Target.{Target}
-use Rattle.cdm_sequence.proofs.NameLemmas.{all_shown}
-use Rattle.cdm_sequence.specs.Plan.{Placing, IsFirst}
-use Rattle.cdm_sequence.specs.Sequence.{IsSequenceBy}
-use Rattle.cdm_sequence.proofs.PlanLemmas.{first_one, plan_first}
-use Rattle.cdm_sequence.proofs.SequenceLemmas.{IsMade, targets_of, sequence_made}
+use Rattle.cdm_sequence.proofs.{Words.{length_permutation, same_name, key_cmp, Load, taken_by, distinct_right}, NameLemmas.all_shown}
+use Rattle.cdm_sequence.proofs.{PlanLemmas.{first_one, plan_first}, SequenceLemmas.{IsMade, targets_of, sequence_made}}
+use Rattle.cdm_sequence.specs.{declared.decision.Decision.Decision, Fixed.takeoffs, declared.slot.Slot.Slot, declared.target.Target.Target}
+use Rattle.cdm_sequence.specs.{Plan.{Placing, IsFirst}, Sequence.IsSequenceBy}
 use Rattle.cdm_sequence.proofs.sequencing.sequence.Goals as goal
 
 abbrev target : Bor Target → Target

@@ -1,6 +1,5 @@
-use Rattle.cdm_sequence.proofs.Words.{sym, subst, ◌∙◌, Load, ArePassed}
+use Rattle.cdm_sequence.proofs.{Words.{sym, subst, ◌∙◌, Load, ArePassed}, turns.decide.Goals.{in-Ok, in_default}}
 use Rattle.cdm_runway.proofs.PassedLemmas.{passed_more}
-use Rattle.cdm_sequence.proofs.turns.decide.Goals.{in-Ok, in_default}
 use Rattle.cdm_sequence.proofs.turns.decide.Goals as goal
 
 pub returns-clause-passed : goal.returns-clause-passed

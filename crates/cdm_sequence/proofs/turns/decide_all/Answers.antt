@@ -1,10 +1,8 @@
-use Rattle.cdm_sequence.proofs.Words.{◌≡◌, ℕ, ◌+◌, ◌<◌, ◌++◌, ◌∷◌, [], Bor, get_or, take, length, List, ap, map, subst, sym, ◌∙◌, arith, append_assoc}
-use Rattle.cdm_sequence.proofs.Words.{filter_map, option_to_list, append-nil, map-append, map_more, take-map, Load, Taken}
-use Rattle.cdm_sequence.specs.declared.target.Target.{Target}
+use Rattle.cdm_sequence.proofs.Words.{◌≡◌, ℕ, ◌+◌, ◌<◌, ◌++◌, ◌∷◌, [], Bor, get_or, take, length, List, ap, map, subst, sym, ◌∙◌, arith}
+use Rattle.cdm_sequence.proofs.Words.{append_assoc, filter_map, option_to_list, append-nil, map-append, map_more, take-map, Load, Taken}
+use Rattle.cdm_sequence.{proofs.SequenceLemmas.{decided_push, minutes_of, at_most_one, minutes_push}, specs.declared.target.Target.Target}
+use Rattle.cdm_sequence.specs.{declared.decision.Decision.Decision, inner.Turns.{taken_in, AreDecided}}
 use Rattle.std.proofs.lemmas.List.{length-append}
-use Rattle.cdm_sequence.specs.declared.decision.Decision.{Decision}
-use Rattle.cdm_sequence.specs.inner.Turns.{taken_in, AreDecided}
-use Rattle.cdm_sequence.proofs.SequenceLemmas.{decided_push, minutes_of, at_most_one, minutes_push}
 use Rattle.cdm_sequence.proofs.turns.decide_all.Goals as goal
 
 -- the targets of one more decision

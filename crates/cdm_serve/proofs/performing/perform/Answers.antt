@@ -1,8 +1,5 @@
-use Rattle.std.proofs.Common.{◌≡◌, ◌∙◌, ◌++◌, [], ◌∷◌, List, ℕ, ap, append_assoc, rules}
-use Rattle.std.proofs.lemmas.Result.{on_err_weaker}
-use Rattle.cdm_port.specs.Event.{Event}
-use Rattle.cdm_port.specs.Event.Event.{Appended, Flushed, Replied, Synced}
-use Rattle.cdm_port.proofs.Stops.{goes_on}
+use Rattle.std.proofs.{Common.{◌≡◌, ◌∙◌, ◌++◌, [], ◌∷◌, List, ℕ, ap, append_assoc, rules}, lemmas.Result.on_err_weaker}
+use Rattle.cdm_port.{specs.Event.Event, specs.Event.Event.{Appended, Flushed, Replied, Synced}, proofs.Stops.goes_on}
 use Rattle.cdm_serve.specs.inner.Steps.{events_of}
 use Rattle.cdm_serve.proofs.performing.perform.Goals as goal
 

@@ -1,8 +1,6 @@
 use Rattle.std.proofs.Common.{◌≡◌, ◌++◌, [], ◌∷◌, inr, ℕ, List, Some, refl, rules}
-use Rattle.cdm_port.specs.Event.Event.{Line}
-use Rattle.cdm_port.specs.Heard.{IsLine}
-use Rattle.cdm_serve.specs.Taken.{record_heard}
-use Rattle.cdm_serve.specs.inner.Steps.{HearsInVain}
+use Rattle.cdm_port.specs.{Event.Event.Line, Heard.IsLine}
+use Rattle.cdm_serve.specs.{Taken.record_heard, inner.Steps.HearsInVain}
 use Rattle.cdm_serve.proofs.serving.hear.Goals as goal
 
 -- a line was heard, and can't be read

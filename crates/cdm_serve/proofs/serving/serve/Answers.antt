@@ -1,8 +1,7 @@
 -- A day that isn't started, or is served to its end or to some moment.
 use Rattle.std.proofs.Common.{Bool, rules}
 use Rattle.cdm_port.specs.Stop.{since}
-use Rattle.cdm_serve.specs.Faults.{IsServeFault}
-use Rattle.cdm_serve.specs.inner.Steps.{IsStartFault, StartStops, Starts}
+use Rattle.cdm_serve.specs.{Faults.IsServeFault, inner.Steps.{IsStartFault, StartStops, Starts}}
 use Rattle.cdm_serve.proofs.Runs.{finished, finished_fault, finished_served, start_fault, unstarted}
 use Rattle.cdm_serve.proofs.serving.serve.Goals as goal
 

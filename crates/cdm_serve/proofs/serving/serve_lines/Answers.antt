@@ -1,13 +1,11 @@
 -- Each exit of the loop, by what was served before it.
 use Rattle.std.proofs.Common.{◌≡◌, ◌≤◌, ◌^◌, ◌++◌, [], ◌∷◌, refl, rules, arith}
 use Rattle.cdm_journal.specs.Lines.{read_as}
-use Rattle.cdm_port.specs.Event.Event.{End}
-use Rattle.cdm_port.specs.Stop.{Stops}
-use Rattle.cdm_serve.specs.Requests.{request_of}
-use Rattle.cdm_serve.specs.Served.{IsReplyTo, answered, numbered}
-use Rattle.cdm_serve.specs.Taken.{after}
+use Rattle.cdm_port.specs.{Event.Event.End, Stop.Stops}
+use Rattle.cdm_serve.specs.{Requests.request_of, Served.{IsReplyTo, answered, numbered}, Taken.after}
 use Rattle.cdm_serve.specs.inner.Steps.{HearsInVain, HearsLine, IsAnswerFault, IsLinesFault, IsPortFault, text_of}
-use Rattle.cdm_serve.proofs.Ran.{answer_fault, behind, between, ended, goes_on, in_vain, midst, no_turn_left, none_ran, on_err, port_fault, too_many}
+use Rattle.cdm_serve.proofs.Ran.{answer_fault, behind, between, ended, goes_on, in_vain, midst, no_turn_left, none_ran, on_err, port_fault}
+use Rattle.cdm_serve.proofs.Ran.{too_many}
 use Rattle.cdm_serve.proofs.serving.serve_lines.Goals as goal
 
 -- no line was served yet

@@ -1,11 +1,7 @@
-use Rattle.std.proofs.Common.{◌≡◌, ◌∙◌, ◌++◌, [], ◌∷◌, List, ap, append_assoc, refl, rules}
-use Rattle.std.proofs.lemmas.Result.{on_err_weaker}
-use Rattle.cdm_port.specs.Event.{Event}
-use Rattle.cdm_port.specs.Event.Event.{Flushed, Marked, Renamed, Replied, Synced}
-use Rattle.cdm_port.specs.Stop.{Stops}
+use Rattle.std.proofs.{Common.{◌≡◌, ◌∙◌, ◌++◌, [], ◌∷◌, List, ap, append_assoc, refl, rules}, lemmas.Result.on_err_weaker}
+use Rattle.cdm_port.specs.{Event.Event, Event.Event.{Flushed, Marked, Renamed, Replied, Synced}, Stop.Stops}
 use Rattle.cdm_port.proofs.Stops.{goes_on}
-use Rattle.cdm_serve.proofs.Ran.{on_err}
-use Rattle.cdm_serve.proofs.StartLemmas.{stops_longer}
+use Rattle.cdm_serve.proofs.{Ran.on_err, StartLemmas.stops_longer}
 use Rattle.cdm_serve.proofs.starting.begin.Goals as goal
 
 pub returns-in_err-replace-clause-err : goal.returns-in_err-replace-clause-err

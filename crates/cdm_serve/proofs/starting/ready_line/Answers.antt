@@ -1,5 +1,4 @@
-use Rattle.std.proofs.Common.{◌≡◌, ℕ, List, [], ◌∷◌}
-use Rattle.std.specs.Prelude.{codes}
+use Rattle.std.{proofs.Common.{◌≡◌, ℕ, List, [], ◌∷◌}, specs.Prelude.codes}
 use Rattle.json.specs.Json.{Json}
 use Rattle.cdm_json.proofs.TokenLemmas.{line_written, ok_then, one_member}
 use Rattle.cdm_kinds.specs.declared.format.Format.TheVariants as form

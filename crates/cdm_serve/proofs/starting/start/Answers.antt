@@ -1,11 +1,9 @@
 -- Each exit of the start, by what was done before it.
 use Rattle.std.proofs.Common.{◌≡◌, ◌++◌, [], List, ℕ, length, take, rules}
-use Rattle.cdm_files.specs.FeedDay.{refusals_in}
-use Rattle.cdm_files.specs.Records.{records_of}
+use Rattle.cdm_files.specs.{FeedDay.refusals_in, Records.records_of}
 use Rattle.cdm_journal.specs.Journal.{journal_text}
 use Rattle.cdm_port.specs.Stop.{Stops}
-use Rattle.cdm_serve.specs.Served.{begun, day_of, reading, ready_text, start_text}
-use Rattle.cdm_serve.proofs.Ran.{on_err}
+use Rattle.cdm_serve.{specs.Served.{begun, day_of, reading, ready_text, start_text}, proofs.Ran.on_err}
 use Rattle.cdm_serve.proofs.StartLemmas.{begun_all, begun_stops, read_only, unread}
 use Rattle.cdm_serve.proofs.starting.start.Goals as goal
 

@@ -1,9 +1,6 @@
-use Rattle.std.proofs.Common.{◌≡◌, ◌∙◌, subst, sym}
-use Rattle.std.proofs.lemmas.Result.{IfOk-weaker}
+use Rattle.std.proofs.{Common.{◌≡◌, ◌∙◌, subst, sym}, lemmas.Result.IfOk-weaker}
 use Rattle.cdm_plan.proofs.NameLemmas.{rules_by_name, rules_in}
-use Rattle.cdm_shift.specs.Answers.{IsShiftText}
-use Rattle.cdm_shift.specs.Lines.{warnings_text}
-use Rattle.cdm_shift.specs.Objects.{warning_lines}
+use Rattle.cdm_shift.specs.{Answers.IsShiftText, Lines.warnings_text, Objects.warning_lines}
 use Rattle.cdm_shift.specs.declared.question.ShiftQuestion.TheVariants.{Warnings}
 use Rattle.cdm_shift.proofs.answering.shift_text.Goals as goal
 

@@ -1,5 +1,4 @@
-use Rattle.std.proofs.Common.{◌≡◌, take}
-use Rattle.std.specs.Prelude.{flat_map}
+use Rattle.std.{proofs.Common.{◌≡◌, take}, specs.Prelude.flat_map}
 use Rattle.cdm_shift.specs.Held.{causes_named}
 use Rattle.cdm_shift.proofs.costs.costs_of.Given as goal
 

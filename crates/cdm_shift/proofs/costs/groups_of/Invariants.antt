@@ -1,5 +1,4 @@
-use Rattle.std.proofs.Common.{◌≡◌, [], map, take}
-use Rattle.std.specs.Prelude.{fold}
+use Rattle.std.{proofs.Common.{◌≡◌, [], map, take}, specs.Prelude.fold}
 use Rattle.cdm_shift.specs.Costs.{group_of, with_group}
 use Rattle.cdm_shift.proofs.costs.groups_of.Given as goal
 

@@ -1,9 +1,6 @@
-use Rattle.std.proofs.Common.{◌∙◌, ◌≤◌, ℕ, List, Option, length, subst, sym, rules, tests}
-use Rattle.std.proofs.lemmas.Iterator.{YieldsList-from_slice}
-use Rattle.std.proofs.lemmas.Iterator.Consumers.{count_from_yields_List}
-use Rattle.std.proofs.lemmas.Iterator.Search.{YieldsList-from_take_while}
-use Rattle.std.proofs.lemmas.List.Folds.{length-prefix_len}
-use Rattle.std.proofs.lemmas.List.Sums.{prefix_len-le-length}
+use Rattle.std.proofs.{Common.{◌∙◌, ◌≤◌, ℕ, List, Option, length, subst, sym, rules, tests}, lemmas.Iterator.YieldsList-from_slice}
+use Rattle.std.proofs.lemmas.Iterator.{Consumers.count_from_yields_List, Search.YieldsList-from_take_while}
+use Rattle.std.proofs.lemmas.List.{Folds.length-prefix_len, Sums.prefix_len-le-length}
 use Rattle.cdm_shift.specs.Costs.{group_before}
 use Rattle.cdm_shift.proofs.costs.place_of.Goals as goal
 

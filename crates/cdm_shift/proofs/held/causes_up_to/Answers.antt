@@ -1,10 +1,8 @@
-use Rattle.std.proofs.Common.{◌≡◌, ◌∙◌, ◌+◌, ◌-◌, ◌≤◌, ◌++◌, [], None, Some, inl, inr, ap, refl, sym, arith}
+use Rattle.std.proofs.{Common.{◌≡◌, ◌∙◌, ◌+◌, ◌-◌, ◌≤◌, ◌++◌, [], None, Some, inl, inr, ap, refl, sym, arith}, lemmas.List.append-nil}
 use Rattle.std.specs.List.{cons_option, filter_map, range_with_len}
-use Rattle.std.proofs.lemmas.List.{append-nil}
 use Rattle.cdm_sequence.specs.declared.slot.Slot.{Slot}
 use Rattle.cdm_view.specs.Causes.{cause_at}
-use Rattle.cdm_shift.proofs.ListLemmas.{given_more}
-use Rattle.cdm_shift.proofs.held.causes_up_to.Goals.{in-Some+in_ok-push_last, in_default}
+use Rattle.cdm_shift.proofs.{ListLemmas.given_more, held.causes_up_to.Goals.{in-Some+in_ok-push_last, in_default}}
 use Rattle.cdm_shift.proofs.held.causes_up_to.Goals as goal
 
 pub loop-number-init : goal.loop-number-init

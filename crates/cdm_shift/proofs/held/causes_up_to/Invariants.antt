@@ -1,5 +1,4 @@
-use Rattle.std.proofs.Common.{◌≡◌, ◌+◌, ◌-◌, ◌≤◌, ◌⊎◌}
-use Rattle.std.specs.List.{filter_map, range_with_len}
+use Rattle.std.{proofs.Common.{◌≡◌, ◌+◌, ◌-◌, ◌≤◌, ◌⊎◌}, specs.List.{filter_map, range_with_len}}
 use Rattle.cdm_view.specs.Causes.{cause_at}
 use Rattle.cdm_shift.proofs.held.causes_up_to.Given as goal
 

@@ -1,5 +1,4 @@
-use Rattle.std.proofs.Common.{ℕ, ◌<◌, Option, None, Some}
-use Rattle.std.specs.Option.{IsSomeAnd}
+use Rattle.std.{proofs.Common.{ℕ, ◌<◌, Option, None, Some}, specs.Option.IsSomeAnd}
 use Rattle.cdm_shift.proofs.HeldLemmas.{held_so_long, own_is, waits_are}
 use Rattle.cdm_shift.proofs.laws.a_slot_is_held_its_delay.Goals as goal
 

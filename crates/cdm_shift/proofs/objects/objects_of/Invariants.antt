@@ -1,5 +1,4 @@
-use Rattle.std.proofs.Common.{◌≡◌, take}
-use Rattle.std.specs.Prelude.{flat_map}
+use Rattle.std.{proofs.Common.{◌≡◌, take}, specs.Prelude.flat_map}
 use Rattle.cdm_shift.specs.Objects.{object_line, warning_members}
 use Rattle.cdm_shift.proofs.objects.objects_of.Given as goal
 

@@ -1,7 +1,5 @@
-use Rattle.std.proofs.Common.{◌≡◌, ◌++◌, map, take}
-use Rattle.std.specs.Prelude.{flat_map}
-use Rattle.cdm_row.specs.Columns.{value_of}
-use Rattle.cdm_row.specs.Json.{member_tokens}
+use Rattle.std.{proofs.Common.{◌≡◌, ◌++◌, map, take}, specs.Prelude.flat_map}
+use Rattle.cdm_row.specs.{Columns.value_of, Json.member_tokens}
 use Rattle.cdm_shift.specs.Objects.{member_of}
 use Rattle.cdm_shift.proofs.objects.push_members.Given as goal
 

@@ -1,6 +1,5 @@
 use Rattle.std.proofs.Common.{filter}
-use Rattle.cdm_shift.specs.StartUps.{starts_at}
-use Rattle.cdm_shift.proofs.ListLemmas.{number_more}
+use Rattle.cdm_shift.{specs.StartUps.starts_at, proofs.ListLemmas.number_more}
 use Rattle.cdm_shift.proofs.start_ups.starting.Goals as goal
 
 pub loop-number-preserved : goal.loop-number-preserved

@@ -1,6 +1,4 @@
-use Rattle.std.proofs.Common.{◌≡◌, filter}
-use Rattle.std.specs.Prelude.{flat_map}
-use Rattle.std.specs.List.{range_with_len}
+use Rattle.std.{proofs.Common.{◌≡◌, filter}, specs.Prelude.flat_map, specs.List.range_with_len}
 use Rattle.cdm_shift.specs.StartUps.{starts_at}
 use Rattle.cdm_shift.proofs.start_ups.starting.Given as goal
 

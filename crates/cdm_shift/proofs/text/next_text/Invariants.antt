@@ -1,6 +1,4 @@
-use Rattle.std.proofs.Common.{◌≡◌, ◌++◌, take}
-use Rattle.std.specs.Prelude.{flat_map}
-use Rattle.std.specs.String.{string_bytes}
+use Rattle.std.{proofs.Common.{◌≡◌, ◌++◌, take}, specs.Prelude.flat_map, specs.String.string_bytes}
 use Rattle.cdm_shift.specs.Lines.{start_up_line}
 use Rattle.cdm_shift.proofs.text.next_text.Given as goal
 

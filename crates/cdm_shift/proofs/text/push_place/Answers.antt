@@ -1,9 +1,7 @@
 use Rattle.std.proofs.Common.{append-nil, arith}
-use Rattle.cdm_report.proofs.Widths.{left_text}
-use Rattle.cdm_report.specs.Columns.{left_in}
+use Rattle.cdm_report.{proofs.Widths.left_text, specs.Columns.left_in}
 use Rattle.cdm_view.specs.Why.{name_or_dash}
-use Rattle.cdm_shift.proofs.Columns.{left_five, left_three}
-use Rattle.cdm_shift.specs.Lines.{place_told}
+use Rattle.cdm_shift.{proofs.Columns.{left_five, left_three}, specs.Lines.place_told}
 use Rattle.cdm_shift.proofs.text.push_place.Goals as goal
 
 pub returns : goal.returns

@@ -1,10 +1,7 @@
-use Rattle.std.proofs.Common.{◌≤◌, List, ◌++◌, length, sym, ap, ◌∙◌, arith}
-use Rattle.std.specs.Prelude.{flat_map}
+use Rattle.std.{proofs.Common.{◌≤◌, List, ◌++◌, length, sym, ap, ◌∙◌, arith}, specs.Prelude.flat_map}
 use Rattle.cdm_plan.proofs.NameLemmas.{all_taken, in_order, length-by_name, rules_by_name, rules_in, runway_is}
 use Rattle.cdm_runway.specs.Rules.{RunwayRules}
-use Rattle.cdm_shift.specs.Warnings.{full_cells}
-use Rattle.cdm_shift.specs.declared.warning.Warning.{Warning}
-use Rattle.cdm_shift.proofs.ListLemmas.{taken_more}
+use Rattle.cdm_shift.{specs.Warnings.full_cells, specs.declared.warning.Warning.Warning, proofs.ListLemmas.taken_more}
 use Rattle.cdm_shift.proofs.warnings.push_all_full.Goals as goal
 
 pub loop-place-preserved : goal.loop-place-preserved

@@ -1,5 +1,4 @@
-use Rattle.std.proofs.Common.{◌≡◌, ◌++◌, take}
-use Rattle.std.specs.Prelude.{flat_map}
+use Rattle.std.{proofs.Common.{◌≡◌, ◌++◌, take}, specs.Prelude.flat_map}
 use Rattle.cdm_plan.proofs.NameLemmas.{rules_in}
 use Rattle.cdm_shift.specs.Warnings.{full_cells}
 use Rattle.cdm_shift.proofs.warnings.push_all_full.Given as goal

@@ -1,7 +1,5 @@
-use Rattle.std.proofs.Common.{◌≡◌, ◌∙◌, ◌++◌, true, false, [], ◌∷◌, ap, cond, map, sym}
-use Rattle.std.proofs.lemmas.List.{append-nil}
-use Rattle.cdm_shift.specs.Warnings.{full_cell, is_full}
-use Rattle.cdm_shift.proofs.ListLemmas.{passing_more}
+use Rattle.std.proofs.{Common.{◌≡◌, ◌∙◌, ◌++◌, true, false, [], ◌∷◌, ap, cond, map, sym}, lemmas.List.append-nil}
+use Rattle.cdm_shift.{specs.Warnings.{full_cell, is_full}, proofs.ListLemmas.passing_more}
 use Rattle.cdm_shift.proofs.warnings.push_cells.Goals.{then-is_full+in_ok-push_last, else-is_full}
 use Rattle.cdm_shift.proofs.warnings.push_cells.Goals as goal
 

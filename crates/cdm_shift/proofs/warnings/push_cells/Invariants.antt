@@ -1,5 +1,4 @@
-use Rattle.std.proofs.Common.{◌≡◌, ◌++◌, filter, map}
-use Rattle.std.specs.List.{range_with_len}
+use Rattle.std.{proofs.Common.{◌≡◌, ◌++◌, filter, map}, specs.List.range_with_len}
 use Rattle.cdm_shift.specs.Warnings.{full_cell, is_full}
 use Rattle.cdm_shift.proofs.warnings.push_cells.Given as goal
 

@@ -1,8 +1,6 @@
-use Rattle.std.proofs.Common.{◌∙◌, ◌++◌, [], ap, sym}
-use Rattle.std.specs.List.{cons_option}
+use Rattle.std.{proofs.Common.{◌∙◌, ◌++◌, [], ap, sym}, specs.List.cons_option}
 use Rattle.cdm_row.specs.declared.row.Row.{Row}
-use Rattle.cdm_shift.specs.Warnings.{past}
-use Rattle.cdm_shift.proofs.ListLemmas.{given_taken}
+use Rattle.cdm_shift.{specs.Warnings.past, proofs.ListLemmas.given_taken}
 use Rattle.cdm_shift.proofs.warnings.push_past.Goals as goal
 
 pub loop-row-preserved : goal.loop-row-preserved

@@ -1,5 +1,4 @@
-use Rattle.std.proofs.Common.{◌≡◌, ◌++◌, take}
-use Rattle.std.specs.List.{filter_map}
+use Rattle.std.{proofs.Common.{◌≡◌, ◌++◌, take}, specs.List.filter_map}
 use Rattle.cdm_shift.specs.Warnings.{past}
 use Rattle.cdm_shift.proofs.warnings.push_past.Given as goal
 

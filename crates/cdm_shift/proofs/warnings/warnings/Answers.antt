@@ -1,12 +1,8 @@
-use Rattle.std.proofs.Common.{◌≡◌, ◌∙◌, ◌++◌, List, ap}
-use Rattle.std.specs.Prelude.{flat_map}
-use Rattle.std.specs.List.{filter_map}
-use Rattle.cdm_flight.specs.Journal.{values_of}
-use Rattle.cdm_flight.specs.declared.values.DayValues.{DayValues}
+use Rattle.std.{proofs.Common.{◌≡◌, ◌∙◌, ◌++◌, List, ap}, specs.Prelude.flat_map, specs.List.filter_map}
+use Rattle.cdm_flight.specs.{Journal.values_of, declared.values.DayValues.DayValues}
 use Rattle.cdm_row.specs.declared.row.Row.{Row}
 use Rattle.cdm_shift.specs.Warnings.{ahead, blocked, edge, full_cells, missed, overdue, past, shut, warnings}
-use Rattle.cdm_shift.specs.declared.warning.Warning.{Warning}
-use Rattle.cdm_shift.proofs.ListLemmas.{eight_parts}
+use Rattle.cdm_shift.{specs.declared.warning.Warning.Warning, proofs.ListLemmas.eight_parts}
 use Rattle.cdm_shift.proofs.warnings.warnings.Goals as goal
 
 pub returns : goal.returns

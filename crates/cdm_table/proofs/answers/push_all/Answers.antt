@@ -1,7 +1,5 @@
 use Rattle.cdm_table.proofs.Words.{◌∙◌, ◌++◌, arith, rules, ap, map-id, sym, concat, common_steps}
-use Rattle.std.proofs.lemmas.Iterator.Adapters.{YieldsList-from_vec}
-use Rattle.std.proofs.lemmas.Iterator.Consumers.{YieldsList-end}
-use Rattle.std.proofs.lemmas.List.Concat.{concat_is}
+use Rattle.std.proofs.lemmas.{Iterator.Adapters.YieldsList-from_vec, Iterator.Consumers.YieldsList-end, List.Concat.concat_is}
 use Rattle.cdm_table.proofs.answers.push_all.Goals as goal
 
 pub loop-answer-preserved : goal.loop-answer-preserved

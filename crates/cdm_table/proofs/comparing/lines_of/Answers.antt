@@ -1,7 +1,6 @@
-use Rattle.cdm_table.proofs.Words.{arith, rules, ◌≡◌, ◌∙◌, ◌++◌, ◌+◌, [], ◌∷◌, Some, length, refl, sym, ap, slice_get-get_or, slice_get_read}
-use Rattle.cdm_table.specs.Comparison.{lines_from}
+use Rattle.cdm_table.proofs.Words.{arith, rules, ◌≡◌, ◌∙◌, ◌++◌, ◌+◌, [], ◌∷◌, Some, length, refl, sym, ap, slice_get-get_or}
+use Rattle.cdm_table.{proofs.Words.slice_get_read, proofs.LineLemmas.{line_at, one_more_line}, specs.Comparison.lines_from}
 use Rattle.cdm_table.specs.declared.line.Line.{Line}
-use Rattle.cdm_table.proofs.LineLemmas.{line_at, one_more_line}
 use Rattle.cdm_table.proofs.comparing.lines_of.Goals as goal
 
 pub loop-place-init : goal.loop-place-init

@@ -1,5 +1,4 @@
-use Rattle.cdm_table.proofs.Words.{◌≡◌, ◌++◌, take, flat_map, string_bytes}
-use Rattle.cdm_table.specs.Comparison.{change_lines}
+use Rattle.cdm_table.{proofs.Words.{◌≡◌, ◌++◌, take, flat_map, string_bytes}, specs.Comparison.change_lines}
 use Rattle.cdm_table.proofs.comparison.push_changes.Given as goal
 
 abbrev pub invariant-loop-standing : goal.invariant-loop-standing

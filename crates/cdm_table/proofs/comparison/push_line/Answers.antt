@@ -1,5 +1,4 @@
-use Rattle.cdm_table.specs.Comparison.{line_text}
-use Rattle.cdm_table.proofs.NameColumn.{left_in-sixteen}
+use Rattle.cdm_table.{specs.Comparison.line_text, proofs.NameColumn.left_in-sixteen}
 use Rattle.cdm_table.proofs.comparison.push_line.Goals as goal
 
 pub returns : goal.returns

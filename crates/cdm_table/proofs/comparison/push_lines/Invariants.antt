@@ -1,5 +1,4 @@
-use Rattle.cdm_table.proofs.Words.{◌≡◌, ◌++◌, take, flat_map, string_bytes}
-use Rattle.cdm_table.specs.Comparison.{line_text}
+use Rattle.cdm_table.{proofs.Words.{◌≡◌, ◌++◌, take, flat_map, string_bytes}, specs.Comparison.line_text}
 use Rattle.cdm_table.proofs.comparison.push_lines.Given as goal
 
 abbrev pub invariant-loop-line : goal.invariant-loop-line

@@ -1,6 +1,6 @@
 use Rattle.cdm_table.proofs.Words.{◌≡◌, ◌∙◌, ◌++◌, [], flat_map, flight_name, row_named, member_tokens, line_written, ok_then}
-use Rattle.std.specs.Option.{option_copied}
 use Rattle.cdm_table.specs.ComparisonJson.{change_line, change_members}
+use Rattle.std.specs.Option.{option_copied}
 use Rattle.cdm_table.proofs.comparison_json.change_line.Goals as goal
 
 pub returns : goal.returns

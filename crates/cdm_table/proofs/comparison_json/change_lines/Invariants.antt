@@ -1,5 +1,4 @@
-use Rattle.cdm_table.proofs.Words.{◌≡◌, take, flat_map}
-use Rattle.cdm_table.specs.ComparisonJson.{change_line}
+use Rattle.cdm_table.{proofs.Words.{◌≡◌, take, flat_map}, specs.ComparisonJson.change_line}
 use Rattle.cdm_table.proofs.comparison_json.change_lines.Given as goal
 
 abbrev pub invariant-loop-standing : goal.invariant-loop-standing

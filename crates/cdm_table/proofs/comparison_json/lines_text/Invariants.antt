@@ -1,5 +1,4 @@
-use Rattle.cdm_table.proofs.Words.{◌≡◌, take, flat_map}
-use Rattle.cdm_table.specs.ComparisonJson.{summary_line}
+use Rattle.cdm_table.{proofs.Words.{◌≡◌, take, flat_map}, specs.ComparisonJson.summary_line}
 use Rattle.cdm_table.proofs.comparison_json.lines_text.Given as goal
 
 abbrev pub invariant-loop-line : goal.invariant-loop-line

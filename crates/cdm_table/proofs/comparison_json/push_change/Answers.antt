@@ -1,5 +1,4 @@
-use Rattle.std.proofs.Common.{◌∙◌, append_assoc, append-nil}
-use Rattle.std.proofs.lemmas.Result.{on_ok_weaker}
+use Rattle.std.proofs.{Common.{◌∙◌, append_assoc, append-nil}, lemmas.Result.on_ok_weaker}
 use Rattle.cdm_table.proofs.comparison_json.push_change.Goals as goal
 
 pub returns-clause-tokens : goal.returns-clause-tokens

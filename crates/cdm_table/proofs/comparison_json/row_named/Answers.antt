@@ -1,6 +1,6 @@
-use Rattle.cdm_table.proofs.Words.{◌≡◌, ℕ, ◌<◌, true, List, length, get_or, Option, None, Some, Err, refl, sym, ◌∙◌, ap, inl, inr, arith, rules, Less}
-use Rattle.cdm_table.proofs.Words.{Equal, Greater, HoldsAt, cases_lt, nat_list_cmp_total, tied_itself, searchable_from_sorted, find_only, find_some}
-use Rattle.cdm_table.proofs.Words.{row_named, KeepsRows, Row}
+use Rattle.cdm_table.proofs.Words.{◌≡◌, ℕ, ◌<◌, true, List, length, get_or, Option, None, Some, Err, refl, sym, ◌∙◌, ap, inl, inr, arith}
+use Rattle.cdm_table.proofs.Words.{rules, Less, Equal, Greater, HoldsAt, cases_lt, nat_list_cmp_total, tied_itself, searchable_from_sorted}
+use Rattle.cdm_table.proofs.Words.{find_only, find_some, row_named, KeepsRows, Row}
 use Rattle.std.specs.List.Sorted.{IsBinarySearchResult, IsPartitionPoint}
 use Rattle.cdm_plan.proofs.ListWords.{Contains, one_of_key, answers_always}
 use Rattle.cdm_plan.proofs.PlanWords.{is_same, name_cmp, same_flips, same_is, same_name, tied_names}

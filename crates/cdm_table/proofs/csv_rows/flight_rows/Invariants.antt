@@ -1,6 +1,5 @@
 use Rattle.std.proofs.Common.{◌≡◌, take, All}
-use Rattle.cdm_table.specs.Rows.{flights_text}
-use Rattle.cdm_table.specs.inner.OwnRows.{IsOwnRow, csv_row}
+use Rattle.cdm_table.specs.{Rows.flights_text, inner.OwnRows.{IsOwnRow, csv_row}}
 use Rattle.cdm_table.proofs.csv_rows.flight_rows.Given as goal
 
 abbrev pub invariant-loop-row : goal.invariant-loop-row

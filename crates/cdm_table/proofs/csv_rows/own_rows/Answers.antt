@@ -1,6 +1,5 @@
 use Rattle.cdm_table.proofs.Words.{◌∙◌, ◌++◌, List, ℕ, [], length, refl, sym, ap, slice_get_read, default_writer, row_text}
-use Rattle.cdm_table.specs.Rows.{flight_row}
-use Rattle.cdm_table.proofs.OwnLemmas.{rows_next}
+use Rattle.cdm_table.{proofs.OwnLemmas.rows_next, specs.Rows.flight_row}
 use Rattle.cdm_table.proofs.csv_rows.own_rows.Goals as goal
 
 pub loop-row-preserved : goal.loop-row-preserved

@@ -1,6 +1,5 @@
 use Rattle.std.proofs.Common.{◌≡◌, ◌∙◌, ◌++◌, List, ℕ, sym, ap, append_assoc}
-use Rattle.cdm_table.specs.inner.OwnRows.{csv_row}
-use Rattle.cdm_table.proofs.OwnLemmas.{named_flight}
+use Rattle.cdm_table.{specs.inner.OwnRows.csv_row, proofs.OwnLemmas.named_flight}
 use Rattle.cdm_table.proofs.csv_rows.push_flight.Goals as goal
 
 pub returns-in-Some : goal.returns-in-Some

@@ -1,7 +1,6 @@
 use Rattle.cdm_table.proofs.Words.{◌≡◌, ◌∙◌, All, Ok, refl, subst, sym, CalendarDate, counts_of, IsDayPlan, IsLaid, with_updates, AreRows}
+use Rattle.cdm_table.specs.{Rows.flights_text, inner.OwnRows.{IsOwnRow, csv_row}}
 use Rattle.cdm_scenario.specs.declared.outcome.Outcome.TheVariants.{Planned, Refused}
-use Rattle.cdm_table.specs.Rows.{flights_text}
-use Rattle.cdm_table.specs.inner.OwnRows.{IsOwnRow, csv_row}
 use Rattle.cdm_table.proofs.csv_rows.scenario_rows.Goals as goal
 
 pub returns-in_ok-text-in-Ok : goal.returns-in_ok-text-in-Ok

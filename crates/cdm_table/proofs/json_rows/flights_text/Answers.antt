@@ -1,7 +1,7 @@
-use Rattle.cdm_table.proofs.Words.{◌∙◌, ◌++◌, ◌∷◌, ◌==◌, ℕ, List, [], cond, length, map, refl, rules, sym, ap, flat_map, slice_get_read, print}
-use Rattle.cdm_table.proofs.Words.{print_from, begin_array, json_tokens, all_taken, row_json, row_members, Row, flights_text}
-use Rattle.cdm_json.proofs.AroundLemmas.{item_next, items_closed}
+use Rattle.cdm_table.proofs.Words.{◌∙◌, ◌++◌, ◌∷◌, ◌==◌, ℕ, List, [], cond, length, map, refl, rules, sym, ap, flat_map, slice_get_read}
+use Rattle.cdm_table.proofs.Words.{print, print_from, begin_array, json_tokens, all_taken, row_json, row_members, Row, flights_text}
 use Rattle.cdm_table.specs.inner.OwnRows.{json_row}
+use Rattle.cdm_json.proofs.AroundLemmas.{item_next, items_closed}
 use Rattle.cdm_table.proofs.json_rows.flights_text.Goals as goal
 
 pub loop-place-init : goal.loop-place-init

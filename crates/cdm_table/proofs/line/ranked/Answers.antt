@@ -1,5 +1,4 @@
-use Rattle.cdm_table.proofs.Words.{rules, answers_always}
-use Rattle.cdm_table.specs.Comparison.{blocked_in, delay_in, is_refused}
+use Rattle.cdm_table.{proofs.Words.{rules, answers_always}, specs.Comparison.{blocked_in, delay_in, is_refused}}
 use Rattle.cdm_table.proofs.line.ranked.Goals as goal
 
 pub returns-clause-best_first : goal.returns-clause-best_first

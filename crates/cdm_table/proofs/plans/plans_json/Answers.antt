@@ -1,6 +1,5 @@
-use Rattle.cdm_table.proofs.Words.{◌∙◌, ap, IsPlanLine, plan_line}
+use Rattle.cdm_table.proofs.{Words.{◌∙◌, ap, IsPlanLine, plan_line}, TableLemmas.one_plans}
 use Rattle.cdm_json.specs.declared.plan.PlanOf.TheVariants as of
-use Rattle.cdm_table.proofs.TableLemmas.{one_plans}
 use Rattle.cdm_table.proofs.plans.plans_json.Goals as goal
 
 pub returns-clause-plans : goal.returns-clause-plans

@@ -1,5 +1,4 @@
-use Rattle.std.proofs.Common.{◌∙◌, length, ap}
-use Rattle.std.proofs.lemmas.Slice.Zip.{AllZip-long}
+use Rattle.std.proofs.{Common.{◌∙◌, length, ap}, lemmas.Slice.Zip.AllZip-long}
 use Rattle.cdm_table.specs.Comparison.{IsSummary}
 use Rattle.cdm_table.proofs.ranking.ranked_lines.Goals as goal
 

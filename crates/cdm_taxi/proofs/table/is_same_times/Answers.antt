@@ -1,5 +1,4 @@
-use Rattle.std.proofs.Common.{rules, Bool, ◌&&◌}
-use Rattle.std.proofs.lemmas.Map.Lookups.{btree_map_eq-Decides}
+use Rattle.std.proofs.{Common.{rules, Bool, ◌&&◌}, lemmas.Map.Lookups.btree_map_eq-Decides}
 use Rattle.cdm_flight.specs.contracts.place.PlacePartialEq.TheImpl as place_eq
 use Rattle.cdm_flight.specs.contracts.units.TaxiMinutesPartialEq.TheImpl as minutes_eq
 use Rattle.cdm_flight.specs.Names.{same_name}

@@ -1,5 +1,4 @@
-use Rattle.std.proofs.Common.{arith}
-use Rattle.std.proofs.lemmas.Int.{ints}
+use Rattle.std.proofs.{Common.arith, lemmas.Int.ints}
 use Rattle.cdm_time.proofs.day.minutes_apart.Goals as goal
 
 pub overflow_add-result : goal.overflow_add-result

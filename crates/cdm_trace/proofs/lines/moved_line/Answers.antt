@@ -1,6 +1,4 @@
-use Rattle.std.proofs.Common.{◌++◌, ℕ, List, [], ◌∷◌}
-use Rattle.std.specs.Prelude.{codes}
-use Rattle.std.proofs.lemmas.Result.{IfOk-weaker}
+use Rattle.std.{proofs.Common.{◌++◌, ℕ, List, [], ◌∷◌}, proofs.lemmas.Result.IfOk-weaker, specs.Prelude.codes}
 use Rattle.csv.specs.Records.{fields_of}
 use Rattle.json.specs.Json.{Json}
 use Rattle.cdm_json.proofs.TokenLemmas.{line_written, named_member, one_member}

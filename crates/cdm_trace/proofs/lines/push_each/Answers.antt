@@ -1,10 +1,8 @@
-use Rattle.std.proofs.Common.{◌∙◌, ◌++◌, ap, arith, map}
-use Rattle.std.specs.Prelude.{flat_map}
+use Rattle.std.{proofs.Common.{◌∙◌, ◌++◌, ap, arith, map}, specs.Prelude.flat_map}
 use Rattle.csv.specs.Records.{fields_of}
 use Rattle.json.specs.Tree.{json_tokens}
 use Rattle.cdm_plan.proofs.NameLemmas.{all_taken}
-use Rattle.cdm_trace.specs.Traces.{field_json}
-use Rattle.cdm_trace.proofs.LineLemmas.{fields_next}
+use Rattle.cdm_trace.{specs.Traces.field_json, proofs.LineLemmas.fields_next}
 use Rattle.cdm_trace.proofs.lines.push_each.Goals as goal
 
 pub loop-place-preserved : goal.loop-place-preserved

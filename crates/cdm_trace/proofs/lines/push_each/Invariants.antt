@@ -1,5 +1,4 @@
-use Rattle.std.proofs.Common.{◌≡◌, ◌++◌, map, take}
-use Rattle.std.specs.Prelude.{flat_map}
+use Rattle.std.{proofs.Common.{◌≡◌, ◌++◌, map, take}, specs.Prelude.flat_map}
 use Rattle.csv.specs.Records.{fields_of}
 use Rattle.json.specs.Tree.{json_tokens}
 use Rattle.cdm_trace.specs.Traces.{field_json}

@@ -1,6 +1,4 @@
-use Rattle.std.proofs.Common.{ℕ, List, [], ◌∷◌, map}
-use Rattle.std.specs.Prelude.{codes}
-use Rattle.std.proofs.lemmas.Result.{on_ok_weaker}
+use Rattle.std.{proofs.Common.{ℕ, List, [], ◌∷◌, map}, proofs.lemmas.Result.on_ok_weaker, specs.Prelude.codes}
 use Rattle.csv.specs.Records.{fields_of}
 use Rattle.json.specs.Json.{Json}
 use Rattle.cdm_json.proofs.TokenLemmas.{array_member, more_parts, one_member}

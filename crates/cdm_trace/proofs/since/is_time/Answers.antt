@@ -1,8 +1,5 @@
-use Rattle.std.proofs.Common.{◌∙◌, Err, ap, refl, subst, sym}
-use Rattle.std.specs.Prelude.{IsOk}
-use Rattle.cdm_time.specs.Dates.{is_date_text}
-use Rattle.cdm_time.specs.Digits.{are_digits, number_in}
-use Rattle.cdm_time.specs.Times.{day_of}
+use Rattle.std.{proofs.Common.{◌∙◌, Err, ap, refl, subst, sym}, specs.Prelude.IsOk}
+use Rattle.cdm_time.specs.{Dates.is_date_text, Digits.{are_digits, number_in}, Times.day_of}
 use Rattle.cdm_trace.proofs.SinceLemmas.{a_time, far_time, no_time}
 use Rattle.cdm_trace.proofs.since.is_time.Goals as goal
 

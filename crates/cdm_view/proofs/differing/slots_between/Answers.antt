@@ -1,5 +1,4 @@
-use Rattle.std.proofs.Common.{◌≡◌, ◌∙◌, List, ℕ, ap, map, subst, sym, arith}
-use Rattle.std.proofs.lemmas.{Bool.not-false, Grind.common_steps}
+use Rattle.std.proofs.{Common.{◌≡◌, ◌∙◌, List, ℕ, ap, map, subst, sym, arith}, lemmas.{Bool.not-false, Grind.common_steps}}
 use Rattle.cdm_plan.proofs.PlanWords.{RunwayPlan, same_is, same_name}
 use Rattle.cdm_view.specs.{Standings.on_runway, declared.standing.Standing.TheVariants.OnRunway, inner.Left.AreRests}
 use Rattle.cdm_view.proofs.ChangeLemmas.{rests_all, rests_map}

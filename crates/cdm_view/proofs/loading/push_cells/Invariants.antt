@@ -1,5 +1,4 @@
-use Rattle.std.proofs.Common.{◌≡◌, ◌-◌, ◌++◌}
-use Rattle.std.specs.{Prelude.flat_map, List.range_with_len, String.string_bytes}
+use Rattle.std.{proofs.Common.{◌≡◌, ◌-◌, ◌++◌}, specs.{Prelude.flat_map, List.range_with_len, String.string_bytes}}
 use Rattle.cdm_view.specs.Load.{cell_line}
 use Rattle.cdm_view.proofs.loading.push_cells.Given as goal
 

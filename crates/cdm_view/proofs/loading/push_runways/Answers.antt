@@ -1,5 +1,4 @@
-use Rattle.std.proofs.Common.{ℕ, ◌≤◌, List, ◌++◌, length, sym, ap, ◌∙◌, arith}
-use Rattle.std.specs.{List.filter, List.flat_map, String.string_bytes}
+use Rattle.std.{proofs.Common.{ℕ, ◌≤◌, List, ◌++◌, length, sym, ap, ◌∙◌, arith}, specs.{List.filter, List.flat_map, String.string_bytes}}
 use Rattle.cdm_plan.proofs.NameLemmas.{all_taken, in_order, length-by_name, rules_by_name, rules_in, runway_is}
 use Rattle.cdm_runway.specs.Rules.{RunwayRules}
 use Rattle.cdm_view.{specs.Load.is_asked, specs.Load.runway_load, proofs.LoadLemmas.runways_more}

@@ -1,6 +1,7 @@
 use Rattle.std.proofs.{Common.arith, lemmas.Grind.common_steps}
 use Rattle.cdm_view.proofs.RunLemmas.{runs_first, runs_other, runs_same}
-use Rattle.cdm_view.proofs.runs.add_minute.Goals.{in-Some+else-get+in_ok-push-2, else-get-via-then-get+else-is, else-get-via-else-get, in_default}
+use Rattle.cdm_view.proofs.runs.add_minute.Goals.{in-Some+else-get+in_ok-push-2, else-get-via-then-get+else-is, else-get-via-else-get}
+use Rattle.cdm_view.proofs.runs.add_minute.Goals.{in_default}
 use Rattle.cdm_view.proofs.runs.add_minute.Goals as goal
 
 pub returns-then-is : goal.returns-then-is

@@ -1,8 +1,7 @@
-use Rattle.std.proofs.Common.{◌≡◌, ℕ, ◌+◌, ◌≤◌, inl, Some, None, ap, sym, ◌∙◌, subst, arith}
-use Rattle.std.proofs.lemmas.Grind.{common_steps}
+use Rattle.std.proofs.{Common.{◌≡◌, ℕ, ◌+◌, ◌≤◌, inl, Some, None, ap, sym, ◌∙◌, subst, arith}, lemmas.Grind.common_steps}
 use Rattle.cdm_view.specs.{Reasons.Waiting, Reasons.reason_at, Runs.AreRuns, inner.Earlier.IsAhead}
-use Rattle.cdm_view.proofs.{EarlierLemmas.ahead_next, EarlierLemmas.ahead_step, RunLemmas.runs_end, RunLemmas.runs_none, RunLemmas.runs_start}
-use Rattle.cdm_view.proofs.runs.runs_of.Goals.{in-Some+in_ok-add_minute, in_default}
+use Rattle.cdm_view.proofs.{EarlierLemmas.ahead_next, EarlierLemmas.ahead_step, RunLemmas.runs_end, RunLemmas.runs_none}
+use Rattle.cdm_view.proofs.{RunLemmas.runs_start, runs.runs_of.Goals.{in-Some+in_ok-add_minute, in_default}}
 use Rattle.cdm_view.proofs.runs.runs_of.Goals as goal
 
 -- the first minute, by what the code has of the flight

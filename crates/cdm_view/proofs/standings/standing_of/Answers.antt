@@ -3,8 +3,7 @@ use Rattle.std.proofs.lemmas.{Bool.cases_lt, Cmp.nat_list_cmp_total, Cmp.tied_it
 use Rattle.std.specs.declared.cmp.Ordering.TheVariants.{Less, Equal, Greater}
 use Rattle.std.specs.List.{HoldsAt, Sorted.IsBinarySearchResult, Sorted.IsPartitionPoint}
 use Rattle.cdm_plan.proofs.ListWords.{Contains, find, one_of_key, answers_always}
-use Rattle.cdm_plan.proofs.PlanWords.{is_same, name_cmp, same_flips, same_is, same_name, tied_names}
-use Rattle.cdm_plan.proofs.NameLemmas.{find_only, find_some}
+use Rattle.cdm_plan.proofs.{PlanWords.{is_same, name_cmp, same_flips, same_is, same_name, tied_names}, NameLemmas.{find_only, find_some}}
 use Rattle.cdm_view.specs.{declared.standing.Standing.Standing, Standings.KeepsFlights, Standings.flight_name}
 use Rattle.cdm_view.proofs.standings.standing_of.Goals as goal
 

@@ -1,10 +1,8 @@
-use Rattle.std.proofs.Common.{◌≡◌, ℕ, List, refl, sym, ap, ◌∙◌, MatchOption, Some, Option}
-use Rattle.std.specs.Global.{Vec}
+use Rattle.std.{proofs.Common.{◌≡◌, ℕ, List, refl, sym, ap, ◌∙◌, MatchOption, Some, Option}, specs.Global.Vec}
 use Rattle.cdm_flight.specs.{declared.update.Update.Update}
 use Rattle.cdm_plan.specs.Day.{DayRecord}
 use Rattle.cdm_board.specs.History.{Call, DeskRecord, Opened, BoardRecord, AreNumbered, IsLegal, IsMerge, IsMismatch, day_now}
-use Rattle.cdm_board.specs.Closing.{IsClosed}
-use Rattle.cdm_board.proofs.Desks.{not_so}
+use Rattle.cdm_board.{specs.Closing.IsClosed, proofs.Desks.not_so}
 use Rattle.cdm_board.proofs.board.Board.close.Goals as goal
 
 same_desks : (n m : ℕ) (ks js : List DeskRecord) → n ≡ m → ks ≡ js → AreNumbered n ks → AreNumbered m js

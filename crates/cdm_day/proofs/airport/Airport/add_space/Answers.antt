@@ -1,6 +1,5 @@
-use Rattle.cdm_day.proofs.Words.{◌≡◌, ◌++◌, take, drop, map, length, ap, ◌∙◌, arith, common_steps}
+use Rattle.cdm_day.proofs.{Words.{◌≡◌, ◌++◌, take, drop, map, length, ap, ◌∙◌, arith, common_steps}, AirportLemmas.airport_with_space}
 use Rattle.cdm_day.specs.Airport.{spaced}
-use Rattle.cdm_day.proofs.AirportLemmas.{airport_with_space}
 use Rattle.cdm_day.proofs.airport.Airport.add_space.Goals as goal
 
 pub invariant_of-self : goal.invariant_of-self

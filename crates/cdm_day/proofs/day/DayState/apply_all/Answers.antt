@@ -1,5 +1,4 @@
-use Rattle.cdm_day.proofs.Words.{rules, day_first, day_first_one}
-use Rattle.cdm_day.proofs.BatchLemmas.{day-kept}
+use Rattle.cdm_day.proofs.{Words.{rules, day_first, day_first_one}, BatchLemmas.day-kept}
 use Rattle.cdm_day.proofs.day.DayState.apply_all.Goals as goal
 
 pub returns-then-journal-clause-ok : goal.returns-then-journal-clause-ok

@@ -1,5 +1,4 @@
-use Rattle.cdm_plan.proofs.ListWords.{arc_value}
-use Rattle.cdm_plan.proofs.KeptLemmas.{kept_since, since_itself}
+use Rattle.cdm_plan.proofs.{ListWords.arc_value, KeptLemmas.{kept_since, since_itself}}
 use Rattle.cdm_day.proofs.day.DayState.judged.Goals as goal
 
 pub returns-clause-kept : goal.returns-clause-kept

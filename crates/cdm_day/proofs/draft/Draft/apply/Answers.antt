@@ -1,5 +1,4 @@
-use Rattle.std.proofs.Common.{◌≡◌, ◌+◌, ◌∷◌, drop, sym, ◌∙◌, subst, add-one, drop-cons, rules}
-use Rattle.std.proofs.Math.ListN.{drop_of_length-le}
+use Rattle.std.proofs.{Common.{◌≡◌, ◌+◌, ◌∷◌, drop, sym, ◌∙◌, subst, add-one, drop-cons, rules}, Math.ListN.drop_of_length-le}
 use Rattle.cdm_day.proofs.BatchLemmas.{SoFar, so_far_more, so_far_day, so_far_replies}
 use Rattle.cdm_day.proofs.draft.Draft.apply.Goals as goal
 

@@ -1,6 +1,5 @@
 use Rattle.std.proofs.Common.{drop}
-use Rattle.cdm_day.proofs.DayWords.{DayRecord, IsSince}
-use Rattle.cdm_day.proofs.BatchLemmas.{SoFar}
+use Rattle.cdm_day.proofs.{DayWords.{DayRecord, IsSince}, BatchLemmas.SoFar}
 use Rattle.cdm_day.proofs.draft.Draft.apply.Given as goal
 
 abbrev pub invariant-loop-role : goal.invariant-loop-role

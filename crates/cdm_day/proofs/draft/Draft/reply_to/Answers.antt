@@ -1,5 +1,4 @@
-use Rattle.std.proofs.Common.{sym, ap, ◌∙◌}
-use Rattle.std.specs.Result.{result_err}
+use Rattle.std.{proofs.Common.{sym, ap, ◌∙◌}, specs.Result.result_err}
 use Rattle.cdm_day.proofs.BatchLemmas.{good_from}
 use Rattle.cdm_plan.proofs.KeptLemmas.{since_taken}
 use Rattle.cdm_day.proofs.draft.Draft.reply_to.Goals as goal

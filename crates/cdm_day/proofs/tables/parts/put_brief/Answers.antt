@@ -1,5 +1,4 @@
-use Rattle.std.proofs.Common.{rules}
-use Rattle.std.proofs.lemmas.Bool.{cases_lt}
+use Rattle.std.proofs.{Common.rules, lemmas.Bool.cases_lt}
 use Rattle.cdm_day.proofs.BriefLemmas.{put_at-past, put_at-within}
 use Rattle.cdm_day.proofs.tables.parts.put_brief.Goals as goal
 

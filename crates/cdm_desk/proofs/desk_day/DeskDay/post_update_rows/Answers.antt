@@ -1,7 +1,6 @@
 use Rattle.std.proofs.Common.{◌∙◌, refl, subst}
 use Rattle.cdm_plan.specs.Day.{DayRecord}
-use Rattle.cdm_desk.specs.Replies.{AreChangedRows}
-use Rattle.cdm_desk.proofs.PostLemmas.{accepted_rows, day_with}
+use Rattle.cdm_desk.{specs.Replies.AreChangedRows, proofs.PostLemmas.{accepted_rows, day_with}}
 use Rattle.cdm_desk.proofs.desk_day.DeskDay.post_update_rows.Goals as goal
 
 pub returns-clause-reply : goal.returns-clause-reply

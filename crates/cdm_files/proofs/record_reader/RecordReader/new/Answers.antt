@@ -1,7 +1,5 @@
 use Rattle.std.proofs.Common.{refl}
-use Rattle.cdm_files.specs.Records.{records_of}
-use Rattle.cdm_files.specs.inner.RecordsLeft.{records_at}
-use Rattle.cdm_files.proofs.RecordFacts.{records_of-length}
+use Rattle.cdm_files.{specs.Records.records_of, specs.inner.RecordsLeft.records_at, proofs.RecordFacts.records_of-length}
 use Rattle.cdm_files.proofs.record_reader.RecordReader.new.Goals as goal
 
 pub returns-clause-left : goal.returns-clause-left

@@ -1,7 +1,5 @@
-use Rattle.std.proofs.Common.{◌≡◌, ◌∙◌, arith, ap, subst}
-use Rattle.std.specs.Int.{w64, from_be_bytes}
-use Rattle.cdm_flight.specs.inner.Padded.{IsName, padded}
-use Rattle.cdm_flight.proofs.NumberLemmas.{read_number}
+use Rattle.std.{proofs.Common.{◌≡◌, ◌∙◌, arith, ap, subst}, specs.Int.{w64, from_be_bytes}}
+use Rattle.cdm_flight.{specs.inner.Padded.{IsName, padded}, proofs.NumberLemmas.read_number}
 use Rattle.cdm_flight.proofs.name.Name.number.Goals as goal
 
 pub returns-clause-value : goal.returns-clause-value

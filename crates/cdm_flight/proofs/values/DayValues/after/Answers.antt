@@ -1,11 +1,8 @@
 use Rattle.std.proofs.Common.{◌≡◌, ℕ, [], ◌∷◌, ◌++◌, ap, ◌∙◌, false, rules}
 use Rattle.cdm_flight.specs.declared.reach.Reach.TheVariants as reach
 use Rattle.cdm_time.specs.declared.tolerance.Tolerance.{Tolerance}
-use Rattle.cdm_flight.specs.declared.update.Update.{Update as AnUpdate}
-use Rattle.cdm_flight.specs.declared.update.Update.TheVariants.{Clock, Tol}
-use Rattle.cdm_flight.specs.declared.values.DayValues.{DayValues}
-use Rattle.cdm_flight.specs.Reach.{reach_of, same_reach}
-use Rattle.cdm_flight.specs.Journal.{values_of}
+use Rattle.cdm_flight.specs.declared.{update.Update.Update as AnUpdate, update.Update.TheVariants.{Clock, Tol}, values.DayValues.DayValues}
+use Rattle.cdm_flight.specs.{Reach.{reach_of, same_reach}, Journal.values_of}
 use Rattle.cdm_flight.proofs.JournalLemmas.{values_of-clock, values_of-tolerance, values_of-untouched}
 use Rattle.cdm_flight.proofs.values.DayValues.after.Goals as goal
 

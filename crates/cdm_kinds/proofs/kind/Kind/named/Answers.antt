@@ -1,6 +1,4 @@
-use Rattle.std.proofs.Common.{◌∙◌, ap}
-use Rattle.std.specs.Prelude.{bytes_eq}
-use Rattle.std.specs.List.{find}
+use Rattle.std.{proofs.Common.{◌∙◌, ap}, specs.Prelude.bytes_eq, specs.List.find}
 use Rattle.cdm_kinds.specs.Kinds.{kind_name, kind_named}
 use Rattle.cdm_kinds.proofs.kind.Kind.named.Goals as goal
 

@@ -1,6 +1,5 @@
 use Rattle.std.proofs.Common.{◌≡◌, take}
-use Rattle.cdm_plan.proofs.ListWords.{filter_map}
-use Rattle.cdm_plan.proofs.PlanWords.{kept_plan}
+use Rattle.cdm_plan.proofs.{ListWords.filter_map, PlanWords.kept_plan}
 use Rattle.cdm_plan.proofs.kept.Kept.copied_plans.Given as goal
 
 abbrev pub invariant-loop-runway : goal.invariant-loop-runway

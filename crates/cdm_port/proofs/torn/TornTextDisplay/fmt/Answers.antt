@@ -1,6 +1,4 @@
-use Rattle.std.proofs.Common.{◌≡◌, ◌∙◌, ap, take, flat_map}
-use Rattle.std.proofs.Output.{has_written_of_eq}
-use Rattle.std.proofs.lemmas.List.{take_all, take_min}
+use Rattle.std.proofs.{Common.{◌≡◌, ◌∙◌, ap, take, flat_map}, Output.has_written_of_eq, lemmas.List.{take_all, take_min}}
 use Rattle.cdm_port.specs.Torn.{byte_told}
 use Rattle.cdm_port.proofs.torn.TornTextDisplay.fmt.Goals as goal
 

@@ -1,5 +1,4 @@
-use Rattle.std.proofs.Common.{take, flat_map}
-use Rattle.std.specs.Fmt.{HasWritten, IsPlainFormatter}
+use Rattle.std.{proofs.Common.{take, flat_map}, specs.Fmt.{HasWritten, IsPlainFormatter}}
 use Rattle.cdm_port.specs.Torn.{byte_told}
 use Rattle.cdm_port.proofs.torn.TornTextDisplay.fmt.Given as goal
 

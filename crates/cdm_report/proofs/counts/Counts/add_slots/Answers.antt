@@ -1,9 +1,8 @@
 use Rattle.std.proofs.Common.{arith, sym, ap, ◌∙◌, Some, None}
 use Rattle.cdm_sequence.specs.declared.slot.Slot.{Slot}
-use Rattle.cdm_report.specs.inner.Counting.{with_delay}
-use Rattle.cdm_report.proofs.CountLemmas.{fold-delays_in_more}
-use Rattle.cdm_report.proofs.counts.Counts.add_slots.Goals as goal
+use Rattle.cdm_report.{specs.inner.Counting.with_delay, proofs.CountLemmas.fold-delays_in_more}
 use Rattle.cdm_report.proofs.counts.Counts.add_slots.Goals.{in-Some, in_default}
+use Rattle.cdm_report.proofs.counts.Counts.add_slots.Goals as goal
 
 pub loop-slot-preserved : goal.loop-slot-preserved
 loop-slot-preserved c =

@@ -1,6 +1,5 @@
 use Rattle.std.proofs.Output.{has_written_of_eq}
-use Rattle.cdm_report.specs.Columns.{flight_line}
-use Rattle.cdm_report.proofs.Widths.{right_number, left_text, eight_columns}
+use Rattle.cdm_report.{specs.Columns.flight_line, proofs.Widths.{right_number, left_text, eight_columns}}
 use Rattle.cdm_report.proofs.line.FlightLineDisplay.fmt.Goals as goal
 
 pub returns-clause-writes : goal.returns-clause-writes

@@ -1,5 +1,4 @@
-use Rattle.std.proofs.Common.{◌≡◌, ◌+◌, ℕ, List, ◌∙◌, sym, ap, subst, cond, not, [], ◌∷◌, ◌++◌, take}
-use Rattle.std.proofs.lemmas.List.{append-nil}
+use Rattle.std.proofs.{Common.{◌≡◌, ◌+◌, ℕ, List, ◌∙◌, sym, ap, subst, cond, not, [], ◌∷◌, ◌++◌, take}, lemmas.List.append-nil}
 use Rattle.cdm_row.{specs.Changed.changed_rows, specs.Changed.has_row, specs.Changed.same_row, specs.inner.Passed.from_name}
 use Rattle.cdm_row.{specs.inner.Passed.is_first, specs.declared.row.Row.Row, proofs.PassedLemmas.StillHas, proofs.PassedLemmas.unlike}
 use Rattle.cdm_row.{proofs.rows.Rows.changed_since.Goals.else-not-is_first, proofs.rows.Rows.changed_since.Goals.then-not-is_first+in_ok-push_last}

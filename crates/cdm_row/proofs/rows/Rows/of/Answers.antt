@@ -1,6 +1,5 @@
-use Rattle.std.proofs.Common.{◌∙◌, ◌++◌, List, [], length, refl, sym, ap, subst, arith}
-use Rattle.std.proofs.lemmas.{Option.slice_get_read, Grind.common_steps}
-use Rattle.std.specs.List.{cons_option, filter_map}
+use Rattle.std.proofs.Common.{◌∙◌, sym, ap, subst, arith}
+use Rattle.std.{proofs.lemmas.{Option.slice_get_read, Grind.common_steps}, specs.List.filter_map}
 use Rattle.cdm_plan.proofs.NameLemmas.{all_taken}
 use Rattle.cdm_row.{specs.Rows.KeepsRows, specs.Rows.standing_row, specs.declared.row.Row.Row, proofs.RowLemmas.rows_keep, proofs.RowLemmas.rows_next}
 use Rattle.cdm_row.proofs.rows.Rows.of.Goals as goal

@@ -1,5 +1,4 @@
-use Rattle.cdm_runway.proofs.Words.{ap, sym, length, arith, nat_tests}
-use Rattle.cdm_runway.proofs.IntervalLemmas.{length-values_of, value_or_past}
+use Rattle.cdm_runway.proofs.{Words.{ap, sym, length, arith, nat_tests}, IntervalLemmas.{length-values_of, value_or_past}}
 use Rattle.cdm_runway.proofs.intervals.Intervals.at.Goals as goal
 
 pub returns-in_default-clause-some : goal.returns-in_default-clause-some

@@ -1,8 +1,7 @@
 use Rattle.cdm_runway.proofs.Words.{◌≡◌, ℕ, ◌∙◌, ap, length, sym, arith, if◌then◌else◌, window_has}
-use Rattle.std.proofs.lemmas.Bool.{not-false}
-use Rattle.cdm_runway.specs.inner.Intervals.{value_at}
 use Rattle.cdm_runway.proofs.IntervalLemmas.{given_as_rest, in_three_parts, length-values_of, values_of-with_range}
-use Rattle.cdm_runway.proofs.intervals.Intervals.set.Goals.{then-ne+in_ok-push_joined, else-ne}
+use Rattle.cdm_runway.{proofs.intervals.Intervals.set.Goals.{then-ne+in_ok-push_joined, else-ne}, specs.inner.Intervals.value_at}
+use Rattle.std.proofs.lemmas.Bool.{not-false}
 use Rattle.cdm_runway.proofs.intervals.Intervals.set.Goals as goal
 
 pub push_part-requires-2-clause-places : goal.push_part-requires-2-clause-places

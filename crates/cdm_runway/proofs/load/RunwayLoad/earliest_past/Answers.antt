@@ -1,7 +1,5 @@
 use Rattle.std.proofs.Common.{subst, sym}
-use Rattle.cdm_runway.specs.Passed.{ArePassed, IsPassed}
-use Rattle.cdm_runway.specs.declared.passed.Passed.{Passed}
-use Rattle.cdm_runway.specs.declared.passed.PassedOver.{PassedOver}
+use Rattle.cdm_runway.specs.{Passed.{ArePassed, IsPassed}, declared.passed.Passed.Passed, declared.passed.PassedOver.PassedOver}
 use Rattle.cdm_runway.proofs.PassedLemmas.{passed_noted}
 use Rattle.cdm_runway.proofs.load.RunwayLoad.earliest_past.Goals as goal
 

@@ -1,7 +1,5 @@
 use Rattle.std.proofs.Common.{◌≡◌, ℕ, ◌≤◌, ◌<◌, ◌/◌, ap, subst, ◌∙◌, arith}
-use Rattle.cdm_runway.specs.Load.{Load}
-use Rattle.cdm_runway.specs.Room.{cap_at, held_in_cell}
-use Rattle.cdm_runway.proofs.PassedLemmas.{unfree_step}
+use Rattle.cdm_runway.{specs.Load.Load, specs.Room.{cap_at, held_in_cell}, proofs.PassedLemmas.unfree_step}
 use Rattle.cdm_runway.proofs.load.RunwayLoad.first_free.Goals as goal
 
 pub loop-minute-preserved : goal.loop-minute-preserved

@@ -1,6 +1,4 @@
-use Rattle.cdm_runway.proofs.Words.{◌<◌, sym, arith, nat_tests}
-use Rattle.cdm_runway.specs.inner.Tally.{noted}
-use Rattle.cdm_runway.proofs.LoadLemmas.{met_either}
+use Rattle.cdm_runway.{proofs.Words.{◌<◌, sym, arith, nat_tests}, proofs.LoadLemmas.met_either, specs.inner.Tally.noted}
 use Rattle.cdm_runway.proofs.load.RunwayLoad.met_until.Goals as goal
 
 pub returns : goal.returns

@@ -1,7 +1,5 @@
-use Rattle.cdm_runway.proofs.Words.{◌≡◌, ◌<◌, ◌++◌, ◌∷◌, [], ℕ, List, max, ap, ◌∙◌, arith, slice_index, common_steps, get_or_default_zero, map-append}
-use Rattle.cdm_runway.specs.inner.Tally.{noted}
-use Rattle.cdm_runway.proofs.LoadLemmas.{longest-push}
-use Rattle.cdm_runway.specs.declared.load.Taken.{Taken}
+use Rattle.cdm_runway.proofs.Words.{◌≡◌, ◌<◌, ◌++◌, ◌∷◌, [], ℕ, List, max, ap, ◌∙◌, arith, slice_index, common_steps, get_or_default_zero}
+use Rattle.cdm_runway.{proofs.Words.map-append, proofs.LoadLemmas.longest-push, specs.inner.Tally.noted, specs.declared.load.Taken.Taken}
 use Rattle.cdm_runway.proofs.load.RunwayLoad.take.Goals as goal
 
 pub invariant_of-self : goal.invariant_of-self

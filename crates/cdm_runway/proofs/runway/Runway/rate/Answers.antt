@@ -1,7 +1,5 @@
-use Rattle.cdm_runway.proofs.Words.{subst, sym, ap, ◌∙◌, arith, common_steps}
-use Rattle.cdm_runway.specs.Rules.{RunwayRules, AreRules, is_rate_window}
-use Rattle.cdm_runway.specs.Room.{cap_at}
-use Rattle.cdm_runway.proofs.RulesLemmas.{cap_at-with_rate, are_rules-with_rate}
+use Rattle.cdm_runway.proofs.{Words.{subst, sym, ap, ◌∙◌, arith, common_steps}, RulesLemmas.{cap_at-with_rate, are_rules-with_rate}}
+use Rattle.cdm_runway.specs.{Rules.{RunwayRules, AreRules, is_rate_window}, Room.cap_at}
 use Rattle.cdm_runway.proofs.runway.Runway.rate.Goals as goal
 
 pub invariant_of-self-2 : goal.invariant_of-self-2

@@ -1,7 +1,5 @@
-use Rattle.cdm_runway.proofs.Words.{ap, subst, ◌∙◌, arith, common_steps}
-use Rattle.cdm_runway.specs.Rules.{RunwayRules, AreRules}
-use Rattle.cdm_runway.specs.Room.{is_closed}
-use Rattle.cdm_runway.proofs.RulesLemmas.{is_closed-with_closed}
+use Rattle.cdm_runway.proofs.{Words.{ap, subst, ◌∙◌, arith, common_steps}, RulesLemmas.is_closed-with_closed}
+use Rattle.cdm_runway.specs.{Rules.{RunwayRules, AreRules}, Room.is_closed}
 use Rattle.cdm_runway.proofs.runway.Runway.set_closed.Goals as goal
 
 pub returns-clause-ok : goal.returns-clause-ok

@@ -1,10 +1,12 @@
-use Rattle.cdm_scenario.proofs.Words.{[], ◌∷◌, ◌++◌, refl, sym, ap, ◌∙◌, option_copied, append-nil, append_assoc, Flight, NewFlight, NextRecord}
-use Rattle.cdm_scenario.proofs.Words.{Runway, TaxiRow, Values}
-use Rattle.cdm_day.proofs.TableLemmas.{has_record}
-use Rattle.cdm_scenario.proofs.OverlayLemmas.{over_change, row_fits, runway_changed, runway_there, runways_left, taxi_left, taxi_set, window_over}
+use Rattle.cdm_scenario.proofs.Words.{[], ◌∷◌, ◌++◌, refl, sym, ap, ◌∙◌, option_copied, append-nil, append_assoc, Flight, NewFlight}
+use Rattle.cdm_scenario.proofs.Words.{NextRecord, Runway, TaxiRow, Values}
+use Rattle.cdm_scenario.proofs.OverlayLemmas.{over_change, row_fits, runway_changed, runway_there, runways_left, taxi_left, taxi_set}
+use Rattle.cdm_scenario.proofs.OverlayLemmas.{window_over}
 use Rattle.cdm_scenario.proofs.laid.LaidTakes.take.Goals.{in-NewFlight+in_ok-reserve-in-NewFlight+in_ok-insert-in-NewFlight}
-use Rattle.cdm_scenario.proofs.laid.LaidTakes.take.Goals.{in-NextRecord+in_ok-insert-in-NextRecord, in-Runway+in-Some+in_ok-change_over-in-Runway}
+use Rattle.cdm_scenario.proofs.laid.LaidTakes.take.Goals.{in-NextRecord+in_ok-insert-in-NextRecord}
+use Rattle.cdm_scenario.proofs.laid.LaidTakes.take.Goals.{in-Runway+in-Some+in_ok-change_over-in-Runway}
 use Rattle.cdm_scenario.proofs.laid.LaidTakes.take.Goals.{in-TaxiRow+in_ok-set_over-in-TaxiRow, in-Values}
+use Rattle.cdm_day.proofs.TableLemmas.{has_record}
 use Rattle.cdm_scenario.proofs.laid.LaidTakes.take.Goals as goal
 
 pub set_over-requires : goal.set_over-requires

@@ -1,5 +1,4 @@
-use Rattle.std.proofs.Common.{length, refl, sym, ◌∙◌}
-use Rattle.std.proofs.lemmas.Option.{slice_get_read}
+use Rattle.std.proofs.{Common.{length, refl, sym, ◌∙◌}, lemmas.Option.slice_get_read}
 use Rattle.cdm_scenario.proofs.OutcomeLemmas.{all_taken_here, none_taken, one_more_taken, refused_here}
 use Rattle.cdm_scenario.proofs.overlay.Overlay.after.Goals as goal
 

@@ -1,5 +1,4 @@
-use Rattle.cdm_plan.proofs.KeptLemmas.{since_taken}
-use Rattle.cdm_plan.specs.declared.touched.Noting.TheVariants.{CountedFlights}
+use Rattle.cdm_plan.{proofs.KeptLemmas.since_taken, specs.declared.touched.Noting.TheVariants.CountedFlights}
 use Rattle.cdm_scenario.proofs.OverlayLemmas.{since_noted}
 use Rattle.cdm_scenario.proofs.overlay.OverlayTakes.take.Goals as goal
 

@@ -1,9 +1,6 @@
 use Rattle.std.proofs.Common.{◌≡◌, [], sym, ap, rules}
-use Rattle.cdm_journal.specs.Lines.{LineRecord, read_as}
-use Rattle.cdm_journal.specs.Lines.LineRecord.{Blank}
-use Rattle.cdm_serve.specs.Requests.{request_of}
-use Rattle.cdm_serve.specs.Served.{answered, numbered}
-use Rattle.cdm_serve.specs.declared.request.Request.TheVariants.{Nothing}
+use Rattle.cdm_journal.specs.Lines.{LineRecord, read_as, LineRecord.Blank}
+use Rattle.cdm_serve.specs.{Requests.request_of, Served.{answered, numbered}, declared.request.Request.TheVariants.Nothing}
 use Rattle.cdm_serve.proofs.AnswerLemmas.{blank_line}
 use Rattle.cdm_serve.proofs.answering.ServedDay.answer.Goals as goal
 

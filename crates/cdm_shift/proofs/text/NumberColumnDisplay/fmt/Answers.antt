@@ -1,6 +1,4 @@
-use Rattle.std.proofs.Common.{◌++◌, ap}
-use Rattle.std.specs.Prelude.{codes}
-use Rattle.std.proofs.Output.{has_written_of_eq}
+use Rattle.std.{proofs.Common.{◌++◌, ap}, proofs.Output.has_written_of_eq, specs.Prelude.codes}
 use Rattle.cdm_report.proofs.Widths.{right_number}
 use Rattle.cdm_shift.proofs.text.NumberColumnDisplay.fmt.Goals as goal
 

@@ -1,7 +1,6 @@
 use Rattle.std.proofs.Output.{has_written_of_eq}
 use Rattle.cdm_report.proofs.Widths.{right_number}
-use Rattle.cdm_table.specs.Comparison.{summary_text}
-use Rattle.cdm_table.proofs.NameColumn.{six_columns}
+use Rattle.cdm_table.{specs.Comparison.summary_text, proofs.NameColumn.six_columns}
 use Rattle.cdm_table.proofs.comparison.SummaryDisplay.fmt.Goals as goal
 
 pub returns-in-Planned-clause-writes : goal.returns-in-Planned-clause-writes

@@ -1,6 +1,5 @@
-use Rattle.std.proofs.Common.{ℕ, List, ap, sym}
+use Rattle.std.proofs.{Common.{ℕ, List, ap, sym}, lemmas.Bool.Decides.Decides-eqb}
 use Rattle.std.specs.FinMap as map
-use Rattle.std.proofs.lemmas.Bool.Decides.{Decides-eqb}
 use Rattle.cdm_taxi.proofs.RowLemmas.{Key, entries-same_rows}
 use Rattle.cdm_taxi.proofs.table.TaxiTable.is_same.Goals as goal
 

@@ -1,7 +1,6 @@
 use Rattle.std.proofs.Common.{◌≡◌, false, sym, subst}
 use Rattle.cdm_flight.specs.Taxi.{TaxiRows, is_new_stand, stands_in}
-use Rattle.cdm_taxi.specs.inner.StandSet.{AreStandsOf}
-use Rattle.cdm_taxi.proofs.RowLemmas.{OnErr-from, get-rows_of, rows_of-insert}
+use Rattle.cdm_taxi.{specs.inner.StandSet.AreStandsOf, proofs.RowLemmas.{OnErr-from, get-rows_of, rows_of-insert}}
 use Rattle.cdm_taxi.proofs.StandLemmas.{are_stands_of-insert_old}
 use Rattle.cdm_taxi.proofs.table.TaxiTable.put.Goals as goal
 

@@ -1,9 +1,7 @@
 use Rattle.std.proofs.Common.{◌≡◌, false, refl, sym, subst}
 use Rattle.cdm_flight.specs.declared.place.Place.TheVariants as place
 use Rattle.cdm_flight.specs.Taxi.{TaxiRows}
-use Rattle.cdm_taxi.specs.Stands.{has_row}
-use Rattle.cdm_taxi.specs.inner.StandSet.{AreStandsOf}
-use Rattle.cdm_taxi.proofs.RowLemmas.{OnErr-from, rows_of, rows_of-insert}
+use Rattle.cdm_taxi.{specs.Stands.has_row, specs.inner.StandSet.AreStandsOf, proofs.RowLemmas.{OnErr-from, rows_of, rows_of-insert}}
 use Rattle.cdm_taxi.proofs.StandLemmas.{no_row_of_stand, are_stands_of-insert_new, are_stands_of-taken_back}
 use Rattle.cdm_taxi.proofs.table.TaxiTable.put_first.Goals as goal
 

@@ -1,5 +1,4 @@
-use Rattle.std.proofs.Common.{w64, rules, FitsSigned}
-use Rattle.std.proofs.lemmas.Int.{to_z-of_z}
+use Rattle.std.proofs.{Common.{w64, rules, FitsSigned}, lemmas.Int.to_z-of_z}
 use Rattle.cdm_time.specs.Times.{is_time_text, minutes_between}
 use Rattle.cdm_time.proofs.day.Day.minutes_to.Goals as goal
 

@@ -1,6 +1,4 @@
-use Rattle.std.proofs.Common.{◌≡◌, ◌∙◌, ◌==◌, ℕ, true, arith, sym}
-use Rattle.std.proofs.lemmas.Bool.Decides.{nat_tests}
-use Rattle.std.proofs.lemmas.List.{nil_from_length}
+use Rattle.std.proofs.{Common.{◌≡◌, ◌∙◌, ◌==◌, ℕ, true, arith, sym}, lemmas.Bool.Decides.nat_tests, lemmas.List.nil_from_length}
 use Rattle.cdm_trace.proofs.BatchLemmas.{no_batch}
 use Rattle.cdm_trace.proofs.batched.BatchedDay.taken.Goals as goal
 

@@ -1,9 +1,7 @@
 use Rattle.std.proofs.Common.{◌≡◌, ◌+◌, ◌∙◌, sym, ap, subst, cond, not, [], ◌∷◌, ◌++◌, take}
 use Rattle.cdm_plan.proofs.ListWords.{append-nil}
-use Rattle.cdm_view.specs.Standings.{changes, flight_name, is_same_told, is_told}
-use Rattle.cdm_view.specs.inner.Passed.{from_name, is_first_told}
-use Rattle.cdm_view.proofs.ChangeLemmas.{unlike}
-use Rattle.cdm_view.proofs.PassedLemmas.{AreByName, StillHas, had_first, new_next, still_has}
+use Rattle.cdm_view.specs.{Standings.{changes, flight_name, is_same_told, is_told}, inner.Passed.{from_name, is_first_told}}
+use Rattle.cdm_view.proofs.{ChangeLemmas.unlike, PassedLemmas.{AreByName, StillHas, had_first, new_next, still_has}}
 use Rattle.cdm_view.proofs.standings.Standings.changes.Goals.{else-not-branch, then-not-branch+in_ok-push_last}
 use Rattle.cdm_view.proofs.standings.Standings.changes.Goals as goal
 

@@ -1,7 +1,5 @@
-use Rattle.cdm_day.proofs.Words.{refl, sym, rules, map-id}
+use Rattle.cdm_day.proofs.{Words.{refl, sym, rules, map-id}, BriefLemmas.none, TableLemmas.{flight_in, where_both, where_ok}}
 use Rattle.cdm_plan.proofs.ListWords.{arc_value}
-use Rattle.cdm_day.proofs.BriefLemmas.{none}
-use Rattle.cdm_day.proofs.TableLemmas.{flight_in, where_both, where_ok}
 use Rattle.cdm_day.proofs.tables.parts.Parts.put.Goals as goal
 
 pub returns-in-NewFlight-clause-ok : goal.returns-in-NewFlight-clause-ok

@@ -1,7 +1,6 @@
-use Rattle.cdm_day.proofs.Words.{◌≡◌, sym, ap, ◌∙◌, map, values_of, insert_index, values, same_name}
-use Rattle.std.specs.Arc.{arc_value}
+use Rattle.cdm_day.proofs.{Words.{◌≡◌, sym, ap, ◌∙◌, map, values_of, insert_index, values, same_name}, BriefLemmas.given-insert_entry}
 use Rattle.cdm_day.specs.inner.Briefs.{brief_by, put_at}
-use Rattle.cdm_day.proofs.BriefLemmas.{given-insert_entry}
+use Rattle.std.specs.Arc.{arc_value}
 use Rattle.cdm_day.proofs.tables.parts.Parts.set_flight.Goals as goal
 
 pub returns-clause-briefs : goal.returns-clause-briefs

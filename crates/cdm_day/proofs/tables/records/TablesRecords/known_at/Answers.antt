@@ -1,7 +1,6 @@
-use Rattle.cdm_day.proofs.Words.{◌≡◌, Some, sym, get, same_name}
+use Rattle.cdm_day.proofs.{Words.{◌≡◌, Some, sym, get, same_name}, TableLemmas.flight_placed}
 use Rattle.std.specs.Prelude.{slice_get}
 use Rattle.cdm_plan.proofs.ListWords.{arc_value}
-use Rattle.cdm_day.proofs.TableLemmas.{flight_placed}
 use Rattle.cdm_day.proofs.tables.records.TablesRecords.known_at.Goals as goal
 
 pub returns-clause-flight : goal.returns-clause-flight

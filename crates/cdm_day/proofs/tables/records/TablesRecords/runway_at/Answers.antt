@@ -1,7 +1,6 @@
 use Rattle.cdm_day.proofs.Words.{Bor, ◌≡◌, ℕ, List, length, get_or, IfSome, Option, ltb, rules, is_some, option_copied, slice_get}
-use Rattle.std.proofs.lemmas.Bool.{ltb-false, ltb-true}
-use Rattle.std.proofs.lemmas.Option.{slice_get_past, slice_get_read}
 use Rattle.cdm_day.proofs.DayWords.{RunwayRules}
+use Rattle.std.proofs.lemmas.{Bool.{ltb-false, ltb-true}, Option.{slice_get_past, slice_get_read}}
 use Rattle.cdm_day.proofs.tables.records.TablesRecords.runway_at.Goals as goal
 
 -- what `get` finds

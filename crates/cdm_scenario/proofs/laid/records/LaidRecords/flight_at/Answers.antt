@@ -1,5 +1,5 @@
-use Rattle.cdm_scenario.proofs.Words.{◌≡◌, ◌-◌, ◌<◌, ◌≤◌, None, Some, sym, ap, ◌∙◌, length, arith, slice_get, option_and_then, option_copied, get}
-use Rattle.cdm_scenario.proofs.Words.{Flight, flight_of, same_name, flights_in}
+use Rattle.cdm_scenario.proofs.Words.{◌≡◌, ◌-◌, ◌<◌, ◌≤◌, None, Some, sym, ap, ◌∙◌, length, arith, slice_get, option_and_then}
+use Rattle.cdm_scenario.proofs.Words.{option_copied, get, Flight, flight_of, same_name, flights_in}
 use Rattle.cdm_scenario.proofs.OverlayLemmas.{new_name, no_old_flight, old_flight}
 use Rattle.cdm_scenario.proofs.laid.records.LaidRecords.flight_at.Goals as goal
 

@@ -1,7 +1,6 @@
 use Rattle.std.proofs.Common.{◌≡◌, [], ◌∷◌, ◌++◌, take, rules}
-use Rattle.cdm_port.specs.Event.Event.{Replied}
+use Rattle.cdm_port.{specs.Event.Event.Replied, proofs.WriteLemmas.reply_torn}
 use Rattle.cdm_port.specs.declared.happening.Happening.TheVariants as happening
-use Rattle.cdm_port.proofs.WriteLemmas.{reply_torn}
 use Rattle.cdm_run_tests.proofs.PortLemmas.{not_done, on_err}
 use Rattle.cdm_run_tests.proofs.tests.serve.memory.Memory.tell.Goals as goal
 
