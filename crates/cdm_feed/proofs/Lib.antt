@@ -1,3 +1,4 @@
 pub mod OutputLemmas
 pub mod RunLemmas
 pub mod AskedLemmas
+mod MadeLemmas

@@ -104,10 +104,21 @@ impl Job for TextJob<'_> {
     ghost one_value = { λ job scenario x y sound a b. one_answer job.base.now job.told.counts scenario sound.0.airport.names sound.0.names x y a b };
 }
 
-// Puts the texts behind what is there, one after another.
+// How many bytes the texts have together.
+fn bytes_of(texts: &[Listed<u8>]) -> usize {
+    let mut bytes: usize = 0;
+    for text in texts {
+        bytes = bytes.saturating_add(text.as_slice().len());
+    }
+    bytes
+}
+
+// Puts the texts behind what is there, one after another. There is room for all of them at once, so no copy of the first
+// ones stays behind in memory.
 fn push_all(text: &mut Vec<u8>, answers: &[Listed<u8>]) -> Result<(), AllocError>
     ensures { OnOk result (text.new.items ≡ text.old.items ++ concat answers.now) }
 {
+    text.reserve_exact(bytes_of(answers))?;
     for answer in answers {
         text.extend_from_slice(answer.as_slice())?;
     }

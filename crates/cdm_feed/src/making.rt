@@ -1,13 +1,16 @@
 //! What is made of whole inputs.
-ghost use Rattle.std.specs.Prelude.{◌≡◌, ◌≤◌, None, Some, length, IfErr, IfOk, OnOk};
-ghost use Rattle.std.specs.Result.{IsOkAnd};
+ghost use Rattle.std.specs.Prelude.{◌≡◌, ◌≤◌, List, None, Some, Ok, length, IfErr, IfOk, OnOk};
 ghost use Rattle.cdm_flight.specs.Journal.{flight_of};
+ghost use Rattle.cdm_files.specs.AirportFile.{airport_in};
 ghost use Rattle.cdm_files.specs.FeedDay.{day_in, refusals_in};
 ghost use Rattle.cdm_files.specs.Input.{input_limit};
+ghost use Rattle.cdm_files.specs.RunFaults.{IsRecordFault};
+ghost use Rattle.cdm_files.specs.ScenarioFile.{scenarios_in};
+ghost use Rattle.cdm_picture.specs.Pictures.{IsPicture};
 ghost use Rattle.cdm_table.specs.Tables.{IsTable};
-ghost use Rattle.cdm_trace.specs.Traces.{IsTrace, from_minute};
 ghost use Rattle.cdm_scenario.specs.Outcome.{IsLaid};
-ghost use Rattle.cdm_feed.specs.Made.{IsAskedOf, IsKnown, IsMade, IsPlanIn, IsTextOf, IsUnmade, IsUntold, IsView, table_error, view_error};
+ghost use Rattle.cdm_scenario.specs.Scenarios.{ScenarioRecord};
+ghost use Rattle.cdm_feed.specs.Made.{IsAskedOf, IsKnown, IsMade, IsPlanIn, IsTraceSince, IsUnmade, IsUntold, IsView, table_error, view_error};
 ghost use Rattle.cdm_feed.specs.Output.{IsReport};
 ghost use Rattle.cdm_feed.specs.inner.Over.{IsUntoldOver};
 
@@ -16,8 +19,10 @@ use crate::asked::{Asked, DayText};
 use crate::counted::Counted;
 use crate::runs::RunCounts;
 use cdm_check::{Checked, check_of};
-use cdm_day::{DayState, Records};
-use cdm_files::{AskedDay, CommonFault, Inputs, Lent, RunError, asked_day};
+use cdm_day::{Airport, DayState, Records};
+use cdm_files::{
+    AskedDay, CommonFault, Inputs, Lent, RunError, airport_of, asked_day, scenarios_of,
+};
 use cdm_flight::FlightName;
 use cdm_kinds::Format;
 use cdm_phase::Gate;
@@ -27,10 +32,9 @@ use cdm_report::{indicators, made_lines, report_over};
 use cdm_scenario::{Overlay, Scenario, ScenarioName, scenario_named};
 use cdm_shift::{DayQuestion, day_answer};
 use cdm_table::{Table, TableFault, plans_json, tabulate};
-use cdm_trace::{Since, from_minute, trace_of};
+use cdm_trace::{Since, Trace, from_minute, trace_of};
 use cdm_view::ViewFault;
 use std::alloc::{AllocError, Global};
-use std::mem;
 use std::thread::Threads;
 
 /// The text of a run and what it counts.
@@ -129,6 +133,23 @@ fn view_error(fault: ViewFault) -> RunError
     }
 }
 
+// The picture of a day and its scenarios.
+fn picture_of<R: Threads + Sync, G: Gate>(
+    lent: &Lent<'_, R, G>,
+    day: &AskedDay,
+) -> Result<Vec<u8>, AllocError>
+    ensures { IfOk result (λ text. IsPicture day.now.state day.now.scenarios.items text.items) }
+{
+    picture(
+        lent.rt,
+        lent.alloc,
+        &day.state,
+        &day.scenarios,
+        lent.workers,
+        lent.gate,
+    )
+}
+
 // A question, and how its answer is written.
 #[derive(Clone, Copy)]
 struct Asking {
@@ -221,72 +242,82 @@ fn check_known(state: &DayState, asked: Option<FlightName>) -> Result<(), Flight
     }
 }
 
-// What is told of the records of the feed that made a day, from a time on. The day is made again, record by record, so it
-// doesn't stay beside itself.
-fn trace_in(
-    alloc: Global,
+// What a trace tells of: all records or those that move a flight, from which time on, and in which format.
+#[derive(Clone, Copy)]
+struct Tracing {
     flight: Option<FlightName>,
     since: Option<Since>,
     format: Format,
-    day: AskedDay,
-    feed: &[u8],
-) -> Result<Vec<u8>, RunError>
-    requires { length feed.now ≤ input_limit }
-    ensures known { OnOk result (IsKnown flight day.state) }
-    ensures made { IfOk result (λ text. IsOkAnd (from_minute day.state.airport.day since) (λ from. IsTrace format flight from day.state.airport feed.now text.items)) }
-    ensures fault { IfErr result (IsUntold (DayText.Trace flight since format) day.state day.scenarios.items) }
-{
-    let Ok(from) = from_minute(*day.state.day(), since) else {
-        return Err(RunError::OtherDay);
-    };
-    if let Err(name) = check_known(&day.state, flight) {
-        return Err(RunError::NoFlight(name));
-    }
-    let airport = day.state.airport().copy(alloc)?;
-    mem::drop(day);
-    Ok(trace_of(alloc, airport, feed, flight, from, format)?)
 }
 
-// What is told of the day that a feed makes. A feed that isn't read again is dropped first.
-fn text_of_day<R: Threads + Sync, G: Gate>(
-    lent: &Lent<'_, R, G>,
-    asked: DayText,
-    day: AskedDay,
-    feed: Vec<u8>,
-) -> Result<Vec<u8>, RunError>
-    requires limit { length feed.items ≤ input_limit }
-    requires state { day.state ≡ day_in day.state.airport feed.items }
-    requires refused { day.refused.items ≡ refusals_in day.state.airport feed.items }
-    ensures made { IfOk result (λ text. IsTextOf asked day.state.airport feed.items day.scenarios.items text.items) }
-    ensures fault { IfErr result (IsUntold asked day.state day.scenarios.items) }
+// What is told of the records of a feed at an airport, and the day that they make. The day is made once, record by record, so
+// only its end tells whether it knows the flight.
+fn trace_at(alloc: Global, asked: Tracing, airport: Airport, feed: &[u8]) -> Result<Trace, RunError>
+    requires { length feed.now ≤ input_limit }
+    ensures told { IfOk result (λ trace. IsTraceSince asked.flight asked.since asked.format airport feed.now trace.text.items) }
+    ensures day { IfOk result (λ trace. trace.desk ≡ day_in airport feed.now) }
+    ensures refused { IfOk result (λ trace. trace.refused ≡ length (refusals_in airport feed.now)) }
+    ensures fault { (questions : List ScenarioRecord) → IfErr result
+        (IsUntold (DayText.Trace asked.flight asked.since asked.format) (day_in airport feed.now) questions) }
 {
-    match asked {
-        DayText::Plan(format) => {
-            mem::drop(feed);
-            Ok(plan_in(lent, format, &day)?)
-        }
-        DayText::Table(table) => {
-            mem::drop(feed);
-            table_of(lent, table, &day)
-        }
-        DayText::Picture => {
-            mem::drop(feed);
-            Ok(picture(
-                lent.rt,
-                lent.alloc,
-                &day.state,
-                &day.scenarios,
-                lent.workers,
-                lent.gate,
-            )?)
-        }
-        DayText::Answer(question, scenario, format) => {
-            answer_of(lent.alloc, Asking { question, format }, scenario, &day)
-        }
-        DayText::Trace(flight, since, format) => {
-            trace_in(lent.alloc, flight, since, format, day, &feed)
-        }
+    let Ok(from) = from_minute(*airport.day(), asked.since) else {
+        return Err(RunError::OtherDay);
+    };
+    let trace = trace_of(alloc, airport, feed, asked.flight, from, asked.format)?;
+    match check_known(trace.desk.state(), asked.flight) {
+        Ok(()) => Ok(trace),
+        Err(name) => Err(RunError::NoFlight(name)),
     }
+}
+
+// What is told of the records of the feed, and what is counted of the day that they make.
+fn made_of_trace(alloc: Global, asked: Tracing, inputs: &Inputs) -> Result<Made, RunError>
+    requires { length inputs.now.second.items ≤ input_limit }
+    ensures made { IfOk result (λ made. IsMade (Asked.Day (DayText.Trace asked.flight asked.since asked.format)) inputs.now.airport.items inputs.now.second.items inputs.now.third.items made.text.items made.counted) }
+    ensures fault { IfErr result (IsUnmade (Asked.Day (DayText.Trace asked.flight asked.since asked.format)) inputs.now.airport.items inputs.now.second.items inputs.now.third.items) }
+{
+    let airport = airport_of(alloc, &inputs.airport)?;
+    let scenarios = scenarios_of(alloc, &airport, inputs)?;
+    let Trace {
+        text,
+        desk,
+        refused,
+    } = trace_at(alloc, asked, airport, &inputs.second)?;
+    let counted = Counted::Day(RunCounts {
+        accepted: desk.state().accepted(),
+        refused,
+        scenarios: scenarios.len(),
+    });
+    Ok(Made { text, counted })
+}
+
+// The day and the scenarios that the inputs make. The inputs are dropped, so what is told of the day has no bytes of theirs
+// beside it.
+fn day_of_inputs<R: Threads + Sync, G: Gate>(
+    lent: &Lent<'_, R, G>,
+    inputs: Inputs,
+) -> Result<AskedDay, RunError>
+    requires { length inputs.second.items ≤ input_limit }
+    ensures airport { IfOk result (λ day. airport_in inputs.airport.items ≡ Ok day.state.airport) }
+    ensures state { IfOk result (λ day. day.state ≡ day_in day.state.airport inputs.second.items) }
+    ensures refused { IfOk result (λ day. day.refused.items ≡ refusals_in day.state.airport inputs.second.items) }
+    ensures scenarios { IfOk result (λ day. scenarios_in day.state.airport.day inputs.third.items ≡ Ok day.scenarios.items) }
+    ensures fault { IfErr result (IsRecordFault inputs.airport.items inputs.third.items) }
+{
+    asked_day(lent.rt, lent.alloc, &inputs, lent.workers, lent.gate)
+}
+
+// This text of a day, and what is counted of the day.
+fn made_with(text: Vec<u8>, day: &AskedDay) -> Made
+    ensures text { result.text ≡ text }
+    ensures counted { result.counted ≡ Counted.Day (record { accepted = length day.now.state.journal; refused = length day.now.refused.items; scenarios = length day.now.scenarios.items }) }
+{
+    let counted = Counted::Day(RunCounts {
+        accepted: day.state.accepted(),
+        refused: day.refused.len(),
+        scenarios: day.scenarios.len(),
+    });
+    Made { text, counted }
 }
 
 // What is told of the day and the scenarios that the inputs make.
@@ -299,15 +330,36 @@ fn made_of_day<R: Threads + Sync, G: Gate>(
     ensures made { IfOk result (λ made. IsMade (Asked.Day asked) inputs.airport.items inputs.second.items inputs.third.items made.text.items made.counted) }
     ensures fault { IfErr result (IsUnmade (Asked.Day asked) inputs.airport.items inputs.second.items inputs.third.items) }
 {
-    let day = asked_day(lent.rt, lent.alloc, &inputs, lent.workers, lent.gate)?;
-    let counts = RunCounts {
-        accepted: day.state.journal().len(),
-        refused: day.refused.len(),
-        scenarios: day.scenarios.len(),
-    };
-    let counted = Counted::Day(counts);
-    let text = text_of_day(lent, asked, day, inputs.second)?;
-    Ok(Made { text, counted })
+    match asked {
+        DayText::Trace(flight, since, format) => {
+            let asked = Tracing {
+                flight,
+                since,
+                format,
+            };
+            made_of_trace(lent.alloc, asked, &inputs)
+        }
+        DayText::Plan(format) => {
+            let day = day_of_inputs(lent, inputs)?;
+            let text = plan_in(lent, format, &day)?;
+            Ok(made_with(text, &day))
+        }
+        DayText::Table(table) => {
+            let day = day_of_inputs(lent, inputs)?;
+            let text = table_of(lent, table, &day)?;
+            Ok(made_with(text, &day))
+        }
+        DayText::Picture => {
+            let day = day_of_inputs(lent, inputs)?;
+            let text = picture_of(lent, &day)?;
+            Ok(made_with(text, &day))
+        }
+        DayText::Answer(question, scenario, format) => {
+            let day = day_of_inputs(lent, inputs)?;
+            let text = answer_of(lent.alloc, Asking { question, format }, scenario, &day)?;
+            Ok(made_with(text, &day))
+        }
+    }
 }
 
 /// What is asked for, made of whole inputs: an airport file, a feed and a scenario file.

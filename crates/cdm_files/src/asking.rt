@@ -31,8 +31,10 @@ pub struct AskedDay {
     pub scenarios: Vec<Scenario>,
 }
 
-// The scenarios of the inputs, whose airport file says this airport.
-fn scenarios_of(
+/// The scenarios of the scenario file, which is the third of these inputs. Their airport file says this airport.
+///
+/// `Scenario`, the first faulty record of the scenario file and its word, and `Memory`.
+pub fn scenarios_of(
     alloc: Global,
     airport: &Airport,
     inputs: &Inputs,

@@ -8,4 +8,4 @@ mod told;
 mod tracing;
 
 pub use since::{Since, from_minute};
-pub use tracing::trace_of;
+pub use tracing::{Trace, trace_of};

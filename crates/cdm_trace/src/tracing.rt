@@ -2,6 +2,7 @@
 ghost use Rattle.std.specs.Prelude.{◌≡◌, ◌≤◌, length, IfOk, OnOk};
 ghost use Rattle.csv.specs.Records.{fields_of};
 ghost use Rattle.cdm_desk.specs.Replies.{day_after};
+ghost use Rattle.cdm_files.specs.FeedDay.{day_in, refusals_in};
 ghost use Rattle.cdm_files.specs.Input.{input_limit};
 ghost use Rattle.cdm_files.specs.Parsing.{parse_of};
 ghost use Rattle.cdm_trace.specs.Traces.{IsPiece, IsPieceFrom, IsTrace};
@@ -119,6 +120,17 @@ fn traced(
     Ok((BatchedDay::new(alloc, desk), piece))
 }
 
+/// What is told of the records of a feed, and the day that they make.
+#[derive(Drop)]
+pub struct Trace {
+    /// What is told of the records.
+    pub text: Vec<u8>,
+    /// The desk of the day after all of them.
+    pub desk: DeskDay,
+    /// How many of them were refused.
+    pub refused: usize,
+}
+
 /// Posts the records of a feed one after the other to the day of an airport, and tells of each what it changed, from the
 /// first record on after which the clock is this minute or later. Without a flight that is the reply to each record that is
 /// refused or by which a flight stands otherwise; of a flight, each record by which it stands otherwise, and where it stands
@@ -132,9 +144,11 @@ pub fn trace_of(
     flight: Option<FlightName>,
     from: Minute,
     format: Format,
-) -> Result<Vec<u8>, AllocError>
+) -> Result<Trace, AllocError>
     requires { length feed.now ≤ input_limit }
-    ensures { IfOk result (λ text. IsTrace format flight from airport feed.now text.items) }
+    ensures told { IfOk result (λ traced. IsTrace format flight from airport feed.now traced.text.items) }
+    ensures day { IfOk result (λ traced. traced.desk ≡ day_in airport feed.now) }
+    ensures refused { IfOk result (λ traced. traced.refused ≡ length (refusals_in airport feed.now)) }
 {
     let asked = Asked {
         flight,
@@ -149,7 +163,13 @@ pub fn trace_of(
     let mut number = 0;
     'records: loop {
         if !reader.read(&mut row)? {
-            return Ok(text);
+            let desk = day.taken(alloc)?;
+            let refused = number as usize - desk.state().accepted();
+            return Ok(Trace {
+                text,
+                desk,
+                refused,
+            });
         }
         number += 1;
         let (next, piece) = traced(alloc, &asked, day, number, &row)?;

@@ -1,5 +1,5 @@
-use Rattle.std.proofs.Common.{◌≡◌, ◌∙◌, ◌++◌, ℕ, Bool, true, false, List, [], ◌∷◌, ap, if◌then◌else◌}
-use Rattle.cdm_trace.proofs.TraceLemmas.{all_told, tells_first, tells_next}
+use Rattle.std.proofs.Common.{◌≡◌, ◌≤◌, ◌-◌, ◌∙◌, ◌++◌, ℕ, Bool, true, false, List, [], ◌∷◌, ap, arith, if◌then◌else◌}
+use Rattle.cdm_trace.proofs.TraceLemmas.{all_refused, all_told, tells_first, tells_next, whole_day}
 use Rattle.cdm_trace.proofs.tracing.trace_of.Goals as goal
 
 -- a reader that finds no record had none left
@@ -17,10 +17,31 @@ records-init c =
     tells_first c.args.from c.args.format c.args.flight c.args.airport c.args.feed.now _ _ _ (c.new-day.ensures ∙ (c.new.ensures ∙ c.in_ok-state.ensures))
     c.new-reader.ensures.left c.new-reader.ensures.count c.new-text.ensures.items
 
-pub returns-then-not-branch : goal.returns-then-not-branch
-returns-then-not-branch c =
+pub overflow_sub-refused : goal.overflow_sub-refused
+overflow_sub-refused c =
+    omega (
+      arith,
+      all_refused c.args.from c.args.format c.args.flight c.args.airport c.args.feed.now _ _ _ _ _ _ _ c.records.invariant
+          (none-read _ _ _ _ c.if-not-branch.true c.in_ok-read.ensures.left) c.in_ok-desk.ensures c.state.ensures c.accepted.ensures.value,
+    )
+
+pub returns-then-not-branch-clause-told : goal.returns-then-not-branch-clause-told
+returns-then-not-branch-clause-told c =
     all_told c.args.from c.args.format c.args.flight c.args.airport c.args.feed.now _ _ _ _ c.records.invariant
     (none-read _ _ _ _ c.if-not-branch.true c.in_ok-read.ensures.left)
+
+pub returns-then-not-branch-clause-day : goal.returns-then-not-branch-clause-day
+returns-then-not-branch-clause-day c =
+    c.in_ok-desk.ensures ∙ whole_day c.args.from c.args.format c.args.flight c.args.airport c.args.feed.now _ _ _ _ c.records.invariant
+    (none-read _ _ _ _ c.if-not-branch.true c.in_ok-read.ensures.left)
+
+pub returns-then-not-branch-clause-refused : goal.returns-then-not-branch-clause-refused
+returns-then-not-branch-clause-refused c =
+    omega (
+      arith,
+      all_refused c.args.from c.args.format c.args.flight c.args.airport c.args.feed.now _ _ _ _ _ _ _ c.records.invariant
+          (none-read _ _ _ _ c.if-not-branch.true c.in_ok-read.ensures.left) c.in_ok-desk.ensures c.state.ensures c.accepted.ensures.value,
+    )
 
 pub records-preserved : goal.records-preserved
 records-preserved c =
