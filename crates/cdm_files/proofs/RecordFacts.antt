@@ -6,7 +6,6 @@ use Rattle.csv.specs.Machine.{Read, ends_at_end, fields_after, is_end, next_reco
 use Rattle.csv.specs.Reading.{NextIs, ReadRecord, ReadsNext, default_config, is_flexible, pending_of, records_from, records_next}
 use Rattle.csv.specs.{Reading.{took_first, strip_bom}, declared.reader.Reader.Reader, declared.parser.Action.Action}
 use Rattle.csv.specs.declared.parser.State.{State}
-use Rattle.csv.specs.declared.parser.Action.TheVariants as act
 use Rattle.csv.specs.declared.parser.State.TheVariants as st
 use Rattle.cdm_files.specs.{Records.records_of, inner.RecordsLeft.{IsBetweenRecords, records_at, records_left, unread}}
 

@@ -1,8 +1,8 @@
 -- The updates that a feed spells, and its refused records.
-use Rattle.std.specs.Prelude.{ℕ, ◌+◌, List, [], ◌∷◌, ◌++◌, Option, None, Some, Result, Ok, Err}
+use Rattle.std.specs.Prelude.{ℕ, ◌+◌, List, [], ◌∷◌, ◌++◌, Option, None, Some, Result, Ok, Err, map}
 use Rattle.std.specs.List.{filter_map}
 use Rattle.std.specs.Option.{option_map, option_to_list}
-use Rattle.std.specs.Result.{result_ok}
+use Rattle.std.specs.Result.{result_err, result_ok}
 use Rattle.cdm_flight.specs.Accepted.{after_one, refusal}
 use Rattle.cdm_flight.specs.Journal.{AirportRows}
 use Rattle.cdm_flight.specs.declared.role.Role.{Role}
@@ -18,6 +18,14 @@ Spelled = Result (Role × Update) RefusalWord
 -- the updates that the records spell, in order
 unfoldable pub updates_in : List Spelled → List (Role × Update)
 updates_in records = filter_map result_ok records
+
+-- the word that refuses a record in itself, or none
+abbrev pub OwnWord : Type 0
+OwnWord = Option RefusalWord
+
+-- each record's own word
+abbrev pub own_words : List Spelled → List OwnWord
+own_words records = map result_err records
 
 -- a record by its number, if a word refuses it
 abbrev pub if_refused : ℕ → Option RefusalWord → List (ℕ × RefusalWord)
@@ -35,11 +43,11 @@ abbrev pub word_in : Reply → Option RefusalWord
 word_in Accepted = None
 word_in (Refused word) = Some word
 
--- the refused records, by number: those that spell no update, and those whose update has a reply that refuses
--- it. The first record has this number, and the replies are those to the updates, in order.
-unfoldable pub refused_by_replies : ℕ → List Spelled → List Reply → List (ℕ × RefusalWord)
+-- the refused records, by number, where these are their own words: those that have one, and those whose update has a
+-- reply that refuses it. The first record has this number, and the replies are those to the updates, in order.
+unfoldable pub refused_by_replies : ℕ → List OwnWord → List Reply → List (ℕ × RefusalWord)
 refused_by_replies number [] replies = []
-refused_by_replies number (Err word ∷ later) replies = (number, word) ∷ refused_by_replies (number + 1) later replies
-refused_by_replies number (Ok update ∷ later) [] = refused_by_replies (number + 1) later []
-refused_by_replies number (Ok update ∷ later) (reply ∷ replies) =
+refused_by_replies number (Some word ∷ later) replies = (number, word) ∷ refused_by_replies (number + 1) later replies
+refused_by_replies number (None ∷ later) [] = refused_by_replies (number + 1) later []
+refused_by_replies number (None ∷ later) (reply ∷ replies) =
     if_refused number (word_in reply) ++ refused_by_replies (number + 1) later replies

@@ -7,7 +7,7 @@ ghost use Rattle.cdm_files.specs.Refused.{refused_in, updates_in};
 
 use crate::feed::read_stretch;
 use crate::record_reader::RecordReader;
-use crate::refused::{refusals_of, updates_of};
+use crate::refused::{refusals_of, updates_of, words_of};
 use cdm_day::{Airport, DayState};
 use cdm_flight::{RefusalWord, Role, Update};
 use cdm_phase::{Gate, Workers};
@@ -39,29 +39,31 @@ pub fn day_of(alloc: Global, airport: Airport) -> Result<DayState, AllocError>
     }
 }
 
-// Judges the next records of a feed.
+// Judges the next records of a feed. What they spell isn't kept while the day is planned.
 #[tactic(auto, using(crate::proofs::RefusedLemmas::refused_by_day))]
 fn judge_next<R: Threads + Sync, G: Gate>(
     rt: &R,
     alloc: Global,
     judged: &mut Judged,
-    parsed: &[Result<(Role, Update), RefusalWord>],
+    parsed: Vec<Result<(Role, Update), RefusalWord>>,
     workers: Workers,
     gate: &G,
 ) -> Result<(), AllocError>
-    requires { judged.old.records + length parsed.now < 2 ^ 32 }
+    requires { judged.old.records + length parsed.items < 2 ^ 32 }
     ensures state { OnOk result (judged.new.state ≡ record judged.old.state {
-      journal = accepted judged.old.state.airport judged.old.state.journal (updates_in parsed.now);
+      journal = accepted judged.old.state.airport judged.old.state.journal (updates_in parsed.items);
     }) }
     ensures refused { OnOk result (judged.new.refused.items ≡ judged.old.refused.items
-        ++ refused_in judged.old.state.airport judged.old.state.journal (judged.old.records + 1) parsed.now) }
-    ensures records { OnOk result (judged.new.records ≡ judged.old.records + length parsed.now) }
+        ++ refused_in judged.old.state.airport judged.old.state.journal (judged.old.records + 1) parsed.items) }
+    ensures records { OnOk result (judged.new.records ≡ judged.old.records + length parsed.items) }
 {
-    let updates = updates_of(alloc, parsed)?;
+    let updates = updates_of(alloc, &parsed)?;
+    let words = words_of(alloc, &parsed)?;
+    drop(parsed);
     let replies = judged.state.apply_all(rt, alloc, &updates, workers, gate)?;
-    let refused = refusals_of(alloc, judged.records, parsed, &replies)?;
+    let refused = refusals_of(alloc, judged.records, &words, &replies)?;
     judged.refused.extend_from_slice(&refused)?;
-    judged.records += parsed.len() as u32;
+    judged.records += words.len() as u32;
     Ok(())
 }
 
@@ -92,6 +94,6 @@ pub fn judge<R: Threads + Sync, G: Gate>(
         if parsed.is_empty() {
             return Ok(judged);
         }
-        judge_next(rt, alloc, &mut judged, &parsed, workers, gate)?;
+        judge_next(rt, alloc, &mut judged, parsed, workers, gate)?;
     }
 }

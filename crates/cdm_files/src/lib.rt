@@ -24,7 +24,7 @@ mod scenario_file;
 mod scenario_record;
 
 pub use airport_file::{airport_of, cell_field, occupancy_field, read_airport};
-pub use asking::{AskedDay, asked_day};
+pub use asking::{AskedDay, asked_day, scenarios_of};
 pub use common_fault::{CommonFault, Input};
 pub use device::Device;
 pub use feed::read_feed;
@@ -38,7 +38,7 @@ pub use laws::{records_are_read_back, records_name_their_kind, wrong_counts_are_
 pub use lent::Lent;
 pub use output::{WriteFault, write_text};
 pub use record_reader::RecordReader;
-pub use refused::{refusals_of, updates_of};
+pub use refused::{refusals_of, updates_of, words_of};
 pub use role::role_of;
 pub use run_error::RunError;
 pub use scenario_file::read_scenarios;

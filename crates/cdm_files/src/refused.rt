@@ -1,6 +1,6 @@
 //! The updates of a feed, and its refused records.
 ghost use Rattle.std.specs.Prelude.{◌≡◌, ◌≤◌, ◌<◌, ◌+◌, ◌^◌, ◌∷◌, ◌++◌, ℕ, List, IfOk, OnOk, length};
-ghost use Rattle.cdm_files.specs.Refused.{Spelled, if_refused, refused_by_replies, updates_in};
+ghost use Rattle.cdm_files.specs.Refused.{OwnWord, if_refused, own_words, refused_by_replies, updates_in};
 
 use cdm_day::Reply;
 use cdm_flight::{RefusalWord, Role, Update, push_last};
@@ -23,20 +23,34 @@ pub fn updates_of(
     Ok(updates)
 }
 
-// The word that refuses a record, in itself or by the next of the replies, and the replies to the records behind it.
+/// The word that refuses each record of a feed in itself, in order: none of a record that spells an update.
+pub fn words_of(
+    alloc: Global,
+    parsed: &[Result<(Role, Update), RefusalWord>],
+) -> Result<Vec<Option<RefusalWord>>, AllocError>
+    ensures { IfOk result (λ words. words.items ≡ own_words parsed.now) }
+{
+    let mut words = Vec::with_capacity(alloc, parsed.len())?;
+    for spelled in parsed {
+        push_last(&mut words, spelled.err())?;
+    }
+    Ok(words)
+}
+
+// The word that refuses a record, its own or that of the next of the replies, and the replies to the records behind it.
 #[tactic(auto, unfolding(crate::specs::Refused::refused_by_replies))]
 fn next_word<'a>(
-    spelled: &Result<(Role, Update), RefusalWord>,
+    own: Option<RefusalWord>,
     replies: &'a [Reply],
 ) -> (Option<RefusalWord>, &'a [Reply])
-    ensures { (number : ℕ) (later : List Spelled) → refused_by_replies number (spelled.now ∷ later) replies.now
+    ensures { (number : ℕ) (later : List OwnWord) → refused_by_replies number (own ∷ later) replies.now
         ≡ if_refused number result.0 ++ refused_by_replies (number + 1) later result.1.now }
 {
-    match (spelled, replies) {
-        (Err(word), _) => (Some(*word), replies),
-        (Ok(_), [Reply::Refused(word), later @ ..]) => (Some(*word), later),
-        (Ok(_), [Reply::Accepted, later @ ..]) => (None, later),
-        (Ok(_), []) => (None, replies),
+    match (own, replies) {
+        (Some(word), _) => (Some(word), replies),
+        (None, [Reply::Refused(word), later @ ..]) => (Some(*word), later),
+        (None, [Reply::Accepted, later @ ..]) => (None, later),
+        (None, []) => (None, replies),
     }
 }
 
@@ -54,25 +68,25 @@ fn push_if_refused(
     }
 }
 
-/// The refused records of these by their numbers in the feed, where so many stand before them: those
-/// that spell no update, and those whose update has a reply that refuses it.
+/// The refused records by their numbers in the feed, where so many stand before them and `words` has each
+/// record's own word: those that have one, and those whose update has a reply that refuses it.
 #[tactic(auto, unfolding(crate::specs::Refused::refused_by_replies))]
 pub fn refusals_of(
     alloc: Global,
     before: u32,
-    parsed: &[Result<(Role, Update), RefusalWord>],
+    words: &[Option<RefusalWord>],
     replies: &[Reply],
 ) -> Result<Vec<(u32, RefusalWord)>, AllocError>
-    requires { before + length parsed.now < 2 ^ 32 }
-    ensures refused { IfOk result (λ refused. refused.items ≡ refused_by_replies (before + 1) parsed.now replies.now) }
-    ensures few { IfOk result (λ refused. length refused.items ≤ length parsed.now) }
+    requires { before + length words.now < 2 ^ 32 }
+    ensures refused { IfOk result (λ refused. refused.items ≡ refused_by_replies (before + 1) words.now replies.now) }
+    ensures few { IfOk result (λ refused. length refused.items ≤ length words.now) }
 {
     let mut refused = Vec::new(alloc);
     let mut number = before;
     let mut left = replies;
-    for spelled in parsed {
+    for own in words {
         number += 1;
-        let (word, later) = next_word(spelled, left);
+        let (word, later) = next_word(*own, left);
         push_if_refused(&mut refused, number, word)?;
         left = later;
     }

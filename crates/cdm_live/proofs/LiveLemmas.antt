@@ -5,7 +5,7 @@ use Rattle.cdm_report.specs.Report.{report_bytes}
 use Rattle.cdm_plan.specs.{Day.DayRecord, DayPlan.IsDayPlan}
 use Rattle.cdm_day.specs.declared.reply.Reply.{Reply}
 use Rattle.cdm_board.specs.History.{Call, calls_of}
-use Rattle.cdm_files.specs.{AirportFile.airport_in, FeedDay.spelled_in, Refused.{Spelled, refused_by_replies, updates_in}}
+use Rattle.cdm_files.specs.{AirportFile.airport_in, FeedDay.spelled_in, Refused.{Spelled, own_words, refused_by_replies, updates_in}}
 use Rattle.cdm_files.{specs.Readings.{AreRead, Reading}, proofs.RunLemmas.{airport_record-first, of_inputs}}
 use Rattle.cdm_files.specs.declared.common_fault.CommonFault.TheVariants as common
 use Rattle.cdm_live.specs.Live.{IsCountedText, IsWorkOf, batch_count, desk_text}
@@ -36,13 +36,13 @@ counted_text g feed1 feed2 us vs h d rs ss m n text counts first second merged p
         of_day = subst (λ (x : DayRecord). IsDayPlan x told.plan) merged.day told.of_day;
         bytes = told.bytes
             ∙ (λ i. report_bytes (merged.day i).airport.day told.plan []
-            ++ desk_text 1 (all1 i) (refused_by_replies 1 feed1 (merged.replied1 i))
-            ++ desk_text 2 (all2 i) (refused_by_replies 1 feed2 (merged.replied2 i)));
+            ++ desk_text 1 (all1 i) (refused_by_replies 1 (own_words feed1) (merged.replied1 i))
+            ++ desk_text 2 (all2 i) (refused_by_replies 1 (own_words feed2) (merged.replied2 i)));
       };
       of_counts = are
           ∙ (λ i. record {
             accepted = length (merged.day i).journal;
-            refused = length (refused_by_replies 1 feed1 (merged.replied1 i)) + length (refused_by_replies 1 feed2 (merged.replied2 i));
+            refused = length (refused_by_replies 1 (own_words feed1) (merged.replied1 i)) + length (refused_by_replies 1 (own_words feed2) (merged.replied2 i));
             calls = length h;
           });
     }

@@ -15,7 +15,7 @@ use Rattle.cdm_day.specs.declared.reply.Reply.{Reply}
 use Rattle.cdm_board.specs.History.{Call, Posts, Looks, IsLegal, calls_of, day_of, journal_of}
 use Rattle.cdm_files.specs.AirportFile.{airport_in}
 use Rattle.cdm_files.specs.FeedDay.{spelled_in}
-use Rattle.cdm_files.specs.Refused.{Spelled, refused_by_replies, updates_in}
+use Rattle.cdm_files.specs.Refused.{Spelled, own_words, refused_by_replies, updates_in}
 use Rattle.cdm_live.specs.declared.live_run.LiveCounts.{LiveCounts}
 
 -- What a desk does.
@@ -57,7 +57,7 @@ replies_of (Looks airport journal) = []
 
 -- the refused records of the feed of this desk
 abbrev pub refused_at : List Spelled → ℕ → List (ℕ × Call) → List (ℕ × RefusalWord)
-refused_at feed desk h = refused_by_replies 1 feed (flat_map replies_of (calls_of desk h))
+refused_at feed desk h = refused_by_replies 1 (own_words feed) (flat_map replies_of (calls_of desk h))
 
 -- a desk's line: its number, how many batches it posted, and how many records of its feed are refused
 unfoldable pub desk_line : ℕ → ℕ → ℕ → List ℕ

@@ -15,7 +15,7 @@ use cdm_board::{MOST_BATCH_UPDATES, MOST_CALLS};
 use cdm_day::{Airport, DayState};
 use cdm_files::{
     CommonFault, Device, Input, Inputs, airport_of, read_feed, read_inputs, refusals_of,
-    updates_of, write_text,
+    updates_of, words_of, write_text,
 };
 use cdm_flight::{RefusalWord, Role, Update};
 use cdm_phase::Gate;
@@ -125,8 +125,8 @@ fn report_merged(
         ≡ merged_counts feed1.now feed2.now merged.now.state merged.now.history merged.now.replies1.items merged.now.replies2.items) }
 {
     let state = &merged.state;
-    let refused1 = refusals_of(alloc, 0, feed1, &merged.replies1)?;
-    let refused2 = refusals_of(alloc, 0, feed2, &merged.replies2)?;
+    let refused1 = refusals_of(alloc, 0, &words_of(alloc, feed1)?, &merged.replies1)?;
+    let refused2 = refusals_of(alloc, 0, &words_of(alloc, feed2)?, &merged.replies2)?;
     let mut text = report_text(alloc, state.day(), state.plan(), &[])?;
     text.append(&mut desk_text(alloc, 1, posts1, &refused1)?)?;
     text.append(&mut desk_text(alloc, 2, posts2, &refused2)?)?;

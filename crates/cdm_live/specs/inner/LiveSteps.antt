@@ -12,7 +12,7 @@ use Rattle.cdm_board.specs.History.{Call, DeskRecord, IsLegal, calls_of, day_of,
 use Rattle.cdm_board.specs.declared.fault.BoardError.{BoardError}
 use Rattle.cdm_board.specs.declared.fault.BoardError.TheVariants as board
 use Rattle.cdm_files.specs.CommonFaults.{IsAirportFault}
-use Rattle.cdm_files.specs.Refused.{Spelled, refused_by_replies}
+use Rattle.cdm_files.specs.Refused.{Spelled, own_words, refused_by_replies}
 use Rattle.cdm_files.specs.declared.common_fault.CommonFault.TheVariants as common
 use Rattle.cdm_live.specs.Live.{IsWorkOf, desk_text, replies_of}
 use Rattle.cdm_live.specs.LiveFaults.{FillsBoard, FitsBoard, calls_needed}
@@ -68,13 +68,13 @@ pub record IsMergedText (feed1 feed2 : List Spelled) (d : DayRecord) (replies1 r
   pub of_day : IsDayPlan d plan
   pub bytes : text
       ≡ report_bytes d.airport.day plan []
-      ++ desk_text 1 posts1 (refused_by_replies 1 feed1 replies1)
-      ++ desk_text 2 posts2 (refused_by_replies 1 feed2 replies2)
+      ++ desk_text 1 posts1 (refused_by_replies 1 (own_words feed1) replies1)
+      ++ desk_text 2 posts2 (refused_by_replies 1 (own_words feed2) replies2)
 
 -- the counts of such a day, of such desks, and of a history
 abbrev pub merged_counts : List Spelled → List Spelled → DayRecord → List (ℕ × Call) → List Reply → List Reply → LiveCounts
 merged_counts feed1 feed2 d h replies1 replies2 = record {
   accepted = length d.journal;
-  refused = length (refused_by_replies 1 feed1 replies1) + length (refused_by_replies 1 feed2 replies2);
+  refused = length (refused_by_replies 1 (own_words feed1) replies1) + length (refused_by_replies 1 (own_words feed2) replies2);
   calls = length h;
 }

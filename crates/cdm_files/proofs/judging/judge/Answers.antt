@@ -20,7 +20,5 @@ stretches-smaller g c =
 
 pub stretches-preserved : goal.stretches-preserved
 stretches-preserved g c =
-    let is = c.deref.ensures.value in
     let judged = c.in_ok-judge_next.ensures in
-    next-left _ _ _ _ _ _ _ _ _ _ _ _ c.stretches.invariant c.in_ok-parsed.ensures.spelled (rw is at judged.state) (rw is at judged.refused)
-    (rw is at judged.records)
+    next-left _ _ _ _ _ _ _ _ _ _ _ _ c.stretches.invariant c.in_ok-parsed.ensures.spelled judged.state judged.refused judged.records

@@ -2,10 +2,10 @@ use Rattle.std.proofs.Common.{◌≡◌, ◌≤◌, ◌+◌, ◌++◌, drop, len
 use Rattle.cdm_files.specs.Refused.{refused_by_replies}
 use Rattle.cdm_files.proofs.refused.refusals_of.Given as goal
 
-abbrev pub invariant-loop-spelled : goal.invariant-loop-spelled
-invariant-loop-spelled l = record {
-  number : l.number ≡ l.before + l.spelled-index;
-  all : refused_by_replies (l.before + 1) l.parsed l.replies
-      ≡ l.refused.items ++ refused_by_replies (l.number + 1) (drop l.spelled-index l.parsed) l.left;
-  few : length l.refused.items ≤ l.spelled-index;
+abbrev pub invariant-loop-own : goal.invariant-loop-own
+invariant-loop-own l = record {
+  number : l.number ≡ l.before + l.own-index;
+  all : refused_by_replies (l.before + 1) l.words l.replies
+      ≡ l.refused.items ++ refused_by_replies (l.number + 1) (drop l.own-index l.words) l.left;
+  few : length l.refused.items ≤ l.own-index;
 }
