@@ -9,14 +9,20 @@ use std::fs::Files;
 use std::io::ErrorKind;
 use std::{fs, io};
 
+/// A file, or standard input. The latter is boxed, since its buffer would stand on the stack with each move.
+pub(crate) type Opened<R> = Either<<R as Files>::File, Box<<R as io::Input>::Reader>>;
+
 /// Opens a file, or takes standard input where that is its name. A fault is named as the input.
 pub(crate) fn open<R: AllocGlobal + Files + io::Input>(
     rt: &R,
     path: &str,
     input: Input,
-) -> Result<Either<R::File, R::Reader>, Fault> {
+) -> Result<Opened<R>, Fault> {
     if path == STANDARD_INPUT {
-        return Ok(Either::Right(rt.reader()));
+        let Ok(reader) = Box::new(rt.alloc(), rt.reader()) else {
+            return Err(Fault::NoMemory);
+        };
+        return Ok(Either::Right(reader));
     }
     match fs::open(rt, path) {
         Ok(file) => Ok(Either::Left(file)),
@@ -41,7 +47,7 @@ pub(crate) fn unopened(
 pub(crate) fn open_scenarios<R: AllocGlobal + Files + io::Input>(
     rt: &R,
     path: Option<&str>,
-) -> Result<Either<Either<R::File, R::Reader>, &'static [u8]>, Fault> {
+) -> Result<Either<Opened<R>, &'static [u8]>, Fault> {
     match path {
         Some(path) => Ok(Either::Left(open(rt, path, Input::Scenarios)?)),
         None => Ok(Either::Right(&[])),
