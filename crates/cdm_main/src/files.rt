@@ -9,7 +9,7 @@ use std::fs::Files;
 use std::io::ErrorKind;
 use std::{fs, io};
 
-/// A file, or standard input. The latter is boxed, since its buffer would stand on the stack with each move.
+/// A file, or standard input. The latter is boxed, since each move of its buffer would take room on the stack.
 pub(crate) type Opened<R> = Either<<R as Files>::File, Box<<R as io::Input>::Reader>>;
 
 /// Opens a file, or takes standard input where that is its name. A fault is named as the input.
