@@ -1,5 +1,5 @@
 -- Flights in brief, beside the flights of a table.
-use Rattle.cdm_day.proofs.Words.{rules, ◌≡◌, ℕ, zero, suc, ◌+◌, ◌≤◌, ◌<◌, Bool, List, [], ◌∷◌, ◌++◌, map, length, set, None, refl, ap}
+use Rattle.cdm_day.proofs.Words.{rules, ◌≡◌, ℕ, zero, suc, ◌≤◌, ◌<◌, Bool, List, [], ◌∷◌, ◌++◌, map, length, set, None, refl, ap}
 use Rattle.cdm_day.{proofs.Words.{arith, keys_of, values_of, insert_entry}, specs.inner.Briefs.{AreKeptAs, put_at}}
 use Rattle.std.specs.List.{position_or_len}
 use Rattle.cdm_plan.specs.declared.brief.Brief.{Brief}

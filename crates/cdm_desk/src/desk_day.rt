@@ -5,8 +5,8 @@ use cdm_day::DayState;
 use std::marker::Model;
 
 /// One desk: a day that takes records one at a time. Once it has taken one it has the day twice, each with its own
-/// parts, so that a record changes the one where it is, and the other tells what was before. A contract sees the day
-/// alone.
+/// parts, so that a record changes the one where it is, and the other tells what was before. Both share one list of
+/// updates. A contract sees the day alone.
 pub struct DeskDay {
     pub(crate) state: DayState,
     pub(crate) spare: Option<DayState>,

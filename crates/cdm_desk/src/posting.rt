@@ -40,15 +40,16 @@ fn word_in(replies: &[Reply]) -> Option<RefusalWord>
 }
 
 impl DeskDay {
-    // The day once more, for an update to change it.
-    fn once_more(&mut self, alloc: Global) -> Result<DayState, AllocError>
+    // The day once more, for an update to change it. The journal is there once.
+    fn once_more(&mut self, alloc: Global, update: Update) -> Result<DayState, AllocError>
         ensures same { self.new ≡ self.old }
         ensures day { IfOk result (λ s. s ≡ self.old) }
     {
-        match self.spare.take() {
-            Some(state) => Ok(state),
-            None => self.state.copy(alloc),
-        }
+        let other = match self.spare.take() {
+            Some(state) => state,
+            None => self.state.copy(alloc)?,
+        };
+        self.state.with_list(alloc, other, update)
     }
 
     // Takes the day after an update, which the day till now follows.
@@ -70,7 +71,7 @@ impl DeskDay {
         ensures same { self.new ≡ self.old }
         ensures next { IfOk result (IsNextBy self.old update.now) }
     {
-        let own = self.once_more(alloc)?;
+        let own = self.once_more(alloc, update.1)?;
         let batch = [*update];
         let (next, replies) = own.after(alloc, &batch)?;
         match word_in(&replies) {

@@ -270,19 +270,25 @@ fn trace_at(alloc: Global, asked: Tracing, airport: Airport, feed: &[u8]) -> Res
     }
 }
 
-// What is told of the records of the feed, and what is counted of the day that they make.
-fn made_of_trace(alloc: Global, asked: Tracing, inputs: &Inputs) -> Result<Made, RunError>
-    requires { length inputs.now.second.items ≤ input_limit }
-    ensures made { IfOk result (λ made. IsMade (Asked.Day (DayText.Trace asked.flight asked.since asked.format)) inputs.now.airport.items inputs.now.second.items inputs.now.third.items made.text.items made.counted) }
-    ensures fault { IfErr result (IsUnmade (Asked.Day (DayText.Trace asked.flight asked.since asked.format)) inputs.now.airport.items inputs.now.second.items inputs.now.third.items) }
+// What is told of the records of the feed, and what is counted of the day that they make. The airport file is dropped before.
+fn made_of_trace(alloc: Global, asked: Tracing, inputs: Inputs) -> Result<Made, RunError>
+    requires { length inputs.second.items ≤ input_limit }
+    ensures made { IfOk result (λ made. IsMade (Asked.Day (DayText.Trace asked.flight asked.since asked.format)) inputs.airport.items inputs.second.items inputs.third.items made.text.items made.counted) }
+    ensures fault { IfErr result (IsUnmade (Asked.Day (DayText.Trace asked.flight asked.since asked.format)) inputs.airport.items inputs.second.items inputs.third.items) }
 {
     let airport = airport_of(alloc, &inputs.airport)?;
-    let scenarios = scenarios_of(alloc, &airport, inputs)?;
+    let scenarios = scenarios_of(alloc, &airport, &inputs)?;
+    let Inputs {
+        airport: airport_file,
+        second: feed,
+        ..
+    } = inputs;
+    drop(airport_file);
     let Trace {
         text,
         desk,
         refused,
-    } = trace_at(alloc, asked, airport, &inputs.second)?;
+    } = trace_at(alloc, asked, airport, &feed)?;
     let counted = Counted::Day(RunCounts {
         accepted: desk.state().accepted(),
         refused,
@@ -337,7 +343,7 @@ fn made_of_day<R: Threads + Sync, G: Gate>(
                 since,
                 format,
             };
-            made_of_trace(lent.alloc, asked, &inputs)
+            made_of_trace(lent.alloc, asked, inputs)
         }
         DayText::Plan(format) => {
             let day = day_of_inputs(lent, inputs)?;

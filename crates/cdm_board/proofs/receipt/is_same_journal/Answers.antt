@@ -1,5 +1,5 @@
 use Rattle.std.proofs.lemmas.Slice.Eq.{slice_eq-Decides}
-use Rattle.cdm_board.proofs.UpdateLemmas.{update_eq-Decides}
+use Rattle.cdm_flight.proofs.UpdateLemmas.{update_eq-Decides}
 use Rattle.cdm_board.proofs.receipt.is_same_journal.Goals as goal
 
 pub returns : goal.returns

@@ -1,4 +1,4 @@
-use Rattle.cdm_day.proofs.{Words.{◌≡◌, Bool, true, not, sym, ◌∙◌, refl, arith, rules, or_right}, DayWords.refusal_of}
+use Rattle.cdm_day.proofs.{Words.{◌≡◌, Bool, not, sym, ◌∙◌, refl, arith, rules, or_right}, DayWords.refusal_of}
 use Rattle.cdm_day.proofs.WordLemmas.{refused, too_many, unless_full}
 use Rattle.cdm_day.proofs.judging.judge_taxi.Goals as goal
 

@@ -1,5 +1,4 @@
 use Rattle.cdm_day.proofs.{Words.{sym, ap, ◌∙◌, rules, option_copied, record_name}, DayWords.step_of, WordLemmas.{flight-unknown, stepped}}
-use Rattle.cdm_flight.specs.declared.reach.Reach.TheVariants as reach
 use Rattle.cdm_day.proofs.step.flight_after.Goals as goal
 
 pub returns-in_default-clause-refused : goal.returns-in_default-clause-refused

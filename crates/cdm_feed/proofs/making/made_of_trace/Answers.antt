@@ -6,7 +6,7 @@ use Rattle.cdm_feed.proofs.making.made_of_trace.Goals as goal
 
 pub returns-in_err-text-clause-fault : goal.returns-in_err-text-clause-fault
 returns-in_err-text-clause-fault c =
-    let bytes = c.args.inputs.now in
+    let bytes = c.args.inputs in
     let asked = c.args.asked in
     let questions = c.in_ok-scenarios.scenarios.items in
     let e = c.in_err-text.field-0.0 in

@@ -11,4 +11,4 @@ returns-clause-flight c =
     let flight = c.in_ok-flight.flight.now in
     let at : slice_get m.entries c.args.place ≡ Some (key, flight) = rw (← c.deref.ensures) (sym c.in_ok-flight.ensures.entry) in
     let value : get same_name m key ≡ Some flight = rw (← c.deref.ensures) c.in_ok-flight.ensures.value in
-    rw (← c.self.view_is) (flight_placed (arc_value s.airport) (arc_value s.journal).items m c.self.invariant.flights c.args.place key flight at value)
+    rw (← c.self.view_is) (flight_placed (arc_value s.airport) s.journal m c.self.invariant.flights c.args.place key flight at value)

@@ -5,16 +5,8 @@ use Rattle.cdm_day.proofs.tables.take.TablesTakes.take.Goals as goal
 pub put-requires : goal.put-requires
 put-requires c = search (rules, has_place)
 
-pub put-requires-2 : goal.put-requires-2
-put-requires-2 c = search (rules, has_place)
-
-pub invariant_of-self-in-Some : goal.invariant_of-self-in-Some
-invariant_of-self-in-Some c =
-    rw (c.push_reserved.ensures.items, c.make_room.ensures.items, c.in-Some.ensures.value)
-    (told_after _ c.args.update c.self.inside.parts c.self.invariant (rw (← c.self.view_is) at c.requires.accepted) c.args.change _ (rw (← c.self.view_is) at c.requires.change) c.in_ok-put.ensures.ok)
-
 pub invariant_of-self-2 : goal.invariant_of-self-2
 invariant_of-self-2 c =
-    rw (c.in_ok-longer.ensures, c.deref-2.ensures.value, c.deref.ensures)
+    rw c.in_ok-longer.ensures.longer
     (told_after _ c.args.update c.self.inside.parts c.self.invariant (rw (← c.self.view_is) at c.requires.accepted) c.args.change _
-    (rw (← c.self.view_is) at c.requires.change) c.in_ok-put-2.ensures.ok)
+    (rw (← c.self.view_is) at c.requires.change) c.in_ok-put.ensures.ok)
