@@ -2,6 +2,6 @@
 import importlib.util
 import sys
 
-PACKAGES = {"aiohttp": "python3-aiohttp", "prometheus_client": "python3-prometheus-client"}
+PACKAGES = {"aiohttp": "python3-aiohttp", "prometheus_client": "python3-prometheus-client", "itsdangerous": "python3-itsdangerous"}
 if missing := [package for module, package in PACKAGES.items() if importlib.util.find_spec(module) is None]:
     sys.exit(f"cdmboard: {' and '.join(missing)} missing: sudo apt-get install {' '.join(missing)}")

@@ -2,9 +2,10 @@
 import argparse
 import asyncio
 import contextlib
+import errno
 import fcntl
 import glob
-import logging
+import json
 import os
 import resource
 import secrets
@@ -12,24 +13,31 @@ import shutil
 import signal
 import socket
 import ssl
+import stat
 import sys
 import tempfile
 from collections.abc import AsyncIterator, Awaitable, Callable, Iterator
 from pathlib import Path
+from types import ModuleType
 
 from aiohttp import web
 
 from board import clock, postgres, sqlite
 from board.answers import Answers, asked, day_of
+from board.connections import is_loopback
 from board.desks import digest, read_desks
 from board.events import Events
-from board.guard import HEADERS, Door, Guard, is_loopback
-from board.log import MOST_RECORDS, Batch, Record
-from board.sequencer import Sequencer
+from board.guard import HEADERS, Door, Guard
+from board.log import MOST_RECORDS, Batch, Log, Record
+from board.sequencer import MOST_JOURNAL, Sequencer, place_with_room
+from board.telling import Teller
+from board.views import Views
 from board.web import Board
 from board.words import Fault, Problem, lines_of, tell
 
 PROGRAM = os.environ.get("CDMSEQ", "")
+# Seconds that the audit has at the end.
+AUDIT = 5.0
 MEMORY = "/dev/shm" if os.path.isdir("/dev/shm") else tempfile.gettempdir()
 
 
@@ -48,7 +56,7 @@ def words() -> argparse.Namespace:
         return made
 
     server = command("serve", serve, "airport", "log")
-    server.epilog = "Also: cdmboard import | export | log init | token, each with --help."
+    server.epilog = "Also: cdmboard import | export | backup | verify | audit | log init | token, each with --help."
     server.add_argument("--desks", metavar="FILE")
     server.add_argument("--listen", metavar="HOST:PORT", default="127.0.0.1:8270")
     server.add_argument("--name", metavar="HOST", action="append", default=[])
@@ -57,7 +65,12 @@ def words() -> argparse.Namespace:
     sealed.add_argument("--tls", nargs=2, metavar=("CERT", "KEY"))
     sealed.add_argument("--behind-proxy", action="store_true")
     command("import", take_in, "airport", "log", "feed")
-    command("export", give_out, "log").add_argument("--all", action="store_true", help="every record, with desk, time and reply")
+    forms = command("export", give_out, "log").add_mutually_exclusive_group()
+    forms.add_argument("--all", action="store_true", help="every record, with desk, time and reply")
+    forms.add_argument("--raw", action="store_true", help="every record as it is in the log, without asking the program")
+    command("backup", back_up, "log", "file")
+    command("verify", verify, "log")
+    command("audit", give_audit, "log")
     command("log", postgres.init).add_argument("init", choices=["init"])
     commands.choices["log"].add_argument("log", metavar="postgresql://..")
     command("token", token)
@@ -72,15 +85,26 @@ def read(path: str) -> bytes:
         raise Fault(f"cannot read {path} ({fault.strerror})") from None
 
 
+def own_file(path: str, flags: int) -> int:
+    """Opens a file of this user's own, without waiting: anybody can make a pipe of that name. Raises OSError."""
+    opened = os.open(path, flags | os.O_NONBLOCK | os.O_NOFOLLOW | os.O_CLOEXEC)
+    found = os.fstat(opened)
+    if not stat.S_ISREG(found.st_mode) or found.st_uid != os.geteuid():
+        os.close(opened)
+        raise PermissionError(errno.EPERM, "no file of this user", path)
+    return opened
+
+
 @contextlib.contextmanager
 def folder_of(name: str, airport: bytes) -> Iterator[str]:
     """A folder in memory with the airport file. What a killed server of the same log left is removed; another that runs keeps
     its own, by a lock on that file, which has its name only once it is locked."""
-    for old in glob.glob(f"{MEMORY}/cdmboard-{name}-*/airport.csv"):
-        with contextlib.suppress(OSError), open(old) as left:
+    for old in (old for place in {MEMORY, tempfile.gettempdir()} for old in glob.glob(f"{place}/cdmboard-{name}-*/airport.csv")):
+        with contextlib.suppress(OSError), open(old, opener=own_file) as left:
             fcntl.flock(left, fcntl.LOCK_EX | fcntl.LOCK_NB)
             shutil.rmtree(os.path.dirname(old))
-    with tempfile.TemporaryDirectory("", f"cdmboard-{name}-", MEMORY, ignore_cleanup_errors=True) as folder:
+    place = place_with_room(len(airport) + MOST_JOURNAL, MEMORY)
+    with tempfile.TemporaryDirectory("", f"cdmboard-{name}-", place, ignore_cleanup_errors=True) as folder:
         with open(f"{folder}/airport", "wb", 0) as held:
             fcntl.flock(held, fcntl.LOCK_EX)
             held.write(airport)
@@ -88,13 +112,29 @@ def folder_of(name: str, airport: bytes) -> Iterator[str]:
             yield folder
 
 
+def log_at(place: str, board: str) -> Log:
+    """A log, which isn't open yet."""
+    if postgres.is_url(place):
+        return postgres.PostgresLog(place, board)
+    return sqlite.FileLog(place, board)
+
+
+def engine_of(place: str) -> ModuleType:
+    """The module that reads and copies logs of a place."""
+    return postgres if postgres.is_url(place) else sqlite
+
+
 @contextlib.asynccontextmanager
-async def log_of(options: argparse.Namespace) -> AsyncIterator[tuple[postgres.Log, str]]:
+async def log_of(options: argparse.Namespace) -> AsyncIterator[tuple[Log, str]]:
     """The log and its folder, while they are used. Raises Fault."""
     airport, version = read(options.airport), await asked("/", PROGRAM, "--version")
-    place = options.log, options.board
-    log: postgres.Log = postgres.PostgresLog(*place) if postgres.is_url(options.log) else sqlite.FileLog(*place)
-    await log.open(airport, version.decode("ascii", "replace").strip())
+
+    async def accept() -> None:
+        """A new log is bound to its airport file for good, so to none that the program refuses. Raises Fault."""
+        with folder_of("new", airport) as folder:
+            await day_of(folder, PROGRAM, [])
+    log = log_at(options.log, options.board)
+    await log.open(airport, version.decode("ascii", "replace").strip(), accept)
     try:
         with folder_of(log.id, log.airport) as folder:
             yield log, folder
@@ -123,10 +163,47 @@ async def take_in(options: argparse.Namespace) -> None:
 
 async def give_out(options: argparse.Namespace) -> None:
     """`export`: the accepted records, or all."""
-    airport, records = await (postgres if postgres.is_url(options.log) else sqlite).read_log(options.log, options.board)
+    airport, _, records = await engine_of(options.log).read_log(options.log, options.board)
+    if options.raw:
+        for record in records:
+            print(json.dumps(dict(zip(("position", "desk", "role", "line", "at"), record)), separators=(",", ":")))
+        return
     with folder_of("export", airport) as folder:
         _, day = await day_of(folder, PROGRAM, records)
     print(day.texts(day.records).decode() if options.all else day.feed(), end="")
+
+
+async def give_audit(options: argparse.Namespace) -> None:
+    """`audit`: who did what, and from where."""
+    told = await engine_of(options.log).read_audit(options.log, options.board)
+    print(told.decode(), end="")
+
+
+async def back_up(options: argparse.Namespace) -> None:
+    """`backup`: a whole copy of a log as a new file of SQLite, also while it is served. Raises Fault."""
+    try:
+        made = os.open(options.file, os.O_CREAT | os.O_EXCL | os.O_WRONLY | os.O_CLOEXEC, 0o600)
+    except OSError as fault:
+        raise Fault(f"cannot make {options.file} ({fault.strerror})") from None
+    try:
+        await engine_of(options.log).copy_log(options.log, options.board, options.file)
+        os.fsync(made)
+    except BaseException:
+        os.unlink(options.file)
+        raise
+    finally:
+        os.close(made)
+
+
+async def verify(options: argparse.Namespace) -> None:
+    """`verify`: each row of a log is read, and given to the program. Raises Fault."""
+    airport, made_by, records = await engine_of(options.log).read_log(options.log, options.board)
+    version = (await asked("/", PROGRAM, "--version")).decode("ascii", "replace").strip()
+    if made_by != version:
+        raise Fault(f"{options.log} was made by another program: {made_by}, and this is {version}")
+    with folder_of("verify", airport) as folder:
+        _, day = await day_of(folder, PROGRAM, records)
+    print(f"{len(day.records)} records, {len(day.lines)} accepted")
 
 
 def listening(options: argparse.Namespace) -> tuple[str, int, ssl.SSLContext | None]:
@@ -168,19 +245,19 @@ async def serve(options: argparse.Namespace) -> None:
         names, scheme = (host, "localhost", socket.gethostname(), *options.name), "https" if sealed or options.behind_proxy else "http"
         board = Board(desks, log, day, Sequencer(PROGRAM, folder, log, day), Answers(PROGRAM, folder, day), Events(log.id, day),
                       {name.lower() for name in names}, scheme, options.behind_proxy)
-        runner, door = web.AppRunner(board.application()), Door(host, port, options.behind_proxy)
+        runner, door = web.AppRunner(board.application()), Door(host, port, options.behind_proxy, desks.limits)
         await runner.setup()
         assert (manager := runner.server) is not None
         server = await loop.create_server(
-            lambda: Guard(manager, options.behind_proxy), sock=door, ssl=sealed, ssl_handshake_timeout=HEADERS if sealed else None)
-        loop.add_signal_handler(signal.SIGHUP, again, options, board, sealed)
+            lambda: Guard(manager, door, options.behind_proxy), sock=door, ssl=sealed, ssl_handshake_timeout=HEADERS if sealed else None)
+        loop.add_signal_handler(signal.SIGHUP, again, options, board, door, sealed)
         at = f"{scheme}://{f'[{host}]' if ':' in host else host}:{door.getsockname()[1]}/"
         try:
             await run(board, at, date if options.clock else "")
         except ExceptionGroup as faults:
             raise faults.exceptions[0] from None
         finally:
-            board.is_closing = True
+            board.records.is_closing = True
             server.close()
             board.events.end()
             day.end()
@@ -193,19 +270,21 @@ async def run(board: Board, address: str, date: str) -> None:
     ending, loop = asyncio.Event(), asyncio.get_running_loop()
     for number in (signal.SIGTERM, signal.SIGINT):
         loop.add_signal_handler(number, ending.set)
+    views = Views(board.answers, board.events)
     async with asyncio.TaskGroup() as group:
-        parts = [board.sequencer.run(), board.log.ended(), board.events.run(), ready(board, address)]
-        tasks = [group.create_task(part) for part in parts + ([clock.run(date, board.take)] if date else [])]
+        parts = [board.sequencer.run(), board.log.ended(), board.events.run(), views.run(), board.watch(), board.audit.run(), ready(board, address)]
+        tasks = [group.create_task(part) for part in parts + ([clock.run(date, board.records.take)] if date else [])]
         await ending.wait()
-        board.is_closing = True
+        board.records.is_closing = True
         async with asyncio.timeout(20):
             # What another server takes from now on gets its reply there.
             rest = [] if board.log.stale_since else await board.log.rows(len(board.day.records))
             last = rest[-1].position if rest else 0
-            while len(board.day.records) < last and not board.log.stale_since or board.waiting():
+            while len(board.day.records) < last and not board.log.stale_since or board.records.waiting():
                 await asyncio.sleep(0.02)
         for task in tasks:
             task.cancel()
+    await board.audit.end(AUDIT)
 
 
 async def ready(board: Board, address: str) -> None:
@@ -213,26 +292,33 @@ async def ready(board: Board, address: str) -> None:
     print(address, flush=True)
 
 
-def again(options: argparse.Namespace, board: Board, sealed: ssl.SSLContext | None) -> None:
-    """Reads desks and certificates again, each for itself; the old one stays if the new one is wrong."""
+def again(options: argparse.Namespace, board: Board, door: Door, sealed: ssl.SSLContext | None) -> None:
+    """Reads desks, limits and certificates again, each for itself; the old one stays if the new one is wrong."""
+    told = []
     try:
-        board.desks = read_desks(options.desks)
+        desks = read_desks(options.desks)
+        told += board.desks.changes_to(desks)
+        board.desks, door.places.limits = desks, desks.limits
     except Fault as fault:
+        told.append("desks are wrong; the old ones stay")
         tell(f"cdmboard: {fault}; the old one stays")
     try:
         # A key that isn't the certificate's would spoil what is in use, so it is tried beside it.
         if sealed is not None and sealed_by(options.tls):
             sealed.load_cert_chain(*options.tls)
+            told.append("certificate is read")
     except Fault as fault:
+        told.append("certificate is wrong; the old one stays")
         tell(f"cdmboard: {fault}; the old one stays")
+    board.audit.note("read-again", None, None, ", ".join(told) or "nothing changed")
     board.check_displays()
 
 
 def main() -> int:
     """The exit status."""
     options = words()
-    # Of malformed requests it would tell a traceback each; faults of the server's own are told by it.
-    logging.getLogger("aiohttp").setLevel(logging.CRITICAL)
+    teller = Teller()
+    teller.start()
     try:
         asyncio.run(options.run(options))
         return 0
@@ -241,6 +327,8 @@ def main() -> int:
     except (Fault, Problem, OSError) as fault:
         tell(fault if str(fault).startswith("cdmseq: ") else f"cdmboard: {str(fault) or type(fault).__name__}")
         return fault.status if isinstance(fault, Fault) else 1 if isinstance(fault, OSError) else 3
+    finally:
+        teller.stop()
 
 
 if __name__ == "__main__":

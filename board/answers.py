@@ -3,22 +3,35 @@ import asyncio
 import contextlib
 import json
 import os
+import signal
 import tempfile
 import time
-from asyncio.subprocess import DEVNULL, PIPE
-from collections import Counter
+from asyncio.subprocess import DEVNULL, PIPE, Process
+from collections.abc import AsyncIterator, Sequence
 from pathlib import Path
 from typing import NamedTuple
 from weakref import WeakValueDictionary
 
 from board.day import Day
 from board.log import Record
-from board.words import Fault, Kinds, Problem, refuse
+from board.metrics import QUESTIONS
+from board.places import Places, Ticket
+from board.program import same
+from board.words import Fault, Kinds, Problem, refuse, tell
 
-MOST_OF_ONE, MOST_NAMELESS, KEPT, KEPT_BYTES = 16, 64, 256, 32 << 20
-MOST_OUTPUT, SECONDS, START = 40 << 20, 10.0, 60.0
-# A question mustn't outlive a server that is killed, and leaves the processors to the replies.
-BESIDE = ("/usr/bin/setpriv", "--pdeathsig", "KILL", "/usr/bin/nice", "-n", "10")
+MOST_OF_ONE = 16
+MOST_NAMELESS = 64
+MOST_KEPT = 256
+MOST_KEPT_BYTES = 32 << 20
+MOST_OUTPUT = 32 << 20
+READ = 64 << 10
+PLACE_SECONDS = 10.0
+RUN_SECONDS = 10.0
+# A run that takes so long in all is none that answers.
+STUCK_SECONDS = 3 * RUN_SECONDS
+START = 60.0
+# A question mustn't outlive a server that is killed, leaves the processors to the replies, and has so much memory at most.
+BESIDE = ("/usr/bin/setpriv", "--pdeathsig", "KILL", "/usr/bin/prlimit", f"--as={2 << 30}", "/usr/bin/nice", "-n", "10")
 
 
 class Question(NamedTuple):
@@ -31,8 +44,9 @@ class Question(NamedTuple):
 
 
 class Answer(NamedTuple):
-    """How a run of the program ended: its status, or 504 if it took too long; standard output, the first line of standard error;
-    and, of an answer about the day, when it was begun, and of which moment it is."""
+    """How a run of the program ended: its status, or HTTP's own if it took too long (504), printed too much (422) or couldn't be run
+    (503); standard output, the first line of standard error; and, of an answer about the day, when it was begun, and of which moment it
+    is."""
     status: int
     output: bytes
     told: str
@@ -44,59 +58,168 @@ class Answer(NamedTuple):
 
 class Answers:
     """A pool of processes, with at most one for a desk, and one for all who have no desk. An answer is for all who asked the same
-    before it was begun, and for all who ask the same while the day is as it was."""
+    before it was begun, and for all who ask the same while the day is as it was. Runs belong to nobody who asks: who goes away leaves
+    the others' answers as they are."""
 
     def __init__(self, program: str, folder: str, day: Day) -> None:
         self._program, self._folder, self._day = program, folder, day
-        self._pool = asyncio.Semaphore(max(1, (os.cpu_count() or 2) - 1))
+        self._places = Places(max(1, (os.cpu_count() or 2) - 1), MOST_OF_ONE, MOST_NAMELESS)
+        self._answers: dict[Ticket, asyncio.Future[Answer]] = {}
+        self._runs: dict[asyncio.Task[None], float] = {}
+        self._beside = asyncio.Lock()
         self._turns: WeakValueDictionary[object, asyncio.Lock] = WeakValueDictionary()
-        self._waiting, self._kept = Counter[tuple[str, Question]](), dict[Question, Answer]()
+        self._kept: dict[Question, Answer] = {}
+        self._is_closed = False
 
-    def turn(self, what: object) -> asyncio.Lock:
-        """What takes long is made one after the other for each who asks, so that nobody takes all the time."""
-        return self._turns.setdefault(what, asyncio.Lock())
+    @contextlib.asynccontextmanager
+    async def turn(self, what: object) -> AsyncIterator[None]:
+        """What takes long is made one after the other for each who asks, so that nobody takes all the time. Raises Problem."""
+        lock = self._turns.setdefault(what, asyncio.Lock())
+        try:
+            async with asyncio.timeout(PLACE_SECONDS):
+                await lock.acquire()
+        except TimeoutError:
+            raise _no_place() from None
+        try:
+            yield
+        finally:
+            lock.release()
 
-    async def ask(self, asker: str, question: Question) -> tuple[int, Answer]:
+    async def ask(self, asker: str, question: Question, is_tower: bool = False) -> tuple[int, Answer]:
         """The position at which it was asked, and the program's answer. The asker is a desk, or @ and an address. Raises Problem."""
-        asked, waits, answer = time.monotonic(), (asker, question), self._kept.get(question)
+        answer = self._kept.get(question)
         if answer is None or not self._is_now(answer):
-            are_many = [one for one, _ in self._waiting].count(asker) >= MOST_OF_ONE
-            are_many |= asker[0] == "@" and len(self._waiting) >= MOST_NAMELESS
-            refuse(are_many and waits not in self._waiting, 429, "too many questions wait already", Retry_After="1")
-            self._waiting[waits] += 1
-            try:
-                async with self.turn("@" if asker[0] == "@" else asker), self.turn(question):
-                    answer = self._kept.get(question)
-                    if answer is None or answer.began < asked and not self._is_now(answer):
-                        answer = await self._made(question)
-            finally:
-                self._waiting -= Counter([waits])
+            answer = await self._made_for(Ticket(asker, question, is_tower), question)
+        else:
+            QUESTIONS.labels("kept").inc()
         refuse(answer.starts != self._day.starts, 503, "the day began anew; ask again", Retry_After="1")
         return len(self._day.records) if self._is_now(answer) else answer.position, answer
+
+    def is_stuck(self) -> bool:
+        """Whether a run doesn't come to its end, so that questions aren't answered."""
+        return any(time.monotonic() - began > STUCK_SECONDS for began in self._runs.values())
+
+    async def close(self) -> None:
+        """Ends what runs, and begins nothing more."""
+        self._is_closed = True
+        runs = list(self._runs)
+        for run_of in runs:
+            run_of.cancel()
+        await asyncio.gather(*runs, return_exceptions=True)
+
+    async def _made_for(self, ticket: Ticket, question: Question) -> Answer:
+        """The answer, once it has its turn. Raises Problem."""
+        if not self._places.come(ticket):
+            QUESTIONS.labels("too_many").inc()
+            raise Problem(429, "too many questions wait already", Retry_After="1")
+        loop = asyncio.get_running_loop()
+        self._answers[ticket] = loop.create_future()
+        late = loop.call_later(PLACE_SECONDS, self._is_late, ticket)
+        self._begin()
+        try:
+            answer = await self._answers[ticket]
+        finally:
+            late.cancel()
+            self._places.leave(ticket)
+            del self._answers[ticket]
+        QUESTIONS.labels(_outcome(answer)).inc()
+        return answer
+
+    def _is_late(self, ticket: Ticket) -> None:
+        """A question that hasn't begun yet isn't made any more."""
+        if self._places.leave(ticket) and not self._answers[ticket].done():
+            QUESTIONS.labels("no_place").inc()
+            self._answers[ticket].set_exception(_no_place())
+
+    def _begin(self) -> None:
+        """Begins what may begin. The tasks are kept here, since the loop itself holds none."""
+        if self._is_closed:
+            return
+        for ticket in self._places.begin():
+            task = asyncio.create_task(self._run(ticket))
+            self._runs[task] = time.monotonic()
+            task.add_done_callback(self._runs.pop)
+
+    async def _run(self, ticket: Ticket) -> None:
+        """Makes an answer for all who wait for it, unless there is one that is as good."""
+        question = ticket.what
+        assert isinstance(question, Question)
+        answer = Answer(503, b"", "the server is ending", starts=self._day.starts)
+        try:
+            kept = self._kept.get(question)
+            answer = kept if kept is not None and self._is_now(kept) else await self._made(question)
+        except Exception as fault:
+            tell(f"cdmboard: {type(fault).__name__}: {fault}")
+            answer = Answer(500, b"", "a fault of the server", starts=self._day.starts)
+        finally:
+            for one in self._places.end(ticket):
+                waiting = self._answers.get(one)
+                if waiting is not None and not waiting.done():
+                    waiting.set_result(answer)
+            self._begin()
 
     def _is_now(self, answer: Answer) -> bool:
         """Whether an answer is of the day as it is now, and would be the same again."""
         is_same = (answer.starts, answer.accepted) == (self._day.starts, len(self._day.lines))
         return is_same and answer.status in (0, 2, 3)
 
+    async def together(self, questions: Sequence[Question]) -> tuple[tuple[int, int], list[Answer]]:
+        """Answers of one moment, which is the day's `starts` and a position; no more than up to the first that took too long. They are
+        made beside the pool, in a place of their own: no desk's questions wait for them, nor they for a desk's. Raises Problem."""
+        async with self._beside:
+            moment = self._day.starts, len(self._day.records)
+            kept = [self._kept.get(question) for question in questions]
+            are_now = [answer for answer in kept if answer is not None and self._is_now(answer)]
+            if len(are_now) == len(questions):
+                return moment, are_now
+            answers = await self._all_made(questions)
+            refuse(answers[0].status == 503, 503, answers[0].told, Retry_After="5")
+            return moment, answers
+
     async def _made(self, question: Question) -> Answer:
         """A new answer, which is kept."""
-        async with self._pool:
-            accepted = len(self._day.lines) if question.accepted is None else question.accepted
-            began, starts, position = time.monotonic(), self._day.starts, len(self._day.records)
-            try:
-                with tempfile.TemporaryDirectory(dir=self._folder) as folder:
-                    Path(folder, "feed.csv").write_text(self._day.feed(accepted) + question.last, "ascii")
-                    Path(folder, "scenarios.csv").write_bytes(question.scenarios or b"")
+        return (await self._all_made([question]))[0]
+
+    async def _all_made(self, questions: Sequence[Question]) -> list[Answer]:
+        """New answers, which are kept, up to the first that took too long. All are over the same records and scenarios."""
+        first = questions[0]
+        made = dict[Question, Answer]()
+        accepted = len(self._day.lines) if first.accepted is None else first.accepted
+        starts, position, began = self._day.starts, len(self._day.records), time.monotonic()
+        try:
+            with tempfile.TemporaryDirectory(dir=self._folder) as folder:
+                Path(folder, "feed.csv").write_text(self._day.feed(accepted) + first.last, "ascii")
+                Path(folder, "scenarios.csv").write_bytes(first.scenarios or b"")
+                for question in questions:
                     words = (question.command, "../airport.csv", "feed.csv", *question.words)
-                    ran = await run(folder, SECONDS, *BESIDE, self._program, *words)
-            except OSError as fault:
-                raise Problem(503, f"no room for a question: {fault.strerror}", Retry_After="5") from None
+                    ran = await run(folder, RUN_SECONDS, *BESIDE, same(self._program), *words)
+                    made[question] = ran._replace(began=began, starts=starts, accepted=accepted, position=position)
+                    if ran.status == 504:
+                        break
+        except Fault as fault:
+            told = Answer(503, b"", str(fault))
+            return [told._replace(began=began, starts=starts, accepted=accepted, position=position)]
+        except OSError as fault:
+            told = Answer(503, b"", f"no room for a question: {fault.strerror}")
+            return [told._replace(began=began, starts=starts, accepted=accepted, position=position)]
+        self._keep(made)
+        return list(made.values())
+
+    def _keep(self, made: dict[Question, Answer]) -> None:
+        """Keeps answers, within the bound of what is kept."""
         self._kept = {one: kept for one, kept in self._kept.items() if self._is_now(kept)}
-        if len(self._kept) >= KEPT or sum(len(kept.output) for kept in self._kept.values()) > KEPT_BYTES:
+        sizes = [len(answer.output) for answer in (*self._kept.values(), *made.values())]
+        if len(self._kept) >= MOST_KEPT or sum(sizes) > MOST_KEPT_BYTES:
             self._kept.clear()
-        answer = self._kept[question] = ran._replace(began=began, starts=starts, accepted=accepted, position=position)
-        return answer
+        self._kept |= made
+
+
+def _no_place() -> Problem:
+    return Problem(503, f"no place for this question within {PLACE_SECONDS:.0f} seconds", Retry_After="5")
+
+
+def _outcome(answer: Answer) -> str:
+    return {0: "made", 2: "refused", 3: "refused", 4: "made", 422: "too_large", 504: "too_slow"}.get(answer.status, "failed")
 
 
 async def run(folder: str, seconds: float, *words: str) -> Answer:
@@ -105,28 +228,50 @@ async def run(folder: str, seconds: float, *words: str) -> Answer:
     assert process.stdout is not None and process.stderr is not None
     try:
         async with asyncio.timeout(seconds):
-            output, told = await asyncio.gather(_all(process.stdout), _all(process.stderr))
+            output, told = await asyncio.gather(_all(process, process.stdout), _all(process, process.stderr))
             status = await process.wait()
     except TimeoutError:
         return Answer(504, b"", f"the program took longer than {seconds:.0f} seconds")
     finally:
-        with contextlib.suppress(ProcessLookupError):
-            process.kill()
-        await process.wait()
+        await _ended(process)
+    if len(output) > MOST_OUTPUT or len(told) > MOST_OUTPUT:
+        return Answer(422, b"", f"the answer has more than {MOST_OUTPUT >> 20} MiB; ask for less at once")
     return Answer(status, output, told.decode("ascii", "replace").partition("\n")[0])
 
 
-async def _all(stream: asyncio.StreamReader) -> bytes:
-    """All of a stream. Who prints more than may be waits until its time is over."""
-    try:
-        return await stream.readexactly(MOST_OUTPUT)
-    except asyncio.IncompleteReadError as end:
-        return end.partial
+async def _all(process: Process, stream: asyncio.StreamReader) -> bytes:
+    """All of a stream. A process that prints more than may be is ended."""
+    pieces: list[bytes] = []
+    size = 0
+    while piece := await stream.read(READ):
+        if size <= MOST_OUTPUT:
+            pieces.append(piece)
+            size += len(piece)
+        if size > MOST_OUTPUT:
+            _kill(process)
+    return b"".join(pieces)
 
 
-async def asked(folder: str, *words: str) -> bytes:
+def _kill(process: Process) -> None:
+    """Kills a process, and what it has begun."""
+    with contextlib.suppress(ProcessLookupError):
+        os.killpg(process.pid, signal.SIGKILL)
+
+
+async def _ended(process: Process) -> None:
+    """Ends a process that hasn't ended. Its pipes are read to their ends: before that the library doesn't say that it ended."""
+    assert process.stdout is not None and process.stderr is not None
+    if not (process.stdout.at_eof() and process.stderr.at_eof() and process.returncode is not None):
+        _kill(process)
+    for stream in (process.stdout, process.stderr):
+        while await stream.read(READ):
+            pass
+    await process.wait()
+
+
+async def asked(folder: str, program: str, *words: str) -> bytes:
     """What the program prints at a start. Raises Fault."""
-    ran = await run(folder, START, *words)
+    ran = await run(folder, START, same(program), *words)
     if ran.status != 0:
         raise Fault(ran.told or f"{' '.join(words)} ended with {ran.status}")
     return ran.output

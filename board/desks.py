@@ -7,16 +7,19 @@ import re
 import time
 import tomllib
 from collections.abc import Iterable, Iterator
-from dataclasses import dataclass, field
+from dataclasses import dataclass, field, fields
 from datetime import timedelta
 from typing import Any
 
+from board.connections import Limits
 from board.words import ROLES, Fault, Kinds, now_text, refuse
 
 DESK, TOKEN = re.compile(r"[A-Za-z0-9-]{1,32}"), re.compile(r"sha256:[0-9a-f]{64}")
 TIME = re.compile(r"[0-9]{4}-[0-9]{2}-[0-9]{2}T[0-9]{2}:[0-9]{2}Z")
-AHEAD, ANY, SESSION = timedelta(minutes=5), timedelta(days=36_500), 12 * 3600
+AHEAD, ANY = timedelta(minutes=5), timedelta(days=36_500)
 MOST_WAITING, MOST_A_SECOND, SECONDS = 256, 50, 10
+# What a database has room for in a number.
+MOST_OF_DESK = 2**31 - 1
 
 
 @dataclass(frozen=True)
@@ -42,6 +45,9 @@ class Desk:
                 refuse(is_ahead, 403, "a CLOCK is at most 5 minutes ahead", number)
 
 
+READER = Desk("", "READ")
+
+
 @dataclass
 class Pace:
     """What a desk sends at once: so many records that wait, and so many a second, over some seconds."""
@@ -64,11 +70,11 @@ class Pace:
 
 
 class Desks:
-    """All desks of a board. `is_open`: a request names its role itself."""
+    """All desks of a board, and its limits of connections. `is_open`: a request names its role itself."""
 
-    def __init__(self, desks: Iterable[Desk], anyone_reads: bool, is_open: bool = False) -> None:
+    def __init__(self, desks: Iterable[Desk], anyone_reads: bool, is_open: bool = False, limits: Limits = Limits()) -> None:
         self.by_name = {desk.name: desk for desk in desks}
-        self.anyone_reads, self.is_open = anyone_reads, is_open
+        self.anyone_reads, self.is_open, self.limits = anyone_reads, is_open, limits
 
     def by_token(self, token: str) -> Desk | None:
         """The desk of a token. All are compared, in constant time."""
@@ -76,27 +82,23 @@ class Desks:
         found = [desk for desk in desks for kept in desk.tokens if hmac.compare_digest(asked, kept)]
         return found[0] if found else None
 
-    def cookie(self, desk: Desk, log_id: str, token: str) -> str:
-        """A session of twelve hours, which any server of the board can check and a new token ends."""
-        return _signed(digest(token), log_id, desk.name, str(int(time.time()) + SESSION))
-
-    def by_cookie(self, cookie: str, log_id: str) -> Desk | None:
-        """The desk of a session that hasn't ended."""
-        name, expiry, _ = (*cookie.split("."), "", "")[:3]
-        desk = self.by_name.get(name)
-        cookies = [_signed(kept, log_id, name, expiry) for kept in desk.tokens] if desk else []
-        is_ours = any([hmac.compare_digest(digest(cookie), digest(ours)) for ours in cookies])
-        return desk if is_ours and int(expiry) >= time.time() else None
+    def changes_to(self, new: "Desks") -> list[str]:
+        """What other desks change: +NAME, -NAME, NAME: what changed; `read` and limits too."""
+        told = [f"+{name}" for name in new.by_name if name not in self.by_name] + [f"-{name}" for name in self.by_name if name not in new.by_name]
+        for name, desk in self.by_name.items():
+            other = new.by_name.get(name, desk)
+            changed = [part.name for part in fields(Desk) if getattr(desk, part.name) != getattr(other, part.name)]
+            told += [f"{name}: {' '.join(changed)}"] if changed else []
+        told += [f"read: {'anyone' if new.anyone_reads else 'desks'}"] if new.anyone_reads != self.anyone_reads else []
+        for part in fields(Limits):
+            now = getattr(new.limits, part.name)
+            told += [f"limits: {part.name} {now}"] if now != getattr(self.limits, part.name) else []
+        return told
 
 
 def digest(token: str) -> bytes:
     """What is kept of a token."""
     return hashlib.sha256(token.encode("utf-8", "surrogateescape")).digest()
-
-
-def _signed(key: bytes, log_id: str, name: str, expiry: str) -> str:
-    sign = hmac.new(key, f"{log_id}.{name}.{expiry}".encode("utf-8", "surrogateescape"), "sha256")
-    return f"{name}.{expiry}.{sign.hexdigest()}"
 
 
 def read_desks(path: str | None) -> Desks:
@@ -108,16 +110,25 @@ def read_desks(path: str | None) -> Desks:
             if os.fstat(file.fileno()).st_mode & 0o077:
                 raise ValueError(f"others can read it; chmod 600 {path}")
             told = tomllib.load(file)
-        read, tables = told.pop("read", "desks"), told.pop("desk", {})
+        read, tables, limits = told.pop("read", "desks"), told.pop("desk", {}), _limits(told.pop("limits", {}))
         if told or read not in ("desks", "anyone") or not isinstance(tables, dict):
-            raise ValueError('it has read = "desks" or "anyone", and [desk.NAME] alone')
+            raise ValueError('it has read = "desks" or "anyone", [limits] and [desk.NAME] alone')
         desks = [_desk(name, table) for name, table in tables.items()]
         tokens = [token for desk in desks for token in desk.tokens]
         if len(set(tokens)) < len(tokens):
             raise ValueError("two desks have one token")
     except (OSError, ValueError) as fault:
         raise Fault(f"{path}: {fault}") from None
-    return Desks(desks, read == "anyone")
+    return Desks(desks, read == "anyone", False, limits)
+
+
+def _limits(told: Any) -> Limits:
+    """The table of limits. Raises ValueError."""
+    names, table = {part.name for part in fields(Limits)}, told if isinstance(told, dict) else {"": told}
+    wrong = [name for name, most in table.items() if name not in names or type(most) is not int or most < 1]
+    if wrong:
+        raise ValueError(f"[limits]: {', '.join(wrong)}: unknown, or no number from 1 on; it has {', '.join(sorted(names))}")
+    return Limits(**table)
 
 
 def _desk(name: str, told: Any) -> Desk:
@@ -125,7 +136,7 @@ def _desk(name: str, told: Any) -> Desk:
     role, tokens, flights, clock = table["role"], table["token"], table["flights"], table["clock"]
     records = table.setdefault("records", 20_000 if role in ("ATC", "NM") else 2000)
     tokens = tokens if isinstance(tokens, list) else [tokens]
-    right = {"role": role in (*ROLES, "READ"), "records": type(records) is int and records >= 0, "clock": isinstance(clock, bool),
+    right = {"role": role in (*ROLES, "READ"), "records": type(records) is int and 0 <= records <= MOST_OF_DESK, "clock": isinstance(clock, bool),
              "token": tokens and _are(tokens, TOKEN), "flights": flights is None or _are(flights, re.compile(".+"))}
     wrong = [word for word in table if not right.get(word)]
     if not DESK.fullmatch(name) or name in ("clock", "import") or wrong:

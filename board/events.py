@@ -1,7 +1,9 @@
 """Events: what each display gets, written together at most ten times a second, the same bytes to each."""
 import asyncio
 import contextlib
+import zlib
 from dataclasses import dataclass
+from typing import NamedTuple
 
 from aiohttp import web
 
@@ -11,30 +13,58 @@ from board.words import POSITION, refuse
 
 PAUSE, COMMENT = 0.1, 15.0
 MOST_ROWS, MOST_UNSENT, MOST_OF_ALL, MOST_OF_DESK, MOST_DISPLAYS = 100, 1 << 20, 256 << 20, 20, 5000
+# How a stream by gzip begins, and how hard its texts are packed.
+GZIP, LEVEL = b"\x1f\x8b\x08\0\0\0\0\0\0\x03", 4
+# After so many displays others have their turn, such as the desk whose record this is.
+IN_A_TURN = 25
+
+
+class View(NamedTuple):
+    """What all screens ask alike, at one moment: the day's `starts`, a position, and the members of a JSON object."""
+    starts: int
+    position: int
+    members: bytes
+
+    def text(self) -> bytes:
+        """The event. It has no id, since who comes back gets the view of that moment anyway."""
+        return b'event: view\ndata: {"position":%d,%s}\n\n' % (self.position, self.members)
 
 
 @dataclass(eq=False)
 class Stream:
-    """One display, and by which request it came. `had`: the day's `starts` and the position up to which it has had events."""
+    """One display, and by which request it came. `had`: the day's `starts` and the position up to which it has had events; `seen`: the
+    same of the last view that it has had."""
     request: web.Request
     desk: Desk
     transport: asyncio.Transport
     ended: asyncio.Event
+    is_packed: bool = False
     had: tuple[int, int] = (0, 0)
+    seen: tuple[int, int] = (-1, 0)
 
-    def write(self, text: bytes, most: int = MOST_UNSENT) -> None:
+    def write(self, chunk: bytes, most: int = MOST_UNSENT) -> None:
         """A chunk of the answer. Who doesn't read is cut off."""
         if self.transport.get_write_buffer_size() > most:
             self.transport.abort()
         elif not self.transport.is_closing():
-            self.transport.write(b"%x\r\n%s\r\n" % (len(text), text))
+            self.transport.write(chunk)
+
+
+def chunk_of(text: bytes, is_packed: bool, first: bytes = b"") -> bytes:
+    """A text as a chunk of HTTP. By gzip it is packed without a look at what came before it, so it is the same for all displays."""
+    if is_packed:
+        packer = zlib.compressobj(LEVEL, zlib.DEFLATED, -zlib.MAX_WBITS)
+        text = first + packer.compress(text) + packer.flush(zlib.Z_FULL_FLUSH)
+    return b"%x\r\n%s\r\n" % (len(text), text)
 
 
 class Events:
-    """All displays of a day."""
+    """All displays of a day. `stirred` is set when a display may lack the view of the present moment."""
 
     def __init__(self, log_id: str, day: Day) -> None:
         self._log_id, self._day, self.streams = log_id.encode(), day, set[Stream]()
+        self._view = View(-1, 0, b"")
+        self.stirred = asyncio.Event()
 
     async def run(self) -> None:
         """Writes what is new to all, or a comment if nothing is. Returns never."""
@@ -49,17 +79,46 @@ class Events:
 
     async def _write(self) -> None:
         texts: dict[tuple[object, ...], bytes] = {}
+        chunks: dict[tuple[bytes, bool], bytes] = {}
         unsent = sum(stream.transport.get_write_buffer_size() for stream in self.streams)
         most = MOST_UNSENT if unsent < MOST_OF_ALL else MOST_OF_ALL // len(self.streams)
+        # The desk's own reply goes out first.
+        await asyncio.sleep(0)
         for number, stream in enumerate(list(self.streams), 1):
-            now = self._day.starts, len(self._day.records)
-            new = stream.desk.name, stream.had, now
+            now = self._moment()
+            shown = self._view[:2] if self._is_due(stream) else stream.seen
+            new = stream.desk.name, stream.had, now, stream.seen, shown
             if new not in texts:
                 texts[new] = self._text(stream.desk.name, stream.had[1] if stream.had[0] == now[0] else -1)
-            stream.write(texts[new], most)
+                texts[new] += self._view.text() if shown != stream.seen else b""
+            # Texts of two desks are mostly equal.
+            which = texts[new], stream.is_packed
+            if which not in chunks:
+                chunks[which] = chunk_of(*which)
+            stream.write(chunks[which], most)
             stream.had = now
-            if number % 200 == 0:
+            stream.seen = shown
+            if number % IN_A_TURN == 0:
                 await asyncio.sleep(0)
+        self.stirred.set()
+
+    def _moment(self) -> tuple[int, int]:
+        return self._day.starts, len(self._day.records)
+
+    def _is_due(self, stream: Stream) -> bool:
+        """Whether the last view is of this day and newer than what the display has seen. It is never newer than the display's events,
+        which are written before it."""
+        return self._view.starts == self._day.starts and self._view[:2] > stream.seen
+
+    def lacks_view(self) -> bool:
+        """Whether there is a display, and the last view is of an earlier moment."""
+        return bool(self.streams) and self._view[:2] != self._moment()
+
+    def show(self, view: View) -> None:
+        """Takes the last view, which is written to all displays with the next events; one of a day that is gone is dropped."""
+        if view.starts == self._day.starts:
+            self._view = view
+            self._day.changed.set()
 
     def _text(self, desk: str, since: int) -> bytes:
         """What a desk gets of the records behind a position: `reset` if they aren't kept, or are too much."""
@@ -90,12 +149,17 @@ class Events:
         """Begins with what came since an event, if one is said."""
         log_id, _, position = said.strip('"').rpartition("-")
         is_known = log_id.encode() == self._log_id and POSITION.fullmatch(position) and int(position) > self._day.doubtful
-        stream.had = self._day.starts, len(self._day.records)
-        stream.write(self._text(stream.desk.name, int(position) if is_known else -1 if said else stream.had[1]))
+        stream.had = self._moment()
+        text = self._text(stream.desk.name, int(position) if is_known else -1 if said else stream.had[1])
+        if self._view[:2] == stream.had:
+            stream.seen = stream.had
+            text += self._view.text()
+        stream.write(chunk_of(text, stream.is_packed, GZIP))
         self.streams.add(stream)
+        self.stirred.set()
 
     def end(self) -> None:
         """Tells all displays that the server ends."""
         for stream in self.streams:
-            stream.write(b"event: end\ndata: {}\n\n")
+            stream.write(chunk_of(b"event: end\ndata: {}\n\n", stream.is_packed))
             stream.ended.set()

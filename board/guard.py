@@ -1,81 +1,102 @@
-"""Connections: how many there may be, how long headers may take, how much may come unasked."""
+"""Connections: which are let in, how long headers may take, how much may come unasked."""
 import asyncio
-import ipaddress
 import resource
 import socket
-from collections import Counter
+import time
 from typing import Any
 
 from aiohttp import web
 
-MOST_OF_ADDRESS, MOST_INSIDE, KEPT_FREE = 100, 10_000, 200
+from board.connections import Limits, Places, group_of, is_loopback
+from board.windows import Windows
+from board.words import tell
+
+KEPT_FREE = 200
 TCP_USER_TIMEOUT = 18  # Linux' number of it, which mypy doesn't know.
 MOST_UNREAD, MOST_PIPELINED, HEADERS, OF_A_PROXY, UNTAKEN = 256 << 10, 16, 10.0, 75.0, 60.0
-
-
-def is_loopback(address: str) -> bool:
-    """Whether this machine itself speaks."""
-    try:
-        return address == "localhost" or ipaddress.ip_address(address.partition("%")[0]).is_loopback
-    except ValueError:
-        return False
+HOUR = 3600.0
 
 
 class Door(socket.socket):
-    """A socket that lets so many connections in, of one address (but of a proxy here) and in all, also before TLS is agreed on."""
+    """A socket that lets so many connections in, also before TLS is agreed on. Behind a proxy it lets in this machine alone, whose
+    connections count in all, but not by their address."""
 
-    def __init__(self, host: str, port: int, is_for_proxy: bool) -> None:
+    def __init__(self, host: str, port: int, is_for_proxy: bool, limits: Limits) -> None:
         family, *_, address = socket.getaddrinfo(host, port, type=socket.SOCK_STREAM)[0]
         super().__init__(fileno=socket.create_server(address, family=family).detach())
-        self._guests, self._is_for_proxy = Counter[str](), is_for_proxy
-        self._most = min(MOST_INSIDE, resource.getrlimit(resource.RLIMIT_NOFILE)[0] - KEPT_FREE)
+        self.places = Places(limits, resource.getrlimit(resource.RLIMIT_NOFILE)[0] - KEPT_FREE)
+        self._is_for_proxy, self._guests, self._came_round = is_for_proxy, dict[int, Guest](), Windows(HOUR)
 
     def accept(self) -> tuple[socket.socket, Any]:
         connection, peer = super().accept()
-        is_proxy = self._is_for_proxy and is_loopback(peer[0])
-        if self._guests.total() >= self._most or self._guests[peer[0]] >= MOST_OF_ADDRESS and not is_proxy:
+        if self._is_for_proxy and not is_loopback(peer[0]):
+            connection.close()
+            if self._came_round.add(group_of(peer[0]), time.monotonic()).count == 1:
+                tell(f"cdmboard: {peer[0]} came round the proxy; it is not let in")
+            raise ConnectionAbortedError("not from the proxy")
+        number = connection.fileno()
+        entry = self.places.enter_from_proxy(number) if self._is_for_proxy else self.places.enter(number, peer[0])
+        if not entry.is_in:
             connection.close()
             raise ConnectionAbortedError("too many connections")
+        if entry.goes is not None:
+            self._guests[entry.goes].send_away()
+        guest = self._guests[number] = Guest(connection.detach(), self)
         # Whoever takes nothing of what was sent to it for so long is gone, whatever else it says.
-        connection.setsockopt(socket.IPPROTO_TCP, TCP_USER_TIMEOUT, int(1000 * UNTAKEN))
-        return Guest(connection.detach(), self._guests, peer[0]), peer
+        guest.setsockopt(socket.IPPROTO_TCP, TCP_USER_TIMEOUT, int(1000 * UNTAKEN))
+        return guest, peer
+
+    def left(self, number: int) -> None:
+        """A connection was closed."""
+        self._guests.pop(number, None)
+        self.places.leave(number)
 
 
 class Guest(socket.socket):
     """A connection that was let in, which counts until it is closed."""
 
-    def __init__(self, number: int, guests: Counter[str], address: str) -> None:
+    def __init__(self, number: int, door: Door) -> None:
         super().__init__(fileno=number)
-        self._guests, self._address = guests, address
-        guests[address] += 1
+        self._door = door
+
+    def send_away(self) -> None:
+        """Makes room: whoever uses it sees its end."""
+        try:
+            self.shutdown(socket.SHUT_RDWR)
+        except OSError:
+            pass  # It is gone already.
 
     def close(self) -> None:
         if self.fileno() >= 0:
-            self._guests[self._address] -= 1
-            if not self._guests[self._address]:
-                del self._guests[self._address]
+            self._door.left(self.fileno())
         super().close()
 
 
 class Guard(web.RequestHandler):
     """A connection that is cut off if it takes more than its share. Between two requests aiohttp keeps the time itself."""
 
-    def __init__(self, server: web.Server, proxy: bool) -> None:
+    def __init__(self, server: web.Server, door: Door, is_for_proxy: bool) -> None:
         super().__init__(server, loop=asyncio.get_running_loop(), lingering_time=5.0, auto_decompress=False,
-                         keepalive_timeout=OF_A_PROXY if proxy else HEADERS)
-        self.access_logger, self._unread, self.lost = None, 0, asyncio.Event()
+                         keepalive_timeout=OF_A_PROXY if is_for_proxy else HEADERS)
+        self.access_logger, self._unread, self.lost, self._door = None, 0, asyncio.Event(), door
 
     def connection_made(self, transport: asyncio.BaseTransport) -> None:
         assert isinstance(transport, asyncio.Transport)
+        self._number: int = transport.get_extra_info("socket").fileno()
         self._late = asyncio.get_running_loop().call_later(HEADERS, transport.abort)
         super().connection_made(transport)
-        assert self._task_handler is not None
-        self._task_handler.add_done_callback(self._died)
 
-    def _died(self, task: "asyncio.Task[None]") -> None:
+    async def start(self) -> None:
         """A request whose very address can't be read ends aiohttp's task; so it ends the connection too."""
-        if not task.cancelled() and task.exception():
+        try:
+            await super().start()
+        except Exception:
             self._cut()
+
+    def show(self) -> None:
+        """A desk's token was shown on this connection."""
+        if self.transport is not None:
+            self._door.places.show(self._number)
 
     def _cut(self) -> None:
         if self.transport is not None:

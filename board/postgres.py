@@ -9,18 +9,21 @@ import asyncio
 import contextlib
 import json
 import secrets
+import socket
 import time
 from argparse import Namespace
-from collections import deque
-from collections.abc import AsyncIterator, Awaitable, Callable
+from collections.abc import AsyncIterator, Awaitable, Callable, Iterable, Sequence
 from itertools import chain, repeat
 from pathlib import Path
 from typing import Any, TypeVar
 from urllib.parse import parse_qsl, urlencode, urlsplit
 
-from board.log import MOST_RECORDS, NOT_KNOWN, Batch, Kept, Record, records_of
-from board.sqlite import FileLog
+from board import sqlite
+from board.commits import Commit, Commits
+from board.following import AWAY, Following, Seen
+from board.log import MOST_RECORDS, Accept, Away, Batch, Changed, Event, Kept, Record, accepted, audit_of, records_of
 from board.words import Fault, Problem, now_text, tell
+from board.writer import COMMIT_SECONDS, Outcome, nothing
 
 try:
     import asyncpg  # type: ignore[import]
@@ -29,36 +32,38 @@ except ImportError:
 
 T = TypeVar("T")
 SCHEMA = Path(__file__).with_name("schema.sql")
-CONNECT, READ, COMMIT, LOOK, STALE = 3.0, 5.0, 20.0, 1.0, 3.0
-MOST_TOGETHER = 512
+CONNECT, READ, LOOK, STALE = 3.0, 5.0, 1.0, 3.0
+# Seconds after which a connection that has nothing to commit is asked whether it is still there.
+IDLE_SECONDS = 10.0
 # What a role or a database may have set otherwise, and would end a commit, or let it see too little.
 SETTINGS = {"statement_timeout": "0", "lock_timeout": "0", "idle_in_transaction_session_timeout": "0",
             "idle_session_timeout": "0", "client_connection_check_interval": "0",
-            "default_transaction_isolation": "read committed", "jit": "off"}
+            "default_transaction_isolation": "read committed", "jit": "off",
+            "tcp_keepalives_idle": "15", "tcp_keepalives_interval": "5", "tcp_keepalives_count": "3"}
 COLUMNS = "SELECT position, desk, role, line, at FROM public.cdm_record WHERE board = $1"
 TIMELINE = "SELECT ('x' || left(pg_walfile_name(pg_current_wal_lsn()), 8))::bit(32)::integer"
 COMMITTING = """SELECT count(*) FROM pg_stat_activity
                 WHERE application_name = $1 AND state = 'active' AND pid <> $2"""
 LAST = "SELECT coalesce(max(position), 0) FROM public.cdm_record WHERE board = $1"
-TABLES = "SELECT to_regclass('public.cdm_record') IS NOT NULL AND to_regclass('public.cdm_log') IS NOT NULL"
-NOTHING = "the log's database takes no records at present; nothing was taken"
+# Tables of an older version have no sessions.
+TABLES = "SELECT to_regclass('public.cdm_record') IS NOT NULL AND to_regclass('public.cdm_session') IS NOT NULL"
+SESSIONS = "SELECT desk, not_before FROM public.cdm_session WHERE board = $1"
+AUDIT = "SELECT at, event, desk, address, position, count, detail FROM public.cdm_audit WHERE board = $1 ORDER BY number"
 WRONG = {422: "this key came with another body before"}
 LOST: tuple[Any, ...] = (OSError,) if asyncpg is None else (
     OSError, asyncpg.InterfaceError, asyncpg.InternalClientError, asyncpg.PostgresConnectionError,
     asyncpg.OperatorInterventionError)
+# Classes of SQLSTATE: data exceptions, and violated constraints.
+OF_DATA = ("22", "23")
 FAULTS = LOST if asyncpg is None else (*LOST, asyncpg.PostgresError)
 
 
-class Away(Exception):
-    """The database can't be asked at present."""
-
-
-class Changed(Exception):
-    """The database hasn't the last row that was handed on: the day begins anew."""
-
-
 class Refused(Exception):
-    """The database refused a statement, and took nothing of it."""
+    """The database refused a statement, and took nothing of it. `is_of_data`: since it can't be what was sent, whatever else is so."""
+
+    def __init__(self, why: object, is_of_data: bool = False) -> None:
+        super().__init__(why)
+        self.is_of_data = is_of_data
 
 
 def is_url(log: str) -> bool:
@@ -88,12 +93,29 @@ def name_of(url: str) -> str:
 async def first(url: str, make: Callable[[str], Awaitable[T]]) -> T:
     """What is made of the first host that takes commits. Raises Away, Fault."""
     whys = []
-    for host in hosts_of(url):
+    hosts = hosts_of(url)
+    for host in [*hosts, *await other_addresses(hosts)]:
         try:
             return await make(host)
         except Away as why:
             whys.append(f"{urlsplit(host).netloc.rpartition('@')[2] or 'the database'}: {why}")
     raise Away("; ".join(whys))
+
+
+async def other_addresses(urls: Iterable[str]) -> list[str]:
+    """The same URLs with each further address of their hosts. The first one that doesn't answer takes all the time of a connection."""
+    found = []
+    for url in urls:
+        parts = urlsplit(url)
+        if parts.hostname is None:
+            continue
+        with contextlib.suppress(OSError):
+            told = await asyncio.get_running_loop().getaddrinfo(parts.hostname, parts.port or 5432, type=socket.SOCK_STREAM)
+            addresses = list(dict.fromkeys(str(address[0]) for *_, address in told))
+            who, at, _ = parts.netloc.rpartition("@")
+            port = f":{parts.port}" if parts.port else ""
+            found += [parts._replace(netloc=f"{who}{at}{f'[{one}]' if ':' in one else one}{port}").geturl() for one in addresses[1:]]
+    return found
 
 
 async def connect(url: str, name: str = "cdmboard") -> Any:
@@ -134,10 +156,23 @@ async def finished(connection: Any, seconds: float, call: Awaitable[T]) -> T:
     except LOST as why:
         raise Away(str(why) or type(why).__name__) from None
     except asyncpg.PostgresError as why:
-        raise Refused(why) from None
+        raise Refused(why, (why.sqlstate or "")[:2] in OF_DATA) from None
     finally:
         if not task.done():
             connection.terminate()
+
+
+async def newest(url: str) -> int:
+    """The highest timeline of several hosts that take commits at present; 0 where there is no choice. Raises Fault."""
+    hosts, timelines = hosts_of(url), [0]
+    for host in hosts if len(hosts) > 1 else ():
+        with contextlib.suppress(Away, Refused):
+            connection = await connect(host)
+            try:
+                timelines.append(await finished(connection, READ, connection.fetchval(TIMELINE)))
+            finally:
+                connection.terminate()
+    return max(timelines)
 
 
 class Link:
@@ -167,14 +202,19 @@ class Link:
     async def write(self, query: str, *words: object) -> Any:
         """The value of a statement that commits. Raises Refused: nothing was taken; Away: it isn't known."""
         self._warned = ""
-        value = await finished(self._writer, COMMIT, self._writer.fetchval(query, *words))
+        value = await finished(self._writer, COMMIT_SECONDS, self._writer.fetchval(query, *words))
         if self._warned:
             raise Away(self._warned)
         return value
 
+    async def greet(self) -> None:
+        """Whether the connection that commits is still there. Raises Away, Refused."""
+        await finished(self._writer, READ, self._writer.fetchval("SELECT 1"))
+
     async def listen(self, heard: Any) -> None:
         """Has a call made for each notice that another server took records. Raises Away, Refused."""
-        await finished(self._reader, READ, self._reader.add_listener("cdm_record", heard))
+        for channel in ("cdm_record", "cdm_session"):
+            await finished(self._reader, READ, self._reader.add_listener(channel, heard))
 
     async def is_committing(self, name: str) -> bool:
         """Whether an earlier connection of this name still commits. Raises Away."""
@@ -193,19 +233,20 @@ class PostgresLog(Kept):
     def __init__(self, url: str, board: str) -> None:
         super().__init__(name_of(url), board)
         self.id, self.airport, self._version = "", b"", ""
+        self._accept: Accept = accepted
         self._url, self._writer_name = url, f"cdmboard {secrets.token_hex(8)}"
         self._link: Link | None = None
-        self._linked, self._wanted = asyncio.Event(), asyncio.Event()
-        self._waiting: deque[tuple[Batch, asyncio.Future[range]]] = deque()
-        self._last: Record | None = None
-        # The database has another last row; its rows were read anew, but the sequencer doesn't have them yet; an
-        # earlier commit of this server still waits there.
-        self._is_other = self._is_anew = self._is_committing = False
-        self._timeline, self._looked, self._looked_at = 0, float("-inf"), now_text()
+        self._linked = asyncio.Event()
+        self._commits = Commits(self._begin, AWAY)
+        # The transaction that is to run, and hasn't begun.
+        self._ordered, self._order = asyncio.Event(), list[Commit]()
+        self._following = Following()
+        self._looked, self._looked_at = float("-inf"), now_text()
         self._keeping: asyncio.Task[None] | None = None
 
-    async def open(self, airport: bytes, version: str) -> None:
-        self.airport, self._version = airport, version
+    async def open(self, airport: bytes, version: str, accept: Accept = accepted) -> None:
+        self.airport, self._version, self._accept = airport, version, accept
+        self._following.timeline = await newest(self._url)
         try:
             self._use(await first(self._url, self._to))
         except Away as why:
@@ -225,23 +266,20 @@ class PostgresLog(Kept):
 
     @property
     def stale_since(self) -> str | None:
-        is_other = self._link is None or self._is_other or self._is_anew
-        return self._looked_at if is_other or time.monotonic() - self._looked > STALE else None
+        return self._looked_at if not self._following.is_current or time.monotonic() - self._looked > STALE else None
 
     # What is read.
 
     async def rows(self, after: int, most: int = MOST_RECORDS) -> list[Record]:
         """As of a file; none while the database is away. Raises Changed too."""
-        if self._is_other:
+        if self._following.wanted():
             raise Changed(f"{self.name} hasn't the last row that was read; it is read anew")
-        self._is_anew = False
         return await self._read(after, most) or []
 
     async def whole(self) -> list[Record]:
         while True:
             await self._linked.wait()
-            # From now on no batch is taken before the sequencer has these rows.
-            self._is_anew, self._is_other, self._last = self._is_other or self._is_anew, False, None
+            self._following.read_anew()
             records = await self._read(0, MOST_RECORDS, 60.0)
             if records is not None:
                 return records
@@ -260,56 +298,76 @@ class PostgresLog(Kept):
         if link is not self._link or link.broken.is_set():
             return None
         records = records_of(self.name, after, found)
-        if records and (self._last is None or records[-1].position > self._last.position):
-            self._last = records[-1]
+        self._following.handed_on(records)
         return records
+
+    async def sessions(self) -> dict[str, int]:
+        """As of a file. Raises Away too."""
+        link = self._link
+        if link is None:
+            raise Away("the database is away")
+        return dict(await link.read(SESSIONS, self._board))
 
     # What is written.
 
+    async def sign_out(self, desk: str) -> None:
+        """As of a file, by a connection of its own, and tells the other servers."""
+        async with database_of(self._url) as database:
+            await finished(database, COMMIT_SECONDS, database.fetchval("SELECT public.cdm_sign_out($1, $2)", self._board, desk))
+            await finished(database, COMMIT_SECONDS, database.execute("SELECT pg_notify('cdm_session', $1)", self._board))
+
+    async def note(self, events: list[Event]) -> int:
+        """As of a file, by a connection of its own."""
+        told = json.dumps([event._asdict() for event in events])
+        async with database_of(self._url) as database:
+            kept: int = await finished(database, COMMIT_SECONDS, database.fetchval("SELECT public.cdm_note($1, $2)", self._board, told))
+            return kept
+
     async def append(self, batch: Batch) -> range:
-        if self._link is None or self._is_committing:
-            raise Problem(503, NOTHING, Retry_After="1")
-        if self._is_other or self._is_anew:
-            raise Problem(503, "the day begins anew; nothing was taken", Retry_After="1")
-        positions: asyncio.Future[range] = asyncio.get_running_loop().create_future()
-        self._waiting.append((batch, positions))
-        self._wanted.set()
-        return await positions
+        if (why := self._following.refusal()) is not None:
+            raise nothing(why)
+        return await self._commits.append(batch)
+
+    def _begin(self, commit: Commit) -> None:
+        self._order.append(commit)
+        self._ordered.set()
 
     async def _commit(self, link: Link) -> None:
-        """Takes all batches that wait, in one transaction, again and again. Raises Away."""
+        """Runs the writer's transactions, one after the other. Raises Away."""
+        writer, do = self._commits.writer, self._commits.do
         while True:
-            await self._wanted.wait()
-            self._wanted.clear()
-            while self._waiting:
-                some = [self._waiting.popleft() for _ in range(min(len(self._waiting), MOST_TOGETHER))]
-                taken = [(batch, positions) for batch, positions in some if not positions.done()]
-                problem = Problem(504, NOT_KNOWN)
+            try:
+                async with asyncio.timeout(IDLE_SECONDS):
+                    await self._ordered.wait()
+            except TimeoutError:
+                await link.greet()
+                continue
+            self._ordered.clear()
+            while self._order:
+                commit = self._order.pop()
+                outcome, why = Outcome.UNKNOWN, AWAY
                 try:
-                    await self._take(link, taken)
-                    problem = Problem(500, "no answer to this batch")
-                except Refused as why:
-                    problem = Problem(503, "the log's database refused; nothing was taken", Retry_After="1")
-                    raise Away(why) from None
+                    answers = await self._take(link, commit.batches)
+                except Refused as refused:
+                    outcome, why = Outcome.REFUSED if refused.is_of_data else Outcome.NOTHING, "the log's database refused; nothing was taken"
+                    tell(f"cdmboard: {self.name} refused records: {refused}")
+                    if outcome is Outcome.NOTHING:
+                        raise Away(refused) from None
+                    continue
+                else:
+                    do(writer.committed(commit.number, answers))
                 finally:
-                    _answer([positions for _, positions in taken], problem)
+                    # Where it has its answers, this says nothing new.
+                    do(writer.failed(commit.number, outcome, why))
                 # In that transaction it would hold a lock of all boards until the commit has ended.
                 await link.write("SELECT pg_notify('cdm_record', $1)", self._board)
 
-    async def _take(self, link: Link, taken: list[tuple[Batch, asyncio.Future[range]]]) -> None:
-        """One transaction, and its answers. Raises Refused, Away."""
-        batches = json.dumps([vars(batch) | {"closed": batch.closed is not None} for batch, _ in taken])
-        answers = json.loads(await link.write("SELECT public.cdm_append($1, $2)", self._board, batches))
-        for (batch, positions), told in zip(taken, answers, strict=True):
-            if positions.done():
-                continue
-            if "first" in told:
-                positions.set_result(range(told["first"], told["first"] + told["count"]))
-            elif told["status"] == 403:
-                positions.set_exception(Problem(403, batch.closed or "") if told["closed"] else batch.full())
-            else:
-                positions.set_exception(Problem(told["status"], WRONG[told["status"]]))
+    async def _take(self, link: Link, batches: Sequence[Batch]) -> list[range | Problem]:
+        """The answers of one transaction, one for each batch. Raises Refused, Away."""
+        told = json.dumps([vars(batch) | {"closed": batch.closed is not None} for batch in batches])
+        answers = json.loads(await link.write("SELECT public.cdm_append($1, $2)", self._board, told))
         self.grown.set()
+        return [_said(batch, answer) for batch, answer in zip(batches, answers, strict=True)]
 
     # The link.
 
@@ -326,11 +384,10 @@ class PostgresLog(Kept):
                 tell(f"cdmboard: {self.name} is away: {aways.exceptions[0]}")
             finally:
                 self._link = None
+                self._following.lost()
                 self._linked.clear()
                 link.end()
-                nothing = Problem(503, NOTHING, Retry_After="1")
-                _answer([positions for _, positions in self._waiting], nothing)
-                self._waiting.clear()
+                self._unlink()
             for pause in chain((0.1, 0.1, 0.2, 0.4), repeat(1.0)):
                 await asyncio.sleep(pause)
                 with contextlib.suppress(Away):
@@ -344,19 +401,29 @@ class PostgresLog(Kept):
             began, at = time.monotonic(), now_text()
             (last,), = await link.read(LAST, self._board)
             self._looked, self._looked_at = began, at
-            if last > (self._last.position if self._last else 0):
+            self.read_at = began
+            if last > (self._following.last.position if self._following.last else 0):
                 self.grown.set()
-            if self._is_committing:
-                self._is_committing = await link.is_committing(self._writer_name)
+            if self._following.is_committing:
+                self._following.committed_before(await link.is_committing(self._writer_name))
             with contextlib.suppress(TimeoutError):
                 async with asyncio.timeout(LOOK):
                     await link.broken.wait()
                 raise Away(link.why)
 
+    def _unlink(self) -> None:
+        """No transaction runs any more; one that didn't begin took nothing."""
+        writer = self._commits.writer
+        for commit in self._order:
+            self._commits.do(writer.failed(commit.number, Outcome.NOTHING, AWAY))
+        self._order.clear()
+        self._commits.do(writer.lost(AWAY))
+
     def _use(self, link: Link) -> None:
         self._link = link
         self._linked.set()
         self.grown.set()
+        self._commits.do(self._commits.writer.opened())
 
     async def _to(self, url: str) -> Link:
         """A link to a host, checked. Raises Away, Fault."""
@@ -367,47 +434,50 @@ class PostgresLog(Kept):
             opened.callback(writer.terminate)
             link = Link(reader, writer)
             try:
-                await link.listen(lambda _, pid, channel, board: self.grown.set() if board == self._board else None)
+                await link.listen(lambda _, pid, channel, board: self._heard(channel) if board == self._board else None)
                 await self._check(link)
             except Refused as why:
                 raise Away(why) from None
             opened.pop_all()
         return link
 
+    def _heard(self, channel: str) -> None:
+        (self.grown if channel == "cdm_record" else self.signed_out).set()
+
     async def _check(self, link: Link) -> None:
         """Whether a link leads to the log, and whether it has the last row that was handed on. Raises Away,
         Refused, Fault."""
         began, at = time.monotonic(), now_text()
         (timeline,), = await link.read(TIMELINE)
-        if timeline < self._timeline:
+        if self._following.is_past(timeline):
             raise Away("of an older timeline")
+        if await link.write("SELECT current_setting('synchronous_commit')") == "off":
+            raise Away("synchronous_commit is off for this role or database, so that a crash loses answered records")
         if not (await link.read(TABLES))[0][0]:
-            raise Fault(f"{self.name} has no tables for a log; ./cdmboard log init URL makes them")
-        row = "SELECT id, airport, version FROM public.cdm_log WHERE board = $1"
+            raise Fault(f"{self.name} has no tables for a log, or older ones; ./cdmboard log init URL makes them")
+        row = "SELECT id, airport, version, secret FROM public.cdm_log WHERE board = $1"
         if not await link.read(row, self._board):
+            await self._accept()
             await link.write("SELECT public.cdm_append($1, '[]', $2, $3, $4)", self._board,
                              self.id or secrets.token_hex(8), self.airport, self._version)
         airport, (found,) = self.airport, await link.read(row, self._board)
         if self.id not in ("", found[0]):
             raise Fault(f"{self.name} has another log of this board now")
-        self.id, self.airport = found[0], found[1]
+        self.id, self.airport, self.secret = found[0], found[1], found[3]
         self.check(airport, found[2], self._version)
-        last = self._last
-        if last is not None:
-            kept = await link.read(f"{COLUMNS} AND position = $2", self._board, last.position)
-            self._is_other = self._is_other or not kept or Record(*kept[0]) != last
-        self._is_committing = await link.is_committing(self._writer_name)
-        self._timeline, self._looked, self._looked_at = timeline, began, at
+        last = self._following.last
+        kept = await link.read(f"{COLUMNS} AND position = $2", self._board, last.position if last else 0)
+        self._following.linked(Seen(timeline, Record(*kept[0]) if kept else None, await link.is_committing(self._writer_name)))
+        self._looked, self._looked_at = began, at
 
 
-# A log in either engine.
-Log = FileLog | PostgresLog
-
-
-def _answer(waiting: list["asyncio.Future[range]"], problem: Problem) -> None:
-    for positions in waiting:
-        if not positions.done():
-            positions.set_exception(problem)
+def _said(batch: Batch, answer: dict[str, Any]) -> range | Problem:
+    """What `cdm_append` told of a batch."""
+    if "first" in answer:
+        return range(answer["first"], answer["first"] + answer["count"])
+    if answer["status"] == 403:
+        return Problem(403, batch.closed or "") if answer["closed"] else batch.full()
+    return Problem(answer["status"], WRONG[answer["status"]])
 
 
 @contextlib.asynccontextmanager
@@ -419,7 +489,7 @@ async def database_of(url: str) -> AsyncIterator[Any]:
             yield connection
         finally:
             connection.terminate()
-    except (Away, *FAULTS) as why:
+    except (Away, Refused, *FAULTS) as why:
         raise Fault(f"{name_of(url)}: {why}", 1) from None
 
 
@@ -429,13 +499,32 @@ async def init(options: Namespace) -> None:
         raise Fault("a log in a file needs no init", 2)
     async with database_of(options.log) as database:
         await database.execute(SCHEMA.read_text())
+        name = await database.fetchval("SELECT current_database()")
+    print(f"database {name}: CONNECT is taken from PUBLIC; for a server's user: GRANT cdm_server TO user")
 
 
-async def read_log(url: str, board: str) -> tuple[bytes, list[Record]]:
-    """Airport file and all records of a log, also while it is served. Raises Fault."""
+async def read_log(url: str, board: str) -> tuple[bytes, str, list[Record]]:
+    """Airport file, program and all records of a log, also while it is served. Raises Fault."""
     async with database_of(url) as database:
-        airport = await database.fetchval("SELECT airport FROM public.cdm_log WHERE board = $1", board)
-        if airport is None:
-            raise Fault(f"{name_of(url)} has no board {board!a}")
+        row = await database.fetchrow("SELECT airport, version FROM public.cdm_log WHERE board = $1", board)
+        if row is None:
+            raise Fault(f"{name_of(url)} has no board {board!a} (--board NAME)")
         rows = await database.fetch(f"{COLUMNS} ORDER BY position", board)
-        return airport, records_of(name_of(url), 0, rows)
+        return row[0], row[1], records_of(name_of(url), 0, rows)
+
+
+async def read_audit(url: str, board: str) -> bytes:
+    """The audit of a log, one JSON object a line. Raises Fault."""
+    async with database_of(url) as database:
+        return audit_of(await database.fetch(AUDIT, board))
+
+
+async def copy_log(url: str, board: str, copy: str) -> None:
+    """A copy of a whole log in a file of SQLite that is empty, with an id of its own. Records are never changed, so what is read here is of
+    one moment. Raises Fault."""
+    airport, version, _ = await read_log(url, board)
+    async with database_of(url) as database:
+        rows = await database.fetch("SELECT board, position, desk, key, n, lines, role, line, at FROM public.cdm_record"
+                                    " WHERE board = $1 ORDER BY position", board)
+        audit = await database.fetch(AUDIT, board)
+    sqlite.write_log(copy, (board, secrets.token_hex(8), airport, version), [tuple(row) for row in rows], [tuple(row) for row in audit])

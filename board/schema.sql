@@ -1,12 +1,25 @@
--- The log of boards in PostgreSQL (14 or newer). `./cdmboard log init URL` runs this file as who may create roles and tables;
--- run again, it changes nothing. A server's own user gets all that it needs by `GRANT cdm_server TO user`.
+-- The log of boards in PostgreSQL (14 or newer). `./cdmboard log init URL` runs this file, in one transaction, as a superuser or as the
+-- database's owner with CREATEROLE; run again, it changes nothing but brings older tables up to date. A server's own user gets all that
+-- it needs by `GRANT cdm_server TO user`.
 DO $$ BEGIN
+    IF NOT has_database_privilege(current_database(), 'CREATE') THEN
+        RAISE EXCEPTION 'permission denied: log init needs a superuser, or the owner of the database with CREATEROLE';
+    END IF;
     IF NOT EXISTS (SELECT FROM pg_roles WHERE rolname = 'cdm_owner') THEN CREATE ROLE cdm_owner NOLOGIN; END IF;
     IF NOT EXISTS (SELECT FROM pg_roles WHERE rolname = 'cdm_server') THEN CREATE ROLE cdm_server NOLOGIN; END IF;
+    -- Who is no superuser may give a table to a role of which it is a member, and which may create in the schema; both until the end.
+    IF NOT pg_has_role(current_user, 'cdm_owner', 'MEMBER') THEN
+        EXECUTE format('GRANT cdm_owner TO %I', current_user);
+        PERFORM set_config('cdmboard.was_member', 'no', true);
+    END IF;
+    GRANT CREATE ON SCHEMA public TO cdm_owner;
 END $$;
 
 CREATE TABLE IF NOT EXISTS public.cdm_log (
     board text PRIMARY KEY, id text NOT NULL, airport bytea NOT NULL, version text NOT NULL);
+-- The key of the board's cookies, which only its servers may know: 244 random bits.
+ALTER TABLE public.cdm_log ADD COLUMN IF NOT EXISTS
+    secret text NOT NULL DEFAULT replace(gen_random_uuid()::text || gen_random_uuid()::text, '-', '');
 CREATE TABLE IF NOT EXISTS public.cdm_record (
     board text NOT NULL,
     position integer NOT NULL CHECK (position BETWEEN 1 AND 60000),
@@ -15,11 +28,21 @@ CREATE TABLE IF NOT EXISTS public.cdm_record (
     line text NOT NULL CHECK (line COLLATE "C" ~ '^[ !#-~]{1,100}$'),
     at text NOT NULL,
     UNIQUE (board, position), UNIQUE (board, desk, key, n));
+-- Sessions of a desk are numbered from 0; those before `not_before` have ended.
+CREATE TABLE IF NOT EXISTS public.cdm_session (
+    board text NOT NULL, desk text NOT NULL, not_before integer NOT NULL, PRIMARY KEY (board, desk));
+-- Who did what, and from where; for records the first position and how many there are.
+CREATE TABLE IF NOT EXISTS public.cdm_audit (
+    board text NOT NULL, number bigint GENERATED ALWAYS AS IDENTITY PRIMARY KEY, at text NOT NULL, event text NOT NULL, desk text,
+    address text, position integer, count integer, detail text);
+CREATE INDEX IF NOT EXISTS cdm_audit_board ON public.cdm_audit (board, event);
 
 -- Takes batches of records, in their order, and returns one answer for each: {"first": position, "count": n}, or
 -- {"status": 403 or 422, "closed": whether the batch says why itself}. A board that is new is made where id, airport and version are given.
--- The lock is held until the commit has ended, so positions become visible in their order and without a gap. Each statement below it
--- sees what was committed before the lock was had, which needs `read committed`.
+-- The lock of the board's row is held until the commit has ended, so positions become visible in their order and without a gap. Only who
+-- may change the row can take it. Each statement below it sees what was committed before the lock was had, which needs `read committed`.
+-- The lock is written to the database's log, so each commit waits for the standby, even if it only found a key: a primary that was
+-- restarted may have these records alone.
 CREATE OR REPLACE FUNCTION public.cdm_append(
     of_board text, batches jsonb, new_id text DEFAULT NULL, new_airport bytea DEFAULT NULL, new_version text DEFAULT NULL)
     RETURNS jsonb LANGUAGE plpgsql VOLATILE SECURITY DEFINER SET search_path = pg_catalog, pg_temp AS $$
@@ -29,11 +52,11 @@ BEGIN
     IF current_setting('transaction_isolation') <> 'read committed' THEN
         RAISE EXCEPTION 'cdm_append needs the isolation level read committed';
     END IF;
-    PERFORM pg_advisory_xact_lock(hashtextextended('cdm_record ' || of_board, 0));
     IF new_id IS NOT NULL THEN
-        INSERT INTO public.cdm_log VALUES (of_board, new_id, new_airport, new_version) ON CONFLICT DO NOTHING;
+        INSERT INTO public.cdm_log (board, id, airport, version) VALUES (of_board, new_id, new_airport, new_version) ON CONFLICT DO NOTHING;
     END IF;
-    IF NOT EXISTS (SELECT FROM public.cdm_log WHERE board = of_board) THEN
+    PERFORM 1 FROM public.cdm_log WHERE board = of_board FOR UPDATE;
+    IF NOT FOUND THEN
         RAISE EXCEPTION 'there is no board %', of_board;
     END IF;
     FOR batch IN SELECT jsonb_array_elements(batches) LOOP
@@ -44,9 +67,6 @@ BEGIN
             IF first_kept IS NOT NULL THEN
                 sent := ARRAY(SELECT value ->> 1 FROM jsonb_array_elements(batch -> 'records') WITH ORDINALITY ORDER BY ordinality);
                 IF kept = sent THEN
-                    -- A restarted primary may have these records alone. With a message in its log this commit too waits until the
-                    -- standby has all that comes before.
-                    PERFORM pg_logical_emit_message(true, 'cdmboard', '');
                     answers := answers || jsonb_build_object('first', first_kept, 'count', cardinality(kept));
                 ELSE
                     answers := answers || '{"status": 422}'::jsonb;
@@ -67,16 +87,56 @@ BEGIN
         INSERT INTO public.cdm_record
             SELECT of_board, last + ordinality, batch ->> 'desk', batch ->> 'key', ordinality - 1, count_new, value ->> 0, value ->> 1, batch ->> 'at'
             FROM jsonb_array_elements(batch -> 'records') WITH ORDINALITY;
+        IF batch ->> 'address' IS NOT NULL THEN
+            INSERT INTO public.cdm_audit (board, at, event, desk, address, position, count)
+                VALUES (of_board, batch ->> 'at', 'records', batch ->> 'desk', batch ->> 'address', last + 1, count_new);
+        END IF;
         answers := answers || jsonb_build_object('first', last + 1, 'count', count_new);
     END LOOP;
     RETURN answers;
 END $$;
 
+-- Keeps events that are no records, up to 20,000 of a board. Returns how many were kept.
+CREATE OR REPLACE FUNCTION public.cdm_note(of_board text, events jsonb)
+    RETURNS integer LANGUAGE plpgsql VOLATILE SECURITY DEFINER SET search_path = pg_catalog, pg_temp AS $$
+DECLARE
+    room integer; count_kept integer;
+BEGIN
+    SELECT greatest(0, 20000 - count(*)) INTO room FROM public.cdm_audit WHERE board = of_board AND event <> 'records';
+    INSERT INTO public.cdm_audit (board, at, event, desk, address, detail)
+        SELECT of_board, value ->> 'at', value ->> 'event', value ->> 'desk', value ->> 'address', value ->> 'detail'
+        FROM jsonb_array_elements(events) WITH ORDINALITY WHERE value ->> 'event' <> 'records' ORDER BY ordinality LIMIT room;
+    GET DIAGNOSTICS count_kept = ROW_COUNT;
+    RETURN count_kept;
+END $$;
+
+-- Ends all sessions of a desk, at every server of the board. Returns the number of its next session.
+CREATE OR REPLACE FUNCTION public.cdm_sign_out(of_board text, of_desk text)
+    RETURNS integer LANGUAGE sql VOLATILE SECURITY DEFINER SET search_path = pg_catalog, pg_temp AS $$
+    INSERT INTO public.cdm_session VALUES (of_board, of_desk, 1)
+        ON CONFLICT (board, desk) DO UPDATE SET not_before = cdm_session.not_before + 1 RETURNING not_before;
+$$;
+
 ALTER TABLE public.cdm_log OWNER TO cdm_owner;
 ALTER TABLE public.cdm_record OWNER TO cdm_owner;
+ALTER TABLE public.cdm_session OWNER TO cdm_owner;
+ALTER TABLE public.cdm_audit OWNER TO cdm_owner;
 ALTER FUNCTION public.cdm_append(text, jsonb, text, bytea, text) OWNER TO cdm_owner;
-REVOKE ALL ON public.cdm_log, public.cdm_record FROM PUBLIC, cdm_server;
-REVOKE ALL ON FUNCTION public.cdm_append(text, jsonb, text, bytea, text) FROM PUBLIC;
-GRANT SELECT ON public.cdm_log, public.cdm_record TO cdm_server;
-GRANT EXECUTE ON FUNCTION public.cdm_append(text, jsonb, text, bytea, text) TO cdm_server;
+ALTER FUNCTION public.cdm_note(text, jsonb) OWNER TO cdm_owner;
+ALTER FUNCTION public.cdm_sign_out(text, text) OWNER TO cdm_owner;
+REVOKE ALL ON public.cdm_log, public.cdm_record, public.cdm_session, public.cdm_audit FROM PUBLIC, cdm_server;
+REVOKE ALL ON FUNCTION public.cdm_append(text, jsonb, text, bytea, text), public.cdm_note(text, jsonb),
+    public.cdm_sign_out(text, text) FROM PUBLIC;
+GRANT SELECT ON public.cdm_log, public.cdm_record, public.cdm_session, public.cdm_audit TO cdm_server;
+GRANT EXECUTE ON FUNCTION public.cdm_append(text, jsonb, text, bytea, text), public.cdm_note(text, jsonb),
+    public.cdm_sign_out(text, text) TO cdm_server;
 GRANT USAGE ON SCHEMA public TO cdm_server;
+-- Nobody else has anything to do in this database.
+DO $$ BEGIN
+    EXECUTE format('REVOKE CONNECT ON DATABASE %I FROM PUBLIC', current_database());
+    EXECUTE format('GRANT CONNECT ON DATABASE %I TO cdm_server', current_database());
+    REVOKE CREATE ON SCHEMA public FROM cdm_owner;
+    IF current_setting('cdmboard.was_member', true) = 'no' THEN
+        EXECUTE format('REVOKE cdm_owner FROM %I', current_user);
+    END IF;
+END $$;

@@ -1,23 +1,28 @@
 """The sequencer: one process of `cdmseq serve`, which gets the log's records in order, and its restarts."""
 import asyncio
 import contextlib
+import errno
 import json
+import os
 import tempfile
 import time
 from asyncio.subprocess import PIPE, Process
-from collections import deque
 from pathlib import Path
-
-import prometheus_client as prometheus
 
 from board.answers import START, day_of
 from board.day import Day
-from board.log import Record
-from board.postgres import Changed, Log
+from board.life import End, Keep, Life, Ready
+from board.log import Changed, Log
+from board.metrics import RECORDS
+from board.program import same
 from board.words import Fault, tell
 
-MOST_REPLY, MOST_AHEAD, SECONDS = 8 << 20, 256, 10.0
-COUNT = prometheus.Counter("cdm_records", "Records with a reply", ["role", "reply"])
+# Bytes of one reply, and records that are handed on together.
+MOST_REPLY, MOST_AHEAD = 8 << 20, 256
+# Seconds for a reply, and until a process that found no room is started again.
+SECONDS, ROOM_SECONDS = 10.0, 1.0
+# Bytes that the journal of a process may need beyond the day that it begins with.
+MOST_JOURNAL = 4 << 20
 
 
 class Ended(Exception):
@@ -29,33 +34,43 @@ class Sequencer:
 
     def __init__(self, program: str, folder: str, log: Log, day: Day) -> None:
         self._program, self._folder, self._log, self._day = program, folder, log, day
-        self.is_ready, self.starts = asyncio.Event(), 0
+        self.is_ready, self.starts, self._life = asyncio.Event(), 0, Life()
+        self._is_without_room = False
 
     async def run(self) -> None:
-        """Returns never. Rows that the database has lost are another day, which begins. Raises Fault if the sequencer ends
-        three times within a minute."""
-        ends = deque([float("-inf")] * 3, maxlen=3)
+        """Returns never. Rows that the database has lost are another day, which begins. Raises Fault if the sequencer ends too often."""
         while True:
-            self.starts += 1
             try:
-                with tempfile.TemporaryDirectory(dir=self._folder) as folder:
-                    await self._serve(folder)
+                await self._serve_somewhere()
             except Changed as changed:
                 tell(f"cdmboard: {changed}")
                 _, day = await day_of(self._folder, self._program, await self._log.whole(), self._day.kinds.text)
                 self._day.restart(day)
-            except (Ended, OSError) as end:
+            except (Ended, ConnectionError) as end:
                 tell(f"cdmboard: the sequencer: {end}")
-                ends.append(time.monotonic())
-                if ends[2] - ends[0] < 60:
+                if not self._life.ended(time.monotonic()):
                     raise Fault("the sequencer ended three times within a minute", 1) from None
+            except OSError as fault:
+                # The process isn't to blame: without room, or memory for one more, it is started as soon as there is some.
+                if not self._is_without_room:
+                    tell(f"cdmboard: the sequencer can't be started: {fault}; it is tried again")
+                self._is_without_room = True
+                await asyncio.sleep(ROOM_SECONDS)
+
+    async def _serve_somewhere(self) -> None:
+        """One process, in a folder of its own where there is room for its journal: in memory, if there is."""
+        journal = self._day.feed()
+        with tempfile.TemporaryDirectory(dir=place_with_room(len(journal) + MOST_JOURNAL, self._folder)) as folder:
+            self.starts += 1
+            Path(folder, "journal.csv").write_text(journal, "ascii")
+            await self._serve(folder)
 
     async def _serve(self, folder: str) -> None:
         """One process, on the day as it is, until it ends. The next one gets the rest."""
-        Path(folder, "journal.csv").write_text(self._day.feed(), "ascii")
-        words, patience = ("serve", "../airport.csv", "journal.csv", "--format", "json"), SECONDS
+        words, patience = ("serve", f"{self._folder}/airport.csv", "journal.csv", "--format", "json"), SECONDS
+        self._life.started(len(self._day.lines))
         process = await asyncio.create_subprocess_exec(
-            self._program, *words, cwd=folder, stdin=PIPE, stdout=PIPE, limit=MOST_REPLY, start_new_session=True)
+            same(self._program), *words, cwd=folder, stdin=PIPE, stdout=PIPE, limit=MOST_REPLY, start_new_session=True)
         lines, replies, ended = process.stdin, process.stdout, asyncio.create_task(process.wait())
         assert lines is not None and replies is not None
         ended.add_done_callback(lambda _: self._log.grown.set())
@@ -76,11 +91,8 @@ class Sequencer:
                     await lines.wait_closed()
 
     async def _hand_on(self, process: Process, lines: asyncio.StreamWriter, replies: asyncio.StreamReader) -> None:
-        """One line in, one line out. Raises Ended."""
-        if await _reply(replies, START) != {"ready": len(self._day.lines)}:
-            raise Ended("it is ready with another day")
-        self.is_ready.set()
-        asked = 0
+        """Lines in, replies out. Raises Ended."""
+        self._do(self._life.heard(await _reply(replies, START)))
         while True:
             if process.returncode is not None:
                 raise Ended(f"it ended with {process.returncode}")
@@ -88,22 +100,30 @@ class Sequencer:
             if not records:
                 await self._log.grown.wait()
                 self._log.grown.clear()
-            lines.write("".join(f"{record.role},{record.line}\n" for record in records).encode("ascii"))
-            for asked, record in enumerate(records, asked + 1):
-                self._take(record, asked, await _reply(replies, SECONDS))
+            lines.write(self._life.given(records).encode("ascii"))
+            while self._life.due:
+                self._do(self._life.heard(await _reply(replies, SECONDS)))
 
-    def _take(self, record: Record, asked: int, reply: dict[str, object]) -> None:
-        """Keeps a reply, if it is the one to this record."""
-        if reply.get("record") != asked:
-            raise Ended(f"a reply to record {reply.get('record')} instead of {asked}")
-        match reply:
-            case {"reply": "REFUSED", "word": str(word)}:
-                self._day.add(record, word, [])
-            case {"reply": "ACCEPTED", "accepted": number, "changes": list(changes)} if number == len(self._day.lines) + 1:
-                self._day.add(record, None, changes)
-            case _:
-                raise Ended("a reply that no record has")
-        COUNT.labels(record.role, reply.get("word", "ACCEPTED")).inc()
+    def _do(self, order: Ready | Keep | End) -> None:
+        """Carries out what the life orders. Raises Ended."""
+        match order:
+            case Ready():
+                self._is_without_room = False
+                self.is_ready.set()
+            case Keep(record, word, changes):
+                self._day.add(record, word, changes)
+                RECORDS.labels(record.role, word or "ACCEPTED").inc()
+            case End(why):
+                raise Ended(why)
+
+
+def place_with_room(size: int, *places: str) -> str:
+    """The first of some folders, or of the system's folder for temporary files, with room for so many bytes. Raises OSError."""
+    for place in (*places, tempfile.gettempdir()):
+        found = os.statvfs(place)
+        if found.f_bavail * found.f_frsize >= size:
+            return place
+    raise OSError(errno.ENOSPC, os.strerror(errno.ENOSPC), tempfile.gettempdir())
 
 
 async def _reply(replies: asyncio.StreamReader, seconds: float) -> dict[str, object]:

@@ -1,73 +1,56 @@
-"""HTTP: requests in, answers out."""
+"""HTTP: requests in, answers out; who asks, and what is wrong."""
 import asyncio
 import contextlib
 import functools
-import gzip
 import json
 import re
 import socket
-import zlib
-from collections import Counter, defaultdict
+import time
 from collections.abc import Awaitable, Callable
 from dataclasses import dataclass, field
 from http import HTTPStatus
 from http.cookies import CookieError
-from pathlib import Path
 
-import prometheus_client as prometheus
 from aiohttp import HttpVersion11, web
 
-from board.answers import Answers, Question
+from board.answers import Answers
+from board.audit import Audit
+from board.connections import group_of, is_loopback
 from board.day import Day
-from board.desks import SESSION, Desk, Desks, Pace
+from board.desks import READER, Desk, Desks
 from board.events import Events, Stream
-from board.guard import Guard, is_loopback
-from board.log import MOST_RECORDS, NOT_KNOWN, Batch
-from board.postgres import Log
+from board.files import Files
+from board.guard import Guard
+from board.health import Health
+from board.log import Away, Log
+from board.questions import TYPES, Questions, body_of
+from board.records import Records
+from board.sending import has, tagged
 from board.sequencer import Sequencer
-from board.words import KEY, POSITION, Problem, lines_of, now_text, refuse, tell
+from board.sessions import SESSION, Sessions
+from board.unsent import Unsent
+from board.windows import Windows
+from board.words import KEY, POSITION, Fault, Problem, lines_of, now_text, refuse, tell
 
-MOST_BODY, MOST_FOUND, MOST_UNSENT, PACKED, TOWERS, RESERVED = 64 << 10, 1 << 20, 64 << 20, 1024, 18_000, 2000
-REPLY, AFTER, BODY, ANSWER = 30.0, 2.0, 20.0, 60.0
-FILES = {".html": "text/html", ".css": "text/css", ".js": "text/javascript", ".svg": "image/svg+xml"}
-PAGE, READER = Path(__file__).parent / "page", Desk("", "READ")
-TYPES = {"": "text/plain", "csv": "text/csv", "json": "application/x-ndjson", "svg": "image/svg+xml"}
-# The program's commands as paths. Those that want a scenario are asked by POST alone, in a format by Accept.
-JSON = r"{form:(\.json)?}"
-PATHS = (r"{command:plan}{form:(\.csv|\.json)?}", r"{command:picture}{form:\.svg}", "{command:(load|next|warnings|causes)}" + JSON,
-         "{command:load}/{name:[A-Z0-9]{1,3}}" + JSON, "{command:why}/{name:[A-Z0-9]{1,7}}" + JSON)
-BY_POST = ("{command:what-if}", "{command:compare}", "{command:compare}/{name:[A-Z0-9][A-Z0-9-]{0,15}}")
-OPTIONS: dict[str, tuple[str, ...]] = {"minutes": (), "by": ("--by",), "scenario": ("--scenario",)}
-ARGUMENT = re.compile("[A-Za-z0-9][A-Za-z0-9-]{0,15}")
-UNKNOWN = ("cdmseq: no flight ", "cdmseq: no runway ", "cdmseq: no scenario ")
+MOST_BODY = 64 << 10
+AFTER_LIMIT = 2.0
+SEND_LIMIT = 60.0
+SIGN_OUT_LIMIT = 10.0
+# In each minute: wrong tokens of an address, lines on standard error about an address that is refused, sign-ins of a desk at an address.
+MINUTE = 60.0
+MOST_WRONG = 20
+MOST_TOLD = 20
+MOST_SIGN_INS = 20
+# Seconds between two looks at which sessions have ended, where nothing says that any did.
+LOOK = 1.0
 # What may be said once alone: of two, the next program on the way might read the other one.
 ONCE = "Host Origin Authorization Idempotency-Key Cdm-Role Cdm-After Content-Length Transfer-Encoding Content-Type".split()
+# What a balancer asks, by whatever name it knows the server.
+OPEN = ("/health", "/ready")
 STREAM = {"Content-Type": "text/event-stream", "Cache-Control": "no-store", "X-Accel-Buffering": "no"}
-SAFE = {"X-Content-Type-Options": "nosniff", "Cache-Control": "no-cache", "Cross-Origin-Resource-Policy": "same-origin"}
-SECONDS = prometheus.Histogram("cdm_reply_seconds", "Seconds of a reply")
-GAUGES = [prometheus.Gauge(f"cdm_{name}", text) for name, text in (
-    ("displays", "Displays"), ("accepted_updates", "Accepted updates"), ("position", "The last record with a reply"),
-    ("restarts", "Restarts of the sequencer"))]
+SAFE = {"X-Content-Type-Options": "nosniff", "Cache-Control": "no-cache", "Cross-Origin-Resource-Policy": "same-origin", "Server": "cdmboard"}
+PARTS = ("text/javascript", "text/css")
 Handler = Callable[[web.Request], Awaitable[web.StreamResponse]]
-
-
-def has(request: web.Request, tag: str) -> bool:
-    """Whether who asks has what bears this tag."""
-    return tag in [f'"{had.value}"' for had in request.if_none_match or ()]
-
-
-@functools.lru_cache(16)
-def packed(body: bytes) -> bytes:
-    """A body by gzip. What many ask for is made once, if it is small."""
-    return gzip.compress(body, 4, mtime=0)
-
-
-async def pack(request: web.Request, body: bytes, headers: dict[str, str]) -> web.Response:
-    """An answer, by gzip if that is wanted and worth while."""
-    if "gzip" in request.headers.get("Accept-Encoding", "") and len(body) > PACKED:
-        is_small, headers = len(body) <= MOST_FOUND, headers | {"Content-Encoding": "gzip"}
-        body = await (asyncio.to_thread(packed, body) if is_small else asyncio.to_thread(packed.__wrapped__, body))
-    return web.Response(body=body, headers=headers)
 
 
 @dataclass
@@ -82,13 +65,29 @@ class Board:
     names: set[str]
     scheme: str
     behind_proxy: bool
-    is_closing: bool = False
-    paces: defaultdict[str, Pace] = field(default_factory=lambda: defaultdict(Pace))
-    unsent: Counter[str] = field(default_factory=Counter)
+    files: Files = field(default_factory=Files)
+    unsent: Unsent = field(default_factory=Unsent)
+    requests: set["asyncio.Task[object]"] = field(default_factory=set)
+    wrong: Windows = field(default_factory=lambda: Windows(MINUTE))
+    refused: Windows = field(default_factory=lambda: Windows(MINUTE))
+    sign_ins: Windows = field(default_factory=lambda: Windows(MINUTE))
+    # Desks that signed out while the log was away.
+    owed: set[str] = field(default_factory=set)
 
-    def waiting(self) -> int:
-        """How many records wait for their replies."""
-        return sum(pace.waiting for pace in self.paces.values())
+    def __post_init__(self) -> None:
+        self.records = Records(self.log, self.day, self.sequencer)
+        self.questions = Questions(self.log, self.day, self.answers, self.unsent, self.asker)
+        self.health = Health(self.log, self.day, self.sequencer, self.answers, self.events, self.records, self.unsent)
+
+    @functools.cached_property
+    def sessions(self) -> Sessions:
+        """The cookies of this board."""
+        return Sessions(self.log.id, self.log.secret)
+
+    @functools.cached_property
+    def audit(self) -> Audit:
+        """What is kept of who did what."""
+        return Audit(self.log)
 
     def address(self, request: web.Request) -> str:
         """The address of who asks; a proxy on this machine says it."""
@@ -104,13 +103,17 @@ class Board:
 
     def desk_of(self, request: web.Request) -> Desk:
         """The desk that asks; who may read without a token is a display without a name. Raises Problem."""
-        role, said, cookie = request.headers.get("Cdm-Role"), request.headers.get("Authorization"), f"cdm-{self.log.id}"
+        role, said, cookie = request.headers.get("Cdm-Role"), request.headers.get("Authorization"), request.cookies.get(self.cookie_name())
         if self.desks.is_open:
             desk = READER if role is None else self.desks.by_name.get(role)
         elif said is not None:
             desk = self.desks.by_token(said[7:]) if said[:7].lower() == "bearer " else None
-        elif cookie in request.cookies:
-            desk = self.desks.by_cookie(request.cookies[cookie], self.log.id)
+            if desk is None:
+                self.count_wrong(request)
+        elif cookie is not None:
+            session = self.sessions.of(cookie, self.desks)
+            desk = session.desk if session else None
+            request["ends"] = session.ends if session else 0.0
         else:
             desk = READER if self.desks.anyone_reads else None
         if desk is None:
@@ -118,9 +121,58 @@ class Board:
             raise Problem(401, "a token of a desk is needed", WWW_Authenticate="Bearer")
         return desk
 
-    def check_displays(self) -> None:
-        """Ends each display that wouldn't be let in any more as the desk that it was."""
-        for stream in self.events.streams:
+    def cookie_name(self) -> str:
+        """The name of the board's cookie; over TLS a browser takes it from this very host alone."""
+        return f"{'__Host-' if self.scheme == 'https' else ''}cdm-{self.log.id}"
+
+    def count_wrong(self, request: web.Request) -> None:
+        """Counts a wrong token of an address. Raises Problem if that are too many; a right token is never refused for it."""
+        now = time.monotonic()
+        window = self.wrong.add(group_of(self.address(request)), now)
+        refuse(window.count > MOST_WRONG, 429, "too many wrong tokens from this address", Retry_After=str(1 + int(window.ends - now)))
+
+    def check_sign_ins(self, desk: Desk, address: str) -> None:
+        """Raises Problem if a desk signs in too often at an address, or out (at no address)."""
+        now = time.monotonic()
+        window = self.sign_ins.add(f"{desk.name} {group_of(address)}", now)
+        refuse(window.count > MOST_SIGN_INS, 429, "this desk signs in and out too often", Retry_After=str(1 + int(window.ends - now)))
+
+    async def watch(self) -> None:
+        """Ends the streams of sessions that ended, at whatever server, and tells how many were refused. Returns never."""
+        while True:
+            with contextlib.suppress(Away):
+                await self.end_sessions()
+            with contextlib.suppress(Away, Fault):
+                for desk in list(self.owed):
+                    await self.log.sign_out(desk)
+                    self.owed.discard(desk)
+            now = time.monotonic()
+            self.tell_refused(self.refused.ended(now), self.wrong.ended(now))
+            with contextlib.suppress(TimeoutError):
+                async with asyncio.timeout(LOOK):
+                    await self.log.signed_out.wait()
+            self.log.signed_out.clear()
+
+    async def end_sessions(self) -> None:
+        """Takes over which sessions have ended by the log. Raises Away, Fault."""
+        if desks := self.sessions.end(await self.log.sessions()):
+            self.check_displays(desks)
+
+    def tell_refused(self, refused: dict[str, int], wrong: dict[str, int]) -> None:
+        """One line for all that was refused in a minute beyond what was told, and one event for all wrong tokens."""
+        for address, count in refused.items():
+            if count > MOST_TOLD:
+                tell(f"{now_text()} {ascii(address)[1:-1]} {count - MOST_TOLD} more were refused within a minute")
+        if wrong:
+            most = max(wrong, key=lambda address: wrong[address])
+            detail = f"{sum(wrong.values())} wrong tokens within a minute, {wrong[most]} of them from here; addresses: {len(wrong)}"
+            self.audit.note("wrong-token", None, most, detail)
+            if wrong[most] > MOST_WRONG:
+                tell(f"{now_text()} {ascii(most)[1:-1]} {detail}")
+
+    def check_displays(self, desks: set[str] | None = None) -> None:
+        """Ends each display, or each of some desks, that wouldn't be let in any more as the desk that it was."""
+        for stream in self.events.streams if desks is None else [one for one in self.events.streams if one.desk.name in desks]:
             with contextlib.suppress(Problem):
                 desk = self.desk_of(stream.request)
                 if (desk.name, desk.role) == (stream.desk.name, stream.desk.role):
@@ -136,57 +188,61 @@ class Board:
         refuse(is_double, 400, "the request can be read in two ways")
         host, after = headers.get("Host", ""), headers.get("Cdm-After", "0")
         is_ours = re.sub(r":[0-9]*$", "", host).strip("[]").lower() in self.names
-        refuse(request.path != "/health" and not is_ours, 421, "this server has another name (--name HOST adds one)")
+        refuse(request.path not in OPEN and not is_ours, 421, "this server has another name (--name HOST adds one)")
         origin = f"{self.scheme}://{host}"
         refuse(headers.get("Origin", origin) != origin, 403, "a page of another site speaks")
         if request.path.startswith("/v1/") and request.path != "/v1/session" or request.path == "/metrics":
             request["desk"] = self.desk_of(request)
-        self.check_unsent(request, 1)
+            if request["desk"].name and not self.desks.is_open and isinstance(request.protocol, Guard):
+                request.protocol.show()
+        self.unsent.check_own(self.asker(request))
         refuse(not POSITION.fullmatch(after), 400, "Cdm-After is a position")
         if request.method == "GET":
             with contextlib.suppress(TimeoutError, Problem):
-                async with asyncio.timeout(AFTER):
+                async with asyncio.timeout(AFTER_LIMIT):
                     await self.day.reached(int(after))
             refuse(int(after) > len(self.day.records), 503, "this position isn't here yet", Retry_After="1")
-        tags = self.tags(len(self.day.records))
-        if request.method in ("GET", "HEAD") and len(self.day.records) > self.day.doubtful and has(request, tags["ETag"]):
-            return web.Response(status=304, headers=tags)
         return await handler(request)
-
-    def check_unsent(self, request: web.Request, more: int) -> None:
-        """Raises Problem if too much of what whoever asks was sent isn't read yet."""
-        unsent = self.unsent[self.asker(request)]
-        refuse(unsent and unsent + more > MOST_UNSENT, 429, "read the answers that wait first", Retry_After="5")
 
     @web.middleware
     async def answered(self, request: web.Request, handler: Handler) -> web.StreamResponse:
         """Says what was raised, and sends the answer, if it is taken in time."""
+        task = asyncio.current_task()
+        assert task is not None
+        # Neither the loop nor the library keeps the task of a request whose client is gone, and one that isn't kept may never end.
+        self.requests.add(task)
+        task.add_done_callback(self.requests.discard)
         try:
             response = await handler(request)
         except ConnectionError:
             raise
         except Exception as fault:
             response = self.told(request, fault)
-        if response.prepared:
-            return response
+        if not response.prepared:
+            await self.send(request, response)
+        return response
+
+    async def send(self, request: web.Request, response: web.StreamResponse) -> None:
+        """Sends an answer. Who doesn't take it in time is cut off."""
         if response.status in (400, 408, 413):
             response.force_close()
-        own = "'none'; style-src 'unsafe-inline'" if response.content_type == TYPES["svg"] else "'self'"
-        response.headers.update(SAFE | {"Content-Security-Policy": f"default-src {own}; frame-ancestors 'self'"})
-        asker, size = self.asker(request), response.content_length or 0
-        self.unsent[asker] += size
-        try:
-            async with asyncio.timeout(ANSWER):
-                await response.prepare(request)
-                await response.write_eof()
-        except (TimeoutError, ConnectionError):
-            if request.transport is not None:
-                request.transport.abort()
-        finally:
-            self.unsent[asker] -= size
-            if not self.unsent[asker]:
-                del self.unsent[asker]
-        return response
+        kind = response.headers.get("Content-Type", "")
+        own = "'none'; style-src 'unsafe-inline'" if kind == TYPES["svg"] else "'self'"
+        kept = {"Cache-Control": response.headers.get("Cache-Control", SAFE["Cache-Control"])}
+        response.headers.update(SAFE | kept)
+        # The page's scripts and styles are no documents, which a policy is for.
+        if not kind.startswith(PARTS):
+            response.headers["Content-Security-Policy"] = f"default-src {own}; frame-ancestors 'self'"
+        with self.unsent.of(self.asker(request), response.content_length or 0):
+            try:
+                async with asyncio.timeout(SEND_LIMIT):
+                    await response.prepare(request)
+                    await response.write_eof()
+            except (TimeoutError, ConnectionError) as gone:
+                # The connection keeps what was raised, whose traceback would keep the answer.
+                gone.with_traceback(None)
+                if request.transport is not None:
+                    request.transport.abort()
 
     def told(self, request: web.Request, fault: Exception) -> web.Response:
         """What was raised, as an answer (RFC 9457)."""
@@ -199,43 +255,55 @@ class Board:
             problem = Problem(400, "the request is malformed")
         else:
             tell(f"cdmboard: {type(fault).__name__}: {fault}")
-        if problem.status in (401, 403):
+        # Of who has too many wrong tokens the end of the minute tells.
+        if problem.status in (401, 403) and self.refused.add(group_of(self.address(request)), time.monotonic()).count <= MOST_TOLD:
             desk, address = request.get("desk", READER).name or "-", ascii(self.address(request))[1:-1]
-            tell(f"{now_text()} {address} {desk} {request.path[:100]!a} {problem.status}")
+            tell(f"{now_text()} {address} {desk} {request.path[:100]!a} {problem.status}", address=address,
+                 desk=request.get("desk", READER).name or None, path=request.path[:100], status=problem.status)
         told = {"type": "about:blank", "title": HTTPStatus(problem.status).phrase, "status": problem.status, "detail": str(problem)}
         told |= {"line": problem.line} if problem.line else {}
         return web.Response(status=problem.status, body=json.dumps(told).encode(), headers=problem.headers,
                             content_type="application/problem+json")
 
-    async def body(self, request: web.Request) -> bytes:
-        """A body, if it comes in time, as it stands."""
-        is_coded = "Content-Encoding" in request.headers or "Upgrade" in request.headers
-        refuse(is_coded, 400, "a body is sent as it is, without Content-Encoding or Upgrade")
-        try:
-            async with asyncio.timeout(BODY):
-                return await request.read()
-        except TimeoutError:
-            raise Problem(408, "the body took too long") from None
-
     async def post_session(self, request: web.Request) -> web.Response:
         """A cookie for who has a token."""
         try:
-            said = json.loads(await self.body(request))
+            said = json.loads(await body_of(request))
             name, token = said["desk"], said["token"]
             desk = self.desks.by_token(token)
         except (ValueError, TypeError, AttributeError, LookupError, RecursionError):
             raise Problem(400, 'the body is {"desk":"..","token":".."}') from None
         if desk is None or desk.name != name:
+            self.count_wrong(request)
             raise Problem(401, "wrong desk or token", WWW_Authenticate="Bearer")
-        response = web.Response(status=204)
-        response.set_cookie(f"cdm-{self.log.id}", self.desks.cookie(desk, self.log.id, token), max_age=SESSION, httponly=True,
-                            samesite="Strict", secure=self.scheme == "https")
-        return response
+        self.check_sign_ins(desk, self.address(request))
+        if isinstance(request.protocol, Guard):
+            request.protocol.show()
+        self.audit.note("sign-in", desk.name, self.address(request))
+        return self.with_cookie(self.sessions.cookie(desk, token), SESSION, web.Response(status=204))
 
     async def delete_session(self, request: web.Request) -> web.Response:
-        """Forgets the cookie."""
-        response = web.Response(status=204)
-        response.del_cookie(f"cdm-{self.log.id}")
+        """Ends all sessions of the desk that asks and their streams, at every server, and forgets the cookie."""
+        desk, answer = READER, web.Response(status=204)
+        with contextlib.suppress(Problem):
+            desk = self.desk_of(request)
+        if desk.name and not self.desks.is_open:
+            self.audit.note("sign-out", desk.name, self.address(request))
+            try:
+                self.check_sign_ins(desk, "")
+                async with asyncio.timeout(SIGN_OUT_LIMIT):
+                    await self.log.sign_out(desk.name)
+                    await self.end_sessions()
+            except (Fault, Away, Problem, TimeoutError):
+                self.owed.add(desk.name)
+                self.sessions.end({desk.name: self.sessions.not_before.get(desk.name, 0) + 1})
+                self.check_displays({desk.name})
+                answer = self.told(request, Problem(503, "signed out here; the other servers are told as soon as the log takes it"))
+        return self.with_cookie("", 0, answer)
+
+    def with_cookie(self, cookie: str, seconds: int, response: web.Response) -> web.Response:
+        """An answer that sets the cookie."""
+        response.set_cookie(self.cookie_name(), cookie, max_age=seconds, httponly=True, samesite="Strict", secure=self.scheme == "https")
         return response
 
     async def who(self, request: web.Request) -> web.Response:
@@ -247,98 +315,14 @@ class Board:
             "left": max(0, desk.records - self.day.count_of(desk.name)) if kinds else 0, "log": self.log.id,
             "roles": sorted(self.desks.by_name) if self.desks.is_open else []})
 
-    async def take(self, desk: Desk, lines: list[str], key: str | None) -> bytes:
-        """Records into the log, and their replies out of the sequencer. Raises Problem."""
-        refuse(self.is_closing, 503, "the server is ending; nothing was taken", Retry_After="5")
-        accepted, waiting = len(self.day.lines), self.waiting()
-        is_full = accepted >= TOWERS or len(self.day.records) >= MOST_RECORDS - RESERVED
-        is_rush = desk.role != "ATC" and not is_full and waiting and accepted + waiting >= TOWERS
-        refuse(is_rush, 429, "the last updates are taken one desk after the other", Retry_After="1")
-        batch = Batch(desk.name, [(desk.role, line) for line in lines], key, desk.records)
-        if is_full and desk.role != "ATC":
-            batch.closed = f"from {TOWERS} accepted updates, or {MOST_RECORDS - RESERVED} records, on ATC alone sends"
-        with self.paces[desk.name].of(len(lines)), SECONDS.time():
-            try:
-                async with asyncio.timeout(REPLY):
-                    positions = await self.log.append(batch)
-                    await self.day.reached(positions[-1])
-            except TimeoutError:
-                raise Problem(504, "no reply yet; send again with the same key") from None
-        records = self.day.records[positions[0] - 1:positions[-1]]
-        # A fail-over that lost them may have given their positions to others.
-        refuse([(record.desk, record.line) for record in records] != [(desk.name, line) for line in lines], 504, NOT_KNOWN)
-        return self.day.texts(records)
-
     async def post_records(self, request: web.Request) -> web.Response:
         """The lines of the body are records of this desk."""
-        lines, key = lines_of(await self.body(request)), request.headers.get("Idempotency-Key")
+        lines, key = lines_of(await body_of(request)), request.headers.get("Idempotency-Key")
         # Who lost the right while the body came speaks no more.
         desk = self.desk_of(request)
         refuse(key is not None and not KEY.fullmatch(key), 400, "Idempotency-Key has 1 to 64 printable bytes")
         desk.check(lines, self.day.kinds)
-        return web.Response(body=await self.take(desk, lines, key), content_type=TYPES["json"])
-
-    async def get_records(self, request: web.Request) -> web.Response:
-        """The log, with the replies."""
-        since, desk = request.query.get("since", "0"), request.query.get("desk")
-        refuse(not POSITION.fullmatch(since), 400, "since is a position")
-        async with self.answers.turn(("log", self.asker(request))):
-            now, found = len(self.day.records), self.day.found(int(since), request.query.get("flight"), desk)
-            return await self.of_moment(request, now, "json", self.day.texts(found, MOST_FOUND))
-
-    async def sentence(self, request: web.Request) -> web.Response:
-        """Why a record is refused, in words: what `check` says of it behind the records accepted before."""
-        position, now = int(request.match_info["position"]), len(self.day.records)
-        record = self.day.records[position - 1] if 0 < position <= now else None
-        if record is None or record.word is None:
-            raise Problem(404, "no refused record stands there")
-        question = Question("check", ("--format", "json"), None, record.accepted, f"{record.role},{record.line}\n")
-        _, ran = await self.answers.ask(self.asker(request), question)
-        found = [json.loads(line) for line in ran.output.splitlines() if ran.status in (0, 4)]
-        sentence = next((one["sentence"] for one in found if one.get("record") == record.accepted + 1), None)
-        refuse(sentence is None, 504 if ran.status == 504 else 503, ran.told or "the program says nothing of it")
-        return await self.of_moment(request, now, "", f"{record.word}: {sentence}\n".encode())
-
-    def tags(self, position: int) -> dict[str, str]:
-        """The headers that say of which moment an answer is."""
-        stale = {"Cdm-Stale-Since": self.log.stale_since} if self.log.stale_since else {}
-        return {"Cdm-Position": str(position), "ETag": f'"{self.log.id}-{position}"', "Vary": "Accept, Accept-Encoding", **stale}
-
-    async def of_moment(self, request: web.Request, position: int, form: str, body: bytes) -> web.Response:
-        """An answer about the day at one moment."""
-        response = await pack(request, body, self.tags(position) | {"Content-Type": TYPES[form]})
-        self.check_unsent(request, response.content_length or 0)
-        return response
-
-    async def question(self, request: web.Request) -> web.StreamResponse:
-        """A command of the program over the day as it stands, or over a scenario."""
-        found, is_post = request.match_info, request.method == "POST"
-        command, form = found["command"].replace("what-if", "plan"), found.get("form", "")[1:]
-        words = [found["name"]] if "name" in found else []
-        if is_post:
-            forms = ("csv", "json") if command in ("plan", "compare") else ("json",)
-            form = form or next((form for form in forms if form in request.headers.get("Accept", "")), "")
-            words = ["scenarios.csv", *words] if command == "compare" else [*words, "--scenarios", "scenarios.csv"]
-        for name, option in OPTIONS.items():
-            said = request.query.get(name, "0")
-            refuse(not ARGUMENT.fullmatch(said), 400, f"{name} isn't well-formed")
-            words += [*option, said] if name in request.query else []
-        words += ["--format", form] if form in ("csv", "json") else []
-        scenarios = await self.body(request) if is_post else None
-        now, ran = await self.answers.ask(self.asker(request), Question(command, tuple(words), scenarios))
-        status = 404 if ran.told.startswith(UNKNOWN) else {2: 400, 3: 422, 504: 504}.get(ran.status, 503)
-        refuse(ran.status != 0, status, ran.told or "the program ended")
-        return await self.of_moment(request, now, form, ran.output)
-
-    async def file(self, request: web.Request) -> web.Response:
-        """The table of kinds, or the airport file."""
-        text, form = (self.day.kinds.text, "json") if request.path == "/v1/kinds" else (self.log.airport, "csv")
-        return web.Response(body=text, content_type=TYPES[form])
-
-    async def journal(self, request: web.Request) -> web.Response:
-        """The accepted records as a feed."""
-        async with self.answers.turn(("log", self.asker(request))):
-            return await self.of_moment(request, len(self.day.records), "csv", self.day.feed().encode())
+        return web.Response(body=await self.records.take(desk, lines, key, self.address(request)), content_type=TYPES["json"])
 
     async def get_events(self, request: web.Request) -> web.StreamResponse:
         """Server-sent events."""
@@ -349,13 +333,15 @@ class Board:
         if transport is None:
             raise ConnectionResetError("the display is gone")
         transport.get_extra_info("socket").setsockopt(socket.SOL_SOCKET, socket.SO_SNDBUF, 1 << 18)
-        response = web.StreamResponse(headers=STREAM)
+        is_packed = "gzip" in request.headers.get("Accept-Encoding", "")
+        response = web.StreamResponse(headers=STREAM | ({"Content-Encoding": "gzip"} if is_packed else {}))
         await response.prepare(request)
-        stream = Stream(request, request["desk"], transport, guard.lost)
+        stream = Stream(request, request["desk"], transport, guard.lost, is_packed)
         # A browser that comes back sends both, of which the header is the newer one.
         self.events.open(stream, request.headers.get("Last-Event-ID") or request.query.get("since") or "")
-        # Not longer than a cookie; a display comes back by itself.
-        too_long = asyncio.get_running_loop().call_later(SESSION, transport.abort)
+        # Not longer than its cookie, nor than any; a display comes back by itself.
+        seconds = min(SESSION, request.get("ends", float("inf")) - time.time())
+        too_long = asyncio.get_running_loop().call_later(seconds, transport.abort)
         try:
             await stream.ended.wait()
         finally:
@@ -363,40 +349,28 @@ class Board:
             self.events.streams.discard(stream)
         return response
 
-    async def health(self, request: web.Request) -> web.Response:
-        """Whether records get replies."""
-        is_ready = self.sequencer.is_ready.is_set() and not self.is_closing
-        told: dict[str, object] = {"ready": is_ready, "accepted": len(self.day.lines), "position": len(self.day.records)}
-        told |= {"stale_since": self.log.stale_since} if self.log.stale_since else {}
-        return web.json_response(told, status=200 if is_ready else 503)
-
-    async def metrics(self, request: web.Request) -> web.Response:
-        """What to watch, for Prometheus."""
-        now = len(self.events.streams), len(self.day.lines), len(self.day.records), self.sequencer.starts - 1
-        for gauge, value in zip(GAUGES, now):
-            gauge.set(value)
-        return web.Response(body=prometheus.generate_latest(), headers={"Content-Type": prometheus.CONTENT_TYPE_LATEST})
-
     async def page(self, request: web.Request) -> web.StreamResponse:
         """A file of the page, compressed if that is taken."""
-        path = PAGE / request.match_info.get("file", "index.html")
-        refuse(path.suffix not in FILES or not path.is_file(), 404, "there is no such file")
-        body = path.read_bytes()
-        headers = {"ETag": f'"{zlib.crc32(body):08x}-{len(body)}"', "Vary": "Accept-Encoding",
-                   "Content-Type": f"{FILES[path.suffix]}; charset=utf-8"}
-        return web.Response(status=304, headers=headers) if has(request, headers["ETag"]) else await pack(request, body, headers)
+        named = request.match_info
+        file = self.files.get(named["digest"], named["file"]) if "file" in named else self.files.index()
+        is_packed = "gzip" in request.headers.get("Accept-Encoding", "")
+        headers = file.headers | ({"ETag": tagged(file.tag, is_packed)} if file.tag else {})
+        if file.tag and has(request, file.tag):
+            return web.Response(status=304, headers=headers)
+        response = web.Response(body=file.packed if is_packed else file.body, headers=headers)
+        if is_packed:
+            response.headers["Content-Encoding"] = "gzip"
+        self.unsent.check(self.asker(request), response.content_length or 0)
+        return response
 
     def application(self) -> web.Application:
         """All paths."""
         application = web.Application(middlewares=[self.answered, self.checked], client_max_size=MOST_BODY + 1)
         application.add_routes([
-            web.post("/v1/records", self.post_records), web.get("/v1/records", self.get_records),
-            web.get(r"/v1/records/{position:[0-9]{1,9}}/sentence", self.sentence),
+            web.post("/v1/records", self.post_records), *self.questions.routes(),
             web.post("/v1/session", self.post_session), web.delete("/v1/session", self.delete_session),
             web.get("/v1/who", self.who), web.get("/v1/events", self.get_events, allow_head=False),
-            web.get("/v1/kinds", self.file), web.get("/v1/airport.csv", self.file), web.get("/v1/journal.csv", self.journal),
-            *(web.get(f"/v1/{path}", self.question) for path in PATHS),
-            *(web.post(f"/v1/{path}", self.question) for path in (*PATHS, *BY_POST)),
-            web.get("/health", self.health), web.get("/metrics", self.metrics),
-            web.get("/", self.page), web.get(r"/{file:[A-Za-z0-9_-]+(\.[A-Za-z0-9_-]+)*}", self.page)])
+            web.get("/health", self.health.health), web.get("/ready", self.health.ready), web.get("/metrics", self.health.metrics),
+            web.get("/", self.page), web.get(r"/page-{digest:[0-9a-f]+}/{file:[A-Za-z0-9_-]+(\.[A-Za-z0-9_-]+)*}", self.page)])
+        application.on_cleanup.append(lambda _: self.answers.close())
         return application

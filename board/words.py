@@ -1,7 +1,7 @@
 """Words that come from outside, which of them are well-formed, and what is said of those that aren't."""
 import json
+import logging
 import re
-import sys
 from datetime import datetime, timedelta, timezone
 
 ROLES = ("AO", "GH", "AP", "ATC", "NM")
@@ -34,9 +34,9 @@ def refuse(is_so: object, status: int, why: str, line: int | None = None, **head
         raise Problem(status, why, line, **headers)
 
 
-def tell(text: object) -> None:
-    """A line on standard error."""
-    print(text, file=sys.stderr)
+def tell(text: object, **fields: object) -> None:
+    """A line on standard error. fields: what else it has, where lines are objects of JSON."""
+    logging.getLogger("cdmboard").warning("%s", text, extra={"fields": fields})
 
 
 def lines_of(body: bytes, most: int = MOST_LINES, most_bytes: int = MOST_BYTES) -> list[str]:

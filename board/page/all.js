@@ -1,22 +1,21 @@
 // All flights, in a table for each status; one row a flight, made once.
-import { $, $$, cloned, known, named, say } from './dom.js';
-import { isLate } from './day.js';
+import { STATUSES, statusWord } from './columns.js';
+import { $, $$, el, say } from './dom.js';
 import { anchored, whenFree } from './hold.js';
 import { Sorted } from './sorted.js';
-import { hm } from './times.js';
+import { Table, write } from './tables.js';
 
 const SLICE = 100;
 const CHUNK = 200;
 const MANY = 300;
-const NAMES = { BLOCKED: 'blocked', PLANNED: 'planned', OFFBLOCK: 'off-block', AIRBORNE: 'airborne', CANCELLED: 'cancelled' };
 const breath = () => (globalThis.scheduler?.yield ? scheduler.yield() : new Promise((resolve) => setTimeout(resolve)));
 
 export class All {
   constructor(day, moves, filter) {
     Object.assign(this, { day, moves, filter, items: new Map() });
-    this.template = $('#t-all');
-    this.groups = new Map($$('#all details').map((group) => [group.dataset.status, {
-      group, list: new Sorted($('tbody', group), CHUNK), count: $('summary b', group) }]));
+    this.isKnown = false; // until the first plan has come
+    this.groups = new Map(Object.entries(STATUSES).map(([status, { word }]) => [status, groupOf(status, word)]));
+    $('#all').append(...[...this.groups.values()].map(({ group }) => group));
   }
 
   /** Takes flights in, in slices that leave time for others; `also` takes each of them too. */
@@ -36,14 +35,12 @@ export class All {
     const gone = names.filter((name) => !this.day.rows.has(name));
     also(gone);
     this.changed(gone);
+    this.isKnown = true;
     this.counts();
   }
 
   make(name) {
-    const { row, cells } = cloned(this.template);
-    const item = { name, row, cells, key: '', list: null, link: $('a', cells[1]), late: $('.late', cells[9]), delay: $('span', cells[9]) };
-    named(item.link, name);
-    row.dataset.flight = name;
+    const item = this.groups.get('PLANNED').table.make(name);
     this.items.set(name, item);
     return item;
   }
@@ -76,17 +73,11 @@ export class All {
   }
 
   write(item, row) {
-    const { date } = this.day;
-    const { cells } = item;
     const mark = this.moves.mark(item.name);
-    const status = row.status === 'BLOCKED' ? `blocked ${row.rule}` : NAMES[row.status];
-    [hm(row.tsat, date), null, mark ? (row.rule ? `${row.rule} ${mark.slice(2)}` : mark) : status, row.runway, row.stand, hm(row.tobt, date), row.exot,
-      hm(row.ctot, date), hm(row.ttot, date)].forEach((value, at) => at !== 1 && say(cells[at], known(value)));
-    const columns = this.moves.columns(item.name);
-    COLUMNS.forEach((column, at) => cells[at + 3].classList.toggle('mv', columns.includes(column)));
+    const status = row.status === 'BLOCKED' ? `${statusWord(row.status)} ${row.rule}` : statusWord(row.status);
+    write(item, row, this.day.date, this.moves.columns(item.name));
+    say(item.texts.status, mark ? (row.rule ? `${row.rule} ${mark.slice(2)}` : mark) : status);
     item.row.classList.toggle('moved', mark !== null);
-    item.late.hidden = !isLate(row);
-    say(item.delay, known(row.delay));
     item.row.hidden = !this.filter.takes(row);
   }
 
@@ -100,6 +91,7 @@ export class All {
   }
 
   counts() {
+    if (!this.isKnown) return;
     let [shown, all] = [0, 0];
     for (const [status, { group, list, count }] of this.groups) {
       const here = list.items.filter((item) => !item.row.hidden).length;
@@ -116,6 +108,14 @@ export class All {
   }
 }
 
-/** The columns of the fourth to the tenth cell. */
-const COLUMNS = ['runway', 'stand', 'tobt', 'exot', 'ctot', 'ttot', 'delay'];
+/** The group of a status: its table, its rows in order, and where their number is said; hidden until there are any. */
+function groupOf(status, word) {
+  const title = `${word[0].toUpperCase()}${word.slice(1)}`;
+  const table = new Table('all', `All flights, ${word}`);
+  const count = el('b');
+  const group = el('details', { open: true, 'data-status': status, hidden: true }, el('summary', {}, `${title} `, count),
+    el('div', { class: 'chunk' }, table.root));
+  return { group, table, count, list: new Sorted(table.body, CHUNK) };
+}
+
 const keyOf = (row) => `${row.tsat ?? '~'} ${row.flight}`;

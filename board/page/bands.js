@@ -5,7 +5,7 @@ import { hm, later, minutesFrom, nextDay } from './times.js';
 const MOST_CELLS = 15;
 const MOST_BLOCKS = 6;
 const HOURS = 2.5;
-const CELL = 3.625; // rem: the widest name fits
+const CELL = 4; // rem: the widest name fits
 
 export class Bands {
   constructor(day) {
@@ -27,9 +27,11 @@ export class Bands {
     const root = $('#runways');
     const withFlights = this.runways.length <= 4;
     for (const runway of this.runways) {
-      const cells = cellsOf(runway, this.day.date);
+      const now = runway.now ?? this.day.now; // a load without NOW of its own is drawn from the day's
+      if (!now) continue;
+      const cells = cellsOf(runway, now, this.day.date);
       const other = this.other && likeOf(this.other.find((one) => one.runway === runway.runway), cells);
-      const text = JSON.stringify([cells, runway.now, other, withFlights]);
+      const text = JSON.stringify([cells, now, other, withFlights]);
       const band = this.bands.get(runway.runway) ?? this.make(runway.runway);
       if (band.text === text) continue;
       band.text = text;
@@ -46,7 +48,7 @@ export class Bands {
 
   make(name) {
     const head = el('h3', { id: `rw-${name}` });
-    const table = el('table', { 'aria-labelledby': `rw-${name}` });
+    const table = el('table', { 'aria-label': `Runway ${name}, load of each cell` });
     const scroll = el('div', { class: 'scroll', tabindex: 0, role: 'region', 'aria-label': `Runway ${name}, hours from NOW` }, table);
     const band = { root: el('section', { class: 'band', 'aria-labelledby': `rw-${name}` }, head, scroll), head, table, text: '' };
     this.bands.set(name, band);
@@ -58,7 +60,7 @@ export class Bands {
     const { date } = this.day;
     band.head.replaceChildren(runway.runway, ' ', el('b', {}, stateOf(cells, runway, date)), ' ',
       el('small', {}, `cells of ${runway.cell} min`));
-    band.table.style.minWidth = `${3.25 + cells.length * CELL}rem`;
+    band.table.style.minWidth = `calc(${3.25 + cells.length * CELL}rem * var(--wide, 1))`;
     const heads = cells.map((cell) => el('th', { scope: 'col', class: cell.from.slice(14, 16) === '00' && 'hour' }, hm(cell.from, date)));
     const bodies = [el('tbody', {}, ...rowsOf('load', cells, runway, withFlights))];
     if (other) {
@@ -77,9 +79,9 @@ function cellOf({ cells }, from) {
 const likeOf = (runway, cells) => cells.map(({ from }) => (runway ? cellOf(runway, from) : { from, placed: null, cap: null, closed: 0, flights: [] }));
 
 /** The cells of the axis, from the one that has NOW on, up to the end of the two days. */
-function cellsOf(runway, date) {
-  const midnight = `${runway.now.slice(0, 10)}T00:00Z`;
-  const first = Math.floor(minutesFrom(midnight, runway.now) / runway.cell) * runway.cell;
+function cellsOf(runway, now, date) {
+  const midnight = `${now.slice(0, 10)}T00:00Z`;
+  const first = Math.floor(minutesFrom(midnight, now) / runway.cell) * runway.cell;
   const count = Math.max(1, Math.min(MOST_CELLS, HOURS * 60 / runway.cell));
   const end = nextDay(nextDay(date));
   return Array.from({ length: count }, (_, at) => later(midnight, first + at * runway.cell))
@@ -90,7 +92,11 @@ function cellsOf(runway, date) {
 function stateOf(cells, { cell: length }, date) {
   const isShut = (cell) => cell.closed >= length;
   const open = cells.find((cell) => !isShut(cell));
-  if (isShut(cells[0])) return open ? `closed, opens at ${open.closed ? 'or after ' : ''}${hm(open.from, date)}` : 'closed for these hours';
+  if (isShut(cells[0])) {
+    const again = open && cells.find((cell) => cell.from > open.from && cell.closed);
+    return !open ? 'closed for these hours' : `closed, opens at ${open.closed ? 'or after ' : ''}${hm(open.from, date)}`
+      + `${again ? `, closes again at ${again.closed < length ? 'or after ' : ''}${hm(again.from, date)}` : ''}`;
+  }
   if (cells[0].closed) return `closed ${cells[0].closed} of these ${length} min`;
   const next = cells.find((cell) => cell.closed);
   return next ? `open, closes at ${next.closed < length ? 'or after ' : ''}${hm(next.from, date)}` : 'open';
@@ -103,7 +109,7 @@ function rowsOf(title, cells, { cell: length }, withFlights, before = null) {
     const name = [at === 0 && 'at', cell.closed && 'shut', isOver && 'over', cell.cap !== null && cell.placed === cell.cap && 'full'];
     const shut = isShut && !cell.placed;
     return el('td', { class: name.filter(Boolean).join(' ') || null }, el('span', { class: 'st', 'aria-hidden': 'true' }, ...blocks(cell, shut)),
-      el('span', { class: 'num' }, shut ? 'shut' : cell.placed === null ? '–' : cell.cap === null ? '0' : `${cell.placed}/${cell.cap}${isOver ? '!' : ''}`),
+      el('span', { class: 'num' }, shut ? 'closed' : cell.placed === null ? '–' : cell.cap === null ? '0' : `${cell.placed}/${cell.cap}${isOver ? '!' : ''}`),
       cell.closed && !shut ? el('span', { class: 'vh' }, `, ${cell.closed} min closed`) : null);
   });
   const rows = [el('tr', {}, el('th', { scope: 'row' }, title), ...loads)];

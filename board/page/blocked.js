@@ -1,14 +1,17 @@
 // The flights without a start-up time, with their rule; the first CTOT first.
-import { $, cloned, known, named, say } from './dom.js';
+import { $, el, say } from './dom.js';
 import { whenFree } from './hold.js';
 import { Sorted } from './sorted.js';
-import { hm } from './times.js';
+import { Table, write } from './tables.js';
+
+const PARTS = { flight: () => [el('a'), el('small')], rule: () => [el('b', { class: 'rule text' })] };
 
 export class Blocked {
   constructor(day, moves, filter) {
     Object.assign(this, { day, moves, filter, items: new Map() });
-    this.template = $('#t-blocked');
-    this.list = new Sorted($('#blocked tbody'));
+    this.table = new Table('blocked', 'Blocked flights, first CTOT first', PARTS);
+    $('#blocked').append(this.table.root);
+    this.list = new Sorted(this.table.body);
   }
 
   changed(names) {
@@ -28,21 +31,16 @@ export class Blocked {
       this.list.remove(item);
       return;
     }
-    const { date } = this.day;
     const mark = this.moves.mark(name);
-    say(item.rule, row.rule);
+    write(item, row, this.day.date);
     say(item.since, this.moves.sinceText(name) || (mark ?? ''));
     item.row.classList.toggle('moved', mark !== null);
-    [row.runway, hm(row.tobt, date), hm(row.ctot, date)].forEach((value, at) => say(item.cells[at + 2], known(value)));
     this.list.set(item, `${row.ctot ?? '~'} ${name}`);
   }
 
   make(name) {
-    const { row, cells } = cloned(this.template);
-    const item = { name, row, cells, key: '', list: null, rule: $('b', cells[1]), since: $('small', cells[0]) };
-    const link = $('a', cells[0]);
-    named(link, name);
-    row.dataset.flight = name;
+    const item = this.table.make(name);
+    item.since = $('small', item.cells.flight);
     this.items.set(name, item);
     return item;
   }
@@ -53,6 +51,6 @@ export class Blocked {
 
   head() {
     say($('#blocked h2 b'), this.list.length);
-    $('#blocked').classList.toggle('none', this.list.length === 0);
+    $('#blocked').classList.toggle('some', this.list.length > 0);
   }
 }

@@ -1,5 +1,5 @@
 // What the delay is made of, by the program's `causes`; asked for only while it is shown.
-import { $, el } from './dom.js';
+import { $, el, say } from './dom.js';
 
 const COLUMNS = ['delay', 'ice', 'ctot', 'closure', 'spacing', 'rate', 'now'];
 
@@ -19,6 +19,7 @@ export class Causes {
   }
 
   take(list) {
+    say($('#causes thead th'), this.select.value === 'runway' ? 'Runway' : 'Operator');
     $('#causes tbody').replaceChildren(...list.map((one) => el('tr', { class: one.group === 'TOTAL' && 'diff' },
       el('th', { scope: 'row' }, one.group), ...COLUMNS.map((name) => el('td', { class: 'n' }, String(one[name]))))));
   }

@@ -4,8 +4,11 @@
 export const LATE = 15;
 export const isLate = (row) => row.delay != null && row.delay > LATE;
 
-/** The columns that make a Row another one. */
-const SAME = ['status', 'runway', 'stand', 'priority', 'group', 'tobt', 'exot', 'ctot', 'tsat', 'ttot', 'delay', 'rule'];
+/** Whether two Rows are the same: in all their members, also in those that no table shows. */
+export function isSame(one, other) {
+  const names = new Set([...Object.keys(one), ...Object.keys(other)]);
+  return [...names].every((name) => one[name] === other[name] || JSON.stringify(one[name]) === JSON.stringify(other[name]));
+}
 
 export class Day {
   constructor() {
@@ -22,7 +25,7 @@ export class Day {
     const changed = new Map();
     for (const [name, row] of rows) {
       const before = this.rows.get(name) ?? null;
-      if (!before || SAME.some((column) => before[column] !== row[column])) changed.set(name, [before, row]);
+      if (!before || !isSame(before, row)) changed.set(name, [before, row]);
     }
     for (const [name, before] of this.rows) if (!rows.has(name)) changed.set(name, [before, null]);
     Object.assign(this, { rows, date: plan.day, now: plan.now, position, moment });

@@ -1,54 +1,56 @@
 // Who speaks: the desk of a token, or, where the server asks for none, the role that is chosen.
 import { $, el, say } from './dom.js';
-import { Problem, ask, objects, said } from './net.js';
+import { said } from './net.js';
 
 const KEPT = 'cdm-role';
 
+/** The role that this tab had before it was loaded again, or ''. */
+function keptRole() {
+  try {
+    return /^[A-Z]{2,3}$/.exec(sessionStorage.getItem(KEPT) ?? '')?.[0] ?? '';
+  } catch {
+    return '';
+  }
+}
+
 export class Desk {
-  /** onChange(): somebody else speaks now. */
-  constructor(onChange) {
-    this.onChange = onChange;
-    this.who = null;
-    this.table = null;
+  /** @param {(event: object) => void} give takes signIn, signOut, role and tab */
+  constructor(give) {
+    Object.assign(this, { give, who: null, table: null });
+    said.role = keptRole();
     this.channel = new BroadcastChannel('cdm-desk');
-    this.channel.addEventListener('message', () => onChange(false));
+    this.channel.addEventListener('message', () => give({ type: 'tab' }));
     $('#p-sign-in form').addEventListener('submit', (event) => {
       event.preventDefault();
-      this.signIn();
+      const { desk, token } = event.target.elements;
+      give({ type: 'signIn', desk: desk.value.trim(), token: token.value.trim() });
     });
-    $('#b-sign-out').addEventListener('click', () => this.signOut());
-    $('#role').addEventListener('change', () => {
-      said.role = $('#role').value;
-      try {
-        sessionStorage.setItem(KEPT, said.role);
-      } catch { /* for this page alone */ }
-      onChange(false);
-    });
-    try {
-      said.role = /^[A-Z]{2,3}$/.exec(sessionStorage.getItem(KEPT) ?? '')?.[0] ?? '';
-    } catch { /* it only reads */ }
+    $('#b-sign-out').addEventListener('click', () => give({ type: 'signOut' }));
+    $('#role').addEventListener('change', () => this.choose($('#role').value));
   }
 
-  /** Asks who speaks. Raises Problem. */
-  async load(quiet = false) {
+  choose(role) {
     try {
-      this.who = (await objects('/v1/who', { quiet })).list[0];
-    } catch (problem) {
-      if (!said.role || problem.status !== 403) throw problem;
-      said.role = ''; // a server with desks knows no such role
-      this.who = (await objects('/v1/who', { quiet })).list[0];
-    }
-    if (!this.who.roles.length) said.role = '';
-    this.show();
+      sessionStorage.setItem(KEPT, role);
+    } catch { /* for this page alone */ }
+    said.role = role;
+    this.give({ type: 'role', role });
   }
 
-  show() {
-    const { who } = this;
+  /** Tells other tabs that somebody signed in or out. */
+  tell(word) {
+    this.channel.postMessage(word);
+  }
+
+  /** Who speaks now, as the server says; null: nobody. */
+  show(who, role) {
+    this.who = who;
+    said.role = role;
     const isOpen = Boolean(who?.roles.length);
     $('#role-label').hidden = !isOpen;
     if (isOpen) {
-      $('#role').replaceChildren(el('option', { value: '' }, 'read only'), ...who.roles.map((role) => el('option', { value: role }, role)));
-      $('#role').value = said.role;
+      $('#role').replaceChildren(el('option', { value: '' }, 'read only'), ...who.roles.map((name) => el('option', { value: name }, name)));
+      $('#role').value = role;
     }
     say($('#desk'), who?.desk && !isOpen ? who.desk : '');
     say($('#desk-left'), !who ? 'signed out' : who.role === 'READ' ? (isOpen ? '' : 'reads only') : `${isOpen ? '' : `${who.role}, `}${who.left.toLocaleString('en')} records left`);
@@ -57,14 +59,20 @@ export class Desk {
     $('#b-send').hidden = !who?.kinds.length || Boolean(who.flights);
   }
 
-  get words() {
-    return this.who?.desk === this.who?.role ? this.who?.role : `${this.who?.desk}, ${this.who?.role}`;
+  /** What the server says to a token. */
+  signedIn(isIn, detail) {
+    const fault = $('#sign-fault');
+    fault.hidden = isIn;
+    if (isIn) {
+      $('#p-sign-in form').elements.token.value = '';
+      return;
+    }
+    say(fault, `${detail}.`);
+    fault.focus();
   }
 
-  /** The table of kinds, asked for once. */
-  async kinds() {
-    this.table ??= (await objects('/v1/kinds')).list;
-    return this.table;
+  get words() {
+    return this.who?.desk === this.who?.role ? this.who?.role : `${this.who?.desk}, ${this.who?.role}`;
   }
 
   /** The kinds that it may send of a flight. */
@@ -77,35 +85,5 @@ export class Desk {
   get mayAll() {
     if (!this.who || !this.table) return null;
     return this.table.filter((kind) => this.who.kinds.includes(kind.kind) && (kind.kind !== 'CLOCK' || this.who.clock));
-  }
-
-  async signIn() {
-    const form = $('#p-sign-in form');
-    const fault = $('#sign-fault');
-    const body = JSON.stringify({ desk: form.elements.desk.value.trim(), token: form.elements.token.value.trim() });
-    try {
-      await ask('/v1/session', { method: 'POST', body, quiet: true });
-      form.elements.token.value = '';
-      fault.hidden = true;
-      this.channel.postMessage('in');
-      this.onChange(true);
-    } catch (problem) {
-      if (!(problem instanceof Problem)) throw problem;
-      fault.hidden = false;
-      say(fault, `${problem.message}.`);
-      fault.focus();
-    }
-  }
-
-  /** Forgets the cookie, if there is one that the server doesn't take any more. */
-  async forget() {
-    await ask('/v1/session', { method: 'DELETE', quiet: true }).catch(() => {});
-  }
-
-  async signOut() {
-    await this.forget();
-    this.who = null;
-    this.channel.postMessage('out');
-    this.onChange(false);
   }
 }

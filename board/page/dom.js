@@ -20,15 +20,6 @@ export function say(node, text) {
   if (node.textContent !== now) node.textContent = now;
 }
 
-/** What isn't known is a dash: never 0, never nothing. */
-export const known = (value) => (value == null || value === '' ? '–' : String(value));
-
-/** A row of a table from its template, with its cells. */
-export function cloned(template) {
-  const row = template.content.firstElementChild.cloneNode(true);
-  return { row, cells: [...row.children] };
-}
-
 /** Makes a link a flight's; a name of wide letters is a little smaller, so that it fits. */
 export function named(link, name) {
   say(link, name);

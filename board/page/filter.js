@@ -1,13 +1,15 @@
 // The filter, kept in the address, so that a link shows the same.
+import { STATUSES, statusOf } from './columns.js';
 import { $, el, say } from './dom.js';
 
 const FIELDS = ['flight', 'runway', 'status', 'op'];
-const STATUS = { blocked: 'BLOCKED', planned: 'PLANNED', 'off-block': 'OFFBLOCK', airborne: 'AIRBORNE', cancelled: 'CANCELLED' };
+const LONGEST = 64; // of a value in the address
 
 export class Filter {
   constructor(onChange) {
     this.form = $('#filter');
     this.onChange = onChange;
+    this.form.elements.status.append(...Object.values(STATUSES).map(({ word }) => el('option', {}, word)));
     this.read();
     this.form.addEventListener('submit', (event) => {
       event.preventDefault();
@@ -30,7 +32,7 @@ export class Filter {
     const query = new URLSearchParams(location.search);
     for (const field of FIELDS) {
       const input = this.form.elements[field];
-      const value = (query.get(field) ?? '').slice(0, 16);
+      const value = (query.get(field) ?? '').slice(0, LONGEST);
       if (value && input.tagName === 'SELECT' && ![...input.options].some((one) => one.value === value)) {
         input.append(el('option', { value }, value));
       }
@@ -61,19 +63,25 @@ export class Filter {
     return FIELDS.some((field) => this.values[field]);
   }
 
+  /** The operators that are asked for: `DLH,EWG` means either. */
+  get operators() {
+    return this.values.op.split(/[\s,]+/).filter(Boolean);
+  }
+
   /** Whether a Row is shown. */
   takes(row) {
-    const { flight, runway, status, op } = this.values;
+    const { flight, runway, status } = this.values;
     return (!flight || row.flight.includes(flight)) && (!runway || row.runway === runway)
-      && (!status || row.status === STATUS[status]) && (!op || row.flight.startsWith(op));
+      && (!status || row.status === statusOf(status)) && (!this.operators.length || this.operators.some((op) => row.flight.startsWith(op)));
   }
 
   /** Says what is shown, at the top of the tables. */
   head(shown, all) {
-    const { flight, runway, status, op } = this.values;
-    const words = [flight && `flight ${flight}`, runway && `runway ${runway}`, status, op && `operator ${op}`].filter(Boolean);
+    const { flight, runway, status } = this.values;
+    const words = [flight && `flight ${flight}`, runway && `runway ${runway}`, status, this.operators.length && `operator ${this.operators.join(' or ')}`]
+      .filter(Boolean);
     $('#filtered').hidden = !this.isOn;
-    say($('#filtered span'), `Filter: ${words.join(', ')}. ${shown} of ${all} flights; warnings and runways show all.`);
+    say($('#filtered span'), `Filter: ${words.join(', ')}. ${shown} of ${all} flights; totals, warnings and runways show all.`);
   }
 
   /** The runways and operators that there are. */

@@ -1,22 +1,31 @@
 // One flight: what it is, why it waits, what to send, and its records.
-import { $, $$, el, known, say } from './dom.js';
-import { isLate } from './day.js';
+import { inWords, statusWord, takesKind } from './columns.js';
+import { $, $$, el, say } from './dom.js';
 import { RecordForm } from './form.js';
 import { Problem, objects } from './net.js';
 import { showRecords } from './records.js';
+import { facts, write } from './tables.js';
 import { hm, later, minutesFrom } from './times.js';
+import { current, explained } from './warnings.js';
 
 const LETTERS = { ICE: 'I', NOW: 'N', CTOT: 'C', CLOSURE: 'X', SPACING: 'S', RATE: 'R' };
 const LATER = 10;
 const DRAWN = 180;
 const BEHIND = 30; // minutes that are drawn behind a window that has ended
 const LISTED = 12;
-const STATUS = { PLANNED: 'planned', BLOCKED: 'blocked', OFFBLOCK: 'off-block', AIRBORNE: 'airborne', CANCELLED: 'cancelled' };
+/** Why a flight that isn't planned any more doesn't wait, and what may still be sent of it. */
+const ENDED = {
+  OFFBLOCK: 'It left its stand, and keeps its times. Of its records AIR alone is still taken.',
+  AIRBORNE: 'It is airborne. No record of it is taken any more.',
+  CANCELLED: 'It is cancelled. No record of it is taken any more.',
+};
 
 export class FlightPanel {
-  constructor(day, desk, runways, onSent) {
-    Object.assign(this, { day, desk, runways, onSent, name: null, form: null, answered: '' });
+  constructor(day, desk, runways, onSend) {
+    Object.assign(this, { day, desk, runways, onSend, name: null, form: null, answered: '' });
     this.root = $('#p-flight');
+    this.facts = facts($('.facts', this.root));
+    current.addEventListener('told', () => this.warned());
   }
 
   open(name) {
@@ -49,24 +58,49 @@ export class FlightPanel {
       say($('h2 small', this.root), '');
       return;
     }
-    say($('h2 small', this.root), [STATUS[row.status], row.rule, row.runway ? `runway ${row.runway}` : 'no runway', row.stand ? `stand ${row.stand}` : 'no stand',
-      `priority ${row.priority}`, `group ${row.group}`].filter(Boolean).join(', '));
-    const facts = { tobt: hm(row.tobt, date), exot: row.exot, ctot: hm(row.ctot, date), tsat: hm(row.tsat, date), ttot: hm(row.ttot, date), delay: row.delay };
-    for (const [name, value] of Object.entries(facts)) say($(`#f-${name}`), known(value));
-    $('#f-late').hidden = !isLate(row);
+    say($('h2 small', this.root), [statusWord(row.status), row.rule, inWords('runway', row.runway, 'runway'), inWords('stand', row.stand),
+      inWords('priority', row.priority), inWords('group', row.group)].filter(Boolean).join(', '));
+    write(this.facts, row, date);
+    this.warned();
     if (this.answered && this.answered !== JSON.stringify([row.tobt, row.status])) this.makeForm();
+  }
+
+  /** What its warnings mean, what to do, and a button for each record that answers them and that the desk may send. */
+  warned() {
+    const list = this.name && this.row ? explained(this.name, this.day.date) : [];
+    const text = JSON.stringify([this.name, list, this.kinds().map((kind) => kind.kind)]);
+    if (text === this.told) return;
+    this.told = text;
+    $('#f-warnings').hidden = !list.length;
+    $('#f-warnings').replaceChildren(...list.map(({ kind, means, act, answers }) => el('li', {}, el('b', {}, kind), ` ${means} ${act} `,
+      ...this.kinds().filter((one) => answers.includes(one.kind)).map(({ kind: record }) => {
+        const button = el('button', { type: 'button', class: 'quiet' }, `Put ${record} into the form`);
+        button.addEventListener('click', () => this.form?.propose(record));
+        return button;
+      }))));
+  }
+
+  /** The kinds of records that are taken of this flight, and that the desk may send. */
+  kinds() {
+    const { row } = this;
+    return row ? this.desk.kindsOf(this.name).filter((kind) => takesKind(row.status, kind.kind)) : [];
   }
 
   /** The records that the desk may make of this flight, and what comes of being late. */
   makeForm() {
     const { row } = this;
-    const kinds = row ? this.desk.kindsOf(this.name) : [];
+    const kinds = this.kinds();
     $('#f-send').hidden = !kinds.length;
-    if (!kinds.length) return;
+    this.warned();
+    if (!kinds.length) {
+      this.form = null;
+      $('#f-form').replaceChildren();
+      return;
+    }
     this.answered = JSON.stringify([row.tobt, row.status]);
     say($('#f-send small'), `as ${this.desk.words}`);
     if (!this.form?.isUsed) {
-      this.form = new RecordForm(kinds, { flight: this.name, row, day: this.day, runways: this.runways, onSent: this.onSent,
+      this.form = new RecordForm(kinds, { flight: this.name, row, day: this.day, runways: this.runways, onSend: this.onSend,
         label: `One record for ${this.name}` });
       this.form.enable(!document.documentElement.classList.contains('is-lost'));
       $('#f-form').replaceChildren(this.form.root);
@@ -79,7 +113,7 @@ export class FlightPanel {
     const { name, row } = this;
     const root = $('#f-later');
     root.replaceChildren();
-    if (!row.tobt || !['PLANNED', 'BLOCKED'].includes(row.status) || !this.desk.kindsOf(name).some((kind) => kind.kind === 'TOBT')) return;
+    if (!row.tobt || !['PLANNED', 'BLOCKED'].includes(row.status) || !this.kinds().some((kind) => kind.kind === 'TOBT')) return;
     const time = later(row.tobt, LATER);
     try {
       const body = `SCENARIO,LATER\nTOBT,${name},${time}\n`;
@@ -103,10 +137,9 @@ export class FlightPanel {
     const { row, waits } = why;
     const { date } = this.day;
     const times = ({ from, to }) => (from === to ? hm(from, date) : `${hm(from, date)}–${hm(to, date)}`);
-    const [first, last] = [waits[0], waits.at(-1)];
-    say($('#why-note'), !waits.length ? { PLANNED: 'It doesn’t wait.', BLOCKED: `It is blocked by ${row.rule}: it lacks what that rule asks for.` }[row.status] ?? 'It has left, or was cancelled.'
-      : row.status === 'BLOCKED' ? `Blocked by ${row.rule}: no minute from ${hm(first.from, date)} to ${hm(last.to, date)} is free.`
-        : `${row.delay} min, take-off ${hm(first.from, date)} to ${hm(row.ttot, date)}`);
+    const [first] = waits;
+    say($('#why-note'), !waits.length ? { PLANNED: 'It doesn’t wait.', BLOCKED: `It is blocked by ${row.rule}: it lacks what that rule asks for.` }[row.status] ?? ENDED[row.status]
+      : row.status === 'BLOCKED' ? blockedWords(row, waits, date) : `${row.delay} min, take-off ${hm(first.from, date)} to ${hm(row.ttot, date)}`);
     const listed = this.isWhole ? waits : waits.slice(0, LISTED);
     $('#waits').replaceChildren(...listed.map((wait) => el('li', { tabindex: this.isWhole && -1 }, el('b', { class: `k${LETTERS[wait.reason]}`, 'aria-hidden': 'true' }, LETTERS[wait.reason]),
       el('span', {}, times(wait)), el('span', {}, el('b', {}, wait.reason), wait.cap === null ? '' : ` ${wait.flights.length}/${wait.cap}`,
@@ -162,6 +195,15 @@ export class FlightPanel {
     say($('#f-count'), `${list.length}, newest first`);
     showRecords($('#f-records'), list, this.name);
   }
+}
+
+/** Of a blocked flight: up to when no minute is free, which is the end of its CTOT window if it has one. */
+function blockedWords(row, waits, date) {
+  const [first, last] = [waits[0], waits.at(-1)];
+  const from = hm(first.from, date);
+  if (last.reason !== 'CTOT') return `Blocked by ${row.rule}: no minute from ${from} to ${hm(last.to, date)} is free.`;
+  if (waits.length === 1) return `Blocked by ${row.rule}: it can take off from ${from} on, and then its CTOT window has ended.`;
+  return `Blocked by ${row.rule}: no minute from ${from} to ${hm(later(last.from, -1), date)}, the end of its CTOT window, is free.`;
 }
 
 export function enableForms(isOn) {

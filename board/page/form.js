@@ -1,10 +1,13 @@
 // The records that a desk's role may make, as a form: kinds, fields, forms and ranges are those of the program's table.
+import { COLUMNS } from './columns.js';
 import { el, say } from './dom.js';
-import { Problem, newKey, objects } from './net.js';
+import { newKey } from './net.js';
 import { sentence } from './records.js';
 import { hm, typed } from './times.js';
 
 const TIME = 'YYYY-MM-DDTHH:MMZ';
+const NAMED = 8; // flights that changed, by name
+const NOT_KNOWN = 'It isn’t known whether the record was taken. Send it again: it is taken once.';
 let count = 0;
 
 /** The words that a form lists, as `NONE, STAND or REMOTE`; null where it is no such list. */
@@ -17,10 +20,17 @@ function current(name, kind, row, date) {
   return { priority: row.priority, runway: row.runway, stand: row.stand, group: row.group }[name] ?? '';
 }
 
+/** Which flights a record changed. */
+function changedText(reply) {
+  const names = (reply.changes ?? []).map((row) => row.flight);
+  const what = names.length === 1 ? 'This flight' : `${names.length} flights`;
+  return names.length ? `${what} changed: ${names.slice(0, NAMED).join(', ')}${names.length > NAMED ? ' …' : ''}.` : 'No flight changed.';
+}
+
 export class RecordForm {
-  /** kinds: rows of the table; flight: of which all records are, or null; day; runways(): their names; onSent(). */
-  constructor(kinds, { flight, row, day, runways, onSent, label }) {
-    Object.assign(this, { kinds, flight, row, day, runways, onSent, key: null, keyOf: '', isSending: false });
+  /** kinds: rows of the table; flight: of which all records are, or null; day; runways(): their names; onSend(form, line, key). */
+  constructor(kinds, { flight, row, day, runways, onSend, label }) {
+    Object.assign(this, { kinds, flight, row, day, runways, onSend, isSending: false });
     this.id = `f${count += 1}`;
     this.kind = el('select', { name: 'kind' }, ...kinds.map((kind) => el('option', { value: kind.kind }, kind.kind)));
     // What comes next of a flight, where the desk may send it.
@@ -58,7 +68,7 @@ export class RecordForm {
           'aria-describedby': `${id}-h ${this.id}-line`, value });
       if (choices && choices.includes(String(value))) input.value = value;
       this.inputs.push({ input, isTime: field.form.includes(TIME) });
-      nodes.push(el('label', { for: id }, field.name), input, el('span', { class: 'hint', id: `${id}-h` }, hint));
+      nodes.push(el('label', { for: id }, field.name === 'group' ? COLUMNS.group.label.toLowerCase() : field.name), input, el('span', { class: 'hint', id: `${id}-h` }, hint));
     }
     this.fields.replaceChildren(...nodes);
     this.preview();
@@ -88,40 +98,29 @@ export class RecordForm {
   }
 
   enable(isOn) {
-    this.button.disabled = !isOn;
+    this.button.disabled = !isOn || this.isSending;
   }
 
-  async send() {
-    const line = this.text();
-    // The same line with the same key is taken once, however often it is sent, until there is a reply.
-    if (this.keyOf !== line || !this.key) [this.key, this.keyOf] = [newKey(), line];
-    this.button.disabled = true;
+  send() {
     this.isSending = true;
-    try {
-      const { list: [reply] } = await objects('/v1/records', { method: 'POST', body: `${line}\n`, key: this.key });
-      this.key = null;
-      if (reply.reply === 'ACCEPTED') {
-        const names = (reply.changes ?? []).map((row) => row.flight);
-        this.answer('Accepted.', names.length ? `${names.length === 1 ? 'This flight' : `${names.length} flights`} changed: ${names.slice(0, 8).join(', ')}${names.length > 8 ? ' …' : ''}.`
-          : 'No flight changed.', reply, true);
-      } else {
-        this.answer(`Refused, ${reply.word}.`, 'Nothing is changed.', reply, false);
-        const words = await sentence(reply.position);
-        this.answer('Refused,', `${words.replace(/[.]?$/, '.')} Nothing is changed.`, reply, false);
-      }
-      this.onSent(reply);
-    } catch (problem) {
-      if (!(problem instanceof Problem)) throw problem;
-      if (problem.status === 0 || problem.status === 504) {
-        this.answer('No reply.', `It isn’t known whether the record was taken. Send it again: it is taken once. (${problem.message})`, null, false);
-      } else {
-        this.key = null;
-        this.answer('Not taken.', `${problem.message}.`, null, false);
-      }
-    } finally {
-      this.isSending = false;
-      this.button.disabled = document.documentElement.classList.contains('is-lost');
-    }
+    this.button.disabled = true;
+    this.onSend(this, this.text(), newKey());
+  }
+
+  /** What is known of the record that it sent: `taken`, `refused`, `not taken`, `not known`, or `not sent`. */
+  async told({ word, reply, detail, isAgain }) {
+    this.isSending = false;
+    this.button.disabled = document.documentElement.classList.contains('is-lost');
+    if (word === 'taken') this.answer('Accepted.', changedText(reply), reply, true);
+    else if (word === 'refused') await this.refused(reply);
+    else if (word === 'not known') this.answer(isAgain ? 'Not known.' : 'No reply.', `${NOT_KNOWN} (${detail}.)`, null, false);
+    else this.answer(word === 'not taken' ? 'Not taken.' : 'Not sent.', `${detail}.`, null, false);
+  }
+
+  async refused(reply) {
+    this.answer(`Refused, ${reply.word}.`, 'Nothing is changed.', reply, false);
+    const words = await sentence(reply.position);
+    this.answer('Refused,', `${words.replace(/[.]?$/, '.')} Nothing is changed.`, reply, false);
   }
 
   /** The reply, below the form; it gets the focus, so that it is read. */

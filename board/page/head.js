@@ -12,7 +12,9 @@ export class Head {
     this.day = day;
     this.clockAt = null; // when the last CLOCK was taken, by the server's clock
     this.isHeard = false; // whether that is known
-    this.status = $('#conn');
+    this.status = $('#conn [role=status]');
+    this.alert = $('#conn [role=alert]');
+    this.last = ''; // the last record, in words
     this.written = -PAUSE;
     this.timer = 0;
     setInterval(() => this.clockText(), 1000);
@@ -61,19 +63,25 @@ export class Head {
     clearTimeout(this.timer);
     this.timer = 0;
     this.written = performance.now();
+    this.alert.replaceChildren();
     this.status.replaceChildren(...this.parts);
   }
 
   /** The last record, and how many start-ups it moved. */
   record(reply, moved) {
-    const what = `Record ${reply.position} at ${hms(reply.at)}: ${reply.desk} sent ${recordText(reply.line)}. `;
-    this.tell([el('b', {}, 'Connected'), ` ${what}${moved === 1 ? '1 start-up' : `${moved} start-ups`} moved.`]);
+    this.last = `Record ${reply.position} at ${hms(reply.at)}: ${reply.desk} sent ${recordText(reply.line)}. `
+      + `${moved === 1 ? '1 start-up' : `${moved} start-ups`} moved.`;
+    this.tell([el('b', {}, 'Connected'), ` ${this.last}`]);
   }
 
+  /** A lost connection is an alert: a screen reader says it at once, whatever it is saying. */
   lost(since, why) {
     document.documentElement.classList.add('is-lost');
-    this.tell([el('b', {}, 'CONNECTION LOST'), ` since ${hms(since)} UTC: ${why}. Shown: record ${this.day.position}. Nothing can be `
-      + 'sent; trying again.'], true);
+    clearTimeout(this.timer);
+    this.timer = 0;
+    this.status.replaceChildren();
+    this.alert.replaceChildren(el('b', {}, 'CONNECTION LOST'), ` since ${hms(since)} UTC: ${why}. Shown: record ${this.day.position}. Nothing can be `
+      + 'sent; trying again.');
   }
 
   connected(words = '') {
@@ -81,9 +89,10 @@ export class Head {
     this.tell([el('b', {}, 'Connected'), words && ` ${words}`].filter(Boolean), true);
   }
 
-  /** A warning that is new is said at once. */
+  /** A warning that is new is said at once, with the last record, which it came of. */
   warn(words) {
-    this.tell([el('b', {}, 'Connected'), ` New warning: ${words}.`], true);
+    if (document.documentElement.classList.contains('is-lost')) return;
+    this.tell([el('b', {}, 'Connected'), ` New warning: ${words}.${this.last && ` ${this.last}`}`], true);
   }
 
   stale(since) {

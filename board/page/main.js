@@ -1,34 +1,34 @@
-// The page: it shows what the server said, follows its events, and asks the program again what only the program can say.
-import { $, el, say } from './dom.js';
+// The page: what people and the server do becomes an event for the machine, and what it orders is done here.
+import { $, $$, el, say } from './dom.js';
 import { All } from './all.js';
-import { Asker } from './asker.js';
 import { Bands } from './bands.js';
 import { Blocked } from './blocked.js';
 import { Causes } from './causes.js';
-import { Day } from './day.js';
+import { Connection } from './connection.js';
 import { Desk } from './desk.js';
 import { Filter } from './filter.js';
 import { FlightPanel, enableForms } from './flight.js';
 import { RecordForm } from './form.js';
 import { Head } from './head.js';
+import { Machine } from './machine.js';
 import { Moves } from './moves.js';
-import { Problem, clock, heard, objects } from './net.js';
+import { clock, heard, request, said } from './net.js';
 import { Next } from './next.js';
 import { Panels } from './panels.js';
 import { Picture } from './picture.js';
 import { showRecords } from './records.js';
-import { Stream } from './stream.js';
+import { Streams } from './stream.js';
 import { startTheme } from './theme.js';
 import { hms } from './times.js';
 import { Warnings } from './warnings.js';
 import { WhatIf } from './whatif.js';
 
-const RECENT = 20;
-const MOST_RECENT = 2000; // of older ones the server doesn't know what they changed
-const LOG = 50;
 const root = document.documentElement;
-const day = new Day();
+const desk = new Desk(give);
+const machine = new Machine(Math.random, said.role);
+const { day } = machine;
 const head = new Head(day);
+const connection = new Connection(head);
 const moves = new Moves(day, (names) => show(names));
 const filter = new Filter(() => [all, next, blocked].forEach((table) => table.again()));
 const [all, next, blocked] = [new All(day, moves, filter), new Next(day, moves, filter), new Blocked(day, moves, filter)];
@@ -36,67 +36,240 @@ const warnings = new Warnings(day, filter, (words) => head.warn(words));
 const bands = new Bands(day);
 const runways = () => bands.runways.map((one) => one.runway);
 const whatIf = new WhatIf(day, bands, new Picture());
-const causes = new Causes(() => asker.again('causes'));
-const desk = new Desk((isIn) => restart(isIn));
-const sent = (reply) => asker.changed(reply.position);
-const flight = new FlightPanel(day, desk, runways, sent);
-let operators = null;
-let stream = null;
-let lostSince = null;
-let early = null; // replies that came while the plan was on its way
-let run = 0;
-let isLeaving = false;
+const causes = new Causes(() => give({ type: 'causes', isOpen: causes.isWanted, by: causes.select.value }));
+const flight = new FlightPanel(day, desk, runways, send);
+const streams = new Streams(give);
+const asked = new Map(); // requests that have no answer yet, by number
+const forms = new Map(); // forms whose record has no answer yet, by name
+const events = []; // what the machine hasn't taken yet
+let operators = [];
+let shownNow = '';
+let lastRecord = null; // of those that came before the page was opened
+let timer = 0;
+let isTaking = false;
 
-const send = {
+const sendPanel = {
   open() {
-    const kinds = desk.mayAll ?? [];
-    const form = kinds.length && new RecordForm(kinds, { flight: null, row: null, day, runways, onSent: sent, label: 'One record' });
-    $('#s-form').replaceChildren(...(form ? [form.root] : []));
-    say($('#p-send h2 small'), `as ${desk.words}`);
-    enableForms(lostSince === null);
-    asker.again('log');
+    makeForm();
+    give({ type: 'openPanel', open: 'send', flight: null });
   },
-  close() {},
+  close: closed,
 };
 const panels = new Panels({
-  flight: { open: (name) => { flight.open(name); asker.again('why'); asker.again('records'); }, close: () => flight.close() },
-  'what-if': whatIf, send, 'sign-in': { open() {}, close() {} } });
+  flight: {
+    open(name) {
+      flight.open(name);
+      give({ type: 'openPanel', open: 'flight', flight: name });
+    },
+    close() {
+      flight.close();
+      closed();
+    } },
+  'what-if': whatIf, send: sendPanel, 'sign-in': { open() {}, close() {} } });
 
-/** A question of a box that says why it has no answer. */
-const boxed = (id, question) => ({ ...question, fail: (problem) => fault(id, `No answer: ${problem.message}.`), clear: () => fault(id, '') });
-const isOpen = () => flight.name !== null;
+function closed() {
+  give({ type: 'openPanel', open: null, flight: null });
+}
 
-const asker = new Asker([
-  boxed('next', { name: 'next', path: () => '/v1/next.json', isWanted: () => true, show: (list, position) => next.take(list, position) }),
-  { name: 'why', path: () => `/v1/why/${flight.name}.json`, isWanted: () => isOpen() && Boolean(flight.row), show: (list) => flight.takeWhy(list),
-    fail: (problem) => flight.failed(problem) },
-  { name: 'records', path: () => `/v1/records?flight=${flight.name}`, isWanted: isOpen, show: (list) => flight.takeRecords(list) },
-  { name: 'totals', path: () => '/v1/compare', isWanted: () => true, show: ([totals]) => head.totals(totals),
-    options: () => ({ method: 'POST', body: '', accept: 'application/json' }) },
-  boxed('warnings', { name: 'warnings', path: () => '/v1/warnings.json', isWanted: () => true, show: (list) => {
+/** The form of records that are of no flight. */
+function makeForm() {
+  const kinds = desk.mayAll ?? [];
+  const form = kinds.length && new RecordForm(kinds, { flight: null, row: null, day, runways, onSend: send, label: 'One record' });
+  $('#s-form').replaceChildren(...(form ? [form.root] : []));
+  say($('#p-send h2 small'), `as ${desk.words}`);
+  enableForms(!root.classList.contains('is-lost'));
+}
+
+/** A record of a form. */
+function send(form, line, key) {
+  forms.set(form.id, form);
+  give({ type: 'send', form: form.id, line, key });
+}
+
+/** An event for the machine, in its turn; what it orders is done at once. */
+function give(event) {
+  events.push(event);
+  if (isTaking) return;
+  isTaking = true;
+  while (events.length) {
+    let orders = [];
+    try {
+      orders = machine.take({ at: performance.now(), now: clock.now(), ...events.shift() });
+    } catch (fault) {
+      told(fault, 'machine');
+    }
+    for (const order of orders) {
+      try {
+        DONE[order.do](order);
+      } catch (fault) {
+        failed(fault, order.what === 'answer' ? order.name : ['plan', 'replies'].includes(order.what) ? 'rows' : `${order.do} ${order.what ?? ''}`);
+      }
+    }
+  }
+  isTaking = false;
+}
+
+/** An exception of the page's own: the machine asks again for what wasn't shown. */
+function failed(fault, part) {
+  told(fault, part);
+  give({ type: 'fault', part, detail: String(fault?.message ?? fault) });
+}
+
+function told(fault, part) {
+  console.error(part, fault);
+  connection.fault({ part, detail: String(fault?.message ?? fault) });
+}
+
+/** What the machine orders. */
+const DONE = {
+  async ask(order) {
+    const control = new AbortController();
+    asked.set(order.id, control);
+    const answer = await request(order, control.signal);
+    asked.delete(order.id);
+    give({ type: 'answer', id: order.id, ...answer });
+  },
+  abandon: ({ id }) => asked.get(id)?.abort(),
+  open: (order) => { streams.open(order); },
+  close: ({ stream }) => streams.close(stream),
+  wait({ until }) {
+    clearTimeout(timer);
+    if (Number.isFinite(until)) timer = setTimeout(() => give({ type: 'wake' }), Math.max(0, until - performance.now()) + 1);
+  },
+  show: (order) => SHOWN[order.what](order),
+  say: (order) => SAID[order.what](order),
+  enable: ({ isOn }) => enableForms(isOn),
+  tell: ({ word }) => desk.tell(word),
+};
+
+/** What it shows. */
+const SHOWN = {
+  who({ who, role = '' }) {
+    desk.show(who, role);
+    if (!who) return;
+    flight.changed();
+    if (flight.name) flight.makeForm();
+    if (panels.open === 'send' && !$('#s-form form')) makeForm();
+  },
+  kinds({ kinds }) {
+    desk.table = kinds;
+    if (flight.name) flight.makeForm();
+  },
+  plan: showPlan,
+  replies: ({ replies }) => showReplies(replies),
+  history: showHistory,
+  totals: ({ totals, position, isOld }) => {
+    head.totals(totals);
+    const list = $('header dl');
+    list.dataset.of = `${isOld ? 'still ' : ''}of record ${position}`; // always there, so that nothing comes and goes with each record
+    list.setAttribute('aria-label', isOld ? `Totals of record ${position}` : 'Totals');
+  },
+  answer: ({ name, list, position }) => {
+    ANSWERED[name](list, position);
+  },
+  empty,
+};
+
+/** What it says. */
+const SAID = {
+  state(order) {
+    connection.state({ ...order, at: lastRecord?.position === order.position ? lastRecord?.at : null });
+    if (order.state === 'out') panels.go('sign-in');
+  },
+  stale: ({ since }) => head.stale(since),
+  end: () => connection.tell('The server ends.', ' The page comes back by itself.'),
+  fault: (order) => connection.fault(order),
+  answered: ({ name }) => fault(name, ''),
+  unanswered: ({ name, detail }) => fault(name, detail),
+  'sign-in': ({ isIn, detail }) => {
+    desk.signedIn(isIn, detail);
+    if (isIn && panels.open === 'sign-in') panels.close();
+  },
+  sent(order) {
+    const form = forms.get(order.form);
+    forms.delete(order.form);
+    form?.told(order).catch((fault_) => failed(fault_, 'form'));
+    if (!form?.root.isConnected) connection.sent(order);
+  },
+};
+
+/** The boxes of answers. */
+const ANSWERED = {
+  next: (list, position) => next.take(list, position),
+  why: (list) => flight.takeWhy(list),
+  records: (list) => flight.takeRecords(list),
+  warnings(list) {
     warnings.take(list);
     next.tags = warnings.tags;
     next.again();
-  } }),
-  boxed('runways', { name: 'load', path: () => '/v1/load.json', isWanted: () => true, show: (list) => {
+  },
+  load(list) {
     bands.take(list);
     whatIf.hint();
-    filter.offer(runways(), operators ?? []);
-  } }),
-  { name: 'log', path: () => `/v1/records?since=${Math.max(0, Math.floor(day.position / LOG) - 1) * LOG}`, isWanted: () => panels.open === 'send',
-    show: (list) => showRecords($('#s-records'), list) },
-  { name: 'causes', path: () => causes.path, isWanted: () => causes.isWanted, show: (list) => causes.take(list) },
-  { name: 'operators', path: () => '/v1/causes.json?by=operator', isWanted: () => operators === null, show: (list) => {
+    filter.offer(runways(), operators);
+  },
+  log: (list) => showRecords($('#s-records'), list),
+  causes: (list) => causes.take(list),
+  operators(list) {
     operators = list.map((one) => one.group).filter((name) => name !== 'TOTAL' && name !== '-');
-    filter.offer(runways(), operators ?? []);
-  } },
-]);
+    filter.offer(runways(), operators);
+  },
+};
 
-/** Says in a box why it has no answer. */
-function fault(id, words) {
-  const node = $(`#${id} .fault`);
-  node.hidden = !words;
-  say(node, words);
+/** Where a box says why it has no answer. */
+const FAULTS = { next: '#next .fault', warnings: '#warnings .fault', load: '#runways .fault' };
+const NOTES = { log: ['#h-sl small', 'newest first'], causes: ['#causes p small', $('#causes p small').textContent] };
+
+function fault(name, detail) {
+  if (FAULTS[name]) {
+    const node = $(FAULTS[name]);
+    node.hidden = !detail;
+    say(node, detail && `No answer: ${detail}.`);
+  } else if (NOTES[name]) {
+    const [place, usual] = NOTES[name];
+    say($(place), detail ? `no answer: ${detail}` : usual);
+  } else if (detail && name === 'why') {
+    flight.failed({ message: detail });
+  } else if (detail && name === 'records') {
+    say($('#f-count'), `no answer: ${detail}`);
+  }
+}
+
+/** The whole day: what changed of it, or, where a box failed to show some of it, all. */
+function showPlan({ changed, isFirst, isOther, isWhole }) {
+  if (isFirst || isOther) {
+    root.classList.remove('is-new');
+    if (!moves.remember()) moves.look(hms(clock.now()).slice(0, 5));
+    give({ type: 'seen', position: moves.seen.position });
+  } else if (!isWhole) {
+    moves.note(changed, null);
+  }
+  head.now();
+  flight.changed();
+  const names = isFirst ? [...day.rows.keys()] : [...new Set([...(isWhole ? all.items.keys() : []), ...changed.keys()])];
+  all.build(names, (some) => {
+    next.changed(some);
+    blocked.changed(some);
+  }).then(() => next.again()).catch((problem) => failed(problem, 'rows'));
+  next.head();
+}
+
+/** Records that came together. */
+function showReplies(replies) {
+  const names = new Set();
+  let last = null;
+  for (const { reply, changed } of replies) {
+    last = [reply, moves.note(changed, reply)];
+    for (const name of changed.keys()) names.add(name);
+    if (reply.line.startsWith('CLOCK,')) head.clockTaken(reply.at);
+  }
+  show([...names]);
+  if (day.now !== shownNow) {
+    shownNow = day.now;
+    head.now();
+    next.again();
+  }
+  head.record(...last);
 }
 
 /** Flights whose rows are to be written again, as a record changed them, or as they are no longer marked. */
@@ -108,199 +281,34 @@ function show(names) {
   panels.mark();
 }
 
-/** Replies in their order. */
-function take(replies) {
-  const names = new Set();
-  const before = day.now;
-  let last = null;
-  for (const reply of replies) {
-    if (!reply.changes) return reset();
-    const changed = day.apply(reply);
-    if (!changed) continue;
-    last = [reply, moves.note(changed, reply)];
-    for (const name of changed.keys()) names.add(name);
-    if (reply.line.startsWith('CLOCK,')) head.clockTaken(reply.at);
-  }
-  if (!last) return;
-  show([...names]);
-  if (day.now !== before) {
-    head.now();
-    next.again();
-  }
-  head.record(...last);
-  asker.changed(day.position);
-}
-
-function events(list) {
-  const replies = [];
-  for (const { name, data } of list) {
-    if (name === 'reset') return reset();
-    if (name === 'end') head.tell([el('b', {}, 'The server ends.'), ' The page comes back by itself.'], true);
-    if (name === 'reply') replies.push(JSON.parse(data));
-  }
-  if (early) early.push(...replies);
-  else take(replies);
-}
-
-/** The whole plan, then what came meanwhile. Raises Problem. */
-async function plan(isFirst) {
-  early = [];
-  try {
-    const { list: [told], position, moment } = await objects('/v1/plan.json', { after: day.position });
-    const changed = day.take(told, position, moment);
-    if (!isFirst) moves.note(changed, null);
-    head.now();
-    head.totals(told);
-    flight.changed();
-    await all.build(isFirst ? [...day.rows.keys()] : [...changed.keys()], (names) => {
-      next.changed(names);
-      blocked.changed(names);
-    });
-  } finally {
-    const replies = early;
-    early = null;
-    if (replies.length) take(replies);
-  }
-}
-
-/** The server can't say what came: the whole plan is asked for. */
-async function reset() {
-  if (early) return;
-  try {
-    await plan(false);
-    asker.changed(day.position);
-  } catch (problem) {
-    if (!(problem instanceof Problem)) throw problem;
-    setTimeout(reset, 2000);
-  }
-}
-
-/** The last records: when a CLOCK came, and why what moved since it was looked at has moved. */
-async function recent() {
-  const { position } = day;
-  const list = [];
-  let since = Math.max(0, Math.max(Math.min(moves.seen?.position ?? position, position - RECENT), position - MOST_RECENT));
-  while (since < position) {
-    const found = (await objects(`/v1/records?since=${since}`)).list.filter((reply) => reply.position <= position);
-    if (!found.length) break;
-    for (const reply of found) moves.tell(reply);
-    list.push(...found);
-    since = found.at(-1).position;
-  }
+/** Records that came before, or that changed too much to be sent as events: when a CLOCK came, and why what moved has moved. */
+function showHistory({ list, isFirst }) {
+  for (const reply of list) moves.tell(reply);
   const last = list.findLast((reply) => reply.reply === 'ACCEPTED' && reply.line.startsWith('CLOCK,'));
-  head.clockTaken(last?.at ?? null);
-  return list.at(-1);
-}
-
-const told = {
-  opened() {
-    if (lostSince === null) return;
-    head.connected(`again at ${hms(clock.now())} UTC, lost since ${hms(lostSince)}.`);
-    lostSince = null;
-    enableForms(true);
-    asker.start(day.position);
-  },
-  events,
-  lost(status, detail) {
-    if (status === 401 || status === 403) return signedOut(detail);
-    if (lostSince !== null) return;
-    lostSince = clock.now();
-    asker.stop();
-    enableForms(false);
-    head.lost(lostSince, detail || 'the server isn’t reached');
-  },
-};
-
-/** The token isn't taken any more, or nobody has signed in. Of several answers that say so the first counts. */
-async function signedOut(detail) {
-  if (isLeaving || root.classList.contains('is-out')) return;
-  isLeaving = true;
-  try {
-    await leave(detail);
-  } finally {
-    isLeaving = false;
-  }
-}
-
-async function leave(detail) {
-  const mine = run += 1;
-  stream?.end();
-  asker.stop();
-  const was = desk.who?.desk;
-  await desk.forget();
-  desk.who = null;
-  desk.show();
-  lostSince = null;
-  root.classList.remove('is-lost');
-  if (mine !== run) return;
-  if (was && await start(true)) {
-    head.tell([el('b', {}, 'Signed out'), ` as ${was}: ${detail}. This page reads only.`], true);
-    return;
-  }
-  root.classList.add('is-out');
-  head.tell([el('b', {}, 'Signed out.'), ` ${was ? `${was}’s token isn’t taken any more. ` : ''}Sign in with a desk and its token.`], true);
-  panels.go('sign-in');
-}
-
-/** Somebody else speaks: all is asked for anew. */
-async function restart(isIn) {
-  run += 1;
-  stream?.end();
-  asker.stop();
-  if (isIn && panels.open === 'sign-in') panels.close();
-  await begin();
-}
-
-/** Who speaks, the plan, the events. Whether it went well; a 401 isn't told where it is expected. */
-async function start(quiet) {
-  const mine = run += 1;
-  const isFirst = day.date === '';
-  try {
-    await Promise.all([desk.load(true), desk.kinds(), plan(isFirst)]);
-  } catch (problem) {
-    if (!(problem instanceof Problem)) throw problem;
-    if (problem.status === 401 && quiet) return false;
-    throw problem;
-  }
-  if (mine !== run) return true;
-  root.classList.remove('is-out', 'is-new');
-  if (isFirst && !moves.remember()) moves.look(hms(clock.now()).slice(0, 5));
-  next.head();
-  lostSince = null;
-  head.connected(`Record ${day.position} is the last.`);
-  stream = new Stream(day.moment, told);
-  asker.start(day.position);
-  asker.shown.set('totals', day.position);
-  flight.changed();
-  if (flight.name) flight.makeForm();
-  enableForms(true);
-  const last = await recent().catch(() => null);
+  if (last || isFirst) head.clockTaken(last?.at ?? null);
   next.again();
-  if (last && mine === run) head.tell([el('b', {}, 'Connected'), ` Record ${last.position} at ${hms(last.at)} is the last.`]);
-  return true;
+  const end = list.at(-1);
+  if (end && isFirst) lastRecord = end;
+  if (end && isFirst && machine.state === 'live') head.tell([el('b', {}, 'Connected'), ` Record ${end.position} at ${hms(end.at)} is the last.`]);
 }
 
-/** From the beginning, until it goes well. */
-async function begin() {
-  const mine = run;
-  try {
-    if (!await start(true)) await signedOut('');
-  } catch (problem) {
-    if (!(problem instanceof Problem)) throw problem;
-    if (lostSince === null) {
-      lostSince = clock.now();
-      head.lost(lostSince, problem.message.replace(/[.]$/, ''));
-    }
-    if (run - mine <= 1) setTimeout(begin, Math.max(2000, problem.retry * 1000));
-  }
+/** What was shown of a day that is gone. */
+function empty() {
+  for (const known of [moves.recent, moves.causes, moves.told]) known.clear();
+  warnings.first = null;
+  operators = [];
+  for (const body of $$('#s-records, #f-records, #causes tbody')) body.replaceChildren();
+  if (flight.name) flight.open(flight.name);
+  whatIf.close();
+  if (panels.open === 'what-if') whatIf.open();
 }
 
-heard.signedOut = (detail) => signedOut(detail);
-heard.stale = (since) => head.stale(since);
+heard.answer = ({ status, detail, stale }) => give({ type: 'heard', status, detail, stale });
 $('#seen').addEventListener('click', () => {
   moves.look(hms(clock.now()).slice(0, 5));
   next.again();
 });
+for (const name of ['error', 'unhandledrejection']) addEventListener(name, (event) => failed(event.error ?? event.reason ?? event.message, 'page'));
 startTheme();
 panels.follow();
-begin();
+give({ type: 'start' });

@@ -1,13 +1,13 @@
 // Which flights moved: for ten seconds what they were just before, and until `Seen` what they were when last looked at.
+import { MARKED, statusWord } from './columns.js';
 import { hm, hms } from './times.js';
 
 const SHOWN = 10000;
 const KEPT = 'cdm-seen';
-const SHOWN_COLUMNS = ['runway', 'stand', 'tobt', 'exot', 'ctot', 'ttot', 'delay'];
 
 /** What a flight's Row says of its start-up: its TSAT, or why it has none. */
 export const startUp = (row, date) => (!row ? 'unknown' : row.tsat ? hm(row.tsat, date)
-  : row.status === 'BLOCKED' ? row.rule : row.status.toLowerCase());
+  : row.status === 'BLOCKED' ? row.rule : statusWord(row.status));
 
 /** The same to keep: a TSAT of a planned flight with its day, else the words. */
 const kept = (row, date) => (row.status === 'PLANNED' ? row.tsat : startUp(row, date));
@@ -67,7 +67,7 @@ export class Moves {
   /** The columns that changed of a flight that just moved, but whose start-up stays. */
   columns(name) {
     const row = this.day.rows.get(name);
-    return this.mark(name) === '' ? SHOWN_COLUMNS.filter((column) => this.recent.get(name).before[column] !== row[column]) : [];
+    return this.mark(name) === '' ? MARKED.filter((column) => this.recent.get(name).before[column] !== row[column]) : [];
   }
 
   /** From now on everything counts as seen. */

@@ -19,53 +19,70 @@ export const clock = {
   },
 };
 
-/** Who is told of what any answer may say. */
-export const heard = { signedOut: () => {}, stale: () => {} };
+/** Who is told what the answer to a box's own question says of the whole page: {status, detail, stale}. */
+export const heard = { answer: () => {} };
 
 /** The role that a request says, where the server asks for none. */
 export const said = { role: '' };
 
-/** One request. Raises Problem. */
-export async function ask(path, { method = 'GET', body, accept, after, key, signal, quiet } = {}) {
-  const headers = {};
-  if (said.role) headers['Cdm-Role'] = said.role;
-  if (accept) headers.Accept = accept;
-  if (after) headers['Cdm-After'] = String(after);
-  if (key) headers['Idempotency-Key'] = key;
-  let answer;
-  try {
-    answer = await fetch(path, { method, body, headers, signal, credentials: 'same-origin' });
-  } catch (fault) {
-    throw new Problem(0, 'The server isn’t reached.');
-  }
-  clock.hear(answer);
-  if (answer.ok) heard.stale(answer.headers.get('Cdm-Stale-Since'));
-  else {
-    const retry = Number(answer.headers.get('Retry-After')) || 0;
-    let detail = `the server answered ${answer.status}`;
-    try {
-      detail = (await answer.json()).detail ?? detail;
-    } catch { /* not its own words */ }
-    if (answer.status === 401 && !quiet) heard.signedOut(detail);
-    throw new Problem(answer.status, String(detail), retry);
-  }
-  return answer;
+/** What a request may say, as headers. */
+function headersOf({ role, accept, after, key }) {
+  const headers = { 'Cdm-Role': role, Accept: accept, 'Cdm-After': after ? String(after) : '', 'Idempotency-Key': key };
+  return Object.fromEntries(Object.entries(headers).filter(([, value]) => value));
 }
 
-/** The objects of an answer, one a line, with the moment that they are of. Raises Problem. */
-export async function objects(path, options) {
-  const answer = await ask(path, options);
+/** What an answer that isn't one says: its words, whether they are the server's own, and after how many seconds to come again. */
+export function problemOf(answer, text) {
+  const retry = Number(answer.headers.get('Retry-After')) || 0;
+  try {
+    const { detail } = JSON.parse(text);
+    if (typeof detail === 'string') return { detail, retry, isOwn: true };
+  } catch { /* not its own words */ }
+  return { detail: `the server answered ${answer.status}`, retry, isOwn: false };
+}
+
+/**
+ * One request, with its whole answer as the machine takes it. It never fails: status 0 is one that has no answer.
+ * @param {{path: string, method?: string, body?: string, accept?: string, after?: number, key?: string, role?: string}} order
+ * @param {AbortSignal} [signal]
+ */
+export async function request({ path, method = 'GET', body, ...more }, signal) {
+  const none = { status: 0, text: '', log: '', position: NaN, stale: undefined, retry: 0, isOwn: false };
+  let answer;
+  try {
+    answer = await fetch(path, { method, body, headers: headersOf(more), signal, credentials: 'same-origin' });
+  } catch {
+    return { ...none, detail: 'The server isn’t reached' };
+  }
+  clock.hear(answer);
   let text;
   try {
     text = await answer.text();
   } catch {
-    throw new Problem(0, 'The answer broke off.');
+    return { ...none, detail: 'The answer broke off' };
   }
-  return {
-    position: Number(answer.headers.get('Cdm-Position')),
-    moment: (answer.headers.get('ETag') ?? '').replace(/^W\/|"/g, ''),
-    list: text.split('\n').filter(Boolean).map((line) => JSON.parse(line)),
-  };
+  if (!answer.ok) return { ...none, status: answer.status, ...problemOf(answer, text) };
+  const [, log = '', position = 'NaN'] = /^(?:W\/)?"(.+)-(\d+)"$/.exec(answer.headers.get('ETag') ?? '') ?? [];
+  const stale = position === 'NaN' ? undefined : answer.headers.get('Cdm-Stale-Since');
+  return { ...none, status: answer.status, text, log, position: Number(position), stale, detail: '', isOwn: true };
+}
+
+/** One question of a box of its own. Raises Problem. */
+export async function ask(path, options = {}) {
+  const answer = await request({ path, role: said.role, ...options });
+  heard.answer(answer);
+  if (answer.status < 200 || answer.status >= 300) throw new Problem(answer.status, answer.detail, answer.retry);
+  return answer;
+}
+
+/** The objects of an answer, one a line, with its position. Raises Problem. */
+export async function objects(path, options) {
+  const { text, position } = await ask(path, options);
+  try {
+    return { position, list: text.split('\n').filter(Boolean).map((line) => JSON.parse(line)) };
+  } catch {
+    throw new Problem(0, 'The server’s answer isn’t understood');
+  }
 }
 
 /** A key that nobody has used. */

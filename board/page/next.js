@@ -1,20 +1,26 @@
 // The start-ups ahead: which flights, in which order and what each waits for is the program's `next`.
-import { $, cloned, el, known, named, say } from './dom.js';
 import { isLate } from './day.js';
+import { $, el, say } from './dom.js';
 import { anchored, whenFree } from './hold.js';
 import { Sorted } from './sorted.js';
-import { hm, minutesFrom } from './times.js';
+import { Table, write } from './tables.js';
+import { minutesFrom } from './times.js';
 
 const REASONS = { ICE: 'de-icing', CTOT: 'CTOT', CLOSURE: 'closure', SPACING: 'spacing', RATE: 'rate', NOW: 'now' };
 const AHEAD = 30;
 const MOST_OUT = 3;
 const CHUNK = 60;
+const PARTS = {
+  tsat: () => [el('div', { class: 'big' }, el('b', { class: 'text' }), ' ', el('span', { class: 'in' }))],
+  why: () => [el('div', { class: 'why' }, el('span'), ' ', el('b', { class: 'tag' }), ' ', el('small'))],
+};
 
 export class Next {
   constructor(day, moves, filter) {
     Object.assign(this, { day, moves, filter, items: new Map(), tags: new Map(), named: new Map(), position: -1, isKnown: false, said: '' });
-    this.template = $('#t-next');
-    this.list = new Sorted($('#next tbody'), CHUNK);
+    this.table = new Table('next', 'Next start-ups, by TSAT', PARTS);
+    $('#next .chunk').replaceChildren(this.table.root);
+    this.list = new Sorted(this.table.body, CHUNK);
   }
 
   /** The program's answer, of a moment that the events may not have reached yet. */
@@ -33,12 +39,9 @@ export class Next {
   }
 
   make(name) {
-    const { row, cells } = cloned(this.template);
-    const item = { name, row, cells, key: '', list: null, cause: null, cells_: {
-      tsat: $('b', cells[0]), in: $('.in', cells[0]), link: $('a', cells[1]), late: $('.late', cells[8]),
-      delay: $('span', cells[8]), cause: $('span', cells[9]), tag: $('.tag', cells[9]), since: $('small', cells[9]) } };
-    named(item.cells_.link, name);
-    row.dataset.flight = name;
+    const item = this.table.make(name);
+    const { tsat, why } = item.cells;
+    Object.assign(item, { cause: null, in: $('.in', tsat), waits: $('span', why), tag: $('.tag', why), since: $('small', why) });
     this.items.set(name, item);
     return item;
   }
@@ -87,25 +90,17 @@ export class Next {
   }
 
   write(item, row) {
-    const { date } = this.day;
-    const part = item.cells_;
     const mark = this.moves.mark(item.name);
-    say(part.tsat, hm(row.tsat, date));
-    say(part.in, mark || this.ahead(row));
-    part.in.classList.toggle('mv', Boolean(mark));
+    write(item, row, this.day.date, this.moves.columns(item.name));
+    say(item.in, mark || this.ahead(row));
+    item.in.classList.toggle('mv', Boolean(mark));
     item.row.classList.toggle('moved', mark !== null);
     item.row.classList.toggle('late', isLate(row));
-    [row.runway, row.stand, hm(row.tobt, date), row.exot, hm(row.ctot, date), hm(row.ttot, date)]
-      .forEach((value, at) => say(item.cells[at + 2], known(value)));
-    const columns = this.moves.columns(item.name);
-    COLUMNS.forEach((column, at) => item.cells[at + 2].classList.toggle('mv', columns.includes(column)));
-    part.late.hidden = !isLate(row);
-    say(part.delay, known(row.delay));
-    say(part.cause, item.cause === null ? (row.delay ? '…' : '–') : REASONS[item.cause] ?? item.cause ?? '–');
-    say(part.tag, (this.tags.get(item.name) ?? []).join(' '));
-    part.tag.hidden = !this.tags.has(item.name);
-    say(part.since, this.moves.sinceText(item.name));
-    item.row.classList.toggle('since', part.since.textContent !== '');
+    say(item.waits, item.cause === null ? (row.delay ? '…' : '–') : REASONS[item.cause] ?? item.cause ?? '–');
+    say(item.tag, (this.tags.get(item.name) ?? []).join(' '));
+    item.tag.hidden = !this.tags.has(item.name);
+    say(item.since, this.moves.sinceText(item.name));
+    item.row.classList.toggle('since', item.since.textContent !== '');
   }
 
   /** `in 13`, or `now` from the TSAT on. */
@@ -157,8 +152,5 @@ export class Next {
       out.length > MOST_OUT ? ` +${out.length - MOST_OUT}` : '');
   }
 }
-
-/** The columns of the third to the ninth cell. */
-const COLUMNS = ['runway', 'stand', 'tobt', 'exot', 'ctot', 'ttot', 'delay'];
 
 const keyOf = (row) => `${row.tsat} ${row.flight}`;

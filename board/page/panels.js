@@ -3,7 +3,7 @@ import { $, $$ } from './dom.js';
 
 const FLIGHT = /^[A-Z0-9]{1,7}$/;
 /** Where a panel covers the page, what is below it has no focus; what the connection is stays in sight. */
-const covers = matchMedia('(max-width:1219px)');
+const covers = { get matches() { return document.documentElement.classList.contains('l-narrow'); } };
 const BELOW = ['.skip', 'nav', '#warnings', '#runways', '#filtered', '#attention', '#next', '#all'];
 
 export class Panels {
@@ -13,8 +13,9 @@ export class Panels {
     this.open = null;
     this.flight = null;
     this.from = null;
+    this.behind = '';
     addEventListener('hashchange', () => this.follow());
-    covers.addEventListener('change', () => this.cover());
+    addEventListener('layout', () => this.cover());
     document.addEventListener('keydown', (event) => {
       if (event.key === 'Escape' && this.open && !event.defaultPrevented) this.close();
     });
@@ -37,8 +38,11 @@ export class Panels {
     location.hash = `#${name}`;
   }
 
+  /** Closes what is open; the flight that a link named is there again after the sign-in. */
   close() {
-    history.pushState(null, '', location.pathname + location.search);
+    const behind = this.open === 'sign-in' ? this.behind : '';
+    this.behind = '';
+    history.pushState(null, '', location.pathname + location.search + behind);
     this.follow();
   }
 
@@ -48,6 +52,7 @@ export class Panels {
     const flight = name === 'flight' ? location.hash.slice(1) : null;
     if (name === this.open && flight === this.flight) return;
     if (name && !this.open) this.from = document.activeElement;
+    if (name === 'sign-in' && this.flight) this.behind = `#${this.flight}`;
     if (this.open && name !== this.open) this.panels[this.open].close();
     [this.open, this.flight] = [name, flight];
     for (const panel of $$('.panel')) panel.hidden = panel.id !== `p-${name}`;

@@ -51,8 +51,8 @@ export class Picture {
     this.fault('');
     try {
       const answer = await ask('/v1/picture.svg', scenarios ? { method: 'POST', body: scenarios } : {});
-      say($('small', this.root), `${['the day', ...names].join(', ')} at record ${answer.headers.get('Cdm-Position')}, UTC`);
-      draw($('#drawn'), await answer.text(), `${['The day', ...names].join(', ')}, as timelines`);
+      say($('small', this.root), `${['the day', ...names].join(', ')} at record ${answer.position}, UTC`);
+      draw($('#drawn'), answer.text, `${['The day', ...names].join(', ')}, as timelines`);
     } catch (problem) {
       if (!(problem instanceof Problem)) throw problem;
       this.fault(`No picture: ${problem.message}.`);

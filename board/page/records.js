@@ -33,7 +33,7 @@ function rowOf(record, flight) {
 /** Why a record was refused, in the program's words. */
 export async function sentence(position) {
   try {
-    return (await (await ask(`/v1/records/${position}/sentence`)).text()).trim();
+    return (await ask(`/v1/records/${position}/sentence`)).text.trim();
   } catch (problem) {
     return `no reason came: ${problem.message}`;
   }

@@ -7,6 +7,7 @@ export class Sorted {
   /** body: where the rows are, in a table in a .chunk of its own; most: how many rows a chunk has, or 0: all. */
   constructor(body, most = 0) {
     this.most = most;
+    this.label = body.parentNode.getAttribute('aria-label');
     this.chunks = [{ body, items: [] }];
     this.empty = [];
   }
@@ -52,6 +53,15 @@ export class Sorted {
     const chunk = { body: another(body), items: items.splice(from) };
     for (const item of chunk.items) put(chunk.body, item.row, null);
     this.chunks.splice(number + 1, 0, chunk);
+    this.name();
+  }
+
+  /** Each chunk is a table of its own, and so has a name of its own. */
+  name() {
+    const { length } = this.chunks;
+    for (const [at, { body }] of this.chunks.entries()) {
+      body.parentNode.setAttribute('aria-label', length === 1 ? this.label : `${this.label}, part ${at + 1} of ${length}`);
+    }
   }
 
   forget(item) {
@@ -64,7 +74,9 @@ export class Sorted {
 
   /** Removes the chunks that have no row any more. */
   tidy() {
+    if (!this.empty.length) return;
     for (const { body } of this.empty.splice(0)) body.closest('.chunk').remove();
+    this.name();
   }
 
   remove(item) {

@@ -9,9 +9,15 @@ export function startTheme() {
     const kept = localStorage.getItem(KEPT);
     if (kept === 'light' || kept === 'dark') root.dataset.theme = kept;
   } catch { /* the system's */ }
-  $('#b-theme').addEventListener('click', () => {
-    const now = root.dataset.theme ?? (matchMedia('(prefers-color-scheme: dark)').matches ? 'dark' : 'light');
-    root.dataset.theme = now === 'dark' ? 'light' : 'dark';
+  const button = $('#b-theme');
+  const system = matchMedia('(prefers-color-scheme: dark)');
+  const isDark = () => (root.dataset.theme ?? (system.matches ? 'dark' : 'light')) === 'dark';
+  const press = () => button.setAttribute('aria-pressed', String(isDark()));
+  system.addEventListener('change', press);
+  press();
+  button.addEventListener('click', () => {
+    root.dataset.theme = isDark() ? 'light' : 'dark';
+    press();
     try {
       localStorage.setItem(KEPT, root.dataset.theme);
     } catch { /* for this page alone */ }

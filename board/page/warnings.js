@@ -1,64 +1,96 @@
 // The program's warnings, in its order: filled ones are to be acted on, framed ones to be looked at.
 import { $, el } from './dom.js';
+import { anchored, whenFree } from './hold.js';
 import { hm } from './times.js';
 
-const KINDS = ['OVERDUE', 'MISSED', 'BLOCKED', 'EDGE', 'PAST', 'AHEAD', 'FULL', 'SHUT'];
-const ACT = new Set(['OVERDUE', 'MISSED', 'SHUT']);
 const MOST = 8;
+const FEW = 3; // so many are said one by one
 const NEW = 60000;
-const PAUSE = 10000;
-const FACTS = {
-  OVERDUE: (one, at) => `TTOT ${at(one.ttot)}`, MISSED: (one, at) => `CTOT ${at(one.ctot)}`, BLOCKED: () => '',
-  EDGE: (one, at) => `CTOT ${at(one.ctot)} TTOT ${at(one.ttot)}`, PAST: (one, at) => `TSAT ${at(one.time)}`,
-  AHEAD: (one, at) => at(one.time), SHUT: (one, at) => `${one.runway} TTOT ${at(one.ttot)}`,
-  FULL: (one, at) => `${one.runway} ${at(one.time)} ${one.placed}/${one.cap}` };
+const TIME = /^\d{4}-\d\d-\d\dT\d\d:\d\dZ$/;
+const AGING = NEW / 4; // how often it is looked which are still new
+
+/** What a blocked flight lacks, by its rule. */
+const LACKS = { TOBT: 'Send its TOBT.', RUNWAY: 'Send its runway (RWY).', EXOT: 'Its stand has no taxi time to this runway: send TAXI, RWY or STAND.' };
+
+/**
+ * Each kind: its facts in the strip, and for the flight's panel what it means, what to do, and the kinds of records that answer it.
+ */
+const KINDS = {
+  OVERDUE: { facts: (one, at) => `TTOT ${at(one.ttot)}`, answers: ['AIR'],
+    means: (one, at) => `It left its stand, its TTOT ${at(one.ttot)} is more than 5 minutes ago, and no AIR has come.`,
+    act: 'If it has taken off, send AIR with its take-off time; if it hasn’t, ask where it is.' },
+  MISSED: { facts: (one, at) => `CTOT ${at(one.ctot)}`, answers: ['AIR'],
+    means: (one, at) => `It left its stand, and takes off after the window of its CTOT ${at(one.ctot)}.`,
+    act: 'Tell the Network Manager. If it took off within its window, send AIR with that time; no CTOT is taken any more.' },
+  BLOCKED: { facts: (one) => one.rule ?? '', answers: ['TOBT', 'RWY', 'STAND', 'CTOT', 'PRIO'],
+    means: (one) => (LACKS[one.rule] ? `It has no start-up time, as it lacks what ${one.rule} asks for.` : `It has no start-up time: ${one.rule} leaves it no minute.`),
+    act: (one, at) => LACKS[one.rule] ?? (one.ctot ? `Ask the Network Manager for a later CTOT than ${at(one.ctot)}. Where others have its minutes, PRIO puts it ahead of them.`
+      : 'Send an earlier TOBT, or open the runway (OPEN).') },
+  EDGE: { facts: (one, at) => `CTOT ${at(one.ctot)} TTOT ${at(one.ttot)}`, answers: ['PRIO', 'CTOT'],
+    means: (one, at) => `Its TTOT ${at(one.ttot)} is among the last 3 minutes of the window of its CTOT ${at(one.ctot)}.`,
+    act: 'See that it isn’t late. PRIO puts it further ahead; a later CTOT gives it room.' },
+  PAST: { facts: (one, at) => `TSAT ${at(one.time)}`, answers: ['OFF', 'TOBT'],
+    means: () => 'It could have started up before now, and hasn’t left its stand: its TSAT is moved on with each CLOCK.',
+    act: 'If it has left, send OFF with its off-block time; if it isn’t ready, send the TOBT at which it will be.' },
+  AHEAD: { facts: (one, at) => at(one.time), answers: ['AIR'],
+    means: (one, at) => `It is said to have left at ${at(one.time)}, more than 2 minutes after NOW.`,
+    act: 'See whether CLOCK has stopped. A wrong OFF or AIR can’t be taken back.' },
+  FULL: { facts: (one, at) => `${one.runway} ${at(one.time)} ${one.placed}/${one.cap}`, answers: [] },
+  SHUT: { facts: (one, at) => `${one.runway} TTOT ${at(one.ttot)}`, answers: ['AIR'],
+    means: (one, at) => `It left its stand, and runway ${one.runway} is closed at its TTOT ${at(one.ttot)}, or now if that is past.`,
+    act: 'Hold it, or open the runway (OPEN). If it has taken off, send AIR with its take-off time.' },
+};
+/** A kind that this page doesn't know is drawn with what it says of itself. */
+const OTHER = { facts: ({ kind, flight, ...more }, at) => Object.values(more).filter((value) => value != null).map((value) => (TIME.test(value) ? at(value) : value)).join(' '),
+  answers: [],
+  means: (one) => `The program warns of ${one.kind}.`, act: 'The program’s manual says what it means.' };
+
+const kindOf = (kind) => (Object.hasOwn(KINDS, kind) ? KINDS[kind] : OTHER);
+const keyOf = (one) => `${one.kind} ${one.flight ?? `${one.runway} ${one.time}`}`;
+
+/** The warnings that are shown, for the flight's panel; `told` says when they are others. */
+export const current = Object.assign(new EventTarget(), { list: [] });
+
+/** What a flight's warnings mean, what to do, and which kinds of records answer them. */
+export function explained(name, date) {
+  const at = (time) => hm(time, date);
+  return current.list.filter((one) => one.flight === name).map((one) => {
+    const { means, act, answers } = kindOf(one.kind);
+    return { kind: one.kind, means: means(one, at), act: typeof act === 'string' ? act : act(one, at), answers };
+  });
+}
 
 export class Warnings {
   constructor(day, filter, onNew) {
-    Object.assign(this, { day, filter, onNew, first: null, written: -PAUSE, timer: 0, tags: new Map(), whole: new Set() });
+    Object.assign(this, { day, filter, onNew, first: null, list: [], aging: 0, tags: new Map(), whole: new Set() });
+    this.draw = () => anchored(() => this.write());
   }
 
-  /** The program's answer. */
+  /** The program's answer. It is drawn at once, as the rest of the page is, but not under a finger. */
   take(list) {
-    const names = new Map(list.map((one) => [`${one.kind} ${one.flight ?? `${one.runway} ${one.time}`}`, one]));
     const now = performance.now();
     const isFirst = this.first === null;
     const before = this.first ?? new Map();
-    this.first = new Map([...names.keys()].map((name) => [name, before.get(name) ?? (isFirst ? -NEW : now)]));
-    const fresh = isFirst ? [] : [...names.keys()].filter((name) => !before.has(name));
+    const keys = list.map(keyOf);
+    this.first = new Map(keys.map((key) => [key, before.get(key) ?? (isFirst ? -NEW : now)]));
+    const fresh = isFirst ? [] : keys.filter((key) => !before.has(key));
     this.list = list;
     this.tags = new Map();
     for (const one of list) {
       if (one.kind === 'EDGE' || one.kind === 'PAST') this.tags.set(one.flight, [...(this.tags.get(one.flight) ?? []), one.kind]);
     }
-    const isUrgent = fresh.some((name) => ACT.has(name.split(' ')[0]));
-    const pause = this.written + PAUSE - now;
-    if (pause > 0 && !isUrgent) this.timer ||= setTimeout(() => this.write(), pause);
-    else this.write();
+    whenFree(this.draw);
+    current.list = list;
+    current.dispatchEvent(new Event('told'));
     if (fresh.length) this.onNew(fresh.length === 1 ? fresh[0] : `${fresh[0]} and ${fresh.length - 1} more`);
   }
 
   write() {
-    clearTimeout(this.timer);
-    this.timer = 0;
-    this.written = performance.now();
-    const at = (time) => hm(time, this.day.date);
-    const items = [];
-    for (const kind of KINDS) {
-      const mine = this.list.filter((one) => one.kind === kind);
-      if (!mine.length) continue;
-      const isNew = mine.some((one) => performance.now() - this.first.get(`${kind} ${one.flight ?? `${one.runway} ${one.time}`}`) < NEW);
-      const fresh = isNew ? el('em', {}, 'new') : null;
-      if (mine.length === 1 || kind !== 'BLOCKED' && mine.length <= 3) {
-        for (const one of mine) items.push(el('li', { class: `w ${kind}` }, el('b', {}, kind), ' ', fresh?.cloneNode(true), ' ', link(one), ` ${FACTS[kind](one, at)}`));
-        continue;
-      }
-      const rest = this.whole.has(kind) ? 0 : mine.length - MOST;
-      items.push(el('li', { class: `w ${kind}` }, el('b', {}, kind), ' ', el('b', { class: 'n' }, String(mine.length)), ' ', fresh, ' ',
-        ...(rest > 0 ? mine.slice(0, MOST) : mine).flatMap((one) => (one.flight ? [link(one), ' '] : [`${FACTS[kind](one, at)}, `])),
-        rest > 0 && this.more(kind, rest)));
-    }
-    const none = KINDS.filter((kind) => !this.list.some((one) => one.kind === kind));
+    clearTimeout(this.aging);
+    const kinds = [...new Set([...Object.keys(KINDS), ...this.list.map((one) => one.kind)])];
+    const there = kinds.filter((kind) => this.list.some((one) => one.kind === kind));
+    const items = there.flatMap((kind) => this.itemsOf(kind));
+    const none = kinds.filter((kind) => !there.includes(kind));
     if (none.length) items.push(el('li', { class: 'w none' }, `${none.join(', ')}: none`));
     // What has the focus keeps it, by its flight.
     const focused = document.activeElement?.closest?.('#warnings li');
@@ -69,7 +101,34 @@ export class Warnings {
         ?.querySelector(`a[href="${CSS.escape(href ?? '')}"]`).focus({ preventScroll: true });
     }
     $('#warnings h2 b').textContent = String(this.list.length);
-    this.timer ||= setTimeout(() => this.write(), NEW / 4);
+    if (this.list.some((one) => this.isNew(one))) this.aging = setTimeout(() => whenFree(this.draw), AGING);
+  }
+
+  isNew(one) {
+    return performance.now() - this.first.get(keyOf(one)) < NEW;
+  }
+
+  /** The strip's items of a kind: one each, or one for all. */
+  itemsOf(kind) {
+    const at = (time) => hm(time, this.day.date);
+    const { facts } = kindOf(kind);
+    const mine = this.list.filter((one) => one.kind === kind);
+    const fresh = mine.some((one) => this.isNew(one)) ? el('em', {}, 'new') : null;
+    const name = `w ${Object.hasOwn(KINDS, kind) ? kind : 'other'}`;
+    const all = kind === 'BLOCKED' ? this.blocked() : 0;
+    if (all <= mine.length && (mine.length === 1 || kind !== 'BLOCKED' && mine.length <= FEW)) {
+      return mine.map((one) => el('li', { class: name }, el('b', {}, kind), ' ', fresh?.cloneNode(true), ' ', link(one),
+        kind === 'BLOCKED' ? '' : ` ${facts(one, at)}`));
+    }
+    const rest = this.whole.has(kind) ? 0 : mine.length - MOST;
+    return [el('li', { class: name }, el('b', {}, kind), ' ', el('b', { class: 'n' }, all > mine.length ? `${mine.length} of ${all}` : String(mine.length)),
+      ' ', fresh, ' ', ...(rest > 0 ? mine.slice(0, MOST) : mine).flatMap((one) => (one.flight ? [link(one), ' '] : [`${facts(one, at)}, `])),
+      rest > 0 && this.more(kind, rest), all > mine.length && el('small', {}, 'with a TOBT or CTOT'))];
+  }
+
+  /** How many are blocked in all: the program warns of those alone that have a TOBT or a CTOT. */
+  blocked() {
+    return [...this.day.rows.values()].filter((row) => row.status === 'BLOCKED').length;
   }
 
   /** The others: of those that are blocked the tables show all, of another kind its warning names all. */
@@ -82,7 +141,7 @@ export class Warnings {
       }
       this.whole.add(kind);
       this.write();
-      $(`#warnings .${kind} a`)?.focus({ preventScroll: true });
+      $(`#warnings .${CSS.escape(Object.hasOwn(KINDS, kind) ? kind : 'other')} a`)?.focus({ preventScroll: true });
     });
     return button;
   }

@@ -47,6 +47,7 @@ export class WhatIf {
     const node = $('#wi-fault');
     node.hidden = !words;
     say(node, words);
+    if (words) this.forget();
     if (words) node.focus({ preventScroll: true });
   }
 
@@ -83,11 +84,17 @@ export class WhatIf {
     }
   }
 
+  /** What was compared before isn't shown beside a fault. */
+  forget() {
+    $('#wi-answer').hidden = true;
+    this.beside([]);
+  }
+
   table(lines, shown) {
     const base = lines.find((one) => one.scenario === null);
     const rows = lines.map((one) => {
       const label = one.scenario ?? 'day';
-      const title = one.scenario === null || one.scenario === shown || lines.length <= 2 ? label : this.chooser(label);
+      const title = one.scenario === null || lines.length <= 2 ? label : this.chooser(label, one.scenario === shown);
       if ('word' in one) return el('tr', {}, el('th', { scope: 'row' }, title), el('td', { colspan: 6 }, `refused: update ${one.update}, ${one.word}`));
       return el('tr', { class: one.scenario === shown && 'chosen' }, el('th', { scope: 'row' }, title),
         ...COLUMNS.map((name) => el('td', { class: 'n' }, String(one[name]))));
@@ -100,8 +107,9 @@ export class WhatIf {
     $('#wi-table').replaceChildren(...rows);
   }
 
-  chooser(name) {
-    const button = el('button', { type: 'button', class: 'quiet' }, name);
+  /** A scenario's button, pressed if its flights are shown. */
+  chooser(name, isShown) {
+    const button = el('button', { type: 'button', class: 'quiet', 'aria-pressed': String(isShown) }, name);
     button.addEventListener('click', () => this.compare(name));
     return button;
   }

@@ -1,6 +1,7 @@
 """A browser for the tests of the page: one Chromium, a page at a time over a real server."""
 import json
 import os
+import re
 import time
 from importlib.util import find_spec
 from urllib.parse import urlsplit
@@ -53,7 +54,9 @@ class Page:
     """The page in a tab."""
 
     def __init__(self, driver, server):
-        self.driver, self.server, self.allowed = driver, server, []
+        self.driver, self.server = driver, server
+        # The page names its own icon; a browser may ask for this one beside the picture at which the storage is cleared.
+        self.allowed = ["/favicon.ico"]
 
     def open(self, path="", ready=True):
         self.driver.get("about:blank")
@@ -152,7 +155,10 @@ def pages(request, board):
         fill(server, day, bool(words))
         driver.execute_cdp_cmd("Network.clearBrowserCookies", {})
         size(driver, 1280, 900)
-        driver.get(f"http://127.0.0.1:{server.port}/icon.svg")
+        # A picture, for which a browser asks no icon, so that its storage can be cleared before the page begins.
+        icon = re.search(r"/page-[0-9a-f]+/icon[.]svg", server.get("/").body.decode())
+        assert icon is not None
+        driver.get(f"http://127.0.0.1:{server.port}{icon[0]}")
         driver.execute_script("try { localStorage.clear(); sessionStorage.clear(); } catch {}")
         driver.get_log("browser"), driver.get_log("performance")
         made.append(Page(driver, server))
@@ -181,9 +187,11 @@ def fill(server, day, are_desks=False):
             assert all(reply["reply"] == "ACCEPTED" for reply in replies), replies
 
 
-def size(driver, width, height):
+def size(driver, width, height, scale=1):
+    """The window's size in its own units, and how many of the screen's each of them is; until the page has heard of it."""
     driver.execute_cdp_cmd("Emulation.setDeviceMetricsOverride",
-                           {"width": width, "height": height, "deviceScaleFactor": 1, "mobile": False})
+                           {"width": width, "height": height, "deviceScaleFactor": scale, "mobile": False})
+    driver.execute_async_script("const done = arguments[0]; requestAnimationFrame(() => requestAnimationFrame(done)); setTimeout(done, 300)")
 
 
 __all__ = ["AIRPORT", "DAY", "FACTOR", "WAIT", "Page", "driven", "fill", "objects", "pages", "size", "until"]

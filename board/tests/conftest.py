@@ -80,6 +80,7 @@ class Server:
             self.write_desks(desks)
             self.options += ["--desks", str(folder / "desks.toml")]
         self.port, self.process = 0, None
+        self.words = [str(ROOT / "cdmboard")]
 
     def write_desks(self, desks, read="desks"):
         """desks: name to the lines of its table; its token is `token-NAME`."""
@@ -94,7 +95,7 @@ class Server:
 
     def start(self, limit=""):
         """Starts it, and waits until it is ready; on the same port as before."""
-        command = [str(ROOT / "cdmboard"), str(self.airport), str(self.log), "--listen", f"127.0.0.1:{self.port}", *self.options]
+        command = [*self.words, str(self.airport), str(self.log), "--listen", f"127.0.0.1:{self.port}", *self.options]
         if limit:
             command = ["/bin/bash", "-c", f'{limit}; exec "$0" "$@"', *command]
         self.errors = open(self.folder / "errors.txt", "ab")
@@ -107,13 +108,30 @@ class Server:
                 self.left.add(os.path.dirname(os.readlink(f"/proc/{number}/cwd")))
         return self
 
+    def collect(self, how):
+        """From its next start on Python collects what refers to itself so: with some words about the module gc."""
+        self.environment["PYTHONPATH"] = str(ROOT)
+        self.words = ["/usr/bin/python3", "-P", "-B", "-c", f"import gc, runpy; {how}; runpy.run_module('board', run_name='__main__')"]
+
+    def program(self, text):
+        """From its next start on it asks this program of the shell, in which PROGRAM is the real one."""
+        path = self.folder / "program"
+        path.write_text(f'#!/bin/sh\nPROGRAM={PROGRAM}\n{text}\nexec $PROGRAM "$@"\n')
+        path.chmod(0o755)
+        self.environment["CDMSEQ"] = str(path)
+
     def clean(self):
         """Removes what a killed server leaves in memory."""
         for left in self.left:
             shutil.rmtree(left, ignore_errors=True)
 
     def told(self):
-        return (self.folder / "errors.txt").read_text()
+        """What it has said on standard error. A thread of its own writes it, so it is read once nothing has come for a while."""
+        file, before = self.folder / "errors.txt", None
+        while (text := file.read_text()) != before:
+            before = text
+            time.sleep(0.05 * FACTOR)
+        return text
 
     def request(self, method, path, body=None, desk=None, **headers):
         """One request. desk: whose token it has. Words in headers have _ for -."""
@@ -171,6 +189,10 @@ class Server:
         text = self.get("/metrics", desk).body.decode()
         return float(next(line for line in text.splitlines() if line.startswith(name + " ")).split()[1])
 
+    def is_ready(self):
+        """Whether its sequencer is."""
+        return json.loads(self.get("/health").body)["ready"]
+
     def kill(self):
         self.process.kill()
         self.process.wait()
@@ -203,7 +225,8 @@ EACH_LOG = ("test_a_reply_goes_to_its_own_record", "test_a_desk_speaks_for_its_o
             "test_what_is_forwarded_is_one_line", "test_an_answer_is_of_one_moment", "test_a_sequencer_that_ended_is_not_gone_on_with",
             "test_a_sequencer_that_says_what_it_must_not_say_is_ended", "test_what_is_kept_of_replies_is_bounded", "test_a_day_is_its_log",
             "test_what_was_answered_is_kept", "test_an_end_answers_what_waits", "test_the_clock_is_taken",
-            "test_an_operator_sends_for_its_own_flights", "test_each_event_once_among_many_displays")
+            "test_an_operator_sends_for_its_own_flights", "test_each_event_once_among_many_displays",
+            "test_a_log_is_bound_to_no_airport_file_that_is_refused")
 
 
 def pytest_generate_tests(metafunc):

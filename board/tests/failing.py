@@ -181,7 +181,7 @@ def checked(day, database, folder):
                     any(reply.get("changes", []) is None for reply in replies)]
     # Both servers and `plan` over the log's lines have one plan.
     for server in day.servers:
-        until(lambda: server.get("/health").status == 200)
+        until(server.is_ready)
         until(lambda: server.get("/v1/records?since=60000", "desk-0", Cdm_After=str(len(rows))).status == 200, 30)
         # On a busy machine the program, which is asked at nice 10, may take longer than a server waits for it.
         answers = []

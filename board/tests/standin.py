@@ -6,7 +6,8 @@ slot of its own: its TSAT is its TOBT, and nothing holds it. It is no part of th
     standin.py kinds --format json
     standin.py plan AIRPORT FEED [--scenarios FILE] [--format text|csv|json]
     standin.py why AIRPORT FEED FLIGHT [--scenarios FILE --scenario NAME] [--format json]
-    standin.py compare AIRPORT FEED SCENARIOS [NAME]
+    standin.py compare AIRPORT FEED SCENARIOS [NAME] [--format text|json]
+    standin.py load AIRPORT FEED [--format text|json]
     standin.py next AIRPORT FEED [MINUTES] [--scenarios FILE --scenario NAME] [--format json]
     standin.py warnings AIRPORT FEED [--scenarios FILE --scenario NAME] [--format json]
     standin.py causes AIRPORT FEED [--by runway|operator] [--scenarios FILE --scenario NAME] [--format json]
@@ -232,6 +233,17 @@ def main(words):
             out({"row": day.rows[rest[2]], "ice": {"kind": "NONE", "minutes": 0}, "now": day.now, "waits": []})
         else:
             print(f"FLIGHT {rest[2]} {day.rows[rest[2]]['status']}")
+        return 0
+    if command == "load":
+        for runway in sorted(day.runways):
+            told = {"runway": runway, "cells": [row["flight"] for _, row in sorted(day.rows.items()) if row["runway"] == runway]}
+            out(told) if options.get("--format") == "json" else print(*told.values())
+        return 0
+    if command == "compare" and options.get("--format") == "json":
+        plan = day.plan(None, [])
+        out({name: plan[name] for name in ("scenario", "placed", "delay", "max", "late", "blocked")} | {"moved": 0})
+        for name in scenarios(rest[2]):
+            out({"scenario": name})
         return 0
     if command == "compare":
         for name in ("SCENARIO", "-", *scenarios(rest[2])):

@@ -4,7 +4,6 @@ import json
 from unittest import mock
 
 import pytest
-from aiohttp import web
 from aiohttp.test_utils import make_mocked_request
 
 from board.answers import Answers, Question
@@ -71,10 +70,8 @@ def test_a_tag_is_not_of_the_day_before():
     board = Board(Desks([], True), mock.Mock(id="0", stale_since=None), day, None, None, None, {"localhost"}, "http", False)
 
     def status():
-        async def handler(request):
-            return web.Response(status=200)
         request = make_mocked_request("GET", "/v1/plan", headers={"Host": "localhost", "If-None-Match": f'"0-{len(day.records)}"'})
-        return asyncio.run(board.checked(request, handler)).status
+        return asyncio.run(board.questions.of_moment(request, len(day.records), "", b"")).status
     assert status() == 304
     day.restart(day_of("AB2"))
     assert status() == 200
@@ -95,11 +92,11 @@ def test_a_reply_is_to_what_was_sent():
     board = Board(Desks([own], True), log, day, None, None, None, {"localhost"}, "http", False)
     log.position = 1
     with pytest.raises(Problem, match="not known") as why:
-        asyncio.run(board.take(own, ["FLT,AB2,5"], None))
+        asyncio.run(board.records.take(own, ["FLT,AB2,5"], None))
     assert why.value.status == 504
     log.position = 2
     day.restart(day_of())
-    assert json.loads(asyncio.run(board.take(own, ["FLT,AB2,5"], None)))["position"] == 2
+    assert json.loads(asyncio.run(board.records.take(own, ["FLT,AB2,5"], None)))["position"] == 2
 
 
 def test_an_answer_is_not_of_the_day_before(tmp_path):

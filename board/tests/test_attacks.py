@@ -46,7 +46,7 @@ def statuses(answer):
 
 def test_a_question_waits_for_its_own_desk_s_alone(board):
     """One desk has many slow questions, the last of them the tower's own: the tower isn't behind them."""
-    server = board(DESKS, faulty="slow:0.7")
+    server = board(DESKS, faulty="slow:0.4")
     server.post(["FLT,AB1,5"], "ap")
     with concurrent.futures.ThreadPoolExecutor(12) as pool:
         slow = [pool.submit(server.request, "POST", "/v1/what-if", f"SCENARIO,X{number}\nTOBT,AB1,{moment(500)}\n", "gh") for number in range(9)]
@@ -60,7 +60,7 @@ def test_a_question_waits_for_its_own_desk_s_alone(board):
 
 def test_who_has_no_desk_asks_one_question_at_a_time(board):
     """From however many addresses: a desk's question waits for one of them at most."""
-    server = board(DESKS, start=False, faulty="slow:0.7")
+    server = board(DESKS, start=False, faulty="slow:0.4")
     server.write_desks(DESKS, read="anyone")
     server.start()
     server.post([f"FLT,AB{number},5" for number in range(30)], "ap")
@@ -125,8 +125,10 @@ def test_a_question_that_is_killed_is_503(board):
 
 def test_no_room_for_a_question_is_503(board):
     """Its files can't be written, as where memory is full: 503, and records go on."""
-    server = board(DESKS, start=False).start("ulimit -f 60")
-    answer = server.request("POST", "/v1/what-if", b"A" * 64_000, "gh")
+    server = board(DESKS)
+    # From here on no file may have more; at its start the server tries whether the disk has room for the log.
+    subprocess.run(["prlimit", "--pid", str(server.process.pid), "--fsize=64000"], check=True)
+    answer = server.request("POST", "/v1/what-if", b"A" * 65_000, "gh")
     assert answer.status == 503 and answer.headers["Retry-After"]
     assert server.post(["FLT,AB1,5"], "ap")[0]["reply"] == "ACCEPTED" and server.get("/v1/plan", "gh").status == 200
 

@@ -94,7 +94,8 @@ def test_a_day_s_log_is_ready_with_each_log(board, engine):
             began = time.monotonic()
             server.start()
             times.append(time.monotonic() - began)
-            assert json.loads(server.get("/health").body) == {"ready": True, "accepted": records, "position": records}
+            assert json.loads(server.get("/health").body) == {
+                "ready": True, "accepted": records, "position": records, "taking": True, "stale_since": None}
             assert server.get("/v1/journal.csv").body.decode() == feed.read_text()
             assert server.end() == 0
         began = time.monotonic()

@@ -101,6 +101,16 @@ def test_a_key_is_taken_once(log_at):
     assert talk(open_log, lambda log: log.append(batch("A", "B", key="k"))) == range(1, 3)
 
 
+def test_a_log_takes_so_many_records(log_at):
+    """60,000 lines, whoever sends them: the body that goes beyond is taken as a whole or not at all."""
+    open_log, force = log_at
+    assert talk(open_log, lambda log: log.append(batch("A"))) == range(1, 2)
+    force("UPDATE cdm_record SET position = 59998")
+    assert problem(lambda: talk(open_log, lambda log: log.append(batch("B", "C", "D")))) == 403
+    assert talk(open_log, lambda log: log.append(batch("B", "C"))) == range(59_999, 60_001)
+    assert problem(lambda: talk(open_log, lambda log: log.append(batch("D", desk="gh")))) == 403
+
+
 def test_a_desk_and_a_log_take_so_many(log_at):
     open_log, _ = log_at
     assert talk(open_log, lambda log: log.append(batch("A", "B", most=2))) == range(1, 3)
@@ -170,6 +180,92 @@ def test_a_log_that_can_t_be_read_is_a_fault(log_at):
             await asyncio.to_thread(force, "ALTER TABLE other_record RENAME TO cdm_record")
     found = talk(open_log, what)
     assert found == [] if force.__name__ == "sql" else "day.db: no such table" in found
+
+
+@pytest.fixture
+def locked(tmp_path):
+    """A log in a file that another program has locked, which is let go by a call."""
+    import sys
+    sys.path.insert(0, str(ROOT))
+    from board import sqlite
+    path = str(tmp_path / "day.db")
+
+    def open_log(_=""):
+        return sqlite.FileLog(path, "")
+    talk(open_log, lambda log: log.rows(0, 1))
+    foreign = sqlite3.connect(path, isolation_level=None, check_same_thread=False)
+    foreign.execute("BEGIN IMMEDIATE")
+    yield open_log, lambda: foreign.execute("ROLLBACK")
+    foreign.close()
+
+
+def test_a_batch_that_nobody_waits_for_is_never_taken(locked):
+    """Its desk went away while another one's transaction ran, looked, and found nothing: so it is, also later."""
+    open_log, let_go = locked
+
+    async def what(log):
+        first = asyncio.create_task(log.append(batch("A", desk="gh")))
+        await asyncio.sleep(0.2)
+        second = asyncio.create_task(log.append(batch("B", key="k")))
+        await asyncio.sleep(0.2)
+        second.cancel()
+        await asyncio.gather(second, return_exceptions=True)
+        let_go()
+        assert await first == range(1, 2)
+        assert await log.append(batch("C", desk="gh")) == range(2, 3)
+        assert [row.line for row in await log.rows(0, 10)] == ["A", "C"]
+        return await log.append(batch("B", key="k"))
+    assert talk(open_log, what) == range(3, 4)
+
+
+def test_a_lock_of_another_program_is_503_and_ends_nothing(locked):
+    """Nothing was taken; the log is tried again, and takes records once the lock is gone."""
+    from board.words import Problem
+    open_log, let_go = locked
+
+    async def what(log):
+        keeping = asyncio.create_task(log.ended())
+        with pytest.raises(Problem, match="nothing was taken") as why:
+            await log.append(batch("A", key="k"))
+        assert why.value.status == 503 and log.stale_since and await log.rows(0, 10) == []
+        let_go()
+        for _ in range(100):
+            if log.stale_since is None:
+                break
+            await asyncio.sleep(0.1)
+        positions = await log.append(batch("A", key="k"))
+        keeping.cancel()
+        await asyncio.gather(keeping, return_exceptions=True)
+        return positions
+    assert talk(open_log, what) == range(1, 2)
+
+
+def test_want_of_memory_in_a_transaction_ends_nothing(tmp_path, monkeypatch):
+    """Whatever a transaction of a file raises, its desks are told, and the log is tried again."""
+    import sys
+    sys.path.insert(0, str(ROOT))
+    from board import sqlite
+    from board.words import Problem
+
+    def no_memory(*_):
+        raise MemoryError("no memory for a batch")
+
+    async def what(log):
+        keeping = asyncio.create_task(log.ended())
+        with monkeypatch.context() as patch:
+            patch.setattr(log, "_take", no_memory)
+            with pytest.raises(Problem, match="nothing was taken") as why:
+                await asyncio.wait_for(log.append(batch("A", key="k")), 10)
+        assert why.value.status == 503
+        for _ in range(100):
+            if log.stale_since is None:
+                break
+            await asyncio.sleep(0.1)
+        positions = await log.append(batch("A", key="k"))
+        keeping.cancel()
+        await asyncio.gather(keeping, return_exceptions=True)
+        return positions
+    assert talk(lambda _="": sqlite.FileLog(str(tmp_path / "day.db"), ""), what) == range(1, 2)
 
 
 def test_ten_boards_of_one_database(log_at):

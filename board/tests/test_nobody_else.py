@@ -82,9 +82,10 @@ def test_a_cookie_is_of_one_desk_and_ends(server):
     cookie = login(server)
     assert objects(server.get("/v1/who", Cookie=cookie).body)[0]["desk"] == "ap"
     name, _, value = cookie.partition("=")
-    desk, expiry, signed = value.split(".")
-    for wrong in (f"atc.{expiry}.{signed}", f"ap.{int(expiry) + 1}.{signed}", f"ap.{expiry}.{signed[::-1]}", f"ap.1.{signed}", "ap", "..", "",
-                  f"ap.{expiry}."):
+    desk, number, began, signed = value.split(".")
+    later = began[:-1] + chr(ord(began[-1]) ^ 1)
+    for wrong in (f"atc.{number}.{began}.{signed}", f"ap.{number}.{later}.{signed}", f"ap.{number}.{began}.{signed[::-1]}", f"ap.1.{began}.{signed}",
+                  f"ap.{began}.{signed}", f"ap.{number}.{began}.", "ap", "..", "...", "", "ap.0.%ff.\xff"):
         assert server.get("/v1/who", Cookie=f"{name}={wrong}").status == 401, wrong
     for body in ('{"desk":"ap","token":"token-atc"}', '{"desk":"ap","token":"x"}'):
         assert server.request("POST", "/v1/session", body).status == 401

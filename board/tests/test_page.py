@@ -12,13 +12,13 @@ def test_at_a_glance(page):
     shown = page().open()
     assert shown.text(".now") == "NOW UTC 05:50"
     assert shown.texts("header dd") == ["5", "1", "2", "46", "28"] and shown.texts("header dt") == [
-        "placed", "late >15", "blocked", "delay min", "greatest"]
+        "placed", "late >15", "blocked", "delay min", "max delay"]
     assert shown.flights("next") == EARLY
     assert shown.row("next", "DLH2") == ["06:05 in 15", "DLH2", "27L", "A12", "06:00", "15", "–", "06:20", "5", "rate"]
     # Late by a word, not by colour alone.
     assert shown.row("next", "RYR6") == ["06:38 in 48", "RYR6", "09", "–", "06:10", "12", "–", "06:50", "late 28", "closure"]
     assert shown.texts("#blocked tbody tr") == ["EZY7 CTOT 27L 07:00 06:30", "KLM5 TOBT 27L – –"]
-    assert shown.texts("#warnings li") == ["BLOCKED EZY7", "OVERDUE, MISSED, EDGE, PAST, AHEAD, FULL, SHUT: none"]
+    assert shown.texts("#warnings li") == ["BLOCKED 1 of 2 EZY7 with a TOBT or CTOT", "OVERDUE, MISSED, EDGE, PAST, AHEAD, FULL, SHUT: none"]
     assert shown.texts("#all summary") == ["Blocked 2", "Planned 5"]
     assert shown.row("all", "AFR4") == ["06:53", "AFR4", "planned", "09", "–", "06:40", "12", "07:10", "07:05", "13"]
     heads = shown.js("return document.querySelector('#next th').innerText")
@@ -33,7 +33,7 @@ def test_the_runways(page):
         "const at = [...band.querySelectorAll('thead th')].findIndex((h) => h.innerText === arguments[1]);" \
         "return [...band.querySelectorAll('tbody tr')].map((row) => row.children[at].innerText.replace(/\\s+/g, ' ').trim())"
     assert shown.js(column, "27L", "06:10") == ["2/2", "BAW3 DLH1"] and shown.js(column, "27L", "06:20") == ["1/2", "DLH2"]
-    assert shown.js(column, "09", "06:20") == ["shut", ""] and shown.js(column, "09", "06:50") == ["1/2", "RYR6"]
+    assert shown.js(column, "09", "06:20") == ["closed", ""] and shown.js(column, "09", "06:50") == ["1/2", "RYR6"]
     assert shown.js("return document.querySelectorAll('.band thead th')[1].innerText") == "05:50"
 
 
@@ -94,13 +94,14 @@ def test_the_mark_stays_ten_seconds(page):
 def test_now_and_no_clock(page):
     shown = page().open()
     assert shown.js("return document.querySelector('#no-clock').hidden")
-    # The last answer has come, which says what the server's clock is.
-    shown.until("return document.querySelector('#operators option') !== null")
-    # Three minutes pass, for the page; it doesn't count on.
-    shown.js("const real = Date.now; Date.now = () => real.call(Date) + 180000;")
+    # Three minutes pass, for the page and for the server's answers; it doesn't count on.
+    shown.js("""window.passed = 180000; const now = Date.now; Date.now = () => now.call(Date) + window.passed;
+        const { get } = Headers.prototype; Headers.prototype.get = function (name) {
+            const told = get.call(this, name);
+            return name === 'Date' && told ? new Date(Date.parse(told) + window.passed).toUTCString() : told; };""")
     shown.until("return !document.querySelector('#no-clock').hidden")
     assert shown.text(".now").startswith("NOW UTC 05:50 no CLOCK since ")
-    shown.js("Date.now = () => new Date().getTime()")
+    shown.js("window.passed = 0")
     shown.server.post("CLOCK,2025-03-10T05:58Z", Cdm_Role="ATC")
     shown.says(".now", "NOW UTC 05:58")
     shown.until("return document.querySelector('#no-clock').hidden")
@@ -112,8 +113,8 @@ def test_a_filter_in_the_address(page):
     shown.type("#filter [name=op]", "DLH")
     shown.until("return location.search === '?op=DLH'")
     assert shown.flights("next") == ["DLH1", "DLH2"] and shown.flights("all") == ["DLH1", "DLH2"] and shown.flights("blocked") == []
-    assert shown.text("#filtered span") == "Filter: operator DLH. 2 of 7 flights; warnings and runways show all."
-    assert shown.texts("#warnings li")[0] == "BLOCKED EZY7"
+    assert shown.text("#filtered span") == "Filter: operator DLH. 2 of 7 flights; totals, warnings and runways show all."
+    assert shown.texts("#warnings li")[0] == "BLOCKED 1 of 2 EZY7 with a TOBT or CTOT"
     first = shown.tab("?runway=09&status=planned")
     assert shown.flights("all") == ["RYR6", "AFR4"] and shown.flights("next") == ["RYR6"]
     shown.click("#show-all")
@@ -134,7 +135,7 @@ def test_a_flight_why_it_waits_and_its_records(page):
     shown.says("#waits", "CLOSURE")
     assert shown.texts("#waits li") == ["X 06:22–06:49 CLOSURE 28 min"]
     assert shown.text("#why-note") == "28 min, take-off 06:22 to 06:50"
-    assert shown.text("#h-f") == "RYR6 planned, runway 09, no stand, priority 5, group M"
+    assert shown.text("#h-f") == "RYR6 planned, runway 09, no stand, priority 5, wake category M"
     assert shown.texts("#p-flight .facts dd") == ["06:10", "12", "–", "06:38", "06:50", "late 28"]
     records = [record for record in shown.server.records() if ",RYR6" in record["line"]]
     assert [record["line"] for record in records] == ["FLT,RYR6,5", "RWY,RYR6,09", "TOBT,RYR6,2025-03-10T06:10Z"]

@@ -68,6 +68,9 @@ def test_contrast(page, theme):
         shown.js("document.documentElement.classList.add('is-lost')")
         assert shown.js(CONTRAST)[1] == []
         shown.js("document.documentElement.classList.remove('is-lost')")
+        shown.js("location.hash = '#EZY7'")
+        shown.says("#f-warnings", "BLOCKED")
+        assert shown.js(CONTRAST)[1] == []
         shown.open("#what-if")
         shown.js("document.querySelector('#scenario').value = 'SCENARIO,OPEN-0630\\nOPEN,09,2025-03-10T06:30Z,2025-03-10T06:50Z'")
         shown.click("#p-what-if form button")
@@ -77,7 +80,7 @@ def test_contrast(page, theme):
         shown.says("#picture", "OPEN-0630")
         assert shown.js(CONTRAST)[1] == []
         # Each kind of warning, each letter, a reply that is refused, a fault, and what is said of the clock and of the log.
-        shown.js("""document.querySelector('#warnings ul').innerHTML = ['OVERDUE', 'MISSED', 'BLOCKED', 'EDGE', 'PAST', 'AHEAD', 'FULL', 'SHUT', 'none']
+        shown.js("""document.querySelector('#warnings ul').innerHTML = ['OVERDUE', 'MISSED', 'BLOCKED', 'EDGE', 'PAST', 'AHEAD', 'FULL', 'SHUT', 'other', 'none']
             .map((kind) => `<li class="w ${kind}"><b>${kind}</b> <em>new</em> <a href="#A">A</a> 06:00 <button>+2</button></li>`).join('');
             document.querySelector('#wi-flights').innerHTML = [...'INCXSR'].map((letter) => `<tr><td><b class="k${letter}">${letter}</b></td></tr>`).join('')
               + '<tr class="moved"><td class="mv">06:20</td><td><b class="tag">EDGE</b> <b class="refused">refused</b> <small>AO</small></td></tr>';
@@ -163,8 +166,10 @@ def test_landmarks_and_tables(page):
 
 
 def test_one_live_region_that_doesn_t_flood(page):
+    """One that waits until a screen reader has ended; beside it an alert, which is empty while there is a connection."""
     shown = page().open()
-    assert shown.js("return document.querySelectorAll('[aria-live], [role=status], [role=alert], [role=log]').length") == 1
+    assert shown.js("return [...document.querySelectorAll('[aria-live], [role=status], [role=alert], [role=log]')].map((e) => [e.role, e.textContent !== ''])") == [
+        ["status", True], ["alert", False]]
     shown.js("""window.writes = []; new MutationObserver(() => window.writes.push(performance.now()))
         .observe(document.querySelector('#conn'), {childList: true, subtree: true, characterData: true});""")
     for minute in range(10, 40):
@@ -226,13 +231,13 @@ def test_a_panel_that_covers_the_page(page):
 
 
 def test_in_print_and_in_forced_colours(page):
-    """Words and frames stay: the late one says so, warnings their kind, a closed cell that it is shut."""
+    """Words and frames stay: the late one says so, warnings their kind, a closed cell that it is closed."""
     shown = page().open()
-    words = lambda: (shown.row("next", "RYR6")[8], shown.texts("#warnings li")[0], "shut" in shown.text("#rw-09 + .scroll"))
+    words = lambda: (shown.row("next", "RYR6")[8], shown.texts("#warnings li")[0], "closed" in shown.text("#rw-09 + .scroll"))
     try:
         for media in ({"media": "print"}, {"media": "", "features": [{"name": "forced-colors", "value": "active"}]}):
             shown.driver.execute_cdp_cmd("Emulation.setEmulatedMedia", media)
-            assert words() == ("late 28", "BLOCKED EZY7", True), media
+            assert words() == ("late 28", "BLOCKED 1 of 2 EZY7 with a TOBT or CTOT", True), media
             assert shown.js("return parseFloat(getComputedStyle(document.querySelector('#warnings .BLOCKED')).borderLeftWidth)") >= 1
         shown.driver.execute_cdp_cmd("Emulation.setEmulatedMedia", {"media": "print", "features": [{"name": "prefers-color-scheme", "value": "dark"}]})
         assert shown.js("return getComputedStyle(document.querySelector('#next')).color") == "rgb(18, 23, 28)"

@@ -85,7 +85,7 @@ def test_many_warnings(page):
 def test_a_new_warning_is_new_for_a_minute(page):
     shown = page().open()
     shown.server.post(f"CTOT,AFR4,{at('06:40')}", Cdm_Role="NM")
-    shown.says("#warnings", "BLOCKED 2 new AFR4 EZY7", seconds=10 + WAIT)
+    shown.says("#warnings", "BLOCKED 2 of 3 new AFR4 EZY7", seconds=10 + WAIT)
     shown.says("#conn", "New warning: BLOCKED AFR4.")
     # A minute passes, for the page.
     shown.js("const real = performance.now.bind(performance); performance.now = () => real() + 61000;")
@@ -220,9 +220,10 @@ def test_a_log_that_is_not_reached(page):
     shown = page().open()
     shown.js("""const real = fetch; window.fetch = async (...words) => {
         const got = await real(...words); const headers = new Headers(got.headers); headers.set('Cdm-Stale-Since', '2025-03-10T05:49:12.000Z');
-        return new Response(got.body, {status: got.status, headers}); };""")
+        const body = words[0] === '/health' ? JSON.stringify({...await got.json(), stale_since: '2025-03-10T05:49:12.000Z'}) : got.body;
+        return new Response(body, {status: got.status, headers}); };""")
     shown.server.post(f"TOBT,DLH1,{at('06:20')}", Cdm_Role="AO")
-    shown.says("#stale", "The log isn’t reached since 05:49:12 UTC: what is shown may be old, and nothing can be sent.")
+    shown.says("#stale", "The log isn’t reached since 05:49:12 UTC: what is shown may be old, and nothing can be sent.", seconds=20 + WAIT)
 
 
 def test_what_is_asked_again_is_asked_once_a_second(page):
@@ -236,39 +237,8 @@ def test_what_is_asked_again_is_asked_once_a_second(page):
     count = "return performance.getEntriesByType('resource').filter((e) => e.name.endsWith(arguments[0])).length"
     for name in ("next.json", "compare", "warnings.json", "load.json"):
         seconds = (shown.js("return performance.now()") - began) / 1000
-        assert 1 <= shown.js(count, name) <= seconds + 1, name
+        assert shown.js(count, name) <= seconds + 1, name  # none where the events bring it
     assert shown.js(count, "plan.json") == 0
-    # Also where the server answers at once: records for three seconds, and four questions at most.
-    asked = shown.driver.execute_async_script("""const done = arguments[0];
-        (async () => {
-          const {Asker} = await import('/asker.js');
-          let [asked, position] = [0, 1];
-          window.fetch = async () => { asked += 1; return new Response('{}', {headers: {'Cdm-Position': String(position)}}); };
-          const asker = new Asker([{name: 'x', path: () => '/x', isWanted: () => true, show: () => {}}]);
-          const began = performance.now();
-          asker.start(position);
-          while (performance.now() - began < 2900) { await new Promise((next) => setTimeout(next, 20)); asker.changed(position += 1); }
-          done(asked);
-        })();""")
-    assert 2 <= asked <= 4
-
-
-def test_an_older_answer_is_dropped(page):
-    """A balancer's other server may be behind: what it answers of an older record isn't shown over a newer one."""
-    shown = page().open()
-    assert shown.driver.execute_async_script("""const done = arguments[0];
-        (async () => {
-          const {Asker} = await import('/asker.js');
-          const positions = [7, 6, 8]; let asked = 0;
-          window.fetch = async () => new Response(JSON.stringify({asked}), {headers: {'Cdm-Position': String(positions[asked++])}});
-          const got = [];
-          const asker = new Asker([{name: 'x', path: () => '/x', isWanted: () => true, show: ([one], position) => got.push(position)}]);
-          asker.start(7); await new Promise((next) => setTimeout(next, 500));
-          asker.changed(8);
-          while (asked < 3) await new Promise((next) => setTimeout(next, 100));
-          await new Promise((next) => setTimeout(next, 300));
-          done(got);
-        })();""") == [7, 8]
 
 
 def test_the_picture(page):

@@ -1,4 +1,5 @@
 """What the pages show can be pasted."""
+import gzip
 import json
 import os
 import re
@@ -7,7 +8,6 @@ import subprocess
 
 import pytest
 from conftest import PROGRAM, ROOT, objects
-from test_proxy import free_port
 
 
 def test_the_talk_of_the_page(tmp_path):
@@ -15,9 +15,8 @@ def test_the_talk_of_the_page(tmp_path):
     if shutil.which("curl") is None:
         pytest.skip("test_the_talk_of_the_page: curl is missing")
     text = re.search(r"```sh\n(day=.*?)```", (ROOT / "board/README.md").read_text(), re.DOTALL)[1]
-    port = str(free_port())
-    assert "8270" in text and '"$day/desks.toml" >' in text
-    text = text.replace("8270", port).replace('"$day/desks.toml" >', f'"$day/desks.toml" --listen 127.0.0.1:{port} >')
+    # The reader has a job of their own, and keeps it, as they keep their umask.
+    text = f"umask 027\nsleep 600 & job=$!\n{text}\nkill -0 $job && kill $job && echo kept; umask\n"
     ended = subprocess.run(["bash", "-um"], input=text, cwd=ROOT, env=dict(os.environ, CDMSEQ=PROGRAM, TMPDIR=str(tmp_path)), capture_output=True,
                            text=True, timeout=60)
     replies = objects("\n".join(line for line in ended.stdout.splitlines() if line.startswith('{"position":')))
@@ -25,5 +24,56 @@ def test_the_talk_of_the_page(tmp_path):
         (1, "airport", "ACCEPTED", None), (2, "tower", "ACCEPTED", None), (3, "operator", "ACCEPTED", None), (3, "operator", "ACCEPTED", None),
         (4, "operator", "REFUSED", "AUTHORITY"), (5, "operator", "ACCEPTED", None)], (ended.stdout, ended.stderr)
     assert replies[2] == replies[3] and "AUTHORITY: " in ended.stdout and "DAY 2025-03-10" in ended.stdout and "SHUT" in ended.stdout
-    event = next(line for line in ended.stdout.splitlines() if line.startswith("data: "))
-    assert json.loads(event[6:])["position"] == 5
+    assert ended.stdout.endswith("kept\n0027\n"), (ended.stdout, ended.stderr)
+    events = re.findall(r"^event: (\w+)\ndata: (.*)$", ended.stdout, re.MULTILINE)
+    assert [(name, json.loads(data)["position"]) for name, data in events if name != "view"] == [("reply", 5)]
+    assert ("view", 4) in [(name, json.loads(data)["position"]) for name, data in events]
+
+
+REFERENCE = re.compile(r'(?:href|src)="(/page-([0-9a-f]{16})/[^"]+)"')
+
+
+def test_the_page_s_files_are_those_of_one_version(board, tmp_path):
+    """`/` names the folder of its files by their digest. They are kept for ever; another version's folder is 404; and a server serves what
+    was there at its start, so that a page never mixes the files of two."""
+    shutil.copytree(ROOT / "board", tmp_path / "board")
+    shutil.copy2(ROOT / "cdmboard", tmp_path / "cdmboard")
+    server = board(start=False)
+    page = tmp_path / "board/page"
+
+    def start():
+        server.process = subprocess.Popen(
+            [str(tmp_path / "cdmboard"), str(server.airport), str(server.log), "--listen", f"127.0.0.1:{server.port}"],
+            env=server.environment, stdout=subprocess.PIPE, stderr=open(server.folder / "errors.txt", "ab"))
+        server.port = int(server.process.stdout.readline().decode().rstrip("/\n").rpartition(":")[2])
+        server.errors = open(server.folder / "errors.txt", "ab")
+        first = server.get("/")
+        assert first.status == 200 and first.headers["Cache-Control"] == "no-cache"
+        found = REFERENCE.findall(first.body.decode())
+        assert len({digest for _, digest in found}) == 1
+        return first, [path for path, _ in found], found[0][1]
+    first, paths, digest = start()
+    assert {path.rpartition("/")[2] for path in paths} >= {"board.css", "main.js", "icon.svg"}
+    for path in paths:
+        answer, name = server.get(path), path.rpartition("/")[2]
+        assert answer.body == (page / name).read_bytes() and answer.status == 200, path
+        assert answer.headers["Cache-Control"] == "public, max-age=31536000, immutable"
+        assert ("Content-Security-Policy" in answer.headers) == name.endswith(".svg") and "ETag" not in answer.headers
+        assert gzip.decompress(server.get(path, Accept_Encoding="gzip").body) == answer.body
+    assert first.headers["Content-Security-Policy"].startswith("default-src 'self'")
+    assert server.get("/", If_None_Match=first.headers["ETag"]).status == 304
+    # Modules import each other relatively, so within the folder.
+    imported = {name for path in page.glob("*.js") for name in re.findall(r"""from '(.[^']*)'""", path.read_text())}
+    assert imported and all(re.fullmatch(r"\./[a-z]+\.js", name) for name in imported), imported
+    other = "0" * 16
+    for path, why in ((f"/page-{other}/main.js", "another version"), (f"/page-{digest}/nix.js", "no such file"), (f"/page-{digest}/index.html", "no such file")):
+        answer = server.get(path)
+        assert answer.status == 404 and answer.headers["Cache-Control"] == "no-cache" and why in json.loads(answer.body)["detail"], path
+    assert server.get("/main.js").status == 404
+    # A file that is changed beneath the server is the next start's.
+    (page / "times.js").write_text((page / "times.js").read_text() + "// changed\n")
+    assert server.get(f"/page-{digest}/times.js").body + b"// changed\n" == (page / "times.js").read_bytes()
+    assert server.end() == 0
+    _, _, later = start()
+    assert later != digest and server.get(f"/page-{digest}/main.js").status == 404
+    assert server.get(f"/page-{later}/times.js").body == (page / "times.js").read_bytes()

@@ -1,6 +1,7 @@
 """The log in PostgreSQL, which servers share: fail-overs, rights, and what is said while the database is away."""
 import asyncio
 import concurrent.futures
+import contextlib
 import json
 import os
 import re
@@ -31,7 +32,7 @@ def shared():
 
 @pytest.fixture
 def primary(shared):
-    shared.sql("TRUNCATE cdm_log, cdm_record")
+    shared.sql("TRUNCATE cdm_log, cdm_record, cdm_session, cdm_audit")
     return shared
 
 
@@ -48,23 +49,81 @@ def test_the_servers_user_can_only_append_and_read(primary):
     assert json.loads(primary.sql(told, who="cdm")) == [{"first": 1, "count": 1}]
     for text in ("INSERT INTO cdm_record VALUES ('', 2, 'd', NULL, 0, 1, 'AP', 'B', 't')", "INSERT INTO cdm_log VALUES ('x', 'x', 'x', 'x')",
                  "UPDATE cdm_record SET line = 'B'", "UPDATE cdm_log SET version = 'w'", "DELETE FROM cdm_record", "DELETE FROM cdm_log",
-                 "TRUNCATE cdm_record", "TRUNCATE cdm_log", "DROP TABLE cdm_record", "ALTER TABLE cdm_record DISABLE TRIGGER ALL",
+                 "TRUNCATE cdm_record", "TRUNCATE cdm_log", "UPDATE cdm_log SET secret = ''", "DELETE FROM cdm_session", "DELETE FROM cdm_audit",
+                 "UPDATE cdm_session SET not_before = 0", "UPDATE cdm_audit SET address = ''", "SELECT FROM cdm_log FOR UPDATE", "DROP TABLE cdm_record", "ALTER TABLE cdm_record DISABLE TRIGGER ALL",
                  "DROP FUNCTION cdm_append", "CREATE TABLE own (x integer)", "SET ROLE cdm_owner", "SELECT lo_creat(-1); COPY cdm_record FROM '/dev/null'",
                  "CREATE OR REPLACE FUNCTION cdm_append(text, jsonb, text, bytea, text) RETURNS jsonb LANGUAGE sql AS 'SELECT NULL::jsonb'"):
         with pytest.raises(RuntimeError, match="permission denied|must be owner|must be superuser"):
             primary.sql(text, who="cdm")
     assert primary.sql("SELECT position, line FROM cdm_record", who="cdm") == "1|A"
-    # Who isn't a server can't even read.
-    primary.sql("DROP ROLE IF EXISTS other; CREATE ROLE other LOGIN")
-    for text in ("SELECT * FROM cdm_record", told):
+    # Who isn't a server can't even read, also where it is let into the database.
+    primary.sql("DROP ROLE IF EXISTS other; CREATE ROLE other LOGIN; GRANT CONNECT ON DATABASE cdm TO other")
+    for text in ("SELECT * FROM cdm_record", "SELECT secret FROM cdm_log", "SELECT * FROM cdm_session", "SELECT * FROM cdm_audit",
+                 "SELECT cdm_sign_out('', 'd')", "SELECT cdm_note('', '[]')", told):
         with pytest.raises(RuntimeError, match="permission denied"):
             primary.sql(text, who="other")
+    primary.sql("DROP OWNED BY other; DROP ROLE other")
     # Nor can a search path of the caller's own lead the function elsewhere.
     primary.sql("SET search_path = pg_temp; CREATE TEMP TABLE cdm_record (LIKE public.cdm_record); " + told.replace("cdm_append", "public.cdm_append"), who="cdm")
     assert primary.sql("SELECT count(*) FROM cdm_record") == "2"
     with pytest.raises(RuntimeError, match="read committed"):
         primary.sql(f"BEGIN ISOLATION LEVEL REPEATABLE READ; {told}", who="cdm")
     assert url.startswith("postgresql://cdm@")
+
+
+def test_no_login_stops_a_board(primary):
+    """Who may connect to the cluster gets neither into the database nor at the lock of a board; a secret is no two boards'."""
+    take = """SELECT cdm_append('', '[{"desk": "d", "most": 9, "end": 9, "at": "t", "closed": false, "records": [["AP", "A"]]}]')"""
+    primary.sql("SELECT cdm_append('', '[]', 'id', 'x', 'v'); SELECT cdm_append('other', '[]', 'id', 'x', 'v')", who="cdm")
+    secrets = primary.sql("SELECT secret FROM cdm_log", who="cdm").splitlines()
+    assert len(set(secrets)) == 2 and all(re.fullmatch("[0-9a-f]{64}", secret) for secret in secrets)
+    primary.sql("DROP ROLE IF EXISTS stranger; CREATE ROLE stranger LOGIN")
+    with pytest.raises(RuntimeError, match="permission denied for database"):
+        primary.sql("SELECT 1", who="stranger")
+    # Even in the database every lock that it can have is none of a board.
+    primary.sql("GRANT CONNECT ON DATABASE cdm TO stranger")
+    held = subprocess.Popen([f"{clusters.binaries()}/psql", "-X", "-q", "-h", "127.0.0.1", "-p", str(primary.port), "-U", "stranger", "-d", "cdm", "-c",
+                             "SELECT pg_advisory_lock(hashtextextended('cdm_record ', 0))", "-c", "SELECT pg_sleep(20)"], stdout=subprocess.DEVNULL)
+    try:
+        until(lambda: primary.sql("SELECT count(*) FROM pg_locks WHERE locktype = 'advisory' AND granted") == "1")
+        assert json.loads(primary.sql(f"SET lock_timeout = '3s'; {take}", who="cdm")) == [{"first": 1, "count": 1}]
+    finally:
+        held.kill()
+        held.wait()
+        primary.sql("SELECT pg_terminate_backend(pid) FROM pg_stat_activity WHERE usename = 'stranger'; DROP OWNED BY stranger; DROP ROLE stranger")
+
+
+def test_init_by_an_owner_who_is_no_superuser():
+    """As a managed database has one: it owns the database and may create roles. Run again it changes nothing, and keeps no right."""
+    with clusters.clusters(settings=QUICK) as (primary,):
+        primary.sql("DROP DATABASE cdm", "postgres")
+        primary.sql("DROP ROLE cdm; DROP ROLE cdm_server; DROP ROLE cdm_owner; CREATE ROLE manager LOGIN CREATEROLE", "postgres")
+        primary.sql("CREATE DATABASE cdm OWNER manager", "postgres")
+        for _ in range(2):
+            ended = cdmboard("log", "init", primary.url("manager"))
+            assert (ended.returncode, ended.stderr) == (0, "") and "CONNECT is taken from PUBLIC" in ended.stdout
+        primary.sql("CREATE ROLE cdm LOGIN IN ROLE cdm_server", who="manager")
+        assert primary.sql("SELECT cdm_append('', '[]', 'id', 'x', 'v')", who="cdm") == "[]"
+        for text in ("DELETE FROM cdm_record", "SELECT secret FROM cdm_log"):
+            with pytest.raises(RuntimeError, match="permission denied"):
+                primary.sql(text, who="manager")
+        assert primary.sql("SELECT has_schema_privilege('cdm_owner', 'public', 'CREATE')") == "f"
+
+
+def test_older_tables_are_told_and_brought_up_to_date(board):
+    """Boards that were made without a secret: a start says what to do, `log init` gives each its own, and the day goes on."""
+    with clusters.clusters(settings=QUICK) as (primary,):
+        server = board(log=primary.url())
+        server.post(["FLT,AB1,5"], Cdm_Role="AP")
+        assert server.end() == 0
+        primary.sql("SELECT cdm_append('other', '[]', 'id', 'x', 'v')")
+        primary.sql("ALTER TABLE cdm_log DROP COLUMN secret; DROP TABLE cdm_session, cdm_audit; DROP FUNCTION cdm_note, cdm_sign_out")
+        ended = cdmboard(server.airport, primary.url())
+        assert ended.returncode == 3 and "log init" in ended.stderr
+        assert cdmboard("log", "init", primary.url("postgres")).returncode == 0
+        secrets = primary.sql("SELECT secret FROM cdm_log", who="cdm").splitlines()
+        assert len(set(secrets)) == 2 and all(len(secret) == 64 for secret in secrets)
+        assert [record["line"] for record in server.start().records()] == ["FLT,AB1,5"]
 
 
 def test_whoever_comes_while_a_commit_is_open_waits(primary):
@@ -164,6 +223,151 @@ def test_two_clocks_take_each_minute_once(board, primary):
     assert len(set(lines)) == len(lines) and lines[0].startswith(f"CLOCK,{today}T")
 
 
+def opened(url, what):
+    """What some calls over an open log return, while it is kept."""
+    from board.postgres import PostgresLog
+
+    async def all_of_it():
+        log = PostgresLog(url, "")
+        await log.open(AIRPORT.encode(), "v1")
+        keeping = asyncio.create_task(log.ended())
+        try:
+            return await what(log)
+        finally:
+            keeping.cancel()
+            await asyncio.gather(keeping, return_exceptions=True)
+            await log.close()
+    return asyncio.run(all_of_it())
+
+
+def test_records_that_the_database_refuses_take_nothing_else_along(primary):
+    """Those that are committed together with them are taken, and the link stays."""
+    from board.log import Batch
+    from board.words import Problem
+
+    async def what(log):
+        link = log._link
+        batches = [Batch(f"desk-{number}", [("AP", f"A{number}")], most=3_000_000_000 if number == 2 else 9) for number in range(5)]
+        told = await asyncio.gather(*(log.append(batch) for batch in batches), return_exceptions=True)
+        assert log._link is link and log.stale_since is None
+        return told
+    for _ in range(3):
+        primary.sql("TRUNCATE cdm_record")
+        told = opened(primary.url(), what)
+        assert [answer for answer in told if isinstance(answer, range)] == [range(1, 2), range(2, 3), range(3, 4), range(4, 5)]
+        assert isinstance(told[2], Problem) and told[2].status == 503 and "refuses these records; nothing was taken" in str(told[2])
+        assert primary.sql("SELECT string_agg(line, ' ' ORDER BY position) FROM cdm_record") == "A0 A1 A3 A4"
+
+
+def test_a_role_that_commits_without_waiting_is_not_used(board, primary):
+    """`synchronous_commit = off`: at a start, and when a server comes back; it is used once the role is right."""
+    server = board(log=primary.url(), start=False)
+    primary.sql("ALTER ROLE cdm SET synchronous_commit = off")
+    try:
+        ended = cdmboard(server.airport, primary.url())
+        assert ended.returncode == 1 and "synchronous_commit is off" in ended.stderr
+        primary.sql("ALTER ROLE cdm RESET synchronous_commit")
+        server.start()
+        assert server.post(["FLT,AB1,5"], Cdm_Role="AP", key="k")[0]["position"] == 1
+        primary.sql("ALTER ROLE cdm SET synchronous_commit = off")
+        primary.sql("SELECT pg_terminate_backend(pid) FROM pg_stat_activity WHERE usename = 'cdm'")
+        until(lambda: "Cdm-Stale-Since" in server.get("/v1/plan").headers)
+        time.sleep(1.5)
+        assert server.post(["FLT,AB2,5"], Cdm_Role="AP", key="k2").status == 503
+    finally:
+        primary.sql("ALTER ROLE cdm RESET synchronous_commit")
+    until(lambda: [reply["position"] for reply in taken(server, "FLT,AB2,5", "k2")] == [2], 30)
+
+
+class Wire:
+    """A relay to a database, that forgets a connection as a firewall does: nothing more comes through, and nobody is told."""
+
+    def __init__(self, port):
+        self.port, self.forgotten, self.connections = port, set(), []
+
+    async def relay(self, reader, writer):
+        number = len(self.connections)
+        self.connections.append(number)
+        there, back = await asyncio.open_connection("127.0.0.1", self.port)
+
+        async def copy(come, go):
+            while data := await come.read(65536):
+                if number in self.forgotten:
+                    await asyncio.sleep(3600)
+                go.write(data)
+            go.close()
+        copies = [asyncio.create_task(copy(reader, back)), asyncio.create_task(copy(there, writer))]
+        try:
+            await asyncio.wait(copies, return_when=asyncio.FIRST_COMPLETED)
+        finally:
+            for one in copies:
+                one.cancel()
+            back.close()
+            writer.close()
+
+
+def test_a_connection_that_a_firewall_forgot_is_replaced(primary, monkeypatch):
+    """The morning's first record is taken, not 504."""
+    from board import postgres
+    from board.log import Batch
+    from board.postgres import PostgresLog
+    monkeypatch.setattr(postgres, "IDLE_SECONDS", 0.5)
+    monkeypatch.setattr(postgres, "READ", 1.0)
+
+    async def talk():
+        wire = Wire(primary.port)
+        relay = await asyncio.start_server(wire.relay, "127.0.0.1", 0)
+        log = PostgresLog(f"postgresql://cdm@127.0.0.1:{relay.sockets[0].getsockname()[1]}/cdm", "")
+        await log.open(AIRPORT.encode(), "v1")
+        keeping = asyncio.create_task(log.ended())
+        try:
+            assert await log.append(Batch("ap", [("AP", "A")])) == range(1, 2)
+            first = log._link
+            wire.forgotten.add(1)
+            for _ in range(600):
+                if log._link not in (None, first):
+                    break
+                await asyncio.sleep(0.05)
+            assert log._link not in (None, first)
+            return await log.append(Batch("ap", [("AP", "B")]))
+        finally:
+            keeping.cancel()
+            await asyncio.gather(keeping, return_exceptions=True)
+            await log.close()
+            relay.close()
+    assert asyncio.run(asyncio.wait_for(talk(), 60)) == range(2, 3)
+
+
+def test_a_host_s_second_address_is_tried(primary, monkeypatch):
+    """Where the first one answers nobody."""
+    import socket
+    from board import postgres
+    monkeypatch.setattr(postgres, "CONNECT", 1.0)
+
+    async def talk():
+        loop, addresses = asyncio.get_running_loop(), ["127.0.0.2", "127.0.0.1"]
+        real = loop.getaddrinfo
+
+        async def found(host, port, **more):
+            names = addresses if host == "db.example" else [host]
+            return [one for name in names for one in await real(name, port, **more)]
+        monkeypatch.setattr(loop, "getaddrinfo", found)
+        with socket.socket() as silent, contextlib.ExitStack() as opened:
+            silent.bind(("127.0.0.2", primary.port))
+            silent.listen(0)
+            # Its queue is full, so whoever comes now hears nothing.
+            for _ in range(4):
+                full = opened.enter_context(socket.socket())
+                full.setblocking(False)
+                full.connect_ex(("127.0.0.2", primary.port))
+            connection = await postgres.first(f"postgresql://cdm@db.example:{primary.port}/cdm", postgres.connect)
+            try:
+                return await connection.fetchval("SELECT 1")
+            finally:
+                connection.terminate()
+    assert asyncio.run(talk()) == 1
+
+
 def test_a_row_that_is_no_line_ends_the_server(board, primary):
     """It is never forwarded: the sequencer would take two lines."""
     server = board(log=primary.url())
@@ -222,7 +426,7 @@ def test_a_database_that_is_away(board):
         assert json.loads(server.get("/health").body)["stale_since"]
         # A sequencer that ends meanwhile has the day again.
         os.kill(server.sequencers()[0], signal.SIGKILL)
-        until(lambda: server.metric("cdm_restarts") == 1 and server.get("/health").status == 200)
+        until(lambda: server.metric("cdm_restarts") == 1 and server.is_ready())
         primary.start()
         until(lambda: "Cdm-Stale-Since" not in server.get("/v1/plan").headers)
         assert server.post(["FLT,AB2,5"], Cdm_Role="AP", key="k")[0]["position"] == 2
@@ -275,7 +479,7 @@ def test_a_fail_over_that_lost_records_begins_the_day_anew(board):
                 for server in servers:
                     assert server.end() == 0
                 for display in displays:
-                    told = re.findall(r"event: (\w+)\ndata: ", display.result().decode())
+                    told = [event for event in re.findall(r"event: (\w+)\ndata: ", display.result().decode()) if event != "view"]
                     assert told[0] == "reset" and told[-1] == "end" and set(told[1:-1]) <= {"reply", "reset"}
             finally:
                 # Otherwise the displays would be waited for.
@@ -303,7 +507,7 @@ def test_no_timeout_cancels_a_commit(board):
             until(lambda: "Cdm-Stale-Since" not in server.get("/v1/plan").headers, 30)
             assert len(server.records()) == 1 and server.post(["FLT,AB3,5"], Cdm_Role="AP", key="other").status == 503
         # Each server has one commit that waits.
-        until(lambda: primary.sql("SELECT count(*) FROM pg_stat_activity WHERE usename = 'cdm' AND wait_event IN ('SyncRep', 'advisory')") == "2")
+        until(lambda: primary.sql("SELECT count(*) FROM pg_stat_activity WHERE usename = 'cdm' AND wait_event IN ('SyncRep', 'transactionid', 'tuple')") == "2")
         assert primary.sql("SELECT count(*) FROM cdm_record") == "1"
         # After a start of its own the primary has the record, and still not the standby.
         primary.kill()
@@ -365,3 +569,6 @@ def test_a_database_of_the_past_is_not_used(board):
         standby.start()
         until(lambda: isinstance(server.post(["FLT,AB3,5"], Cdm_Role="AP", key="k3"), list), 30)
         assert [record["line"] for record in server.records()] == ["FLT,AB1,5", "FLT,AB2,5", "FLT,AB3,5"]
+        # A new server hasn't been at either, and LOG has the old one first.
+        other = board(log=clusters.url_of(primary, standby))
+        assert len(other.records()) == 3 and primary.sql("SELECT count(*) FROM cdm_record") == "1"

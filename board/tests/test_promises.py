@@ -2,11 +2,12 @@
 import asyncio
 import concurrent.futures
 import json
+import os
+import resource
 import signal
 import socket
 import sqlite3
 import time
-import os
 
 import aiohttp
 import pytest
@@ -57,26 +58,35 @@ def test_a_reply_is_of_a_record_in_the_log(board):
         kept.close()
 
 
-def test_a_full_disk_ends_the_server(board):
-    """A commit that fails: no reply, 504, and the server ends; what was replied to before is there."""
-    server = board(start=False)
-    server.start("ulimit -f 250")
-    replied, answer = 0, None
-    for number in range(200):
-        try:
-            answer = server.post([f"FLT,F{number}X{k},5" for k in range(16)], Cdm_Role="AP", key=f"k{number}")
-        except OSError:
-            break
+def test_a_full_disk_stops_no_reader(board):
+    """A commit that fails: no reply, 503 or 504; plans go on and say since when nothing is taken; once there is room, records are taken
+    again, and those that were sent with their keys are there once."""
+    server, replied, answer = board(), [], None
+
+    def limit_files(size):
+        resource.prlimit(server.process.pid, resource.RLIMIT_FSIZE, (size, resource.getrlimit(resource.RLIMIT_FSIZE)[1]))
+    limit_files(100_000)
+    for number in range(60):
+        answer = server.post([f"FLT,F{number}X{k},5" for k in range(16)], Cdm_Role="AP", key=f"k{number}")
         if not isinstance(answer, list):
             break
-        replied += len(answer)
-    assert not isinstance(answer, list) and answer.status == 504
-    assert server.process.wait(10) == 1
-    assert "disk" in server.told() or "full" in server.told()
-    server.start()
-    assert [record["line"] for record in server.records()][:replied] == [
-        f"FLT,F{n // 16}X{n % 16},5" for n in range(replied)]
-    assert replied >= 16
+        replied += answer
+    assert not isinstance(answer, list) and answer.status in (503, 504) and len(replied) >= 16
+    until(lambda: "Cdm-Stale-Since" in server.get("/v1/plan").headers)
+    later = server.post(["FLT,LATER,5"], Cdm_Role="AP", key="later")
+    assert later.status == 503 and later.headers["Retry-After"] and b"nothing was taken" in later.body
+    assert [record["line"] for record in server.records()] == [reply["line"] for reply in replied]
+    assert json.loads(server.get("/health").body)["stale_since"] and "takes no records" in server.told()
+    time.sleep(2.5)
+    assert server.post(["FLT,LATER,5"], Cdm_Role="AP", key="later").status == 503
+    limit_files(resource.getrlimit(resource.RLIMIT_FSIZE)[0])
+    until(lambda: "Cdm-Stale-Since" not in server.get("/v1/plan").headers)
+    again = server.post([f"FLT,F{number}X{k},5" for k in range(16)], Cdm_Role="AP", key=f"k{number}")
+    assert [reply["position"] for reply in again] == list(range(len(replied) + 1, len(replied) + 17))
+    assert server.process.poll() is None and "takes records again" in server.told()
+    log = server.records()
+    assert server.end() == 0
+    assert [(record["position"], record["line"]) for record in server.start().records()] == [(record["position"], record["line"]) for record in log]
 
 
 def test_a_record_is_taken_once(board):
@@ -146,7 +156,7 @@ def test_a_sequencer_that_ended_is_not_gone_on_with(board):
     server.post(["FLT,AB1,5"], Cdm_Role="AP")
     old, = server.sequencers()
     os.kill(old, signal.SIGKILL)
-    until(lambda: server.metric("cdm_restarts") == 1 and server.get("/health").status == 200)
+    until(lambda: server.metric("cdm_restarts") == 1 and server.is_ready())
     assert len(server.sequencers()) == 1 and server.sequencers() != [old]
     reply, = server.post(["TOBT,AB1," + moment(400)], Cdm_Role="AO")
     assert (reply["reply"], reply["accepted"]) == ("ACCEPTED", 2)
@@ -158,7 +168,7 @@ def test_a_sequencer_that_says_what_it_must_not_say_is_ended(board):
     server.post(["FLT,AB1,5"], Cdm_Role="AP")
     wrong = server.sequencers()
     server.post(["FLT,AB2,5", "FLT,AB3,5", "FLT,AB4,5"], Cdm_Role="AP")
-    until(lambda: server.get("/health").status == 200)
+    until(server.is_ready)
     assert len(server.sequencers()) == 1 and server.sequencers() != wrong
 
 

@@ -1,4 +1,5 @@
 """Behind nginx, with the site that docs/OPERATING.md shows."""
+import collections
 import json
 import os
 import re
@@ -54,7 +55,7 @@ def site(board):
             return urllib.request.urlopen(request, context=trusted, timeout=20)
         except urllib.error.HTTPError as answer:
             return answer
-    ask.server = server
+    ask.server, ask.port, ask.folder = server, port, folder
     yield ask
     process.send_signal(signal.SIGTERM)
     process.wait(10)
@@ -69,7 +70,7 @@ def test_the_site_of_the_page(site):
     assert site("/v1/plan", desk="ap", Host="evil.example").status == 421
     session = site("/v1/session", json.dumps({"desk": "ap", "token": "token-ap"}).encode())
     cookie = session.headers["Set-Cookie"]
-    assert session.status == 204 and "Secure" in cookie and site("/v1/who", Cookie=cookie.partition(";")[0]).status == 200
+    assert session.status == 204 and cookie.startswith("__Host-cdm-") and "Secure" in cookie and site("/v1/who", Cookie=cookie.partition(";")[0]).status == 200
     with site("/v1/events", desk="screen") as events:
         began = time.monotonic()
         site("/v1/records", b"FLT,AB3,5", "ap").read()
@@ -77,6 +78,28 @@ def test_the_site_of_the_page(site):
             pass
         assert b"AB3" in line and time.monotonic() - began < 8 * FACTOR
     assert site("/v1/plan", desk="nobody", X_Forwarded_For="10.6.6.6").status == 401
-    assert " 127.0.0.1 - '/v1/plan' 401" in site.server.told() and "10.6.6.6" not in site.server.told()
+    # A thread of the server's own writes the line.
+    until(lambda: " 127.0.0.1 - '/v1/plan' 401" in site.server.told())
+    assert "10.6.6.6" not in site.server.told()
     assert site("/v1/what-if", b"A" * 66_000, "ap").status == 413
     assert site("/v1/plan.json", desk="ap", Accept_Encoding="gzip").status == 200
+
+
+def test_four_pages_that_open_at_once(site):
+    """Over HTTP/2, where each request counts as a connection at the proxy: every file of each page comes."""
+    if shutil.which("curl") is None:
+        pytest.skip("test_four_pages_that_open_at_once: curl is missing")
+    files = [path.name for path in (ROOT / "board/page").iterdir() if path.suffix in (".js", ".css", ".svg")]
+    folder = re.search(r"/page-[0-9a-f]+/", site("/").read().decode())[0]
+    wanted = [f"https://127.0.0.1:{site.port}{path}" for _ in range(4) for path in ["/", *(f"{folder}{name}" for name in files)]]
+    lines = "".join(f'url = "{url}"\noutput = "/dev/null"\n' for url in wanted)
+    (site.folder / "curl.txt").write_text(lines)
+    words = ["curl", "-q", "-sS", "--parallel", "--parallel-immediate", "--parallel-max", "300", "--http2", "--cacert", site.folder / "one.crt",
+             "-H", "Host: cdm.example", "-w", "%{http_code} %{http_version}\\n", "--config", site.folder / "curl.txt"]
+    # The server is busy for a moment, so all of them are asked for at once.
+    site.server.process.send_signal(signal.SIGSTOP)
+    asking = subprocess.Popen(list(map(str, words)), stdout=subprocess.PIPE, stderr=subprocess.PIPE, text=True)
+    time.sleep(1.5)
+    site.server.process.send_signal(signal.SIGCONT)
+    told, faults = asking.communicate(timeout=60 * FACTOR)
+    assert collections.Counter(told.split("\n")[:-1]) == {"200 2": len(wanted)}, faults

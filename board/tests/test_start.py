@@ -6,6 +6,7 @@ import fcntl
 import json
 import os
 import pathlib
+import shutil
 import signal
 import socket
 import sqlite3
@@ -63,8 +64,87 @@ def test_files_that_are_refused_are_status_3(files, board):
     assert ended.returncode == 3 and "another program" in ended.stderr
 
 
+def test_a_log_is_bound_to_no_airport_file_that_is_refused(files, board, log_engine):
+    """The corrected file is taken."""
+    server = board(start=False)
+    server.airport.write_text("RUNWAY,27L,10,2\n")
+    ended = cdmboard(server.airport, server.log, *server.options)
+    assert (ended.returncode, ended.stderr) == (3, "cdmseq: AIRPORT record 1: ORDER\n")
+    server.airport.write_text(AIRPORT)
+    assert server.start().post(["FLT,AB1,5"], Cdm_Role="AP")[0]["position"] == 1
+
+
+def test_a_log_that_is_moved_takes_no_more_records(files, board):
+    """Or removed, or exchanged: the record isn't answered, the server ends with status 3, and what was answered before is in the file."""
+    for how in ("moved", "removed", "exchanged", "link"):
+        server = board(start=False)
+        (server.folder / "other").mkdir()
+        if how == "link":
+            server.log.symlink_to(server.folder / "other" / "day.db")
+        server.start()
+        assert server.post(["FLT,AB1,5"], Cdm_Role="AP", key="k1")[0]["position"] == 1
+        if how == "removed":
+            server.log.unlink()
+        else:
+            server.log.rename(server.folder / "moved.db")
+        if how == "exchanged":
+            server.log.touch()
+        try:
+            answer = server.post(["FLT,AB2,5"], Cdm_Role="AP", key="k2")
+            assert not isinstance(answer, list) and answer.status in (503, 504), how
+        except OSError:
+            pass
+        assert server.process.wait(10) == 3, how
+        why = "another file is there now" if how == "exchanged" else "no longer there"
+        assert "day.db" in server.told() and why in server.told(), (how, server.told())
+        if how in ("moved", "link"):
+            (server.folder / "moved.db").rename(server.log)
+            assert [record["line"] for record in server.start().records()] == ["FLT,AB1,5"]
+
+
+def test_a_program_that_is_replaced_doesn_t_serve(files, board):
+    """Neither a question nor the day, until the server is started again; the same bytes, written again, are the same program."""
+    server, program = board(start=False), files / "program"
+    text = f'#!/bin/sh\nexec {PROGRAM} "$@"\n'
+    program.write_text(text)
+    program.chmod(0o755)
+    server.environment["CDMSEQ"] = str(program)
+    server.start()
+    server.post(["FLT,AB1,5"], Cdm_Role="AP")
+    program.write_text(text)
+    assert server.get("/v1/why/AB1").status == 200
+    program.write_text(f"{text}# another\n")
+    answer = server.get("/v1/plan")
+    assert answer.status == 503 and b"was replaced while it is served" in answer.body
+    assert server.post(["FLT,AB2,5"], Cdm_Role="AP")[0]["position"] == 2
+    os.kill(server.sequencers()[0], signal.SIGKILL)
+    assert server.process.wait(10) == 1 and "was replaced while it is served; restart the server" in server.told()
+    assert len(server.start().records()) == 2 and server.get("/v1/plan").status == 200
+
+
+def test_a_pipe_in_the_shared_folder_keeps_no_start_waiting(files, board):
+    """Anybody may make one with the name of what a killed server leaves."""
+    server = board()
+    log = json.loads(server.get("/v1/who").body)["log"]
+    assert server.end() == 0
+    folder = pathlib.Path(f"/dev/shm/cdmboard-{log}-pipe")
+    folder.mkdir()
+    try:
+        os.mkfifo(folder / "airport.csv")
+        with concurrent.futures.ThreadPoolExecutor(1) as pool:
+            started = pool.submit(server.start)
+            try:
+                assert started.result(10 * FACTOR) is server
+            except concurrent.futures.TimeoutError:
+                server.process.kill()
+                raise
+    finally:
+        shutil.rmtree(folder)
+
+
 NONE = "0" * 64
 WRONG_DESKS = ["[desk.a]\n", f'[desk.a]\nrole = "XX"\ntoken = "sha256:{NONE}"', '[desk.a]\nrole = "AO"\ntoken = "secret"', "read = 1", "=", "x = 1",
+               f'[desk.a]\nrole = "AO"\ntoken = "sha256:{NONE}"\nrecords = 3000000000', f'[desk.a]\nrole = "AO"\ntoken = "sha256:{NONE}"\nrecords = -1',
                f'[desk.clock]\nrole = "AO"\ntoken = "sha256:{NONE}"', f'[desk.a]\nrole = "AO"\ntoken = "sha256:{NONE}"\nflight = ["X"]',
                f'[desk.a]\nrole = "AO"\ntoken = "sha256:{NONE}"\n[desk.b]\nrole = "AP"\ntoken = "sha256:{NONE}"']
 
@@ -152,6 +232,39 @@ def test_an_end_ends_who_waits_for_a_position(board):
         assert waiting.result().status == 503
 
 
+def mounted(size, folder):
+    """A prelude of a server that gives it a file system of its own, of this size, at a folder."""
+    if os.geteuid() or subprocess.run(["unshare", "-m", "mount", "-t", "tmpfs", "none", "/mnt"]).returncode:
+        pytest.skip("who isn't root mounts no file system")
+    mounting = f'mount -t tmpfs -o size={size} none {folder} && exec "$0" "$@"'
+    return f"exec unshare -m /bin/bash -c '{mounting}' \"$0\" \"$@\""
+
+
+def test_no_room_in_the_shared_folder_ends_nothing(files, board):
+    """It is full at the start, or anybody fills it later: the day is elsewhere then."""
+    server = board(start=False).start(mounted("1M", "/dev/shm"))
+    server.post(["FLT,AB1,5"], Cdm_Role="AP")
+    assert server.get("/v1/why/AB1").status == 200
+    assert server.end() == 0
+    server = board(start=False).start(mounted("64M", "/dev/shm"))
+    server.post(["FLT,AB1,5"], Cdm_Role="AP")
+    filled = subprocess.run(["nsenter", "-m", "-t", str(server.process.pid), "dd", "if=/dev/zero", "of=/dev/shm/full", "bs=1M"], capture_output=True)
+    assert b"No space left" in filled.stderr
+    for number in range(2):
+        os.kill(server.sequencers()[0], signal.SIGKILL)
+        until(lambda: server.metric("cdm_restarts") == number + 1 and server.get("/health").status == 200)
+        assert server.post([f"FLT,CD{number},5"], Cdm_Role="AP")[0]["reply"] == "ACCEPTED"
+
+
+def test_a_start_on_a_full_disk_ends_by_a_line(files, board):
+    server = board(start=False)
+    (server.folder / "full").mkdir()
+    server.log = server.folder / "full" / "day.db"
+    with pytest.raises(AssertionError, match="No space left on device"):
+        server.start(mounted("100k", server.folder / "full"))
+    assert server.process.wait(10) == 1 and server.told().count("\n") == 1
+
+
 def test_import_and_export(files, board):
     feed = files / "feed.csv"
     feed.write_text(f"AP,FLT,AB1,5\nAO,TOBT,AB1,{moment(400)}\n")
@@ -181,10 +294,59 @@ def test_a_backup_is_a_log(board):
     copy.start()
     assert copy.records() == [record | ({"changes": None} if "changes" in record else {}) for record in server.records()]
     os.kill(server.sequencers()[0], signal.SIGKILL)
-    until(lambda: server.metric("cdm_restarts") == 1 and server.get("/health").status == 200)
+    until(lambda: server.metric("cdm_restarts") == 1 and server.is_ready())
     assert server.get("/v1/why/AB1").status == copy.get("/v1/why/AB1").status == 200
     assert server.post(["FLT,AB2,5"], Cdm_Role="AP")[0]["position"] == 3 and len(copy.records()) == 2
     assert server.end() == copy.end() == 0
+
+
+def test_a_backup_while_it_is_served(files, board):
+    """`backup` makes a new file, 0600, with an id of its own; `verify` reads it; a start has the same day."""
+    server, copy = board(), board(start=False)
+    server.post(["FLT,AB1,5", "FOO"], Cdm_Role="AP", key="k")
+    os.umask(0o022)
+    ended = cdmboard("backup", server.log, copy.log)
+    assert (ended.returncode, ended.stdout, ended.stderr) == (0, "", "") and copy.log.stat().st_mode & 0o777 == 0o600
+    assert cdmboard("verify", copy.log).stdout == "2 records, 1 accepted\n" == cdmboard("verify", server.log).stdout
+    was = copy.log.read_bytes()
+    ended = cdmboard("backup", server.log, copy.log)
+    assert ended.returncode == 3 and "File exists" in ended.stderr and copy.log.read_bytes() == was
+    copy.start()
+    assert copy.records() == [record | ({"changes": None} if "changes" in record else {}) for record in server.records()]
+    assert json.loads(copy.get("/v1/who").body)["log"] != json.loads(server.get("/v1/who").body)["log"]
+    assert copy.post(["FLT,AB1,5", "FOO"], Cdm_Role="AP", key="k")[0]["position"] == 1
+    # A mistyped name makes no file; nor does a board that isn't there.
+    for words in (("backup", files / "none.db", files / "copy.db"), ("backup", server.log, files / "copy.db", "--board", "x")):
+        ended = cdmboard(*words)
+        assert ended.returncode == 3 and not (files / "copy.db").exists() and not (files / "none.db").exists(), words
+    assert "--board" in ended.stderr and "--board" in cdmboard("verify", server.log, "--board", "x").stderr
+
+
+def test_verify_finds_what_is_wrong(files, board):
+    server = board()
+    server.post(["FLT,AB1,5", "FLT,AB2,5", "FLT,AB3,5"], Cdm_Role="AP")
+    assert server.end() == 0
+    (files / "other").write_text(f'#!/bin/sh\n[ $1 = --version ] && echo cdmseq 0.0.0 || exec {PROGRAM} "$@"\n')
+    (files / "other").chmod(0o755)
+    ended = cdmboard("verify", server.log, environment=dict(ENVIRONMENT, CDMSEQ=str(files / "other")))
+    assert ended.returncode == 3 and "another program: " in ended.stderr
+    database = sqlite3.connect(server.log)
+    database.execute("DELETE FROM cdm_record WHERE position = 2")
+    database.commit()
+    database.close()
+    ended = cdmboard("verify", server.log)
+    assert ended.returncode == 3 and "position 2 is missing" in ended.stderr
+
+
+def test_an_export_without_the_program(files, board):
+    """`--raw` gives what is in the log, also where the program can't read it."""
+    server = board()
+    server.post(["FLT,AB1,5", "FOO"], Cdm_Role="AP")
+    ended = cdmboard("export", server.log, "--raw", environment=dict(ENVIRONMENT, CDMSEQ="/bin/false"))
+    assert ended.returncode == 0 and [(row["position"], row["desk"], row["role"], row["line"]) for row in objects(ended.stdout)] == [
+        (1, "AP", "AP", "FLT,AB1,5"), (2, "AP", "AP", "FOO")]
+    assert [row["at"] for row in objects(ended.stdout)] == [record["at"] for record in server.records()]
+    assert cdmboard("export", server.log, "--raw", "--all").returncode == 2
 
 
 def test_the_last_updates_are_the_tower_s(files, board):
@@ -218,7 +380,7 @@ def test_the_clock_is_taken(board):
     assert other.records() == []
 
 
-def test_a_log_that_is_away_stops_no_clock(capsys):
+def test_a_log_that_is_away_stops_no_clock(caplog):
     """Records aren't taken for nine minutes, and then they are; a clock that jumps is told, and not taken."""
     from board import clock
     from board.words import Problem
@@ -238,7 +400,7 @@ def test_a_log_that_is_away_stops_no_clock(capsys):
         asyncio.run(clock.run("2025-03-10", take))
     minutes = [f"2025-03-10T06:{minute}Z" for minute in ("00", 10, 11, 12)]
     assert taken == [("clock", [f"CLOCK,{minute}"], minute) for minute in minutes]
-    told = capsys.readouterr().err
+    told = caplog.text
     assert told.count("no CLOCK was taken: the log is away") == 1 and "2025-03-10T06:18Z is more than 5 minutes" in told
 
 

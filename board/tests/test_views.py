@@ -2,6 +2,7 @@
 import concurrent.futures
 import gzip
 import json
+import re
 import signal
 import socket
 import time
@@ -42,17 +43,18 @@ class Display:
 
 
 def events(server, count, **words):
-    """That many events of a display, each as name, position and data."""
+    """That many events of a display, besides views, each as name, position and data."""
     display = Display(server, **words)
     text = b""
-    while text.count(b"\ndata: ") < count:
+    while len(parsed(text)) < count:
         text += display.own.recv(65536) if text or not display.file.peek(1) else display.file.read1()
     return text
 
 
 def parsed(text):
+    """The whole events of a text, besides views, which come whenever they are made."""
     found = []
-    for part in text.decode().replace("\r", "").split("\n\n"):
+    for part in text.decode().replace("\r", "").replace("event: view\n", "").split("\n\n")[:-1]:
         fields = dict(line.partition(": ")[::2] for line in part.split("\n") if ": " in line)
         if "event" in fields:
             found.append((fields["event"], int(fields["id"].rpartition("-")[2]) if "id" in fields else None, json.loads(fields["data"])))
@@ -226,7 +228,8 @@ def test_the_log_is_read(board):
     assert server.get("/v1/airport.csv", "gh").body.decode() == server.airport.read_text()
     assert server.get("/v1/journal.csv", "gh").body == b"AP,FLT,AB1,5\nAP,FLT,AB2,5\nGH,ICE,AB1,STAND,3\nGH,ICE,AB2,STAND,3\n"
     assert json.loads(server.get("/v1/who", "gh").body)["kinds"] == ["TOBT", "ICE"]
-    assert json.loads(server.get("/health").body) == {"ready": True, "accepted": 4, "position": 6}
+    assert json.loads(server.get("/health").body) == {
+        "ready": True, "accepted": 4, "position": 6, "taking": True, "stale_since": None}
 
 
 def test_too_much_is_429(board):
@@ -246,4 +249,4 @@ def test_the_page_s_files(board):
     answer, page = board().get("/"), ROOT / "board" / "page" / "index.html"
     assert answer.status == (200 if page.exists() else 404)
     assert answer.headers["Content-Security-Policy"].startswith("default-src 'self'")
-    assert not page.exists() or answer.body == page.read_bytes()
+    assert not page.exists() or re.sub(rb'="/page-[0-9a-f]+/', b'="', answer.body) == page.read_bytes()

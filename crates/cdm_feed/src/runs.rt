@@ -1,7 +1,8 @@
 //! A whole run, from the bytes of its inputs to the bytes of its text.
 ghost use Rattle.std.specs.Prelude.{◌≡◌, ℕ, List, take, false, IfOk, IfErr, OnOk, OnErr, IsErrOf};
 ghost use Rattle.std.specs.Io.KnownBytes.{Appends};
-ghost use Rattle.cdm_files.specs.Readings.{AreRead, IfTold, OfBytes, reading};
+ghost use Rattle.cdm_files.specs.Device.{Passes};
+ghost use Rattle.cdm_files.specs.Readings.{AreRead, IfTold, OfBytes, Passed, reading};
 ghost use Rattle.cdm_files.specs.RunFaults.{IsFirstFault, is_write_fault};
 ghost use Rattle.cdm_feed.specs.Made.{HaveOne, IsFirstOf, IsMade};
 ghost use Rattle.cdm_feed.specs.Output.{HaveOneText, IsOutput};
@@ -61,6 +62,18 @@ pub fn run_asked<R: Threads + Sync, A: Read, F: Read, S: Read, G: Gate, W: Write
     ensures one { OnOk result
         (IfTold (A.remaining airport.old.inner) (F.remaining feed.old.inner) (S.remaining scenarios.old.inner) (HaveOne asked.now)) }
 
+    // Whatever the readers and the writer are: the readers gave the bytes of three files, and the writer took exactly the one text
+    // that is asked for of these bytes, or the first part of it where a write failed.
+    ensures passed { IfOk result (λ counted. Passed
+        (Passes airport.old airport.new) (Passes feed.old feed.new) (Passes scenarios.old scenarios.new) (Passes out.old out.new)
+        (λ airport_file feed_file scenario_file text.
+        IsMade asked.now airport_file feed_file scenario_file text counted × HaveOne asked.now airport_file feed_file scenario_file)) }
+    ensures passed_in_part { IsErrOf result (RunError.Common CommonFault.Write) → Passed
+        (Passes airport.old airport.new) (Passes feed.old feed.new) (Passes scenarios.old scenarios.new) (Passes out.old out.new)
+        (λ airport_file feed_file scenario_file written.
+        (text : List ℕ) × (counted : Counted) × IsMade asked.now airport_file feed_file scenario_file text counted
+        × (n : ℕ) × (written ≡ take n text)) }
+
     // The first fault is the answer, and Ok where there was none.
     ensures read { OnOk result (AreRead
         (reading Input.Airport A.remaining airport.old airport.new)
@@ -116,6 +129,18 @@ pub fn run<R: Threads + Sync, A: Read, F: Read, S: Read, G: Gate, W: Write>(
         × Appends (W.contents out.old.inner) (W.contents out.new.inner) text)) }
     ensures one { OnOk result
         (IfTold (A.remaining airport.old.inner) (F.remaining feed.old.inner) (S.remaining scenarios.old.inner) HaveOneText) }
+
+    // Whatever the readers and the writer are: the readers gave the bytes of three files, and the writer took exactly the one
+    // output of these bytes, or the first part of it where a write failed.
+    ensures passed { IfOk result (λ counts. Passed
+        (Passes airport.old airport.new) (Passes feed.old feed.new) (Passes scenarios.old scenarios.new) (Passes out.old out.new)
+        (λ airport_file feed_file scenario_file text.
+        IsOutput airport_file feed_file scenario_file text counts × HaveOneText airport_file feed_file scenario_file)) }
+    ensures passed_in_part { IsErrOf result (RunError.Common CommonFault.Write) → Passed
+        (Passes airport.old airport.new) (Passes feed.old feed.new) (Passes scenarios.old scenarios.new) (Passes out.old out.new)
+        (λ airport_file feed_file scenario_file written.
+        (text : List ℕ) × (counts : RunCounts) × IsOutput airport_file feed_file scenario_file text counts
+        × (n : ℕ) × (written ≡ take n text)) }
 
     // The first fault is the answer, and Ok where there was none.
     ensures read { OnOk result (AreRead

@@ -1,25 +1,28 @@
-//! A reader or a writer that remembers whether it failed.
-ghost use Rattle.std.specs.Prelude.{◌≡◌, ◌||◌, false, is_err};
+//! A reader or a writer that remembers whether it failed, and of which contracts know the bytes that passed.
+ghost use Rattle.std.specs.Prelude.{◌≡◌, ◌||◌, [], false, is_err};
 ghost use Rattle.std.specs.Io.{ReadsAtMost, WritesAtMost};
 ghost use Rattle.std.specs.Io.KnownBytes.{Keeps, ReadConsumes, WriteAppends};
-ghost use Rattle.cdm_files.specs.Device.{Wrapped, is_failed_write};
+ghost use Rattle.cdm_files.specs.Device.{Passes, Wrapped, bytes_in, is_failed_write, part_of};
 
+use cdm_history::History;
 use std::io;
 use std::io::{Read, Write};
 use std::marker::Model;
 
 /// A reader or a writer that remembers whether it failed. It is itself a reader or a writer, and
-/// passes on each call with its answer.
-#[derive(Debug, Drop)]
+/// passes on each call with its answer. Contracts know which bytes its reads gave and its writes took, whatever it wraps:
+/// a text in memory, a file, a pipe or a terminal.
+#[derive(Drop)]
 pub struct Device<T> {
     inner: T,
     failed: bool,
+    passed: History<()>,
 }
 
 impl<T> Model for Device<T> {
     ghost Value = { Wrapped T };
 
-    ghost view = { λ d. record { inner = d.inner; failed = d.failed } };
+    ghost view = { λ d. record { inner = d.inner; failed = d.failed; passed = bytes_in d.passed.notes } };
 }
 
 impl<T> Device<T> {
@@ -27,10 +30,12 @@ impl<T> Device<T> {
     pub fn new(inner: T) -> Device<T>
         ensures inner { result.inner ≡ inner }
         ensures fresh { result.failed ≡ false }
+        ensures passed { result.passed ≡ [] }
     {
         Device {
             inner,
             failed: false,
+            passed: History::new(),
         }
     }
 
@@ -58,9 +63,13 @@ impl<R: Read> Read for Device<R> {
         ensures bytes { ReadConsumes (R.remaining self.old.inner) (R.remaining self.new.inner)
             result buf.new }
         ensures failed { self.new.failed ≡ (self.old.failed || is_err result) }
+        ensures passed { Passes self.old self.new (part_of result buf.new) }
     {
         let outcome = self.inner.read(buf);
-        self.failed |= outcome.is_err();
+        match outcome {
+            Ok(count) => self.passed.note(&(), &buf[..count]),
+            Err(_) => self.failed = true,
+        }
         outcome
     }
 }
@@ -73,12 +82,16 @@ impl<W: Write> Write for Device<W> {
         ensures bytes { WriteAppends (W.contents self.old.inner) (W.contents self.new.inner)
             result buf.now }
         ensures failed { self.new.failed ≡ (self.old.failed || is_failed_write result buf.now) }
+        ensures passed { Passes self.old self.new (part_of result buf.now) }
     {
         let outcome = self.inner.write(buf);
-        self.failed |= match outcome {
-            Ok(count) => count == 0 && !buf.is_empty(),
-            Err(_) => true,
-        };
+        match outcome {
+            Ok(count) => {
+                self.passed.note(&(), &buf[..count]);
+                self.failed |= count == 0 && !buf.is_empty();
+            }
+            Err(_) => self.failed = true,
+        }
         outcome
     }
 
@@ -86,6 +99,7 @@ impl<W: Write> Write for Device<W> {
     fn flush(&mut self) -> io::Result<()>
         ensures bytes { Keeps (W.contents self.old.inner) (W.contents self.new.inner) }
         ensures failed { self.new.failed ≡ (self.old.failed || is_err result) }
+        ensures passed { Passes self.old self.new [] }
     {
         let outcome = self.inner.flush();
         self.failed |= outcome.is_err();

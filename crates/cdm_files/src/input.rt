@@ -1,6 +1,7 @@
 //! Whole inputs.
 ghost use Rattle.std.specs.Prelude.{◌≡◌, ◌≤◌, ◌+◌, ℕ, List, length, false, vec_len, IfOk, OnOk, IfSome, IsErrOf};
 ghost use Rattle.std.specs.Io.KnownBytes.{Consumes, IsAtEnd};
+ghost use Rattle.cdm_files.specs.Device.{Passes};
 ghost use Rattle.cdm_files.specs.Input.{input_limit, is_failed_input};
 ghost use Rattle.cdm_files.specs.declared.input.InputFault.TheVariants as fault;
 
@@ -47,16 +48,17 @@ pub fn read_input<R: Read>(alloc: Global, device: &mut Device<R>) -> Result<Vec<
     requires { device.old.failed ≡ false }
     ensures whole { IfOk result (λ input.
         IfSome (R.remaining device.old.inner) (λ bytes. input.items ≡ bytes)) }
+    ensures passed { IfOk result (λ input. Passes device.old device.new input.items) }
     ensures end { OnOk result (IsAtEnd (R.remaining device.new.inner)) }
     ensures limit { IfOk result (λ input. vec_len input ≤ input_limit) }
     ensures failed { device.new.failed ≡ is_failed_input result }
 
     // One byte past the limit was given, or else no byte past it.
     ensures too_long { IsErrOf result InputFault.TooLong →
-        (given : List ℕ) × Consumes (R.remaining device.old.inner) (R.remaining device.new.inner) given
+        (given : List ℕ) × Passes device.old device.new given × Consumes (R.remaining device.old.inner) (R.remaining device.new.inner) given
         × (length given ≡ input_limit + 1) }
     ensures within { ¬ IsErrOf result InputFault.TooLong →
-        (given : List ℕ) × Consumes (R.remaining device.old.inner) (R.remaining device.new.inner) given
+        (given : List ℕ) × Passes device.old device.new given × Consumes (R.remaining device.old.inner) (R.remaining device.new.inner) given
         × (length given ≤ input_limit) }
 {
     let mut input = Vec::new(alloc);

@@ -1,5 +1,6 @@
 //! The inputs of a run, read whole and in order.
 ghost use Rattle.std.specs.Prelude.{◌≡◌, ◌≤◌, false, vec_len, IfOk, IfErr, OnOk, IfSome};
+ghost use Rattle.cdm_files.specs.Device.{Passes};
 ghost use Rattle.cdm_files.specs.Input.{input_limit};
 ghost use Rattle.cdm_files.specs.Readings.{AreRead, IsRead, reading};
 ghost use Rattle.cdm_files.specs.CommonFaults.{IsFirstInputFault, IsInputFault};
@@ -19,6 +20,7 @@ pub fn read_whole<R: Read>(
 ) -> Result<Vec<u8>, CommonFault>
     requires { device.old.failed ≡ false }
     ensures whole { IfOk result (λ bytes. IfSome (R.remaining device.old.inner) (λ all. bytes.items ≡ all)) }
+    ensures passed { IfOk result (λ bytes. Passes device.old device.new bytes.items) }
     ensures limit { IfOk result (λ bytes. vec_len bytes ≤ input_limit) }
     ensures read { OnOk result (IsRead (reading input R.remaining device.old device.new)) }
     ensures fault { IfErr result (IsInputFault (reading input R.remaining device.old device.new)) }
@@ -57,6 +59,9 @@ pub fn read_inputs<A: Read, S: Read, T: Read>(
     ensures airport { IfOk result (λ inputs. IfSome (A.remaining airport.old.inner) (λ all. inputs.airport.items ≡ all)) }
     ensures second { IfOk result (λ inputs. IfSome (S.remaining second.old.inner) (λ all. inputs.second.items ≡ all)) }
     ensures third { IfOk result (λ inputs. IfSome (T.remaining third.old.inner) (λ all. inputs.third.items ≡ all)) }
+    ensures airport_passed { IfOk result (λ inputs. Passes airport.old airport.new inputs.airport.items) }
+    ensures second_passed { IfOk result (λ inputs. Passes second.old second.new inputs.second.items) }
+    ensures third_passed { IfOk result (λ inputs. Passes third.old third.new inputs.third.items) }
     ensures second_limit { IfOk result (λ inputs. vec_len inputs.second ≤ input_limit) }
     ensures third_limit { IfOk result (λ inputs. vec_len inputs.third ≤ input_limit) }
     ensures read { OnOk result (AreRead

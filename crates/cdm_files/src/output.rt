@@ -1,6 +1,7 @@
 //! Whole texts.
 ghost use Rattle.std.specs.Prelude.{◌≡◌, ℕ, take, false, is_err, OnOk, OnErr};
 ghost use Rattle.std.specs.Io.KnownBytes.{Appends};
+ghost use Rattle.cdm_files.specs.Device.{Passes};
 
 use crate::device::Device;
 use std::io::Write;
@@ -21,7 +22,8 @@ pub fn write_text<W: Write>(device: &mut Device<W>, text: &[u8]) -> Result<(), W
     requires { device.old.failed ≡ false }
     ensures whole { OnOk result
         (Appends (W.contents device.old.inner) (W.contents device.new.inner) text.now) }
-    ensures prefix { OnErr result ((n : ℕ)
+    ensures passed { OnOk result (Passes device.old device.new text.now) }
+    ensures prefix { OnErr result ((n : ℕ) × Passes device.old device.new (take n text.now)
         × Appends (W.contents device.old.inner) (W.contents device.new.inner) (take n text.now)) }
     ensures failed { device.new.failed ≡ is_err result }
 {

@@ -3,7 +3,8 @@ ghost use Rattle.std.specs.Prelude.{◌≡◌, ◌≤◌, ◌↔◌, ℕ, List, 
 ghost use Rattle.std.specs.Io.KnownBytes.{Appends};
 ghost use Rattle.cdm_files.specs.Input.{input_limit};
 ghost use Rattle.cdm_files.specs.Refused.{updates_in};
-ghost use Rattle.cdm_files.specs.Readings.{AreRead, IfTold, reading};
+ghost use Rattle.cdm_files.specs.Device.{Passes};
+ghost use Rattle.cdm_files.specs.Readings.{AreRead, IfTold, Passed, reading};
 ghost use Rattle.cdm_live.specs.Live.{IsCounted, IsCountedText, IsLive, batch_count};
 ghost use Rattle.cdm_live.specs.LiveFaults.{FitsBoard, IsFirstFault, calls_needed, is_write_fault};
 ghost use Rattle.cdm_live.specs.inner.LiveSteps.{HasMerged, IsBoardFault, IsMergedText, IsRecordFault, merged_counts};
@@ -196,6 +197,15 @@ pub fn run_live<R: Threads + Wait + Sync, A: Read, F: Read, S: Read, G: Gate, W:
     ensures counts { IfOk result (λ counts.
         IfTold (A.remaining airport.old.inner) (F.remaining feed1.old.inner) (S.remaining feed2.old.inner) (λ airport_file first second.
         (text : List ℕ) × IsCounted airport_file first second text counts × Appends (W.contents out.old.inner) (W.contents out.new.inner) text)) }
+
+    // Whatever the readers and the writer are: the readers gave the bytes of three files, and the writer took exactly a text that may
+    // be written for these bytes, or the first part of one where a write failed.
+    ensures passed { IfOk result (λ counts. Passed
+        (Passes airport.old airport.new) (Passes feed1.old feed1.new) (Passes feed2.old feed2.new) (Passes out.old out.new)
+        (λ airport_file first second text. IsCounted airport_file first second text counts × FitsBoard airport_file first second)) }
+    ensures passed_in_part { IsErrOf result (LiveError.Common CommonFault.Write) → Passed
+        (Passes airport.old airport.new) (Passes feed1.old feed1.new) (Passes feed2.old feed2.new) (Passes out.old out.new)
+        (λ airport_file first second written. (text : List ℕ) × IsLive airport_file first second text × (n : ℕ) × (written ≡ take n text)) }
 
     // The first fault is the answer, and Ok where there was none.
     ensures read { OnOk result (AreRead

@@ -25,3 +25,40 @@ returns-in_err-counted-clause-prefix g c =
     let p = err_from_is_err_and c.from_residual.result c.from_residual.ensures.1 in
     rw (p.1, p.2) (λ is. of_told _ _ _ (c.in_err-counted.ensures.prefix (same-error c.in_err-counted.field-0.0 (error.Common common.Write) is)) (λ x y z made.
     (made.0, day_counts made.1, report-output x y z made.0 made.1 made.2, made.3, made.4)))
+
+pub returns-clause-passed : goal.returns-clause-passed
+returns-clause-passed g c =
+    let passed = c.in_ok-counted.ensures.passed in
+    record {
+      airport = passed.airport;
+      second = passed.second;
+      third = passed.third;
+      written = passed.written;
+      from_airport = passed.from_airport;
+      from_second = passed.from_second;
+      from_third = passed.from_third;
+      to_writer = passed.to_writer;
+      holds = (
+        subst (λ (counts : RunCounts). IsOutput passed.airport passed.second passed.third passed.written counts) (sym c.of_day.ensures)
+            (report-output _ _ _ _ c.in_ok-counted.counted passed.holds.0),
+        one-output _ _ _,
+      );
+    }
+
+pub returns-in_err-counted-clause-passed_in_part : goal.returns-in_err-counted-clause-passed_in_part
+returns-in_err-counted-clause-passed_in_part g c =
+    let p = err_from_is_err_and c.from_residual.result c.from_residual.ensures.1 in
+    rw (p.1, p.2) (λ is.
+    let passed = c.in_err-counted.ensures.passed_in_part (same-error c.in_err-counted.field-0.0 (error.Common common.Write) is) in
+    let made = passed.holds in
+    record {
+      airport = passed.airport;
+      second = passed.second;
+      third = passed.third;
+      written = passed.written;
+      from_airport = passed.from_airport;
+      from_second = passed.from_second;
+      from_third = passed.from_third;
+      to_writer = passed.to_writer;
+      holds = (made.0, day_counts made.1, report-output _ _ _ made.0 made.1 made.2, made.3, made.4);
+    })

@@ -1,5 +1,5 @@
-use Rattle.std.{proofs.Common.{ℕ, List, take, subst}, proofs.lemmas.Result.err_from_is_err_and, specs.Io.KnownBytes.Appends}
-use Rattle.cdm_files.proofs.RunLemmas.{of_known}
+use Rattle.std.{proofs.Common.{ℕ, List, take, refl, subst}, proofs.lemmas.Result.err_from_is_err_and, specs.Io.KnownBytes.Appends}
+use Rattle.cdm_files.{proofs.RunLemmas.of_known, specs.Device.Passes}
 use Rattle.cdm_feed.{specs.Made.HaveOne, proofs.OutputLemmas.one-each, proofs.RunLemmas.{input-first, of-read, unmade-first, write-first}}
 use Rattle.cdm_feed.proofs.runs.run_asked.Goals as goal
 
@@ -29,7 +29,7 @@ returns-in_err-write_text-clause-prefix g c = λ _.
     let Adds : List ℕ → Type 0 = Appends (g.W.Write.contents c.args.out.now.inner) (g.W.Write.contents c.write_text.new.device.inner) in
     let part = c.in_err-write_text.ensures.prefix in
     of-read _ _ _ inputs.airport inputs.second inputs.third
-    (made.text.items, made.counted, c.in_ok-made.ensures.made, part.0, subst (λ (text : List ℕ). Adds (take part.0 text)) c.deref.ensures.value part.1)
+    (made.text.items, made.counted, c.in_ok-made.ensures.made, part.0, subst (λ (text : List ℕ). Adds (take part.0 text)) c.deref.ensures.value part.2)
 
 pub returns-clause-written : goal.returns-clause-written
 returns-clause-written g c =
@@ -43,3 +43,35 @@ pub returns-clause-one : goal.returns-clause-one
 returns-clause-one g c =
     of_known (HaveOne c.args.asked.now) (g.A.Read.remaining c.args.airport.now.inner) (g.F.Read.remaining c.args.feed.now.inner)
     (g.S.Read.remaining c.args.scenarios.now.inner) (one-each c.args.asked.now)
+
+pub returns-clause-passed : goal.returns-clause-passed
+returns-clause-passed g c =
+    let inputs = c.in_ok-inputs.ensures in
+    record {
+      airport = c.in_ok-inputs.inputs.airport.items;
+      second = c.in_ok-inputs.inputs.second.items;
+      third = c.in_ok-inputs.inputs.third.items;
+      written = c.in_ok-made.made.text.items;
+      from_airport = inputs.airport_passed;
+      from_second = inputs.second_passed;
+      from_third = inputs.third_passed;
+      to_writer = subst (Passes c.args.out.now c.write_text.new.device) c.deref.ensures.value c.in_ok-write_text.ensures.passed;
+      holds = (c.in_ok-made.ensures.made, one-each c.args.asked.now _ _ _);
+    }
+
+pub returns-in_err-write_text-clause-passed_in_part : goal.returns-in_err-write_text-clause-passed_in_part
+returns-in_err-write_text-clause-passed_in_part g c = λ _.
+    let inputs = c.in_ok-inputs.ensures in
+    let made = c.in_ok-made.made in
+    let part = c.in_err-write_text.ensures.prefix in
+    record {
+      airport = c.in_ok-inputs.inputs.airport.items;
+      second = c.in_ok-inputs.inputs.second.items;
+      third = c.in_ok-inputs.inputs.third.items;
+      written = take part.0 made.text.items;
+      from_airport = inputs.airport_passed;
+      from_second = inputs.second_passed;
+      from_third = inputs.third_passed;
+      to_writer = subst (λ (text : List ℕ). Passes c.args.out.now c.write_text.new.device (take part.0 text)) c.deref.ensures.value part.1;
+      holds = (made.text.items, made.counted, c.in_ok-made.ensures.made, part.0, refl);
+    }

@@ -1,5 +1,5 @@
-use Rattle.std.{proofs.Common.{ℕ, List, take, subst}, proofs.lemmas.Result.err_from_is_err_and, specs.Io.KnownBytes.Appends}
-use Rattle.cdm_files.proofs.RunLemmas.{input_fault-first, of_inputs}
+use Rattle.std.{proofs.Common.{ℕ, List, take, refl, subst}, proofs.lemmas.Result.err_from_is_err_and, specs.Io.KnownBytes.Appends}
+use Rattle.cdm_files.{proofs.RunLemmas.{input_fault-first, of_inputs}, specs.Device.Passes}
 use Rattle.cdm_live.{specs.Live.{IsCounted, IsLive}, specs.LiveFaults.FitsBoard, proofs.LiveLemmas.record_fault-first}
 use Rattle.cdm_live.proofs.live_run.run_live.Goals as goal
 
@@ -27,7 +27,7 @@ returns-in_err-write_text-clause-prefix g c = λ _.
     let Adds : List ℕ → Type 0 = Appends (g.W.Write.contents c.args.out.now.inner) (g.W.Write.contents c.write_text.new.device.inner) in
     let part = c.in_err-write_text.ensures.prefix in
     of_inputs (λ x y z. (text : List ℕ) × IsLive x y z text × (n : ℕ) × Adds (take n text)) _ _ _ _ _ _ inputs.airport inputs.second inputs.third
-    (report.text.items, (report.counts, c.in_ok-report.ensures.counted), part.0, subst (λ (text : List ℕ). Adds (take part.0 text)) c.deref.ensures.value part.1)
+    (report.text.items, (report.counts, c.in_ok-report.ensures.counted), part.0, subst (λ (text : List ℕ). Adds (take part.0 text)) c.deref.ensures.value part.2)
 
 pub returns-clause-written : goal.returns-clause-written
 returns-clause-written g c =
@@ -49,3 +49,35 @@ pub returns-clause-fits : goal.returns-clause-fits
 returns-clause-fits g c =
     let inputs = c.in_ok-inputs.ensures in
     of_inputs FitsBoard _ _ _ _ _ _ inputs.airport inputs.second inputs.third c.in_ok-report.ensures.fits
+
+pub returns-clause-passed : goal.returns-clause-passed
+returns-clause-passed g c =
+    let inputs = c.in_ok-inputs.ensures in
+    record {
+      airport = c.in_ok-inputs.inputs.airport.items;
+      second = c.in_ok-inputs.inputs.second.items;
+      third = c.in_ok-inputs.inputs.third.items;
+      written = c.in_ok-report.report.text.items;
+      from_airport = inputs.airport_passed;
+      from_second = inputs.second_passed;
+      from_third = inputs.third_passed;
+      to_writer = subst (Passes c.args.out.now c.write_text.new.device) c.deref.ensures.value c.in_ok-write_text.ensures.passed;
+      holds = (c.in_ok-report.ensures.counted, c.in_ok-report.ensures.fits);
+    }
+
+pub returns-in_err-write_text-clause-passed_in_part : goal.returns-in_err-write_text-clause-passed_in_part
+returns-in_err-write_text-clause-passed_in_part g c = λ _.
+    let inputs = c.in_ok-inputs.ensures in
+    let report = c.in_ok-report.report in
+    let part = c.in_err-write_text.ensures.prefix in
+    record {
+      airport = c.in_ok-inputs.inputs.airport.items;
+      second = c.in_ok-inputs.inputs.second.items;
+      third = c.in_ok-inputs.inputs.third.items;
+      written = take part.0 report.text.items;
+      from_airport = inputs.airport_passed;
+      from_second = inputs.second_passed;
+      from_third = inputs.third_passed;
+      to_writer = subst (λ (text : List ℕ). Passes c.args.out.now c.write_text.new.device (take part.0 text)) c.deref.ensures.value part.1;
+      holds = (report.text.items, (report.counts, c.in_ok-report.ensures.counted), part.0, refl);
+    }

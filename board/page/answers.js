@@ -1,0 +1,148 @@
+// Part of the page's machine: requests go out, and each answer is taken by its name.
+import { Knowing } from './knowing.js';
+import { DEADLINE, HEALTH, HEALTH_OLD, VIEWS } from './limits.js';
+import { spread } from './questions.js';
+
+export class Answers extends Knowing {
+  /** Asks a question of the table. */
+  ask(name) {
+    const question = this.questions.table.get(name);
+    const after = question.after ? question.after() : !question.isOfDay ? 0 : this.need ? this.need.position : this.rows?.position ?? 0;
+    const { method = 'GET', body, accept } = question;
+    this.questions.ask(name, this.at);
+    this.send_({ name, path: question.path(), method, body, accept, after, isOfSession: true, isQuestion: true }, DEADLINE);
+  }
+
+  /** Sends a request; its answer is taken by its name. */
+  send_(ask, most) {
+    const id = this.number += 1;
+    this.asks.set(id, { ...ask, id, until: this.at + most });
+    const { name, path, method, body, accept, after, key } = ask;
+    this.order({ do: 'ask', id, name, path, method, body, accept, after: after || 0, key, role: this.role });
+    return id;
+  }
+
+  abandon(ask) {
+    this.asks.delete(ask.id);
+    if (ask.isQuestion) this.questions.forget(ask.name);
+    this.order({ do: 'abandon', id: ask.id });
+  }
+
+  /** No answer came in time. */
+  giveUp(ask) {
+    this.order({ do: 'abandon', id: ask.id });
+    this.onAnswer({ id: ask.id, status: 0, text: '', detail: 'No answer came in time', retry: 0, isOwn: false });
+  }
+
+  onAnswer(event) {
+    const ask = this.asks.get(event.id);
+    if (!ask) return;
+    this.asks.delete(ask.id);
+    if (ask.name === 'record') this.takeSent(ask, event);
+    else if (ask.name === 'sign-in') this.takeSignIn(event);
+    else if (ask.name === 'forget') this.takeForgotten(ask);
+    else if (ask.name === 'health') this.takeHealth(event);
+    else if (event.status === 200) this.takeAnswer(ask, event);
+    else this.takeProblem(ask, event);
+    if (event.status === 401 && ask.isOfSession) this.signedOut(event.detail);
+  }
+
+  takeSignIn(event) {
+    const isIn = event.status >= 200 && event.status < 300;
+    this.order({ do: 'say', what: 'sign-in', isIn, detail: event.detail });
+    if (!isIn) return;
+    this.order({ do: 'tell', word: 'in' });
+    this.isForgotten = false;
+    this.begin();
+  }
+
+  takeForgotten({ word }) {
+    if (word) this.order({ do: 'tell', word });
+    this.begin();
+  }
+
+  takeHealth(event) {
+    if (event.retry > 0) {
+      this.questions.failed('health', this.at, event.retry);
+      return;
+    }
+    this.questions.answered('health');
+    try {
+      const told = JSON.parse(event.text);
+      if (event.status === 200) this.takeStale(told.stale_since ?? null);
+    } catch { /* it isn't the server's own word */ }
+    this.questions.want('health', this.at + spread(this.staleSince ? HEALTH_OLD : HEALTH, this.chance()));
+  }
+
+  takeAnswer(ask, event) {
+    const question = this.questions.table.get(ask.name);
+    let isTaken = true;
+    let fault = '';
+    try {
+      const list = event.text.split('\n').filter(Boolean).map((line) => JSON.parse(line));
+      if (question.isOfDay && ask.name !== 'plan' && !this.isOfRows(event)) isTaken = false;
+      else isTaken = this.takeList(ask, list, event) !== false;
+      if (question.isOfDay && event.stale !== undefined) this.takeStale(event.stale);
+    } catch {
+      isTaken = false;
+      fault = 'the server’s answer isn’t understood';
+    }
+    if (isTaken) this.questions.answered(ask.name);
+    else this.questions.failed(ask.name, this.at, 0);
+    if (fault) this.unanswered(ask, fault);
+    else if (isTaken) this.order({ do: 'say', what: 'answered', name: ask.name });
+  }
+
+  /** Whether an answer is of the log of which the rows are, and not older than what is shown. */
+  isOfRows({ log, position }) {
+    if (!Number.isInteger(position) || !log) throw new Error('of no moment');
+    if (log !== this.rows.log) return this.isStranger();
+    this.strangers = 0;
+    return true;
+  }
+
+  /** @returns {boolean | void} false: it isn't what was asked for, and is asked again */
+  takeList(ask, list, event) {
+    const own = { who: () => this.takeWho(list[0]), kinds: () => this.takeKinds(list), plan: () => this.takePlan(list, event),
+      history: () => this.takeHistory(list, event), between: () => this.takeBetween(list, event),
+      past: () => this.takePast(list, event), ahead: () => this.takeAhead(list, event) }[ask.name];
+    if (own) return own();
+    const question = this.questions.table.get(ask.name);
+    if (!question.isWanted() || this.need) return true;
+    if (question.path() !== ask.path && ask.name !== 'log') {
+      this.questions.wantNow(ask.name, this.at);
+      return true;
+    }
+    if (event.position < (this.had.get(ask.name) ?? -1) && VIEWS.includes(ask.name)) return false;
+    if (ask.name === 'totals' && event.stale && !this.isStaleRead) return false;
+    this.hasStale ||= Boolean(event.stale);
+    if (ask.name === 'totals') this.holdTotals(list[0], event.position);
+    else this.showAnswer(ask.name, list, event.position);
+    if (ask.name === 'operators') this.operators = true;
+    return event.position >= this.rows.position;
+  }
+
+  takeKinds(list) {
+    this.kinds = list;
+    this.order({ do: 'show', what: 'kinds', kinds: list });
+  }
+
+  /** A question that wasn't answered: it is asked again, but for one that can't be answered as the day stands. */
+  takeProblem(ask, { status, detail, retry }) {
+    if (status === 403 && this.role && ask.name === 'who') {
+      this.role = ''; // a server with desks knows no such role
+      this.questions.forget('who');
+      this.questions.want('who', this.at);
+      return;
+    }
+    const isNever = status >= 400 && status < 500 && status !== 401 && status !== 429 && !['who', 'kinds', 'plan'].includes(ask.name);
+    if (isNever) this.questions.answered(ask.name);
+    else this.questions.failed(ask.name, this.at, retry);
+    if (status !== 401) this.unanswered(ask, detail);
+    if (['who', 'kinds', 'plan'].includes(ask.name) && status !== 401 && !this.stream?.isOpen) this.losing(detail);
+  }
+
+  unanswered({ name }, detail) {
+    this.order({ do: 'say', what: 'unanswered', name, detail });
+  }
+}

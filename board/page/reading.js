@@ -1,0 +1,151 @@
+// Part of the page's machine: the whole plan is read, of a moment that the events lead on from.
+import { REOPEN, SOON, MOST_STRANGERS, MOST_STALE, RECENT, MOST_RECENT } from './limits.js';
+import { pauseAfter } from './questions.js';
+import { Views } from './views.js';
+
+export class Reading extends Views {
+  /**
+   * The server can't say what came, or this page didn't understand it: the whole plan is to be read, of the stream's moment or a later
+   * one, since what the stream told before isn't told again. What was asked before is of no use for that.
+   * @param {boolean} [isOther] whether it is another day, or another past of this one
+   */
+  readAnew(isOther = false) {
+    const { moment } = this.stream;
+    const isGone = isOther || moment.log !== this.rows.log || moment.position < this.rows.position || this.need?.isOther === true;
+    this.need = { ...moment, isOther: isGone };
+    Object.assign(this, { queue: [], view: null, held: null, doubt: null, staleReads: 0 });
+    this.oldSince ??= this.now;
+    for (const ask of [...this.asks.values()]) if (this.questions.table.get(ask.name)?.isOfDay) this.askAgain(ask);
+    const pause = this.faults ? pauseAfter(REOPEN, this.faults, 0, this.chance()) : this.chance() * SOON / 2;
+    this.questions.want('plan', this.at + pause);
+  }
+
+  askAgain(ask) {
+    this.abandon(ask);
+    this.questions.want(ask.name, this.at + this.chance() * SOON);
+  }
+
+  dropNeed() {
+    this.need = null;
+    this.queue = [];
+    for (const ask of [...this.asks.values()]) if (ask.name === 'plan') this.abandon(ask);
+    this.questions.drop('plan');
+  }
+
+  takePlan(list, answer) {
+    const [plan] = list;
+    if (!Array.isArray(plan?.flights)) throw new Error('no plan');
+    const moment = { log: answer.log, position: answer.position };
+    if (!this.isWanted(moment, answer)) return false;
+    const isOther = this.rows !== null && (moment.log !== this.rows.log || this.need?.isOther === true);
+    const since = this.rows && !isOther ? Math.max(0, this.rows.position - RECENT) : null; // the last ones may be of another past
+    const isWhole = this.isBroken;
+    const changed = this.day.take(plan, moment.position, `${moment.log}-${moment.position}`);
+    if (isWhole) for (const [name, row] of this.day.rows) if (!changed.has(name)) changed.set(name, [row, row]);
+    const { queue, isFirst } = this;
+    Object.assign(this, { rows: moment, need: null, queue: [], oldSince: null, isFirst: false, held: null, isBroken: false });
+    if (isOther) this.empty();
+    this.had.clear();
+    this.order({ do: 'show', what: 'plan', changed, isFirst, isOther, isWhole });
+    this.wantAhead();
+    this.takeTotals(plan, moment.position);
+    this.remember(since);
+    this.apply(queue);
+    if (this.view) this.takeView(this.view);
+    return true;
+  }
+
+  /** Whether a plan is the one that is to be shown. */
+  isWanted(moment, { stale }) {
+    const { need } = this;
+    if (!need) {
+      this.isStaleRead = Boolean(stale);
+      return this.rows === null;
+    }
+    if (moment.log !== need.log) return this.isStranger();
+    if (moment.position < need.position) return false;
+    return this.isFresh(stale);
+  }
+
+  /** A server without its log may not know yet that another one has lost records of it. It is believed only if no other answers. */
+  isFresh(stale) {
+    this.isStaleRead = Boolean(stale);
+    return !stale || (this.staleReads += 1) > MOST_STALE;
+  }
+
+  /** An answer is of another log than this page follows: if that goes on, the events are opened anew, which tell what is there. */
+  isStranger() {
+    this.strangers += 1;
+    if (this.strangers >= MOST_STRANGERS && this.stream) {
+      this.strangers = 0;
+      this.order({ do: 'close', stream: this.stream.number });
+      this.onEnded({ stream: this.stream.number, status: 0, detail: 'the server has another log', retry: 0 });
+    }
+    return false;
+  }
+
+  /** What was shown of a day that is gone. */
+  empty() {
+    this.had.clear();
+    Object.assign(this, { totals: null, operators: false, history: null, seen: Infinity, mark: null });
+    this.order({ do: 'show', what: 'empty' });
+    this.questions.want('operators', this.at + this.chance() * SOON);
+  }
+
+  /** The records behind a position are asked for: when a CLOCK came, and what moved whom. Of a day that is new to it, the last ones. */
+  remember(since) {
+    const { position } = this.rows;
+    const first = this.history?.since ?? since ?? Math.max(0, Math.min(this.seen, position - RECENT));
+    if (this.history) {
+      this.history.until = position;
+      return;
+    }
+    this.history = { since: Math.max(first, position - MOST_RECENT, 0), until: position, isFirst: since === null, list: [] };
+    if (this.history.since >= position) this.endHistory();
+    else this.questions.want('history', this.at);
+  }
+
+  takeHistory(list, answer) {
+    if (!this.history) return true;
+    const found = list.filter((reply) => reply.position <= this.history.until);
+    this.history.list.push(...found);
+    if (found.length && found.at(-1).position < this.history.until) {
+      this.history.since = found.at(-1).position;
+      this.questions.want('history', this.at);
+    } else {
+      this.endHistory();
+    }
+    return true;
+  }
+
+  endHistory() {
+    const { list, isFirst } = this.history;
+    this.history = null;
+    this.order({ do: 'show', what: 'history', list, isFirst });
+  }
+
+  takePast(list, answer) {
+    const { doubt } = this;
+    if (!doubt) return true;
+    const there = list.find((reply) => reply.position === doubt.position);
+    if (!there && answer.position < doubt.position || !this.isFresh(answer.stale)) return false;
+    if (!there || ['desk', 'line', 'at'].some((name) => there[name] !== doubt[name])) {
+      this.readAnew(true);
+      return true;
+    }
+    const { queue, view } = this;
+    Object.assign(this, { doubt: null, oldSince: null, queue: [], view: null });
+    this.apply(queue);
+    if (view) this.takeView(view);
+    return true;
+  }
+
+  /** From where on the page wants to know what moved whom. */
+  onSeen({ position }) {
+    this.seen = position;
+    if (!this.history?.isFirst || this.history.list.length) return;
+    this.history.since = Math.max(0, Math.min(this.history.since, position), this.history.until - MOST_RECENT);
+    for (const ask of [...this.asks.values()]) if (ask.name === 'history') this.abandon(ask);
+    this.questions.want('history', this.at);
+  }
+}

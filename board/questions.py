@@ -1,0 +1,128 @@
+"""Questions over HTTP: the program's commands as paths, the log, and the day's files. Each answer is of one moment."""
+import asyncio
+import json
+import re
+from collections.abc import Callable
+
+from aiohttp import web
+
+from board.answers import Answers, Question
+from board.day import Day
+from board.desks import READER, Desk
+from board.log import Log
+from board.sending import pack
+from board.unsent import Unsent
+from board.words import POSITION, Problem, refuse
+
+MOST_FOUND = 1 << 20
+BODY_LIMIT = 20.0
+TYPES = {"": "text/plain", "csv": "text/csv", "json": "application/x-ndjson", "svg": "image/svg+xml"}
+# The program's commands as paths. Those that want a scenario are asked by POST alone, in a format by Accept.
+JSON = r"{form:(\.json)?}"
+PATHS = (r"{command:plan}{form:(\.csv|\.json)?}", r"{command:picture}{form:\.svg}", "{command:(load|next|warnings|causes)}" + JSON,
+         "{command:load}/{name:[A-Z0-9]{1,3}}" + JSON, "{command:why}/{name:[A-Z0-9]{1,7}}" + JSON)
+BY_POST = ("{command:what-if}", "{command:compare}", "{command:compare}/{name:[A-Z0-9][A-Z0-9-]{0,15}}")
+OPTIONS: dict[str, tuple[str, ...]] = {"minutes": (), "by": ("--by",), "scenario": ("--scenario",)}
+ARGUMENT = re.compile("[A-Za-z0-9][A-Za-z0-9-]{0,15}")
+UNKNOWN = ("cdmseq: no flight ", "cdmseq: no runway ", "cdmseq: no scenario ")
+# What a run's status is over HTTP; 503 for any other.
+STATUSES = {2: 400, 3: 422, 422: 422, 500: 500, 504: 504}
+
+
+async def body_of(request: web.Request) -> bytes:
+    """A body, if it comes in time, as it stands. Raises Problem."""
+    is_coded = "Content-Encoding" in request.headers or "Upgrade" in request.headers
+    refuse(is_coded, 400, "a body is sent as it is, without Content-Encoding or Upgrade")
+    try:
+        async with asyncio.timeout(BODY_LIMIT):
+            return await request.read()
+    except TimeoutError:
+        raise Problem(408, "the body took too long") from None
+
+
+class Questions:
+    """What is read of a day. `asker`: who asks, for what each may have."""
+
+    def __init__(self, log: Log, day: Day, answers: Answers, unsent: Unsent, asker: Callable[[web.Request], str]) -> None:
+        self._log, self._day, self._answers, self._unsent, self._asker = log, day, answers, unsent, asker
+
+    def routes(self) -> list[web.RouteDef]:
+        """All paths."""
+        return [web.get("/v1/records", self.get_records), web.get(r"/v1/records/{position:[0-9]{1,9}}/sentence", self.sentence),
+                web.get("/v1/kinds", self.file), web.get("/v1/airport.csv", self.file), web.get("/v1/journal.csv", self.journal),
+                *(web.get(f"/v1/{path}", self.question) for path in PATHS),
+                *(web.post(f"/v1/{path}", self.question) for path in (*PATHS, *BY_POST))]
+
+    async def get_records(self, request: web.Request) -> web.Response:
+        """The log, with the replies."""
+        since, desk = request.query.get("since", "0"), request.query.get("desk")
+        refuse(not POSITION.fullmatch(since), 400, "since is a position")
+        async with self._answers.turn(("log", self._asker(request))):
+            now = len(self._day.records)
+            found = self._day.found(int(since), request.query.get("flight"), desk)
+            return await self.of_moment(request, now, "json", self._day.texts(found, MOST_FOUND))
+
+    async def sentence(self, request: web.Request) -> web.Response:
+        """Why a record is refused, in words: what `check` says of it behind the records accepted before."""
+        position = int(request.match_info["position"])
+        now = len(self._day.records)
+        record = self._day.records[position - 1] if 0 < position <= now else None
+        if record is None or record.word is None:
+            raise Problem(404, "no refused record stands there")
+        question = Question("check", ("--format", "json"), None, record.accepted, f"{record.role},{record.line}\n")
+        _, ran = await self._answers.ask(self._asker(request), question, _is_tower(request))
+        found = [json.loads(line) for line in ran.output.splitlines() if ran.status in (0, 4)]
+        sentence = next((one["sentence"] for one in found if one.get("record") == record.accepted + 1), None)
+        refuse(sentence is None, 504 if ran.status == 504 else 503, ran.told or "the program says nothing of it")
+        return await self.of_moment(request, now, "", f"{record.word}: {sentence}\n".encode())
+
+    async def question(self, request: web.Request) -> web.StreamResponse:
+        """A command of the program over the day as it stands, or over a scenario."""
+        found = request.match_info
+        is_post = request.method == "POST"
+        command = found["command"].replace("what-if", "plan")
+        form = found.get("form", "")[1:]
+        words = [found["name"]] if "name" in found else []
+        if is_post:
+            forms = ("csv", "json") if command in ("plan", "compare") else ("json",)
+            form = form or next((form for form in forms if form in request.headers.get("Accept", "")), "")
+            words = ["scenarios.csv", *words] if command == "compare" else [*words, "--scenarios", "scenarios.csv"]
+        for name, option in OPTIONS.items():
+            said = request.query.get(name, "0")
+            refuse(not ARGUMENT.fullmatch(said), 400, f"{name} isn't well-formed")
+            words += [*option, said] if name in request.query else []
+        words += ["--format", form] if form in ("csv", "json") else []
+        scenarios = await body_of(request) if is_post else None
+        asked = Question(command, tuple(words), scenarios)
+        now, ran = await self._answers.ask(self._asker(request), asked, _is_tower(request))
+        status = 404 if ran.told.startswith(UNKNOWN) else STATUSES.get(ran.status, 503)
+        again = {"Retry_After": "5"} if status == 503 else {}
+        refuse(ran.status != 0, status, ran.told or "the program ended", None, **again)
+        return await self.of_moment(request, now, form, ran.output)
+
+    async def file(self, request: web.Request) -> web.Response:
+        """The table of kinds, or the airport file."""
+        text, form = (self._day.kinds.text, "json") if request.path == "/v1/kinds" else (self._log.airport, "csv")
+        return web.Response(body=text, content_type=TYPES[form])
+
+    async def journal(self, request: web.Request) -> web.Response:
+        """The accepted records as a feed."""
+        async with self._answers.turn(("log", self._asker(request))):
+            return await self.of_moment(request, len(self._day.records), "csv", self._day.feed().encode())
+
+    def tags(self, position: int) -> dict[str, str]:
+        """The headers that say of which moment an answer is."""
+        stale = {"Cdm-Stale-Since": self._log.stale_since} if self._log.stale_since else {}
+        return {"Cdm-Position": str(position), "ETag": f'"{self._log.id}-{position}"', "Vary": "Accept, Accept-Encoding", **stale}
+
+    async def of_moment(self, request: web.Request, position: int, form: str, body: bytes) -> web.Response:
+        """An answer about the day at one moment, which may be had already. Raises Problem."""
+        headers = self.tags(position) | {"Content-Type": TYPES[form]}
+        response = await pack(request, body, headers, position > self._day.doubtful)
+        self._unsent.check(self._asker(request), response.content_length or 0, _is_tower(request))
+        return response
+
+
+def _is_tower(request: web.Request) -> bool:
+    desk: Desk = request.get("desk", READER)
+    return desk.role == "ATC"

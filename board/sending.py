@@ -1,0 +1,79 @@
+"""Answers as they are sent: whether who asks has them, by gzip, and piece by piece."""
+import asyncio
+import gzip
+from collections import OrderedDict
+
+from aiohttp import payload, web
+from aiohttp.abc import AbstractStreamWriter
+
+WORTH_WHILE = 1024
+MOST_SHARED = 1 << 20
+PIECE = 64 << 10
+MOST_PACKED = 16
+LEVEL = 4
+
+
+class Pieces(payload.Payload):
+    """A body that is written piece by piece, as far as it is read: a connection never has a copy of all of it."""
+
+    def __init__(self, body: bytes) -> None:
+        super().__init__(body, content_type="application/octet-stream")
+        self._body = body
+
+    @property
+    def size(self) -> int:
+        return len(self._body)
+
+    async def write(self, writer: AbstractStreamWriter) -> None:
+        """Writes each piece once the one before it has left."""
+        for start in range(0, len(self._body), PIECE):
+            await writer.write(self._body[start:start + PIECE])
+
+
+def has(request: web.Request, tag: str) -> bool:
+    """Whether who asks has what bears this tag, packed or not."""
+    return request.method in ("GET", "HEAD") and tag in [f'"{had.value}"' for had in request.if_none_match or ()]
+
+
+def tagged(tag: str, is_packed: bool) -> str:
+    """The tag of an answer. One by gzip has a weak tag, since its bytes are others."""
+    return f"W/{tag}" if is_packed else tag
+
+
+def wants_packed(request: web.Request, size: int) -> bool:
+    """Whether an answer of this size goes by gzip."""
+    return "gzip" in request.headers.get("Accept-Encoding", "") and size > WORTH_WHILE
+
+
+class Packed:
+    """Bodies by gzip. Of the last small ones each is made once, as many may ask for it."""
+
+    def __init__(self) -> None:
+        self._kept = OrderedDict[bytes, bytes]()
+
+    async def of(self, body: bytes) -> bytes:
+        """A body by gzip, beside the server's own thread if it isn't there already."""
+        packed = self._kept.get(body)
+        if packed is None:
+            packed = await asyncio.to_thread(gzip.compress, body, LEVEL, mtime=0)
+            if len(body) <= MOST_SHARED:
+                self._kept[body] = packed
+            while len(self._kept) > MOST_PACKED:
+                self._kept.popitem(last=False)
+        return packed
+
+
+PACKED = Packed()
+
+
+async def pack(request: web.Request, body: bytes, headers: dict[str, str], is_certain: bool = True) -> web.Response:
+    """An answer with a tag, by gzip if that is wanted and worth while; 304 for who has it. is_certain: its tag is of nothing else."""
+    tag = headers["ETag"]
+    is_packed = wants_packed(request, len(body))
+    headers = headers | {"ETag": tagged(tag, is_packed)}
+    if is_certain and has(request, tag):
+        return web.Response(status=304, headers={name: headers[name] for name in headers if name != "Content-Type"})
+    if is_packed:
+        headers["Content-Encoding"] = "gzip"
+        body = await PACKED.of(body)
+    return web.Response(body=Pieces(body) if len(body) > PIECE else body, headers=headers)

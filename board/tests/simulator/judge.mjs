@@ -1,0 +1,186 @@
+// What a screen shows by the machine's orders, and the laws to which it is held.
+import { FLIGHTS, nowOf, rowsOf, totalsOf } from './servers.mjs';
+
+const TOLD = 20000; // ms within which a silent break is told
+
+/** A law that doesn't hold. */
+export class Broken extends Error {
+  constructor(law, why) {
+    super(`${law}: ${why}`);
+    this.law = law;
+  }
+}
+
+export class Judge {
+  constructor(world, machine) {
+    Object.assign(this, { world, machine, rows: new Map(), date: '', totals: null, isTotalsOld: false, state: null, since: null, boxes: new Map(), clocks: new Set(), stale: null });
+    Object.assign(this, { sends: new Map(), notTaken: [], faultyUntil: 0, firstShown: null, isDirty: false });
+  }
+
+  /** One order of the machine, as a screen carries it out. */
+  see(order) {
+    if (order.do === 'ask' || order.do === 'open') this.heeds(order.name ?? 'events');
+    if (order.do === 'show') this.show(order);
+    if (order.do === 'say') this.say(order);
+    if (order.do === 'ask' && order.name === 'record') this.sent(order);
+  }
+
+  show(order) {
+    const { machine } = this;
+    if (order.what === 'replies' || order.what === 'plan') {
+      if (order.isWhole) this.rows.clear();
+      for (const { changed } of order.replies ?? [order]) this.put(changed);
+      this.date = machine.day.date;
+      this.moment = { ...machine.rows, now: machine.day.now };
+      this.firstShown ??= { ...machine.rows };
+      if (order.what === 'plan' && (order.isFirst || order.isOther)) this.firstShown = { ...machine.rows };
+      for (const { reply } of order.replies ?? []) if (isClock(reply)) this.clocks.add(`${machine.rows.log} ${reply.at}`);
+      this.isDirty = true;
+    }
+    if (order.what === 'empty') this.boxes.clear();
+    if (order.what === 'history') for (const reply of order.list) if (isClock(reply)) this.clocks.add(`${machine.rows.log} ${reply.at}`);
+    if (order.what === 'totals') Object.assign(this, { totals: order.totals, isTotalsOld: order.isOld, isDirty: true });
+    if (order.what === 'answer') this.boxes.set(order.name, { list: order.list, log: machine.rows.log });
+  }
+
+  put(changed) {
+    for (const [name, [, row]] of changed) {
+      if (row) this.rows.set(name, row);
+      else this.rows.delete(name);
+    }
+  }
+
+  say(order) {
+    if (order.what === 'state') Object.assign(this, { state: order.state, since: order.since });
+    if (order.what === 'stale') this.stale = order.since;
+    if (order.what === 'sent') this.outcome(order);
+  }
+
+  /** A server that says after how many seconds to come again isn't asked before. */
+  heeds(name) {
+    const { at, notBefore } = this.world;
+    if (at < (notBefore.get(name) ?? 0)) throw new Broken('Heeded', `${name} is asked ${Math.round(notBefore.get(name) - at)} ms before the server wants it`);
+  }
+
+  // Said.
+
+  /** The page sends a record: with the key of an earlier try, as long as that may have been taken. */
+  sent(order) {
+    const name = order.body.trim();
+    const open = this.sends.get(name);
+    if (open && open.isOpen && open.key !== order.key) throw new Broken('Said', `${name} is sent with a second key before it is known whether it was taken`);
+    this.sends.set(name, { key: order.key, isOpen: true, isAgain: open?.isOpen === true });
+  }
+
+  outcome({ word, reply, line }) {
+    if (word === 'not sent') return;
+    const name = line;
+    const sent = this.sends.get(name);
+    const taken = [...this.world.kept].filter(([, record]) => record.key === sent.key && record.desk === reply?.desk);
+    if (word === 'taken' || word === 'refused') {
+      if (!taken.some(([, record]) => record.isAccepted === (word === 'taken') && record.position === reply.position)) throw new Broken('Said', `${name} is told as ${word} and isn't`);
+      sent.isOpen = false;
+    }
+    if (word === 'not taken') {
+      this.notTaken.push([name, sent.key]);
+      sent.isOpen = false;
+    }
+  }
+
+  // Shown, and Alive: at each step.
+
+  check(at) {
+    const { machine, world } = this;
+    if (machine.state !== 'out' && !Number.isFinite(machine.wakeAt)) throw new Broken('Alive', `the state ${machine.state} waits for ever`);
+    if (this.state !== machine.state) throw new Broken('Shown', `the state ${machine.state} isn't said`);
+    if (this.state === 'out' || this.state === 'new') return;
+    const isOld = this.state === 'lost' || this.state === 'behind' || this.state === 'reading' && this.since !== null;
+    if (isOld && this.since === null) throw new Broken('Shown', 'it is old, and since when isn\'t said');
+    this.checkStream(at, isOld);
+    for (const [name, { log }] of this.boxes) if (log !== machine.rows.log) throw new Broken('Shown', `${name} is of a day that is gone`);
+    if (!this.isDirty || world.faulty) return;
+    this.isDirty = false;
+    this.checkRows(isOld);
+  }
+
+  checkStream(at, isOld) {
+    if (isOld || !this.machine.stream?.isOpen) return;
+    const stream = this.world.streams.get(this.machine.stream.number);
+    if (!stream || stream.isClosed) throw new Broken('Shown', 'the events have ended, and that isn\'t said');
+    if (at - (stream.heardAt ?? at) > TOLD) throw new Broken('Shown', 'a silent break isn\'t told within 20 seconds');
+  }
+
+  /** The day of a moment, in whichever past of its log. */
+  pasts({ log, position }) {
+    return this.world.logs.find((one) => one.id === log).eras.map((era) => era.states[position]).filter(Boolean);
+  }
+
+  checkRows(isOld) {
+    const shown = this.stamps(this.rows);
+    const moment = this.moment;
+    const day = this.pasts(moment).find((state) => this.stampsOf(moment.log, state) === shown);
+    const log = this.world.logs.find((one) => one.id === moment.log);
+    if (!day || this.date !== log.date) {
+      throw new Broken('Shown', `the rows are of no moment: ${shown} ${this.date} as ${moment.log}-${moment.position} ${this.pasts(moment).map((state) => this.stampsOf(moment.log, state))}`);
+    }
+    if (moment.now !== nowOf(day)) throw new Broken('Shown', `NOW is ${moment.now}, of another moment than the rows, ${nowOf(day)}`);
+    // Two pasts under one name: which of them an answer is of, only the server that still has the lost one can say, as soon as it sees it.
+    const isCurrent = log === this.world.log && log.eras.at(-1).states[moment.position] === day;
+    if (!this.totals || this.isTotalsOld || isOld || !isCurrent) return;
+    if (this.totals.delay !== totalsOf(moment.log, day).delay) throw new Broken('Shown', `the totals ${this.totals.delay} are of another moment than the rows ${moment.log}/${day.stamp}, and that isn't said`);
+  }
+
+  stamps(rows) {
+    return FLIGHTS.map((name) => rows.get(name)?.tsat ?? null).join();
+  }
+
+  stampsOf(log, state) {
+    return state.stamps.map((stamp) => (stamp === null ? null : `${log}/${stamp}`)).join();
+  }
+
+  // Arrives: when the network has been quiet.
+
+  checkEnd() {
+    const { world, machine } = this;
+    for (const [name, key] of this.notTaken) {
+      if ([...world.kept.values()].some((record) => record.key === key)) throw new Broken('Said', `${name} is told as not taken and is in the log`);
+    }
+    const isDenied = world.denied(world.cookie) !== 0;
+    if (isDenied !== (machine.state === 'out')) {
+      throw new Broken(isDenied ? 'Shown' : 'Alive', `the state is ${machine.state}, and the token is ${isDenied ? 'not ' : ''}taken`);
+    }
+    if (machine.state === 'out') return;
+    const server = world.servers[0];
+    if (machine.state !== (server.staleSince ? 'behind' : 'live')) throw new Broken('Arrives', `the state is ${machine.state} when all has been quiet`);
+    const truth = `${world.log.id}: ${this.stampsOf(world.log.id, world.log.states.at(-1))}`;
+    const shown = `${machine.rows.log}: ${this.stamps(this.rows)}`;
+    if (shown !== truth) throw new Broken('Arrives', `shown is ${shown}, the day is ${truth}`);
+    if (this.date !== world.log.date || this.machine.day.now !== nowOf(world.log.states.at(-1))) throw new Broken('Arrives', `the date or NOW is another one`);
+    this.checkBoxes();
+    this.checkClock();
+  }
+
+  checkBoxes() {
+    const { world, machine } = this;
+    const stamp = world.log.states.at(-1).stamp;
+    const totals = totalsOf(world.log.id, world.log.states.at(-1)).delay;
+    if (this.totals?.delay !== totals || this.isTotalsOld) throw new Broken('Arrives', `the totals are ${this.totals?.delay}, of the day ${totals}`);
+    const names = ['next', 'warnings', 'load'];
+    if (machine.panel.open === 'flight') names.push('records');
+    for (const name of names) {
+      const of = name === 'records' && !this.boxes.get(name)?.list[0]?.of ? null : this.boxes.get(name)?.list[0].of;
+      if (of !== `${world.log.id}/${stamp}`) throw new Broken('Arrives', `${name} is of ${of}, the day is ${world.log.id}/${stamp}`);
+    }
+  }
+
+  /** The last CLOCK is counted as one. */
+  checkClock() {
+    const { log } = this.world;
+    const last = log.records.findLast((record) => record.isClock);
+    if (last && this.firstShown?.log === log.id && last.position > this.firstShown.position && !this.clocks.has(`${log.id} ${last.at}`)) {
+      throw new Broken('Arrives', `the CLOCK at ${last.position} isn't counted`);
+    }
+  }
+}
+
+const isClock = (reply) => reply.reply === 'ACCEPTED' && reply.line.startsWith('CLOCK,');

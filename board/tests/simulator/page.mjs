@@ -1,0 +1,159 @@
+// Drives the page's own machine through schedules drawn by a seed, against a model of servers, and holds it to its laws.
+//   node board/tests/simulator/page.mjs [--schedules N] [--seed N] [--page FOLDER] [--told]
+// The last line says how many schedules were run and how many broke a law; of the first that did, its seed, the law and why.
+import { resolve } from 'node:path';
+import { fileURLToPath, pathToFileURL } from 'node:url';
+import { Chance } from './chance.mjs';
+import { Broken, Judge } from './judge.mjs';
+import { World } from './world.mjs';
+
+const CHAOS = [2000, 9000]; // ms in which anything happens
+const GIVEN_UP = 42000; // ms until whatever was lost before is given up
+const ARRIVES = 10000; // ms of quiet after which the day is shown
+const LINES = ['TOBT,A', 'TOBT,A', 'TOBT,B'];
+const HERE = fileURLToPath(new URL('.', import.meta.url));
+
+/** One schedule. Raises Broken. */
+class Schedule {
+  constructor(Machine, seed, isTold) {
+    this.chance = new Chance(seed);
+    this.isTold = isTold;
+    this.world = new World(this.chance, (event) => this.give(event));
+    this.machine = new Machine(() => this.chance.draw(), '');
+    this.judge = new Judge(this.world, this.machine);
+    this.keys = 0;
+    this.wakeAt = Infinity;
+    this.forms = new Map();
+  }
+
+  run() {
+    this.give({ type: 'start' });
+    const end = this.chance.between(...CHAOS);
+    for (let at = 0; at < end; at += this.chance.between(20, 1000)) this.world.agenda.put(at, () => this.happens());
+    this.until(end);
+    this.world.isQuiet = true;
+    this.settle();
+    this.until(end + GIVEN_UP - ARRIVES);
+    for (let count = this.chance.below(4); count > 0; count -= 1) this.world.agenda.put(this.world.at + this.chance.between(0, ARRIVES), () => this.world.post());
+    this.until(this.world.at + 2 * ARRIVES + 500);
+    this.judge.checkEnd();
+  }
+
+  /** All are there again, and equal; one of ten logs is away. */
+  settle() {
+    const { world } = this;
+    for (const server of world.servers) server.lag = Math.min(server.lag, 50);
+    if (world.servers.every((server) => server.staleSince === null) && this.chance.is(0.1)) {
+      world.agenda.put(world.at + GIVEN_UP - 2 * ARRIVES, () => { if (world.servers.every((server) => server.isUp)) world.away(1e9); });
+    }
+  }
+
+  until(end) {
+    const { agenda } = this.world;
+    while (agenda.size && agenda.heap[0].at <= end) {
+      const { at, what } = agenda.take();
+      this.world.at = at;
+      what();
+    }
+    this.world.at = end;
+  }
+
+  /** An event to the machine; its orders are carried out. */
+  give(event) {
+    const { world } = this;
+    if (this.isTold) console.log(Math.round(world.at), '>', JSON.stringify(event).slice(0, 300));
+    const orders = this.machine.take({ at: world.at, now: world.now, ...event });
+    const faults = [];
+    for (const order of orders) {
+      if (this.isTold) console.log(Math.round(world.at), '  <', JSON.stringify(order, (key, value) => (value instanceof Map ? [...value.keys()] : value)).slice(0, 300));
+      this.carryOut(order, faults);
+    }
+    for (const part of faults) this.give({ type: 'fault', part, detail: 'x is not a function' });
+    this.judge.check(world.at);
+  }
+
+  carryOut(order, faults) {
+    const { world } = this;
+    const isShown = order.do === 'show' && ['replies', 'plan', 'answer'].includes(order.what);
+    if (isShown && !world.isQuiet && this.chance.is(0.01)) {
+      faults.push(order.what === 'answer' ? order.name : 'rows');
+      world.faulty = order.what !== 'answer' || world.faulty;
+      return;
+    }
+    if (order.do === 'show' && order.what === 'plan' && order.isWhole) world.faulty = false;
+    this.judge.see(order);
+    if (order.do === 'ask') world.request(order);
+    if (order.do === 'abandon') world.abandoned(order.id);
+    if (order.do === 'open') world.open(order);
+    if (order.do === 'close') world.closed(order.stream);
+    if (order.do === 'wait') this.wait(order.until);
+  }
+
+  wait(until) {
+    this.wakeAt = until;
+    if (!Number.isFinite(until)) return;
+    this.world.agenda.put(Math.max(until, this.world.at), () => {
+      if (this.wakeAt === until) this.give({ type: 'wake' });
+    });
+  }
+
+  /** Somebody or something does something. */
+  happens() {
+    const { chance, world } = this;
+    const kind = chance.draw();
+    if (kind < 0.5) world.post();
+    else if (kind < 0.54) world.restart(chance.of(world.servers));
+    else if (kind < 0.56) world.change();
+    else if (kind < 0.6) world.away();
+    else if (kind < 0.63) world.cutAll(chance.of(world.servers), false);
+    else if (kind < 0.65) world.revoke();
+    else if (kind < 0.69) world.otherTab();
+    else if (kind < 0.71) world.jump += chance.between(-3600000, 3600000);
+    else if (kind < 0.8) this.clicks();
+    else this.sends();
+  }
+
+  clicks() {
+    const { chance, world } = this;
+    const what = chance.below(5);
+    if (what === 0) this.give({ type: 'openPanel', open: chance.of(['flight', 'send', null]), flight: 'AB1' });
+    else if (what === 1) this.give({ type: 'causes', isOpen: chance.is(0.5), by: 'operator' });
+    else if (what === 2 && world.isOpen) this.give({ type: 'role', role: chance.of(['', 'AO', 'ATC']) });
+    else if (what === 3 && !world.isOpen) this.give({ type: 'signIn', desk: chance.of(['AO', 'ATC']), token: chance.of(['right', 'right', 'wrong']) });
+    else if (what === 4 && !world.isOpen && chance.is(0.3)) this.give({ type: 'signOut' });
+  }
+
+  /** A desk sends a record, or again the one that had no reply. */
+  sends() {
+    if (!this.machine.who || !this.machine.desk || this.machine.state === 'out') return;
+    this.give({ type: 'send', form: 'f', line: this.chance.of(LINES), key: `k${this.keys += 1}` });
+  }
+}
+
+/** Runs schedules from a seed on. */
+export async function run({ folder, schedules, seed, isTold = false }) {
+  const { Machine } = await import(pathToFileURL(resolve(folder, 'machine.js')));
+  const failed = [];
+  const began = process.cpuUsage();
+  let steps = 0;
+  for (let number = 0; number < schedules; number += 1) {
+    const schedule = new Schedule(Machine, seed + number, isTold);
+    try {
+      schedule.run();
+    } catch (fault) {
+      const law = fault instanceof Broken ? fault.law : 'Alive';
+      failed.push({ seed: seed + number, law, why: fault instanceof Broken ? fault.message : fault.stack });
+    }
+    steps += schedule.world.agenda.count;
+  }
+  return { failed, steps, seconds: process.cpuUsage(began).user / 1e6 };
+}
+
+const words = process.argv.slice(2);
+const said = (name, otherwise) => (words.includes(`--${name}`) ? words[words.indexOf(`--${name}`) + 1] : otherwise);
+const schedules = Number(said('schedules', 50000));
+const { failed, steps, seconds } = await run({ folder: said('page', resolve(HERE, '../../page')), schedules, seed: Number(said('seed', 1)), isTold: words.includes('--told') });
+for (const { seed, law, why } of failed.slice(0, 5)) console.log(`seed ${seed} breaks ${law}: ${why}`);
+const laws = [...new Set(failed.map((one) => one.law))].map((law) => `${failed.filter((one) => one.law === law).length} ${law}`);
+console.log(`${schedules} schedules, ${steps} steps, ${seconds.toFixed(1)} s of a processor: ${failed.length} broke a law${laws.length ? ` (${laws.join(', ')})` : ''}`);
+process.exitCode = failed.length ? 1 : 0;

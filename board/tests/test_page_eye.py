@@ -1,0 +1,412 @@
+"""The page for the eye, and what misled it: text that is spaced or enlarged, zoom on a wall, what is said at once, names of tables, the one table
+of columns, and what the strip of warnings says. The day by hand is in browser.py."""
+import json
+
+import pytest
+from browser import WAIT, fill, size
+from conftest import ROOT
+from test_page_access import tree
+
+# What a reader may set: WCAG 1.4.12.
+SPACED = """const sheet = new CSSStyleSheet();
+sheet.replaceSync('* { line-height: 1.5 !important; letter-spacing: .12em !important; word-spacing: .16em !important } p { margin-bottom: 2em !important }');
+document.adoptedStyleSheets = [sheet];"""
+LARGE = "document.documentElement.style.fontSize = '200%'"
+BOTH = f"{SPACED}\n{LARGE}"
+# Texts that a box hides, that run out of their cell, or that are outside of the window.
+CLIPPED = r"""
+const seen = (node) => node.checkVisibility({checkVisibilityCSS: true, checkOpacity: true}) && !node.closest('.vh, .skip, .probe, [inert], thead');
+const bad = [];
+for (const node of document.querySelectorAll('body *')) {
+  if (!seen(node) || node.closest('svg, textarea, select, option') || !node.innerText?.trim()) continue;
+  const style = getComputedStyle(node), hides = (value) => value === 'hidden' || value === 'clip';
+  const wide = node.clientWidth > 0 && node.scrollWidth > node.clientWidth + 1, high = node.clientHeight > 0 && node.scrollHeight > node.clientHeight + 1;
+  const isText = /^(TD|TH|DD|DT|BUTTON|LI|SUMMARY|LABEL|H1|H2|H3|P)$/.test(node.tagName) && style.overflowX === 'visible';
+  if (hides(style.overflowX) && wide || hides(style.overflowY) && high || isText && wide)
+    bad.push(`${node.tagName}.${node.className} ${node.scrollWidth}/${node.clientWidth} ${node.scrollHeight}/${node.clientHeight} ${node.innerText.slice(0, 30)}`);
+}
+const walker = document.createTreeWalker(document.body, NodeFilter.SHOW_TEXT);
+while (walker.nextNode()) {
+  const parent = walker.currentNode.parentElement;
+  if (!walker.currentNode.data.trim() || !seen(parent) || parent.closest('.scroll, template, svg, option, textarea')) continue;
+  const range = document.createRange();
+  range.selectNodeContents(walker.currentNode);
+  for (const box of range.getClientRects()) if (box.width > 0 && (box.right > innerWidth + 1 || box.left < -1)) bad.push(`outside: ${walker.currentNode.data.trim()}`);
+}
+return [...new Set(bad)];
+"""
+# Times, runways and names that are broken in two lines.
+BROKEN = r"""
+const bad = [];
+const walker = document.createTreeWalker(document.body, NodeFilter.SHOW_TEXT);
+while (walker.nextNode()) {
+  const parent = walker.currentNode.parentElement;
+  if (!/^(\d\d:\d\d|[A-Z0-9]{2,7})$/.test(walker.currentNode.data.trim()) || !parent.checkVisibility() || parent.closest('.vh, .probe, svg, option')) continue;
+  const range = document.createRange();
+  range.selectNodeContents(walker.currentNode);
+  if (new Set([...range.getClientRects()].map((box) => Math.round(box.top))).size > 1) bad.push(walker.currentNode.data);
+}
+return bad;
+"""
+
+
+def at(time):
+    return f"2025-03-10T{time}Z"
+
+
+@pytest.mark.parametrize("width", [320, 1280])
+@pytest.mark.parametrize("how", [SPACED, LARGE, BOTH], ids=["spacing", "size", "both"])
+def test_text_that_is_spaced_or_enlarged(page, width, how):
+    """Nothing is cut off, whatever the reader sets; with spacing alone no time, runway or name is broken either."""
+    shown = page()
+    size(shown.driver, width, 900)
+    shown.open()
+    shown.choose("#role", "ATC")
+    shown.until("return document.querySelector('#b-send').hidden === false")
+    shown.server.post(f"TOBT,DLH1,{at('06:20')}", Cdm_Role="AO")
+    shown.says('#next tr[data-flight="DLH2"]', "06:00")
+    shown.js(how)
+    for path in ("", "#RYR6", "#EZY7", "#what-if", "#send"):
+        shown.js("location.hash = arguments[0]", path)
+        shown.until("return [...document.querySelectorAll('.panel')].filter((p) => !p.hidden).length === (arguments[0] ? 1 : 0)", path)
+        if path in ("#RYR6", "#EZY7"):
+            shown.until("return document.querySelectorAll('#waits li').length > 0 && document.querySelector('#h-f span').textContent === arguments[0].slice(1)", path)
+        shown.until("return document.documentElement.classList.contains('l-spaced') || arguments[0]", how == LARGE)
+        assert shown.js(CLIPPED) == [], path
+        if how == SPACED:
+            assert shown.js(BROKEN) == [], path
+
+
+@pytest.mark.parametrize("width", [320, 360])
+def test_no_time_is_broken_in_two(page, width):
+    shown = page()
+    size(shown.driver, width, 900)
+    shown.open()
+    assert shown.js(BROKEN) == [] and shown.js(CLIPPED) == []
+    shown.js(SPACED)
+    shown.until("return document.documentElement.classList.contains('l-spaced')")
+    assert shown.js(BROKEN) == []
+
+
+def test_zoom_enlarges_a_wall(page):
+    """A window of 3,840 px that is zoomed to 200 and 300 % has 1,920 and 1,280 px of its own; its outer width stays. The text is as many times larger."""
+    shown = page()
+    driver = shown.driver
+    script = driver.execute_cdp_cmd("Page.addScriptToEvaluateOnNewDocument",
+                                    {"source": "Object.defineProperty(window, 'outerWidth', {configurable: true, get: () => 3840});"})
+    root = "return parseFloat(getComputedStyle(document.documentElement).fontSize) * arguments[0]"
+    try:
+        for zoom, layout in ((1, "l-wall"), (2, "l-narrow"), (3, "l-phone")):
+            size(driver, 3840 // zoom, 2160 // zoom, zoom)
+            shown.open()
+            assert shown.js(root, zoom) == 32 * zoom, zoom
+            assert shown.js("return document.documentElement.classList.contains(arguments[0])", layout), zoom
+            assert shown.js("return document.documentElement.scrollWidth") <= 3840 // zoom and shown.js(CLIPPED) == [], zoom
+    finally:
+        driver.execute_cdp_cmd("Page.removeScriptToEvaluateOnNewDocument", {"identifier": script["identifier"]})
+    # A screen of small pixels isn't zoomed.
+    size(driver, 1920, 1080, 2)
+    shown.open()
+    assert shown.js(root, 1) == 16
+
+
+def test_a_lost_connection_is_an_alert(page):
+    """It is said at once, whatever a screen reader is saying; all else waits until it has ended."""
+    shown = page().open()
+    regions = "return [...document.querySelectorAll('[role=status], [role=alert]')].map((e) => [e.role, e.textContent])"
+    assert [(role, text != "") for role, text in shown.js(regions)] == [("status", True), ("alert", False)]
+    assert {role for role, _ in tree(shown)} >= {"status", "alert"}
+    shown.allowed += ["ERR_CONNECTION_REFUSED", "ERR_INCOMPLETE_CHUNKED_ENCODING", "ERR_CONNECTION_RESET", "ERR_EMPTY_RESPONSE"]
+    shown.server.kill()
+    shown.says("#conn", "CONNECTION LOST since ")
+    (_, status), (_, alert) = shown.js(regions)
+    assert status == "" and alert.startswith("CONNECTION LOST since ")
+    shown.server.start()
+    shown.says("#conn", "Connected")
+    (_, status), (_, alert) = shown.js(regions)
+    assert status.startswith("Connected") and alert == ""
+
+
+def test_toggles_say_whether_they_are_pressed(page):
+    shown = page().open()
+    pressed = "return document.querySelector('#b-theme').getAttribute('aria-pressed')"
+    for _ in range(2):
+        was = shown.js(pressed)
+        shown.click("#b-theme")
+        assert {was, shown.js(pressed)} == {"true", "false"}
+        dark = shown.js("return getComputedStyle(document.body).backgroundColor") == "rgb(14, 18, 22)"
+        assert shown.js(pressed) == str(dark).lower() and shown.text("#b-theme") == "Dark"
+    shown.click("#b-what-if")
+    shown.js("document.querySelector('#scenario').value = 'SCENARIO,ONE\\nTOBT,DLH1,2025-03-10T06:20Z\\nSCENARIO,TWO\\nTOBT,DLH2,2025-03-10T06:20Z'")
+    shown.click("#p-what-if form button")
+    shown.says("#wi-table", "difference")
+    chosen = "return [...document.querySelectorAll('#wi-table button')].map((b) => [b.textContent, b.getAttribute('aria-pressed')]).sort()"
+    assert shown.js(chosen) == [["ONE", "true"], ["TWO", "false"]]
+    shown.js("[...document.querySelectorAll('#wi-table button')].find((b) => b.textContent === 'TWO').click()")
+    shown.until(f"return JSON.stringify((() => {{ {chosen} }})()) === '[[\"ONE\",\"false\"],[\"TWO\",\"true\"]]'")
+
+
+def names_of(shown, *roles):
+    return [(role, name) for role, name in tree(shown) if role in roles]
+
+
+def test_each_table_has_its_own_name(page):
+    """Tables and landmarks, also those of a long list that is in parts."""
+    shown = page().open()
+    shown.choose("#role", "ATC")
+    shown.until("return document.querySelector('#b-send').hidden === false")
+    for path in ("", "#RYR6", "#what-if", "#send"):
+        shown.js("location.hash = arguments[0]", path)
+        shown.until("return [...document.querySelectorAll('.panel')].filter((p) => !p.hidden).length === (arguments[0] ? 1 : 0)", path)
+        names = names_of(shown, "table", "region", "form", "complementary", "navigation", "search")
+        assert len({name for _, name in names}) == len(names), (path, names)
+    assert ("table", "All flights, planned") in names and ("table", "Next start-ups, by TSAT") in names
+
+
+def test_each_part_of_a_long_list_has_its_own_name(page):
+    names = [f"X{number:03}" for number in range(450)]
+    shown = page(day={"AP": [f"FLT,{name},5" for name in names], "ATC": [f"RWY,{name},27L" for name in names]}).open()
+    shown.until("return document.querySelectorAll('#all tbody tr').length === 450")
+    read = "return [...document.querySelectorAll('#all [data-status=BLOCKED] table')].map((t) => t.getAttribute('aria-label'))"
+    parts = shown.js("return document.querySelectorAll('#all [data-status=BLOCKED] .chunk').length")
+    assert parts >= 3 and shown.js(read) == [f"All flights, blocked, part {number} of {parts}" for number in range(1, parts + 1)]
+    # Those that are left when others go.
+    fill(shown.server, {"AO": [f"CNL,{name}" for name in names[50:]]})
+    shown.until("return document.querySelectorAll('#all [data-status=BLOCKED] tbody tr').length === 50", seconds=3 * WAIT)
+    assert shown.js(read) == ["All flights, blocked"]
+
+
+def test_records_left_follow(page):
+    shown = page().open()
+    shown.choose("#role", "ATC")
+    shown.says("#desk-left", "records left")
+    left = lambda: int(shown.text("#desk-left").split()[0].replace(",", ""))
+    before = left()
+    shown.click("#b-send")
+    shown.choose("#p-send [name=kind]", "PRIO")
+    shown.type("#p-send [name=flight]", "DLH2")
+    shown.type("#p-send [name=priority]", "4")
+    shown.click("#p-send form button")
+    shown.says("#p-send .reply", "Accepted.")
+    shown.until("return document.querySelector('#desk-left').textContent.startsWith(arguments[0])", f"{before - 1:,}")
+    # One that is refused is a record of the log as well.
+    shown.type("#p-send [name=flight]", "XX9")
+    shown.click("#p-send form button")
+    shown.says("#p-send .reply", "Refused,")
+    shown.until("return document.querySelector('#desk-left').textContent.startsWith(arguments[0])", f"{before - 2:,}")
+
+
+LABELS = {"#next": ["TSAT", "Flight", "Rwy", "Stand", "TOBT", "EXOT", "CTOT", "TTOT", "Delay", "Waits for, moved by"],
+          "#all [data-status=PLANNED]": ["TSAT", "Flight", "Status", "Rwy", "Stand", "TOBT", "EXOT", "CTOT", "TTOT", "Delay"],
+          "#all [data-status=BLOCKED]": ["TSAT", "Flight", "Status", "Rwy", "Stand", "TOBT", "EXOT", "CTOT", "TTOT", "Delay"],
+          "#blocked": ["Flight", "Rule", "Rwy", "TOBT", "CTOT"]}
+
+
+def test_one_table_of_columns(page):
+    """A label that is changed in it is changed in every head; the page's file has none of them."""
+    shown = page().open("#RYR6")
+    heads = "return [...document.querySelectorAll(arguments[0] + ' thead th')].map((h) => h.textContent)"
+    for selector, labels in LABELS.items():
+        assert shown.js(heads, selector) == labels
+    assert shown.js("return [...document.querySelectorAll('#p-flight .facts dt')].map((t) => t.textContent)") == [
+        "TOBT", "EXOT", "CTOT", "TSAT", "TTOT", "Delay"]
+    assert shown.driver.execute_async_script("""const done = arguments[0];
+        (async () => {
+          const {COLUMNS, STATUSES} = await import(document.querySelector('script[type=module]').src.replace('main.js', 'columns.js'));
+          const {Table} = await import(document.querySelector('script[type=module]').src.replace('main.js', 'tables.js'));
+          COLUMNS.stand.label = 'Box'; COLUMNS.tobt.print = () => 'then';
+          const {write} = await import(document.querySelector('script[type=module]').src.replace('main.js', 'tables.js'));
+          const table = new Table('all', 'x'), item = table.make('A1');
+          write(item, {tobt: 1, stand: 'S'}, '');
+          done([[...table.root.querySelectorAll('th')].map((h) => h.textContent).includes('Box'), item.cells.tobt.textContent, Object.values(STATUSES).map((s) => s.word)]);
+        })();""") == [True, "then", ["blocked", "planned", "off-block", "airborne", "cancelled"]]
+    text = (ROOT / "board/page/index.html").read_text()
+    assert "<th scope=\"col\">TSAT" not in text and "off-block" not in text and "airborne" not in text
+    assert shown.js("return [...document.querySelectorAll('#filter [name=status] option')].map((o) => o.textContent)") == [
+        "all", "blocked", "planned", "off-block", "airborne", "cancelled"]
+
+
+def test_rows_are_compared_by_all_their_members(page):
+    """Also by one that no table of this page has."""
+    shown = page().open()
+    assert shown.driver.execute_async_script("""const done = arguments[0];
+        (async () => {
+          const {Day} = await import(document.querySelector('script[type=module]').src.replace('main.js', 'day.js'));
+          const day = new Day(), plan = (...flights) => ({day: '2025-03-10', now: '2025-03-10T06:00Z', flights});
+          day.take(plan({flight: 'A', tsat: 1, gate: 'G1'}, {flight: 'B', tsat: 1}, {flight: 'C', list: [1]}), 1, 'x-1');
+          done([...day.take(plan({flight: 'A', tsat: 1, gate: 'G2'}, {flight: 'B', tsat: 1}, {flight: 'C', list: [1]}, {flight: 'D'}), 2, 'x-2').keys()]);
+        })();""") == ["A", "D"]
+
+
+def test_a_warning_of_an_unknown_kind_is_drawn(page):
+    """A later program may have more kinds than this page knows."""
+    shown = page()
+    server, later = shown.server, shown.server.folder / "later"
+    one = {"kind": "STRANGE", "flight": "BAW3", "runway": None, "time": at("06:00"), "ctot": None, "ttot": None, "rule": None, "placed": None, "cap": None}
+    server.program(f"if [ \"$1\" = warnings ] && [ -e {later} ]; then $PROGRAM \"$@\"; echo '{json.dumps(one)}'; exit 0; fi")
+    server.end()
+    server.start()
+    shown.open()
+    later.touch()
+    server.post("STAND,BAW3,B1", Cdm_Role="AP")
+    shown.says("#warnings", "STRANGE new BAW3 06:00")
+    assert shown.text("#h-w") == "Warnings 2"
+    shown.click('#warnings .other a[href="#BAW3"]')
+    shown.says("#f-warnings", "STRANGE The program warns of STRANGE.")
+
+
+def test_the_strip_is_as_new_as_the_rest(page):
+    """The program's answer is drawn as it comes, also where it is the second within seconds and nothing of it is filled."""
+    shown = page().open()
+    assert shown.driver.execute_async_script("""const done = arguments[0];
+        (async () => {
+          const {Warnings} = await import(document.querySelector('script[type=module]').src.replace('main.js', 'warnings.js'));
+          const strip = new Warnings({date: '2025-03-10', rows: new Map()}, null, () => {}), said = () => document.querySelector('#warnings ul').textContent;
+          const one = {kind: 'PAST', flight: 'A1', time: '2025-03-10T06:00Z'};
+          strip.take([]); const first = said().includes('A1');
+          strip.take([one]); const second = said().includes('A1');
+          strip.take([]);
+          done([first, second, said().includes('A1')]);
+        })();""") == [False, True, False]
+
+
+def test_a_press_in_the_strip_is_never_lost(page):
+    """The strip isn't drawn anew under a finger: the link that was pressed is the one that is let go."""
+    shown = page().open()
+    shown.js("window.link = document.querySelector('#warnings a[href=\"#EZY7\"]'); link.dispatchEvent(new PointerEvent('pointerdown', {bubbles: true}))")
+    shown.server.post(f"CTOT,AFR4,{at('06:40')}", Cdm_Role="NM")
+    shown.says("#blocked", "KLM5")
+    shown.until("return document.querySelector('header .blk dd').textContent === '3'")
+    shown.says("#conn", "New warning: BLOCKED AFR4.")
+    assert shown.js("return link.isConnected")
+    shown.js("link.dispatchEvent(new PointerEvent('pointerup', {bubbles: true})); link.click()")
+    assert shown.js("return location.hash") == "#EZY7"
+    shown.says("#warnings", "BLOCKED 2 of 3 new AFR4 EZY7")
+
+
+def test_a_warning_of_a_flight_that_has_left(page):
+    """A2 left at 06:05 with a CTOT of 06:20, and it is 06:40: its panel says what its warnings mean and what to send, and offers just that."""
+    shown = page(day={"AP": ["FLT,A2,5"], "ATC": ["RWY,A2,27L"], "NM": [f"CTOT,A2,{at('06:20')}"]})
+    fill(shown.server, {"ATC": [f"OFF,A2,{at('06:05')}", f"CLOCK,{at('06:40')}"]})
+    shown.open()
+    shown.click('#warnings .OVERDUE a')
+    shown.says("#f-warnings", "MISSED")
+    words = shown.texts("#f-warnings li")
+    assert words[0].startswith("OVERDUE It left its stand, its TTOT 06:20 is more than 5 minutes ago, and no AIR has come. If it has taken off, send AIR")
+    assert words[1].startswith("MISSED It left its stand, and takes off after the window of its CTOT 06:20.")
+    shown.says("#why-note", "It left its stand, and keeps its times. Of its records AIR alone is still taken.")
+    shown.choose("#role", "ATC")
+    shown.says("#p-flight form", "Kind")
+    assert shown.js("return [...document.querySelectorAll('#p-flight form [name=kind] option')].map((o) => o.value)") == ["AIR"]
+    shown.click("#f-warnings button")
+    shown.type("#p-flight form [name=time]", "06:21")
+    shown.click("#p-flight form button")
+    shown.until("return document.querySelector('#h-f').innerText.includes('airborne')")
+    shown.until("return document.querySelector('#f-warnings').hidden")
+
+
+def test_an_airborne_flight_offers_no_record(page):
+    """Of a flight that is airborne or cancelled no record is taken; of one that is off-block AIR alone."""
+    shown = page()
+    fill(shown.server, {"ATC": [f"OFF,BAW3,{at('05:50')}", f"OFF,RYR6,{at('05:40')}", f"AIR,RYR6,{at('05:50')}"], "AO": ["CNL,AFR4"]})
+    shown.open()
+    shown.choose("#role", "AO")
+    shown.until("return document.querySelector('#b-send').hidden === false")
+    kinds = "return document.querySelector('#f-send').hidden ? null : [...document.querySelectorAll('#p-flight form [name=kind] option')].map((o) => o.value)"
+    for name, words in (("RYR6", "It is airborne. No record of it is taken any more."), ("AFR4", "It is cancelled. No record of it is taken any more."),
+                        ("BAW3", "It left its stand, and keeps its times. Of its records AIR alone is still taken.")):
+        shown.js("location.hash = arguments[0]", f"#{name}")
+        shown.says("#why-note", words)
+        assert shown.js(kinds) is None, name
+    shown.js("location.hash = '#DLH1'")
+    shown.until("return document.querySelector('#f-send').hidden === false")
+    assert shown.js(kinds) == ["TOBT", "CNL"]
+
+
+def test_how_many_are_blocked(page):
+    """The program warns of those alone that have a TOBT or a CTOT; the strip says of how many."""
+    shown = page().open()
+    assert shown.texts("header .blk dd") == ["2"] and shown.texts("#warnings li")[0] == "BLOCKED 1 of 2 EZY7 with a TOBT or CTOT"
+
+
+def test_several_operators(page):
+    shown = page().open("?op=DLH,BAW")
+    assert sorted(shown.flights("all")) == ["BAW3", "DLH1", "DLH2"]
+    assert shown.text("#filtered span") == "Filter: operator DLH or BAW. 3 of 7 flights; totals, warnings and runways show all."
+    shown.type("#filter [name=op]", "ezy, klm")
+    assert sorted(shown.flights("all")) == ["EZY7", "KLM5"]
+
+
+def test_nothing_is_said_before_it_is_known(page):
+    """No zero and nothing red until the plan has come."""
+    shown = page()
+    driver = shown.driver
+    script = driver.execute_cdp_cmd("Page.addScriptToEvaluateOnNewDocument", {"source": """const real = window.fetch;
+        window.fetch = (path, ...words) => (String(path).startsWith('/v1/plan') || String(path).startsWith('/v1/warn') ? new Promise(() => {}) : real(path, ...words));"""})
+    try:
+        shown.open(ready=False)
+        shown.until("return document.querySelector('#next thead') !== null")
+        text = shown.text("body")
+        assert " 0 " not in f" {text} " and shown.texts("header dd") == ["–"] * 5 and shown.text("#h-b").startswith("Blocked …")
+        assert shown.js("return getComputedStyle(document.querySelector('#blocked')).borderLeftColor") != shown.js(
+            "const e = document.createElement('i'); e.style.color = 'var(--alarm)'; document.body.append(e); return getComputedStyle(e).color")
+    finally:
+        driver.execute_cdp_cmd("Page.removeScriptToEvaluateOnNewDocument", {"identifier": script["identifier"]})
+
+
+def test_an_error_of_a_what_if_hides_the_comparison(page):
+    shown = page().open()
+    shown.click("#b-what-if")
+    shown.js("document.querySelector('#scenario').value = 'SCENARIO,A\\nTOBT,DLH1,2025-03-10T06:20Z'")
+    shown.click("#p-what-if form button")
+    shown.says("#wi-table", "difference")
+    shown.allowed.append("422 (Unprocessable Entity)")
+    shown.js("document.querySelector('#scenario').value = 'SCENARIO,A\\nFOO,1'")
+    shown.click("#p-what-if form button")
+    shown.says("#wi-fault", "SCENARIOS record 2: KIND")
+    assert not shown.find("#wi-answer").is_displayed()
+
+
+def test_a_runway_that_closes_again(page):
+    shown = page()
+    fill(shown.server, {"ATC": [f"CLOSE,27L,{at('05:50')},{at('06:00')}", f"CLOSE,27L,{at('06:10')},{at('06:20')}"]})
+    shown.open()
+    assert shown.text("#rw-27L").startswith("27L closed, opens at 06:00, closes again at 06:10")
+
+
+def test_a_window_without_a_minute(page):
+    """AFR4's window is 07:05 to 07:20, in which 09 is closed; EZY7 is ready at 07:15, and its window ended at 06:40."""
+    shown = page()
+    fill(shown.server, {"ATC": [f"CLOSE,09,{at('07:00')},{at('07:30')}"]})
+    shown.open("#AFR4")
+    shown.says("#why-note", "Blocked by CLOSURE: no minute from 06:52 to 07:20, the end of its CTOT window, is free.")
+    shown.js("location.hash = '#EZY7'")
+    shown.says("#why-note", "Blocked by CTOT: it can take off from 07:15 on, and then its CTOT window has ended.")
+
+
+def test_a_link_to_a_flight_outlives_the_sign_in(page):
+    shown = page().open("#DLH2")
+    shown.js("location.hash = '#sign-in'")
+    shown.until("return !document.querySelector('#p-sign-in').hidden")
+    shown.click("#p-sign-in .x-close")
+    shown.says("#h-f", "DLH2")
+    assert shown.js("return location.hash") == "#DLH2"
+
+
+def test_what_just_was_done_is_said_with_a_new_warning(page):
+    shown = page().open()
+    shown.server.post(f"CTOT,AFR4,{at('06:40')}", Cdm_Role="NM")
+    shown.says("#conn", "New warning: BLOCKED AFR4.")
+    assert "NM sent CTOT AFR4 06:40." in shown.text("#conn")
+
+
+def test_the_page_says_the_program_s_words(page):
+    """MAX, CLOSED and the wake category have one word each."""
+    shown = page().open("#RYR6")
+    assert shown.texts("header dt")[-1] == "max delay" and "wake category M" in shown.text("#h-f")
+    assert "closed" in shown.text("#rw-09 + .scroll")
+    for path in sorted((ROOT / "board/page").glob("*.js")) + [ROOT / "board/page/index.html"]:
+        text = path.read_text()
+        assert "greatest" not in text and "? 'shut'" not in text, path.name
+
+

@@ -1,0 +1,158 @@
+"""The page's own machine, driven by its simulator (board/tests/simulator) through schedules drawn by a seed. Each fault that it once had is
+put back as an edit: then the law that it breaks is broken again, in the schedule of its seed."""
+import re
+import shutil
+import subprocess
+
+import pytest
+from conftest import ROOT
+
+SIMULATOR = ROOT / "board/tests/simulator/page.mjs"
+SCHEDULES = 50_000
+# The fault, the law that it breaks, a seed whose schedule shows it, and the edits: a file of the page, its words, and what stands there
+# instead.
+FAULTS = [
+    ("a reset asks for the old position, of whichever log", "Arrives", 57, [
+        ("answers.js", "this.need ? this.need.position :", "this.need ? Math.max(this.need.position, this.rows.position) :")]),
+    ("a reset during a read is dropped", "Arrives", 4, [
+        ("reading.js", "  readAnew(isOther = false) {", "  readAnew(isOther = false) {\n    if (this.need) return;")]),
+    ("a sign-in during a read ends the page", "Alive", 9, [
+        ("session.js", "  begin() {\n", "  begin() {\n    if (this.questions.isAsked('plan')) {\n      for (const ask of [...this.asks.values()]) this.abandon(ask);\n"
+         "      this.questions.clear();\n      this.closeStream();\n      return;\n    }\n")]),
+    ("a record without a reply gets a second key", "Said", 1409, [
+        ("sending.js", "    if (!isAgain && isNothingTaken(answer)) return", "    if (isNothingTaken(answer)) this.unknown.delete(line);\n"
+         "    if (isNothingTaken(answer)) return")]),
+    ("a CLOCK that came as a reset isn't counted", "Arrives", 4, [
+        ("reading.js", "    if (this.history.since >= position) this.endHistory();", "    if (since !== null || this.history.since >= position) this.endHistory();")]),
+    ("one answer that isn't understood ends all questions", "Alive", 9, [
+        ("answers.js", "      isTaken = false;\n      fault =", "      if (ask.name !== 'who') throw new Error('not JSON');\n      isTaken = false;\n      fault =")]),
+    ("what a box failed to show is never shown", "Arrives", 23, [
+        ("machine.js", "    this.isBroken = true;\n", "    if (part) return;\n")]),
+    ("a log that is away isn't shown", "Arrives", 2, [
+        ("answers.js", "      if (event.status === 200) this.takeStale(told.stale_since ?? null);", "      void told;")]),
+    ("a silent break is told late", "Shown", 155, [
+        ("limits.js", "export const QUIET = 17000;", "export const QUIET = 25000;")]),
+    ("a server that is behind leaves a gap after a reset", "Arrives", 157, [
+        ("reading.js", "    if (moment.position < need.position) return false;\n", ""),
+        ("answers.js", "this.need ? this.need.position :", "this.need ? 0 :")]),
+    ("a panel shows records of a day that is gone", "Shown", 4, [
+        ("reading.js", "    this.order({ do: 'show', what: 'empty' });\n", "")]),
+    ("Retry-After isn't heeded", "Heeded", 2, [
+        ("questions.js", "retry * 1000 * (1 + chance / 4)", "0")]),
+    ("a server with another past under the same name isn't seen", "Shown", 3812, [
+        ("following.js", "const isKnown = this.mark?.position === this.rows.position && !this.isBroken;", "const isKnown = !this.isBroken;"),
+        ("following.js", "this.doubt = isKnown ? this.mark : null;", "this.doubt = null;"),
+        ("following.js", "if (reply.position === this.rows.position && !this.isSameRows(reply)) {", "if (false) {")]),
+    ("what a log has lost since it was shown stays", "Arrives", 9103, [
+        ("views.js", "      if (stream.lacks < MOST_AHEAD) return false;\n", "      if (stream.lacks) return false;\n")]),
+    ("a CLOCK in the place of a record that was lost isn't counted", "Arrives", 17424, [
+        ("reading.js", "Math.max(0, this.rows.position - RECENT) : null;", "this.rows.position : null;")]),
+    ("totals that are newer than the rows are shown", "Shown", 9, [
+        ("answers.js", "    if (ask.name === 'totals') this.holdTotals(", "    if (ask.name === 'totals') this.takeTotals(")]),
+    ("old totals aren't said to be old", "Shown", 1, [
+        ("views.js", "const isOld = this.totals.position < this.rows.position;", "const isOld = false;")]),
+]
+
+
+def simulated(*words, page=None):
+    """A run of the simulator: its status, and what it says."""
+    folder = ("--page", str(page)) if page else ()
+    ended = subprocess.run(["/usr/bin/node", SIMULATOR, *words, *folder], capture_output=True, text=True, timeout=600)
+    assert ended.stderr == ""
+    return ended.returncode, ended.stdout
+
+
+@pytest.fixture(autouse=True)
+def node(request):
+    if not shutil.which("/usr/bin/node"):
+        pytest.skip(f"{request.node.name}: nodejs is missing")
+
+
+def test_no_schedule_breaks_a_law():
+    status, said = simulated("--schedules", str(SCHEDULES), "--seed", "1")
+    found = re.search(r"(\d+) schedules, (\d+) steps, ([\d.]+) s of a processor: (\d+) broke a law$", said.rstrip())
+    assert status == 0 and found, said
+    assert int(found[1]) == SCHEDULES and int(found[2]) > 50 * SCHEDULES and int(found[4]) == 0
+
+
+@pytest.mark.parametrize(("law", "seed", "edits"), [words[1:] for words in FAULTS], ids=[words[0] for words in FAULTS])
+def test_a_fault_is_found_by_its_seed(tmp_path, law, seed, edits):
+    page = shutil.copytree(ROOT / "board/page", tmp_path / "page")
+    for file, words, instead in edits:
+        text = (page / file).read_text()
+        assert text.count(words) == 1, words
+        (page / file).write_text(text.replace(words, instead))
+    status, said = simulated("--schedules", "1", "--seed", str(seed), page=page)
+    assert status == 1 and f"seed {seed} breaks {law}: " in said, said
+    # The page as it is holds the law in the same schedule.
+    assert simulated("--schedules", "1", "--seed", str(seed))[0] == 0
+
+
+DRIVEN = """
+import { Machine } from './board/page/machine.js';
+const machine = new Machine(() => 0.5);
+const asked = [];
+let at = 0;
+const give = (event) => { for (const order of machine.take({ at, now: at, ...event })) if (order.do === 'ask') asked.push({ ...order, at }); else if (order.do === 'show') shown.push(order); };
+const shown = [];
+const answer = (name, list, position) => give({ type: 'answer', id: asked.findLast((one) => one.name === name).id, status: 200, log: 'L', position, stale: null,
+  retry: 0, detail: '', isOwn: true, text: list.map((one) => JSON.stringify(one)).join('\\n') });
+const reply = (position) => `id: L-${position}\\nevent: reply\\ndata: ${JSON.stringify({ position, desk: 'AO', line: 'TOBT,A', at: String(position), reply: 'ACCEPTED', changes: [] })}\\n\\n`;
+give({ type: 'start' });
+answer('who', [{ desk: null, role: 'READ', roles: [], kinds: [] }], NaN);
+answer('kinds', [{}], NaN);
+answer('plan', [{ day: '2025-03-10', now: '', flights: [] }], 1);
+const { number } = machine.stream;
+give({ type: 'opened', stream: number });
+at += 300;
+give({ type: 'wake' });
+answer('plan', [{ day: '2025-03-10', now: '', flights: [] }], 1);
+"""
+
+
+def driven(script):
+    """What a script prints that drives the machine from its first plan on, at record 1."""
+    ended = subprocess.run(["/usr/bin/node", "--input-type=module", "-e", DRIVEN + script], cwd=ROOT, capture_output=True, text=True, timeout=60)
+    assert ended.returncode == 0, ended.stderr
+    return ended.stdout.split()
+
+
+def test_what_is_asked_again_is_asked_at_most_once_a_second():
+    """Records for ten seconds, ten a second, and answers at once: no question is asked twice within a second."""
+    told = driven("""
+        asked.length = 0;
+        give({ type: 'openPanel', open: 'flight', flight: 'AB1' });
+        for (let position = 2; position < 102; position += 1) {
+          at += 100;
+          give({ type: 'chunk', stream: number, text: reply(position) });
+          for (const one of asked.filter((ask) => !ask.isDone)) {
+            one.isDone = true;
+            give({ type: 'answer', id: one.id, status: 200, log: 'L', position, stale: null, retry: 0, detail: '', isOwn: true, text: '{}' });
+          }
+        }
+        for (const name of ['totals', 'next', 'warnings', 'load', 'records']) {
+          const times = asked.filter((one) => one.name === name).map((one) => one.at);
+          console.log(times.length, Math.min(...times.slice(1).map((time, index) => time - times[index])));
+        }""")
+    counts, pauses = [int(count) for count in told[::2]], [float(pause) for pause in told[1::2]]
+    assert len(counts) == 5 and all(1 < count <= 11 for count in counts) and all(pause >= 1000 for pause in pauses)
+
+
+def test_an_older_answer_is_dropped():
+    """A balancer's other server may be behind: what it answers of an older record isn't shown over a newer one."""
+    assert driven("""
+        const round = (position) => {
+          for (let step = 0; step < 60; step += 1) {
+            at += 100;
+            give({ type: 'wake' });
+            const one = asked.find((ask) => !ask.isDone && ask.name === 'next');
+            if (one) { one.isDone = true; give({ type: 'answer', id: one.id, status: 200, log: 'L', position, stale: null, retry: 0, detail: '', isOwn: true, text: '{}' }); return; }
+            const other = asked.findLast((ask) => !ask.isDone);
+            if (other) { other.isDone = true; give({ type: 'answer', id: other.id, status: 200, log: 'L', position: 7, stale: null, retry: 0, detail: '', isOwn: true, text: '{}' }); }
+          }
+        };
+        round(7);
+        give({ type: 'chunk', stream: number, text: reply(8) });
+        round(6);
+        round(8);
+        console.log(...shown.filter((one) => one.name === 'next').map((one) => one.position));""") == ["7", "8"]

@@ -1,0 +1,4 @@
+pub mod StayLemmas
+pub mod TakingLemmas
+pub mod LawLemmas
+mod WorkedRows

@@ -1,0 +1,5 @@
+pub mod Carry
+pub mod Texts
+pub mod Told
+pub mod Laws
+pub mod inner
