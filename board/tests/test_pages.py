@@ -26,7 +26,7 @@ def test_the_talk_of_the_page(tmp_path):
     assert replies[2] == replies[3] and "AUTHORITY: " in ended.stdout and "DAY 2025-03-10" in ended.stdout and "SHUT" in ended.stdout
     assert ended.stdout.endswith("kept\n0027\n"), (ended.stdout, ended.stderr)
     events = re.findall(r"^event: (\w+)\ndata: (.*)$", ended.stdout, re.MULTILINE)
-    assert [(name, json.loads(data)["position"]) for name, data in events if name != "view"] == [("reply", 5)]
+    assert [(name, json.loads(data)["position"]) for name, data in events if name != "view"] == [("from", 4), ("reply", 5)]
     assert ("view", 4) in [(name, json.loads(data)["position"]) for name, data in events]
 
 

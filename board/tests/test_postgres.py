@@ -479,7 +479,7 @@ def test_a_fail_over_that_lost_records_begins_the_day_anew(board):
                 for server in servers:
                     assert server.end() == 0
                 for display in displays:
-                    told = [event for event in re.findall(r"event: (\w+)\ndata: ", display.result().decode()) if event != "view"]
+                    told = [event for event in re.findall(r"event: (\w+)\ndata: ", display.result().decode()) if event not in ("from", "view")]
                     assert told[0] == "reset" and told[-1] == "end" and set(told[1:-1]) <= {"reply", "reset"}
             finally:
                 # Otherwise the displays would be waited for.
