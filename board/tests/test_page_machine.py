@@ -112,7 +112,7 @@ answer('who', [{ desk: 'AO', role: 'AO', roles: [], kinds: ['TOBT'] }], NaN);
 answer('kinds', [{}], NaN);
 const { number } = machine.stream;
 give({ type: 'opened', stream: number });
-give({ type: 'chunk', stream: number, text: ':\\nid: L-1\\n\\n' });
+give({ type: 'chunk', stream: number, text: 'id: L-1\\nevent: from\\ndata: {"position":1,"at":"1"}\\n\\n' });
 answer('plan', [{ day: '2025-03-10', now: '', flights: [] }], 1);
 """
 
