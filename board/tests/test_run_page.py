@@ -12,10 +12,12 @@ def test_the_restore_of_the_page(board):
     """While it is served a backup is made; then records come, the server is killed, and its log is damaged."""
     backup, restore = re.findall(r"```sh\n(.*?)```", PART, re.S)
     server = board()
-    (server.folder / "cdmboard").symlink_to(ROOT / "cdmboard")
+    (server.folder / "bin").mkdir()
+    (server.folder / "bin/cdmboard").symlink_to(ROOT / "cdmboard")
+    path = f"{server.folder}/bin:{os.environ['PATH']}"
 
     def paste(lines):
-        ended = subprocess.run(["bash", "-e"], input=lines, cwd=server.folder, env=dict(os.environ, CDMSEQ=PROGRAM), capture_output=True, text=True)
+        ended = subprocess.run(["bash", "-e"], input=lines, cwd=server.folder, env=dict(os.environ, CDMSEQ=PROGRAM, PATH=path), capture_output=True, text=True)
         assert (ended.returncode, ended.stderr) == (0, ""), ended
         return ended.stdout
 
