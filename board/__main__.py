@@ -1,4 +1,4 @@
-"""`./cdmboard`: its words, its start and its end."""
+"""`cdmboard`: its words, its start and its end."""
 import argparse
 import asyncio
 import contextlib
@@ -157,7 +157,7 @@ async def take_in(options: argparse.Namespace) -> None:
         _, day = await day_of(folder, PROGRAM, [Record(number, "import", role, line) for number, (role, _, line) in enumerate(feed, 1)])
         for record in day.records:
             if record.word is not None:
-                raise Fault(f"{options.feed} record {record.position}: {record.word} (see ./cdmseq check)")
+                raise Fault(f"{options.feed} record {record.position}: {record.word} (see cdmseq check)")
         await log.append(Batch("import", [(role, line) for role, _, line in feed], end=len(feed)))
 
 

@@ -1,4 +1,4 @@
-"""The lines of docs/OPERATING.md make a cluster on which servers run, a fail-over, and a new standby; and they take a day from a file to
+"""The lines of docs/POSTGRES.md make a cluster on which servers run, a fail-over, and a new standby; and they take a day from a file to
 PostgreSQL and back."""
 import contextlib
 import json
@@ -12,7 +12,7 @@ import pytest
 from conftest import PROGRAM, ROOT, moment, objects, until
 
 pytestmark = pytest.mark.skipif(bool(clusters.missing()), reason=f"a log in PostgreSQL: {' and '.join(clusters.missing())} missing")
-PAGE = (ROOT / "docs/OPERATING.md").read_text().partition("## The log in PostgreSQL")[2]
+PAGE = (ROOT / "docs/POSTGRES.md").read_text()
 
 
 @contextlib.contextmanager
@@ -90,8 +90,8 @@ def event(display):
 
 def test_the_lines_of_the_page_take_a_day_to_postgresql_and_back(board, cluster):
     """Each way in the middle of a day, with the plan as it was."""
-    there, back = [re.findall(r"`\./(cdmboard (?:export|import) [^`]*)`", part) for part in
-                   PAGE.partition("### From a file to PostgreSQL and back")[2].partition("### ")[0].split("The way back")]
+    there, back = [re.findall(r"`(cdmboard (?:export|import) [^`]*)`", part) for part in
+                   PAGE.partition("## From a file to PostgreSQL and back")[2].partition("## ")[0].split("The way back")]
     assert len(there) == len(back) == 2
 
     def run(lines, folder, server):
