@@ -89,7 +89,7 @@ def test_events_say_where_they_begin(board):
     """So a display sees that a server lost the record behind which it wants to go on, and has another one in its place."""
     server = board(DESKS)
     log = json.loads(server.get("/v1/who", "ap").body)["log"]
-    replies = server.post(["FLT,AB1,5", "FLT,AB2,5"], "ap")
+    replies = [*server.post(["FLT,AB1,5"], "ap"), *server.post(["FLT,AB2,5"], "ap")]
     for query, position, at in (("", 2, replies[1]["at"]), (f"?since={log}-1", 1, replies[0]["at"]), (f"?since={log}-0", 0, "")):
         first = Display(server, "screen", query=query).file.read1().decode().replace("\r\n", "\n")
         assert f'id: {log}-{position}\nevent: from\ndata: {{"position":{position},"at":"{at}"}}\n\n' in first
