@@ -121,3 +121,23 @@ def test_the_lines_of_the_page_take_a_day_to_postgresql_and_back(board, cluster)
     last = board(log=first.folder / "day-2.db")
     assert plan(last) == as_it_was and last.get("/v1/journal.csv").body == feed
     assert last.post(["FLT,AB3,5"], Cdm_Role="AP")[0]["position"] == 5
+
+
+def test_the_lines_of_the_page_keep_a_board_and_remove_it(board, cluster):
+    """The backup is a log in a file, with the day as it was; then the board is gone from the database, and another one isn't."""
+    part = PAGE.partition("## Backup and deletion")[2].partition("\n## ")[0]
+    lines, remove = re.findall(r"^    (cdmboard .*)$", part, re.M), re.search(r"```sql\n(.*?)```", part, re.S)[1]
+    assert len(lines) == 2
+    servers = [board(log=cluster.url(), options=["--board", name]) for name in ("GONE", "KEPT")]
+    for server in servers:
+        assert server.post(["FLT,AB1,5", "FOO"], Cdm_Role="AP")[0]["accepted"] == 1
+    for line in lines:
+        words = line.replace("postgresql://..", cluster.url()).replace("EDDF", "GONE")
+        ended = subprocess.run(["bash", "-c", f"{ROOT}/{words}"], cwd=servers[0].folder, env=dict(os.environ, CDMSEQ=PROGRAM), capture_output=True, text=True)
+        assert (ended.returncode, ended.stderr) == (0, ""), line
+    assert servers[0].end() == 0
+    cluster.sql(remove.replace("EDDF", "GONE"))
+    again = board(log=cluster.url(), options=["--board", "GONE"])
+    assert again.records() == [] and len(servers[1].records()) == 2
+    copy = board(log=servers[0].folder / "backup.db", options=["--board", "GONE"])
+    assert [record["line"] for record in copy.records()] == ["FLT,AB1,5", "FOO"]

@@ -99,7 +99,7 @@ def test_four_pages_that_open_at_once(site):
     # The server is busy for a moment, so all of them are asked for at once.
     site.server.process.send_signal(signal.SIGSTOP)
     asking = subprocess.Popen(list(map(str, words)), stdout=subprocess.PIPE, stderr=subprocess.PIPE, text=True)
-    time.sleep(1.5)
+    time.sleep(1.5 * FACTOR)
     site.server.process.send_signal(signal.SIGCONT)
     told, faults = asking.communicate(timeout=60 * FACTOR)
     assert collections.Counter(told.split("\n")[:-1]) == {"200 2": len(wanted)}, faults
