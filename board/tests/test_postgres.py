@@ -215,6 +215,57 @@ def test_a_notice_wakes_the_other_servers(board, primary):
     assert sorted(times)[5] < 0.7
 
 
+def test_notices_wake_a_server_so_often(primary):
+    """Any login of the database can send notices without end: they make a server read no more than 20 times a second, and each record arrives."""
+    import asyncpg
+    from board.log import Batch
+    from board.notices import PAUSE_SECONDS
+
+    async def what(log):
+        flood, reads, notices, began = await asyncpg.connect(primary.url()), 0, 0, time.monotonic()
+
+        async def read():
+            nonlocal reads
+            while reads >= 0:
+                await log.grown.wait()
+                log.grown.clear()
+                await log.rows(0, 10)
+                reads += 1
+        reading = asyncio.create_task(read())
+        try:
+            while time.monotonic() < began + 2:
+                await flood.execute("NOTIFY cdm_record, ''")
+                notices += 1
+            await asyncio.sleep(2 * PAUSE_SECONDS)
+            most = (time.monotonic() - began) / PAUSE_SECONDS + 1
+            assert notices > 2 * most and reads > 2
+            assert reads <= most
+            assert await log.append(Batch("ap", [("AP", "A")])) == range(1, 2)
+        finally:
+            reads = -2
+            log.grown.set()
+            await reading
+            flood.terminate()
+    opened(primary.url(), what)
+
+
+@pytest.mark.parametrize("turns", range(3))
+def test_an_end_at_the_moment_at_which_a_connection_breaks(primary, turns):
+    """It ends all the same."""
+    from board.postgres import PostgresLog
+
+    async def talk():
+        log = PostgresLog(primary.url(), "")
+        await log.open(AIRPORT.encode(), "v1")
+        await asyncio.sleep(0.2)
+        log._link.broken.set()
+        for _ in range(turns):
+            await asyncio.sleep(0)
+        async with asyncio.timeout(10):
+            await log.close()
+    asyncio.run(talk())
+
+
 def test_two_clocks_take_each_minute_once(board, primary):
     today = time.strftime("%Y-%m-%d", time.gmtime())
     servers = [board(log=primary.url(), options=["--clock"], airport=AIRPORT.replace("2025-03-10", today)) for _ in range(2)]
