@@ -458,6 +458,31 @@ def test_export_and_import(board, primary, tmp_path):
     assert cdmboard("export", tmp_path / "new.db").stdout == exported
 
 
+def test_a_dump_in_a_new_database_is_served(board, primary):
+    """As docs/OPERATING.md says: pg_dump while it is served, a new database with a log's tables, pg_restore. Keys and digests go along."""
+    server = board(log=primary.url())
+    server.post(["FLT,AB1,5", "FOO"], Cdm_Role="AP", key="k")
+    before, log_id = server.records(), json.loads(server.get("/v1/who").body)["log"]
+    primary.sql(f"INSERT INTO cdm_digest VALUES ('', 2, '{'1' * 64}')")
+    dump, at = primary.data.parent / "cdm.dump", ("-h", "127.0.0.1", "-p", primary.port, "-U", "postgres")
+    clusters.run("pg_dump", *at, "-Fc", "-f", dump, "cdm")
+    server.post(["FLT,AB2,5"], Cdm_Role="AP")
+    clusters.run("createdb", *at, "restored")
+    other, own = (f"{primary.url(who).removesuffix('/cdm')}/restored" for who in ("postgres", "cdm"))
+    assert cdmboard("log", "init", other).returncode == 0
+    clusters.run("pg_restore", *at, "-d", "restored", "--data-only", "--single-transaction", dump)
+    assert primary.sql("SELECT position, digest FROM cdm_digest", "restored") == f"2|{'1' * 64}"
+    assert cdmboard(server.airport, own).returncode == 3, "no reply of before has this digest"
+    primary.sql("DELETE FROM cdm_digest", "restored")
+    copy = board(log=own)
+    assert copy.records() == [record | ({"changes": None} if "changes" in record else {}) for record in before]
+    assert json.loads(copy.get("/v1/who").body)["log"] == log_id
+    assert copy.post(["FLT,AB1,5", "FOO"], Cdm_Role="AP", key="k")[0]["position"] == 1
+    assert copy.post(["FLT,AB3,5"], Cdm_Role="AP")[0]["position"] == 3
+    assert cdmboard("verify", own).stdout.startswith("3 records, 2 accepted")
+    assert [row.split("|")[0] for row in primary.sql("SELECT event, number FROM cdm_audit ORDER BY number", "restored").splitlines()] == ["records"] * 2
+
+
 def test_a_database_that_is_away(board):
     """POST is 503, reads go on and say since when they are old; the server comes back by itself, and so does a killed sequencer."""
     with clusters.clusters(settings=QUICK) as (primary,):
