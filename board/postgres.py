@@ -22,6 +22,7 @@ from board import sqlite
 from board.commits import Commit, Commits
 from board.following import AWAY, Following, Seen
 from board.log import MOST_RECORDS, Accept, Away, Batch, Changed, Event, Kept, Record, accepted, audit_of, digests_as_json, records_of
+from board.notices import Notices
 from board.words import Fault, Problem, now_text, tell
 from board.writer import COMMIT_SECONDS, Outcome, nothing
 
@@ -47,6 +48,8 @@ COMMITTING = """SELECT count(*) FROM pg_stat_activity
 LAST = "SELECT coalesce(max(position), 0) FROM public.cdm_record WHERE board = $1"
 # Tables of an older version have no sessions, or no digests.
 TABLES = "SELECT num_nulls(to_regclass('public.cdm_record'), to_regclass('public.cdm_session'), to_regclass('public.cdm_digest')) = 0"
+# Notices that another server took records, and ended sessions.
+CHANNELS = ("cdm_record", "cdm_session")
 DIGESTS = "SELECT position, digest FROM public.cdm_digest WHERE board = $1"
 SESSIONS = "SELECT desk, not_before FROM public.cdm_session WHERE board = $1"
 AUDIT = "SELECT at, event, desk, address, position, count, detail FROM public.cdm_audit WHERE board = $1 ORDER BY number"
@@ -214,7 +217,7 @@ class Link:
 
     async def listen(self, heard: Any) -> None:
         """Has a call made for each notice that another server took records. Raises Away, Refused."""
-        for channel in ("cdm_record", "cdm_session"):
+        for channel in CHANNELS:
             await finished(self._reader, READ, self._reader.add_listener(channel, heard))
 
     async def is_committing(self, name: str) -> bool:
@@ -242,8 +245,10 @@ class PostgresLog(Kept):
         # The transaction that is to run, and hasn't begun.
         self._ordered, self._order = asyncio.Event(), list[Commit]()
         self._following = Following()
+        self._notices = dict(zip(CHANNELS, (Notices(self.grown), Notices(self.signed_out)), strict=True))
         self._looked, self._looked_at = float("-inf"), now_text()
         self._keeping: asyncio.Task[None] | None = None
+        self._is_closing = False
 
     async def open(self, airport: bytes, version: str, accept: Accept = accepted) -> None:
         self.airport, self._version, self._accept = airport, version, accept
@@ -259,6 +264,7 @@ class PostgresLog(Kept):
         await asyncio.shield(self._keeping)
 
     async def close(self) -> None:
+        self._is_closing = True
         if self._keeping is not None:
             self._keeping.cancel()
             await asyncio.gather(self._keeping, return_exceptions=True)
@@ -405,6 +411,9 @@ class PostgresLog(Kept):
                 self._linked.clear()
                 link.end()
                 self._unlink()
+            # Where a connection breaks at the moment of the end, the library's group of tasks forgets that it was cancelled.
+            if self._is_closing:
+                return
             for pause in chain((0.1, 0.1, 0.2, 0.4), repeat(1.0)):
                 await asyncio.sleep(pause)
                 with contextlib.suppress(Away):
@@ -451,15 +460,12 @@ class PostgresLog(Kept):
             opened.callback(writer.terminate)
             link = Link(reader, writer)
             try:
-                await link.listen(lambda _, pid, channel, board: self._heard(channel) if board == self._board else None)
+                await link.listen(lambda _, pid, channel, board: self._notices[channel].heard() if board == self._board else None)
                 await self._check(link)
             except Refused as why:
                 raise Away(why) from None
             opened.pop_all()
         return link
-
-    def _heard(self, channel: str) -> None:
-        (self.grown if channel == "cdm_record" else self.signed_out).set()
 
     async def _check(self, link: Link) -> None:
         """Whether a link leads to the log, and whether it has the last row that was handed on. Raises Away,

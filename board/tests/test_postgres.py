@@ -215,6 +215,57 @@ def test_a_notice_wakes_the_other_servers(board, primary):
     assert sorted(times)[5] < 0.7
 
 
+def test_notices_wake_a_server_so_often(primary):
+    """Any login of the database can send notices without end: they make a server read no more than 20 times a second, and each record arrives."""
+    import asyncpg
+    from board.log import Batch
+    from board.notices import PAUSE_SECONDS
+
+    async def what(log):
+        flood, reads, notices, began = await asyncpg.connect(primary.url()), 0, 0, time.monotonic()
+
+        async def read():
+            nonlocal reads
+            while reads >= 0:
+                await log.grown.wait()
+                log.grown.clear()
+                await log.rows(0, 10)
+                reads += 1
+        reading = asyncio.create_task(read())
+        try:
+            while time.monotonic() < began + 2:
+                await flood.execute("NOTIFY cdm_record, ''")
+                notices += 1
+            await asyncio.sleep(2 * PAUSE_SECONDS)
+            most = (time.monotonic() - began) / PAUSE_SECONDS + 1
+            assert notices > 2 * most and reads > 2
+            assert reads <= most
+            assert await log.append(Batch("ap", [("AP", "A")])) == range(1, 2)
+        finally:
+            reads = -2
+            log.grown.set()
+            await reading
+            flood.terminate()
+    opened(primary.url(), what)
+
+
+@pytest.mark.parametrize("turns", range(3))
+def test_an_end_at_the_moment_at_which_a_connection_breaks(primary, turns):
+    """It ends all the same."""
+    from board.postgres import PostgresLog
+
+    async def talk():
+        log = PostgresLog(primary.url(), "")
+        await log.open(AIRPORT.encode(), "v1")
+        await asyncio.sleep(0.2)
+        log._link.broken.set()
+        for _ in range(turns):
+            await asyncio.sleep(0)
+        async with asyncio.timeout(10):
+            await log.close()
+    asyncio.run(talk())
+
+
 def test_two_clocks_take_each_minute_once(board, primary):
     today = time.strftime("%Y-%m-%d", time.gmtime())
     servers = [board(log=primary.url(), options=["--clock"], airport=AIRPORT.replace("2025-03-10", today)) for _ in range(2)]
@@ -405,6 +456,31 @@ def test_export_and_import(board, primary, tmp_path):
     feed.write_text(exported)
     assert cdmboard("import", server.airport, tmp_path / "new.db", feed).returncode == 0
     assert cdmboard("export", tmp_path / "new.db").stdout == exported
+
+
+def test_a_dump_in_a_new_database_is_served(board, primary):
+    """As docs/POSTGRES.md says: pg_dump while it is served, a new database with a log's tables, pg_restore. Keys and digests go along."""
+    server = board(log=primary.url())
+    server.post(["FLT,AB1,5", "FOO"], Cdm_Role="AP", key="k")
+    before, log_id = server.records(), json.loads(server.get("/v1/who").body)["log"]
+    primary.sql(f"INSERT INTO cdm_digest VALUES ('', 2, '{'1' * 64}')")
+    dump, at = primary.data.parent / "cdm.dump", ("-h", "127.0.0.1", "-p", primary.port, "-U", "postgres")
+    clusters.run("pg_dump", *at, "-Fc", "-f", dump, "cdm")
+    server.post(["FLT,AB2,5"], Cdm_Role="AP")
+    clusters.run("createdb", *at, "restored")
+    other, own = (f"{primary.url(who).removesuffix('/cdm')}/restored" for who in ("postgres", "cdm"))
+    assert cdmboard("log", "init", other).returncode == 0
+    clusters.run("pg_restore", *at, "-d", "restored", "--data-only", "--single-transaction", dump)
+    assert primary.sql("SELECT position, digest FROM cdm_digest", "restored") == f"2|{'1' * 64}"
+    assert cdmboard(server.airport, own).returncode == 3, "no reply of before has this digest"
+    primary.sql("DELETE FROM cdm_digest", "restored")
+    copy = board(log=own)
+    assert copy.records() == [record | ({"changes": None} if "changes" in record else {}) for record in before]
+    assert json.loads(copy.get("/v1/who").body)["log"] == log_id
+    assert copy.post(["FLT,AB1,5", "FOO"], Cdm_Role="AP", key="k")[0]["position"] == 1
+    assert copy.post(["FLT,AB3,5"], Cdm_Role="AP")[0]["position"] == 3
+    assert cdmboard("verify", own).stdout.startswith("3 records, 2 accepted")
+    assert [row.split("|")[0] for row in primary.sql("SELECT event, number FROM cdm_audit ORDER BY number", "restored").splitlines()] == ["records"] * 2
 
 
 def test_a_database_that_is_away(board):
