@@ -4,6 +4,7 @@ import asyncio
 import contextlib
 import errno
 import fcntl
+import functools
 import glob
 import json
 import os
@@ -29,6 +30,8 @@ from board.desks import digest, read_desks
 from board.events import Events
 from board.guard import HEADERS, Door, Guard
 from board.log import MOST_RECORDS, Batch, Log, Record
+from board.notify import Notifier
+from board.replies import Keeper, check, day_of_log, reply_again
 from board.sequencer import MOST_JOURNAL, Sequencer, place_with_room
 from board.telling import Teller
 from board.views import Views
@@ -196,14 +199,17 @@ async def back_up(options: argparse.Namespace) -> None:
 
 
 async def verify(options: argparse.Namespace) -> None:
-    """`verify`: each row of a log is read, and given to the program. Raises Fault."""
+    """`verify`: each row of a log is read and given to the program, whose replies have to be those of the digests. Raises Fault."""
+    digests = await engine_of(options.log).read_digests(options.log, options.board)
     airport, made_by, records = await engine_of(options.log).read_log(options.log, options.board)
     version = (await asked("/", PROGRAM, "--version")).decode("ascii", "replace").strip()
     if made_by != version:
         raise Fault(f"{options.log} was made by another program: {made_by}, and this is {version}")
     with folder_of("verify", airport) as folder:
         _, day = await day_of(folder, PROGRAM, records)
-    print(f"{len(day.records)} records, {len(day.lines)} accepted")
+        await reply_again(folder, PROGRAM, day)
+    check(day, digests, options.log)
+    print(f"{len(day.records)} records, {len(day.lines)} accepted, {len(digests)} digests of replies")
 
 
 def listening(options: argparse.Namespace) -> tuple[str, int, ssl.SSLContext | None]:
@@ -237,11 +243,11 @@ async def serve(options: argparse.Namespace) -> None:
     for number in (signal.SIGTERM, signal.SIGINT):
         loop.add_signal_handler(number, starting.cancel)
     host, port, sealed = listening(options)
-    desks = read_desks(options.desks)
+    desks, notifier = read_desks(options.desks), Notifier()
     resource.setrlimit(resource.RLIMIT_NOFILE, (resource.getrlimit(resource.RLIMIT_NOFILE)[1],) * 2)
     async with log_of(options) as (log, folder):
         kinds = await asked(folder, PROGRAM, "kinds", "--format", "json")
-        date, day = await day_of(folder, PROGRAM, await log.whole(), kinds)
+        date, day = await day_of_log(folder, PROGRAM, log, kinds)
         names, scheme = (host, "localhost", socket.gethostname(), *options.name), "https" if sealed or options.behind_proxy else "http"
         board = Board(desks, log, day, Sequencer(PROGRAM, folder, log, day), Answers(PROGRAM, folder, day), Events(log.id, day),
                       {name.lower() for name in names}, scheme, options.behind_proxy)
@@ -250,10 +256,10 @@ async def serve(options: argparse.Namespace) -> None:
         assert (manager := runner.server) is not None
         server = await loop.create_server(
             lambda: Guard(manager, door, options.behind_proxy), sock=door, ssl=sealed, ssl_handshake_timeout=HEADERS if sealed else None)
-        loop.add_signal_handler(signal.SIGHUP, again, options, board, door, sealed)
+        loop.add_signal_handler(signal.SIGHUP, notifier.reload, functools.partial(again, options, board, door, sealed))
         at = f"{scheme}://{f'[{host}]' if ':' in host else host}:{door.getsockname()[1]}/"
         try:
-            await run(board, at, date if options.clock else "")
+            await run(board, at, date if options.clock else "", notifier)
         except ExceptionGroup as faults:
             raise faults.exceptions[0] from None
         finally:
@@ -265,16 +271,19 @@ async def serve(options: argparse.Namespace) -> None:
             await runner.cleanup()
 
 
-async def run(board: Board, address: str, date: str) -> None:
+async def run(board: Board, address: str, date: str, notifier: Notifier) -> None:
     """Runs all that a board has running, until it is told to end and each record has its reply."""
     ending, loop = asyncio.Event(), asyncio.get_running_loop()
     for number in (signal.SIGTERM, signal.SIGINT):
         loop.add_signal_handler(number, ending.set)
     views = Views(board.answers, board.events)
     async with asyncio.TaskGroup() as group:
-        parts = [board.sequencer.run(), board.log.ended(), board.events.run(), views.run(), board.watch(), board.audit.run(), ready(board, address)]
-        tasks = [group.create_task(part) for part in parts + ([clock.run(date, board.records.take)] if date else [])]
+        vital = [group.create_task(part) for part in (board.sequencer.run(), board.log.ended())]
+        parts = [board.events.run(), views.run(), board.watch(), board.audit.run(), Keeper(board.log, board.day).run(), ready(board, address),
+                 notifier.run(board.health.words, vital)]
+        tasks = vital + [group.create_task(part) for part in parts + ([clock.run(date, board.records.take)] if date else [])]
         await ending.wait()
+        notifier.stopping()
         board.records.is_closing = True
         async with asyncio.timeout(20):
             # What another server takes from now on gets its reply there.

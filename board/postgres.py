@@ -21,7 +21,7 @@ from urllib.parse import parse_qsl, urlencode, urlsplit
 from board import sqlite
 from board.commits import Commit, Commits
 from board.following import AWAY, Following, Seen
-from board.log import MOST_RECORDS, Accept, Away, Batch, Changed, Event, Kept, Record, accepted, audit_of, records_of
+from board.log import MOST_RECORDS, Accept, Away, Batch, Changed, Event, Kept, Record, accepted, audit_of, digests_as_json, records_of
 from board.words import Fault, Problem, now_text, tell
 from board.writer import COMMIT_SECONDS, Outcome, nothing
 
@@ -45,8 +45,9 @@ TIMELINE = "SELECT ('x' || left(pg_walfile_name(pg_current_wal_lsn()), 8))::bit(
 COMMITTING = """SELECT count(*) FROM pg_stat_activity
                 WHERE application_name = $1 AND state = 'active' AND pid <> $2"""
 LAST = "SELECT coalesce(max(position), 0) FROM public.cdm_record WHERE board = $1"
-# Tables of an older version have no sessions.
-TABLES = "SELECT to_regclass('public.cdm_record') IS NOT NULL AND to_regclass('public.cdm_session') IS NOT NULL"
+# Tables of an older version have no sessions, or no digests.
+TABLES = "SELECT num_nulls(to_regclass('public.cdm_record'), to_regclass('public.cdm_session'), to_regclass('public.cdm_digest')) = 0"
+DIGESTS = "SELECT position, digest FROM public.cdm_digest WHERE board = $1"
 SESSIONS = "SELECT desk, not_before FROM public.cdm_session WHERE board = $1"
 AUDIT = "SELECT at, event, desk, address, position, count, detail FROM public.cdm_audit WHERE board = $1 ORDER BY number"
 WRONG = {422: "this key came with another body before"}
@@ -285,6 +286,15 @@ class PostgresLog(Kept):
                 return records
             await asyncio.sleep(0.05)
 
+    async def digests(self) -> dict[int, str]:
+        """As of a file; waits for the database."""
+        while True:
+            await self._linked.wait()
+            if (link := self._link) is not None:
+                with contextlib.suppress(Away):
+                    return dict(await link.read(DIGESTS, self._board))
+            await asyncio.sleep(0.05)
+
     async def _read(self, after: int, most: int, seconds: float = READ) -> list[Record] | None:
         """Rows, None where the database is away. They're handed on: a later link has to have the last."""
         link = self._link
@@ -315,6 +325,13 @@ class PostgresLog(Kept):
         async with database_of(self._url) as database:
             await finished(database, COMMIT_SECONDS, database.fetchval("SELECT public.cdm_sign_out($1, $2)", self._board, desk))
             await finished(database, COMMIT_SECONDS, database.execute("SELECT pg_notify('cdm_session', $1)", self._board))
+
+    async def keep(self, said: Sequence[tuple[Record, str]]) -> dict[int, str]:
+        """As of a file, by a connection of its own."""
+        async with database_of(self._url) as database:
+            query = "SELECT public.cdm_keep($1, $2)"
+            kept = json.loads(await finished(database, COMMIT_SECONDS, database.fetchval(query, self._board, digests_as_json(said))))
+            return {int(position): digest for position, digest in kept.items()}
 
     async def note(self, events: list[Event]) -> int:
         """As of a file, by a connection of its own."""
@@ -513,6 +530,12 @@ async def read_log(url: str, board: str) -> tuple[bytes, str, list[Record]]:
         return row[0], row[1], records_of(name_of(url), 0, rows)
 
 
+async def read_digests(url: str, board: str) -> dict[int, str]:
+    """The digests of a log. Raises Fault."""
+    async with database_of(url) as database:
+        return dict(await database.fetch(DIGESTS, board))
+
+
 async def read_audit(url: str, board: str) -> bytes:
     """The audit of a log, one JSON object a line. Raises Fault."""
     async with database_of(url) as database:
@@ -523,8 +546,10 @@ async def copy_log(url: str, board: str, copy: str) -> None:
     """A copy of a whole log in a file of SQLite that is empty, with an id of its own. Records are never changed, so what is read here is of
     one moment. Raises Fault."""
     airport, version, _ = await read_log(url, board)
+    digests = await read_digests(url, board)
     async with database_of(url) as database:
         rows = await database.fetch("SELECT board, position, desk, key, n, lines, role, line, at FROM public.cdm_record"
                                     " WHERE board = $1 ORDER BY position", board)
         audit = await database.fetch(AUDIT, board)
-    sqlite.write_log(copy, (board, secrets.token_hex(8), airport, version), [tuple(row) for row in rows], [tuple(row) for row in audit])
+    sqlite.write_log(copy, (board, secrets.token_hex(8), airport, version), [tuple(row) for row in rows],
+                     list(digests.items()), [tuple(row) for row in audit])

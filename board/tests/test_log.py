@@ -34,7 +34,7 @@ def log_at(request, tmp_path):
             database.close()
         return (lambda board="": sqlite.FileLog(path, board)), force
     cluster = request.getfixturevalue("primary")
-    cluster.sql("TRUNCATE cdm_log, cdm_record")
+    cluster.sql("TRUNCATE cdm_log, cdm_record, cdm_digest")
     return (lambda board="": postgres.PostgresLog(cluster.url(), board)), cluster.sql
 
 
@@ -292,3 +292,21 @@ def test_ten_boards_of_one_database(log_at):
         found = [talk(open_log, lambda log, board=board: speak(log, board), f"board-{board}") for board in range(10)]
     assert [lines for _, lines in found] == [[f"A{board}{turn}" for turn in range(10)] for board in range(10)]
     assert len({log_id for log_id, _ in found}) == 10
+
+
+def test_a_digest_is_kept_once_and_of_a_record_that_is_there(log_at):
+    """The first one stays, whoever says another; one of a record that was lost is none of this log, and neither kept nor compared."""
+    open_log, _ = log_at
+    one, other, lost = ("1" * 64, "2" * 64, "3" * 64)
+
+    async def what(log):
+        await log.append(batch("A", "B"))
+        first, last = await log.rows(0, 10)
+        assert await log.digests() == {}
+        assert await log.keep([(last._replace(line="C"), lost), (last._replace(at="later"), lost)]) == {} == await log.digests()
+        assert await log.keep([(last, one)]) == {2: one}
+        assert await log.keep([(first, other), (last, other)]) == {1: other, 2: one}
+        assert await log.keep([(last._replace(desk="gh"), lost)]) == {}
+        return await log.digests()
+    assert talk(open_log, what) == {1: other, 2: one} == talk(open_log, lambda log: log.digests())
+    assert talk(open_log, lambda log: log.digests(), "other") == {}

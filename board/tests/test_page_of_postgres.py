@@ -67,7 +67,7 @@ def test_the_lines_of_the_page_make_a_cluster(board):
         until(lambda: is_taken(server, "FLT,AB2,5", "k2"), 120)
         assert server.post(["FLT,AB2,5"], Cdm_Role="AP", key="k2")[0]["position"] == 2 and "Cdm-Stale-Since" not in server.get("/v1/plan").headers
         # The display is still connected: it gets the event of the record, and no reset.
-        kinds = [kind for kind in iter(lambda: event(display), "reply") if kind != "view"]
+        kinds = [kind for kind in iter(lambda: event(display), "reply") if kind not in ("from", "view")]
         assert kinds in ([], ["reset"]), kinds
         display.close()
         run(variables + new_standby)
