@@ -477,3 +477,35 @@ def test_the_end_of_a_panel_is_seen_while_the_connection_is_lost(page):
     shown.says("#conn", "CONNECTION LOST since ")
     shown.js("document.querySelector('#p-flight').scrollTop = 99999")
     assert shown.js("return document.querySelector('#f-records tr:last-child').getBoundingClientRect().bottom <= document.querySelector('.conn').getBoundingClientRect().top")
+
+
+def test_a_date_stays_with_its_time(page):
+    """EZY7 waits from the end of its window to the end of the second day, 11 23:59: that isn't broken before its hour."""
+    shown = page()
+    for width in (320, 1280):
+        size(shown.driver, width, 900)
+        shown.open("#EZY7")
+        shown.says("#waits", "11 23:59")
+        assert shown.js(r"""return [...document.querySelectorAll('#waits li span:nth-child(2)')].map((node) => {
+            const text = node.firstChild, range = document.createRange(), at = text.data.search(/11.23:59/);
+            if (at < 0) return 0;
+            range.setStart(text, at); range.setEnd(text, at + 8);
+            return range.getClientRects().length; }).filter(Boolean)""") == [1]
+
+
+def test_a_new_warning_of_a_cell_says_its_time_in_short(page):
+    shown = page().open()
+    fill(shown.server, {"ATC": [f"OFF,BAW3,{at('05:50')}", f"OFF,DLH1,{at('05:50')}", f"RATE,27L,{at('06:00')},{at('06:10')},1"]})
+    shown.says("#conn", "New warning: FULL 27L 06:00.")
+
+
+def test_buttons_of_a_warning_keep_apart(page):
+    shown = page()
+    for width in (320, 1280, 3840):
+        size(shown.driver, width, 900)
+        shown.open("#EZY7")
+        shown.choose("#role", "ATC") if width > 320 else shown.js("const r = document.querySelector('#role'); r.value = 'ATC'; r.dispatchEvent(new Event('change'))")
+        shown.until("return document.querySelectorAll('#f-warnings button').length >= 2")
+        boxes = shown.js("return [...document.querySelectorAll('#f-warnings button')].map((b) => b.getBoundingClientRect()).map((b) => [b.left, b.top, b.right, b.bottom])")
+        for (_, _, right, bottom), (left, top, _, _) in zip(boxes, boxes[1:]):
+            assert left >= right + 4 or top >= bottom + 2, (width, boxes)
