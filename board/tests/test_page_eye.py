@@ -509,3 +509,16 @@ def test_buttons_of_a_warning_keep_apart(page):
         boxes = shown.js("return [...document.querySelectorAll('#f-warnings button')].map((b) => b.getBoundingClientRect()).map((b) => [b.left, b.top, b.right, b.bottom])")
         for (_, _, right, bottom), (left, top, _, _) in zip(boxes, boxes[1:]):
             assert left >= right + 4 or top >= bottom + 2, (width, boxes)
+
+
+def test_a_blocked_flight_is_told_what_frees_it(page):
+    """By its rule: EZY7 is ready when its window has ended; AFR4's window is closed; KLM5, ready at 06:15, finds 06:15 to 06:20 taken."""
+    shown = page()
+    fill(shown.server, {"ATC": [f"CLOSE,09,{at('07:00')},{at('07:30')}", f"RATE,27L,{at('06:00')},{at('06:30')},1"], "AO": [f"TOBT,KLM5,{at('06:00')}"],
+                        "NM": [f"CTOT,KLM5,{at('06:09')}"]})
+    shown.open()
+    for name, words in (("EZY7", "Send an earlier TOBT. Or ask the Network Manager for a later CTOT than 06:30."),
+                        ("AFR4", "Open the runway (OPEN), or send another one (RWY). Or ask the Network Manager for a later CTOT than 07:10."),
+                        ("KLM5", "PRIO puts it ahead of those that have its minutes. Or ask the Network Manager for a later CTOT than 06:09.")):
+        shown.js("location.hash = arguments[0]", f"#{name}")
+        shown.says("#f-warnings", words)
