@@ -78,7 +78,12 @@ class Guard(web.RequestHandler):
     def __init__(self, server: web.Server, door: Door, is_for_proxy: bool) -> None:
         super().__init__(server, loop=asyncio.get_running_loop(), lingering_time=5.0, auto_decompress=False,
                          keepalive_timeout=OF_A_PROXY if is_for_proxy else HEADERS)
-        self.access_logger, self._unread, self.lost, self._door = None, 0, asyncio.Event(), door
+        self.access_logger = None
+        self.lost = asyncio.Event()
+        self._door = door
+        # Bytes since the last request was begun; how many requests were taken by the server's own code, or found wrong before.
+        self._unread = 0
+        self._taken = 0
 
     def connection_made(self, transport: asyncio.BaseTransport) -> None:
         assert isinstance(transport, asyncio.Transport)
@@ -92,6 +97,10 @@ class Guard(web.RequestHandler):
             await super().start()
         except Exception:
             self._cut()
+
+    def take(self) -> None:
+        """A request is begun with; those that came behind it wait."""
+        self._taken += 1
 
     def show(self) -> None:
         """A desk's token was shown on this connection."""
@@ -108,16 +117,18 @@ class Guard(web.RequestHandler):
         self.lost.set()
 
     def data_received(self, data: bytes) -> None:
+        # aiohttp's own count of the requests that were begun.
         count = self._request_count
         super().data_received(data)
         self._unread += len(data)
         if self._request_count > count:
             self._late.cancel()
             self._unread = 0
-        if self._unread > MOST_UNREAD or len(self._messages) > MOST_PIPELINED:
+        if self._unread > MOST_UNREAD or self._request_count - self._taken > MOST_PIPELINED:
             self._cut()
 
     def handle_error(self, request: web.BaseRequest, status: int = 500, exc: BaseException | None = None,
                      message: str | None = None) -> web.StreamResponse:
         """What is wrong before a request reaches the server's own code is the request's fault."""
+        self.take()
         return super().handle_error(request, 400, None, "the request is malformed")
