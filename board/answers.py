@@ -62,7 +62,9 @@ class Answers:
     the others' answers as they are."""
 
     def __init__(self, program: str, folder: str, day: Day) -> None:
-        self._program, self._folder, self._day = program, folder, day
+        self._program = program
+        self._folder = folder
+        self._day = day
         self._places = Places(max(1, (os.cpu_count() or 2) - 1), MOST_OF_ONE, MOST_NAMELESS)
         self._answers: dict[Ticket, asyncio.Future[Answer]] = {}
         self._runs: dict[asyncio.Task[None], float] = {}

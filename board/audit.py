@@ -7,7 +7,8 @@ from board.log import Away, Event, Log
 from board.words import Fault, now_text, tell
 
 # Events that wait for the log, and seconds until it is tried again.
-MOST_WAITING, AGAIN = 1000, 1.0
+MOST_WAITING = 1000
+AGAIN = 1.0
 MOST_DETAIL = 1000
 
 
@@ -15,7 +16,9 @@ class Audit:
     """Events on their way to a log, which may be away meanwhile."""
 
     def __init__(self, log: Log) -> None:
-        self._log, self._waiting, self._wanted = log, deque[Event](), asyncio.Event()
+        self._log = log
+        self._waiting = deque[Event]()
+        self._wanted = asyncio.Event()
         self._writing: asyncio.Task[bool] | None = None
 
     def note(self, event: str, desk: str | None, address: str | None, detail: str | None = None) -> None:

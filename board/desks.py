@@ -14,10 +14,14 @@ from typing import Any
 from board.connections import Limits
 from board.words import ROLES, Fault, Kinds, now_text, refuse
 
-DESK, TOKEN = re.compile(r"[A-Za-z0-9-]{1,32}"), re.compile(r"sha256:[0-9a-f]{64}")
+DESK = re.compile(r"[A-Za-z0-9-]{1,32}")
+TOKEN = re.compile(r"sha256:[0-9a-f]{64}")
 TIME = re.compile(r"[0-9]{4}-[0-9]{2}-[0-9]{2}T[0-9]{2}:[0-9]{2}Z")
-AHEAD, ANY = timedelta(minutes=5), timedelta(days=36_500)
-MOST_WAITING, MOST_A_SECOND, SECONDS = 256, 50, 10
+AHEAD = timedelta(minutes=5)
+ANY = timedelta(days=36_500)
+MOST_WAITING = 256
+MOST_A_SECOND = 50
+SECONDS = 10
 # What a database has room for in a number.
 MOST_OF_DESK = 2**31 - 1
 
@@ -74,7 +78,9 @@ class Desks:
 
     def __init__(self, desks: Iterable[Desk], anyone_reads: bool, is_open: bool = False, limits: Limits = Limits()) -> None:
         self.by_name = {desk.name: desk for desk in desks}
-        self.anyone_reads, self.is_open, self.limits = anyone_reads, is_open, limits
+        self.anyone_reads = anyone_reads
+        self.is_open = is_open
+        self.limits = limits
 
     def by_token(self, token: str) -> Desk | None:
         """The desk of a token. All are compared, in constant time."""

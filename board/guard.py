@@ -13,7 +13,11 @@ from board.words import tell
 
 KEPT_FREE = 200
 TCP_USER_TIMEOUT = 18  # Linux' number of it, which mypy doesn't know.
-MOST_UNREAD, MOST_PIPELINED, HEADERS, OF_A_PROXY, UNTAKEN = 256 << 10, 16, 10.0, 75.0, 60.0
+MOST_UNREAD = 256 << 10
+MOST_PIPELINED = 16
+HEADERS = 10.0
+OF_A_PROXY = 75.0
+UNTAKEN = 60.0
 HOUR = 3600.0
 
 
@@ -25,7 +29,9 @@ class Door(socket.socket):
         family, *_, address = socket.getaddrinfo(host, port, type=socket.SOCK_STREAM)[0]
         super().__init__(fileno=socket.create_server(address, family=family).detach())
         self.places = Places(limits, resource.getrlimit(resource.RLIMIT_NOFILE)[0] - KEPT_FREE)
-        self._is_for_proxy, self._guests, self._came_round = is_for_proxy, dict[int, Guest](), Windows(HOUR)
+        self._is_for_proxy = is_for_proxy
+        self._guests = dict[int, Guest]()
+        self._came_round = Windows(HOUR)
 
     def accept(self) -> tuple[socket.socket, Any]:
         connection, peer = super().accept()

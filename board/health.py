@@ -22,8 +22,13 @@ class Health:
 
     def __init__(self, log: Log, day: Day, sequencer: Sequencer, answers: Answers, events: Events, records: Records,
                  unsent: Unsent) -> None:
-        self._log, self._day, self._sequencer, self._answers = log, day, sequencer, answers
-        self._events, self._records, self._unsent = events, records, unsent
+        self._log = log
+        self._day = day
+        self._sequencer = sequencer
+        self._answers = answers
+        self._events = events
+        self._records = records
+        self._unsent = unsent
         # NOW, as of so many records of a day that began so often.
         self._now = 0.0
         self._looked = (0, 0)

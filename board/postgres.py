@@ -33,7 +33,10 @@ except ImportError:
 
 T = TypeVar("T")
 SCHEMA = Path(__file__).with_name("schema.sql")
-CONNECT, READ, LOOK, STALE = 3.0, 5.0, 1.0, 3.0
+CONNECT = 3.0
+READ = 5.0
+LOOK = 1.0
+STALE = 3.0
 # Seconds after which a connection that has nothing to commit is asked whether it is still there.
 IDLE_SECONDS = 10.0
 # What a role or a database may have set otherwise, and would end a commit, or let it see too little.
@@ -183,8 +186,12 @@ class Link:
     """Two connections to one database."""
 
     def __init__(self, reader: Any, writer: Any) -> None:
-        self._reader, self._writer, self._reads = reader, writer, asyncio.Lock()
-        self.broken, self.why, self._warned = asyncio.Event(), "a connection was lost", ""
+        self._reader = reader
+        self._writer = writer
+        self._reads = asyncio.Lock()
+        self.broken = asyncio.Event()
+        self.why = "a connection was lost"
+        self._warned = ""
         for connection in (reader, writer):
             connection.add_termination_listener(lambda _: self.broken.set())
         writer.add_log_listener(self._warn)
@@ -236,17 +243,22 @@ class PostgresLog(Kept):
 
     def __init__(self, url: str, board: str) -> None:
         super().__init__(name_of(url), board)
-        self.id, self.airport, self._version = "", b"", ""
+        self.id = ""
+        self.airport = b""
+        self._version = ""
         self._accept: Accept = accepted
-        self._url, self._writer_name = url, f"cdmboard {secrets.token_hex(8)}"
+        self._url = url
+        self._writer_name = f"cdmboard {secrets.token_hex(8)}"
         self._link: Link | None = None
         self._linked = asyncio.Event()
         self._commits = Commits(self._begin, AWAY)
         # The transaction that is to run, and hasn't begun.
-        self._ordered, self._order = asyncio.Event(), list[Commit]()
+        self._ordered = asyncio.Event()
+        self._order = list[Commit]()
         self._following = Following()
         self._notices = dict(zip(CHANNELS, (Notices(self.grown), Notices(self.signed_out)), strict=True))
-        self._looked, self._looked_at = float("-inf"), now_text()
+        self._looked = float("-inf")
+        self._looked_at = now_text()
         self._keeping: asyncio.Task[None] | None = None
         self._is_closing = False
 

@@ -44,7 +44,11 @@ class Questions:
     """What is read of a day. `asker`: who asks, for what each may have."""
 
     def __init__(self, log: Log, day: Day, answers: Answers, unsent: Unsent, asker: Callable[[web.Request], str]) -> None:
-        self._log, self._day, self._answers, self._unsent, self._asker = log, day, answers, unsent, asker
+        self._log = log
+        self._day = day
+        self._answers = answers
+        self._unsent = unsent
+        self._asker = asker
 
     def routes(self) -> list[web.RouteDef]:
         """All paths."""

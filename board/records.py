@@ -24,7 +24,9 @@ class Records:
     """What desks send. `is_closing`: nothing more is taken."""
 
     def __init__(self, log: Log, day: Day, sequencer: Sequencer) -> None:
-        self._log, self._day, self._sequencer = log, day, sequencer
+        self._log = log
+        self._day = day
+        self._sequencer = sequencer
         self.is_closing = False
         self.paces: defaultdict[str, Pace] = defaultdict(Pace)
         self._bodies: dict[object, float] = {}

@@ -21,9 +21,11 @@ from board.words import Fault, Problem, now_text, tell
 from board.writer import COMMIT_SECONDS, Outcome
 
 # Seconds that a foreign lock is waited for, and between two tries of a log that failed.
-BUSY_SECONDS, RETRY_SECONDS = 5.0, 1.0
+BUSY_SECONDS = 5.0
+RETRY_SECONDS = 1.0
 # Bytes that a disk has to take, more than a large batch needs; bytes of the index, for a write-ahead log of 16,000 pages.
-ROOM, INDEX = 1 << 18, 4 << 15
+ROOM = 1 << 18
+INDEX = 4 << 15
 PRAGMAS = """
 PRAGMA journal_mode = WAL;
 PRAGMA synchronous = FULL;
@@ -72,7 +74,8 @@ class FileLog(Kept):
         super().__init__(os.path.realpath(path), board)
         # As it was said: also a link to another file leads the next start elsewhere.
         self._path = os.path.abspath(path)
-        self._loop, self._thread = asyncio.get_running_loop(), ThreadPoolExecutor(1, "log")
+        self._loop = asyncio.get_running_loop()
+        self._thread = ThreadPoolExecutor(1, "log")
         self._locks = list[int]()
         self._database: sqlite3.Connection | None = None
         self._index: int | None = None
