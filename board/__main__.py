@@ -39,7 +39,7 @@ from board.words import Fault, Problem, lines_of, tell
 
 PROGRAM = os.environ.get("CDMSEQ", "")
 # Seconds that the audit has at the end.
-AUDIT = 5.0
+AUDIT_SECONDS = 5.0
 MEMORY = "/dev/shm" if os.path.isdir("/dev/shm") else tempfile.gettempdir()
 
 
@@ -290,7 +290,7 @@ async def run(board: Board, address: str, date: str) -> None:
                 await asyncio.sleep(0.02)
         for task in tasks:
             task.cancel()
-    await board.audit.end(AUDIT)
+    await board.audit.end(AUDIT_SECONDS)
 
 
 async def ready(board: Board, address: str) -> None:

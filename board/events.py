@@ -15,8 +15,8 @@ PAUSE = 0.1
 COMMENT = 15.0
 MOST_ROWS = 100
 MOST_UNSENT = 1 << 20
-MOST_OF_ALL = 256 << 20
-MOST_OF_DESK = 20
+MOST_UNSENT_OF_ALL = 256 << 20
+MOST_STREAMS = 20
 MOST_DISPLAYS = 5000
 # How a stream by gzip begins, and how hard its texts are packed.
 GZIP = b"\x1f\x8b\x08\0\0\0\0\0\0\x03"
@@ -89,7 +89,7 @@ class Events:
         texts: dict[tuple[object, ...], bytes] = {}
         chunks: dict[tuple[bytes, bool], bytes] = {}
         unsent = sum(stream.transport.get_write_buffer_size() for stream in self.streams)
-        most = MOST_UNSENT if unsent < MOST_OF_ALL else MOST_OF_ALL // len(self.streams)
+        most = MOST_UNSENT if unsent < MOST_UNSENT_OF_ALL else MOST_UNSENT_OF_ALL // len(self.streams)
         # The desk's own reply goes out first.
         await asyncio.sleep(0)
         for number, stream in enumerate(list(self.streams), 1):
@@ -150,7 +150,7 @@ class Events:
         """Raises Problem if this desk has too many streams; those that only read share theirs."""
         is_reader = desk.role == "READ"
         streams = [stream for stream in self.streams if (stream.desk.role == "READ" if is_reader else stream.desk.name == desk.name)]
-        is_full = len(streams) >= (MOST_DISPLAYS if is_reader else MOST_OF_DESK)
+        is_full = len(streams) >= (MOST_DISPLAYS if is_reader else MOST_STREAMS)
         refuse(is_full, 429, "this desk has too many displays", Retry_After="5")
 
     def open(self, stream: Stream, said: str) -> None:

@@ -11,7 +11,6 @@ from board.day import Day
 from board.events import Events
 from board.log import Log
 from board.records import Records
-from board.sequencer import Sequencer
 from board.unsent import Unsent
 
 CLOCK = "CLOCK,"
@@ -20,11 +19,10 @@ CLOCK = "CLOCK,"
 class Health:
     """What is asked of the server itself."""
 
-    def __init__(self, log: Log, day: Day, sequencer: Sequencer, answers: Answers, events: Events, records: Records,
-                 unsent: Unsent) -> None:
+    def __init__(self, log: Log, day: Day, answers: Answers, events: Events, records: Records, unsent: Unsent) -> None:
         self._log = log
         self._day = day
-        self._sequencer = sequencer
+        self._sequencer = records.sequencer
         self._answers = answers
         self._events = events
         self._records = records

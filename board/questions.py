@@ -14,7 +14,7 @@ from board.sending import pack
 from board.unsent import Unsent
 from board.words import POSITION, Problem, refuse
 
-MOST_FOUND = 1 << 20
+MOST_FOUND_BYTES = 1 << 20
 BODY_LIMIT = 20.0
 TYPES = {"": "text/plain", "csv": "text/csv", "json": "application/x-ndjson", "svg": "image/svg+xml"}
 # The program's commands as paths. Those that want a scenario are asked by POST alone, in a format by Accept.
@@ -64,7 +64,7 @@ class Questions:
         async with self._answers.turn(("log", self._asker(request))):
             now = len(self._day.records)
             found = self._day.found(int(since), request.query.get("flight"), desk)
-            return await self.of_moment(request, now, "json", self._day.texts(found, MOST_FOUND))
+            return await self.of_moment(request, now, "json", self._day.texts(found, MOST_FOUND_BYTES))
 
     async def sentence(self, request: web.Request) -> web.Response:
         """Why a record is refused, in words: what `check` says of it behind the records accepted before."""

@@ -26,7 +26,7 @@ class Records:
     def __init__(self, log: Log, day: Day, sequencer: Sequencer) -> None:
         self._log = log
         self._day = day
-        self._sequencer = sequencer
+        self.sequencer = sequencer
         self.is_closing = False
         self.paces: defaultdict[str, Pace] = defaultdict(Pace)
         self._bodies: dict[object, float] = {}
@@ -40,7 +40,7 @@ class Records:
         """Why records get no replies at present; nothing if they do."""
         if self.is_closing:
             return "the server is ending"
-        if not self._sequencer.is_ready.is_set():
+        if not self.sequencer.is_ready.is_set():
             return "the sequencer is being started"
         if self._log.stale_since is not None:
             return f"the log has been away since {self._log.stale_since}"

@@ -21,7 +21,7 @@ from board.words import Fault, tell
 # Records that are handed on together.
 MOST_AHEAD = 256
 # Seconds for a reply, and until a process that found no room is started again.
-SECONDS = 10.0
+PATIENCE_SECONDS = 10.0
 ROOM_SECONDS = 1.0
 # Bytes that the journal of a process may need beyond the day that it begins with.
 MOST_JOURNAL = 4 << 20
@@ -74,7 +74,7 @@ class Sequencer:
 
     async def _serve(self, folder: str) -> None:
         """One process, on the day as it is, until it ends. The next one gets the rest."""
-        words, patience = ("serve", f"{self._folder}/airport.csv", "journal.csv", "--format", "json"), SECONDS
+        words, patience = ("serve", f"{self._folder}/airport.csv", "journal.csv", "--format", "json"), PATIENCE_SECONDS
         self._life.started(len(self._day.lines))
         process = await asyncio.create_subprocess_exec(
             same(self._program), *words, cwd=folder, stdin=PIPE, stdout=PIPE, limit=MOST_REPLY, start_new_session=True)
@@ -109,7 +109,7 @@ class Sequencer:
                 self._log.grown.clear()
             lines.write(self._life.given(records).encode("ascii"))
             while self._life.due:
-                self._do(self._life.heard(await _reply(replies, SECONDS)))
+                self._do(self._life.heard(await _reply(replies, PATIENCE_SECONDS)))
 
     def _do(self, order: Ready | Keep | End) -> None:
         """Carries out what the life orders. Raises Ended."""

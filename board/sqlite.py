@@ -24,8 +24,8 @@ from board.writer import COMMIT_SECONDS, Outcome
 BUSY_SECONDS = 5.0
 RETRY_SECONDS = 1.0
 # Bytes that a disk has to take, more than a large batch needs; bytes of the index, for a write-ahead log of 16,000 pages.
-ROOM = 1 << 18
-INDEX = 4 << 15
+ROOM_BYTES = 1 << 18
+INDEX_BYTES = 4 << 15
 PRAGMAS = """
 PRAGMA journal_mode = WAL;
 PRAGMA synchronous = FULL;
@@ -128,7 +128,7 @@ class FileLog(Kept):
             self._database.executescript(SCHEMA)
         # It stays open: who closes a file takes away each of the process's locks on it, SQLite's too.
         self._index = os.open(f"{self.name}-shm", os.O_RDWR | os.O_CLOEXEC)
-        os.posix_fallocate(self._index, 0, INDEX)
+        os.posix_fallocate(self._index, 0, INDEX_BYTES)
         return self._database
 
     def _disconnect(self) -> None:
@@ -351,7 +351,7 @@ def check_room(path: str) -> None:
     """Raises OSError if a disk doesn't take a file of this name and of some size. The file is removed."""
     made = os.open(path, os.O_CREAT | os.O_RDWR | os.O_CLOEXEC | os.O_NOFOLLOW, 0o600)
     try:
-        os.posix_fallocate(made, 0, ROOM)
+        os.posix_fallocate(made, 0, ROOM_BYTES)
         os.pwrite(made, b"cdm", 0)
         os.fsync(made)
     finally:

@@ -58,7 +58,7 @@ class Board:
         self._unsent = Unsent()
         self._requests = set["asyncio.Task[object]"]()
         self.questions = Questions(log, day, answers, self._unsent, callers.asker)
-        self._health = Health(log, day, sequencer, answers, events, self.records, self._unsent)
+        self._health = Health(log, day, answers, events, self.records, self._unsent)
 
     @web.middleware
     async def checked(self, request: web.Request, handler: Handler) -> web.StreamResponse:
