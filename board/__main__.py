@@ -1,9 +1,10 @@
-"""`./cdmboard`: its words, its start and its end."""
+"""`cdmboard`: its words, its start and its end."""
 import argparse
 import asyncio
 import contextlib
 import errno
 import fcntl
+import functools
 import glob
 import json
 import os
@@ -30,6 +31,7 @@ from board.desks import digest, read_desks
 from board.events import Events
 from board.guard import HEADERS, Door, Guard
 from board.log import MOST_RECORDS, Batch, Log, Record
+from board.notify import Notifier
 from board.replies import Keeper, check, day_of_log, reply_again
 from board.sequencer import MOST_JOURNAL, Sequencer, place_with_room
 from board.telling import Teller
@@ -159,7 +161,7 @@ async def take_in(options: argparse.Namespace) -> None:
         _, day = await day_of(folder, PROGRAM, [Record(number, "import", role, line) for number, (role, _, line) in enumerate(feed, 1)])
         for record in day.records:
             if record.word is not None:
-                raise Fault(f"{options.feed} record {record.position}: {record.word} (see ./cdmseq check)")
+                raise Fault(f"{options.feed} record {record.position}: {record.word} (see cdmseq check)")
         await log.append(Batch("import", [(role, line) for role, _, line in feed], end=len(feed)))
 
 
@@ -242,7 +244,7 @@ async def serve(options: argparse.Namespace) -> None:
     for number in (signal.SIGTERM, signal.SIGINT):
         loop.add_signal_handler(number, starting.cancel)
     host, port, sealed = listening(options)
-    desks = read_desks(options.desks)
+    desks, notifier = read_desks(options.desks), Notifier()
     resource.setrlimit(resource.RLIMIT_NOFILE, (resource.getrlimit(resource.RLIMIT_NOFILE)[1],) * 2)
     async with log_of(options) as (log, folder):
         kinds = await asked(folder, PROGRAM, "kinds", "--format", "json")
@@ -255,10 +257,10 @@ async def serve(options: argparse.Namespace) -> None:
         assert (manager := runner.server) is not None
         server = await loop.create_server(
             lambda: Guard(manager, door, options.behind_proxy), sock=door, ssl=sealed, ssl_handshake_timeout=HEADERS if sealed else None)
-        loop.add_signal_handler(signal.SIGHUP, again, options, board, door, sealed)
+        loop.add_signal_handler(signal.SIGHUP, notifier.reload, functools.partial(again, options, board, door, sealed))
         at = f"{scheme}://{f'[{host}]' if ':' in host else host}:{door.getsockname()[1]}/"
         try:
-            await run(board, at, date if options.clock else "")
+            await run(board, at, date if options.clock else "", notifier)
         except ExceptionGroup as faults:
             raise faults.exceptions[0] from None
         finally:
@@ -270,17 +272,19 @@ async def serve(options: argparse.Namespace) -> None:
             await runner.cleanup()
 
 
-async def run(board: Board, address: str, date: str) -> None:
+async def run(board: Board, address: str, date: str, notifier: Notifier) -> None:
     """Runs all that a board has running, until it is told to end and each record has its reply."""
     ending, loop = asyncio.Event(), asyncio.get_running_loop()
     for number in (signal.SIGTERM, signal.SIGINT):
         loop.add_signal_handler(number, ending.set)
     views = Views(board.answers, board.events)
     async with asyncio.TaskGroup() as group:
-        parts = [board.sequencer.run(), board.log.ended(), board.events.run(), views.run(), board.signing.watch(), board.audit.run(),
-                 Keeper(board.log, board.day).run(), ready(board, address)]
-        tasks = [group.create_task(part) for part in parts + ([clock.run(date, board.records.take)] if date else [])]
+        vital = [group.create_task(part) for part in (board.sequencer.run(), board.log.ended())]
+        parts = [board.events.run(), views.run(), board.signing.watch(), board.audit.run(), Keeper(board.log, board.day).run(), ready(board, address),
+                 notifier.run(board.health.words, vital)]
+        tasks = vital + [group.create_task(part) for part in parts + ([clock.run(date, board.records.take)] if date else [])]
         await ending.wait()
+        notifier.stopping()
         board.records.is_closing = True
         async with asyncio.timeout(20):
             # What another server takes from now on gets its reply there.

@@ -30,8 +30,10 @@ RUN_SECONDS = 10.0
 # A run that takes so long in all is none that answers.
 STUCK_SECONDS = 3 * RUN_SECONDS
 START_SECONDS = 60.0
-# A question mustn't outlive a server that is killed, leaves the processors to the replies, and has so much memory at most.
-LIMITED = ("/usr/bin/setpriv", "--pdeathsig", "KILL", "/usr/bin/prlimit", f"--as={2 << 30}", "/usr/bin/nice", "-n", "10")
+# A question mustn't outlive a server that is killed, leaves the processors to the replies, has so much memory at most, and is the first
+# that the system kills where memory runs out.
+LIMITED = ("/usr/bin/setpriv", "--pdeathsig", "KILL", "/usr/bin/prlimit", f"--as={2 << 30}", "/usr/bin/choom", "-n", "1000", "--",
+           "/usr/bin/nice", "-n", "10")
 
 
 class Question(NamedTuple):

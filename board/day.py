@@ -98,6 +98,11 @@ class Day:
             texts += text
         return bytes(texts)
 
+    def at(self, position: int) -> str:
+        """When the record at a position was taken, '' before the first one. Where a fail-over has lost records, others may stand in their
+        places; by this they are told apart."""
+        return self.records[position - 1].at if 0 < position <= len(self.records) else ""
+
     def text(self, record: Record) -> bytes:
         """The reply to a record, `changes` null if they aren't kept."""
         return self._texts.get(record.position) or _text(record, None)

@@ -38,6 +38,14 @@ class Health:
                 "taking": not self._records.why_not(), "stale_since": self._log.stale_since}
         return web.json_response(told, status=200 if is_well else 503)
 
+    def words(self) -> str:
+        """How the server is, in one line for who looks after its service."""
+        if self._answers.is_stuck():
+            return "Questions get no answers: a run of the program doesn't end"
+        if why := self._records.why_not():
+            return f"Plans and questions are answered; records get no replies: {why}"
+        return f"Records get replies; position {len(self._day.records)}"
+
     async def ready(self, request: web.Request) -> web.Response:
         """200 only while records get replies; else why not."""
         why = self._records.why_not()

@@ -140,8 +140,8 @@ class Kept:
         """Raises Fault if the log is another airport's or program's."""
         if (self.airport, made_by) != (airport, version):
             what, board = "airport file" if self.airport != airport else "program", f" --board {self._board}" if self._board else ""
-            raise Fault(f"{self.name} belongs to another {what}; for a new log: ./cdmboard export {self.name}{board} > day.csv"
-                        f" && ./cdmboard import AIRPORT NEWLOG day.csv{board}")
+            raise Fault(f"{self.name} belongs to another {what}; for a new log: cdmboard export {self.name}{board} > day.csv"
+                        f" && cdmboard import AIRPORT NEWLOG day.csv{board}")
 
 
 def audit_of(rows: Sequence[Sequence[Any]]) -> bytes:

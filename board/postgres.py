@@ -489,7 +489,7 @@ class PostgresLog(Kept):
         if await link.write("SELECT current_setting('synchronous_commit')") == "off":
             raise Away("synchronous_commit is off for this role or database, so that a crash loses answered records")
         if not (await link.read(TABLES))[0][0]:
-            raise Fault(f"{self.name} has no tables for a log, or older ones; ./cdmboard log init URL makes them")
+            raise Fault(f"{self.name} has no tables for a log, or older ones; cdmboard log init URL makes them")
         row = "SELECT id, airport, version, secret FROM public.cdm_log WHERE board = $1"
         if not await link.read(row, self._board):
             await self._accept()

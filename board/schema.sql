@@ -1,4 +1,4 @@
--- The log of boards in PostgreSQL (14 or newer). `./cdmboard log init URL` runs this file, in one transaction, as a superuser or as the
+-- The log of boards in PostgreSQL (14 or newer). `cdmboard log init URL` runs this file, in one transaction, as a superuser or as the
 -- database's owner with CREATEROLE; run again, it changes nothing but brings older tables up to date. A server's own user gets all that
 -- it needs by `GRANT cdm_server TO user`.
 DO $$ BEGIN

@@ -58,7 +58,7 @@ class Board:
         self._unsent = Unsent()
         self._requests = set["asyncio.Task[object]"]()
         self.questions = Questions(log, day, answers, self._unsent, callers.asker)
-        self._health = Health(log, day, answers, events, self.records, self._unsent)
+        self.health = Health(log, day, answers, events, self.records, self._unsent)
 
     @web.middleware
     async def checked(self, request: web.Request, handler: Handler) -> web.StreamResponse:
@@ -209,7 +209,7 @@ class Board:
             web.post("/v1/records", self.post_records), *self.questions.routes(),
             web.post("/v1/session", self.signing.sign_in), web.delete("/v1/session", self.signing.sign_out),
             web.get("/v1/who", self.who), web.get("/v1/events", self.get_events, allow_head=False),
-            web.get("/health", self._health.health), web.get("/ready", self._health.ready), web.get("/metrics", self._health.metrics),
+            web.get("/health", self.health.health), web.get("/ready", self.health.ready), web.get("/metrics", self.health.metrics),
             web.get("/", self.page), web.get(r"/page-{digest:[0-9a-f]+}/{file:[A-Za-z0-9_-]+(\.[A-Za-z0-9_-]+)*}", self.page)])
         application.on_cleanup.append(lambda _: self.answers.close())
         return application

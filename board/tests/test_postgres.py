@@ -11,7 +11,7 @@ import time
 
 import clusters
 import pytest
-from conftest import AIRPORT, PROGRAM, ROOT, count, figure, moment, objects, until
+from conftest import AIRPORT, FACTOR, PROGRAM, ROOT, count, figure, moment, objects, until
 
 pytestmark = pytest.mark.skipif(bool(clusters.missing()), reason=f"a log in PostgreSQL: {' and '.join(clusters.missing())} missing")
 # What is killed here is processes, which what they wrote outlives. The fail-over in the middle of a day syncs, as an operator would.
@@ -20,7 +20,9 @@ ENVIRONMENT = dict(os.environ, CDMSEQ=PROGRAM)
 
 
 def cdmboard(*words, **environment):
-    return subprocess.run([str(ROOT / "cdmboard"), *map(str, words)], env=ENVIRONMENT | environment, capture_output=True, text=True, timeout=60)
+    """How a command ended; one that serves instead of ending has status 124."""
+    words = ["timeout", str(15 * FACTOR), str(ROOT / "cdmboard"), *map(str, words)]
+    return subprocess.run(words, env=ENVIRONMENT | environment, capture_output=True, text=True)
 
 
 @pytest.fixture(scope="module")
@@ -365,6 +367,8 @@ def test_a_connection_that_a_firewall_forgot_is_replaced(primary, monkeypatch):
     from board.postgres import PostgresLog
     monkeypatch.setattr(postgres, "IDLE_SECONDS", 0.5)
     monkeypatch.setattr(postgres, "READ_SECONDS", 1.0)
+    # Nor does a commit end that is under way, which would be noticed too.
+    monkeypatch.setattr(postgres, "COMMIT_SECONDS", 3600.0)
 
     async def talk():
         wire = Wire(primary.port)
@@ -373,8 +377,18 @@ def test_a_connection_that_a_firewall_forgot_is_replaced(primary, monkeypatch):
         await log.open(AIRPORT.encode(), "v1")
         keeping = asyncio.create_task(log.ended())
         try:
+            first, told = log._link, asyncio.Event()
+            write = first.write
+
+            async def written(query, *words):
+                value = await write(query, *words)
+                if "pg_notify" in query:
+                    told.set()
+                return value
+            monkeypatch.setattr(first, "write", written)
             assert await log.append(Batch("ap", [("AP", "A")])) == range(1, 2)
-            first = log._link
+            # What follows a commit on the same connection has ended, so that nothing waits on it.
+            await told.wait()
             wire.forgotten.add(1)
             for _ in range(600):
                 if log._link not in (None, first):
@@ -459,7 +473,7 @@ def test_export_and_import(board, primary, tmp_path):
 
 
 def test_a_dump_in_a_new_database_is_served(board, primary):
-    """As docs/OPERATING.md says: pg_dump while it is served, a new database with a log's tables, pg_restore. Keys and digests go along."""
+    """As docs/POSTGRES.md says: pg_dump while it is served, a new database with a log's tables, pg_restore. Keys and digests go along."""
     server = board(log=primary.url())
     server.post(["FLT,AB1,5", "FOO"], Cdm_Role="AP", key="k")
     before, log_id = server.records(), json.loads(server.get("/v1/who").body)["log"]
@@ -556,7 +570,7 @@ def test_a_fail_over_that_lost_records_begins_the_day_anew(board):
                 for server in servers:
                     assert server.end() == 0
                 for display in displays:
-                    told = [event for event in re.findall(r"event: (\w+)\ndata: ", display.result().decode()) if event != "view"]
+                    told = [event for event in re.findall(r"event: (\w+)\ndata: ", display.result().decode()) if event not in ("from", "view")]
                     assert told[0] == "reset" and told[-1] == "end" and set(told[1:-1]) <= {"reply", "reset"}
             finally:
                 # Otherwise the displays would be waited for.

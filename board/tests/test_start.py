@@ -24,7 +24,9 @@ DESKS = {"ap": 'role = "AP"', "screen": 'role = "READ"'}
 
 
 def cdmboard(*words, environment=ENVIRONMENT):
-    return subprocess.run([str(ROOT / "cdmboard"), *map(str, words)], env=environment, capture_output=True, text=True, timeout=120)
+    """How a command ended; one that serves instead of ending has status 124."""
+    words = ["timeout", str(30 * FACTOR), str(ROOT / "cdmboard"), *map(str, words)]
+    return subprocess.run(words, env=environment, capture_output=True, text=True)
 
 
 @pytest.fixture
@@ -154,7 +156,8 @@ def test_a_wrong_desks_file_is_refused(files):
     for text, mode in [*((text, 0o600) for text in WRONG_DESKS), ('read = "anyone"', 0o644)]:
         desks.write_text(text)
         desks.chmod(mode)
-        ended = cdmboard(files / "airport.csv", files / "day.db", "--desks", desks)
+        # Desks are read before the airport file, which isn't there: no server starts that would have to be ended.
+        ended = cdmboard(files / "no-airport.csv", files / "day.db", "--desks", desks)
         assert ended.returncode == 3 and "desks.toml" in ended.stderr and ended.stderr.count("\n") == 1, text
 
 

@@ -303,6 +303,7 @@ class Transport:
 
     def saw(self, view):
         day, position = self.world.day, view.pop("position")
+        assert position <= len(day.records), "of records that a day before had"
         wanted = {"starts": day.starts, "accepted": day.records[position - 1].accepted if position else 0}
         assert self.starts == day.starts and all(told in (wanted, [wanted]) for told in view.values()), "of another moment, or day"
         assert not any(record.word is None for record in day.records[self.had:position]), "before its events"
