@@ -25,6 +25,7 @@ from aiohttp import web
 
 from board import clock, postgres, sqlite
 from board.answers import Answers, asked, day_of
+from board.callers import Callers
 from board.connections import is_loopback
 from board.desks import digest, read_desks
 from board.events import Events
@@ -40,7 +41,7 @@ from board.words import Fault, Problem, lines_of, tell
 
 PROGRAM = os.environ.get("CDMSEQ", "")
 # Seconds that the audit has at the end.
-AUDIT = 5.0
+AUDIT_SECONDS = 5.0
 MEMORY = "/dev/shm" if os.path.isdir("/dev/shm") else tempfile.gettempdir()
 
 
@@ -249,8 +250,8 @@ async def serve(options: argparse.Namespace) -> None:
         kinds = await asked(folder, PROGRAM, "kinds", "--format", "json")
         date, day = await day_of_log(folder, PROGRAM, log, kinds)
         names, scheme = (host, "localhost", socket.gethostname(), *options.name), "https" if sealed or options.behind_proxy else "http"
-        board = Board(desks, log, day, Sequencer(PROGRAM, folder, log, day), Answers(PROGRAM, folder, day), Events(log.id, day),
-                      {name.lower() for name in names}, scheme, options.behind_proxy)
+        callers = Callers(desks, log, {name.lower() for name in names}, scheme, options.behind_proxy)
+        board = Board(callers, log, day, Sequencer(PROGRAM, folder, log, day), Answers(PROGRAM, folder, day), Events(log.id, day))
         runner, door = web.AppRunner(board.application()), Door(host, port, options.behind_proxy, desks.limits)
         await runner.setup()
         assert (manager := runner.server) is not None
@@ -279,7 +280,7 @@ async def run(board: Board, address: str, date: str, notifier: Notifier) -> None
     views = Views(board.answers, board.events)
     async with asyncio.TaskGroup() as group:
         vital = [group.create_task(part) for part in (board.sequencer.run(), board.log.ended())]
-        parts = [board.events.run(), views.run(), board.watch(), board.audit.run(), Keeper(board.log, board.day).run(), ready(board, address),
+        parts = [board.events.run(), views.run(), board.signing.watch(), board.audit.run(), Keeper(board.log, board.day).run(), ready(board, address),
                  notifier.run(board.health.words, vital)]
         tasks = vital + [group.create_task(part) for part in parts + ([clock.run(date, board.records.take)] if date else [])]
         await ending.wait()
@@ -293,7 +294,7 @@ async def run(board: Board, address: str, date: str, notifier: Notifier) -> None
                 await asyncio.sleep(0.02)
         for task in tasks:
             task.cancel()
-    await board.audit.end(AUDIT)
+    await board.audit.end(AUDIT_SECONDS)
 
 
 async def ready(board: Board, address: str) -> None:
@@ -306,8 +307,9 @@ def again(options: argparse.Namespace, board: Board, door: Door, sealed: ssl.SSL
     told = []
     try:
         desks = read_desks(options.desks)
-        told += board.desks.changes_to(desks)
-        board.desks, door.places.limits = desks, desks.limits
+        told += board.callers.desks.changes_to(desks)
+        board.callers.desks = desks
+        door.places.limits = desks.limits
     except Fault as fault:
         told.append("desks are wrong; the old ones stay")
         tell(f"cdmboard: {fault}; the old one stays")
@@ -320,7 +322,7 @@ def again(options: argparse.Namespace, board: Board, door: Door, sealed: ssl.SSL
         told.append("certificate is wrong; the old one stays")
         tell(f"cdmboard: {fault}; the old one stays")
     board.audit.note("read-again", None, None, ", ".join(told) or "nothing changed")
-    board.check_displays()
+    board.signing.check_displays()
 
 
 def main() -> int:

@@ -19,12 +19,12 @@ from board.places import Places, Ticket
 from board.program import same
 from board.words import Fault, Kinds, Problem, refuse, tell
 
-MOST_OF_ONE = 16
-MOST_NAMELESS = 64
+MOST_QUESTIONS = 16
+MOST_NAMELESS_QUESTIONS = 64
 MOST_KEPT = 256
 MOST_KEPT_BYTES = 32 << 20
 MOST_OUTPUT = 32 << 20
-READ = 64 << 10
+READ_BYTES = 64 << 10
 PLACE_SECONDS = 10.0
 RUN_SECONDS = 10.0
 # A run that takes so long in all is none that answers.
@@ -32,8 +32,8 @@ STUCK_SECONDS = 3 * RUN_SECONDS
 START_SECONDS = 60.0
 # A question mustn't outlive a server that is killed, leaves the processors to the replies, has so much memory at most, and is the first
 # that the system kills where memory runs out.
-BESIDE = ("/usr/bin/setpriv", "--pdeathsig", "KILL", "/usr/bin/prlimit", f"--as={2 << 30}", "/usr/bin/choom", "-n", "1000", "--",
-          "/usr/bin/nice", "-n", "10")
+LIMITED = ("/usr/bin/setpriv", "--pdeathsig", "KILL", "/usr/bin/prlimit", f"--as={2 << 30}", "/usr/bin/choom", "-n", "1000", "--",
+           "/usr/bin/nice", "-n", "10")
 
 
 class Question(NamedTuple):
@@ -64,8 +64,10 @@ class Answers:
     the others' answers as they are."""
 
     def __init__(self, program: str, folder: str, day: Day) -> None:
-        self._program, self._folder, self._day = program, folder, day
-        self._places = Places(max(1, (os.cpu_count() or 2) - 1), MOST_OF_ONE, MOST_NAMELESS)
+        self._program = program
+        self._folder = folder
+        self._day = day
+        self._places = Places(max(1, (os.cpu_count() or 2) - 1), MOST_QUESTIONS, MOST_NAMELESS_QUESTIONS)
         self._answers: dict[Ticket, asyncio.Future[Answer]] = {}
         self._runs: dict[asyncio.Task[None], float] = {}
         self._beside = asyncio.Lock()
@@ -194,7 +196,7 @@ class Answers:
                 Path(folder, "scenarios.csv").write_bytes(first.scenarios or b"")
                 for question in questions:
                     words = (question.command, "../airport.csv", "feed.csv", *question.words)
-                    ran = await run(folder, RUN_SECONDS, *BESIDE, same(self._program), *words)
+                    ran = await run(folder, RUN_SECONDS, *LIMITED, same(self._program), *words)
                     made[question] = ran._replace(began=began, starts=starts, accepted=accepted, position=position)
                     if ran.status == 504:
                         break
@@ -245,7 +247,7 @@ async def _all(process: Process, stream: asyncio.StreamReader) -> bytes:
     """All of a stream. A process that prints more than may be is ended."""
     pieces: list[bytes] = []
     size = 0
-    while piece := await stream.read(READ):
+    while piece := await stream.read(READ_BYTES):
         if size <= MOST_OUTPUT:
             pieces.append(piece)
             size += len(piece)
@@ -266,7 +268,7 @@ async def ended(process: Process) -> None:
     if process.returncode is None or not all(stream.at_eof() for stream in streams):
         _kill(process)
     for stream in streams:
-        while await stream.read(READ):
+        while await stream.read(READ_BYTES):
             pass
     await process.wait()
 

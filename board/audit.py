@@ -7,7 +7,8 @@ from board.log import Away, Event, Log
 from board.words import Fault, now_text, tell
 
 # Events that wait for the log, and seconds until it is tried again.
-MOST_WAITING, AGAIN = 1000, 1.0
+MOST_EVENTS_WAITING = 1000
+AGAIN_SECONDS = 1.0
 MOST_DETAIL = 1000
 
 
@@ -15,13 +16,15 @@ class Audit:
     """Events on their way to a log, which may be away meanwhile."""
 
     def __init__(self, log: Log) -> None:
-        self._log, self._waiting, self._wanted = log, deque[Event](), asyncio.Event()
+        self._log = log
+        self._waiting = deque[Event]()
+        self._wanted = asyncio.Event()
         self._writing: asyncio.Task[bool] | None = None
 
     def note(self, event: str, desk: str | None, address: str | None, detail: str | None = None) -> None:
         """Keeps an event; what there is no room for is told on standard error instead."""
         new = Event(event, desk, address, detail and detail[:MOST_DETAIL], now_text())
-        if len(self._waiting) >= MOST_WAITING:
+        if len(self._waiting) >= MOST_EVENTS_WAITING:
             _told([new])
             return
         self._waiting.append(new)
@@ -35,7 +38,7 @@ class Audit:
             # What is being written when this ends is written once.
             self._writing = asyncio.create_task(self._write())
             while not await asyncio.shield(self._writing):
-                await asyncio.sleep(AGAIN)
+                await asyncio.sleep(AGAIN_SECONDS)
                 self._writing = asyncio.create_task(self._write())
 
     async def _write(self) -> bool:

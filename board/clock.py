@@ -7,7 +7,7 @@ from datetime import date, timedelta
 from board.desks import ANY, Desk
 from board.words import Problem, now_text, tell
 
-CLOCK = Desk("clock", "ATC", (), 60_000, None, ANY)
+CLOCK_DESK = Desk("clock", "ATC", (), 60_000, None, ANY)
 JUMP = timedelta(minutes=5)
 
 
@@ -24,7 +24,7 @@ async def run(day: str, take: Callable[[Desk, list[str], str], Awaitable[object]
             # Also where it isn't taken, since a log that is away for long is no jump.
             limit = now_text("minutes", JUMP)
             try:
-                await take(CLOCK, [f"CLOCK,{now}"], now)
+                await take(CLOCK_DESK, [f"CLOCK,{now}"], now)
             except Problem as problem:
                 why = f"no CLOCK was taken: {problem}"
         if why and why != told:

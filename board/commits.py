@@ -12,7 +12,8 @@ class Commits:
     """The writer of one log, and the futures of its desks. `begin` is called with each transaction that is to run."""
 
     def __init__(self, begin: Callable[[Commit], None], closed: str | None = None) -> None:
-        self.writer, self._begin = Writer(closed), begin
+        self.writer = Writer(closed)
+        self._begin = begin
         self._tickets = itertools.count(1)
         self._desks = dict[int, asyncio.Future[range]]()
 

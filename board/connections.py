@@ -8,7 +8,8 @@ from collections import OrderedDict
 from dataclasses import dataclass, field
 from typing import NamedTuple
 
-MOST_KNOWN, PROXY = 4096, "proxy"
+MOST_KNOWN = 4096
+PROXY = "proxy"
 
 
 @dataclass(frozen=True)
@@ -64,10 +65,13 @@ class Places:
     """The connections of a server by their numbers. `room`: how many the machine lets it have."""
 
     def __init__(self, limits: Limits, room: int) -> None:
-        self.limits, self._room = limits, room
-        self._groups, self._group_of = OrderedDict[str, Group](), dict[int, str]()
+        self.limits = limits
+        self._room = room
+        self._groups = OrderedDict[str, Group]()
+        self._group_of = dict[int, str]()
         # Strangers at unknown addresses, in the order in which they came; known addresses, the last one last.
-        self._unknown, self._known = OrderedDict[int, None](), OrderedDict[str, None]()
+        self._unknown = OrderedDict[int, None]()
+        self._known = OrderedDict[str, None]()
 
     def __len__(self) -> int:
         return len(self._group_of)

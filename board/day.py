@@ -10,7 +10,9 @@ from board.digests import Digests
 from board.log import Record
 from board.words import Kinds, refuse
 
-KEPT, KEPT_BYTES, MOST_FOUND = 2000, 64 << 20, 1000
+KEPT = 2000
+KEPT_BYTES = 64 << 20
+MOST_FOUND = 1000
 
 
 class Day:
@@ -19,10 +21,16 @@ class Day:
     there is a digest that the log may lack."""
 
     def __init__(self, kinds: Kinds, records: Iterable[Record], refused: Mapping[int, str]) -> None:
-        self.kinds, self.starts, self.doubtful, self.changed = kinds, 0, -1, asyncio.Event()
-        self.records, self.lines = list[Record](), list[str]()
-        self.digests, self.digested = Digests(), asyncio.Event()
-        self._texts, self._bytes = OrderedDict[int, bytes](), 0
+        self.kinds = kinds
+        self.starts = 0
+        self.doubtful = -1
+        self.changed = asyncio.Event()
+        self.records = list[Record]()
+        self.lines = list[str]()
+        self.digests = Digests()
+        self.digested = asyncio.Event()
+        self._texts = OrderedDict[int, bytes]()
+        self._bytes = 0
         self._waited_for: WeakValueDictionary[int, asyncio.Event] = WeakValueDictionary()
         self._of: defaultdict[tuple[str | None, str | None], list[Record]] = defaultdict(list)
         for record in records:

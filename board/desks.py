@@ -14,12 +14,16 @@ from typing import Any
 from board.connections import Limits
 from board.words import ROLES, Fault, Kinds, now_text, refuse
 
-DESK, TOKEN = re.compile(r"[A-Za-z0-9-]{1,32}"), re.compile(r"sha256:[0-9a-f]{64}")
+DESK = re.compile(r"[A-Za-z0-9-]{1,32}")
+TOKEN = re.compile(r"sha256:[0-9a-f]{64}")
 TIME = re.compile(r"[0-9]{4}-[0-9]{2}-[0-9]{2}T[0-9]{2}:[0-9]{2}Z")
-AHEAD, ANY = timedelta(minutes=5), timedelta(days=36_500)
-MOST_WAITING, MOST_A_SECOND, SECONDS = 256, 50, 10
+AHEAD = timedelta(minutes=5)
+ANY = timedelta(days=36_500)
+MOST_RECORDS_WAITING = 256
+MOST_A_SECOND = 50
+PACE_SECONDS = 10
 # What a database has room for in a number.
-MOST_OF_DESK = 2**31 - 1
+MOST_QUOTA = 2**31 - 1
 
 
 @dataclass(frozen=True)
@@ -52,15 +56,15 @@ READER = Desk("", "READ")
 class Pace:
     """What a desk sends at once: so many records that wait, and so many a second, over some seconds."""
     waiting: int = 0
-    room: float = MOST_A_SECOND * SECONDS
+    room: float = MOST_A_SECOND * PACE_SECONDS
     then: float = 0
 
     @contextlib.contextmanager
     def of(self, count: int) -> Iterator[None]:
         """While these records wait. Raises Problem if they are too many."""
         now = time.monotonic()
-        room = min(MOST_A_SECOND * SECONDS, self.room + (now - self.then) * MOST_A_SECOND)
-        is_much, seconds = self.waiting + count > MOST_WAITING or room < count, 1 + int(max(0, count - room) / MOST_A_SECOND)
+        room = min(MOST_A_SECOND * PACE_SECONDS, self.room + (now - self.then) * MOST_A_SECOND)
+        is_much, seconds = self.waiting + count > MOST_RECORDS_WAITING or room < count, 1 + int(max(0, count - room) / MOST_A_SECOND)
         refuse(is_much, 429, "too many records at once", Retry_After=str(seconds))
         self.room, self.then, self.waiting = room - count, now, self.waiting + count
         try:
@@ -74,7 +78,9 @@ class Desks:
 
     def __init__(self, desks: Iterable[Desk], anyone_reads: bool, is_open: bool = False, limits: Limits = Limits()) -> None:
         self.by_name = {desk.name: desk for desk in desks}
-        self.anyone_reads, self.is_open, self.limits = anyone_reads, is_open, limits
+        self.anyone_reads = anyone_reads
+        self.is_open = is_open
+        self.limits = limits
 
     def by_token(self, token: str) -> Desk | None:
         """The desk of a token. All are compared, in constant time."""
@@ -136,7 +142,7 @@ def _desk(name: str, told: Any) -> Desk:
     role, tokens, flights, clock = table["role"], table["token"], table["flights"], table["clock"]
     records = table.setdefault("records", 20_000 if role in ("ATC", "NM") else 2000)
     tokens = tokens if isinstance(tokens, list) else [tokens]
-    right = {"role": role in (*ROLES, "READ"), "records": type(records) is int and 0 <= records <= MOST_OF_DESK, "clock": isinstance(clock, bool),
+    right = {"role": role in (*ROLES, "READ"), "records": type(records) is int and 0 <= records <= MOST_QUOTA, "clock": isinstance(clock, bool),
              "token": tokens and _are(tokens, TOKEN), "flights": flights is None or _are(flights, re.compile(".+"))}
     wrong = [word for word in table if not right.get(word)]
     if not DESK.fullmatch(name) or name in ("clock", "import") or wrong:

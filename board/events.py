@@ -11,10 +11,16 @@ from board.day import Day
 from board.desks import Desk
 from board.words import POSITION, refuse
 
-PAUSE, COMMENT = 0.1, 15.0
-MOST_ROWS, MOST_UNSENT, MOST_OF_ALL, MOST_OF_DESK, MOST_DISPLAYS = 100, 1 << 20, 256 << 20, 20, 5000
+PAUSE = 0.1
+COMMENT = 15.0
+MOST_ROWS = 100
+MOST_UNSENT = 1 << 20
+MOST_UNSENT_OF_ALL = 256 << 20
+MOST_STREAMS = 20
+MOST_DISPLAYS = 5000
 # How a stream by gzip begins, and how hard its texts are packed.
-GZIP, LEVEL = b"\x1f\x8b\x08\0\0\0\0\0\0\x03", 4
+GZIP = b"\x1f\x8b\x08\0\0\0\0\0\0\x03"
+LEVEL = 4
 # After so many displays others have their turn, such as the desk whose record this is.
 IN_A_TURN = 25
 
@@ -62,7 +68,9 @@ class Events:
     """All displays of a day. `stirred` is set when a display may lack the view of the present moment."""
 
     def __init__(self, log_id: str, day: Day) -> None:
-        self._log_id, self._day, self.streams = log_id.encode(), day, set[Stream]()
+        self._log_id = log_id.encode()
+        self._day = day
+        self.streams = set[Stream]()
         self._view = View(-1, 0, b"")
         self.stirred = asyncio.Event()
 
@@ -81,7 +89,7 @@ class Events:
         texts: dict[tuple[object, ...], bytes] = {}
         chunks: dict[tuple[bytes, bool], bytes] = {}
         unsent = sum(stream.transport.get_write_buffer_size() for stream in self.streams)
-        most = MOST_UNSENT if unsent < MOST_OF_ALL else MOST_OF_ALL // len(self.streams)
+        most = MOST_UNSENT if unsent < MOST_UNSENT_OF_ALL else MOST_UNSENT_OF_ALL // len(self.streams)
         # The desk's own reply goes out first.
         await asyncio.sleep(0)
         for number, stream in enumerate(list(self.streams), 1):
@@ -147,7 +155,7 @@ class Events:
         """Raises Problem if this desk has too many streams; those that only read share theirs."""
         is_reader = desk.role == "READ"
         streams = [stream for stream in self.streams if (stream.desk.role == "READ" if is_reader else stream.desk.name == desk.name)]
-        is_full = len(streams) >= (MOST_DISPLAYS if is_reader else MOST_OF_DESK)
+        is_full = len(streams) >= (MOST_DISPLAYS if is_reader else MOST_STREAMS)
         refuse(is_full, 429, "this desk has too many displays", Retry_After="5")
 
     def open(self, stream: Stream, said: str) -> None:

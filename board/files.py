@@ -15,7 +15,7 @@ DIGITS = 16
 # What is under such a name never changes, so a browser asks for it once.
 FOR_EVER = "public, max-age=31536000, immutable"
 # A reference of the first file to a file beside it.
-BESIDE = re.compile(rb'\b(href|src)="([A-Za-z0-9_-]+(?:\.[A-Za-z0-9_-]+)+)"')
+LINKS = re.compile(rb'\b(href|src)="([A-Za-z0-9_-]+(?:\.[A-Za-z0-9_-]+)+)"')
 
 
 class File(NamedTuple):
@@ -34,7 +34,7 @@ class Files:
         bodies = {path.name: path.read_bytes() for path in sorted(folder.glob("*")) if path.suffix in TYPES}
         digest = hashlib.sha256(b"".join(b"%s %d\n%s" % (name.encode(), len(body), body) for name, body in bodies.items()))
         self.digest = digest.hexdigest()[:DIGITS]
-        index = BESIDE.sub(lambda found: self._named(found, bodies), bodies.pop(INDEX, b""))
+        index = LINKS.sub(lambda found: self._named(found, bodies), bodies.pop(INDEX, b""))
         self._index = _file(INDEX, index, {})._replace(tag=f'"{hashlib.sha256(index).hexdigest()[:DIGITS]}"') if index else None
         self._files = {name: _file(name, body, {"Cache-Control": FOR_EVER}) for name, body in bodies.items()}
 

@@ -13,7 +13,11 @@ from board.words import tell
 
 KEPT_FREE = 200
 TCP_USER_TIMEOUT = 18  # Linux' number of it, which mypy doesn't know.
-MOST_UNREAD, MOST_PIPELINED, HEADERS, OF_A_PROXY, UNTAKEN = 256 << 10, 16, 10.0, 75.0, 60.0
+MOST_UNREAD = 256 << 10
+MOST_PIPELINED = 16
+HEADERS = 10.0
+OF_A_PROXY = 75.0
+UNTAKEN = 60.0
 HOUR = 3600.0
 
 
@@ -25,7 +29,9 @@ class Door(socket.socket):
         family, *_, address = socket.getaddrinfo(host, port, type=socket.SOCK_STREAM)[0]
         super().__init__(fileno=socket.create_server(address, family=family).detach())
         self.places = Places(limits, resource.getrlimit(resource.RLIMIT_NOFILE)[0] - KEPT_FREE)
-        self._is_for_proxy, self._guests, self._came_round = is_for_proxy, dict[int, Guest](), Windows(HOUR)
+        self._is_for_proxy = is_for_proxy
+        self._guests = dict[int, Guest]()
+        self._came_round = Windows(HOUR)
 
     def accept(self) -> tuple[socket.socket, Any]:
         connection, peer = super().accept()
@@ -78,7 +84,12 @@ class Guard(web.RequestHandler):
     def __init__(self, server: web.Server, door: Door, is_for_proxy: bool) -> None:
         super().__init__(server, loop=asyncio.get_running_loop(), lingering_time=5.0, auto_decompress=False,
                          keepalive_timeout=OF_A_PROXY if is_for_proxy else HEADERS)
-        self.access_logger, self._unread, self.lost, self._door = None, 0, asyncio.Event(), door
+        self.access_logger = None
+        self.lost = asyncio.Event()
+        self._door = door
+        # Bytes since the last request was begun; how many requests were taken by the server's own code, or found wrong before.
+        self._unread = 0
+        self._taken = 0
 
     def connection_made(self, transport: asyncio.BaseTransport) -> None:
         assert isinstance(transport, asyncio.Transport)
@@ -92,6 +103,10 @@ class Guard(web.RequestHandler):
             await super().start()
         except Exception:
             self._cut()
+
+    def take(self) -> None:
+        """A request is begun with; those that came behind it wait."""
+        self._taken += 1
 
     def show(self) -> None:
         """A desk's token was shown on this connection."""
@@ -108,16 +123,18 @@ class Guard(web.RequestHandler):
         self.lost.set()
 
     def data_received(self, data: bytes) -> None:
+        # aiohttp's own count of the requests that were begun.
         count = self._request_count
         super().data_received(data)
         self._unread += len(data)
         if self._request_count > count:
             self._late.cancel()
             self._unread = 0
-        if self._unread > MOST_UNREAD or len(self._messages) > MOST_PIPELINED:
+        if self._unread > MOST_UNREAD or self._request_count - self._taken > MOST_PIPELINED:
             self._cut()
 
     def handle_error(self, request: web.BaseRequest, status: int = 500, exc: BaseException | None = None,
                      message: str | None = None) -> web.StreamResponse:
         """What is wrong before a request reaches the server's own code is the request's fault."""
+        self.take()
         return super().handle_error(request, 400, None, "the request is malformed")

@@ -11,7 +11,6 @@ from board.day import Day
 from board.events import Events
 from board.log import Log
 from board.records import Records
-from board.sequencer import Sequencer
 from board.unsent import Unsent
 
 CLOCK = "CLOCK,"
@@ -20,10 +19,14 @@ CLOCK = "CLOCK,"
 class Health:
     """What is asked of the server itself."""
 
-    def __init__(self, log: Log, day: Day, sequencer: Sequencer, answers: Answers, events: Events, records: Records,
-                 unsent: Unsent) -> None:
-        self._log, self._day, self._sequencer, self._answers = log, day, sequencer, answers
-        self._events, self._records, self._unsent = events, records, unsent
+    def __init__(self, log: Log, day: Day, answers: Answers, events: Events, records: Records, unsent: Unsent) -> None:
+        self._log = log
+        self._day = day
+        self._sequencer = records.sequencer
+        self._answers = answers
+        self._events = events
+        self._records = records
+        self._unsent = unsent
         # NOW, as of so many records of a day that began so often.
         self._now = 0.0
         self._looked = (0, 0)

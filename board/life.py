@@ -9,7 +9,8 @@ from dataclasses import dataclass
 from board.log import Record
 
 # So many ends within so many seconds end the server.
-MOST_ENDS, ENDS_SECONDS = 3, 60.0
+MOST_ENDS = 3
+ENDS_SECONDS = 60.0
 
 
 @dataclass(frozen=True)

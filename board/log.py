@@ -9,7 +9,8 @@ from typing import Any, NamedTuple, Protocol
 from board.words import LINE, MOST_BYTES, ROLES, Fault, Problem, now_text
 
 # Records, and events of the audit that are no records, of one log.
-MOST_RECORDS, MOST_EVENTS = 60_000, 20_000
+MOST_RECORDS = 60_000
+MOST_EVENTS = 20_000
 NOT_KNOWN = "not known whether the records are in the log; send again with the same key"
 
 
@@ -128,7 +129,9 @@ class Kept:
     secret: str
 
     def __init__(self, name: str, board: str) -> None:
-        self.name, self._board, self.grown = name, board, asyncio.Event()
+        self.name = name
+        self._board = board
+        self.grown = asyncio.Event()
         # Set when another server may have ended sessions.
         self.signed_out = asyncio.Event()
         self.read_at = time.monotonic()

@@ -23,7 +23,9 @@ class Places:
     in the order in which they came. A question that begins is begun for all who wait with the same one."""
 
     def __init__(self, places: int, most_of_one: int, most_nameless: int) -> None:
-        self._places, self._most_of_one, self._most_nameless = places, most_of_one, most_nameless
+        self._places = places
+        self._most_of_one = most_of_one
+        self._most_nameless = most_nameless
         self.waiting: list[Ticket] = []
         self.running: dict[Ticket, list[Ticket]] = {}
 

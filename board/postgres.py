@@ -33,7 +33,10 @@ except ImportError:
 
 T = TypeVar("T")
 SCHEMA = Path(__file__).with_name("schema.sql")
-CONNECT, READ, LOOK, STALE = 3.0, 5.0, 1.0, 3.0
+CONNECT_SECONDS = 3.0
+READ_SECONDS = 5.0
+LOOK_SECONDS = 1.0
+STALE_SECONDS = 3.0
 # Seconds after which a connection that has nothing to commit is asked whether it is still there.
 IDLE_SECONDS = 10.0
 # What a role or a database may have set otherwise, and would end a commit, or let it see too little.
@@ -128,10 +131,10 @@ async def connect(url: str, name: str = "cdmboard") -> Any:
         raise Fault("python3-asyncpg missing: sudo apt-get install python3-asyncpg", 1)
     try:
         settings = SETTINGS | {"application_name": name}
-        connection = await asyncpg.connect(url, timeout=CONNECT, server_settings=settings)
+        connection = await asyncpg.connect(url, timeout=CONNECT_SECONDS, server_settings=settings)
         is_standby = True
         try:
-            is_standby = await connection.fetchval("SELECT pg_is_in_recovery()", timeout=READ)
+            is_standby = await connection.fetchval("SELECT pg_is_in_recovery()", timeout=READ_SECONDS)
         finally:
             if is_standby:
                 connection.terminate()
@@ -173,7 +176,7 @@ async def newest(url: str) -> int:
         with contextlib.suppress(Away, Refused):
             connection = await connect(host)
             try:
-                timelines.append(await finished(connection, READ, connection.fetchval(TIMELINE)))
+                timelines.append(await finished(connection, READ_SECONDS, connection.fetchval(TIMELINE)))
             finally:
                 connection.terminate()
     return max(timelines)
@@ -183,8 +186,12 @@ class Link:
     """Two connections to one database."""
 
     def __init__(self, reader: Any, writer: Any) -> None:
-        self._reader, self._writer, self._reads = reader, writer, asyncio.Lock()
-        self.broken, self.why, self._warned = asyncio.Event(), "a connection was lost", ""
+        self._reader = reader
+        self._writer = writer
+        self._reads = asyncio.Lock()
+        self.broken = asyncio.Event()
+        self.why = "a connection was lost"
+        self._warned = ""
         for connection in (reader, writer):
             connection.add_termination_listener(lambda _: self.broken.set())
         writer.add_log_listener(self._warn)
@@ -193,7 +200,7 @@ class Link:
         """The database warns of a commit that somebody cancelled: the standby may not have it."""
         self._warned = str(message)
 
-    async def read(self, query: str, *words: object, seconds: float = READ) -> Any:
+    async def read(self, query: str, *words: object, seconds: float = READ_SECONDS) -> Any:
         """The rows of a query. Raises Away."""
         async with self._reads:
             try:
@@ -213,12 +220,12 @@ class Link:
 
     async def greet(self) -> None:
         """Whether the connection that commits is still there. Raises Away, Refused."""
-        await finished(self._writer, READ, self._writer.fetchval("SELECT 1"))
+        await finished(self._writer, READ_SECONDS, self._writer.fetchval("SELECT 1"))
 
     async def listen(self, heard: Any) -> None:
         """Has a call made for each notice that another server took records. Raises Away, Refused."""
         for channel in CHANNELS:
-            await finished(self._reader, READ, self._reader.add_listener(channel, heard))
+            await finished(self._reader, READ_SECONDS, self._reader.add_listener(channel, heard))
 
     async def is_committing(self, name: str) -> bool:
         """Whether an earlier connection of this name still commits. Raises Away."""
@@ -236,17 +243,22 @@ class PostgresLog(Kept):
 
     def __init__(self, url: str, board: str) -> None:
         super().__init__(name_of(url), board)
-        self.id, self.airport, self._version = "", b"", ""
+        self.id = ""
+        self.airport = b""
+        self._version = ""
         self._accept: Accept = accepted
-        self._url, self._writer_name = url, f"cdmboard {secrets.token_hex(8)}"
+        self._url = url
+        self._writer_name = f"cdmboard {secrets.token_hex(8)}"
         self._link: Link | None = None
         self._linked = asyncio.Event()
         self._commits = Commits(self._begin, AWAY)
         # The transaction that is to run, and hasn't begun.
-        self._ordered, self._order = asyncio.Event(), list[Commit]()
+        self._ordered = asyncio.Event()
+        self._order = list[Commit]()
         self._following = Following()
         self._notices = dict(zip(CHANNELS, (Notices(self.grown), Notices(self.signed_out)), strict=True))
-        self._looked, self._looked_at = float("-inf"), now_text()
+        self._looked = float("-inf")
+        self._looked_at = now_text()
         self._keeping: asyncio.Task[None] | None = None
         self._is_closing = False
 
@@ -273,7 +285,7 @@ class PostgresLog(Kept):
 
     @property
     def stale_since(self) -> str | None:
-        return self._looked_at if not self._following.is_current or time.monotonic() - self._looked > STALE else None
+        return self._looked_at if not self._following.is_current or time.monotonic() - self._looked > STALE_SECONDS else None
 
     # What is read.
 
@@ -301,7 +313,7 @@ class PostgresLog(Kept):
                     return dict(await link.read(DIGESTS, self._board))
             await asyncio.sleep(0.05)
 
-    async def _read(self, after: int, most: int, seconds: float = READ) -> list[Record] | None:
+    async def _read(self, after: int, most: int, seconds: float = READ_SECONDS) -> list[Record] | None:
         """Rows, None where the database is away. They're handed on: a later link has to have the last."""
         link = self._link
         if link is None:
@@ -433,7 +445,7 @@ class PostgresLog(Kept):
             if self._following.is_committing:
                 self._following.committed_before(await link.is_committing(self._writer_name))
             with contextlib.suppress(TimeoutError):
-                async with asyncio.timeout(LOOK):
+                async with asyncio.timeout(LOOK_SECONDS):
                     await link.broken.wait()
                 raise Away(link.why)
 

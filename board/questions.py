@@ -14,7 +14,7 @@ from board.sending import pack
 from board.unsent import Unsent
 from board.words import POSITION, Problem, refuse
 
-MOST_FOUND = 1 << 20
+MOST_FOUND_BYTES = 1 << 20
 BODY_LIMIT = 20.0
 TYPES = {"": "text/plain", "csv": "text/csv", "json": "application/x-ndjson", "svg": "image/svg+xml"}
 # The program's commands as paths. Those that want a scenario are asked by POST alone, in a format by Accept.
@@ -44,7 +44,11 @@ class Questions:
     """What is read of a day. `asker`: who asks, for what each may have."""
 
     def __init__(self, log: Log, day: Day, answers: Answers, unsent: Unsent, asker: Callable[[web.Request], str]) -> None:
-        self._log, self._day, self._answers, self._unsent, self._asker = log, day, answers, unsent, asker
+        self._log = log
+        self._day = day
+        self._answers = answers
+        self._unsent = unsent
+        self._asker = asker
 
     def routes(self) -> list[web.RouteDef]:
         """All paths."""
@@ -60,7 +64,7 @@ class Questions:
         async with self._answers.turn(("log", self._asker(request))):
             now = len(self._day.records)
             found = self._day.found(int(since), request.query.get("flight"), desk)
-            return await self.of_moment(request, now, "json", self._day.texts(found, MOST_FOUND))
+            return await self.of_moment(request, now, "json", self._day.texts(found, MOST_FOUND_BYTES))
 
     async def sentence(self, request: web.Request) -> web.Response:
         """Why a record is refused, in words: what `check` says of it behind the records accepted before."""
@@ -113,7 +117,8 @@ class Questions:
     def tags(self, position: int) -> dict[str, str]:
         """The headers that say of which moment an answer is."""
         stale = {"Cdm-Stale-Since": self._log.stale_since} if self._log.stale_since else {}
-        return {"Cdm-Position": str(position), "Cdm-At": self._day.at(position), "ETag": f'"{self._log.id}-{position}"', "Vary": "Accept, Accept-Encoding", **stale}
+        return {"Cdm-Position": str(position), "Cdm-At": self._day.at(position), "ETag": f'"{self._log.id}-{position}"',
+                "Vary": "Accept, Accept-Encoding", **stale}
 
     async def of_moment(self, request: web.Request, position: int, form: str, body: bytes) -> web.Response:
         """An answer about the day at one moment, which may be had already. Raises Problem."""

@@ -24,7 +24,9 @@ class Records:
     """What desks send. `is_closing`: nothing more is taken."""
 
     def __init__(self, log: Log, day: Day, sequencer: Sequencer) -> None:
-        self._log, self._day, self._sequencer = log, day, sequencer
+        self._log = log
+        self._day = day
+        self.sequencer = sequencer
         self.is_closing = False
         self.paces: defaultdict[str, Pace] = defaultdict(Pace)
         self._bodies: dict[object, float] = {}
@@ -38,7 +40,7 @@ class Records:
         """Why records get no replies at present; nothing if they do."""
         if self.is_closing:
             return "the server is ending"
-        if not self._sequencer.is_ready.is_set():
+        if not self.sequencer.is_ready.is_set():
             return "the sequencer is being started"
         if self._log.stale_since is not None:
             return f"the log has been away since {self._log.stale_since}"

@@ -1,10 +1,14 @@
-"""Answers as they are sent: whether who asks has them, by gzip, and piece by piece."""
+"""Answers as they are sent: whether who asks has them, by gzip, and piece by piece; problems as answers."""
 import asyncio
 import gzip
+import json
 from collections import OrderedDict
+from http import HTTPStatus
 
 from aiohttp import payload, web
 from aiohttp.abc import AbstractStreamWriter
+
+from board.words import Problem
 
 WORTH_WHILE = 1024
 MOST_SHARED = 1 << 20
@@ -77,3 +81,11 @@ async def pack(request: web.Request, body: bytes, headers: dict[str, str], is_ce
         headers["Content-Encoding"] = "gzip"
         body = await PACKED.of(body)
     return web.Response(body=Pieces(body) if len(body) > PIECE else body, headers=headers)
+
+
+def problem_as_answer(problem: Problem) -> web.Response:
+    """What is wrong with a request, as an answer (RFC 9457)."""
+    told = {"type": "about:blank", "title": HTTPStatus(problem.status).phrase, "status": problem.status, "detail": str(problem)}
+    told |= {"line": problem.line} if problem.line else {}
+    return web.Response(status=problem.status, body=json.dumps(told).encode(), headers=problem.headers,
+                        content_type="application/problem+json")

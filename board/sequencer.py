@@ -21,7 +21,8 @@ from board.words import Fault, tell
 # Records that are handed on together.
 MOST_AHEAD = 256
 # Seconds for a reply, and until a process that found no room is started again.
-SECONDS, ROOM_SECONDS = 10.0, 1.0
+PATIENCE_SECONDS = 10.0
+ROOM_SECONDS = 1.0
 # Bytes that the journal of a process may need beyond the day that it begins with.
 MOST_JOURNAL = 4 << 20
 
@@ -34,8 +35,13 @@ class Sequencer:
     """Hands the log's records on, and gives the replies to the day."""
 
     def __init__(self, program: str, folder: str, log: Log, day: Day) -> None:
-        self._program, self._folder, self._log, self._day = program, folder, log, day
-        self.is_ready, self.starts, self._life = asyncio.Event(), 0, Life()
+        self._program = program
+        self._folder = folder
+        self._log = log
+        self._day = day
+        self.is_ready = asyncio.Event()
+        self.starts = 0
+        self._life = Life()
         self._is_without_room = False
 
     async def run(self) -> None:
@@ -68,7 +74,7 @@ class Sequencer:
 
     async def _serve(self, folder: str) -> None:
         """One process, on the day as it is, until it ends. The next one gets the rest."""
-        words, patience = ("serve", f"{self._folder}/airport.csv", "journal.csv", "--format", "json"), SECONDS
+        words, patience = ("serve", f"{self._folder}/airport.csv", "journal.csv", "--format", "json"), PATIENCE_SECONDS
         self._life.started(len(self._day.lines))
         process = await asyncio.create_subprocess_exec(
             same(self._program), *words, cwd=folder, stdin=PIPE, stdout=PIPE, limit=MOST_REPLY, start_new_session=True)
@@ -103,7 +109,7 @@ class Sequencer:
                 self._log.grown.clear()
             lines.write(self._life.given(records).encode("ascii"))
             while self._life.due:
-                self._do(self._life.heard(await _reply(replies, SECONDS)))
+                self._do(self._life.heard(await _reply(replies, PATIENCE_SECONDS)))
 
     def _do(self, order: Ready | Keep | End) -> None:
         """Carries out what the life orders. Raises Ended."""

@@ -10,7 +10,8 @@ from itsdangerous import BadData, TimestampSigner
 from board.desks import Desk, Desks, digest
 
 # Seconds: how long a browser keeps a cookie, and how far the clocks of a board's servers may be apart.
-SESSION, CLOCKS_APART = 12 * 3600, 60
+SESSION = 12 * 3600
+CLOCKS_APART = 60
 
 
 class Session(NamedTuple):
@@ -25,7 +26,8 @@ class Sessions:
     number of each desk's first session that hasn't ended, where that isn't 0."""
 
     def __init__(self, log_id: str, secret: str) -> None:
-        self._log_id, self._secret = log_id, secret
+        self._log_id = log_id
+        self._secret = secret
         self.not_before: dict[str, int] = {}
 
     def _signer(self, token: bytes) -> TimestampSigner:

@@ -21,9 +21,11 @@ from board.words import Fault, Problem, now_text, tell
 from board.writer import COMMIT_SECONDS, Outcome
 
 # Seconds that a foreign lock is waited for, and between two tries of a log that failed.
-BUSY_SECONDS, RETRY_SECONDS = 5.0, 1.0
+BUSY_SECONDS = 5.0
+RETRY_SECONDS = 1.0
 # Bytes that a disk has to take, more than a large batch needs; bytes of the index, for a write-ahead log of 16,000 pages.
-ROOM, INDEX = 1 << 18, 4 << 15
+ROOM_BYTES = 1 << 18
+INDEX_BYTES = 4 << 15
 PRAGMAS = """
 PRAGMA journal_mode = WAL;
 PRAGMA synchronous = FULL;
@@ -72,7 +74,8 @@ class FileLog(Kept):
         super().__init__(os.path.realpath(path), board)
         # As it was said: also a link to another file leads the next start elsewhere.
         self._path = os.path.abspath(path)
-        self._loop, self._thread = asyncio.get_running_loop(), ThreadPoolExecutor(1, "log")
+        self._loop = asyncio.get_running_loop()
+        self._thread = ThreadPoolExecutor(1, "log")
         self._locks = list[int]()
         self._database: sqlite3.Connection | None = None
         self._index: int | None = None
@@ -125,7 +128,7 @@ class FileLog(Kept):
             self._database.executescript(SCHEMA)
         # It stays open: who closes a file takes away each of the process's locks on it, SQLite's too.
         self._index = os.open(f"{self.name}-shm", os.O_RDWR | os.O_CLOEXEC)
-        os.posix_fallocate(self._index, 0, INDEX)
+        os.posix_fallocate(self._index, 0, INDEX_BYTES)
         return self._database
 
     def _disconnect(self) -> None:
@@ -348,7 +351,7 @@ def check_room(path: str) -> None:
     """Raises OSError if a disk doesn't take a file of this name and of some size. The file is removed."""
     made = os.open(path, os.O_CREAT | os.O_RDWR | os.O_CLOEXEC | os.O_NOFOLLOW, 0o600)
     try:
-        os.posix_fallocate(made, 0, ROOM)
+        os.posix_fallocate(made, 0, ROOM_BYTES)
         os.pwrite(made, b"cdm", 0)
         os.fsync(made)
     finally:

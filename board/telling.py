@@ -11,7 +11,7 @@ import time
 
 import prometheus_client as prometheus
 
-MOST_LINES = 1000
+MOST_LINES_WAITING = 1000
 LAST_LINES = 2.0  # Seconds that the end of the server waits for the lines that aren't written yet.
 FORM = "CDMBOARD_LOG"
 STANDARD_ERROR = 2
@@ -84,7 +84,7 @@ class Teller:
     """All lines of a server, from its start to its end."""
 
     def __init__(self) -> None:
-        self._lines: queue.Queue[logging.LogRecord | None] = queue.Queue(MOST_LINES)
+        self._lines: queue.Queue[logging.LogRecord | None] = queue.Queue(MOST_LINES_WAITING)
         self._waiting = Waiting(self._lines)
         written = Written(self._waiting)
         if os.environ.get(FORM) == "json":

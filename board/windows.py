@@ -2,7 +2,8 @@
 from collections import OrderedDict
 from dataclasses import dataclass
 
-MOST_KEYS, OTHERS = 4096, "others"
+MOST_KEYS = 4096
+OTHERS = "others"
 
 
 @dataclass
@@ -16,7 +17,8 @@ class Windows:
     """A window of so many seconds for each that did something, up to MOST_KEYS; those beyond them share one."""
 
     def __init__(self, seconds: float) -> None:
-        self._seconds, self._windows = seconds, OrderedDict[str, Window]()
+        self._seconds = seconds
+        self._windows = OrderedDict[str, Window]()
 
     def add(self, key: str, now: float) -> Window:
         """Counts one more, and returns the window that it is in."""

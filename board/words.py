@@ -5,10 +5,12 @@ import re
 from datetime import datetime, timedelta, timezone
 
 ROLES = ("AO", "GH", "AP", "ATC", "NM")
-MOST_LINES, MOST_BYTES = 256, 100
+MOST_LINES = 256
+MOST_BYTES = 100
 # Printable ASCII without the double quote: such a line is one record of CSV, whatever it holds.
 LINE = re.compile(r"(?=.*[^ ])[\x20\x21\x23-\x7e]+")
-KEY, POSITION = re.compile(r"[\x20-\x7e]{1,64}"), re.compile("[0-9]{1,9}")
+KEY = re.compile(r"[\x20-\x7e]{1,64}")
+POSITION = re.compile("[0-9]{1,9}")
 
 
 class Fault(Exception):
@@ -24,7 +26,8 @@ class Problem(Exception):
 
     def __init__(self, status: int, why: str, line: int | None = None, **headers: str) -> None:
         super().__init__(why if line is None else f"line {line}: {why}")
-        self.status, self.line = status, line
+        self.status = status
+        self.line = line
         self.headers = {name.replace("_", "-"): value for name, value in headers.items()}
 
 
@@ -58,7 +61,8 @@ class Kinds:
     """The program's table of kinds, by `cdmseq kinds --format json`."""
 
     def __init__(self, text: bytes) -> None:
-        self.text, rows = text, [json.loads(line) for line in text.splitlines()]
+        self.text = text
+        rows = [json.loads(line) for line in text.splitlines()]
         self.roles: dict[str, list[str]] = {row["kind"]: row["roles"] for row in rows}
         self._of_flight = {row["kind"] for row in rows if row["of"] == "flight"}
 

@@ -10,9 +10,11 @@ from board.log import NOT_KNOWN, Batch
 from board.words import Problem
 
 # Batches of one transaction, and batches that wait for one.
-MOST_TOGETHER, MOST_WAITING = 512, 8192
+MOST_TOGETHER = 512
+MOST_WAITING = 8192
 # Seconds that a batch waits for its transaction to begin, and seconds that a transaction may take. A desk waits longer than both.
-WAIT_SECONDS, COMMIT_SECONDS = 8.0, 20.0
+WAIT_SECONDS = 8.0
+COMMIT_SECONDS = 20.0
 LATE = "the log was busy for too long; nothing was taken"
 MANY = "too many records wait for the log; nothing was taken"
 REFUSED = "the log's database refuses these records; nothing was taken"
@@ -51,7 +53,8 @@ class Writer:
     """The batches of all desks. A ticket is the number of one call of a desk."""
 
     def __init__(self, closed: str | None = None) -> None:
-        self._closed, self._number = closed, 0
+        self._closed = closed
+        self._number = 0
         # Those that wait; those that go one by one, since a transaction with them was refused; those of the transaction that runs.
         self._waiting = dict[int, Batch]()
         self._alone = dict[int, Batch]()

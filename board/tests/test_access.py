@@ -231,14 +231,16 @@ def test_a_desk_signs_in_so_often(board):
 def test_signing_out_has_a_limit(monkeypatch):
     """Where the log doesn't answer, as on a disk that hangs: the session ends here, and the log is told later."""
     from unittest import mock
-    from board import web
+    from board import signing
+    from board.callers import Callers
     from board.desks import Desk, Desks
-    monkeypatch.setattr(web, "SIGN_OUT_LIMIT", 0.05)
+    monkeypatch.setattr(signing, "SIGN_OUT_LIMIT", 0.05)
     log = mock.Mock(id="0", secret="s", sign_out=lambda _: asyncio.Event().wait())
-    board = web.Board(Desks([], False), log, None, None, None, mock.Mock(streams=set()), {"localhost"}, "http", False)
-    board.audit, board.desk_of, board.address = mock.Mock(), lambda _: Desk("ap", "AP"), lambda _: "192.0.2.1"
-    answer = asyncio.run(asyncio.wait_for(board.delete_session(mock.Mock()), 20))
-    assert answer.status == 503 and board.owed == {"ap"} and board.sessions.not_before == {"ap": 1}
+    callers = Callers(Desks([], False), log, {"localhost"}, "http", False)
+    callers.desk_of, callers.address = lambda _: Desk("ap", "AP"), lambda _: "192.0.2.1"
+    own = signing.Signing(callers, log, mock.Mock(streams=set()), mock.Mock())
+    answer = asyncio.run(asyncio.wait_for(own.sign_out(mock.Mock()), 20))
+    assert answer.status == 503 and own.owed == {"ap"} and callers.sessions.not_before == {"ap": 1}
 
 
 def test_windows_are_bounded():
@@ -257,15 +259,12 @@ def test_windows_are_bounded():
 def test_one_line_for_many(monkeypatch):
     """What a minute refused beyond the first 20 is one line, and an event of the audit."""
     from unittest import mock
-    from board import web
-    from board.desks import Desks
-    told = []
-    monkeypatch.setattr(web, "tell", told.append)
-    board = web.Board(Desks([], False), mock.Mock(id="0", secret="s"), None, None, None, None, {"localhost"}, "http", False)
-    board.audit = mock.Mock()
-    board.tell_refused({"192.0.2.1": 20, "192.0.2.2": 1234}, {"192.0.2.2": 700, "192.0.2.3": 2})
+    from board import signing
+    told, audit = [], mock.Mock()
+    monkeypatch.setattr(signing, "tell", told.append)
+    signing.Signing(None, None, None, audit).tell_refused({"192.0.2.1": 20, "192.0.2.2": 1234}, {"192.0.2.2": 700, "192.0.2.3": 2})
     assert len(told) == 2 and "192.0.2.2 1214 more" in told[0] and "702 wrong tokens within a minute, 700 of them from here" in told[1]
-    (event, desk, address, detail), _ = board.audit.note.call_args
+    (event, desk, address, detail), _ = audit.note.call_args
     assert (event, desk, address) == ("wrong-token", None, "192.0.2.2") and "addresses: 2" in detail
 
 

@@ -7,6 +7,7 @@ import pytest
 from aiohttp.test_utils import make_mocked_request
 
 from board.answers import Answers, Question
+from board.callers import Callers
 from board.day import Day
 from board.desks import Desk, Desks
 from board.events import Events, Stream
@@ -19,6 +20,10 @@ KINDS = b'{"kind":"FLT","roles":["AP"],"of":"flight"}'
 
 def day_of(*flights):
     return Day(Kinds(KINDS), [Record(number, f"desk-{flight}", "AP", f"FLT,{flight},5") for number, flight in enumerate(flights, 1)], {})
+
+
+def board_of(desks, log, day):
+    return Board(Callers(desks, log, {"localhost"}, "http", False), log, day, None, None, None)
 
 
 def test_what_is_found_is_of_the_day_that_began_anew():
@@ -67,7 +72,7 @@ def test_a_display_that_comes_back_is_reset():
 def test_a_tag_is_not_of_the_day_before():
     """Where the day that began anew has as many records, what a browser has of that position is another plan."""
     day = day_of("AB1")
-    board = Board(Desks([], True), mock.Mock(id="0", stale_since=None), day, None, None, None, {"localhost"}, "http", False)
+    board = board_of(Desks([], True), mock.Mock(id="0", secret="s", stale_since=None), day)
 
     def status():
         request = make_mocked_request("GET", "/v1/plan", headers={"Host": "localhost", "If-None-Match": f'"0-{len(day.records)}"'})
@@ -84,12 +89,14 @@ def test_a_reply_is_to_what_was_sent():
     day = day_of()
 
     class Log:
+        id, secret = "0", "s"
+
         async def append(self, batch):
             day.add(Record(1, "other", "AP", "FLT,AB1,5"), None, [])
             day.add(Record(2, "own", "AP", "FLT,AB2,5"), None, [])
             return range(self.position, self.position + 1)
     log, own = Log(), Desk("own", "AP")
-    board = Board(Desks([own], True), log, day, None, None, None, {"localhost"}, "http", False)
+    board = board_of(Desks([own], True), log, day)
     log.position = 1
     with pytest.raises(Problem, match="not known") as why:
         asyncio.run(board.records.take(own, ["FLT,AB2,5"], None))

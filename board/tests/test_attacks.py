@@ -182,7 +182,7 @@ def test_the_log_is_read_in_pieces(board):
 
 def test_displays_share_what_may_be_unsent():
     """5,000 of them that don't read, each below its own bound: those that have most are cut off."""
-    from board.events import MOST_OF_ALL, Events, Stream
+    from board.events import MOST_UNSENT_OF_ALL, Events, Stream
 
     class Transport(asyncio.Transport):
         def __init__(self, unsent):
@@ -209,7 +209,7 @@ def test_displays_share_what_may_be_unsent():
         events.streams |= {Stream(None, Desk("screen", "READ"), transport, asyncio.Event()) for transport in transports}
         asyncio.run(events._write())
         assert [transport.is_cut for transport in transports] == [are_cut and transport.unsent > 10 for transport in transports]
-        assert not are_cut or sum(transport.unsent for transport in transports if not transport.is_cut) < MOST_OF_ALL
+        assert not are_cut or sum(transport.unsent for transport in transports if not transport.is_cut) < MOST_UNSENT_OF_ALL
 
 
 def test_an_end_at_the_moment_of_a_reply():

@@ -211,8 +211,8 @@ def test_each_operation_was_asked():
 
 def application():
     """The server's routes."""
-    parts = {name: mock.Mock() for name in ("desks", "log", "day", "sequencer", "answers", "events")}
-    return Board(**parts, names=set(), scheme="http", behind_proxy=False).application()
+    parts = {name: mock.Mock() for name in ("callers", "log", "day", "sequencer", "answers", "events")}
+    return Board(**parts).application()
 
 
 async def routes_of(routes, asked):

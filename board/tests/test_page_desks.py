@@ -1,7 +1,9 @@
 """The page and its desks: sign in, sign out, a token that is taken away, other tabs; and texts that try to be markup."""
+import contextlib
 import hashlib
 import re
 import signal
+import sqlite3
 
 from browser import DAY, FACTOR, until
 
@@ -50,6 +52,32 @@ def test_sign_in_and_out(page):
     shown.close_tab(first)
     shown.says("#conn", "Signed out.")
     assert shown.js("return getComputedStyle(document.querySelector('#next')).visibility") == "hidden"
+
+
+def test_a_sign_out_that_the_log_does_not_take(page):
+    """503: the page is signed out all the same and shows nothing more of the day; the session ends as soon as the log takes it."""
+    shown = page(DESKS, day=QUIET)
+    shown.allowed += [*DENIED, "503 (Service Unavailable)"]
+    shown.open(ready=False)
+    shown.says("#conn", "Signed out.")
+    sign_in(shown, "ground-2")
+    shown.is_ready()
+    cookie, = shown.driver.get_cookies()
+    with contextlib.closing(sqlite3.connect(shown.server.log, isolation_level=None)) as foreign:
+        foreign.execute("BEGIN IMMEDIATE")
+        shown.click("#b-sign-out")
+        shown.until("return performance.getEntriesByType('resource').some((one) => one.name.endsWith('/v1/session') && one.responseStatus === 503)",
+                    seconds=30 * FACTOR)
+        shown.says("#conn", "Signed out.")
+        shown.until("return document.querySelector('#p-sign-in [name=desk]').checkVisibility()")
+        assert shown.js("return getComputedStyle(document.querySelector('#next')).visibility") == "hidden"
+        assert shown.driver.get_cookies() == []
+        foreign.execute("ROLLBACK")
+        until(lambda: foreign.execute("SELECT * FROM cdm_session").fetchall() == [("", "ground-2", 1)])
+    assert shown.server.get("/v1/who", Cookie=f"{cookie['name']}={cookie['value']}").status == 401
+    sign_in(shown, "ground-2")
+    shown.is_ready()
+    assert shown.text("#desk") == "ground-2"
 
 
 def test_a_token_that_is_taken_away(page):

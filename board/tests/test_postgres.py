@@ -366,7 +366,7 @@ def test_a_connection_that_a_firewall_forgot_is_replaced(primary, monkeypatch):
     from board.log import Batch
     from board.postgres import PostgresLog
     monkeypatch.setattr(postgres, "IDLE_SECONDS", 0.5)
-    monkeypatch.setattr(postgres, "READ", 1.0)
+    monkeypatch.setattr(postgres, "READ_SECONDS", 1.0)
     # Nor does a commit end that is under way, which would be noticed too.
     monkeypatch.setattr(postgres, "COMMIT_SECONDS", 3600.0)
 
@@ -408,7 +408,7 @@ def test_a_host_s_second_address_is_tried(primary, monkeypatch):
     """Where the first one answers nobody."""
     import socket
     from board import postgres
-    monkeypatch.setattr(postgres, "CONNECT", 1.0)
+    monkeypatch.setattr(postgres, "CONNECT_SECONDS", 1.0)
 
     async def talk():
         loop, addresses = asyncio.get_running_loop(), ["127.0.0.2", "127.0.0.1"]

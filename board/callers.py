@@ -1,0 +1,83 @@
+"""Who asks: by which address, as which desk, and how often with a wrong token."""
+import time
+
+from aiohttp import web
+
+from board.connections import group_of, is_loopback
+from board.desks import READER, Desk, Desks
+from board.log import Log
+from board.sessions import Sessions
+from board.windows import Windows
+from board.words import Problem, refuse
+
+# In each minute: wrong tokens of an address, lines on standard error about an address that is refused, sign-ins of a desk at an address.
+MINUTE = 60.0
+MOST_WRONG = 20
+MOST_TOLD = 20
+MOST_SIGN_INS = 20
+
+
+class Callers:
+    """All who ask one board. `names`: the server's own; `wrong` and `refused` count what was refused at each address."""
+
+    def __init__(self, desks: Desks, log: Log, names: set[str], scheme: str, behind_proxy: bool) -> None:
+        self.desks = desks
+        self.names = names
+        self.scheme = scheme
+        self.sessions = Sessions(log.id, log.secret)
+        # Over TLS a browser takes a cookie of this name from this very host alone.
+        self.cookie_name = f"{'__Host-' if scheme == 'https' else ''}cdm-{log.id}"
+        self.wrong = Windows(MINUTE)
+        self.refused = Windows(MINUTE)
+        self._sign_ins = Windows(MINUTE)
+        self._behind_proxy = behind_proxy
+
+    def address(self, request: web.Request) -> str:
+        """The address of who asks; a proxy on this machine says it."""
+        peer = request.remote or ""
+        if self._behind_proxy and is_loopback(peer):
+            # The last one is the proxy's own word; those before it are whatever the client said.
+            return request.headers.getall("X-Forwarded-For", [peer])[-1].rpartition(",")[2].strip()[:60]
+        return peer
+
+    def asker(self, request: web.Request) -> str:
+        """Who asks, for what each may have: a desk, or @ and an address."""
+        return request.get("desk", READER).name or f"@{self.address(request)}"
+
+    def desk_of(self, request: web.Request) -> Desk:
+        """The desk that asks; who may read without a token is a display without a name. Raises Problem."""
+        role = request.headers.get("Cdm-Role")
+        said = request.headers.get("Authorization")
+        cookie = request.cookies.get(self.cookie_name)
+        if self.desks.is_open:
+            desk = READER if role is None else self.desks.by_name.get(role)
+        elif said is not None:
+            desk = self.desks.by_token(said[7:]) if said[:7].lower() == "bearer " else None
+            if desk is None:
+                self.count_wrong(request)
+        elif cookie is not None:
+            session = self.sessions.of(cookie, self.desks)
+            desk = session.desk if session else None
+            request["ends"] = session.ends if session else 0.0
+        else:
+            desk = READER if self.desks.anyone_reads else None
+        if desk is None:
+            refuse(self.desks.is_open, 403, "Cdm-Role is one of AO, GH, AP, ATC, NM")
+            raise Problem(401, "a token of a desk is needed", WWW_Authenticate="Bearer")
+        return desk
+
+    def count_wrong(self, request: web.Request) -> None:
+        """Counts a wrong token of an address. Raises Problem if that are too many; a right token is never refused for it."""
+        now = time.monotonic()
+        window = self.wrong.add(group_of(self.address(request)), now)
+        refuse(window.count > MOST_WRONG, 429, "too many wrong tokens from this address", Retry_After=str(1 + int(window.ends - now)))
+
+    def count_refused(self, request: web.Request) -> bool:
+        """Counts a request that was refused. Whether standard error has a line for it; of the others the end of the minute tells."""
+        return self.refused.add(group_of(self.address(request)), time.monotonic()).count <= MOST_TOLD
+
+    def check_sign_ins(self, desk: Desk, address: str) -> None:
+        """Raises Problem if a desk signs in too often at an address, or out (at no address)."""
+        now = time.monotonic()
+        window = self._sign_ins.add(f"{desk.name} {group_of(address)}", now)
+        refuse(window.count > MOST_SIGN_INS, 429, "this desk signs in and out too often", Retry_After=str(1 + int(window.ends - now)))
