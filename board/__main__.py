@@ -1,4 +1,4 @@
-"""`./cdmboard`: its words, its start and its end."""
+"""`cdmboard`: its words, its start and its end."""
 import argparse
 import asyncio
 import contextlib
@@ -31,6 +31,7 @@ from board.events import Events
 from board.guard import HEADERS, Door, Guard
 from board.log import MOST_RECORDS, Batch, Log, Record
 from board.notify import Notifier
+from board.replies import Keeper, check, day_of_log, reply_again
 from board.sequencer import MOST_JOURNAL, Sequencer, place_with_room
 from board.telling import Teller
 from board.views import Views
@@ -159,7 +160,7 @@ async def take_in(options: argparse.Namespace) -> None:
         _, day = await day_of(folder, PROGRAM, [Record(number, "import", role, line) for number, (role, _, line) in enumerate(feed, 1)])
         for record in day.records:
             if record.word is not None:
-                raise Fault(f"{options.feed} record {record.position}: {record.word} (see ./cdmseq check)")
+                raise Fault(f"{options.feed} record {record.position}: {record.word} (see cdmseq check)")
         await log.append(Batch("import", [(role, line) for role, _, line in feed], end=len(feed)))
 
 
@@ -198,14 +199,17 @@ async def back_up(options: argparse.Namespace) -> None:
 
 
 async def verify(options: argparse.Namespace) -> None:
-    """`verify`: each row of a log is read, and given to the program. Raises Fault."""
+    """`verify`: each row of a log is read and given to the program, whose replies have to be those of the digests. Raises Fault."""
+    digests = await engine_of(options.log).read_digests(options.log, options.board)
     airport, made_by, records = await engine_of(options.log).read_log(options.log, options.board)
     version = (await asked("/", PROGRAM, "--version")).decode("ascii", "replace").strip()
     if made_by != version:
         raise Fault(f"{options.log} was made by another program: {made_by}, and this is {version}")
     with folder_of("verify", airport) as folder:
         _, day = await day_of(folder, PROGRAM, records)
-    print(f"{len(day.records)} records, {len(day.lines)} accepted")
+        await reply_again(folder, PROGRAM, day)
+    check(day, digests, options.log)
+    print(f"{len(day.records)} records, {len(day.lines)} accepted, {len(digests)} digests of replies")
 
 
 def listening(options: argparse.Namespace) -> tuple[str, int, ssl.SSLContext | None]:
@@ -243,7 +247,7 @@ async def serve(options: argparse.Namespace) -> None:
     resource.setrlimit(resource.RLIMIT_NOFILE, (resource.getrlimit(resource.RLIMIT_NOFILE)[1],) * 2)
     async with log_of(options) as (log, folder):
         kinds = await asked(folder, PROGRAM, "kinds", "--format", "json")
-        date, day = await day_of(folder, PROGRAM, await log.whole(), kinds)
+        date, day = await day_of_log(folder, PROGRAM, log, kinds)
         names, scheme = (host, "localhost", socket.gethostname(), *options.name), "https" if sealed or options.behind_proxy else "http"
         board = Board(desks, log, day, Sequencer(PROGRAM, folder, log, day), Answers(PROGRAM, folder, day), Events(log.id, day),
                       {name.lower() for name in names}, scheme, options.behind_proxy)
@@ -275,7 +279,8 @@ async def run(board: Board, address: str, date: str, notifier: Notifier) -> None
     views = Views(board.answers, board.events)
     async with asyncio.TaskGroup() as group:
         vital = [group.create_task(part) for part in (board.sequencer.run(), board.log.ended())]
-        parts = [board.events.run(), views.run(), board.watch(), board.audit.run(), ready(board, address), notifier.run(board.health.words, vital)]
+        parts = [board.events.run(), views.run(), board.watch(), board.audit.run(), Keeper(board.log, board.day).run(), ready(board, address),
+                 notifier.run(board.health.words, vital)]
         tasks = vital + [group.create_task(part) for part in parts + ([clock.run(date, board.records.take)] if date else [])]
         await ending.wait()
         notifier.stopping()

@@ -29,7 +29,7 @@ PLACE_SECONDS = 10.0
 RUN_SECONDS = 10.0
 # A run that takes so long in all is none that answers.
 STUCK_SECONDS = 3 * RUN_SECONDS
-START = 60.0
+START_SECONDS = 60.0
 # A question mustn't outlive a server that is killed, leaves the processors to the replies, has so much memory at most, and is the first
 # that the system kills where memory runs out.
 BESIDE = ("/usr/bin/setpriv", "--pdeathsig", "KILL", "/usr/bin/prlimit", f"--as={2 << 30}", "/usr/bin/choom", "-n", "1000", "--",
@@ -235,7 +235,7 @@ async def run(folder: str, seconds: float, *words: str) -> Answer:
     except TimeoutError:
         return Answer(504, b"", f"the program took longer than {seconds:.0f} seconds")
     finally:
-        await _ended(process)
+        await ended(process)
     if len(output) > MOST_OUTPUT or len(told) > MOST_OUTPUT:
         return Answer(422, b"", f"the answer has more than {MOST_OUTPUT >> 20} MiB; ask for less at once")
     return Answer(status, output, told.decode("ascii", "replace").partition("\n")[0])
@@ -260,12 +260,12 @@ def _kill(process: Process) -> None:
         os.killpg(process.pid, signal.SIGKILL)
 
 
-async def _ended(process: Process) -> None:
+async def ended(process: Process) -> None:
     """Ends a process that hasn't ended. Its pipes are read to their ends: before that the library doesn't say that it ended."""
-    assert process.stdout is not None and process.stderr is not None
-    if not (process.stdout.at_eof() and process.stderr.at_eof() and process.returncode is not None):
+    streams = [stream for stream in (process.stdout, process.stderr) if stream is not None]
+    if process.returncode is None or not all(stream.at_eof() for stream in streams):
         _kill(process)
-    for stream in (process.stdout, process.stderr):
+    for stream in streams:
         while await stream.read(READ):
             pass
     await process.wait()
@@ -273,7 +273,7 @@ async def _ended(process: Process) -> None:
 
 async def asked(folder: str, program: str, *words: str) -> bytes:
     """What the program prints at a start. Raises Fault."""
-    ran = await run(folder, START, same(program), *words)
+    ran = await run(folder, START_SECONDS, same(program), *words)
     if ran.status != 0:
         raise Fault(ran.told or f"{' '.join(words)} ended with {ran.status}")
     return ran.output

@@ -6,6 +6,7 @@ from collections import OrderedDict, defaultdict
 from collections.abc import Iterable, Mapping
 from weakref import WeakValueDictionary
 
+from board.digests import Digests
 from board.log import Record
 from board.words import Kinds, refuse
 
@@ -14,11 +15,13 @@ KEPT, KEPT_BYTES, MOST_FOUND = 2000, 64 << 20, 1000
 
 class Day:
     """All records by position, from the first to the moment that is now; `lines` are the accepted ones. `starts`: how often it began
-    anew; up to `doubtful` it may have had other records before. `changed` is set at each reply, and when it begins anew."""
+    anew; up to `doubtful` it may have had other records before. `changed` is set at each reply, and when it begins anew; `digested` when
+    there is a digest that the log may lack."""
 
     def __init__(self, kinds: Kinds, records: Iterable[Record], refused: Mapping[int, str]) -> None:
         self.kinds, self.starts, self.doubtful, self.changed = kinds, 0, -1, asyncio.Event()
         self.records, self.lines = list[Record](), list[str]()
+        self.digests, self.digested = Digests(), asyncio.Event()
         self._texts, self._bytes = OrderedDict[int, bytes](), 0
         self._waited_for: WeakValueDictionary[int, asyncio.Event] = WeakValueDictionary()
         self._of: defaultdict[tuple[str | None, str | None], list[Record]] = defaultdict(list)
@@ -29,6 +32,8 @@ class Day:
         """Begins anew with the records of another day. Whoever waits is told."""
         self.doubtful = max(self.doubtful, len(self.records))
         self.records, self.lines, self._of, self._bytes = day.records, day.lines, day._of, 0
+        self.digests = day.digests
+        self.digested.set()
         self._texts.clear()
         self.starts += 1
         self.changed.set()
@@ -49,12 +54,27 @@ class Day:
         """The next record's reply. Who waits for it is woken."""
         record = self._keep(record, word, len(changes))
         text = self._texts[record.position] = _text(record, changes)
+        if self.digests.add(text):
+            self.digested.set()
         self._bytes += len(text)
         while len(self._texts) > KEPT or self._bytes > KEPT_BYTES:
             self._bytes -= len(self._texts.popitem(last=False)[1])
         self.changed.set()
         if waited_for := self._waited_for.get(record.position):
             waited_for.set()
+
+    def reply_again(self, word: str | None, changes: list[object]) -> None:
+        """A reply of before the start, to the next record that had none here, for its digest alone."""
+        self.digests.add(_text(self.records[self.digests.position]._replace(word=word), changes))
+
+    def unchanged(self, position: int) -> None:
+        """The next records, up to a position, were replied to before the start and changed nothing."""
+        for record in self.records[self.digests.position:position]:
+            self.reply_again(record.word, [])
+
+    def unkept(self) -> dict[int, str]:
+        """The digests that the log isn't known to have."""
+        return {position: digest for position, digest in self.digests.made.items() if position not in self.digests.kept}
 
     def feed(self, accepted: int | None = None) -> str:
         """The accepted records, or the first of them, as a feed."""
@@ -69,6 +89,11 @@ class Day:
                 break
             texts += text
         return bytes(texts)
+
+    def at(self, position: int) -> str:
+        """When the record at a position was taken, '' before the first one. Where a fail-over has lost records, others may stand in their
+        places; by this they are told apart."""
+        return self.records[position - 1].at if 0 < position <= len(self.records) else ""
 
     def text(self, record: Record) -> bytes:
         """The reply to a record, `changes` null if they aren't kept."""

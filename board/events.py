@@ -120,20 +120,25 @@ class Events:
             self._view = view
             self._day.changed.set()
 
-    def _text(self, desk: str, since: int) -> bytes:
-        """What a desk gets of the records behind a position: `reset` if they aren't kept, or are too much."""
-        reset, records = self._event(len(self._day.records), "reset", b"{}"), self._day.kept_behind(since)
+    def _text(self, desk: str, since: int, is_first: bool = False) -> bytes:
+        """What a desk gets of the records behind a position: `reset` if they aren't kept, or are too much. is_first: nothing went before,
+        so it begins with `from`."""
+        reset, records = self._moment_event("reset", len(self._day.records)), self._day.kept_behind(since)
         if records is None:
             return reset
-        text = bytearray(b":\nid: %s-%d\n\n" % (self._log_id, since))
+        text = bytearray(self._moment_event("from", since) if is_first else b":\nid: %s-%d\n\n" % (self._log_id, since))
         for record in records:
             if record.changes > MOST_ROWS:
-                text += self._event(record.position, "reset", b'{"position":%d}' % record.position)
+                text += self._moment_event("reset", record.position)
             elif record.word is None or record.desk == desk:
                 text += self._event(record.position, "refused" if record.word else "reply", self._day.text(record))
             if len(text) > MOST_UNSENT // 2:
                 return reset
         return bytes(text)
+
+    def _moment_event(self, name: str, position: int) -> bytes:
+        """An event that says a position, and when its record was taken."""
+        return self._event(position, name, b'{"position":%d,"at":"%s"}' % (position, self._day.at(position).encode()))
 
     def _event(self, position: int, name: str, data: bytes) -> bytes:
         return b"id: %s-%d\nevent: %s\ndata: %s\n\n" % (self._log_id, position, name.encode(), data)
@@ -150,7 +155,7 @@ class Events:
         log_id, _, position = said.strip('"').rpartition("-")
         is_known = log_id.encode() == self._log_id and POSITION.fullmatch(position) and int(position) > self._day.doubtful
         stream.had = self._moment()
-        text = self._text(stream.desk.name, int(position) if is_known else -1 if said else stream.had[1])
+        text = self._text(stream.desk.name, int(position) if is_known else -1 if said else stream.had[1], True)
         if self._view[:2] == stream.had:
             stream.seen = stream.had
             text += self._view.text()

@@ -98,6 +98,13 @@ class Log(Protocol):
     async def whole(self) -> list[Record]:
         """All records, from the first. Raises Fault."""
 
+    async def digests(self) -> dict[int, str]:
+        """The digests of the replies, each by the position up to which it goes. Raises Fault."""
+
+    async def keep(self, said: Sequence[tuple[Record, str]]) -> dict[int, str]:
+        """Keeps digests of the replies up to these records, where there are none yet. Returns what is kept, without those of records that
+        the log hasn't. Raises Away, Fault."""
+
     async def sessions(self) -> dict[str, int]:
         """The number of each desk's first session that hasn't ended, where it isn't 0. Raises Away, Fault."""
 
@@ -130,8 +137,8 @@ class Kept:
         """Raises Fault if the log is another airport's or program's."""
         if (self.airport, made_by) != (airport, version):
             what, board = "airport file" if self.airport != airport else "program", f" --board {self._board}" if self._board else ""
-            raise Fault(f"{self.name} belongs to another {what}; for a new log: ./cdmboard export {self.name}{board} > day.csv"
-                        f" && ./cdmboard import AIRPORT NEWLOG day.csv{board}")
+            raise Fault(f"{self.name} belongs to another {what}; for a new log: cdmboard export {self.name}{board} > day.csv"
+                        f" && cdmboard import AIRPORT NEWLOG day.csv{board}")
 
 
 def audit_of(rows: Sequence[Sequence[Any]]) -> bytes:
@@ -139,6 +146,11 @@ def audit_of(rows: Sequence[Sequence[Any]]) -> bytes:
     names = ("at", "event", "desk", "address", "position", "count", "detail")
     found = [{name: said for name, said in zip(names, row) if said is not None} for row in rows]
     return "".join(json.dumps(one, separators=(",", ":")) + "\n" for one in found).encode()
+
+
+def digests_as_json(said: Sequence[tuple[Record, str]]) -> str:
+    """Digests of the replies up to some records, for a log's database: the rows of the records, each with its digest."""
+    return json.dumps([(*record[:5], digest) for record, digest in said])
 
 
 def records_of(name: str, after: int, rows: Sequence[Sequence[Any]]) -> list[Record]:

@@ -21,7 +21,8 @@ from urllib.parse import parse_qsl, urlencode, urlsplit
 from board import sqlite
 from board.commits import Commit, Commits
 from board.following import AWAY, Following, Seen
-from board.log import MOST_RECORDS, Accept, Away, Batch, Changed, Event, Kept, Record, accepted, audit_of, records_of
+from board.log import MOST_RECORDS, Accept, Away, Batch, Changed, Event, Kept, Record, accepted, audit_of, digests_as_json, records_of
+from board.notices import Notices
 from board.words import Fault, Problem, now_text, tell
 from board.writer import COMMIT_SECONDS, Outcome, nothing
 
@@ -45,8 +46,11 @@ TIMELINE = "SELECT ('x' || left(pg_walfile_name(pg_current_wal_lsn()), 8))::bit(
 COMMITTING = """SELECT count(*) FROM pg_stat_activity
                 WHERE application_name = $1 AND state = 'active' AND pid <> $2"""
 LAST = "SELECT coalesce(max(position), 0) FROM public.cdm_record WHERE board = $1"
-# Tables of an older version have no sessions.
-TABLES = "SELECT to_regclass('public.cdm_record') IS NOT NULL AND to_regclass('public.cdm_session') IS NOT NULL"
+# Tables of an older version have no sessions, or no digests.
+TABLES = "SELECT num_nulls(to_regclass('public.cdm_record'), to_regclass('public.cdm_session'), to_regclass('public.cdm_digest')) = 0"
+# Notices that another server took records, and ended sessions.
+CHANNELS = ("cdm_record", "cdm_session")
+DIGESTS = "SELECT position, digest FROM public.cdm_digest WHERE board = $1"
 SESSIONS = "SELECT desk, not_before FROM public.cdm_session WHERE board = $1"
 AUDIT = "SELECT at, event, desk, address, position, count, detail FROM public.cdm_audit WHERE board = $1 ORDER BY number"
 WRONG = {422: "this key came with another body before"}
@@ -213,7 +217,7 @@ class Link:
 
     async def listen(self, heard: Any) -> None:
         """Has a call made for each notice that another server took records. Raises Away, Refused."""
-        for channel in ("cdm_record", "cdm_session"):
+        for channel in CHANNELS:
             await finished(self._reader, READ, self._reader.add_listener(channel, heard))
 
     async def is_committing(self, name: str) -> bool:
@@ -241,8 +245,10 @@ class PostgresLog(Kept):
         # The transaction that is to run, and hasn't begun.
         self._ordered, self._order = asyncio.Event(), list[Commit]()
         self._following = Following()
+        self._notices = dict(zip(CHANNELS, (Notices(self.grown), Notices(self.signed_out)), strict=True))
         self._looked, self._looked_at = float("-inf"), now_text()
         self._keeping: asyncio.Task[None] | None = None
+        self._is_closing = False
 
     async def open(self, airport: bytes, version: str, accept: Accept = accepted) -> None:
         self.airport, self._version, self._accept = airport, version, accept
@@ -258,6 +264,7 @@ class PostgresLog(Kept):
         await asyncio.shield(self._keeping)
 
     async def close(self) -> None:
+        self._is_closing = True
         if self._keeping is not None:
             self._keeping.cancel()
             await asyncio.gather(self._keeping, return_exceptions=True)
@@ -283,6 +290,15 @@ class PostgresLog(Kept):
             records = await self._read(0, MOST_RECORDS, 60.0)
             if records is not None:
                 return records
+            await asyncio.sleep(0.05)
+
+    async def digests(self) -> dict[int, str]:
+        """As of a file; waits for the database."""
+        while True:
+            await self._linked.wait()
+            if (link := self._link) is not None:
+                with contextlib.suppress(Away):
+                    return dict(await link.read(DIGESTS, self._board))
             await asyncio.sleep(0.05)
 
     async def _read(self, after: int, most: int, seconds: float = READ) -> list[Record] | None:
@@ -315,6 +331,13 @@ class PostgresLog(Kept):
         async with database_of(self._url) as database:
             await finished(database, COMMIT_SECONDS, database.fetchval("SELECT public.cdm_sign_out($1, $2)", self._board, desk))
             await finished(database, COMMIT_SECONDS, database.execute("SELECT pg_notify('cdm_session', $1)", self._board))
+
+    async def keep(self, said: Sequence[tuple[Record, str]]) -> dict[int, str]:
+        """As of a file, by a connection of its own."""
+        async with database_of(self._url) as database:
+            query = "SELECT public.cdm_keep($1, $2)"
+            kept = json.loads(await finished(database, COMMIT_SECONDS, database.fetchval(query, self._board, digests_as_json(said))))
+            return {int(position): digest for position, digest in kept.items()}
 
     async def note(self, events: list[Event]) -> int:
         """As of a file, by a connection of its own."""
@@ -388,6 +411,9 @@ class PostgresLog(Kept):
                 self._linked.clear()
                 link.end()
                 self._unlink()
+            # Where a connection breaks at the moment of the end, the library's group of tasks forgets that it was cancelled.
+            if self._is_closing:
+                return
             for pause in chain((0.1, 0.1, 0.2, 0.4), repeat(1.0)):
                 await asyncio.sleep(pause)
                 with contextlib.suppress(Away):
@@ -434,15 +460,12 @@ class PostgresLog(Kept):
             opened.callback(writer.terminate)
             link = Link(reader, writer)
             try:
-                await link.listen(lambda _, pid, channel, board: self._heard(channel) if board == self._board else None)
+                await link.listen(lambda _, pid, channel, board: self._notices[channel].heard() if board == self._board else None)
                 await self._check(link)
             except Refused as why:
                 raise Away(why) from None
             opened.pop_all()
         return link
-
-    def _heard(self, channel: str) -> None:
-        (self.grown if channel == "cdm_record" else self.signed_out).set()
 
     async def _check(self, link: Link) -> None:
         """Whether a link leads to the log, and whether it has the last row that was handed on. Raises Away,
@@ -454,7 +477,7 @@ class PostgresLog(Kept):
         if await link.write("SELECT current_setting('synchronous_commit')") == "off":
             raise Away("synchronous_commit is off for this role or database, so that a crash loses answered records")
         if not (await link.read(TABLES))[0][0]:
-            raise Fault(f"{self.name} has no tables for a log, or older ones; ./cdmboard log init URL makes them")
+            raise Fault(f"{self.name} has no tables for a log, or older ones; cdmboard log init URL makes them")
         row = "SELECT id, airport, version, secret FROM public.cdm_log WHERE board = $1"
         if not await link.read(row, self._board):
             await self._accept()
@@ -513,6 +536,12 @@ async def read_log(url: str, board: str) -> tuple[bytes, str, list[Record]]:
         return row[0], row[1], records_of(name_of(url), 0, rows)
 
 
+async def read_digests(url: str, board: str) -> dict[int, str]:
+    """The digests of a log. Raises Fault."""
+    async with database_of(url) as database:
+        return dict(await database.fetch(DIGESTS, board))
+
+
 async def read_audit(url: str, board: str) -> bytes:
     """The audit of a log, one JSON object a line. Raises Fault."""
     async with database_of(url) as database:
@@ -523,8 +552,10 @@ async def copy_log(url: str, board: str, copy: str) -> None:
     """A copy of a whole log in a file of SQLite that is empty, with an id of its own. Records are never changed, so what is read here is of
     one moment. Raises Fault."""
     airport, version, _ = await read_log(url, board)
+    digests = await read_digests(url, board)
     async with database_of(url) as database:
         rows = await database.fetch("SELECT board, position, desk, key, n, lines, role, line, at FROM public.cdm_record"
                                     " WHERE board = $1 ORDER BY position", board)
         audit = await database.fetch(AUDIT, board)
-    sqlite.write_log(copy, (board, secrets.token_hex(8), airport, version), [tuple(row) for row in rows], [tuple(row) for row in audit])
+    sqlite.write_log(copy, (board, secrets.token_hex(8), airport, version), [tuple(row) for row in rows],
+                     list(digests.items()), [tuple(row) for row in audit])

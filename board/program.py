@@ -4,6 +4,8 @@ import os
 
 from board.words import Fault
 
+# Bytes of one reply that it prints.
+MOST_REPLY = 8 << 20
 # Of each program that was started: its file as it was last seen, and the digest of its first start.
 _SEEN = dict[str, tuple[tuple[int, ...], str]]()
 

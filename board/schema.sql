@@ -1,4 +1,4 @@
--- The log of boards in PostgreSQL (14 or newer). `./cdmboard log init URL` runs this file, in one transaction, as a superuser or as the
+-- The log of boards in PostgreSQL (14 or newer). `cdmboard log init URL` runs this file, in one transaction, as a superuser or as the
 -- database's owner with CREATEROLE; run again, it changes nothing but brings older tables up to date. A server's own user gets all that
 -- it needs by `GRANT cdm_server TO user`.
 DO $$ BEGIN
@@ -31,6 +31,9 @@ CREATE TABLE IF NOT EXISTS public.cdm_record (
 -- Sessions of a desk are numbered from 0; those before `not_before` have ended.
 CREATE TABLE IF NOT EXISTS public.cdm_session (
     board text NOT NULL, desk text NOT NULL, not_before integer NOT NULL, PRIMARY KEY (board, desk));
+-- Digests of all replies up to a position, by which a program that replies otherwise is found.
+CREATE TABLE IF NOT EXISTS public.cdm_digest (
+    board text NOT NULL, position integer NOT NULL, digest text NOT NULL CHECK (digest ~ '^[0-9a-f]{64}$'), PRIMARY KEY (board, position));
 -- Who did what, and from where; for records the first position and how many there are.
 CREATE TABLE IF NOT EXISTS public.cdm_audit (
     board text NOT NULL, number bigint GENERATED ALWAYS AS IDENTITY PRIMARY KEY, at text NOT NULL, event text NOT NULL, desk text,
@@ -110,6 +113,26 @@ BEGIN
     RETURN count_kept;
 END $$;
 
+-- Keeps digests of the replies up to some records, where there are none yet: an array of [position, desk, role, line, at, digest]. Returns
+-- those that are kept then. What is said of a record that isn't here is a digest of another past, and neither kept nor answered. Its commit
+-- waits for no standby: a digest that is lost is made again.
+CREATE OR REPLACE FUNCTION public.cdm_keep(of_board text, said jsonb)
+    RETURNS jsonb LANGUAGE plpgsql VOLATILE SECURITY DEFINER SET search_path = pg_catalog, pg_temp AS $$
+DECLARE
+    kept jsonb;
+BEGIN
+    PERFORM set_config('synchronous_commit', 'local', true);
+    INSERT INTO public.cdm_digest
+        SELECT board, position, value ->> 5 FROM jsonb_array_elements(said) JOIN public.cdm_record ON position = (value ->> 0)::integer
+            AND desk = value ->> 1 AND role = value ->> 2 AND line = value ->> 3 AND at = value ->> 4
+        WHERE board = of_board ON CONFLICT DO NOTHING;
+    SELECT coalesce(jsonb_object_agg(position, digest), '{}') INTO kept
+        FROM public.cdm_digest JOIN public.cdm_record USING (board, position) JOIN jsonb_array_elements(said) ON position = (value ->> 0)::integer
+            AND desk = value ->> 1 AND role = value ->> 2 AND line = value ->> 3 AND at = value ->> 4
+        WHERE board = of_board;
+    RETURN kept;
+END $$;
+
 -- Ends all sessions of a desk, at every server of the board. Returns the number of its next session.
 CREATE OR REPLACE FUNCTION public.cdm_sign_out(of_board text, of_desk text)
     RETURNS integer LANGUAGE sql VOLATILE SECURITY DEFINER SET search_path = pg_catalog, pg_temp AS $$
@@ -121,14 +144,16 @@ ALTER TABLE public.cdm_log OWNER TO cdm_owner;
 ALTER TABLE public.cdm_record OWNER TO cdm_owner;
 ALTER TABLE public.cdm_session OWNER TO cdm_owner;
 ALTER TABLE public.cdm_audit OWNER TO cdm_owner;
+ALTER TABLE public.cdm_digest OWNER TO cdm_owner;
 ALTER FUNCTION public.cdm_append(text, jsonb, text, bytea, text) OWNER TO cdm_owner;
 ALTER FUNCTION public.cdm_note(text, jsonb) OWNER TO cdm_owner;
+ALTER FUNCTION public.cdm_keep(text, jsonb) OWNER TO cdm_owner;
 ALTER FUNCTION public.cdm_sign_out(text, text) OWNER TO cdm_owner;
-REVOKE ALL ON public.cdm_log, public.cdm_record, public.cdm_session, public.cdm_audit FROM PUBLIC, cdm_server;
-REVOKE ALL ON FUNCTION public.cdm_append(text, jsonb, text, bytea, text), public.cdm_note(text, jsonb),
+REVOKE ALL ON public.cdm_log, public.cdm_record, public.cdm_session, public.cdm_audit, public.cdm_digest FROM PUBLIC, cdm_server;
+REVOKE ALL ON FUNCTION public.cdm_append(text, jsonb, text, bytea, text), public.cdm_note(text, jsonb), public.cdm_keep(text, jsonb),
     public.cdm_sign_out(text, text) FROM PUBLIC;
-GRANT SELECT ON public.cdm_log, public.cdm_record, public.cdm_session, public.cdm_audit TO cdm_server;
-GRANT EXECUTE ON FUNCTION public.cdm_append(text, jsonb, text, bytea, text), public.cdm_note(text, jsonb),
+GRANT SELECT ON public.cdm_log, public.cdm_record, public.cdm_session, public.cdm_audit, public.cdm_digest TO cdm_server;
+GRANT EXECUTE ON FUNCTION public.cdm_append(text, jsonb, text, bytea, text), public.cdm_note(text, jsonb), public.cdm_keep(text, jsonb),
     public.cdm_sign_out(text, text) TO cdm_server;
 GRANT USAGE ON SCHEMA public TO cdm_server;
 -- Nobody else has anything to do in this database.

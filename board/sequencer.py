@@ -9,16 +9,17 @@ import time
 from asyncio.subprocess import PIPE, Process
 from pathlib import Path
 
-from board.answers import START, day_of
+from board.answers import START_SECONDS
 from board.day import Day
 from board.life import End, Keep, Life, Ready
 from board.log import Changed, Log
 from board.metrics import RECORDS
-from board.program import same
+from board.program import MOST_REPLY, same
+from board.replies import day_of_log
 from board.words import Fault, tell
 
-# Bytes of one reply, and records that are handed on together.
-MOST_REPLY, MOST_AHEAD = 8 << 20, 256
+# Records that are handed on together.
+MOST_AHEAD = 256
 # Seconds for a reply, and until a process that found no room is started again.
 SECONDS, ROOM_SECONDS = 10.0, 1.0
 # Bytes that the journal of a process may need beyond the day that it begins with.
@@ -44,7 +45,7 @@ class Sequencer:
                 await self._serve_somewhere()
             except Changed as changed:
                 tell(f"cdmboard: {changed}")
-                _, day = await day_of(self._folder, self._program, await self._log.whole(), self._day.kinds.text)
+                _, day = await day_of_log(self._folder, self._program, self._log, self._day.kinds.text)
                 self._day.restart(day)
             except (Ended, ConnectionError) as end:
                 tell(f"cdmboard: the sequencer: {end}")
@@ -92,7 +93,7 @@ class Sequencer:
 
     async def _hand_on(self, process: Process, lines: asyncio.StreamWriter, replies: asyncio.StreamReader) -> None:
         """Lines in, replies out. Raises Ended."""
-        self._do(self._life.heard(await _reply(replies, START)))
+        self._do(self._life.heard(await _reply(replies, START_SECONDS)))
         while True:
             if process.returncode is not None:
                 raise Ended(f"it ended with {process.returncode}")

@@ -16,7 +16,7 @@ from typing import Any
 from urllib.parse import quote
 
 from board.commits import Commit, Commits
-from board.log import MOST_EVENTS, MOST_RECORDS, Accept, Away, Batch, Event, Kept, Record, accepted, audit_of, records_of
+from board.log import MOST_EVENTS, MOST_RECORDS, Accept, Away, Batch, Event, Kept, Record, accepted, audit_of, digests_as_json, records_of
 from board.words import Fault, Problem, now_text, tell
 from board.writer import COMMIT_SECONDS, Outcome
 
@@ -40,9 +40,19 @@ CREATE TABLE IF NOT EXISTS cdm_session (
 CREATE TABLE IF NOT EXISTS cdm_audit (
     board TEXT NOT NULL, number INTEGER PRIMARY KEY, at TEXT NOT NULL, event TEXT NOT NULL, desk TEXT, address TEXT,
     position INTEGER, count INTEGER, detail TEXT);
+CREATE TABLE IF NOT EXISTS cdm_digest (
+    board TEXT NOT NULL, position INTEGER NOT NULL, digest TEXT NOT NULL, PRIMARY KEY (board, position)) WITHOUT ROWID;
 COMMIT;
 """
 AUDIT = "SELECT at, event, desk, address, position, count, detail FROM cdm_audit WHERE board = ? ORDER BY number"
+DIGESTS = "SELECT position, digest FROM cdm_digest WHERE board = ?"
+# What a server says of digests, as JSON, with the records up to which they go; of records that the log hasn't, it is no digest of this log.
+SAID = """
+FROM json_each(?) JOIN cdm_record ON position = json_extract(value, '$[0]') AND desk = json_extract(value, '$[1]')
+    AND role = json_extract(value, '$[2]') AND line = json_extract(value, '$[3]') AND at = json_extract(value, '$[4]')
+WHERE board = ?"""
+KEEP = f"INSERT INTO cdm_digest SELECT board, position, json_extract(value, '$[5]') {SAID} ON CONFLICT DO NOTHING"
+KEPT = f"SELECT position, digest FROM cdm_digest WHERE position IN (SELECT position {SAID}) AND board = ?"
 LOG = "SELECT id, airport, version, secret FROM cdm_log WHERE board = ?"
 ROWS = "SELECT position, desk, role, line, at FROM cdm_record WHERE board = ? AND position > ? ORDER BY position LIMIT ?"
 LOCKED = (sqlite3.SQLITE_BUSY, sqlite3.SQLITE_LOCKED)
@@ -111,7 +121,7 @@ class FileLog(Kept):
         self._database = sqlite3.connect(self.name, timeout=BUSY_SECONDS, isolation_level=None, check_same_thread=False)
         self._database.executescript(PRAGMAS)
         # A log that is complete is opened without a lock, which another program may hold for a while.
-        if not self._database.execute("SELECT 1 FROM sqlite_master WHERE name = 'cdm_audit'").fetchone():
+        if not self._database.execute("SELECT 1 FROM sqlite_master WHERE name = 'cdm_digest'").fetchone():
             self._database.executescript(SCHEMA)
         # It stays open: who closes a file takes away each of the process's locks on it, SQLite's too.
         self._index = os.open(f"{self.name}-shm", os.O_RDWR | os.O_CLOEXEC)
@@ -254,6 +264,17 @@ class FileLog(Kept):
         except sqlite3.Error as fault:
             raise Fault(f"{self.name}: {fault}", status_of(fault)) from None
 
+    async def digests(self) -> dict[int, str]:
+        """The digests of the replies, each by the position up to which it goes. Raises Fault."""
+        return dict(await self._call(DIGESTS, self._board))
+
+    async def keep(self, said: Sequence[tuple[Record, str]]) -> dict[int, str]:
+        """Keeps digests of the replies up to these records, where there are none yet. Returns what is kept, without those of records that
+        the log hasn't. Raises Away, Fault."""
+        told = digests_as_json(said)
+        await self._call(KEEP, told, self._board)
+        return dict(await self._call(KEPT, told, self._board, self._board))
+
     async def sessions(self) -> dict[str, int]:
         """The number of each desk's first session that hasn't ended, where it isn't 0. Raises Fault."""
         return dict(await self._call("SELECT desk, not_before FROM cdm_session WHERE board = ?", self._board))
@@ -358,6 +379,16 @@ async def read_log(path: str, board: str) -> tuple[bytes, str, list[Record]]:
         raise Fault(f"{path} is no log: {fault}") from None
 
 
+async def read_digests(path: str, board: str) -> dict[int, str]:
+    """The digests of a log; of one that was last served by an older version none. Raises Fault."""
+    try:
+        with contextlib.closing(sqlite3.connect(f"file:{quote(path)}?mode=ro", uri=True)) as database:
+            has_digests = database.execute("SELECT 1 FROM sqlite_master WHERE name = 'cdm_digest'").fetchone()
+            return dict(database.execute(DIGESTS, (board,)).fetchall()) if has_digests else {}
+    except sqlite3.Error as fault:
+        raise Fault(f"{path} is no log: {fault}") from None
+
+
 async def read_audit(path: str, board: str) -> bytes:
     """The audit of a log, one JSON object a line. Raises Fault."""
     try:
@@ -386,13 +417,15 @@ async def copy_log(path: str, board: str, copy: str) -> None:
         raise Fault(f"{copy}: {fault}", status_of(fault)) from None
 
 
-def write_log(copy: str, log: Sequence[object], rows: Sequence[Sequence[object]], audit: Sequence[Sequence[object]]) -> None:
+def write_log(copy: str, log: Sequence[object], rows: Sequence[Sequence[object]], digests: Sequence[Sequence[object]],
+              audit: Sequence[Sequence[object]]) -> None:
     """A log in a file that is empty, of the rows of its tables. Raises Fault."""
     try:
         with contextlib.closing(sqlite3.connect(copy, isolation_level=None)) as database:
             database.executescript(PRAGMAS + SCHEMA + "BEGIN;")
             database.execute("INSERT INTO cdm_log (board, id, airport, version) VALUES (?, ?, ?, ?)", log)
             database.executemany("INSERT INTO cdm_record VALUES (?, ?, ?, ?, ?, ?, ?, ?, ?)", rows)
+            database.executemany("INSERT INTO cdm_digest VALUES (?, ?, ?)", [(log[0], *row) for row in digests])
             database.executemany("INSERT INTO cdm_audit (board, at, event, desk, address, position, count, detail)"
                                  " VALUES (?, ?, ?, ?, ?, ?, ?, ?)", [(log[0], *row) for row in audit])
             database.execute("COMMIT")

@@ -105,7 +105,7 @@ export class Answers extends Knowing {
   takeList(ask, list, event) {
     const own = { who: () => this.takeWho(list[0]), kinds: () => this.takeKinds(list), plan: () => this.takePlan(list, event),
       history: () => this.takeHistory(list, event), between: () => this.takeBetween(list, event),
-      past: () => this.takePast(list, event), ahead: () => this.takeAhead(list, event) }[ask.name];
+      ahead: () => this.takeAhead(list, event) }[ask.name];
     if (own) return own();
     const question = this.questions.table.get(ask.name);
     if (!question.isWanted() || this.need) return true;

@@ -1,22 +1,25 @@
 // Part of the page's machine: the events, lost and found again.
 import { Chunks, momentOf } from './chunks.js';
-import { isSame } from './day.js';
-import { REOPEN, START_WAIT, SOON, HEALTH, MOST_QUEUED, VIEWS } from './limits.js';
+import { OPENING, REOPEN, START_WAIT, SOON, HEALTH, MOST_QUEUED, VIEWS } from './limits.js';
 import { pauseAfter, spread } from './questions.js';
-import { Reading } from './reading.js';
+import { Reading, isSameMoment } from './reading.js';
+
+/** Events whose data say when the record of their moment was taken. */
+const OF_MOMENT = ['from', 'reset', 'reply', 'refused'];
 
 export class Following extends Reading {
-  /** Opens the events behind the rows' moment. */
+  /** Opens the events behind the rows' moment. Where there are no rows yet, the events say of which moment or a later one the plan is to be. */
   open() {
-    this.stream = { number: this.number += 1, isOpen: false, heardAt: this.at, chunks: new Chunks(), moment: { ...this.rows }, lacks: 0 };
+    const { rows } = this;
+    this.stream = { number: this.number += 1, isOpen: false, heardAt: this.at, chunks: new Chunks(), isTold: false, moment: rows && { ...rows }, lacks: 0 };
     // What is waited for is told anew by this stream.
     if (this.need) this.dropNeed();
-    this.order({ do: 'open', stream: this.stream.number, since: `${this.rows.log}-${this.rows.position}`, role: this.role });
+    this.order({ do: 'open', stream: this.stream.number, since: rows ? `${rows.log}-${rows.position}` : '', role: this.role });
   }
 
   closeStream() {
     if (this.stream) this.order({ do: 'close', stream: this.stream.number });
-    Object.assign(this, { stream: null, queue: [], view: null, doubt: null });
+    Object.assign(this, { stream: null, queue: [], view: null });
   }
 
   isMine({ stream }) {
@@ -35,20 +38,7 @@ export class Following extends Reading {
     this.wantPanels();
     this.questions.want('operators', this.at + spread(START_WAIT, this.chance()));
     if (this.history) this.questions.want('history', this.at);
-    this.doubtPast();
-  }
-
-  /**
-   * A server that began anew may have another past than the one of the rows, under the same name. So its record at their position is
-   * compared with the one that is known, before anything is put over the rows; where none is known, the plan is read anew.
-   */
-  doubtPast() {
-    const isKnown = this.mark?.position === this.rows.position && !this.isBroken;
-    const { oldSince } = this;
-    if (!isKnown) this.readAnew();
-    this.oldSince = oldSince;
-    this.doubt = isKnown ? this.mark : null;
-    if (this.doubt) this.questions.want('past', this.at);
+    if (!this.rows) this.questions.want('plan', this.at + OPENING); // if they don't say where they begin
   }
 
   onEnded(event) {
@@ -61,6 +51,7 @@ export class Following extends Reading {
     this.reopenAt = this.at + pauseAfter(REOPEN, this.failures, event.retry, this.chance());
     if (event.retry > 0) this.eventsAsTold = this.reopenAt;
     this.failures += 1;
+    if (!this.rows) this.questions.want('plan', this.at); // it may be that only events don't come through
     this.losing(event.detail);
   }
 
@@ -85,7 +76,7 @@ export class Following extends Reading {
         this.takeEvent(told, replies);
       } catch (fault) {
         this.order({ do: 'say', what: 'fault', part: 'events', detail: fault.message });
-        this.readAnew();
+        if (this.stream.moment) this.readAnew();
       }
     }
     if (replies.length) this.apply(replies);
@@ -94,20 +85,35 @@ export class Following extends Reading {
   /** One event of the server; replies that are of the rows' log are gathered. */
   takeEvent({ id, name, data }, replies) {
     const moment = momentOf(id);
-    const isOther = moment !== null && moment.log !== this.stream.moment.log;
-    if (moment) this.stream.moment = moment;
+    const was = this.stream.moment;
+    const told = OF_MOMENT.includes(name) ? JSON.parse(data) : null;
+    if (moment) this.stream.moment = { ...moment, lastAt: told?.at ?? (moment.position === was?.position ? was.lastAt : undefined) };
     if (name === 'end') this.order({ do: 'say', what: 'end' });
-    else if (name === 'reset' || isOther) {
+    else if (name === 'from') this.takeFrom();
+    else if (name === 'reset' || moment && was && moment.log !== was.log) {
+      this.stream.isTold = true;
       this.apply(replies.splice(0));
       this.readAnew();
     } else if (name === 'view') {
       this.apply(replies.splice(0));
       this.takeView(JSON.parse(data));
-    } else if (name === 'reply') this.takeReply(JSON.parse(data), replies);
+    } else if (name === 'reply') this.takeReply(told, replies);
+  }
+
+  /**
+   * Where the events begin. A server that began anew may have another past than the one of the rows, under the same name: then another
+   * record stands in the place of the rows' last one.
+   */
+  takeFrom() {
+    const { rows, stream } = this;
+    stream.isTold = true;
+    if (!rows) this.readFirst();
+    else if (isSameMoment(rows, stream.moment) && !this.isBroken) this.oldSince = null;
+    else this.readAnew(!isSameMoment(rows, stream.moment));
   }
 
   takeReply(reply, replies) {
-    if (this.need || this.doubt) {
+    if (this.need || !this.rows) {
       this.queue.push(reply);
       if (this.queue.length > MOST_QUEUED) this.readAnew();
     } else {
@@ -115,27 +121,22 @@ export class Following extends Reading {
     }
   }
 
-  /** Whether a record that the rows are of has made them: else they are of another past of its log. */
-  isSameRows({ changes }) {
-    return (changes ?? []).every((row) => isSame(row, this.day.rows.get(row.flight) ?? {}));
-  }
-
   /** Puts replies over the rows, in their order. */
   apply(replies) {
+    if (!this.rows) return;
     const shown = [];
     for (const reply of replies) {
       if (!reply.changes && reply.position > this.rows.position) {
         this.readAnew();
         break;
       }
-      if (reply.position === this.rows.position && !this.isSameRows(reply)) {
+      if (reply.position === this.rows.position && reply.at !== this.rows.lastAt) { // of another past
         this.readAnew(true);
         break;
       }
       const changed = this.day.apply(reply);
       if (!changed) continue;
-      this.rows.position = this.day.position;
-      this.mark = reply;
+      Object.assign(this.rows, { position: this.day.position, lastAt: reply.at });
       shown.push({ reply, changed });
     }
     if (shown.length) this.order({ do: 'show', what: 'replies', replies: shown });

@@ -25,8 +25,7 @@ export class Knowing {
     /** @type {Map<string, number>} of which position the answer to a question is that is shown */
     this.had = new Map();
     Object.assign(this, { totals: null, held: null, view: null, operators: false, history: null, seen: Infinity });
-    // The last record that is known of the rows' past; the one that is compared with the server's; whether a box has failed to show rows.
-    Object.assign(this, { mark: null, doubt: null, isBroken: false, faults: 0, lostSince: null, hasStale: false });
+    Object.assign(this, { isBroken: false, faults: 0, lostSince: null, hasStale: false }); // isBroken: a box has failed to show rows
     this.panel = { open: null, flight: null };
     this.causesOf = { isOpen: false, by: 'operator' };
   }

@@ -5,7 +5,7 @@ import { QUIET, OPENING, RECORD_DEADLINE, SOON, LOG } from './limits.js';
 /**
  * What comes in. Each has `at`, milliseconds of a clock that only goes on, and `now`, milliseconds of the server's clock as far as it is
  * known, for words alone. `type` is the name of the method that takes it:
- * start; wake; opened {stream}; chunk {stream, text}; ended {stream, status, detail, retry}; answer {id, status, log, position, text,
+ * start; wake; opened {stream}; chunk {stream, text}; ended {stream, status, detail, retry}; answer {id, status, log, position, lastAt, text,
  * stale, retry, detail, isOwn}; heard {status, detail, stale}: of a question that a box asked by itself; send {form, line, key};
  * signIn {desk, token}; signOut; role {role}; tab; panel {open, flight}; causes {isOpen, by}; seen {position}; fault {part, detail}.
  * What goes out: ask {id, name, path, method, body, accept, after, key, role}, abandon {id}, open {stream, since, role}, close {stream},
@@ -13,7 +13,8 @@ import { QUIET, OPENING, RECORD_DEADLINE, SOON, LOG } from './limits.js';
  * @typedef {{type: string, at: number, now: number} & Record<string, any>} Incoming
  * @typedef {{do: 'ask' | 'abandon' | 'open' | 'close' | 'wait' | 'show' | 'say' | 'enable' | 'tell'} & Record<string, any>} Order
  * @typedef {'new' | 'reading' | 'live' | 'behind' | 'lost' | 'out'} State
- * @typedef {{log: string, position: number}} Moment
+ * A moment of a log; `lastAt`: when its record was taken, as far as it is known. A log that has lost records has others in their places.
+ * @typedef {{log: string, position: number, lastAt?: string}} Moment
  */
 
 export class Machine extends Following {
@@ -22,7 +23,7 @@ export class Machine extends Following {
     if (this.isOut) return 'out';
     if (this.lost) return 'lost';
     if (!this.rows) return 'new';
-    if (this.need || this.doubt || !this.stream?.isOpen) return 'reading';
+    if (this.need || !this.stream?.isTold) return 'reading';
     return this.staleSince ? 'behind' : 'live';
   }
 
@@ -36,9 +37,8 @@ export class Machine extends Following {
       { name: 'plan', isApart: true, isOfDay: true, isWanted: () => this.rows === null || this.need !== null, path: () => '/v1/plan.json' },
       { name: 'health', isApart: true, isWanted: isOn, path: () => '/health' },
       { name: 'history', isApart: true, isOfDay: true, isWanted: () => isOn() && this.history !== null, path: () => `/v1/records?since=${this.history.since}` },
-      { name: 'past', isApart: true, isOfDay: true, isWanted: () => isOn() && this.doubt !== null, path: () => `/v1/records?since=${this.doubt.position - 1}` },
-      { name: 'between', isApart: true, isOfDay: true, isWanted: () => isOn() && this.held !== null, path: () => `/v1/records?since=${this.rows.position}` },
-      { name: 'ahead', isApart: true, isOfDay: true, isWanted: () => isOn() && !this.need && !this.doubt && this.isAhead,
+      { name: 'between', isApart: true, isOfDay: true, isWanted: () => isOn() && this.held !== null, path: () => `/v1/records?since=${Math.max(0, this.rows.position - 1)}` },
+      { name: 'ahead', isApart: true, isOfDay: true, isWanted: () => isOn() && !this.need && this.isAhead,
         path: () => `/v1/records?since=${this.stream.moment.position}`, after: () => this.stream.moment.position },
       { name: 'next', isOfDay: true, isWanted: isOn, path: () => '/v1/next.json' },
       { name: 'why', isOfDay: true, isWanted: () => isOn() && Boolean(flight()) && this.day.rows.has(flight()), path: () => `/v1/why/${flight()}.json` },
@@ -76,7 +76,7 @@ export class Machine extends Following {
       this.onEnded({ stream: stream.number, status: 0, detail: 'nothing is heard from the server', retry: 0 });
     }
     for (const ask of this.asks.values()) if (this.at >= ask.until) this.giveUp(ask);
-    if (this.who && this.rows && !this.isOut && !this.stream && this.at >= this.reopenAt) this.open();
+    if (this.who && !this.isOut && !this.stream && this.at >= this.reopenAt) this.open();
     for (const name of this.questions.due(this.at)) this.ask(name);
     this.sayState();
     this.wait();
@@ -87,7 +87,7 @@ export class Machine extends Following {
     let until = this.questions.next();
     for (const ask of this.asks.values()) until = Math.min(until, ask.until);
     if (this.stream) until = Math.min(until, this.stream.heardAt + (this.stream.isOpen ? QUIET : OPENING));
-    else if (this.who && this.rows && !this.isOut) until = Math.min(until, this.reopenAt);
+    else if (this.who && !this.isOut) until = Math.min(until, this.reopenAt);
     if (until === this.wakeAt) return;
     this.wakeAt = until;
     this.order({ do: 'wait', until });

@@ -47,7 +47,7 @@ export function problemOf(answer, text) {
  * @param {AbortSignal} [signal]
  */
 export async function request({ path, method = 'GET', body, ...more }, signal) {
-  const none = { status: 0, text: '', log: '', position: NaN, stale: undefined, retry: 0, isOwn: false };
+  const none = { status: 0, text: '', log: '', position: NaN, lastAt: undefined, stale: undefined, retry: 0, isOwn: false };
   let answer;
   try {
     answer = await fetch(path, { method, body, headers: headersOf(more), signal, credentials: 'same-origin' });
@@ -64,7 +64,7 @@ export async function request({ path, method = 'GET', body, ...more }, signal) {
   if (!answer.ok) return { ...none, status: answer.status, ...problemOf(answer, text) };
   const [, log = '', position = 'NaN'] = /^(?:W\/)?"(.+)-(\d+)"$/.exec(answer.headers.get('ETag') ?? '') ?? [];
   const stale = position === 'NaN' ? undefined : answer.headers.get('Cdm-Stale-Since');
-  return { ...none, status: answer.status, text, log, position: Number(position), stale, detail: '', isOwn: true };
+  return { ...none, status: answer.status, text, log, position: Number(position), lastAt: answer.headers.get('Cdm-At') ?? undefined, stale, detail: '', isOwn: true };
 }
 
 /** One question of a box of its own. Raises Problem. */

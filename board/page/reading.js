@@ -3,6 +3,9 @@ import { REOPEN, SOON, MOST_STRANGERS, MOST_STALE, RECENT, MOST_RECENT } from '.
 import { pauseAfter } from './questions.js';
 import { Views } from './views.js';
 
+/** Whether two moments are of one past of a log: the same record stands at the same position. One that doesn't say when it was taken is. */
+export const isSameMoment = (one, other) => one.log === other.log && one.position === other.position && (one.lastAt ?? other.lastAt) === (other.lastAt ?? one.lastAt);
+
 export class Reading extends Views {
   /**
    * The server can't say what came, or this page didn't understand it: the whole plan is to be read, of the stream's moment or a later
@@ -11,13 +14,27 @@ export class Reading extends Views {
    */
   readAnew(isOther = false) {
     const { moment } = this.stream;
-    const isGone = isOther || moment.log !== this.rows.log || moment.position < this.rows.position || this.need?.isOther === true;
+    const isBefore = this.rows !== null && (moment.log !== this.rows.log || moment.position < this.rows.position);
+    const isGone = isOther || isBefore || this.need?.isOther === true;
     this.need = { ...moment, isOther: isGone };
-    Object.assign(this, { queue: [], view: null, held: null, doubt: null, staleReads: 0 });
-    this.oldSince ??= this.now;
+    Object.assign(this, { queue: [], view: null, held: null, staleReads: 0 });
+    if (this.rows) this.oldSince ??= this.now;
     for (const ask of [...this.asks.values()]) if (this.questions.table.get(ask.name)?.isOfDay) this.askAgain(ask);
     const pause = this.faults ? pauseAfter(REOPEN, this.faults, 0, this.chance()) : this.chance() * SOON / 2;
     this.questions.want('plan', this.at + pause);
+  }
+
+  /** The first plan is to be of the moment at which the events begin, or of a later one. */
+  readFirst() {
+    this.need = { ...this.stream.moment, isOther: false };
+    for (const ask of [...this.asks.values()]) if (ask.name === 'plan') this.abandon(ask);
+    this.questions.wantNow('plan', this.at);
+  }
+
+  /** The rows came before the events said where they begin: they are opened behind the rows. */
+  reopen() {
+    this.closeStream();
+    this.reopenAt = Math.max(this.at, this.eventsAsTold);
   }
 
   askAgain(ask) {
@@ -35,7 +52,7 @@ export class Reading extends Views {
   takePlan(list, answer) {
     const [plan] = list;
     if (!Array.isArray(plan?.flights)) throw new Error('no plan');
-    const moment = { log: answer.log, position: answer.position };
+    const moment = { log: answer.log, position: answer.position, lastAt: answer.lastAt };
     if (!this.isWanted(moment, answer)) return false;
     const isOther = this.rows !== null && (moment.log !== this.rows.log || this.need?.isOther === true);
     const since = this.rows && !isOther ? Math.max(0, this.rows.position - RECENT) : null; // the last ones may be of another past
@@ -44,6 +61,7 @@ export class Reading extends Views {
     if (isWhole) for (const [name, row] of this.day.rows) if (!changed.has(name)) changed.set(name, [row, row]);
     const { queue, isFirst } = this;
     Object.assign(this, { rows: moment, need: null, queue: [], oldSince: null, isFirst: false, held: null, isBroken: false });
+    if (this.stream?.moment === null) this.reopen();
     if (isOther) this.empty();
     this.had.clear();
     this.order({ do: 'show', what: 'plan', changed, isFirst, isOther, isWhole });
@@ -62,7 +80,7 @@ export class Reading extends Views {
       this.isStaleRead = Boolean(stale);
       return this.rows === null;
     }
-    if (moment.log !== need.log) return this.isStranger();
+    if (moment.log !== need.log || moment.position === need.position && !isSameMoment(moment, need)) return this.isStranger();
     if (moment.position < need.position) return false;
     return this.isFresh(stale);
   }
@@ -87,7 +105,7 @@ export class Reading extends Views {
   /** What was shown of a day that is gone. */
   empty() {
     this.had.clear();
-    Object.assign(this, { totals: null, operators: false, history: null, seen: Infinity, mark: null });
+    Object.assign(this, { totals: null, operators: false, history: null, seen: Infinity });
     this.order({ do: 'show', what: 'empty' });
     this.questions.want('operators', this.at + this.chance() * SOON);
   }
@@ -122,22 +140,6 @@ export class Reading extends Views {
     const { list, isFirst } = this.history;
     this.history = null;
     this.order({ do: 'show', what: 'history', list, isFirst });
-  }
-
-  takePast(list, answer) {
-    const { doubt } = this;
-    if (!doubt) return true;
-    const there = list.find((reply) => reply.position === doubt.position);
-    if (!there && answer.position < doubt.position || !this.isFresh(answer.stale)) return false;
-    if (!there || ['desk', 'line', 'at'].some((name) => there[name] !== doubt[name])) {
-      this.readAnew(true);
-      return true;
-    }
-    const { queue, view } = this;
-    Object.assign(this, { doubt: null, oldSince: null, queue: [], view: null });
-    this.apply(queue);
-    if (view) this.takeView(view);
-    return true;
   }
 
   /** From where on the page wants to know what moved whom. */

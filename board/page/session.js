@@ -13,7 +13,7 @@ export class Session extends Answers {
     this.questions.clear();
     this.closeStream();
     Object.assign(this, { who: null, reopenAt: Math.max(this.at, this.eventsAsTold), failures: 0 });
-    for (const name of ['who', 'plan']) this.questions.want(name, this.at);
+    this.questions.want('who', this.at);
   }
 
   onTab() {

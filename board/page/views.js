@@ -18,13 +18,13 @@ export class Views extends Session {
 
   /** What all screens ask alike, of one position: it comes behind the events up to there. */
   takeView(view) {
-    if (this.need || this.doubt) {
+    if (this.need || !this.rows) {
       this.view = view;
       return;
     }
     this.view = null;
     if (!Number.isInteger(view.position)) throw new Error('a view of no position');
-    this.stream.moment.position = Math.max(this.stream.moment.position, view.position);
+    if (view.position > this.stream.moment.position) Object.assign(this.stream.moment, { position: view.position, lastAt: undefined });
     const isBehind = view.position < this.rows.position;
     for (const name of VIEWS) {
       this.questions.drop(name);
@@ -83,10 +83,12 @@ export class Views extends Session {
   takeBetween(list, answer) {
     if (!this.held) return true;
     if (answer.stale && !this.isStaleRead) return false;
-    const isSame = list.some((reply) => reply.position >= this.held.position)
-      && !list.some((reply) => reply.reply === 'ACCEPTED' && reply.position <= this.held.position && reply.position > this.rows.position);
+    const { rows } = this;
+    const last = list.find((reply) => reply.position === this.held.position);
+    const isPast = rows.position === 0 || list[0]?.at === rows.lastAt;
+    const isSame = last && isPast && !list.some((reply) => reply.reply === 'ACCEPTED' && reply.position <= this.held.position && reply.position > rows.position);
     if (isSame) {
-      this.rows.position = this.held.position;
+      Object.assign(rows, { position: this.held.position, lastAt: last.at });
       this.day.position = this.held.position;
       this.settle();
       return true;
@@ -130,7 +132,7 @@ export class Views extends Session {
     stream.lacks = 0;
     const isSame = list.some((reply) => reply.position >= shownUpTo)
       && !list.some((reply) => reply.reply === 'ACCEPTED' && reply.position <= shownUpTo);
-    if (isSame) stream.moment.position = shownUpTo;
+    if (isSame) Object.assign(stream.moment, { position: shownUpTo, lastAt: undefined });
     return isSame;
   }
 

@@ -1,5 +1,5 @@
 """PostgreSQL for a test or a script: clusters of its own on loopback, made and removed by it. The lines that an operator would type
-are those of docs/OPERATING.md."""
+are those of docs/POSTGRES.md."""
 import atexit
 import contextlib
 import functools

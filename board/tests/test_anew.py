@@ -39,10 +39,10 @@ def test_displays_are_reset():
     events = Events("0", day)
     events.open(Stream(None, Desk("screen", "READ"), transport, None), "")
     asyncio.run(events._write())
-    assert all(b"event: " not in call.args[0] for call in transport.write.call_args_list)
+    assert all(b"event: reset" not in call.args[0] for call in transport.write.call_args_list)
     day.restart(day_of("AB2"))
     asyncio.run(events._write())
-    assert b"id: 0-1\nevent: reset\ndata: {}\n\n" in transport.write.call_args.args[0]
+    assert b'id: 0-1\nevent: reset\ndata: {"position":1,"at":""}\n\n' in transport.write.call_args.args[0]
 
 
 def test_a_display_that_comes_back_is_reset():

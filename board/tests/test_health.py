@@ -135,7 +135,7 @@ def test_each_alarm_is_of_series_that_are_served(board):
 
 def test_each_alarm_is_explained():
     """In the page for who runs the server, and nothing there is no alarm."""
-    page = (ROOT / "docs" / "OPERATING.md").read_text()
+    page = (ROOT / "docs" / "RUN.md").read_text()
     assert sorted(re.findall(r"alert: (\w+)", ALERTS)) == sorted(set(re.findall(r"`(Board[A-Z]\w+)`", page)))
 
 

@@ -34,7 +34,7 @@ def log_at(request, tmp_path):
             database.close()
         return (lambda board="": sqlite.FileLog(path, board)), force
     cluster = request.getfixturevalue("primary")
-    cluster.sql("TRUNCATE cdm_log, cdm_record")
+    cluster.sql("TRUNCATE cdm_log, cdm_record, cdm_digest")
     return (lambda board="": postgres.PostgresLog(cluster.url(), board)), cluster.sql
 
 
@@ -240,6 +240,48 @@ def test_a_lock_of_another_program_is_503_and_ends_nothing(locked):
     assert talk(open_log, what) == range(1, 2)
 
 
+def test_a_commit_that_failed_is_not_known(tmp_path):
+    """It is never told as taken, whatever SQLite then finds; no other one begins before the log was tried."""
+    import sys
+    sys.path.insert(0, str(ROOT))
+    from board import sqlite
+    from board.words import Problem
+
+    class Failing:
+        """A connection that takes everything but a commit."""
+
+        def __init__(self, database):
+            self.database = database
+
+        def __getattr__(self, name):
+            return getattr(self.database, name)
+
+        def execute(self, text, *words):
+            if text == "COMMIT":
+                raise sqlite3.OperationalError("disk I/O error")
+            return self.database.execute(text, *words)
+
+    async def what(log):
+        real, log._database = log._database, Failing(log._database)
+        with pytest.raises(Problem, match="not known") as why:
+            await log.append(batch("A", key="k"))
+        assert why.value.status == 504 and log.stale_since
+        assert problem_of(await asyncio.gather(log.append(batch("B", key="l")), return_exceptions=True)) == 503
+        log._database = real
+        keeping = asyncio.create_task(log.ended())
+        for _ in range(100):
+            if log.stale_since is None:
+                break
+            await asyncio.sleep(0.1)
+        assert await log.rows(0, 10) == [] and await log.append(batch("A", key="k")) == range(1, 2)
+        keeping.cancel()
+        await asyncio.gather(keeping, return_exceptions=True)
+
+    def problem_of(answers):
+        return answers[0].status
+    talk(lambda _="": sqlite.FileLog(str(tmp_path / "day.db"), ""), what)
+
+
 def test_want_of_memory_in_a_transaction_ends_nothing(tmp_path, monkeypatch):
     """Whatever a transaction of a file raises, its desks are told, and the log is tried again."""
     import sys
@@ -292,3 +334,21 @@ def test_ten_boards_of_one_database(log_at):
         found = [talk(open_log, lambda log, board=board: speak(log, board), f"board-{board}") for board in range(10)]
     assert [lines for _, lines in found] == [[f"A{board}{turn}" for turn in range(10)] for board in range(10)]
     assert len({log_id for log_id, _ in found}) == 10
+
+
+def test_a_digest_is_kept_once_and_of_a_record_that_is_there(log_at):
+    """The first one stays, whoever says another; one of a record that was lost is none of this log, and neither kept nor compared."""
+    open_log, _ = log_at
+    one, other, lost = ("1" * 64, "2" * 64, "3" * 64)
+
+    async def what(log):
+        await log.append(batch("A", "B"))
+        first, last = await log.rows(0, 10)
+        assert await log.digests() == {}
+        assert await log.keep([(last._replace(line="C"), lost), (last._replace(at="later"), lost)]) == {} == await log.digests()
+        assert await log.keep([(last, one)]) == {2: one}
+        assert await log.keep([(first, other), (last, other)]) == {1: other, 2: one}
+        assert await log.keep([(last._replace(desk="gh"), lost)]) == {}
+        return await log.digests()
+    assert talk(open_log, what) == {1: other, 2: one} == talk(open_log, lambda log: log.digests())
+    assert talk(open_log, lambda log: log.digests(), "other") == {}

@@ -410,3 +410,70 @@ def test_the_page_says_the_program_s_words(page):
         assert "greatest" not in text and "? 'shut'" not in text, path.name
 
 
+
+
+# Texts of the header that run into the place below the totals, and whether what is said there fits it.
+BELOW_TOTALS = r"""
+const list = document.querySelector('header dl'), box = list.getBoundingClientRect(), said = getComputedStyle(list, '::after'), room = parseFloat(getComputedStyle(list).paddingBottom);
+const bad = parseFloat(said.height) > room + 0.5 || parseFloat(said.left) + parseFloat(said.width) > box.width + 0.5 ? [`${said.width} ${said.height} in ${box.width} ${room}`] : [];
+const walker = document.createTreeWalker(document.querySelector('header'), NodeFilter.SHOW_TEXT);
+while (walker.nextNode()) {
+  const range = document.createRange();
+  range.selectNodeContents(walker.currentNode);
+  for (const one of range.getClientRects())
+    if (one.width > 1 && one.left < box.right && one.right > box.left && one.top < box.bottom - 1 && one.bottom > box.bottom - room + 3) bad.push(walker.currentNode.data);
+}
+return [said.content, bad];
+"""
+
+
+@pytest.mark.parametrize("how", ["", SPACED, LARGE], ids=["plain", "spacing", "size"])
+def test_of_which_record_the_totals_are_is_readable(page, how):
+    """It has a place of its own at each size: no other text of the header is there."""
+    shown = page().open()
+    shown.js(how)
+    for width in (320, 500, 701, 1000, 1219, 1280, 1920, 3840):
+        size(shown.driver, width, 900)
+        shown.js("document.querySelector('header dl').dataset.of = 'still of record 19999'")
+        assert shown.js(BELOW_TOTALS) == ['attr(data-of)', []] or shown.js(BELOW_TOTALS) == ['"still of record 19999"', []], (width, shown.js(BELOW_TOTALS))
+
+
+NAMES = ["BAW70AC", "SAS71AC", "AFR90AC", "KLM60AC", "EWG88AC"]
+
+
+def test_names_of_next_leave_a_gap(page):
+    """Names of seven letters, as flights have them, don't run into the runway."""
+    shown = page(day={"AP": [f"FLT,{name},5" for name in NAMES], "ATC": [f"RWY,{name},27L" for name in NAMES] + [f"CLOCK,{at('05:50')}"],
+                      "AO": [f"TOBT,{name},{at('06:00')}" for name in NAMES]})
+    for width in (320, 360, 701, 861, 1280, 1900, 3840):
+        size(shown.driver, width, 900)
+        shown.open()
+        gaps = shown.js("""return [...document.querySelectorAll('#next tbody tr')].map((row) => row.querySelector('.c-runway').getBoundingClientRect().left
+            - row.querySelector('th a').getBoundingClientRect().right)""")
+        assert len(gaps) == 5 and min(gaps) >= 1, (width, gaps)
+        assert shown.js(CLIPPED) == [] and shown.js(BROKEN) == [], width
+
+
+@pytest.mark.parametrize("width", [1280, 3840])
+def test_the_causes_are_seen_whole(page, width):
+    shown = page()
+    size(shown.driver, width, 900)
+    shown.open()
+    shown.js("document.querySelector('#causes').open = true")
+    shown.says("#causes", "TOTAL")
+    cells = shown.js("return [...document.querySelectorAll('#causes tbody tr:last-child td')].map((cell) => { cell.textContent = '2222'; return cell.textContent; })")
+    assert len(cells) == 7
+    assert shown.js("const box = document.querySelector('#causes .scroll'); return [box.scrollWidth - box.clientWidth, document.querySelector('#causes thead').innerText.includes('Now')]") == [0, True]
+
+
+def test_the_end_of_a_panel_is_seen_while_the_connection_is_lost(page):
+    """On a narrow screen the connection is said over the panel's end: the panel can be scrolled past that."""
+    shown = page()
+    size(shown.driver, 320, 640)
+    shown.open("#RYR6")
+    shown.until("return document.querySelectorAll('#f-records tr').length > 0")
+    shown.allowed += ["ERR_CONNECTION_REFUSED", "ERR_INCOMPLETE_CHUNKED_ENCODING", "ERR_CONNECTION_RESET", "ERR_EMPTY_RESPONSE"]
+    shown.server.kill()
+    shown.says("#conn", "CONNECTION LOST since ")
+    shown.js("document.querySelector('#p-flight').scrollTop = 99999")
+    assert shown.js("return document.querySelector('#f-records tr:last-child').getBoundingClientRect().bottom <= document.querySelector('.conn').getBoundingClientRect().top")

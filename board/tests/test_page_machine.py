@@ -3,6 +3,8 @@ put back as an edit: then the law that it breaks is broken again, in the schedul
 import re
 import shutil
 import subprocess
+import tempfile
+from pathlib import Path
 
 import pytest
 from conftest import ROOT
@@ -12,42 +14,44 @@ SCHEDULES = 50_000
 # The fault, the law that it breaks, a seed whose schedule shows it, and the edits: a file of the page, its words, and what stands there
 # instead.
 FAULTS = [
-    ("a reset asks for the old position, of whichever log", "Arrives", 57, [
+    ("a reset asks for the old position, of whichever log", "Arrives", 441, [
         ("answers.js", "this.need ? this.need.position :", "this.need ? Math.max(this.need.position, this.rows.position) :")]),
-    ("a reset during a read is dropped", "Arrives", 4, [
+    ("a reset during a read is dropped", "Arrives", 29, [
         ("reading.js", "  readAnew(isOther = false) {", "  readAnew(isOther = false) {\n    if (this.need) return;")]),
-    ("a sign-in during a read ends the page", "Alive", 9, [
+    ("a sign-in during a read ends the page", "Alive", 16, [
         ("session.js", "  begin() {\n", "  begin() {\n    if (this.questions.isAsked('plan')) {\n      for (const ask of [...this.asks.values()]) this.abandon(ask);\n"
-         "      this.questions.clear();\n      this.closeStream();\n      return;\n    }\n")]),
-    ("a record without a reply gets a second key", "Said", 1409, [
+         "      this.questions.clear();\n      this.closeStream();\n      this.who = null;\n      return;\n    }\n")]),
+    ("a record without a reply gets a second key", "Said", 1210, [
         ("sending.js", "    if (!isAgain && isNothingTaken(answer)) return", "    if (isNothingTaken(answer)) this.unknown.delete(line);\n"
          "    if (isNothingTaken(answer)) return")]),
-    ("a CLOCK that came as a reset isn't counted", "Arrives", 4, [
+    ("a CLOCK that came as a reset isn't counted", "Arrives", 10, [
         ("reading.js", "    if (this.history.since >= position) this.endHistory();", "    if (since !== null || this.history.since >= position) this.endHistory();")]),
-    ("one answer that isn't understood ends all questions", "Alive", 9, [
+    ("one answer that isn't understood ends all questions", "Alive", 1, [
         ("answers.js", "      isTaken = false;\n      fault =", "      if (ask.name !== 'who') throw new Error('not JSON');\n      isTaken = false;\n      fault =")]),
-    ("what a box failed to show is never shown", "Arrives", 23, [
+    ("what a box failed to show is never shown", "Arrives", 71, [
         ("machine.js", "    this.isBroken = true;\n", "    if (part) return;\n")]),
-    ("a log that is away isn't shown", "Arrives", 2, [
+    ("a log that is away isn't shown", "Arrives", 30, [
         ("answers.js", "      if (event.status === 200) this.takeStale(told.stale_since ?? null);", "      void told;")]),
     ("a silent break is told late", "Shown", 155, [
         ("limits.js", "export const QUIET = 17000;", "export const QUIET = 25000;")]),
-    ("a server that is behind leaves a gap after a reset", "Arrives", 157, [
+    ("a server that is behind leaves a gap after a reset", "Arrives", 953, [
         ("reading.js", "    if (moment.position < need.position) return false;\n", ""),
         ("answers.js", "this.need ? this.need.position :", "this.need ? 0 :")]),
-    ("a panel shows records of a day that is gone", "Shown", 4, [
+    ("a panel shows records of a day that is gone", "Shown", 90, [
         ("reading.js", "    this.order({ do: 'show', what: 'empty' });\n", "")]),
-    ("Retry-After isn't heeded", "Heeded", 2, [
+    ("Retry-After isn't heeded", "Heeded", 9, [
         ("questions.js", "retry * 1000 * (1 + chance / 4)", "0")]),
-    ("a server with another past under the same name isn't seen", "Shown", 3812, [
-        ("following.js", "const isKnown = this.mark?.position === this.rows.position && !this.isBroken;", "const isKnown = !this.isBroken;"),
-        ("following.js", "this.doubt = isKnown ? this.mark : null;", "this.doubt = null;"),
-        ("following.js", "if (reply.position === this.rows.position && !this.isSameRows(reply)) {", "if (false) {")]),
-    ("what a log has lost since it was shown stays", "Arrives", 9103, [
+    ("a server with another past under the same name isn't seen", "Shown", 1884, [
+        ("following.js", "else if (isSameMoment(rows, stream.moment) && !this.isBroken)", "else if (!this.isBroken)"),
+        ("following.js", "if (reply.position === this.rows.position && reply.at !== this.rows.lastAt) {", "if (false) {"),
+        ("reading.js", " || moment.position === need.position && !isSameMoment(moment, need)", "")]),
+    ("a plan of another past than the events'", "Shown", 1884, [
+        ("reading.js", " || moment.position === need.position && !isSameMoment(moment, need)", "")]),
+    ("what a log has lost since it was shown stays", "Arrives", 10632, [
         ("views.js", "      if (stream.lacks < MOST_AHEAD) return false;\n", "      if (stream.lacks) return false;\n")]),
-    ("a CLOCK in the place of a record that was lost isn't counted", "Arrives", 17424, [
+    ("a CLOCK in the place of a record that was lost isn't counted", "Arrives", 4410, [
         ("reading.js", "Math.max(0, this.rows.position - RECENT) : null;", "this.rows.position : null;")]),
-    ("totals that are newer than the rows are shown", "Shown", 9, [
+    ("totals that are newer than the rows are shown", "Shown", 1, [
         ("answers.js", "    if (ask.name === 'totals') this.holdTotals(", "    if (ask.name === 'totals') this.takeTotals(")]),
     ("old totals aren't said to be old", "Shown", 1, [
         ("views.js", "const isOld = this.totals.position < this.rows.position;", "const isOld = false;")]),
@@ -60,6 +64,16 @@ def simulated(*words, page=None):
     ended = subprocess.run(["/usr/bin/node", SIMULATOR, *words, *folder], capture_output=True, text=True, timeout=600)
     assert ended.stderr == ""
     return ended.returncode, ended.stdout
+
+
+def page_with(edits, folder):
+    """A copy of the page in which a fault is put back."""
+    page = shutil.copytree(ROOT / "board/page", folder / "page")
+    for file, words, instead in edits:
+        text = (page / file).read_text()
+        assert text.count(words) == 1, words
+        (page / file).write_text(text.replace(words, instead))
+    return page
 
 
 @pytest.fixture(autouse=True)
@@ -77,12 +91,7 @@ def test_no_schedule_breaks_a_law():
 
 @pytest.mark.parametrize(("law", "seed", "edits"), [words[1:] for words in FAULTS], ids=[words[0] for words in FAULTS])
 def test_a_fault_is_found_by_its_seed(tmp_path, law, seed, edits):
-    page = shutil.copytree(ROOT / "board/page", tmp_path / "page")
-    for file, words, instead in edits:
-        text = (page / file).read_text()
-        assert text.count(words) == 1, words
-        (page / file).write_text(text.replace(words, instead))
-    status, said = simulated("--schedules", "1", "--seed", str(seed), page=page)
+    status, said = simulated("--schedules", "1", "--seed", str(seed), page=page_with(edits, tmp_path))
     assert status == 1 and f"seed {seed} breaks {law}: " in said, said
     # The page as it is holds the law in the same schedule.
     assert simulated("--schedules", "1", "--seed", str(seed))[0] == 0
@@ -99,13 +108,11 @@ const answer = (name, list, position) => give({ type: 'answer', id: asked.findLa
   retry: 0, detail: '', isOwn: true, text: list.map((one) => JSON.stringify(one)).join('\\n') });
 const reply = (position) => `id: L-${position}\\nevent: reply\\ndata: ${JSON.stringify({ position, desk: 'AO', line: 'TOBT,A', at: String(position), reply: 'ACCEPTED', changes: [] })}\\n\\n`;
 give({ type: 'start' });
-answer('who', [{ desk: null, role: 'READ', roles: [], kinds: [] }], NaN);
+answer('who', [{ desk: 'AO', role: 'AO', roles: [], kinds: ['TOBT'] }], NaN);
 answer('kinds', [{}], NaN);
-answer('plan', [{ day: '2025-03-10', now: '', flights: [] }], 1);
 const { number } = machine.stream;
 give({ type: 'opened', stream: number });
-at += 300;
-give({ type: 'wake' });
+give({ type: 'chunk', stream: number, text: 'id: L-1\\nevent: from\\ndata: {"position":1,"at":"1"}\\n\\n' });
 answer('plan', [{ day: '2025-03-10', now: '', flights: [] }], 1);
 """
 
@@ -156,3 +163,33 @@ def test_an_older_answer_is_dropped():
         round(6);
         round(8);
         console.log(...shown.filter((one) => one.name === 'next').map((one) => one.position));""") == ["7", "8"]
+
+
+def test_a_first_load_reads_the_plan_once():
+    """The events are opened first, and the plan is read behind where they begin."""
+    assert driven("""
+        console.log(...asked.map((one) => `${one.name}${one.after ? `>${one.after}` : ''}`), shown.filter((one) => one.what === 'plan').length, machine.state);
+        """) == ["who", "kinds", "plan>1", "history>1", "1", "live"]
+
+
+def test_the_day_is_shown_where_events_dont_come():
+    """A proxy that lets no events through: the page shows the day all the same, and says that the connection is lost."""
+    assert driven("""
+        const other = new Machine(() => 0.5);
+        const told = [];
+        const give_ = (event) => { for (const order of other.take({ at, now: at, ...event })) told.push(order); };
+        const answer_ = (name, list) => give_({ type: 'answer', id: told.findLast((one) => one.name === name).id, status: 200, log: 'L', position: 1, stale: null,
+          retry: 0, detail: '', isOwn: true, text: list.map((one) => JSON.stringify(one)).join('\\n') });
+        give_({ type: 'start' });
+        answer_('who', [{ desk: null, role: 'READ', roles: [], kinds: [] }]);
+        give_({ type: 'ended', stream: other.stream.number, status: 502, detail: 'bad gateway', retry: 0 });
+        answer_('plan', [{ day: '2025-03-10', now: '', flights: [] }]);
+        console.log(told.filter((one) => one.what === 'plan').length, other.state);""") == ["1", "lost"]
+
+
+if __name__ == "__main__":
+    # After a change of the page or of the simulator a fault may show in another schedule: prints the first one of each.
+    for fault, law, _, edits in FAULTS:
+        with tempfile.TemporaryDirectory() as folder:
+            told = simulated("--schedules", "50000", "--until", law, page=page_with(edits, Path(folder)))[1]
+        print(fault, re.findall(r"seed (\d+) breaks", told), told.splitlines()[-1], sep=": ", flush=True)

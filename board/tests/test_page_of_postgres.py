@@ -1,4 +1,4 @@
-"""The lines of docs/OPERATING.md make a cluster on which servers run, a fail-over, and a new standby; and they take a day from a file to
+"""The lines of docs/POSTGRES.md make a cluster on which servers run, a fail-over, and a new standby; and they take a day from a file to
 PostgreSQL and back."""
 import contextlib
 import json
@@ -12,7 +12,7 @@ import pytest
 from conftest import PROGRAM, ROOT, moment, objects, until
 
 pytestmark = pytest.mark.skipif(bool(clusters.missing()), reason=f"a log in PostgreSQL: {' and '.join(clusters.missing())} missing")
-PAGE = (ROOT / "docs/OPERATING.md").read_text().partition("## The log in PostgreSQL")[2]
+PAGE = (ROOT / "docs/POSTGRES.md").read_text()
 
 
 @contextlib.contextmanager
@@ -67,7 +67,7 @@ def test_the_lines_of_the_page_make_a_cluster(board):
         until(lambda: is_taken(server, "FLT,AB2,5", "k2"), 120)
         assert server.post(["FLT,AB2,5"], Cdm_Role="AP", key="k2")[0]["position"] == 2 and "Cdm-Stale-Since" not in server.get("/v1/plan").headers
         # The display is still connected: it gets the event of the record, and no reset.
-        kinds = [kind for kind in iter(lambda: event(display), "reply") if kind != "view"]
+        kinds = [kind for kind in iter(lambda: event(display), "reply") if kind not in ("from", "view")]
         assert kinds in ([], ["reset"]), kinds
         display.close()
         run(variables + new_standby)
@@ -90,8 +90,8 @@ def event(display):
 
 def test_the_lines_of_the_page_take_a_day_to_postgresql_and_back(board, cluster):
     """Each way in the middle of a day, with the plan as it was."""
-    there, back = [re.findall(r"`\./(cdmboard (?:export|import) [^`]*)`", part) for part in
-                   PAGE.partition("### From a file to PostgreSQL and back")[2].partition("### ")[0].split("The way back")]
+    there, back = [re.findall(r"`(cdmboard (?:export|import) [^`]*)`", part) for part in
+                   PAGE.partition("## From a file to PostgreSQL and back")[2].partition("## ")[0].split("The way back")]
     assert len(there) == len(back) == 2
 
     def run(lines, folder, server):
@@ -121,3 +121,23 @@ def test_the_lines_of_the_page_take_a_day_to_postgresql_and_back(board, cluster)
     last = board(log=first.folder / "day-2.db")
     assert plan(last) == as_it_was and last.get("/v1/journal.csv").body == feed
     assert last.post(["FLT,AB3,5"], Cdm_Role="AP")[0]["position"] == 5
+
+
+def test_the_lines_of_the_page_keep_a_board_and_remove_it(board, cluster):
+    """The backup is a log in a file, with the day as it was; then the board is gone from the database, and another one isn't."""
+    part = PAGE.partition("## Backup and deletion")[2].partition("\n## ")[0]
+    lines, remove = re.findall(r"^    (cdmboard .*)$", part, re.M), re.search(r"```sql\n(.*?)```", part, re.S)[1]
+    assert len(lines) == 2
+    servers = [board(log=cluster.url(), options=["--board", name]) for name in ("GONE", "KEPT")]
+    for server in servers:
+        assert server.post(["FLT,AB1,5", "FOO"], Cdm_Role="AP")[0]["accepted"] == 1
+    for line in lines:
+        words = line.replace("postgresql://..", cluster.url()).replace("EDDF", "GONE")
+        ended = subprocess.run(["bash", "-c", f"{ROOT}/{words}"], cwd=servers[0].folder, env=dict(os.environ, CDMSEQ=PROGRAM), capture_output=True, text=True)
+        assert (ended.returncode, ended.stderr) == (0, ""), line
+    assert servers[0].end() == 0
+    cluster.sql(remove.replace("EDDF", "GONE"))
+    again = board(log=cluster.url(), options=["--board", "GONE"])
+    assert again.records() == [] and len(servers[1].records()) == 2
+    copy = board(log=servers[0].folder / "backup.db", options=["--board", "GONE"])
+    assert [record["line"] for record in copy.records()] == ["FLT,AB1,5", "FOO"]

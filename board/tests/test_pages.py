@@ -1,33 +1,11 @@
-"""What the pages show can be pasted."""
+"""The page's files."""
 import gzip
 import json
-import os
 import re
 import shutil
 import subprocess
 
-import pytest
-from conftest import PROGRAM, ROOT, objects
-
-
-def test_the_talk_of_the_page(tmp_path):
-    """board/README.md: three desks, their tokens, records, a question, a what-if, events."""
-    if shutil.which("curl") is None:
-        pytest.skip("test_the_talk_of_the_page: curl is missing")
-    text = re.search(r"```sh\n(day=.*?)```", (ROOT / "board/README.md").read_text(), re.DOTALL)[1]
-    # The reader has a job of their own, and keeps it, as they keep their umask.
-    text = f"umask 027\nsleep 600 & job=$!\n{text}\nkill -0 $job && kill $job && echo kept; umask\n"
-    ended = subprocess.run(["bash", "-um"], input=text, cwd=ROOT, env=dict(os.environ, CDMSEQ=PROGRAM, TMPDIR=str(tmp_path)), capture_output=True,
-                           text=True, timeout=60)
-    replies = objects("\n".join(line for line in ended.stdout.splitlines() if line.startswith('{"position":')))
-    assert [(one["position"], one["desk"], one["reply"], one.get("word")) for one in replies] == [
-        (1, "airport", "ACCEPTED", None), (2, "tower", "ACCEPTED", None), (3, "operator", "ACCEPTED", None), (3, "operator", "ACCEPTED", None),
-        (4, "operator", "REFUSED", "AUTHORITY"), (5, "operator", "ACCEPTED", None)], (ended.stdout, ended.stderr)
-    assert replies[2] == replies[3] and "AUTHORITY: " in ended.stdout and "DAY 2025-03-10" in ended.stdout and "SHUT" in ended.stdout
-    assert ended.stdout.endswith("kept\n0027\n"), (ended.stdout, ended.stderr)
-    events = re.findall(r"^event: (\w+)\ndata: (.*)$", ended.stdout, re.MULTILINE)
-    assert [(name, json.loads(data)["position"]) for name, data in events if name != "view"] == [("reply", 5)]
-    assert ("view", 4) in [(name, json.loads(data)["position"]) for name, data in events]
+from conftest import ROOT
 
 
 REFERENCE = re.compile(r'(?:href|src)="(/page-([0-9a-f]{16})/[^"]+)"')

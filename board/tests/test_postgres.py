@@ -34,7 +34,7 @@ def shared():
 
 @pytest.fixture
 def primary(shared):
-    shared.sql("TRUNCATE cdm_log, cdm_record, cdm_session, cdm_audit")
+    shared.sql("TRUNCATE cdm_log, cdm_record, cdm_session, cdm_audit, cdm_digest")
     return shared
 
 
@@ -52,6 +52,7 @@ def test_the_servers_user_can_only_append_and_read(primary):
     for text in ("INSERT INTO cdm_record VALUES ('', 2, 'd', NULL, 0, 1, 'AP', 'B', 't')", "INSERT INTO cdm_log VALUES ('x', 'x', 'x', 'x')",
                  "UPDATE cdm_record SET line = 'B'", "UPDATE cdm_log SET version = 'w'", "DELETE FROM cdm_record", "DELETE FROM cdm_log",
                  "TRUNCATE cdm_record", "TRUNCATE cdm_log", "UPDATE cdm_log SET secret = ''", "DELETE FROM cdm_session", "DELETE FROM cdm_audit",
+                 "DELETE FROM cdm_digest", "UPDATE cdm_digest SET digest = ''", "INSERT INTO cdm_digest VALUES ('', 1, '')",
                  "UPDATE cdm_session SET not_before = 0", "UPDATE cdm_audit SET address = ''", "SELECT FROM cdm_log FOR UPDATE", "DROP TABLE cdm_record", "ALTER TABLE cdm_record DISABLE TRIGGER ALL",
                  "DROP FUNCTION cdm_append", "CREATE TABLE own (x integer)", "SET ROLE cdm_owner", "SELECT lo_creat(-1); COPY cdm_record FROM '/dev/null'",
                  "CREATE OR REPLACE FUNCTION cdm_append(text, jsonb, text, bytea, text) RETURNS jsonb LANGUAGE sql AS 'SELECT NULL::jsonb'"):
@@ -61,7 +62,7 @@ def test_the_servers_user_can_only_append_and_read(primary):
     # Who isn't a server can't even read, also where it is let into the database.
     primary.sql("DROP ROLE IF EXISTS other; CREATE ROLE other LOGIN; GRANT CONNECT ON DATABASE cdm TO other")
     for text in ("SELECT * FROM cdm_record", "SELECT secret FROM cdm_log", "SELECT * FROM cdm_session", "SELECT * FROM cdm_audit",
-                 "SELECT cdm_sign_out('', 'd')", "SELECT cdm_note('', '[]')", told):
+                 "SELECT cdm_sign_out('', 'd')", "SELECT * FROM cdm_digest", "SELECT cdm_keep('', '[]')", "SELECT cdm_note('', '[]')", told):
         with pytest.raises(RuntimeError, match="permission denied"):
             primary.sql(text, who="other")
     primary.sql("DROP OWNED BY other; DROP ROLE other")
@@ -119,7 +120,7 @@ def test_older_tables_are_told_and_brought_up_to_date(board):
         server.post(["FLT,AB1,5"], Cdm_Role="AP")
         assert server.end() == 0
         primary.sql("SELECT cdm_append('other', '[]', 'id', 'x', 'v')")
-        primary.sql("ALTER TABLE cdm_log DROP COLUMN secret; DROP TABLE cdm_session, cdm_audit; DROP FUNCTION cdm_note, cdm_sign_out")
+        primary.sql("ALTER TABLE cdm_log DROP COLUMN secret; DROP TABLE cdm_session, cdm_audit, cdm_digest; DROP FUNCTION cdm_note, cdm_sign_out, cdm_keep")
         ended = cdmboard(server.airport, primary.url())
         assert ended.returncode == 3 and "log init" in ended.stderr
         assert cdmboard("log", "init", primary.url("postgres")).returncode == 0
@@ -214,6 +215,57 @@ def test_a_notice_wakes_the_other_servers(board, primary):
         assert two.get(f"/v1/records?since={number - 1}", Cdm_After=str(number)).status == 200
         times.append(time.monotonic() - began)
     assert sorted(times)[5] < 0.7
+
+
+def test_notices_wake_a_server_so_often(primary):
+    """Any login of the database can send notices without end: they make a server read no more than 20 times a second, and each record arrives."""
+    import asyncpg
+    from board.log import Batch
+    from board.notices import PAUSE_SECONDS
+
+    async def what(log):
+        flood, reads, notices, began = await asyncpg.connect(primary.url()), 0, 0, time.monotonic()
+
+        async def read():
+            nonlocal reads
+            while reads >= 0:
+                await log.grown.wait()
+                log.grown.clear()
+                await log.rows(0, 10)
+                reads += 1
+        reading = asyncio.create_task(read())
+        try:
+            while time.monotonic() < began + 2:
+                await flood.execute("NOTIFY cdm_record, ''")
+                notices += 1
+            await asyncio.sleep(2 * PAUSE_SECONDS)
+            most = (time.monotonic() - began) / PAUSE_SECONDS + 1
+            assert notices > 2 * most and reads > 2
+            assert reads <= most
+            assert await log.append(Batch("ap", [("AP", "A")])) == range(1, 2)
+        finally:
+            reads = -2
+            log.grown.set()
+            await reading
+            flood.terminate()
+    opened(primary.url(), what)
+
+
+@pytest.mark.parametrize("turns", range(3))
+def test_an_end_at_the_moment_at_which_a_connection_breaks(primary, turns):
+    """It ends all the same."""
+    from board.postgres import PostgresLog
+
+    async def talk():
+        log = PostgresLog(primary.url(), "")
+        await log.open(AIRPORT.encode(), "v1")
+        await asyncio.sleep(0.2)
+        log._link.broken.set()
+        for _ in range(turns):
+            await asyncio.sleep(0)
+        async with asyncio.timeout(10):
+            await log.close()
+    asyncio.run(talk())
 
 
 def test_two_clocks_take_each_minute_once(board, primary):
@@ -420,6 +472,31 @@ def test_export_and_import(board, primary, tmp_path):
     assert cdmboard("export", tmp_path / "new.db").stdout == exported
 
 
+def test_a_dump_in_a_new_database_is_served(board, primary):
+    """As docs/POSTGRES.md says: pg_dump while it is served, a new database with a log's tables, pg_restore. Keys and digests go along."""
+    server = board(log=primary.url())
+    server.post(["FLT,AB1,5", "FOO"], Cdm_Role="AP", key="k")
+    before, log_id = server.records(), json.loads(server.get("/v1/who").body)["log"]
+    primary.sql(f"INSERT INTO cdm_digest VALUES ('', 2, '{'1' * 64}')")
+    dump, at = primary.data.parent / "cdm.dump", ("-h", "127.0.0.1", "-p", primary.port, "-U", "postgres")
+    clusters.run("pg_dump", *at, "-Fc", "-f", dump, "cdm")
+    server.post(["FLT,AB2,5"], Cdm_Role="AP")
+    clusters.run("createdb", *at, "restored")
+    other, own = (f"{primary.url(who).removesuffix('/cdm')}/restored" for who in ("postgres", "cdm"))
+    assert cdmboard("log", "init", other).returncode == 0
+    clusters.run("pg_restore", *at, "-d", "restored", "--data-only", "--single-transaction", dump)
+    assert primary.sql("SELECT position, digest FROM cdm_digest", "restored") == f"2|{'1' * 64}"
+    assert cdmboard(server.airport, own).returncode == 3, "no reply of before has this digest"
+    primary.sql("DELETE FROM cdm_digest", "restored")
+    copy = board(log=own)
+    assert copy.records() == [record | ({"changes": None} if "changes" in record else {}) for record in before]
+    assert json.loads(copy.get("/v1/who").body)["log"] == log_id
+    assert copy.post(["FLT,AB1,5", "FOO"], Cdm_Role="AP", key="k")[0]["position"] == 1
+    assert copy.post(["FLT,AB3,5"], Cdm_Role="AP")[0]["position"] == 3
+    assert cdmboard("verify", own).stdout.startswith("3 records, 2 accepted")
+    assert [row.split("|")[0] for row in primary.sql("SELECT event, number FROM cdm_audit ORDER BY number", "restored").splitlines()] == ["records"] * 2
+
+
 def test_a_database_that_is_away(board):
     """POST is 503, reads go on and say since when they are old; the server comes back by itself, and so does a killed sequencer."""
     with clusters.clusters(settings=QUICK) as (primary,):
@@ -493,7 +570,7 @@ def test_a_fail_over_that_lost_records_begins_the_day_anew(board):
                 for server in servers:
                     assert server.end() == 0
                 for display in displays:
-                    told = [event for event in re.findall(r"event: (\w+)\ndata: ", display.result().decode()) if event != "view"]
+                    told = [event for event in re.findall(r"event: (\w+)\ndata: ", display.result().decode()) if event not in ("from", "view")]
                     assert told[0] == "reset" and told[-1] == "end" and set(told[1:-1]) <= {"reply", "reset"}
             finally:
                 # Otherwise the displays would be waited for.

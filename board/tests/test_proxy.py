@@ -1,4 +1,4 @@
-"""Behind nginx, with the site that docs/OPERATING.md shows."""
+"""Behind nginx, with the site that docs/RUN.md shows."""
 import collections
 import json
 import os
@@ -32,7 +32,7 @@ def site(board):
     server, port = board(DESKS, options=["--behind-proxy", "--name", "cdm.example"]), free_port()
     folder = server.folder
     certificates(folder)
-    text = re.search(r"```nginx\n(.*?)```", (ROOT / "docs/OPERATING.md").read_text(), re.DOTALL)[1]
+    text = re.search(r"```nginx\n(.*?)```", (ROOT / "docs/RUN.md").read_text(), re.DOTALL)[1]
     for old, new in (("listen 443 ", f"listen 127.0.0.1:{port} "), ("127.0.0.1:8270", f"127.0.0.1:{server.port}"),
                      ("/etc/ssl/cdm.example.pem", f"{folder}/one.crt"), ("/etc/ssl/private/cdm.example.key", f"{folder}/one.key")):
         assert old in text, old
@@ -99,7 +99,7 @@ def test_four_pages_that_open_at_once(site):
     # The server is busy for a moment, so all of them are asked for at once.
     site.server.process.send_signal(signal.SIGSTOP)
     asking = subprocess.Popen(list(map(str, words)), stdout=subprocess.PIPE, stderr=subprocess.PIPE, text=True)
-    time.sleep(1.5)
+    time.sleep(1.5 * FACTOR)
     site.server.process.send_signal(signal.SIGCONT)
     told, faults = asking.communicate(timeout=60 * FACTOR)
     assert collections.Counter(told.split("\n")[:-1]) == {"200 2": len(wanted)}, faults

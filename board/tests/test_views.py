@@ -52,11 +52,11 @@ def events(server, count, **words):
 
 
 def parsed(text):
-    """The whole events of a text, besides views, which come whenever they are made."""
+    """The whole events of a text, besides views, which come whenever they are made, and where they begin."""
     found = []
     for part in text.decode().replace("\r", "").replace("event: view\n", "").split("\n\n")[:-1]:
         fields = dict(line.partition(": ")[::2] for line in part.split("\n") if ": " in line)
-        if "event" in fields:
+        if fields.get("event", "from") != "from":
             found.append((fields["event"], int(fields["id"].rpartition("-")[2]) if "id" in fields else None, json.loads(fields["data"])))
     return found
 
@@ -79,10 +79,21 @@ def test_events(board):
     # A browser that comes back sends the address of its first time, and where it is now.
     assert parsed(events(server, 1, desk="screen", query=f"?since={log}-1", last=f"{log}-2")) == [accepted[1]]
     for wrong in (f"{log}-9", "nix", "0123456789abcdef-1", f"{log}-", f"{log}--1"):
-        assert parsed(events(server, 1, desk="screen", query=f"?since={wrong}")) == [("reset", 4, {})]
+        assert parsed(events(server, 1, desk="screen", query=f"?since={wrong}")) == [("reset", 4, {"position": 4, "at": replies[2]["at"]})]
     server.kill()
     server.start()
-    assert parsed(events(server, 1, desk="screen", query=f"?since={log}-2")) == [("reset", 4, {})]
+    assert parsed(events(server, 1, desk="screen", query=f"?since={log}-2")) == [("reset", 4, {"position": 4, "at": replies[2]["at"]})]
+
+
+def test_events_say_where_they_begin(board):
+    """So a display sees that a server lost the record behind which it wants to go on, and has another one in its place."""
+    server = board(DESKS)
+    log = json.loads(server.get("/v1/who", "ap").body)["log"]
+    replies = [*server.post(["FLT,AB1,5"], "ap"), *server.post(["FLT,AB2,5"], "ap")]
+    for query, position, at in (("", 2, replies[1]["at"]), (f"?since={log}-1", 1, replies[0]["at"]), (f"?since={log}-0", 0, "")):
+        first = Display(server, "screen", query=query).file.read1().decode().replace("\r\n", "\n")
+        assert f'id: {log}-{position}\nevent: from\ndata: {{"position":{position},"at":"{at}"}}\n\n' in first
+    assert server.get("/v1/plan.json", "screen").headers["Cdm-At"] == replies[1]["at"]
 
 
 def test_a_record_that_changes_much_is_a_reset(board):
@@ -95,7 +106,7 @@ def test_a_record_that_changes_much_is_a_reset(board):
         time.sleep(0.2)
         reply, = server.post([f"CLOSE,27L,{moment(400)},{moment(600)}"], Cdm_Role="ATC")
         assert len(reply["changes"]) == 101
-        assert parsed(waiting.result()) == [("reset", reply["position"], {"position": reply["position"]})]
+        assert parsed(waiting.result()) == [("reset", reply["position"], {"position": reply["position"], "at": reply["at"]})]
 
 
 def test_a_desk_has_so_many_displays(board):

@@ -54,6 +54,7 @@ export class Judge {
     if (order.what === 'state') Object.assign(this, { state: order.state, since: order.since });
     if (order.what === 'stale') this.stale = order.since;
     if (order.what === 'sent') this.outcome(order);
+    if (order.what === 'fault' && order.part === 'events') throw new Broken('Alive', `an event wasn't taken: ${order.detail}`);
   }
 
   /** A server that says after how many seconds to come again isn't asked before. */

@@ -1,5 +1,6 @@
 // Drives the page's own machine through schedules drawn by a seed, against a model of servers, and holds it to its laws.
-//   node board/tests/simulator/page.mjs [--schedules N] [--seed N] [--page FOLDER] [--told]
+//   node board/tests/simulator/page.mjs [--schedules N] [--seed N] [--page FOLDER] [--told] [--until LAW]
+// By --until the first schedule that breaks this law is the last one.
 // The last line says how many schedules were run and how many broke a law; of the first that did, its seed, the law and why.
 import { resolve } from 'node:path';
 import { fileURLToPath, pathToFileURL } from 'node:url';
@@ -131,7 +132,7 @@ class Schedule {
 }
 
 /** Runs schedules from a seed on. */
-export async function run({ folder, schedules, seed, isTold = false }) {
+export async function run({ folder, schedules, seed, until, isTold = false }) {
   const { Machine } = await import(pathToFileURL(resolve(folder, 'machine.js')));
   const failed = [];
   const began = process.cpuUsage();
@@ -145,6 +146,7 @@ export async function run({ folder, schedules, seed, isTold = false }) {
       failed.push({ seed: seed + number, law, why: fault instanceof Broken ? fault.message : fault.stack });
     }
     steps += schedule.world.agenda.count;
+    if (until && failed.at(-1)?.law === until) break;
   }
   return { failed, steps, seconds: process.cpuUsage(began).user / 1e6 };
 }
@@ -152,8 +154,8 @@ export async function run({ folder, schedules, seed, isTold = false }) {
 const words = process.argv.slice(2);
 const said = (name, otherwise) => (words.includes(`--${name}`) ? words[words.indexOf(`--${name}`) + 1] : otherwise);
 const schedules = Number(said('schedules', 50000));
-const { failed, steps, seconds } = await run({ folder: said('page', resolve(HERE, '../../page')), schedules, seed: Number(said('seed', 1)), isTold: words.includes('--told') });
-for (const { seed, law, why } of failed.slice(0, 5)) console.log(`seed ${seed} breaks ${law}: ${why}`);
+const { failed, steps, seconds } = await run({ folder: said('page', resolve(HERE, '../../page')), schedules, seed: Number(said('seed', 1)), until: said('until'), isTold: words.includes('--told') });
+for (const { seed, law, why } of said('until') ? failed.slice(-1) : failed.slice(0, 5)) console.log(`seed ${seed} breaks ${law}: ${why}`);
 const laws = [...new Set(failed.map((one) => one.law))].map((law) => `${failed.filter((one) => one.law === law).length} ${law}`);
 console.log(`${schedules} schedules, ${steps} steps, ${seconds.toFixed(1)} s of a processor: ${failed.length} broke a law${laws.length ? ` (${laws.join(', ')})` : ''}`);
 process.exitCode = failed.length ? 1 : 0;

@@ -91,17 +91,22 @@ export class Server {
     return `id: ${this.log.id}-${position}\nevent: ${name}\ndata: ${JSON.stringify(data)}\n\n`;
   }
 
-  reset() {
-    return this.event(this.has, 'reset', {});
+  /** When the record at a position was taken. */
+  lastAt(position) {
+    return position > 0 ? this.records[position - 1].at : '';
+  }
+
+  momentEvent(name, position) {
+    return this.event(position, name, { position, at: this.lastAt(position) });
   }
 
   /** The events behind a position, as a desk gets them. */
-  events(since, desk) {
-    if (since < 0 || since > this.has || this.has - since > KEPT || since < this.first) return this.reset();
-    let text = `:\nid: ${this.log.id}-${since}\n\n`;
+  events(since, desk, isFirst = false) {
+    if (since < 0 || since > this.has || this.has - since > KEPT || since < this.first) return this.momentEvent('reset', this.has);
+    let text = isFirst ? this.momentEvent('from', since) : `:\nid: ${this.log.id}-${since}\n\n`;
     for (let at = since; at < this.has; at += 1) {
       const record = this.records[at];
-      if (record.isBig) text += this.event(record.position, 'reset', { position: record.position });
+      if (record.isBig) text += this.momentEvent('reset', record.position);
       else if (record.isAccepted) text += this.event(record.position, 'reply', this.reply(record, true));
       else if (record.desk === desk) text += this.event(record.position, 'refused', this.reply(record));
     }
@@ -112,7 +117,7 @@ export class Server {
   begin(since, desk) {
     const found = /^(.+)-(\d+)$/.exec(since);
     const isKnown = found && found[1] === this.log.id && Number(found[2]) > this.doubtful;
-    return this.events(isKnown ? Number(found[2]) : since ? -1 : this.has, desk);
+    return this.events(isKnown ? Number(found[2]) : since ? -1 : this.has, desk, true);
   }
 
   view(without) {

@@ -335,7 +335,7 @@ export class World {
 
   found(server, list, isOfDay) {
     return { status: 200, text: typeof list === 'string' ? list : list.map((one) => JSON.stringify(one)).join('\n'), detail: '', retry: 0, isOwn: true, log: isOfDay ? server.log.id : '',
-      position: isOfDay ? server.has : NaN, stale: isOfDay ? server.staleSince : undefined };
+      position: isOfDay ? server.has : NaN, lastAt: isOfDay ? server.lastAt(server.has) : undefined, stale: isOfDay ? server.staleSince : undefined };
   }
 
   who(ask, cookie) {

@@ -1,0 +1,115 @@
+"""Replies of before: a program that gives others is told, with the position, whatever its version says."""
+import contextlib
+import os
+import sqlite3
+import subprocess
+
+import clusters
+import pytest
+from conftest import PROGRAM, ROOT, until
+
+needs_postgres = pytest.mark.skipif(bool(clusters.missing()), reason=f"a log in PostgreSQL: {' and '.join(clusters.missing())} missing")
+# A rebuilt program, which gives the same version and one other word or Row.
+OTHER_ROW = """[ "$1" = trace ] && { $PROGRAM "$@" | sed -E '/^\\{"record":17,/ s/"priority":5/"priority":6/'; exit; }"""
+OTHER_WORD = """[ "$1" = trace ] && { $PROGRAM "$@" | sed -E '/^\\{"record":918,/ s/"KIND"/"FIELDS"/'; exit; }"""
+OTHER_LIVE = """[ "$1" = serve ] && { $PROGRAM "$@" | sed -u -E '/"reply":"ACCEPTED","accepted":950,/ s/"priority":5/"priority":6/'; exit; }"""
+
+
+def cdmboard(*words, program=PROGRAM):
+    return subprocess.run([str(ROOT / "cdmboard"), *map(str, words)], env=dict(os.environ, CDMSEQ=str(program)), capture_output=True, text=True, timeout=60)
+
+
+def with_records(server, count):
+    """A log with so many records: the last 200 from a desk, which sends a wrong one in 18, and those before from a feed."""
+    feed = server.folder / "feed.csv"
+    feed.write_text("".join(f"AP,FLT,A{number},5\n" for number in range(count - 200)))
+    board = server.options[server.options.index("--board"):] if "--board" in server.options else []
+    ended = cdmboard("import", server.airport, server.log, feed, *board, program=server.environment["CDMSEQ"])
+    assert ended.returncode == 0, ended.stderr
+    server.start()
+    for first in range(count - 200, count, 100):
+        replies = server.post(["FOO" if number % 18 == 17 else f"FLT,A{number},5" for number in range(first, first + 100)], Cdm_Role="AP")
+        assert replies[-1]["position"] == first + 100
+    return board
+
+
+def in_file(server, query):
+    """What a query of a log in a file gives."""
+    with contextlib.closing(sqlite3.connect(server.log, isolation_level=None)) as database:
+        return database.execute(query).fetchall()
+
+
+def refused(server, board):
+    """The lines of `verify` and of a start, both of which end with status 3."""
+    verify = cdmboard("verify", server.log, *board, program=server.environment["CDMSEQ"])
+    assert (verify.returncode, verify.stdout) == (3, ""), verify
+    words = [str(server.airport), str(server.log), "--listen", "127.0.0.1:0", *server.options]
+    start = cdmboard(*words, program=server.environment["CDMSEQ"])
+    assert (start.returncode, start.stdout) == (3, ""), start
+    return [verify.stderr, start.stderr]
+
+
+@pytest.mark.parametrize("other", [OTHER_ROW, OTHER_WORD], ids=["row", "word"])
+def test_a_program_that_replies_otherwise_is_told(board, other):
+    """One old record of another reply: neither a start nor `verify` takes it. The program of before goes on."""
+    server = board(start=False)
+    server.program("")
+    feed_board = with_records(server, 1100)
+    assert server.end() == 0
+    verified = cdmboard("verify", server.log, *feed_board, program=server.environment["CDMSEQ"])
+    assert verified.stdout.endswith("1 digests of replies\n"), verified
+    server.program(other)
+    for told in refused(server, feed_board):
+        assert "a record of the positions 1 to 1000 has another reply than before" in told and told.count("\n") == 1
+    server.program("")
+    assert server.start().metric("cdm_position") == 1100
+
+
+def test_digests_are_those_of_the_replies_that_desks_got(board):
+    """The replies of `serve` and those of a later `trace` have one digest; a log of before gets its digests at its next start."""
+    server = board(start=False)
+    with_records(server, 2100)
+    until(lambda: len(in_file(server, "SELECT * FROM cdm_digest")) == 2)
+    kept = in_file(server, "SELECT position, digest FROM cdm_digest ORDER BY position")
+    assert [position for position, _ in kept] == [1000, 2000]
+    assert server.end() == 0
+    in_file(server, "DROP TABLE cdm_digest")
+    assert cdmboard("verify", server.log).stdout.endswith(" accepted, 0 digests of replies\n")
+    server.start()
+    until(lambda: in_file(server, "SELECT position, digest FROM cdm_digest ORDER BY position") == kept)
+    assert server.end() == 0
+
+
+def test_a_log_that_was_changed_is_told(board):
+    """A record that somebody wrote anew, or took from the end."""
+    server = board(start=False)
+    with_records(server, 1100)
+    assert server.end() == 0
+    line, = in_file(server, "SELECT line FROM cdm_record WHERE position = 7")[0]
+    in_file(server, "UPDATE cdm_record SET line = 'FLT,A6,4' WHERE position = 7")
+    for told in refused(server, []):
+        assert "of the positions 1 to 1000 has another reply than before" in told
+    in_file(server, f"UPDATE cdm_record SET line = '{line}' WHERE position = 7")
+    in_file(server, "DELETE FROM cdm_record WHERE position > 990")
+    for told in refused(server, []):
+        assert "position 991 is missing, and there were 1000 records or more" in told
+
+
+@needs_postgres
+def test_of_two_servers_that_reply_otherwise_one_ends(board, cluster):
+    """Whoever comes second to a digest ends with status 3; who replied first goes on. A copy in a file has the digests too."""
+    cluster.sql("TRUNCATE cdm_log, cdm_record, cdm_session, cdm_audit, cdm_digest")
+    one, other = (board(log=cluster.url(), start=False) for _ in range(2))
+    other.program(OTHER_LIVE)
+    feed = with_records(one, 900)
+    other.start()
+    assert one.post([f"FLT,B{number},5" for number in range(100)], Cdm_Role="AP")[-1]["position"] == 1000
+    until(lambda: one.process.poll() is not None or other.process.poll() is not None, 20)
+    ended, goes_on = (one, other) if one.process.poll() is not None else (other, one)
+    assert ended.process.wait(10) == 3 and "of the positions 1 to 1000 has another reply than before" in ended.told()
+    assert goes_on.metric("cdm_position") == 1000 and feed == []
+    copy = goes_on.folder / "copy.db"
+    assert cdmboard("backup", cluster.url(), copy).returncode == 0
+    verified = [cdmboard("verify", log, program=goes_on.environment["CDMSEQ"]) for log in (copy, cluster.url())]
+    if goes_on is one:
+        assert [ran.stdout.rpartition("accepted, ")[2] for ran in verified] == ["1 digests of replies\n"] * 2
