@@ -84,6 +84,7 @@ export class Next {
           if (this.items.get(item.name) === item && row?.tsat && this.filter.takes(row)) this.list.set(item, keyOf(row));
         }
         this.divide();
+        this.head();
       }, new Set(moving.map((item) => item.row))));
     }
     this.head();
