@@ -5,7 +5,7 @@ import signal
 import time
 
 from browser import AIRPORT, WAIT, fill, until
-from test_page_desks import DENIED, DESKS, QUIET, sign_in
+from test_page_desks import DENIED, DESKS, sign_in
 
 # Holds the answers to questions for the plan until they are let go; they are those of the moment at which they were asked for.
 HOLD = """window.held = []; const real = window.fetch; window.fetch = async (path, ...words) => {
@@ -73,29 +73,30 @@ def test_a_reset_while_the_plan_is_read(page):
 
 def test_a_sign_in_while_the_plan_is_read(page):
     """Who signs in while the plan is being read gets it, and what comes behind it."""
-    shown = page(DESKS, day=QUIET)
+    shown = page(DESKS, day=CROWDED | {"ATC": CROWDED["ATC"][:-1]})
     shown.server.write_desks(DESKS, "anyone")
     shown.server.process.send_signal(signal.SIGHUP)
     until(lambda: shown.server.get("/v1/who").status == 200)
     shown.allowed += DENIED
     shown.open()
     shown.js(HOLD)
-    # The plan is read anew, since the events have to begin anew.
     first = shown.tab("")
     shown.click("#b-sign-in")
     sign_in(shown, "ao")
     shown.until("return document.querySelector('#desk').textContent === 'ao'")
     shown.close_tab(first)
+    # It moves more than 100 flights, so the plan is read anew.
+    shown.server.post("CLOSE,27L,2025-03-10T06:45Z,2025-03-10T07:15Z", "atc")
     shown.until("return window.held.length > 0", seconds=2 * WAIT)
     shown.click("#b-sign-out")
     shown.until("return document.querySelector('#b-sign-in').checkVisibility()")
     shown.click("#b-sign-in")
     sign_in(shown, "ground-2")
     shown.until("return document.querySelector('#desk').textContent === 'ground-2'")
-    shown.server.post("TOBT,DLH1,2025-03-10T06:20Z", "ao")
+    shown.server.post(f"TOBT,{MANY[-1]},2025-03-10T06:35Z", "ao")
     shown.js(LET_GO)
     is_the_day(shown, "wall")
-    shown.server.post("TOBT,DLH1,2025-03-10T06:30Z", "ao")
+    shown.server.post(f"TOBT,{MANY[-1]},2025-03-10T06:30Z", "ao")
     is_the_day(shown, "wall")
 
 
