@@ -32,7 +32,7 @@ from board.events import Events
 from board.guard import HEADERS, Door, Guard
 from board.log import MOST_RECORDS, Batch, Log, Record
 from board.notify import Notifier
-from board.replies import Keeper, check, day_of_log
+from board.replies import Keeper, check, day_of_log, reply_again
 from board.sequencer import MOST_JOURNAL, Sequencer, place_with_room
 from board.telling import Teller
 from board.views import Views
@@ -208,6 +208,7 @@ async def verify(options: argparse.Namespace) -> None:
         raise Fault(f"{options.log} was made by another program: {made_by}, and this is {version}")
     with folder_of("verify", airport) as folder:
         _, day = await day_of(folder, PROGRAM, records)
+        await reply_again(folder, PROGRAM, day)
     check(day, digests, options.log)
     print(f"{len(day.records)} records, {len(day.lines)} accepted, {len(digests)} digests of replies")
 

@@ -56,20 +56,29 @@ class Day:
         for key in {(flight, record.desk), (flight, None), (None, record.desk)} - {(None, None)}:
             self._of[key].append(record)
         self.records.append(record)
-        if self.digests.add(_text(record, None)):
-            self.digested.set()
         return record
 
     def add(self, record: Record, word: str | None, changes: list[object]) -> None:
         """The next record's reply. Who waits for it is woken."""
         record = self._keep(record, word, len(changes))
         text = self._texts[record.position] = _text(record, changes)
+        if self.digests.add(text):
+            self.digested.set()
         self._bytes += len(text)
         while len(self._texts) > KEPT or self._bytes > KEPT_BYTES:
             self._bytes -= len(self._texts.popitem(last=False)[1])
         self.changed.set()
         if waited_for := self._waited_for.get(record.position):
             waited_for.set()
+
+    def reply_again(self, word: str | None, changes: list[object]) -> None:
+        """A reply of before the start, to the next record that had none here, for its digest alone."""
+        self.digests.add(_text(self.records[self.digests.position]._replace(word=word), changes))
+
+    def unchanged(self, position: int) -> None:
+        """The next records, up to a position, were replied to before the start and changed nothing."""
+        for record in self.records[self.digests.position:position]:
+            self.reply_again(record.word, [])
 
     def unkept(self) -> dict[int, str]:
         """The digests that the log isn't known to have."""

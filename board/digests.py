@@ -1,7 +1,6 @@
 """Digests of all replies so far, one for each 1,000 records: by them a program that replies otherwise to old records is found.
 
-Of a reply a digest has the record with its position, desk and time, and whether it was accepted or by which code it was refused. The Rows that
-it changed aren't in it: to make those of a whole day again takes too long for a start."""
+A reply is all that its desk got: the record with its position, desk and time, and the refusal code or the Rows that it changed."""
 import hashlib
 from collections.abc import Mapping
 

@@ -1,13 +1,19 @@
-"""The replies of before: at a start the program gives them again, and their digests have to be those of the log; new digests are kept."""
-import asyncio
+"""The replies of before: at a start the program gives them again, and their digests have to be those of the log; new digests are kept.
 
-from board.answers import day_of
+What the program replied is told by its `trace`, which is proved to say what `serve` says."""
+import asyncio
+import json
+from asyncio.subprocess import DEVNULL, PIPE
+
+from board.answers import START_SECONDS, day_of, ended
 from board.day import Day
 from board.log import Away, Log
+from board.program import MOST_REPLY, same
 from board.words import Fault
 
 # Seconds until a log that takes no digest is tried again.
 AGAIN_SECONDS = 1.0
+TRACE = ("trace", "airport.csv", "log.csv", "--format", "json")
 
 
 async def day_of_log(folder: str, program: str, log: Log, kinds: bytes) -> tuple[str, Day]:
@@ -15,6 +21,7 @@ async def day_of_log(folder: str, program: str, log: Log, kinds: bytes) -> tuple
     # Its digests are read first: so each is of records that are read too.
     digests = await log.digests()
     date, day = await day_of(folder, program, await log.whole(), kinds)
+    await reply_again(folder, program, day)
     check(day, digests, log.name)
     return date, day
 
@@ -24,6 +31,46 @@ def check(day: Day, digests: dict[int, str], name: str) -> None:
     day.digests.compare(digests, name)
     if (most := max(digests, default=0)) > len(day.records):
         raise Fault(f"{name}: position {len(day.records) + 1} is missing, and there were {most} records or more")
+
+
+async def reply_again(folder: str, program: str, day: Day) -> None:
+    """Has the program reply to all records of a day, which are `log.csv` in a folder. Raises Fault."""
+    if not day.records:
+        return
+    process = await asyncio.create_subprocess_exec(
+        same(program), *TRACE, cwd=folder, stdin=DEVNULL, stdout=PIPE, limit=MOST_REPLY, start_new_session=True)
+    assert process.stdout is not None
+    try:
+        async with asyncio.timeout(START_SECONDS):
+            async for line in process.stdout:
+                _take(day, json.loads(line))
+            status = await process.wait()
+    except TimeoutError:
+        raise Fault(f"{' '.join(TRACE)}: no end within {START_SECONDS:.0f} seconds", 1) from None
+    except ValueError as fault:
+        raise Fault(f"{' '.join(TRACE)}: {fault}", 1) from None
+    finally:
+        await ended(process)
+    if status != 0:
+        raise Fault(f"{' '.join(TRACE)} ended with {status}", 1)
+    day.unchanged(len(day.records))
+
+
+def _take(day: Day, reply: object) -> None:
+    """A reply of `trace`, which leaves out those that change nothing. Raises ValueError."""
+    word: str | None = None
+    changes: list[object] = []
+    match reply:
+        case {"record": int(number), "reply": "REFUSED", "word": str(word)}:
+            pass
+        case {"record": int(number), "reply": "ACCEPTED", "changes": list(changes)}:
+            pass
+        case _:
+            raise ValueError("a reply of no form that it has")
+    day.unchanged(number - 1)
+    if number > len(day.records) or number != day.digests.position + 1:
+        raise ValueError(f"a reply to record {number}, which isn't due")
+    day.reply_again(word, changes)
 
 
 class Keeper:

@@ -9,12 +9,12 @@ import pytest
 from conftest import FACTOR, PROGRAM, ROOT, until
 
 needs_postgres = pytest.mark.skipif(bool(clusters.missing()), reason=f"a log in PostgreSQL: {' and '.join(clusters.missing())} missing")
-# A rebuilt program, which gives the same version and one other refusal code, or accepts what was refused.
-OTHER_WORD = """[ "$1" = plan ] && { $PROGRAM "$@" | sed -E 's/"record":918,"word":"KIND"/"record":918,"word":"FIELDS"/'; exit; }"""
-ACCEPTS = """[ "$1" = plan ] && { $PROGRAM "$@" | sed -E 's/\\{"record":918,"word":"KIND"\\},//'; exit; }"""
+# A rebuilt program, which gives the same version and one other word or Row.
+OTHER_ROW = """[ "$1" = trace ] && { $PROGRAM "$@" | sed -E '/^\\{"record":17,/ s/"priority":5/"priority":6/'; exit; }"""
+OTHER_WORD = """[ "$1" = trace ] && { $PROGRAM "$@" | sed -E '/^\\{"record":918,/ s/"KIND"/"FIELDS"/'; exit; }"""
 # It is also a little late at the last record before a digest.
-OTHER_LIVE = """[ "$1" = serve ] && { $PROGRAM "$@" | sed -u -E 's/"reply":"REFUSED","word":"KIND"/"reply":"REFUSED","word":"FIELDS"/' |
-    while read -r line; do case $line in *'"accepted":987,'*) sleep 3; esac; printf '%s\\n' "$line"; done; exit; }"""
+OTHER_LIVE = """[ "$1" = serve ] && { $PROGRAM "$@" | sed -u -E '/"reply":"ACCEPTED","accepted":950,/ s/"priority":5/"priority":6/' |
+    while read -r line; do case $line in *'"accepted":988,'*) sleep 3; esac; printf '%s\\n' "$line"; done; exit; }"""
 
 
 def cdmboard(*words, program=PROGRAM):
@@ -53,7 +53,7 @@ def refused(server, board):
     return [verify.stderr, start.stderr]
 
 
-@pytest.mark.parametrize("other", [OTHER_WORD, ACCEPTS], ids=["word", "accepts"])
+@pytest.mark.parametrize("other", [OTHER_ROW, OTHER_WORD], ids=["row", "word"])
 def test_a_program_that_replies_otherwise_is_told(board, other):
     """One old record of another reply: neither a start nor `verify` takes it. The program of before goes on."""
     server = board(start=False)
@@ -71,7 +71,7 @@ def test_a_program_that_replies_otherwise_is_told(board, other):
 
 
 def test_digests_are_those_of_the_replies_that_desks_got(board):
-    """The replies of `serve` and those of a later start have one digest; a log of before gets its digests at its next start."""
+    """The replies of `serve` and those of a later `trace` have one digest; a log of before gets its digests at its next start."""
     server = board(start=False)
     with_records(server, 2100)
     until(lambda: len(in_file(server, "SELECT * FROM cdm_digest")) == 2)
@@ -109,11 +109,11 @@ def test_of_two_servers_that_reply_otherwise_one_ends(board, cluster):
     other.program(OTHER_LIVE)
     with_records(one, 900)
     other.start()
-    assert one.post(["FOO", *(f"FLT,B{number},5" for number in range(99))], Cdm_Role="AP")[-1]["position"] == 1000
+    assert one.post([f"FLT,B{number},5" for number in range(100)], Cdm_Role="AP")[-1]["position"] == 1000
     until(lambda: other.process.poll() is not None, 20)
     assert other.process.returncode == 3 and "of the positions 1 to 1000 has another reply than before" in other.told()
     assert one.process.poll() is None and one.metric("cdm_position") == 1000
     copy = one.folder / "copy.db"
     assert cdmboard("backup", cluster.url(), copy).returncode == 0
     for log in (copy, cluster.url()):
-        assert cdmboard("verify", log).stdout == "1000 records, 987 accepted, 1 digests of replies\n"
+        assert cdmboard("verify", log).stdout == "1000 records, 988 accepted, 1 digests of replies\n"
