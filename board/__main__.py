@@ -32,7 +32,7 @@ from board.events import Events
 from board.guard import HEADERS, Door, Guard
 from board.log import MOST_RECORDS, Batch, Log, Record
 from board.notify import Notifier
-from board.replies import Keeper, check, day_of_log, reply_again
+from board.replies import Keeper, check_length, day_of_log, reply_again
 from board.sequencer import MOST_JOURNAL, Sequencer, place_with_room
 from board.telling import Teller
 from board.views import Views
@@ -208,8 +208,9 @@ async def verify(options: argparse.Namespace) -> None:
         raise Fault(f"{options.log} was made by another program: {made_by}, and this is {version}")
     with folder_of("verify", airport) as folder:
         _, day = await day_of(folder, PROGRAM, records)
-        await reply_again(folder, PROGRAM, day)
-    check(day, digests, options.log)
+        check_length(day, digests, options.log)
+        await reply_again(folder, PROGRAM, day.records, day.digests)
+    day.digests.compare(digests, options.log)
     print(f"{len(day.records)} records, {len(day.lines)} accepted, {len(digests)} digests of replies")
 
 
@@ -260,7 +261,7 @@ async def serve(options: argparse.Namespace) -> None:
         loop.add_signal_handler(signal.SIGHUP, notifier.reload, functools.partial(again, options, board, door, sealed))
         at = f"{scheme}://{f'[{host}]' if ':' in host else host}:{door.getsockname()[1]}/"
         try:
-            await run(board, at, date if options.clock else "", notifier)
+            await run(board, at, date if options.clock else "", notifier, Keeper(folder, PROGRAM, log, day))
         except ExceptionGroup as faults:
             raise faults.exceptions[0] from None
         finally:
@@ -272,7 +273,7 @@ async def serve(options: argparse.Namespace) -> None:
             await runner.cleanup()
 
 
-async def run(board: Board, address: str, date: str, notifier: Notifier) -> None:
+async def run(board: Board, address: str, date: str, notifier: Notifier, keeper: Keeper) -> None:
     """Runs all that a board has running, until it is told to end and each record has its reply."""
     ending, loop = asyncio.Event(), asyncio.get_running_loop()
     for number in (signal.SIGTERM, signal.SIGINT):
@@ -280,7 +281,7 @@ async def run(board: Board, address: str, date: str, notifier: Notifier) -> None
     views = Views(board.answers, board.events)
     async with asyncio.TaskGroup() as group:
         vital = [group.create_task(part) for part in (board.sequencer.run(), board.log.ended())]
-        parts = [board.events.run(), views.run(), board.signing.watch(), board.audit.run(), Keeper(board.log, board.day).run(), ready(board, address),
+        parts = [board.events.run(), views.run(), board.signing.watch(), board.audit.run(), keeper.run(), ready(board, address),
                  notifier.run(board.health.words, vital)]
         tasks = vital + [group.create_task(part) for part in parts + ([clock.run(date, board.records.take)] if date else [])]
         await ending.wait()

@@ -85,6 +85,8 @@ class Answers:
         except TimeoutError:
             raise _no_place() from None
         try:
+            # What is made in a turn may wait for nothing; so others come in between.
+            await asyncio.sleep(0)
             yield
         finally:
             lock.release()

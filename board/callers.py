@@ -1,5 +1,6 @@
 """Who asks: by which address, as which desk, and how often with a wrong token."""
 import time
+from collections import defaultdict
 
 from aiohttp import web
 
@@ -29,7 +30,7 @@ class Callers:
         self.cookie_name = f"{'__Host-' if scheme == 'https' else ''}cdm-{log.id}"
         self.wrong = Windows(MINUTE)
         self.refused = Windows(MINUTE)
-        self._sign_ins = Windows(MINUTE)
+        self._sign_ins = defaultdict[str, Windows](lambda: Windows(MINUTE))
         self._behind_proxy = behind_proxy
 
     def address(self, request: web.Request) -> str:
@@ -41,14 +42,14 @@ class Callers:
         return peer
 
     def asker(self, request: web.Request) -> str:
-        """Who asks, for what each may have: a desk, or @ and an address."""
-        return request.get("desk", READER).name or f"@{self.address(request)}"
+        """Who asks, for what each may have: a desk, or @ and an address or network."""
+        return request.get("desk", READER).name or f"@{group_of(self.address(request))}"
 
     def desk_of(self, request: web.Request) -> Desk:
         """The desk that asks; who may read without a token is a display without a name. Raises Problem."""
         role = request.headers.get("Cdm-Role")
         said = request.headers.get("Authorization")
-        cookie = request.cookies.get(self.cookie_name)
+        cookie = self.cookie_of(request)
         if self.desks.is_open:
             desk = READER if role is None else self.desks.by_name.get(role)
         elif said is not None:
@@ -66,6 +67,12 @@ class Callers:
             raise Problem(401, "a token of a desk is needed", WWW_Authenticate="Bearer")
         return desk
 
+    def cookie_of(self, request: web.Request) -> str | None:
+        """The board's cookie. The others aren't read: a header has room for more than a thousand."""
+        name = f"{self.cookie_name}="
+        said = (one.strip() for one in request.headers.get("Cookie", "").split(";"))
+        return next((one[len(name):] for one in said if one.startswith(name)), None)
+
     def count_wrong(self, request: web.Request) -> None:
         """Counts a wrong token of an address. Raises Problem if that are too many; a right token is never refused for it."""
         now = time.monotonic()
@@ -79,5 +86,5 @@ class Callers:
     def check_sign_ins(self, desk: Desk, address: str) -> None:
         """Raises Problem if a desk signs in too often at an address, or out (at no address)."""
         now = time.monotonic()
-        window = self._sign_ins.add(f"{desk.name} {group_of(address)}", now)
+        window = self._sign_ins[desk.name].add(group_of(address), now)
         refuse(window.count > MOST_SIGN_INS, 429, "this desk signs in and out too often", Retry_After=str(1 + int(window.ends - now)))

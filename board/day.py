@@ -1,6 +1,7 @@
 """The day as this server has it: the records of the log that were replied to, with their replies."""
 import asyncio
 import json
+import re
 from bisect import bisect
 from collections import OrderedDict, defaultdict
 from collections.abc import Iterable, Mapping
@@ -61,8 +62,9 @@ class Day:
     def add(self, record: Record, word: str | None, changes: list[object]) -> None:
         """The next record's reply. Who waits for it is woken."""
         record = self._keep(record, word, len(changes))
-        text = self._texts[record.position] = _text(record, changes)
-        if self.digests.add(text):
+        text = self._texts[record.position] = text_of(record, changes)
+        # Those of before the start may not have been given again yet.
+        if self.digests.position == record.position - 1 and self.digests.add(text):
             self.digested.set()
         self._bytes += len(text)
         while len(self._texts) > KEPT or self._bytes > KEPT_BYTES:
@@ -71,14 +73,15 @@ class Day:
         if waited_for := self._waited_for.get(record.position):
             waited_for.set()
 
-    def reply_again(self, word: str | None, changes: list[object]) -> None:
-        """A reply of before the start, to the next record that had none here, for its digest alone."""
-        self.digests.add(_text(self.records[self.digests.position]._replace(word=word), changes))
-
-    def unchanged(self, position: int) -> None:
-        """The next records, up to a position, were replied to before the start and changed nothing."""
-        for record in self.records[self.digests.position:position]:
-            self.reply_again(record.word, [])
+    def digest_kept(self) -> bool:
+        """Takes replies that are kept into the digests, in their order. Whether there are digests of all replies now."""
+        for record in self.records[self.digests.position:]:
+            text = self._texts.get(record.position)
+            if text is None:
+                return False
+            if self.digests.add(text):
+                self.digested.set()
+        return True
 
     def unkept(self) -> dict[int, str]:
         """The digests that the log isn't known to have."""
@@ -103,9 +106,13 @@ class Day:
         places; by this they are told apart."""
         return self.records[position - 1].at if 0 < position <= len(self.records) else ""
 
+    def past(self, position: int) -> str:
+        """What tells the records up to a position apart from others that may have stood there: the digits of when the last one was taken."""
+        return re.sub("[^0-9]", "", self.at(position))
+
     def text(self, record: Record) -> bytes:
         """The reply to a record, `changes` null if they aren't kept."""
-        return self._texts.get(record.position) or _text(record, None)
+        return self._texts.get(record.position) or text_of(record, None)
 
     def kept_behind(self, position: int) -> list[Record] | None:
         """All records behind a position, None if their replies aren't all kept whole."""
@@ -134,7 +141,7 @@ class Day:
         self._waited_for.clear()
 
 
-def _text(record: Record, changes: list[object] | None) -> bytes:
+def text_of(record: Record, changes: list[object] | None) -> bytes:
     told = dict(zip(("position", "desk", "role", "line", "at"), record), reply="REFUSED", word=record.word)
     if record.word is None:
         del told["word"]

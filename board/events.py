@@ -160,8 +160,10 @@ class Events:
 
     def open(self, stream: Stream, said: str) -> None:
         """Begins with what came since an event, if one is said."""
-        log_id, _, position = said.strip('"').rpartition("-")
+        name, _, position = said.strip('"').rpartition("-")
+        log_id, _, past = name.partition(".")
         is_known = log_id.encode() == self._log_id and POSITION.fullmatch(position) and int(position) > self._day.doubtful
+        is_known = is_known and past in ("", self._day.past(int(position)))
         stream.had = self._moment()
         text = self._text(stream.desk.name, int(position) if is_known else -1 if said else stream.had[1], True)
         if self._view[:2] == stream.had:

@@ -1,6 +1,7 @@
 """The log: all records in the order in which they were taken, in a database. A record is never changed."""
 import asyncio
 import json
+import re
 import time
 from collections.abc import Awaitable, Callable, Sequence
 from dataclasses import dataclass, field
@@ -11,6 +12,9 @@ from board.words import LINE, MOST_BYTES, ROLES, Fault, Problem, now_text
 # Records, and events of the audit that are no records, of one log.
 MOST_RECORDS = 60_000
 MOST_EVENTS = 20_000
+# Of a log, and of a record: when it was taken.
+ID = re.compile("[0-9A-Za-z]{1,32}")
+AT = re.compile("[0-9A-Za-z:.+-]{0,40}")
 NOT_KNOWN = "not known whether the records are in the log; send again with the same key"
 
 
@@ -109,8 +113,8 @@ class Log(Protocol):
     async def sessions(self) -> dict[str, int]:
         """The number of each desk's first session that hasn't ended, where it isn't 0. Raises Away, Fault."""
 
-    async def sign_out(self, desk: str) -> None:
-        """Ends all sessions of a desk. Raises Away, Fault."""
+    async def sign_out(self, desk: str, least: int = 1) -> None:
+        """Ends all sessions of a desk, also those before number `least`, which may have ended at this server alone. Raises Away, Fault."""
 
     async def note(self, events: list[Event]) -> int:
         """Keeps events in the audit; how many, since there is no room for more than MOST_EVENTS. Raises Away, Fault."""
@@ -137,7 +141,9 @@ class Kept:
         self.read_at = time.monotonic()
 
     def check(self, airport: bytes, made_by: str, version: str) -> None:
-        """Raises Fault if the log is another airport's or program's."""
+        """Raises Fault if the log is another airport's or program's, or has an id that can't be part of a folder's name."""
+        if not ID.fullmatch(self.id):
+            raise Fault(f"{self.name}: its id isn't one that cdmboard gives")
         if (self.airport, made_by) != (airport, version):
             what, board = "airport file" if self.airport != airport else "program", f" --board {self._board}" if self._board else ""
             raise Fault(f"{self.name} belongs to another {what}; for a new log: cdmboard export {self.name}{board} > day.csv"
@@ -163,6 +169,7 @@ def records_of(name: str, after: int, rows: Sequence[Sequence[Any]]) -> list[Rec
         if record.position != position:
             raise Fault(f"{name}: position {position} is missing")
         is_line = all(isinstance(word, str) for word in record[1:5]) and len(record.line) <= MOST_BYTES and LINE.fullmatch(record.line)
+        is_line = is_line and AT.fullmatch(record.at)
         if not is_line or record.role not in ROLES:
             raise Fault(f"{name}: position {position} isn't one line of a record")
     return records

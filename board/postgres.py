@@ -338,10 +338,10 @@ class PostgresLog(Kept):
 
     # What is written.
 
-    async def sign_out(self, desk: str) -> None:
+    async def sign_out(self, desk: str, least: int = 1) -> None:
         """As of a file, by a connection of its own, and tells the other servers."""
         async with database_of(self._url) as database:
-            await finished(database, COMMIT_SECONDS, database.fetchval("SELECT public.cdm_sign_out($1, $2)", self._board, desk))
+            await finished(database, COMMIT_SECONDS, database.fetchval("SELECT public.cdm_sign_out($1, $2, $3)", self._board, desk, max(1, least)))
             await finished(database, COMMIT_SECONDS, database.execute("SELECT pg_notify('cdm_session', $1)", self._board))
 
     async def keep(self, said: Sequence[tuple[Record, str]]) -> dict[int, str]:

@@ -117,7 +117,7 @@ class Questions:
     def tags(self, position: int) -> dict[str, str]:
         """The headers that say of which moment an answer is."""
         stale = {"Cdm-Stale-Since": self._log.stale_since} if self._log.stale_since else {}
-        return {"Cdm-Position": str(position), "Cdm-At": self._day.at(position), "ETag": f'"{self._log.id}-{position}"',
+        return {"Cdm-Position": str(position), "Cdm-At": self._day.at(position), "ETag": f'"{self._log.id}.{self._day.past(position)}-{position}"',
                 "Vary": "Accept, Accept-Encoding", **stale}
 
     async def of_moment(self, request: web.Request, position: int, form: str, body: bytes) -> web.Response:

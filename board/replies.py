@@ -1,93 +1,141 @@
-"""The replies of before: at a start the program gives them again, and their digests have to be those of the log; new digests are kept.
+"""The replies of before: beside all else the program gives them again, and their digests have to be those of the log; new digests are kept.
 
 What the program replied is told by its `trace`, which is proved to say what `serve` says."""
 import asyncio
 import json
 from asyncio.subprocess import DEVNULL, PIPE
+from collections.abc import Sequence
+from pathlib import Path
 
-from board.answers import START_SECONDS, day_of, ended
-from board.day import Day
-from board.log import Away, Log
+from board.answers import LIMITED, day_of, ended
+from board.day import Day, text_of
+from board.digests import Digests
+from board.log import Away, Log, Record
 from board.program import MOST_REPLY, same
-from board.words import Fault
+from board.words import Fault, tell
 
-# Seconds until a log that takes no digest is tried again.
+# Seconds until a log that takes no digest is tried again, and for the replies of a whole day.
 AGAIN_SECONDS = 1.0
-TRACE = ("trace", "airport.csv", "log.csv", "--format", "json")
+TRACE_SECONDS = 900.0
+TRACE = ("trace", "airport.csv", "replies.csv", "--format", "json")
 
 
 async def day_of_log(folder: str, program: str, log: Log, kinds: bytes) -> tuple[str, Day]:
-    """The date and the day of a log. Raises Fault, also if the log has digests of other replies."""
+    """The date and the day of a log. Raises Fault, also if the log has digests of records that it hasn't."""
     # Its digests are read first: so each is of records that are read too.
     digests = await log.digests()
     date, day = await day_of(folder, program, await log.whole(), kinds)
-    await reply_again(folder, program, day)
-    check(day, digests, log.name)
+    check_length(day, digests, log.name)
     return date, day
 
 
-def check(day: Day, digests: dict[int, str], name: str) -> None:
-    """Raises Fault if a log has digests of other replies than a day's, or of records that it hasn't."""
-    day.digests.compare(digests, name)
+def check_length(day: Day, digests: dict[int, str], name: str) -> None:
+    """Raises Fault if a log has digests of records that it hasn't."""
     if (most := max(digests, default=0)) > len(day.records):
         raise Fault(f"{name}: position {len(day.records) + 1} is missing, and there were {most} records or more")
 
 
-async def reply_again(folder: str, program: str, day: Day) -> None:
-    """Has the program reply to all records of a day, which are `log.csv` in a folder. Raises Fault."""
-    if not day.records:
+class Again:
+    """Replies to records of before, which are given again in their order, for the digests alone."""
+
+    def __init__(self, records: Sequence[Record], digests: Digests) -> None:
+        self._records = records
+        self._digests = digests
+
+    def take(self, reply: object) -> None:
+        """A reply of `trace`, which leaves out those that change nothing. Raises ValueError."""
+        word: str | None = None
+        changes: list[object] = []
+        match reply:
+            case {"record": int(number), "reply": "REFUSED", "word": str(word)}:
+                pass
+            case {"record": int(number), "reply": "ACCEPTED", "changes": list(changes)}:
+                pass
+            case _:
+                raise ValueError("a reply of no form that it has")
+        if number <= self._digests.position:
+            return
+        self.unchanged(number - 1)
+        if number > len(self._records):
+            raise ValueError(f"a reply to record {number}, which isn't there")
+        self._add(word, changes)
+
+    def unchanged(self, position: int) -> None:
+        """The next records, up to a position, changed nothing."""
+        for record in self._records[self._digests.position:position]:
+            self._add(record.word, [])
+
+    def _add(self, word: str | None, changes: list[object]) -> None:
+        self._digests.add(text_of(self._records[self._digests.position]._replace(word=word), changes))
+
+
+async def reply_again(folder: str, program: str, records: Sequence[Record], digests: Digests) -> None:
+    """Has the program reply to records from the first one on. Raises Fault."""
+    if not records:
         return
+    again = Again(records, digests)
+    Path(folder, TRACE[2]).write_text("".join(f"{record.role},{record.line}\n" for record in records), "ascii")
     process = await asyncio.create_subprocess_exec(
-        same(program), *TRACE, cwd=folder, stdin=DEVNULL, stdout=PIPE, limit=MOST_REPLY, start_new_session=True)
+        *LIMITED, same(program), *TRACE, cwd=folder, stdin=DEVNULL, stdout=PIPE, limit=MOST_REPLY, start_new_session=True)
     assert process.stdout is not None
     try:
-        async with asyncio.timeout(START_SECONDS):
+        async with asyncio.timeout(TRACE_SECONDS):
             async for line in process.stdout:
-                _take(day, json.loads(line))
+                again.take(json.loads(line))
             status = await process.wait()
     except TimeoutError:
-        raise Fault(f"{' '.join(TRACE)}: no end within {START_SECONDS:.0f} seconds", 1) from None
+        raise Fault(f"{' '.join(TRACE)}: no end within {TRACE_SECONDS:.0f} seconds", 1) from None
     except ValueError as fault:
         raise Fault(f"{' '.join(TRACE)}: {fault}", 1) from None
     finally:
         await ended(process)
     if status != 0:
         raise Fault(f"{' '.join(TRACE)} ended with {status}", 1)
-    day.unchanged(len(day.records))
-
-
-def _take(day: Day, reply: object) -> None:
-    """A reply of `trace`, which leaves out those that change nothing. Raises ValueError."""
-    word: str | None = None
-    changes: list[object] = []
-    match reply:
-        case {"record": int(number), "reply": "REFUSED", "word": str(word)}:
-            pass
-        case {"record": int(number), "reply": "ACCEPTED", "changes": list(changes)}:
-            pass
-        case _:
-            raise ValueError("a reply of no form that it has")
-    day.unchanged(number - 1)
-    if number > len(day.records) or number != day.digests.position + 1:
-        raise ValueError(f"a reply to record {number}, which isn't due")
-    day.reply_again(word, changes)
+    again.unchanged(len(records))
 
 
 class Keeper:
-    """Puts the digests of a day into its log."""
+    """Compares the replies of before a start with the digests of a log, and puts the digests of a day into it."""
 
-    def __init__(self, log: Log, day: Day) -> None:
+    def __init__(self, folder: str, program: str, log: Log, day: Day) -> None:
+        self._folder = folder
+        self._program = program
         self._log = log
         self._day = day
 
     async def run(self) -> None:
-        """Returns never. Raises Fault if another server of the log replied otherwise."""
+        """Returns never. Raises Fault if the program replies otherwise than before, or than another server of the log."""
         while True:
             self._day.digested.clear()
+            if not await self._catch_up():
+                await asyncio.sleep(AGAIN_SECONDS)
+                continue
             while said := self._day.unkept():
                 if not await self._keep(said):
                     await asyncio.sleep(AGAIN_SECONDS)
             await self._day.digested.wait()
+
+    async def _catch_up(self) -> bool:
+        """Has the replies of before given again, beside all that the server does. Whether there is a digest of all, and the log's are the
+        same."""
+        day = self._day
+        digests = day.digests
+        try:
+            if not day.digest_kept():
+                await reply_again(self._folder, self._program, tuple(day.records), digests)
+            if digests is not day.digests or not day.digest_kept():
+                return False
+            kept = await self._log.digests()
+        except (Away, OSError):
+            return False
+        except Fault as fault:
+            # That the replies can't be given again is no reason to end what serves.
+            tell(f"cdmboard: no digest of the replies: {fault}")
+            await asyncio.sleep(TRACE_SECONDS)
+            return False
+        if digests is day.digests:
+            digests.compare(kept, self._log.name)
+        return True
 
     async def _keep(self, said: dict[int, str]) -> bool:
         """Whether the log has these digests now; not if it is away, or lacks their records, so that the day is about to begin anew."""

@@ -28,6 +28,14 @@ CREATE TABLE IF NOT EXISTS public.cdm_record (
     line text NOT NULL CHECK (line COLLATE "C" ~ '^[ !#-~]{1,100}$'),
     at text NOT NULL,
     UNIQUE (board, position), UNIQUE (board, desk, key, n));
+-- What a server can't read ends all servers of a board, so no login writes it: a line of blanks, a time or an id of another form.
+DO $$ BEGIN
+    IF NOT EXISTS (SELECT FROM pg_constraint WHERE conname = 'cdm_record_readable') THEN
+        ALTER TABLE public.cdm_record ADD CONSTRAINT cdm_record_readable
+            CHECK (line ~ '[^ ]' AND at ~ '^[0-9A-Za-z:.+-]{1,40}$' AND length(desk) <= 64 AND length(key) <= 64) NOT VALID;
+        ALTER TABLE public.cdm_log ADD CONSTRAINT cdm_log_readable CHECK (id ~ '^[0-9A-Za-z]{1,32}$') NOT VALID;
+    END IF;
+END $$;
 -- Sessions of a desk are numbered from 0; those before `not_before` have ended.
 CREATE TABLE IF NOT EXISTS public.cdm_session (
     board text NOT NULL, desk text NOT NULL, not_before integer NOT NULL, PRIMARY KEY (board, desk));
@@ -133,11 +141,12 @@ BEGIN
     RETURN kept;
 END $$;
 
--- Ends all sessions of a desk, at every server of the board. Returns the number of its next session.
-CREATE OR REPLACE FUNCTION public.cdm_sign_out(of_board text, of_desk text)
+-- Ends all sessions of a desk, at every server of the board, also those before a number. Returns the number of its next session.
+DROP FUNCTION IF EXISTS public.cdm_sign_out(text, text);
+CREATE OR REPLACE FUNCTION public.cdm_sign_out(of_board text, of_desk text, least integer)
     RETURNS integer LANGUAGE sql VOLATILE SECURITY DEFINER SET search_path = pg_catalog, pg_temp AS $$
-    INSERT INTO public.cdm_session VALUES (of_board, of_desk, 1)
-        ON CONFLICT (board, desk) DO UPDATE SET not_before = cdm_session.not_before + 1 RETURNING not_before;
+    INSERT INTO public.cdm_session VALUES (of_board, of_desk, least)
+        ON CONFLICT (board, desk) DO UPDATE SET not_before = greatest(cdm_session.not_before + 1, least) RETURNING not_before;
 $$;
 
 ALTER TABLE public.cdm_log OWNER TO cdm_owner;
@@ -148,13 +157,13 @@ ALTER TABLE public.cdm_digest OWNER TO cdm_owner;
 ALTER FUNCTION public.cdm_append(text, jsonb, text, bytea, text) OWNER TO cdm_owner;
 ALTER FUNCTION public.cdm_note(text, jsonb) OWNER TO cdm_owner;
 ALTER FUNCTION public.cdm_keep(text, jsonb) OWNER TO cdm_owner;
-ALTER FUNCTION public.cdm_sign_out(text, text) OWNER TO cdm_owner;
+ALTER FUNCTION public.cdm_sign_out(text, text, integer) OWNER TO cdm_owner;
 REVOKE ALL ON public.cdm_log, public.cdm_record, public.cdm_session, public.cdm_audit, public.cdm_digest FROM PUBLIC, cdm_server;
 REVOKE ALL ON FUNCTION public.cdm_append(text, jsonb, text, bytea, text), public.cdm_note(text, jsonb), public.cdm_keep(text, jsonb),
-    public.cdm_sign_out(text, text) FROM PUBLIC;
+    public.cdm_sign_out(text, text, integer) FROM PUBLIC;
 GRANT SELECT ON public.cdm_log, public.cdm_record, public.cdm_session, public.cdm_audit, public.cdm_digest TO cdm_server;
 GRANT EXECUTE ON FUNCTION public.cdm_append(text, jsonb, text, bytea, text), public.cdm_note(text, jsonb), public.cdm_keep(text, jsonb),
-    public.cdm_sign_out(text, text) TO cdm_server;
+    public.cdm_sign_out(text, text, integer) TO cdm_server;
 GRANT USAGE ON SCHEMA public TO cdm_server;
 -- Nobody else has anything to do in this database.
 DO $$ BEGIN

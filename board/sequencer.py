@@ -58,6 +58,8 @@ class Sequencer:
                 if not self._life.ended(time.monotonic()):
                     raise Fault("the sequencer ended three times within a minute", 1) from None
             except OSError as fault:
+                if not os.path.exists(f"{self._folder}/airport.csv"):
+                    raise Fault(f"{self._folder}, the folder of this server, is gone", 1) from None
                 # The process isn't to blame: without room, or memory for one more, it is started as soon as there is some.
                 if not self._is_without_room:
                     tell(f"cdmboard: the sequencer can't be started: {fault}; it is tried again")

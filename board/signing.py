@@ -57,15 +57,16 @@ class Signing:
         with contextlib.suppress(Problem):
             desk = self._callers.desk_of(request)
         if desk.name and not self._callers.desks.is_open:
-            self._audit.note("sign-out", desk.name, self._callers.address(request))
+            next_number = sessions.not_before.get(desk.name, 0) + 1
             try:
                 self._callers.check_sign_ins(desk, "")
+                self._audit.note("sign-out", desk.name, self._callers.address(request))
                 async with asyncio.timeout(SIGN_OUT_LIMIT):
-                    await self._log.sign_out(desk.name)
+                    await self._log.sign_out(desk.name, next_number)
                     await self.end_sessions()
             except (Fault, Away, Problem, TimeoutError):
                 self.owed.add(desk.name)
-                sessions.end({desk.name: sessions.not_before.get(desk.name, 0) + 1})
+                sessions.end({desk.name: next_number})
                 self.check_displays({desk.name})
                 return self._with_cookie("", 0, problem_as_answer(Problem(503, SIGNED_OUT_HERE)))
         return self._with_cookie("", 0, web.Response(status=204))
@@ -83,7 +84,7 @@ class Signing:
                 await self.end_sessions()
             with contextlib.suppress(Away, Fault):
                 for desk in list(self.owed):
-                    await self._log.sign_out(desk)
+                    await self._log.sign_out(desk, self._callers.sessions.not_before.get(desk, 0))
                     self.owed.discard(desk)
             now = time.monotonic()
             self.tell_refused(self._callers.refused.ended(now), self._callers.wrong.ended(now))

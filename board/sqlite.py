@@ -282,9 +282,10 @@ class FileLog(Kept):
         """The number of each desk's first session that hasn't ended, where it isn't 0. Raises Fault."""
         return dict(await self._call("SELECT desk, not_before FROM cdm_session WHERE board = ?", self._board))
 
-    async def sign_out(self, desk: str) -> None:
-        """Ends all sessions of a desk. Raises Fault."""
-        await self._call("INSERT INTO cdm_session VALUES (?, ?, 1) ON CONFLICT DO UPDATE SET not_before = not_before + 1", self._board, desk)
+    async def sign_out(self, desk: str, least: int = 1) -> None:
+        """Ends all sessions of a desk, also those before number `least`. Raises Fault."""
+        await self._call("INSERT INTO cdm_session VALUES (?, ?, ?) ON CONFLICT DO UPDATE"
+                         " SET not_before = max(not_before + 1, excluded.not_before)", self._board, desk, max(1, least))
 
     async def note(self, events: list[Event]) -> int:
         """Keeps events in the audit; how many, since there is no room for more than MOST_EVENTS. Raises Fault."""

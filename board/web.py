@@ -78,7 +78,7 @@ class Board:
                 request.protocol.show()
         self._unsent.check_own(self.callers.asker(request))
         refuse(not POSITION.fullmatch(after), 400, "Cdm-After is a position")
-        if request.method == "GET":
+        if request.path not in ("/v1/records", "/v1/session") or request.method in ("GET", "HEAD"):
             with contextlib.suppress(TimeoutError, Problem):
                 async with asyncio.timeout(AFTER_LIMIT):
                     await self.day.reached(int(after))
@@ -199,7 +199,6 @@ class Board:
         response = web.Response(body=file.packed if is_packed else file.body, headers=headers)
         if is_packed:
             response.headers["Content-Encoding"] = "gzip"
-        self._unsent.check(self.callers.asker(request), response.content_length or 0)
         return response
 
     def application(self) -> web.Application:

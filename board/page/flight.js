@@ -136,7 +136,7 @@ export class FlightPanel {
     this.why = told;
     const { row, waits } = why;
     const { date } = this.day;
-    const times = ({ from, to }) => (from === to ? hm(from, date) : `${hm(from, date)}–${hm(to, date)}`);
+    const times = ({ from, to }) => (from === to ? hm(from, date) : `${hm(from, date)}–${hm(to, date)}`).replaceAll(' ', '\u00a0');
     const [first] = waits;
     say($('#why-note'), !waits.length ? { PLANNED: 'It doesn’t wait.', BLOCKED: `It is blocked by ${row.rule}: it lacks what that rule asks for.` }[row.status] ?? ENDED[row.status]
       : row.status === 'BLOCKED' ? blockedWords(row, waits, date) : `${row.delay} min, take-off ${hm(first.from, date)} to ${hm(row.ttot, date)}`);

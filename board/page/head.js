@@ -92,7 +92,7 @@ export class Head {
   /** A warning that is new is said at once, with the last record, which it came of. */
   warn(words) {
     if (document.documentElement.classList.contains('is-lost')) return;
-    this.tell([el('b', {}, 'Connected'), ` New warning: ${words}.${this.last && ` ${this.last}`}`], true);
+    this.tell([el('b', {}, 'Connected'), ` New warning: ${recordText(words)}.${this.last && ` ${this.last}`}`], true);
   }
 
   stale(since) {

@@ -62,7 +62,7 @@ export async function request({ path, method = 'GET', body, ...more }, signal) {
     return { ...none, detail: 'The answer broke off' };
   }
   if (!answer.ok) return { ...none, status: answer.status, ...problemOf(answer, text) };
-  const [, log = '', position = 'NaN'] = /^(?:W\/)?"(.+)-(\d+)"$/.exec(answer.headers.get('ETag') ?? '') ?? [];
+  const [, log = '', position = 'NaN'] = /^(?:W\/)?"([^."]+)[^"]*-(\d+)"$/.exec(answer.headers.get('ETag') ?? '') ?? [];
   const stale = position === 'NaN' ? undefined : answer.headers.get('Cdm-Stale-Since');
   return { ...none, status: answer.status, text, log, position: Number(position), lastAt: answer.headers.get('Cdm-At') ?? undefined, stale, detail: '', isOwn: true };
 }

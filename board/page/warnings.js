@@ -12,6 +12,9 @@ const AGING = NEW / 4; // how often it is looked which are still new
 /** What a blocked flight lacks, by its rule. */
 const LACKS = { TOBT: 'Send its TOBT.', RUNWAY: 'Send its runway (RWY).', EXOT: 'Its stand has no taxi time to this runway: send TAXI, RWY or STAND.' };
 
+/** What frees a flight that has no minute in its CTOT window. */
+const FREES = { CTOT: 'Send an earlier TOBT.', CLOSURE: 'Open the runway (OPEN), or send another one (RWY).', RATE: 'PRIO puts it ahead of those that have its minutes.' };
+
 /**
  * Each kind: its facts in the strip, and for the flight's panel what it means, what to do, and the kinds of records that answer it.
  */
@@ -24,7 +27,7 @@ const KINDS = {
     act: 'Tell the Network Manager. If it took off within its window, send AIR with that time; no CTOT is taken any more.' },
   BLOCKED: { facts: (one) => one.rule ?? '', answers: ['TOBT', 'RWY', 'STAND', 'CTOT', 'PRIO'],
     means: (one) => (LACKS[one.rule] ? `It has no start-up time, as it lacks what ${one.rule} asks for.` : `It has no start-up time: ${one.rule} leaves it no minute.`),
-    act: (one, at) => LACKS[one.rule] ?? (one.ctot ? `Ask the Network Manager for a later CTOT than ${at(one.ctot)}. Where others have its minutes, PRIO puts it ahead of them.`
+    act: (one, at) => LACKS[one.rule] ?? (one.ctot ? `${FREES[one.rule] ?? FREES.RATE} Or ask the Network Manager for a later CTOT than ${at(one.ctot)}.`
       : 'Send an earlier TOBT, or open the runway (OPEN).') },
   EDGE: { facts: (one, at) => `CTOT ${at(one.ctot)} TTOT ${at(one.ttot)}`, answers: ['PRIO', 'CTOT'],
     means: (one, at) => `Its TTOT ${at(one.ttot)} is among the last 3 minutes of the window of its CTOT ${at(one.ctot)}.`,

@@ -235,12 +235,63 @@ def test_signing_out_has_a_limit(monkeypatch):
     from board.callers import Callers
     from board.desks import Desk, Desks
     monkeypatch.setattr(signing, "SIGN_OUT_LIMIT", 0.05)
-    log = mock.Mock(id="0", secret="s", sign_out=lambda _: asyncio.Event().wait())
+    log = mock.Mock(id="0", secret="s", sign_out=lambda *_: asyncio.Event().wait())
     callers = Callers(Desks([], False), log, {"localhost"}, "http", False)
     callers.desk_of, callers.address = lambda _: Desk("ap", "AP"), lambda _: "192.0.2.1"
     own = signing.Signing(callers, log, mock.Mock(streams=set()), mock.Mock())
     answer = asyncio.run(asyncio.wait_for(own.sign_out(mock.Mock()), 20))
     assert answer.status == 503 and own.owed == {"ap"} and callers.sessions.not_before == {"ap": 1}
+
+
+def test_sign_outs_while_the_log_is_away_all_end(tmp_path, monkeypatch):
+    """Each ends the session here at once; the log then ends all of them, also the last one."""
+    from unittest import mock
+    from board import signing
+    from board.callers import Callers
+    from board.desks import Desk, Desks
+    from board.log import Away
+    told, is_away = [], True
+
+    async def sign_out(desk, least):
+        if is_away:
+            raise Away("away")
+        told.append(least)
+
+    async def sessions():
+        return {"ap": told[-1]} if told else {}
+    log = mock.Mock(id="0", secret="s", sign_out=sign_out, sessions=sessions)
+    callers = Callers(Desks([], False), log, {"localhost"}, "http", False)
+    callers.desk_of, callers.address = lambda _: Desk("ap", "AP"), lambda _: "192.0.2.1"
+    own = signing.Signing(callers, log, mock.Mock(streams=set()), mock.Mock())
+    assert [asyncio.run(own.sign_out(mock.Mock())).status for _ in range(2)] == [503, 503] and callers.sessions.not_before == {"ap": 2}
+    is_away = False
+    assert asyncio.run(own.sign_out(mock.Mock())).status == 204 and told == [3] and callers.sessions.not_before == {"ap": 3}
+
+
+def test_the_log_ends_the_sessions_before_a_number(tmp_path):
+    from board.sqlite import FileLog
+
+    async def talk():
+        log = FileLog(str(tmp_path / "day.db"), "")
+        await log.open(b"", "v")
+        await log.sign_out("ap", 3)
+        first = await log.sessions()
+        await log.sign_out("ap")
+        second = await log.sessions()
+        await log.close()
+        return first, second
+    assert asyncio.run(talk()) == ({"ap": 3}, {"ap": 4})
+
+
+def test_other_cookies_are_not_read(board):
+    """A header has room for more than a thousand; only the board's own counts, wherever it stands."""
+    server = board(DESKS)
+    signed = server.request("POST", "/v1/session", json.dumps({"desk": "ap", "token": "token-ap"}))
+    own = signed.headers["Set-Cookie"].partition(";")[0]
+    others = "; ".join(f"a{number}=" for number in range(400))
+    for cookies in (own, f"{others}; {own}", f"{own}; {others}", f"x=1;{own} ; y"):
+        assert json.loads(server.get("/v1/who", Cookie=cookies).body)["desk"] == "ap"
+    assert server.get("/v1/who", Cookie=f"x{own}").status == 401
 
 
 def test_windows_are_bounded():

@@ -1,5 +1,6 @@
 """docs/HTTP.md: its blocks can be pasted, they print what the page shows, and its client keeps up over restarts."""
 import contextlib
+import http.server
 import json
 import os
 import re
@@ -7,6 +8,7 @@ import shutil
 import signal
 import subprocess
 import sys
+import threading
 
 import pytest
 from conftest import FACTOR, PROGRAM, ROOT, moment, objects, until
@@ -112,6 +114,37 @@ def test_the_client_of_the_page(board):
         server.process.send_signal(signal.SIGHUP)
         assert process.wait(20 * FACTOR) == 1
         assert b"401" in (server.folder / "errors of tsats.txt").read_bytes()
+
+
+class TwoPasts(http.server.BaseHTTPRequestHandler):
+    """A board whose plan was asked of a server that has another past than the one that has the events; from the second plan on both have
+    the same one."""
+    plans = 0
+
+    def do_GET(self):
+        is_plan = self.path == "/v1/plan.json"
+        TwoPasts.plans += is_plan
+        row = {"flight": "DLH1", "tsat": f"plan-{self.plans}" if is_plan else f"event-{self.plans}"}
+        body = json.dumps({"flights": [row]}) if is_plan else 'event: from\ndata: {"position":7,"at":"2"}\n\nevent: reply\ndata: %s\n\n' % json.dumps(
+            {"changes": [row]})
+        self.send_response(200)
+        self.send_header("ETag", '"log-7"')
+        self.send_header("Cdm-At", str(self.plans))
+        self.end_headers()
+        self.wfile.write(body.encode() + b"\n")
+
+    def log_message(self, *_):
+        pass
+
+
+def test_the_client_of_the_page_tells_two_pasts_apart(tmp_path):
+    """It puts no event over a plan of another past, but reads the plan again."""
+    with http.server.ThreadingHTTPServer(("127.0.0.1", 0), TwoPasts) as server:
+        threading.Thread(target=server.serve_forever, daemon=True).start()
+        with client(tmp_path, f"http://127.0.0.1:{server.server_address[1]}/", "token", "DLH") as (_, said):
+            until(lambda: "event-2" in said.read_text())
+            assert said.read_text().split()[:6] == ["DLH1", "plan-1", "DLH1", "plan-2", "DLH1", "event-2"]
+        server.shutdown()
 
 
 def test_the_statuses_of_the_page(board):

@@ -24,10 +24,11 @@ DESKS = {"ap": 'role = "AP"', "tower": 'role = "ATC"', "ops": 'role = "AO"\nflig
 SHUT = "SCENARIO,SHUT\nCLOSE,27L,2025-03-10T06:00Z,2025-03-10T07:00Z\nSCENARIO,NIX\nCNL,ZZ9\n"
 # What of an answer's headers the file has.
 SAID = re.compile("Cdm-.*|ETag|Vary|Retry-After|WWW-Authenticate|Set-Cookie|Allow", re.I)
-PLAIN = ("/v1/plan", "/v1/plan.csv", "/v1/plan.json", "/v1/picture.svg", "/v1/load", "/v1/load.json", "/v1/load/{runway}", "/v1/load/{runway}.json",
-         "/v1/next", "/v1/next.json", "/v1/warnings", "/v1/warnings.json", "/v1/causes", "/v1/causes.json", "/v1/why/{flight}", "/v1/why/{flight}.json")
-OTHERS = ("/v1/records", "/v1/records/{position}/sentence", "/v1/kinds", "/v1/airport.csv", "/v1/journal.csv", "/v1/who", "/health", "/ready", "/metrics",
-          "/", "/page-{digest}/{file}")
+PLAIN = ("/v1/plan", "/v1/plan.csv", "/v1/plan.json", "/v1/picture.svg", "/v1/load", "/v1/load.json", "/v1/load/{runway}",
+         "/v1/load/{runway}.json", "/v1/next", "/v1/next.json", "/v1/warnings", "/v1/warnings.json", "/v1/causes", "/v1/causes.json",
+         "/v1/why/{flight}", "/v1/why/{flight}.json")
+OTHERS = ("/v1/records", "/v1/records/{position}/sentence", "/v1/kinds", "/v1/airport.csv", "/v1/journal.csv", "/v1/who", "/health", "/ready",
+          "/metrics", "/", "/page-{digest}/{file}")
 NAMES = {"runway": "27L", "flight": "AB1", "name": "SHUT", "position": "4", "file": "main.js"}
 
 

@@ -208,3 +208,26 @@ def test_the_page_s_own_files_have_nothing_inline(page):
     shown.allowed += ["Content Security Policy", "violates the following"]
     shown.js("const s = document.createElement('script'); s.textContent = 'window.hit = 1'; document.body.append(s);")
     assert shown.js("return window.hit ?? null") is None
+
+
+def test_nothing_of_the_day_is_left_after_a_sign_out(page):
+    """Not the picture that was open, not the filter's count, not NOW, and no flight behind the sign-in that is closed."""
+    shown = page(DESKS, day=QUIET)
+    shown.allowed += DENIED
+    shown.open("?op=DLH#DLH2", ready=False)
+    shown.says("#conn", "Signed out.")
+    sign_in(shown, "wall")
+    shown.is_ready()
+    shown.says("#h-f", "DLH2")
+    shown.click("#b-picture")
+    shown.until("return document.querySelector('#drawn').shadowRoot !== null")
+    assert shown.text("#filtered").startswith("Filter:") and shown.text(".now").startswith("NOW")
+    shown.click("#b-sign-out")
+    shown.says("#conn", "Signed out.")
+    seen = "return [...document.querySelectorAll('header, section, aside, #filtered, .skip, nav > *')].filter((e) => e.checkVisibility({checkVisibilityCSS: true})).map((e) => e.id || e.tagName)"
+    assert shown.js(seen) == ["HEADER", "SPAN", "b-theme", "b-sign-in", "p-sign-in"]
+    assert "00:00" not in shown.text("body") and "DLH" not in shown.text("body")
+    shown.click("#p-sign-in .x-close")
+    shown.until("return document.querySelector('#p-sign-in').hidden")
+    assert shown.js(seen) == ["HEADER", "SPAN", "b-theme", "b-sign-in"]
+    assert "00:00" not in shown.text("body") and "DLH" not in shown.text("body")

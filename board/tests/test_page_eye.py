@@ -477,3 +477,48 @@ def test_the_end_of_a_panel_is_seen_while_the_connection_is_lost(page):
     shown.says("#conn", "CONNECTION LOST since ")
     shown.js("document.querySelector('#p-flight').scrollTop = 99999")
     assert shown.js("return document.querySelector('#f-records tr:last-child').getBoundingClientRect().bottom <= document.querySelector('.conn').getBoundingClientRect().top")
+
+
+def test_a_date_stays_with_its_time(page):
+    """EZY7 waits from the end of its window to the end of the second day, 11 23:59: that isn't broken before its hour."""
+    shown = page()
+    for width in (320, 1280):
+        size(shown.driver, width, 900)
+        shown.open("#EZY7")
+        shown.says("#waits", "11 23:59")
+        assert shown.js(r"""return [...document.querySelectorAll('#waits li span:nth-child(2)')].map((node) => {
+            const text = node.firstChild, range = document.createRange(), at = text.data.search(/11.23:59/);
+            if (at < 0) return 0;
+            range.setStart(text, at); range.setEnd(text, at + 8);
+            return range.getClientRects().length; }).filter(Boolean)""") == [1]
+
+
+def test_a_new_warning_of_a_cell_says_its_time_in_short(page):
+    shown = page().open()
+    fill(shown.server, {"ATC": [f"OFF,BAW3,{at('05:50')}", f"OFF,DLH1,{at('05:50')}", f"RATE,27L,{at('06:00')},{at('06:10')},1"]})
+    shown.says("#conn", "New warning: FULL 27L 06:00.")
+
+
+def test_buttons_of_a_warning_keep_apart(page):
+    shown = page()
+    for width in (320, 1280, 3840):
+        size(shown.driver, width, 900)
+        shown.open("#EZY7")
+        shown.choose("#role", "ATC") if width > 320 else shown.js("const r = document.querySelector('#role'); r.value = 'ATC'; r.dispatchEvent(new Event('change'))")
+        shown.until("return document.querySelectorAll('#f-warnings button').length >= 2")
+        boxes = shown.js("return [...document.querySelectorAll('#f-warnings button')].map((b) => b.getBoundingClientRect()).map((b) => [b.left, b.top, b.right, b.bottom])")
+        for (_, _, right, bottom), (left, top, _, _) in zip(boxes, boxes[1:]):
+            assert left >= right + 4 or top >= bottom + 2, (width, boxes)
+
+
+def test_a_blocked_flight_is_told_what_frees_it(page):
+    """By its rule: EZY7 is ready when its window has ended; AFR4's window is closed; KLM5, ready at 06:15, finds 06:15 to 06:20 taken."""
+    shown = page()
+    fill(shown.server, {"ATC": [f"CLOSE,09,{at('07:00')},{at('07:30')}", f"RATE,27L,{at('06:00')},{at('06:30')},1"], "AO": [f"TOBT,KLM5,{at('06:00')}"],
+                        "NM": [f"CTOT,KLM5,{at('06:09')}"]})
+    shown.open()
+    for name, words in (("EZY7", "Send an earlier TOBT. Or ask the Network Manager for a later CTOT than 06:30."),
+                        ("AFR4", "Open the runway (OPEN), or send another one (RWY). Or ask the Network Manager for a later CTOT than 07:10."),
+                        ("KLM5", "PRIO puts it ahead of those that have its minutes. Or ask the Network Manager for a later CTOT than 06:09.")):
+        shown.js("location.hash = arguments[0]", f"#{name}")
+        shown.says("#f-warnings", words)

@@ -126,7 +126,7 @@ def test_the_lines_of_the_page_take_a_day_to_postgresql_and_back(board, cluster)
 def test_the_lines_of_the_page_keep_a_board_and_remove_it(board, cluster):
     """The backup is a log in a file, with the day as it was; then the board is gone from the database, and another one isn't."""
     part = PAGE.partition("## Backup and deletion")[2].partition("\n## ")[0]
-    lines, remove = re.findall(r"^    (cdmboard .*)$", part, re.M), re.search(r"```sql\n(.*?)```", part, re.S)[1]
+    lines, remove = re.findall(r"^    (cdmboard (?:backup|verify) .*)$", part, re.M), re.search(r"```sql\n(.*?)```", part, re.S)[1]
     assert len(lines) == 2
     servers = [board(log=cluster.url(), options=["--board", name]) for name in ("GONE", "KEPT")]
     for server in servers:

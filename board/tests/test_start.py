@@ -243,9 +243,20 @@ def mounted(size, folder):
     return f"exec unshare -m /bin/bash -c '{mounting}' \"$0\" \"$@\""
 
 
+def test_a_place_has_room(monkeypatch):
+    """The first one with so many bytes; where there is none, that is said."""
+    from board.sequencer import place_with_room
+    rooms = {"/small": 10, "/large": 1 << 30}
+    monkeypatch.setattr("os.statvfs", lambda place: mock.Mock(f_bavail=rooms.get(place, 0), f_frsize=1))
+    assert place_with_room(1000, "/small", "/large") == "/large"
+    assert place_with_room(10, "/small", "/large") == "/small"
+    with pytest.raises(OSError, match="No space left on device"):
+        place_with_room(1 << 31, "/small", "/large")
+
+
 def test_no_room_in_the_shared_folder_ends_nothing(files, board):
     """It is full at the start, or anybody fills it later: the day is elsewhere then."""
-    server = board(start=False).start(mounted("1M", "/dev/shm"))
+    server = board(start=False).start(mounted("4k", "/dev/shm"))
     server.post(["FLT,AB1,5"], Cdm_Role="AP")
     assert server.get("/v1/why/AB1").status == 200
     assert server.end() == 0
