@@ -143,10 +143,10 @@ END $$;
 
 -- Ends all sessions of a desk, at every server of the board, also those before a number. Returns the number of its next session.
 DROP FUNCTION IF EXISTS public.cdm_sign_out(text, text);
-CREATE OR REPLACE FUNCTION public.cdm_sign_out(of_board text, of_desk text, least integer)
+CREATE OR REPLACE FUNCTION public.cdm_sign_out(of_board text, of_desk text, lowest integer)
     RETURNS integer LANGUAGE sql VOLATILE SECURITY DEFINER SET search_path = pg_catalog, pg_temp AS $$
-    INSERT INTO public.cdm_session VALUES (of_board, of_desk, least)
-        ON CONFLICT (board, desk) DO UPDATE SET not_before = greatest(cdm_session.not_before + 1, least) RETURNING not_before;
+    INSERT INTO public.cdm_session VALUES (of_board, of_desk, lowest)
+        ON CONFLICT (board, desk) DO UPDATE SET not_before = greatest(cdm_session.not_before + 1, lowest) RETURNING not_before;
 $$;
 
 ALTER TABLE public.cdm_log OWNER TO cdm_owner;
