@@ -75,7 +75,8 @@ def test_a_tag_is_not_of_the_day_before():
     board = board_of(Desks([], True), mock.Mock(id="0", secret="s", stale_since=None), day)
 
     def status():
-        request = make_mocked_request("GET", "/v1/plan", headers={"Host": "localhost", "If-None-Match": f'"0-{len(day.records)}"'})
+        tag = board.questions.tags(len(day.records))["ETag"]
+        request = make_mocked_request("GET", "/v1/plan", headers={"Host": "localhost", "If-None-Match": tag})
         return asyncio.run(board.questions.of_moment(request, len(day.records), "", b"")).status
     assert status() == 304
     day.restart(day_of("AB2"))
