@@ -6,7 +6,7 @@ import subprocess
 
 import clusters
 import pytest
-from conftest import PROGRAM, ROOT, until
+from conftest import FACTOR, PROGRAM, ROOT, until
 
 needs_postgres = pytest.mark.skipif(bool(clusters.missing()), reason=f"a log in PostgreSQL: {' and '.join(clusters.missing())} missing")
 # A rebuilt program, which gives the same version and one other word or Row.
@@ -16,7 +16,9 @@ OTHER_LIVE = """[ "$1" = serve ] && { $PROGRAM "$@" | sed -u -E '/"reply":"ACCEP
 
 
 def cdmboard(*words, program=PROGRAM):
-    return subprocess.run([str(ROOT / "cdmboard"), *map(str, words)], env=dict(os.environ, CDMSEQ=str(program)), capture_output=True, text=True, timeout=60)
+    """How a command ended; one that serves instead of ending has status 124."""
+    words = ["timeout", str(15 * FACTOR), str(ROOT / "cdmboard"), *map(str, words)]
+    return subprocess.run(words, env=dict(os.environ, CDMSEQ=str(program)), capture_output=True, text=True)
 
 
 def with_records(server, count):
