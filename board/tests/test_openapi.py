@@ -20,7 +20,7 @@ from board.words import ROLES  # noqa: E402
 
 DOCUMENT = json.loads((ROOT / "docs" / "openapi.json").read_text())
 METHODS = ("get", "post", "delete", "put", "patch")
-DESKS = {"ap": 'role = "AP"', "tower": 'role = "ATC"', "ops": 'role = "AO"\nflights = ["AB"]', "wall": 'role = "READ"'}
+DESKS = {"ap": 'role = "AP"', "tower": 'role = "ATC"\nclock = true', "ops": 'role = "AO"\nflights = ["AB"]', "wall": 'role = "READ"'}
 SHUT = "SCENARIO,SHUT\nCLOSE,27L,2025-03-10T06:00Z,2025-03-10T07:00Z\nSCENARIO,NIX\nCNL,ZZ9\n"
 # What of an answer's headers the file has.
 SAID = re.compile("Cdm-.*|ETag|Vary|Retry-After|WWW-Authenticate|Set-Cookie|Allow", re.I)
@@ -106,7 +106,7 @@ def server(board):
         pytest.skip("the stand-in's answers are no real ones")
     server = board(DESKS)
     server.post(["FLT,AB1,5", "FLT,AB2,5", "FLT,AB3,5", "FLT,AB1,5"], "ap")
-    server.post(["RWY,AB1,27L", "RWY,AB2,27L", "RATE,27L,2025-03-10T06:00Z,2025-03-10T07:00Z,1"], "tower")
+    server.post(["RWY,AB1,27L", "RWY,AB2,27L", "RATE,27L,2025-03-10T06:00Z,2025-03-10T07:00Z,1", "CLOCK,2025-03-10T05:30Z"], "tower")
     server.post([f"TOBT,AB{number},2025-03-10T06:00Z" for number in (1, 2, 3)], "ops")
     return server
 
@@ -125,7 +125,7 @@ def test_the_file_has_what_is_read(server):
     """Each GET, and its HEAD; what is there already; and over a scenario by POST, in each form."""
     for path in (*PLAIN, *OTHERS):
         answer = asked(server, "GET", path, 200)
-        assert answer.body
+        assert answer.body, path
         if tag := answer.headers.get("ETag"):
             assert asked(server, "GET", path, 304, If_None_Match=tag).body == b""
         if "digest" not in path:

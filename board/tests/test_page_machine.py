@@ -14,8 +14,8 @@ SCHEDULES = 50_000
 # The fault, the law that it breaks, a seed whose schedule shows it, and the edits: a file of the page, its words, and what stands there
 # instead.
 FAULTS = [
-    ("a reset asks for the old position, of whichever log", "Arrives", 441, [
-        ("answers.js", "this.need ? this.need.position :", "this.need ? Math.max(this.need.position, this.rows.position) :")]),
+    ("a reset asks for the old position, of whichever log", "Arrives", 79, [
+        ("answers.js", "this.need ? this.need.position :", "this.need ? Math.max(this.need.position, this.rows?.position ?? 0) :")]),
     ("a reset during a read is dropped", "Arrives", 29, [
         ("reading.js", "  readAnew(isOther = false) {", "  readAnew(isOther = false) {\n    if (this.need) return;")]),
     ("a sign-in during a read ends the page", "Alive", 16, [
