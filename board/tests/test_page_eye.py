@@ -446,10 +446,9 @@ NAMES = ["BAW70AC", "SAS71AC", "AFR90AC", "KLM60AC", "EWG88AC"]
 def test_names_of_next_leave_a_gap(page):
     """Names of seven letters, as flights have them, don't run into the runway."""
     shown = page(day={"AP": [f"FLT,{name},5" for name in NAMES], "ATC": [f"RWY,{name},27L" for name in NAMES] + [f"CLOCK,{at('05:50')}"],
-                      "AO": [f"TOBT,{name},{at('06:00')}" for name in NAMES]})
+                      "AO": [f"TOBT,{name},{at('06:00')}" for name in NAMES]}).open()
     for width in (320, 360, 701, 861, 1280, 1900, 3840):
         size(shown.driver, width, 900)
-        shown.open()
         gaps = shown.js("""return [...document.querySelectorAll('#next tbody tr')].map((row) =>
             row.querySelector('.c-runway').getBoundingClientRect().left - row.querySelector('th a').getBoundingClientRect().right)""")
         assert len(gaps) == 5 and min(gaps) >= 1, (width, gaps)
