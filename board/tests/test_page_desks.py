@@ -224,7 +224,8 @@ def test_nothing_of_the_day_is_left_after_a_sign_out(page):
     assert shown.text("#filtered").startswith("Filter:") and shown.text(".now").startswith("NOW")
     shown.click("#b-sign-out")
     shown.says("#conn", "Signed out.")
-    seen = "return [...document.querySelectorAll('header, section, aside, #filtered, .skip, nav > *')].filter((e) => e.checkVisibility({checkVisibilityCSS: true})).map((e) => e.id || e.tagName)"
+    seen = """return [...document.querySelectorAll('header, section, aside, .skip, nav > *')]
+        .filter((one) => one.checkVisibility({checkVisibilityCSS: true})).map((one) => one.id || one.tagName)"""
     assert shown.js(seen) == ["HEADER", "SPAN", "b-theme", "b-sign-in", "p-sign-in"]
     assert "00:00" not in shown.text("body") and "DLH" not in shown.text("body")
     shown.click("#p-sign-in .x-close")

@@ -4,7 +4,8 @@ import pytest
 from browser import fill, size
 
 RULES = r"""
-const bad = [], shown = (node) => node.checkVisibility({checkVisibilityCSS: true}), said = (node) => node.outerHTML.replace(/\s+/g, ' ').slice(0, 100);
+const bad = [], shown = (node) => node.checkVisibility({checkVisibilityCSS: true});
+const said = (node) => node.outerHTML.replace(/\s+/g, ' ').slice(0, 100);
 const never = (rule, selector) => { for (const node of document.querySelectorAll(selector)) bad.push(`${rule}: ${said(node)}`); };
 const ids = [...document.querySelectorAll('[id]')].map((node) => node.id);
 for (const id of ids) if (ids.indexOf(id) !== ids.lastIndexOf(id)) bad.push(`two have the id ${id}`);
@@ -18,12 +19,13 @@ never('an order of its own', '[tabindex]:not([tabindex="0"], [tabindex="-1"])');
 never('a head without a text', 'th:empty, :is(h1, h2, h3):empty');
 for (const node of document.querySelectorAll('table')) {
   const heads = node.tHead ? [...node.tHead.rows].at(-1).cells.length : 0;
-  for (const row of node.rows) if ([...row.cells].reduce((sum, cell) => sum + cell.colSpan, 0) !== heads) bad.push(`cells without a head: ${said(row)}`);
+  for (const row of node.rows)
+    if ([...row.cells].reduce((sum, cell) => sum + cell.colSpan, 0) !== heads) bad.push(`cells without a head: ${said(row)}`);
 }
 const walker = document.createTreeWalker(document.body, NodeFilter.SHOW_TEXT);
 while (walker.nextNode()) {
-  const parent = walker.currentNode.parentElement;
-  if (walker.currentNode.data.trim() && shown(parent) && !parent.closest('header, main, section[aria-label], section[aria-labelledby], .skip, .probe, noscript'))
+  const parent = walker.currentNode.parentElement, isIn = parent.closest('header, main, section[aria-label], section[aria-labelledby], .skip, .probe');
+  if (walker.currentNode.data.trim() && shown(parent) && !isIn && parent.tagName !== 'NOSCRIPT')
     bad.push(`in no landmark: ${walker.currentNode.data.trim()}`);
 }
 return [...new Set(bad)];
@@ -31,7 +33,8 @@ return [...new Set(bad)];
 # What is pressed is 24 px high and wide, or as far from others as if it were; links within a text have its height.
 TARGETS = r"""
 const boxes = [...document.querySelectorAll('a[href], button, input, select, textarea, summary')]
-  .filter((node) => node.checkVisibility({checkVisibilityCSS: true}) && !node.closest('.skip, [inert]')).map((node) => [node, node.getBoundingClientRect()]);
+  .filter((node) => node.checkVisibility({checkVisibilityCSS: true}) && !node.closest('.skip, [inert]'))
+  .map((node) => [node, node.getBoundingClientRect()]);
 const isSmall = ({width, height}) => width < 23.5 || height < 23.5;
 const middle = (box) => [(box.left + box.right) / 2, (box.top + box.bottom) / 2];
 const far = ([x, y], box) => Math.hypot(x - Math.max(box.left, Math.min(x, box.right)), y - Math.max(box.top, Math.min(y, box.bottom)));
@@ -60,7 +63,8 @@ def test_each_state_keeps_the_rules(page, width):
         if path == "#RYR6":
             shown.says("#waits", "CLOSURE")
         if path == "#what-if":
-            shown.js("document.querySelector('#scenario').value = 'SCENARIO,OPEN-0630\\nOPEN,09,2025-03-10T06:30Z,2025-03-10T06:50Z\\nSCENARIO,B\\nPRIO,RYR6,0'")
+            shown.js("document.querySelector('#scenario').value = arguments[0]",
+                     "SCENARIO,OPEN-0630\nOPEN,09,2025-03-10T06:30Z,2025-03-10T06:50Z\nSCENARIO,B\nPRIO,RYR6,0")
             shown.click("#p-what-if form button")
             shown.says("#wi-table", "difference")
         assert shown.js(RULES) == [], path
