@@ -1,12 +1,16 @@
 //! Records as a feed.
-ghost use Rattle.std.specs.Prelude.{◌≡◌, ◌<◌, ◌++◌, All, IfOk, OnOk, Some};
+ghost use Rattle.std.specs.Prelude.{◌≡◌, ◌<◌, ◌++◌, ◌∷◌, [], All, codes, IfOk, OnOk, Some};
+ghost use Rattle.std.specs.Fmt.{decimal};
+ghost use Rattle.std.specs.List.{concat};
 ghost use Rattle.std.specs.String.{string_bytes};
 ghost use Rattle.cdm_time.specs.Times.{time_text};
 ghost use Rattle.cdm_carry.specs.Texts.{ctot_text, feed_text, fields_text, group_text, ice_text, named, place_text, record_text, window_end, window_text};
 
-use cdm_flight::{FlightName, Group, Ice, Place, Role, RunwayName, Update};
+use cdm_flight::{
+    Cap, FlightName, Group, Ice, Place, Priority, Role, RunwayName, TaxiMinutes, Update,
+};
 use cdm_kinds::{Kind, role_name};
-use cdm_time::{Bound, Day, Minute};
+use cdm_time::{Bound, Day, Minute, Tolerance};
 use std::alloc::{AllocError, Global};
 use std::fmt::Write;
 use std::{fmt, str};
@@ -129,6 +133,96 @@ fn push_time(
     write!(text, "{flight},{time}")
 }
 
+// Puts a flight and its priority behind a text.
+fn push_priority(
+    text: &mut String,
+    flight: FlightName,
+    priority: Priority,
+) -> Result<(), AllocError>
+    ensures { OnOk result (string_bytes text.new ≡ string_bytes text.old ++ named flight (decimal priority)) }
+{
+    let (flight, priority) = (flight.text(), priority.get());
+    write!(text, "{flight},{priority}")
+}
+
+// Puts a flight and a word behind a text.
+fn push_word(text: &mut String, flight: FlightName, word: &str) -> Result<(), AllocError>
+    ensures { OnOk result (string_bytes text.new ≡ string_bytes text.old ++ named flight word.now) }
+{
+    let flight = flight.text();
+    write!(text, "{flight},{word}")
+}
+
+// Puts a flight and its CTOT behind a text.
+fn push_ctot(
+    text: &mut String,
+    day: Day,
+    flight: FlightName,
+    ctot: Option<Minute>,
+) -> Result<(), AllocError>
+    ensures { OnOk result (string_bytes text.new ≡ string_bytes text.old ++ named flight (ctot_text day ctot)) }
+{
+    let flight = flight.text();
+    let ctot = CtotText { day, ctot };
+    write!(text, "{flight},{ctot}")
+}
+
+// Puts a flight and its de-icing behind a text.
+fn push_ice(text: &mut String, flight: FlightName, ice: Ice) -> Result<(), AllocError>
+    ensures { OnOk result (string_bytes text.new ≡ string_bytes text.old ++ named flight (ice_text ice)) }
+{
+    let flight = flight.text();
+    let ice = IceText(ice);
+    write!(text, "{flight},{ice}")
+}
+
+// Puts a window of a runway and its capacity behind a text.
+fn push_rate(
+    text: &mut String,
+    day: Day,
+    runway: RunwayName,
+    from: Minute,
+    to: Bound,
+    cap: Cap,
+) -> Result<(), AllocError>
+    requires { to < 2880 }
+    ensures { OnOk result (string_bytes text.new ≡ string_bytes text.old ++ concat (window_text day runway from to ∷ codes "," ∷ decimal cap ∷ [])) }
+{
+    push_window(text, day, runway, from, to)?;
+    let cap = cap.get();
+    write!(text, ",{cap}")
+}
+
+// Puts a taxi time behind a text.
+fn push_taxi(
+    text: &mut String,
+    place: Place,
+    runway: RunwayName,
+    minutes: TaxiMinutes,
+) -> Result<(), AllocError>
+    ensures { OnOk result (string_bytes text.new ≡ string_bytes text.old ++ concat (place_text place ∷ codes "," ∷ runway ∷ codes "," ∷ decimal minutes ∷ [])) }
+{
+    let place = PlaceText(place);
+    let (runway, minutes) = (runway.text(), minutes.get());
+    write!(text, "{place},{runway},{minutes}")
+}
+
+// Puts a time behind a text.
+fn push_clock(text: &mut String, day: Day, minute: Minute) -> Result<(), AllocError>
+    ensures { OnOk result (string_bytes text.new ≡ string_bytes text.old ++ time_text day minute) }
+{
+    let time = TimeText { day, minute };
+    write!(text, "{time}")
+}
+
+// Puts the minutes of a tolerance behind a text.
+fn push_tolerance(text: &mut String, tolerance: Tolerance) -> Result<(), AllocError>
+    ensures { OnOk result (string_bytes text.new ≡ string_bytes text.old ++ concat (decimal tolerance.before ∷ codes "," ∷ decimal tolerance.after ∷ [])) }
+{
+    let (before, after) = (tolerance.before, tolerance.after);
+    write!(text, "{before},{after}")
+}
+
 // Puts the fields of an update behind a text.
 #[tactic(auto, unfolding(crate::specs::Texts::fields_text))]
 fn push_fields(text: &mut String, day: Day, update: &Update) -> Result<(), AllocError>
@@ -137,45 +231,23 @@ fn push_fields(text: &mut String, day: Day, update: &Update) -> Result<(), Alloc
 {
     match *update {
         Update::Flt { flight, priority } | Update::Prio { flight, priority } => {
-            let (flight, priority) = (flight.text(), priority.get());
-            write!(text, "{flight},{priority}")
+            push_priority(text, flight, priority)
         }
         Update::Tobt { flight, tobt } => push_time(text, day, flight, tobt),
         Update::Off { flight, aobt } => push_time(text, day, flight, aobt),
         Update::Air { flight, atot } => push_time(text, day, flight, atot),
-        Update::Stand { flight, stand } => {
-            let (flight, stand) = (flight.text(), stand.text());
-            write!(text, "{flight},{stand}")
-        }
-        Update::Rwy { flight, runway } => {
-            let (flight, runway) = (flight.text(), runway.text());
-            write!(text, "{flight},{runway}")
-        }
-        Update::Ctot { flight, ctot } => {
-            let flight = flight.text();
-            let ctot = CtotText { day, ctot };
-            write!(text, "{flight},{ctot}")
-        }
-        Update::Ice { flight, ice } => {
-            let flight = flight.text();
-            let ice = IceText(ice);
-            write!(text, "{flight},{ice}")
-        }
-        Update::Group { flight, group } => {
-            let (flight, group) = (flight.text(), group_text(group));
-            write!(text, "{flight},{group}")
-        }
+        Update::Stand { flight, stand } => push_word(text, flight, stand.text()),
+        Update::Rwy { flight, runway } => push_word(text, flight, runway.text()),
+        Update::Ctot { flight, ctot } => push_ctot(text, day, flight, ctot),
+        Update::Ice { flight, ice } => push_ice(text, flight, ice),
+        Update::Group { flight, group } => push_word(text, flight, group_text(group)),
         Update::Cnl { flight } => text.push_str(flight.text()),
         Update::Rate {
             runway,
             from,
             to,
             cap,
-        } => {
-            push_window(text, day, runway, from, to)?;
-            let cap = cap.get();
-            write!(text, ",{cap}")
-        }
+        } => push_rate(text, day, runway, from, to, cap),
         Update::Close { runway, from, to } | Update::Reopen { runway, from, to } => {
             push_window(text, day, runway, from, to)
         }
@@ -183,19 +255,9 @@ fn push_fields(text: &mut String, day: Day, update: &Update) -> Result<(), Alloc
             place,
             runway,
             minutes,
-        } => {
-            let place = PlaceText(place);
-            let (runway, minutes) = (runway.text(), minutes.get());
-            write!(text, "{place},{runway},{minutes}")
-        }
-        Update::Clock { now } => {
-            let time = TimeText { day, minute: now };
-            write!(text, "{time}")
-        }
-        Update::Tol { tolerance } => {
-            let (before, after) = (tolerance.before, tolerance.after);
-            write!(text, "{before},{after}")
-        }
+        } => push_taxi(text, place, runway, minutes),
+        Update::Clock { now } => push_clock(text, day, now),
+        Update::Tol { tolerance } => push_tolerance(text, tolerance),
     }
 }
 
