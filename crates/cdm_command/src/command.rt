@@ -51,6 +51,12 @@ pub enum Command<'a> {
         feed1: &'a str,
         feed2: &'a str,
     },
+    /// Carry a day over: write what the next airport has of the accepted records of a feed, as a feed of the next day.
+    Carry {
+        airport: &'a str,
+        feed: &'a str,
+        next: &'a str,
+    },
     /// Serve the day of an airport as it happens, with a journal. Standard input has the records.
     Serve {
         airport: &'a str,
@@ -75,6 +81,11 @@ impl Command<'_> {
                 feed1,
                 feed2,
             } => [Some(*airport), Some(*feed1), Some(*feed2)],
+            Command::Carry {
+                airport,
+                feed,
+                next,
+            } => [Some(*airport), Some(*feed), Some(*next)],
             Command::Serve { .. } | Command::Kinds(_) | Command::Print(_) => [None; 3],
         };
         files
@@ -142,6 +153,7 @@ fn named_in<'a>(
         Some(("serve", serve)) => serve_of(alloc, serve),
         Some(("picture", picture)) => Ok(picture_of(picture)),
         Some(("live", live)) => Ok(live_of(live)),
+        Some(("carry", carry)) => Ok(carry_of(carry)),
         Some(("check", check)) => Ok(check_of(check)),
         Some(("why", why)) => why_of(alloc, why),
         Some(("load", load)) => load_of(alloc, load),
@@ -324,6 +336,15 @@ fn live_of<'a>(live: &ArgMatches<'a>) -> Option<Command<'a>> {
         airport: live.get_str("AIRPORT")?,
         feed1: live.get_str("FEED1")?,
         feed2: live.get_str("FEED2")?,
+    })
+}
+
+// The words of `carry`, all of which the parser has seen to.
+fn carry_of<'a>(carry: &ArgMatches<'a>) -> Option<Command<'a>> {
+    Some(Command::Carry {
+        airport: carry.get_str("AIRPORT")?,
+        feed: carry.get_str("FEED")?,
+        next: carry.get_str("NEXT_AIRPORT")?,
     })
 }
 

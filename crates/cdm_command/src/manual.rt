@@ -45,6 +45,9 @@ pub const LIVE_ABOUT: &str = "Run two feeds concurrently on one shared day";
 /// What `serve` does.
 pub const SERVE_ABOUT: &str = "Run the day in real time: reply to each record, keep a journal";
 
+/// What `carry` does.
+pub const CARRY_ABOUT: &str = "Carry the day over: write what the next day has of it, as a feed";
+
 /// What `check` does.
 pub const CHECK_ABOUT: &str = "Explain each refused record, with its file and line";
 
@@ -145,6 +148,13 @@ pub const SERVE_EXAMPLE: &str = "\
 Examples:
   cdmseq serve airport.csv journal.csv
 It reads records from standard input, one per line, and prints the replies.
+Full manual: cdmseq help | less";
+
+/// The end of the help of `carry`.
+pub const CARRY_EXAMPLE: &str = "\
+Examples:
+  cdmseq carry airport.csv feed.csv next_airport.csv > next_feed.csv
+- reads standard input in place of one file.
 Full manual: cdmseq help | less";
 
 /// The end of the help of `check`.
@@ -531,6 +541,20 @@ SERVE
   A line that is longer than 4096 bytes or unterminated is refused with FIELDS.
   At the end of the input the program ends.
 
+CARRY
+  cdmseq carry airport.csv feed.csv next_airport.csv prints the feed with which
+  the next day begins: those records of FEED that the next day has, one per
+  line, oldest first. NEXT_AIRPORT is an airport file for the day after
+  AIRPORT's. A flight goes on unless it is cancelled or went off-block before
+  the next day. These records go on:
+    - each record of such a flight. A TOBT or CTOT before the next day becomes
+      its 00:00.
+    - CLOSE, OPEN and RATE, if the window ends after 00:00 of the next day. What
+      is before is cut off.
+    - CLOCK, if its time is in the next day
+    - TAXI and TOL
+  A record goes on only if both airports accept it.
+
 CHECK
   cdmseq check airport.csv feed.csv prints:
 
@@ -578,10 +602,10 @@ THE BOARD
   token    prints a new token, and its line for the file of the desks
 
 JSON
-  With --format json every command but picture, live and help prints one JSON
-  object per line, for programs. Each object has all its members, null where
-  there is no value. Times are written as in the files; minutes and counts are
-  numbers.
+  With --format json every command but picture, live, carry and help prints one
+  JSON object per line, for programs. Each object has all its members, and null
+  where there is no value. Times are written as in the files; minutes and counts
+  are numbers.
   plan     for the base plan and each scenario: scenario, day, now, placed,
            delay, max, late, blocked, rules (how many flights each rule blocks),
            flights (the columns of --format csv), refused (record, word)
@@ -607,14 +631,15 @@ STATUS
   1  a file can't be read or written, the output can't be written, memory ran
      out, JOURNAL is in use, or a check inside live failed
   2  usage error: a wrong command, option or argument
-  3  a file is longer than 8388608 bytes; a record of AIRPORT, SCENARIOS or
-     JOURNAL is refused; FEED1 and FEED2 need more than 4096 calls; the flight,
-     runway or scenario that you name is unknown, or that scenario is refused
+  3  a file is longer than 8388608 bytes; a record of AIRPORT, NEXT_AIRPORT,
+     SCENARIOS or JOURNAL is refused; FEED1 and FEED2 need more than 4096 calls;
+     the flight, runway or scenario that you name is unknown, or that scenario is
+     refused; NEXT_AIRPORT isn't for the day after AIRPORT's
   4  check found a refused record
   For 1 and 3 standard error has the error, as
   cdmseq: cannot read FEED (feed.csv: no such file). For an invalid record of
-  AIRPORT or SCENARIOS the line of check follows, except in live and serve. For
-  2 it has the error and a hint.
+  AIRPORT or SCENARIOS the line of check follows, except in live, serve and
+  carry. For 2 it has the error and a hint.
 ";
 
 // What a kind of updates says, in lines of 45 characters.

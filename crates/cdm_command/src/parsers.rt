@@ -1,9 +1,9 @@
 //! The words that the program and each command take.
 
 use crate::manual::{
-    ABOUT, CAUSES_ABOUT, CAUSES_EXAMPLE, CHECK_ABOUT, CHECK_EXAMPLE, COMPARE_ABOUT,
-    COMPARE_EXAMPLE, EXAMPLES, HELP_ABOUT, HELP_EXAMPLE, KINDS_ABOUT, KINDS_EXAMPLE, LIVE_ABOUT,
-    LIVE_EXAMPLE, LOAD_ABOUT, LOAD_EXAMPLE, NEXT_ABOUT, NEXT_EXAMPLE, PICTURE_ABOUT,
+    ABOUT, CARRY_ABOUT, CARRY_EXAMPLE, CAUSES_ABOUT, CAUSES_EXAMPLE, CHECK_ABOUT, CHECK_EXAMPLE,
+    COMPARE_ABOUT, COMPARE_EXAMPLE, EXAMPLES, HELP_ABOUT, HELP_EXAMPLE, KINDS_ABOUT, KINDS_EXAMPLE,
+    LIVE_ABOUT, LIVE_EXAMPLE, LOAD_ABOUT, LOAD_EXAMPLE, NEXT_ABOUT, NEXT_EXAMPLE, PICTURE_ABOUT,
     PICTURE_EXAMPLE, PLAN_ABOUT, PLAN_EXAMPLE, SERVE_ABOUT, SERVE_EXAMPLE, TRACE_ABOUT,
     TRACE_EXAMPLE, VERSION, WARNINGS_ABOUT, WARNINGS_EXAMPLE, WHY_ABOUT, WHY_EXAMPLE,
 };
@@ -119,6 +119,15 @@ fn live_parser<'a>(alloc: Global) -> Result<Parser<'a>, AllocError> {
             "Feed of the first desk, in the order of its updates",
         ))?
         .arg(required_arg(alloc, "FEED2", "Feed of the second desk"))
+}
+
+// The words that `carry` takes.
+fn carry_parser<'a>(alloc: Global) -> Result<Parser<'a>, AllocError> {
+    day_parser(alloc, "carry", CARRY_ABOUT, CARRY_EXAMPLE)?.arg(required_arg(
+        alloc,
+        "NEXT_AIRPORT",
+        "Airport file of the day after",
+    ))
 }
 
 // A command about the day of a feed at an airport, with an example.
@@ -265,6 +274,7 @@ pub(crate) fn parser<'a>(alloc: Global) -> Result<Parser<'a>, AllocError> {
     let parser = with(parser, picture_parser(alloc))?;
     let parser = with(parser, live_parser(alloc))?;
     let parser = with(parser, serve_parser(alloc))?;
+    let parser = with(parser, carry_parser(alloc))?;
     let parser = with(parser, check_parser(alloc))?;
     let parser = with(parser, kinds_parser(alloc))?;
     with(parser, help_parser(alloc))

@@ -11,6 +11,7 @@ use Rattle.cdm_live.specs.declared.live_error.LiveError.TheVariants as live
 use Rattle.cdm_port.specs.declared.fault.PortFault.{PortFault}
 use Rattle.cdm_port.specs.declared.fault.PortFault.TheVariants as port
 use Rattle.cdm_serve.specs.declared.fault.ServeError.TheVariants as serve
+use Rattle.cdm_carry.specs.declared.carry_error.CarryError.TheVariants as carry
 use Rattle.cdm_command.specs.declared.command.CommandFault.{CommandFault}
 use Rattle.cdm_command.specs.declared.command.CommandFault.TheVariants as command
 use Rattle.cdm_fault.specs.declared.fault.Fault.{Fault}
@@ -29,6 +30,7 @@ status_of_port other = 1
 
 abbrev pub status_of_fault : Fault → ℕ
 status_of_fault (fault.CannotOpen input file) = 1
+status_of_fault (fault.CannotOpenNext file) = 1
 status_of_fault fault.NoMemory = 1
 status_of_fault (fault.Run (run.Common e)) = status_of_common e
 status_of_fault (fault.Run (run.Scenario number word)) = 3
@@ -40,6 +42,11 @@ status_of_fault (fault.Run (run.Update name number word)) = 3
 status_of_fault (fault.Live (live.Common e)) = status_of_common e
 status_of_fault (fault.Live live.HistoryFull) = 3
 status_of_fault (fault.Live live.Mismatch) = 1
+status_of_fault (fault.Carry (carry.Common e)) = status_of_common e
+status_of_fault (fault.Carry carry.NextRead) = 1
+status_of_fault (fault.Carry carry.NextTooLong) = 3
+status_of_fault (fault.Carry (carry.NextRecord number word)) = 3
+status_of_fault (fault.Carry (carry.NextDay days)) = 3
 status_of_fault (fault.CannotOpenJournal file) = 1
 status_of_fault (fault.JournalNoFile path) = 1
 status_of_fault fault.JournalMissing = 3

@@ -4,6 +4,7 @@ ghost use Rattle.cdm_fault.specs.Statuses.{status_of_command_fault, status_of_co
 ghost use Rattle.cdm_fault.specs.declared.fault.Fault.TheVariants as fault;
 
 use crate::unopened::{ShownPath, UnopenedFile};
+use cdm_carry::CarryError;
 use cdm_command::CommandFault;
 use cdm_feed::{CommonFault, Counted, Device, Input, RunError};
 use cdm_live::LiveError;
@@ -22,6 +23,9 @@ pub enum Fault {
     /// The file of this input can't be opened.
     #[error("cannot read {0} ({1})")]
     CannotOpen(Input, UnopenedFile),
+    /// The next airport file can't be opened.
+    #[error("cannot read NEXT_AIRPORT ({0})")]
+    CannotOpenNext(UnopenedFile),
     /// Want of memory before the run.
     #[error("out of memory")]
     NoMemory,
@@ -31,6 +35,9 @@ pub enum Fault {
     /// The live run has not written its whole text.
     #[error(transparent)]
     Live(#[from] LiveError),
+    /// The feed of the next day is not written, or not all of it.
+    #[error(transparent)]
+    Carry(#[from] CarryError),
     /// The journal's file or its lock can't be opened.
     #[error("cannot open JOURNAL ({0})")]
     CannotOpenJournal(UnopenedFile),
@@ -65,6 +72,7 @@ impl Fault {
         match self {
             Fault::Run(RunError::Common(fault))
             | Fault::Live(LiveError::Common(fault))
+            | Fault::Carry(CarryError::Common(fault))
             | Fault::Serve(ServeError::Common(fault)) => common_status(*fault),
             Fault::Run(RunError::OtherDay) => USAGE_STATUS,
             Fault::Run(
@@ -76,8 +84,13 @@ impl Fault {
             )
             | Fault::Serve(ServeError::Journal(..) | ServeError::Port(PortFault::JournalTooLong))
             | Fault::JournalMissing
-            | Fault::Live(LiveError::HistoryFull) => 3,
+            | Fault::Live(LiveError::HistoryFull)
+            | Fault::Carry(
+                CarryError::NextTooLong | CarryError::NextRecord(..) | CarryError::NextDay(_),
+            ) => 3,
             Fault::CannotOpen(..)
+            | Fault::CannotOpenNext(_)
+            | Fault::Carry(CarryError::NextRead)
             | Fault::CannotOpenJournal(_)
             | Fault::JournalNoFile(_)
             | Fault::JournalInUse

@@ -33,6 +33,17 @@ pub(crate) fn open<R: AllocGlobal + Files + io::Input>(
     }
 }
 
+/// Opens the next airport file, or takes standard input where that is its name.
+pub(crate) fn open_next<R: AllocGlobal + Files + io::Input>(
+    rt: &R,
+    path: &str,
+) -> Result<Opened<R>, Fault> {
+    match open(rt, path, Input::Airport) {
+        Err(Fault::CannotOpen(_, file)) => Err(Fault::CannotOpenNext(file)),
+        opened => opened,
+    }
+}
+
 /// A file that can't be opened for this reason.
 pub(crate) fn unopened(
     alloc: Global,

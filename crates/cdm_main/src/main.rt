@@ -10,8 +10,9 @@ mod refused;
 
 use crate::ending::Ending;
 use crate::explaining::explanation;
-use crate::files::{open, open_scenarios, shown_path, unopened};
+use crate::files::{open, open_next, open_scenarios, shown_path, unopened};
 use crate::refused::tell_refused;
+use cdm_carry::run_carry;
 use cdm_check::FilePaths;
 pub use cdm_command::{Command, CommandFault, DayFiles, command_of};
 use cdm_day::Airport;
@@ -156,6 +157,11 @@ where
             feed1,
             feed2,
         } => live(rt, [airport, feed1, feed2], out, errors),
+        Command::Carry {
+            airport,
+            feed,
+            next,
+        } => carry(rt, [airport, feed, next], out, errors),
         Command::Serve {
             airport,
             journal,
@@ -319,6 +325,31 @@ fn live<R: AllocGlobal + Files + io::Input + Threads + Wait + Sync, W: Write, E:
     );
     tell_unended(&feed1, Input::Feed1, errors);
     tell_unended(&feed2, Input::Feed2, errors);
+    done?;
+    Ok(0)
+}
+
+// Writes what the next day has of a day, as a feed, and answers the exit status.
+fn carry<R: AllocGlobal + Files + io::Input, W: Write, E: Write>(
+    rt: &R,
+    paths: [&str; 3],
+    out: &mut Device<W>,
+    errors: &mut Device<E>,
+) -> Result<u8, Fault>
+    requires { out.old.failed ≡ false }
+{
+    let [airport, feed, next] = paths;
+    let airport = open(rt, airport, Input::Airport)?;
+    let mut feed = Ending::new(open(rt, feed, Input::Feed)?);
+    let next = open_next(rt, next)?;
+    let done = run_carry(
+        rt.alloc(),
+        &mut Device::new(airport),
+        &mut Device::new(&mut feed),
+        &mut Device::new(next),
+        out,
+    );
+    tell_unended(&feed, Input::Feed, errors);
     done?;
     Ok(0)
 }

@@ -331,6 +331,8 @@ fn other_wrong_words_are_told(rt: HostRuntime) {
         ("live a f", "<FEED2>"),
         ("live a f g h", "unexpected argument 'h'"),
         ("live a f g --workers 2", "unexpected argument '--workers'"),
+        ("carry a f", "<NEXT_AIRPORT>"),
+        ("carry a f n h", "unexpected argument 'h'"),
         ("compare a f", "<SCENARIOS>"),
         ("compare a f s shut", "invalid value 'shut' for '[NAME]'"),
         ("compare a f s A B", "unexpected argument 'B'"),

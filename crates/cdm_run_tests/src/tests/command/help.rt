@@ -17,7 +17,7 @@ ENDED |OFFBLOCK |ORDER |NOTREADY |FULL |TOBT     the|RUNWAY   it|EXOT     its|HO
 CTOT     it|CLOSURE  the|RATE     the|0  the complete|1  a file|2  usage error|3  a file|4  check|- reads|\
 FEED1 and FEED2|DESK     the|MOVED    how|scenario,flight,status,|WAIT     for|RATE     the cell|RUNWAY   each|\
 picture draws|two runs may print different texts|\
-\nPLAN\n|\nNEXT\n|\nWARNINGS\n|\nCAUSES\n|\nCOMPARE\n|\nWHY\n|\nLOAD\n|\nTRACE\n|\nPICTURE\n|\nLIVE\n|\nSERVE\n|\nCHECK\n|\
+\nPLAN\n|\nNEXT\n|\nWARNINGS\n|\nCAUSES\n|\nCOMPARE\n|\nWHY\n|\nLOAD\n|\nTRACE\n|\nPICTURE\n|\nLIVE\n|\nSERVE\n|\nCARRY\n|\nCHECK\n|\
 \nKINDS\n|\nJSON\n|\nSTATUS\n|\nTHE BOARD\n|OVERDUE  off-block|--since  lists|--by operator";
 
 const ALL: &str = "Usage: cdmseq <COMMAND>";
@@ -41,6 +41,8 @@ const LOAD: &str = "Usage: cdmseq load [OPTIONS] <AIRPORT> <FEED> [RUNWAY]";
 const PICTURE: &str = "Usage: cdmseq picture [OPTIONS] <AIRPORT> <FEED>";
 
 const LIVE: &str = "Usage: cdmseq live <AIRPORT> <FEED1> <FEED2>";
+
+const CARRY: &str = "Usage: cdmseq carry <AIRPORT> <FEED> <NEXT_AIRPORT>";
 
 const CHECK: &str = "Usage: cdmseq check [OPTIONS] <AIRPORT> <FEED>";
 
@@ -77,7 +79,7 @@ fn prints_help(alloc: Global, words: &[&str], usage: &str) -> bool {
 
 #[test]
 fn help_of_a_command_is_a_screen(rt: HostRuntime) {
-    let table: [(&[&str], &str); 19] = [
+    let table: [(&[&str], &str); 20] = [
         (&["-h"], ALL),
         (&["--help"], ALL),
         (&["plan", "-h"], PLAN),
@@ -94,6 +96,7 @@ fn help_of_a_command_is_a_screen(rt: HostRuntime) {
         (&["load", "--help"], LOAD),
         (&["help", "picture"], PICTURE),
         (&["help", "live"], LIVE),
+        (&["help", "carry"], CARRY),
         (&["help", "check"], CHECK),
         (&["help", "kinds"], KINDS),
         (&["help", "help"], HELP),
