@@ -1,9 +1,8 @@
 // All flights, in a table for each status; one row a flight, made once.
-import { STATUSES, statusWord } from './columns.js';
+import { STATUSES, Table, statusWord, write } from './columns.js';
 import { $, $$, el, say } from './dom.js';
 import { anchored, whenFree } from './hold.js';
 import { Sorted } from './sorted.js';
-import { Table, write } from './tables.js';
 
 const SLICE = 100;
 const CHUNK = 200;

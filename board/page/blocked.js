@@ -2,7 +2,7 @@
 import { $, el, say } from './dom.js';
 import { whenFree } from './hold.js';
 import { Sorted } from './sorted.js';
-import { Table, write } from './tables.js';
+import { Table, write } from './columns.js';
 
 const PARTS = { flight: () => [el('a'), el('small')], rule: () => [el('b', { class: 'rule text' })] };
 

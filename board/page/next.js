@@ -3,7 +3,7 @@ import { isLate } from './day.js';
 import { $, el, say } from './dom.js';
 import { anchored, whenFree } from './hold.js';
 import { Sorted } from './sorted.js';
-import { Table, write } from './tables.js';
+import { Table, write } from './columns.js';
 import { minutesFrom } from './times.js';
 
 const REASONS = { ICE: 'de-icing', CTOT: 'CTOT', CLOSURE: 'closure', SPACING: 'spacing', RATE: 'rate', NOW: 'now' };

@@ -213,9 +213,9 @@ def test_one_table_of_columns(page):
     assert shown.driver.execute_async_script("""const done = arguments[0];
         (async () => {
           const {COLUMNS, STATUSES} = await import(document.querySelector('script[type=module]').src.replace('main.js', 'columns.js'));
-          const {Table} = await import(document.querySelector('script[type=module]').src.replace('main.js', 'tables.js'));
+          const {Table} = await import(document.querySelector('script[type=module]').src.replace('main.js', 'columns.js'));
           COLUMNS.stand.label = 'Box'; COLUMNS.tobt.print = () => 'then';
-          const {write} = await import(document.querySelector('script[type=module]').src.replace('main.js', 'tables.js'));
+          const {write} = await import(document.querySelector('script[type=module]').src.replace('main.js', 'columns.js'));
           const table = new Table('all', 'x'), item = table.make('A1');
           write(item, {tobt: 1, stand: 'S'}, '');
           done([[...table.root.querySelectorAll('th')].map((h) => h.textContent).includes('Box'), item.cells.tobt.textContent, Object.values(STATUSES).map((s) => s.word)]);
