@@ -1,7 +1,7 @@
 //! The lines of faults. Their statuses are told by clauses.
 use crate::tests::asserts::assert_holds;
 use crate::tests::devices::Page;
-use cdm_fault::{Fault, UnopenedFile, report_fault};
+use cdm_fault::{Fault, ShownPath, UnopenedFile, report_fault};
 use cdm_feed::{CommonFault, Device, RunError};
 use cdm_flight::RefusalWord;
 use cdm_live::LiveError;
@@ -79,9 +79,23 @@ fn faults_have_lines(rt: HostRuntime) {
         check_line(&rt, Live(fault), line);
     }
     check_line(&rt, NoMemory, "out of memory");
-    check_line(&rt, Fault::JournalInUse, "JOURNAL is in use");
-    let missing = "JOURNAL is missing, and was served before";
-    check_line(&rt, Fault::JournalMissing, missing);
+}
+
+// A path of its own.
+fn shown(rt: &HostRuntime) -> ShownPath {
+    ShownPath(String::from_str(rt.alloc(), "j.csv").expect(rt, "path"))
+}
+
+#[test]
+fn faults_of_files_name_their_paths(rt: HostRuntime) {
+    let in_use = Fault::JournalInUse(shown(&rt));
+    check_line(&rt, in_use, "JOURNAL is in use (j.csv)");
+    let missing = Fault::JournalMissing(shown(&rt));
+    let line = "JOURNAL is missing, and was served before (j.csv)";
+    check_line(&rt, missing, line);
+    let too_many = Fault::TooManyFiles(cdm_feed::Input::Feed, shown(&rt));
+    let line = "cannot read FEED (j.csv: too many open files)";
+    check_line(&rt, too_many, line);
 }
 
 #[test]
