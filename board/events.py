@@ -18,6 +18,8 @@ MOST_UNSENT = 1 << 20
 MOST_UNSENT_OF_ALL = 256 << 20
 MOST_STREAMS = 20
 MOST_DISPLAYS = 5000
+# Of what a display missed; beyond that the plan is less for both.
+MOST_FIRST = 64 << 10
 # How a stream by gzip begins, and how hard its texts are packed.
 GZIP = b"\x1f\x8b\x08\0\0\0\0\0\0\x03"
 LEVEL = 4
@@ -140,7 +142,7 @@ class Events:
                 text += self._moment_event("reset", record.position)
             elif record.word is None or record.desk == desk:
                 text += self._event(record.position, "refused" if record.word else "reply", self._day.text(record))
-            if len(text) > MOST_UNSENT // 2:
+            if len(text) > (MOST_FIRST if is_first else MOST_UNSENT // 2):
                 return reset
         return bytes(text)
 
@@ -152,10 +154,14 @@ class Events:
         return b"id: %s-%d\nevent: %s\ndata: %s\n\n" % (self._log_id, position, name.encode(), data)
 
     def check(self, desk: Desk) -> None:
-        """Raises Problem if this desk has too many streams; those that only read share theirs."""
-        is_reader = desk.role == "READ"
-        streams = [stream for stream in self.streams if (stream.desk.role == "READ" if is_reader else stream.desk.name == desk.name)]
-        is_full = len(streams) >= (MOST_DISPLAYS if is_reader else MOST_STREAMS)
+        """Raises Problem if this desk has too many streams. Those that only read share theirs; half are kept for who has shown a token."""
+        of_name = [stream for stream in self.streams if stream.desk.name == desk.name]
+        if desk.role != "READ":
+            is_full = len(of_name) >= MOST_STREAMS
+        elif desk.name:
+            is_full = sum(stream.desk.role == "READ" for stream in self.streams) >= MOST_DISPLAYS
+        else:
+            is_full = len(of_name) >= MOST_DISPLAYS // 2
         refuse(is_full, 429, "this desk has too many displays", Retry_After="5")
 
     def open(self, stream: Stream, said: str) -> None:

@@ -54,16 +54,25 @@ class Packed:
 
     def __init__(self) -> None:
         self._kept = OrderedDict[bytes, bytes]()
+        self._making = dict[bytes, asyncio.Task[bytes]]()
 
     async def of(self, body: bytes) -> bytes:
-        """A body by gzip, beside the server's own thread if it isn't there already."""
-        packed = self._kept.get(body)
-        if packed is None:
-            packed = await asyncio.to_thread(gzip.compress, body, LEVEL, mtime=0)
-            if len(body) <= MOST_SHARED:
-                self._kept[body] = packed
-            while len(self._kept) > MOST_PACKED:
-                self._kept.popitem(last=False)
+        """A body by gzip. Where it isn't there already, it is made once for all who wait for it."""
+        if body in self._kept:
+            return self._kept[body]
+        if body not in self._making:
+            self._making[body] = asyncio.create_task(self._make(body))
+            self._making[body].add_done_callback(lambda _: self._making.pop(body))
+        # Who goes away leaves it to the others.
+        return await asyncio.shield(self._making[body])
+
+    async def _make(self, body: bytes) -> bytes:
+        """Packs a body beside the server's own thread."""
+        packed = await asyncio.to_thread(gzip.compress, body, LEVEL, mtime=0)
+        if len(body) <= MOST_SHARED:
+            self._kept[body] = packed
+        while len(self._kept) > MOST_PACKED:
+            self._kept.popitem(last=False)
         return packed
 
 

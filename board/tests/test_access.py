@@ -294,6 +294,21 @@ def test_other_cookies_are_not_read(board):
     assert server.get("/v1/who", Cookie=f"x{own}").status == 401
 
 
+def test_a_desk_of_many_networks_keeps_no_other_from_signing_in():
+    from unittest import mock
+    from board.callers import Callers
+    from board.desks import Desk, Desks
+    from board.words import Problem
+    callers = Callers(Desks([], False), mock.Mock(id="0", secret="s"), {"localhost"}, "http", False)
+    for number in range(5000):
+        with contextlib.suppress(Problem):
+            callers.check_sign_ins(Desk("gh", "GH"), f"10.{number // 65536}.{number // 256 % 256}.{number % 256}")
+    for _ in range(20):
+        callers.check_sign_ins(Desk("tower", "ATC"), "192.0.2.1")
+    with pytest.raises(Problem):
+        callers.check_sign_ins(Desk("tower", "ATC"), "192.0.2.1")
+
+
 def test_windows_are_bounded():
     """By keys and by time; what was counted is told once."""
     from board.windows import MOST_KEYS, Windows

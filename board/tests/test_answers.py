@@ -124,9 +124,30 @@ def test_a_program_that_is_ended_while_it_prints():
         process = await asyncio.create_subprocess_exec(*words, stdout=PIPE, stderr=PIPE, start_new_session=True)
         await asyncio.sleep(0.5)
         async with asyncio.timeout(10 * FACTOR):
-            await answers._ended(process)
+            await answers.ended(process)
         return process.returncode
     assert asyncio.run(ended()) == -9
+
+
+def test_others_come_in_between_turns():
+    """What is made in a turn may wait for nothing; all who ask for it at once don't keep the loop."""
+    order = []
+
+    async def ask(pool, number):
+        async with pool.turn("records"):
+            order.append(number)
+
+    async def tower():
+        for _ in range(40):
+            order.append("tower")
+            await asyncio.sleep(0)
+
+    async def talk():
+        pool = answers.Answers("", "", None)
+        await asyncio.gather(*(ask(pool, number) for number in range(5)), tower())
+    asyncio.run(talk())
+    places = [order.index(number) for number in range(5)]
+    assert places == sorted(places) and all("tower" in order[one:other] for one, other in zip(places, places[1:]))
 
 
 def test_what_a_program_began_ends_with_it(open_to_read):

@@ -203,7 +203,7 @@ def test_displays_share_what_may_be_unsent():
             pass
 
     class Day:
-        records, starts, kept_behind = [], 0, staticmethod(lambda position: [])
+        records, starts, kept_behind, at = [], 0, staticmethod(lambda position: []), staticmethod(lambda position: "")
     for count, are_cut in ((5000, True), (100, False)):
         events = Events("0", Day())
         transports = [Transport(900_000 if number % 2 else 10) for number in range(count)]

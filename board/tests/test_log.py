@@ -148,7 +148,7 @@ def test_a_row_that_is_no_line_is_a_fault(log_at, line):
     if "char" not in told and force.__name__ == "force":
         told = told.replace("chr(", "char(")
     if force.__name__ == "sql":
-        force("ALTER TABLE cdm_record DROP CONSTRAINT IF EXISTS cdm_record_line_check")
+        force("ALTER TABLE cdm_record DROP CONSTRAINT IF EXISTS cdm_record_line_check, DROP CONSTRAINT IF EXISTS cdm_record_readable")
     force(f"INSERT INTO cdm_record VALUES ('', 2, 'ap', NULL, 0, 1, 'AP', {told}, 'now')")
     with pytest.raises(Fault, match="position 2 isn't one line"):
         talk(open_log, lambda log: log.rows(0, 10))

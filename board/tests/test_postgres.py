@@ -62,7 +62,7 @@ def test_the_servers_user_can_only_append_and_read(primary):
     # Who isn't a server can't even read, also where it is let into the database.
     primary.sql("DROP ROLE IF EXISTS other; CREATE ROLE other LOGIN; GRANT CONNECT ON DATABASE cdm TO other")
     for text in ("SELECT * FROM cdm_record", "SELECT secret FROM cdm_log", "SELECT * FROM cdm_session", "SELECT * FROM cdm_audit",
-                 "SELECT cdm_sign_out('', 'd')", "SELECT * FROM cdm_digest", "SELECT cdm_keep('', '[]')", "SELECT cdm_note('', '[]')", told):
+                 "SELECT cdm_sign_out('', 'd', 1)", "SELECT * FROM cdm_digest", "SELECT cdm_keep('', '[]')", "SELECT cdm_note('', '[]')", told):
         with pytest.raises(RuntimeError, match="permission denied"):
             primary.sql(text, who="other")
     primary.sql("DROP OWNED BY other; DROP ROLE other")

@@ -273,3 +273,4 @@ def test_waiting_for_a_position_that_never_comes_ends(board):
     assert {answer.status for answer in answers} == {503} and 1.9 < time.monotonic() - began < 2 + 2 * FACTOR
     server.post(["FLT,AB1,5"], Cdm_Role="AP")
     assert server.get("/v1/plan", Cdm_After="1").status == 200
+    assert server.request("POST", "/v1/compare", "", Cdm_After="999").status == 503

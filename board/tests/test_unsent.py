@@ -1,15 +1,21 @@
 """How much may be unread: of one, of all who have no desk, and of all; and that a connection holds no copy of it."""
 import asyncio
 import sys
+import time
 from unittest import mock
 
 import pytest
 from conftest import ROOT
 
 sys.path.insert(0, str(ROOT))
+from board import events as events_module  # noqa: E402
+from board.day import Day  # noqa: E402
+from board.desks import Desk  # noqa: E402
+from board.events import Events, Stream  # noqa: E402
+from board.log import Record  # noqa: E402
 from board.sending import PIECE, pack  # noqa: E402
 from board.unsent import Unsent  # noqa: E402
-from board.words import Problem  # noqa: E402
+from board.words import Kinds, Problem  # noqa: E402
 
 MIB = 1 << 20
 
@@ -72,3 +78,57 @@ def test_a_connection_has_no_copy(size):
         await response.body.write(mock.Mock(write=write))
     asyncio.run(send())
     assert b"".join(written) == body and max(map(len, written)) <= PIECE
+
+
+def test_a_body_is_packed_once_for_all(monkeypatch):
+    """Also where one of those who wait goes away."""
+    from board import sending
+    made = []
+
+    def compress(body, level, mtime):
+        made.append(len(body))
+        time.sleep(0.05)
+        return b"packed"
+    monkeypatch.setattr(sending.gzip, "compress", compress)
+
+    async def ask():
+        packed = sending.Packed()
+        waiting = [asyncio.create_task(packed.of(b"x" * size)) for size in (3 * MIB, 3 * MIB, 3 * MIB, 10)]
+        await asyncio.sleep(0.01)
+        waiting[0].cancel()
+        return await asyncio.gather(*waiting[1:])
+    assert asyncio.run(ask()) == [b"packed"] * 3 and sorted(made) == [10, 3 * MIB]
+
+
+def stream(name, role="READ"):
+    return Stream(None, Desk(name, role), mock.Mock(), None)
+
+
+def test_who_has_no_token_leaves_displays_their_places(monkeypatch):
+    """Half of the places are for those who have shown one."""
+    monkeypatch.setattr(events_module, "MOST_DISPLAYS", 4)
+    events = Events("0", mock.Mock(starts=0, records=[]))
+    said = []
+    for desk in (Desk("", "READ"),) * 3 + (Desk("screen", "READ"),) * 3 + (Desk("gh", "GH"),):
+        try:
+            events.check(desk)
+            events.streams.add(stream(desk.name, desk.role))
+            said.append(200)
+        except Problem as problem:
+            said.append(problem.status)
+    assert said == [200, 200, 429, 200, 200, 429, 200]
+
+
+def test_what_a_display_missed_is_bounded():
+    """Who comes back with too much is told to read the plan, which costs both less."""
+    records = [Record(number, "ap", "AP", f"FLT,AB{number},5", "t") for number in range(1, 1001)]
+    day = Day(Kinds(b""), [], {})
+    for record in records:
+        day.add(record, None, [{"flight": "x" * 50}])
+    wrote = []
+    for since in (990, 0):
+        display = stream("screen")
+        display.transport.get_write_buffer_size.return_value, display.transport.is_closing.return_value = 0, False
+        Events("0", day).open(display, f"0-{since}")
+        wrote.append(display.transport.write.call_args.args[0])
+    assert wrote[0].count(b"event: reply") == 10 and b"event: reply" not in wrote[1] and b"event: reset" in wrote[1]
