@@ -47,7 +47,8 @@ def test_a_shorter_log_at_the_old_address(page):
     shown.until("return document.querySelector('#all tr[data-flight=NEW1]') !== null", seconds=4 * WAIT)
     is_the_day(shown)
     assert sorted(shown.js("return [...document.querySelectorAll('#all tbody tr')].map((r) => r.dataset.flight)")) == ["NEW1", "NEW2"]
-    assert shown.flights("next") == ["NEW1"] and shown.text(".now time") == "05:00"
+    until(lambda: shown.flights("next") == ["NEW1"])
+    assert shown.text(".now time") == "05:00"
     shown.until("return document.querySelector('header dd').textContent === '1'")
     # It follows the new one.
     server.post("TOBT,NEW1,2025-03-11T05:40Z", Cdm_Role="AO")

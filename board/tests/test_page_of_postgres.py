@@ -4,6 +4,7 @@ import contextlib
 import json
 import os
 import re
+import shutil
 import subprocess
 import urllib.request
 
@@ -28,10 +29,15 @@ def typed():
     def run(lines):
         # What the lines start keeps their output open, so it goes to a file.
         with open(f"{folder}/said", "ab") as said:
-            status = subprocess.run(clusters.as_user("env", f"HOME={folder}", f"CDM={ROOT}", f"CDMSEQ={PROGRAM}", "bash", "-c", own(lines)), cwd=folder,
-                                    timeout=120, stdout=said, stderr=said, stdin=subprocess.DEVNULL).returncode
+            status = subprocess.run(clusters.as_user("env", f"HOME={folder}", f"CDM={folder}/cdm", f"CDMSEQ={folder}/cdm/cdmseq", "bash", "-c", own(lines)),
+                                    cwd=folder, timeout=120, stdout=said, stderr=said, stdin=subprocess.DEVNULL).returncode
         assert status == 0, open(f"{folder}/said").read()
     with clusters.folder() as folder:
+        # The checkout may be where the database's user can't read it.
+        shutil.copytree(ROOT / "board", f"{folder}/cdm/board", ignore=shutil.ignore_patterns("tests", "__pycache__"))
+        shutil.copy(ROOT / "cdmboard", f"{folder}/cdm/cdmboard")
+        shutil.copy(PROGRAM, f"{folder}/cdm/cdmseq")
+        subprocess.run(["chmod", "-R", "a+rX", f"{folder}/cdm"], check=True)
         try:
             yield folder, own, run
         finally:
