@@ -77,6 +77,7 @@ export class World {
     server.isUp = false;
     this.cutAll(server, this.chance.is(0.3));
     const start = () => {
+      if (server.isUp) return; // by a start that was ordered later
       if (this.isAway) { this.later(200, start); return; } // it starts as soon as it reaches the log
       server.restart(this.log);
       Object.assign(server, { isUp: true, staleSince: null, doubtful: -1 });
