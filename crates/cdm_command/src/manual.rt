@@ -633,8 +633,8 @@ STATUS
   2  usage error: a wrong command, option or argument
   3  a file is longer than 8388608 bytes; a record of AIRPORT, NEXT_AIRPORT,
      SCENARIOS or JOURNAL is refused; FEED1 and FEED2 need more than 4096 calls;
-     the flight, runway or scenario that you name is unknown, or that scenario is
-     refused; NEXT_AIRPORT isn't for the day after AIRPORT's
+     the flight, runway or scenario that you name is unknown, or that scenario
+     is refused; NEXT_AIRPORT isn't for the day after AIRPORT's
   4  check found a refused record
   For 1 and 3 standard error has the error, as
   cdmseq: cannot read FEED (feed.csv: no such file). For an invalid record of
