@@ -9,8 +9,7 @@ pub const VERSION: &str = "1.0.0";
 
 /// What the program is.
 pub const ABOUT: &str = "\
-cdmseq plans departures for Airport CDM: a start-up time for each flight, or the
-rule that blocks it.";
+cdmseq plans departures for Airport CDM: a start-up time, or a blocking rule";
 
 /// What `plan` does.
 pub const PLAN_ABOUT: &str = "Plan the day: a start-up time or a blocking rule for each flight";

@@ -63,12 +63,12 @@ fn has_short_lines(text: &str) -> bool {
     text.lines().all(|line| line.len() <= 80)
 }
 
-// Whether it is a help of 29 lines at most with this usage and an example, which names the manual.
+// Whether it is a help of 28 lines at most with this usage and an example, which names the manual.
 fn is_help(text: &str, usage: &str) -> bool {
     text.contains(usage)
         && text.contains("\nExamples:\n  cdmseq ")
         && text.ends_with("Full manual: cdmseq help | less\n")
-        && text.lines().count() <= 29
+        && text.lines().count() <= 28
         && has_short_lines(text)
 }
 
