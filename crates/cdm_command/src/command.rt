@@ -4,7 +4,7 @@ ghost use Rattle.cdm_command.specs.declared.command.CommandFault.TheVariants as 
 
 use crate::manual::manual;
 use crate::parsers::parser;
-use cdm_feed::{Ahead, DayQuestion, DayText, GroupBy, ShiftQuestion, Since};
+use cdm_feed::{Ahead, DayQuestion, DayText, GroupBy, Input, ShiftQuestion, Since};
 use cdm_flight::{FlightName, RunwayName};
 use cdm_kinds::Format;
 use cdm_phase::Workers;
@@ -31,14 +31,31 @@ pub struct DayFiles<'a> {
     pub scenarios: Option<&'a str>,
 }
 
+impl DayFiles<'_> {
+    // The first of the files that is standard input, as the input that it is.
+    fn standard_input(&self) -> Option<Input> {
+        if self.airport == STANDARD_INPUT {
+            Some(Input::Airport)
+        } else if self.feed == STANDARD_INPUT {
+            Some(Input::Feed)
+        } else if self.scenarios == Some(STANDARD_INPUT) {
+            Some(Input::Scenarios)
+        } else {
+            None
+        }
+    }
+}
+
 /// What the words ask for. Files are named by their paths, one at most as [`STANDARD_INPUT`].
 #[derive(PartialEq, Eq, Debug, Drop)]
 pub enum Command<'a> {
-    /// Tell this of the day that a feed makes at an airport, and of its scenarios, by so many workers.
+    /// Tell this of the day that a feed makes at an airport, and of its scenarios, by so many workers. If it is strict, the exit status
+    /// says whether a record of the feed is refused, or the feed has none.
     Tell {
         files: DayFiles<'a>,
         text: DayText,
         workers: Workers,
+        is_strict: bool,
     },
     /// Check the files of a day at an airport, and of its scenarios.
     Check {
@@ -70,6 +87,23 @@ pub enum Command<'a> {
 }
 
 impl Command<'_> {
+    /// The first of the files that is standard input, as the input that it is. None of the names is that of the next airport file.
+    pub fn standard_input(&self) -> Option<Input> {
+        match self {
+            Command::Tell { files, .. } | Command::Check { files, .. } => files.standard_input(),
+            Command::Live { airport, .. } if *airport == STANDARD_INPUT => Some(Input::Airport),
+            Command::Live { feed1, .. } if *feed1 == STANDARD_INPUT => Some(Input::Feed1),
+            Command::Live { feed2, .. } if *feed2 == STANDARD_INPUT => Some(Input::Feed2),
+            Command::Carry { airport, .. } if *airport == STANDARD_INPUT => Some(Input::Airport),
+            Command::Carry { feed, .. } if *feed == STANDARD_INPUT => Some(Input::Feed),
+            Command::Live { .. }
+            | Command::Carry { .. }
+            | Command::Serve { .. }
+            | Command::Kinds(_)
+            | Command::Print(_) => None,
+        }
+    }
+
     // Whether more than one of the files is standard input.
     fn has_standard_input_twice(&self) -> bool {
         let files = match self {
@@ -147,11 +181,11 @@ fn named_in<'a>(
     matches: &ArgMatches<'a>,
 ) -> Result<Option<Command<'a>>, CommandFault> {
     match matches.subcommand() {
-        Some(("plan", plan)) => Ok(plan_of(plan)),
+        Some(("plan", plan)) => plan_of(alloc, plan),
         Some(("compare", compare)) => compare_of(alloc, compare),
         Some(("trace", trace)) => trace_of(alloc, trace),
         Some(("serve", serve)) => serve_of(alloc, serve),
-        Some(("picture", picture)) => Ok(picture_of(picture)),
+        Some(("picture", picture)) => picture_of(alloc, picture),
         Some(("live", live)) => Ok(live_of(live)),
         Some(("carry", carry)) => Ok(carry_of(carry)),
         Some(("check", check)) => Ok(check_of(check)),
@@ -212,54 +246,85 @@ fn format_of(words: &ArgMatches<'_>) -> Format {
     }
 }
 
-// What one worker tells of a day.
-fn told_by_one(files: DayFiles<'_>, text: DayText) -> Option<Command<'_>> {
+// What one worker tells of a day, which these words ask for.
+fn told_by_one<'a>(
+    words: &ArgMatches<'a>,
+    files: DayFiles<'a>,
+    text: DayText,
+) -> Option<Command<'a>> {
     let workers = Workers::new(1)?;
     Some(Command::Tell {
         files,
         text,
         workers,
+        is_strict: words.get_flag("strict"),
     })
 }
 
-// The words of `plan`, all of which the parser has seen to.
-fn plan_of<'a>(plan: &ArgMatches<'a>) -> Option<Command<'a>> {
-    let text = match plan.get_str("format")? {
-        "csv" => DayText::Table(Table::Csv),
+// The words of `plan`, all of which the parser has seen to but the number of workers.
+fn plan_of<'a>(alloc: Global, plan: &ArgMatches<'a>) -> Result<Option<Command<'a>>, CommandFault> {
+    let text = match plan.get_str("format") {
+        Some("csv") => DayText::Table(Table::Csv),
         _ => DayText::Plan(format_of(plan)),
     };
-    Some(Command::Tell {
-        files: files_of(plan, plan.get_str("scenarios"))?,
-        text,
-        workers: workers_of(plan)?,
-    })
+    told_by_many(alloc, plan, plan.get_str("scenarios"), text)
 }
 
-// The words of `picture`, all of which the parser has seen to.
-fn picture_of<'a>(picture: &ArgMatches<'a>) -> Option<Command<'a>> {
-    Some(Command::Tell {
-        files: files_of(picture, picture.get_str("scenarios"))?,
-        text: DayText::Picture,
-        workers: workers_of(picture)?,
-    })
+// The words of `picture`, all of which the parser has seen to but the number of workers.
+fn picture_of<'a>(
+    alloc: Global,
+    picture: &ArgMatches<'a>,
+) -> Result<Option<Command<'a>>, CommandFault> {
+    told_by_many(
+        alloc,
+        picture,
+        picture.get_str("scenarios"),
+        DayText::Picture,
+    )
+}
+
+// What the workers tell of a day and of the scenarios of this file, which these words ask for.
+fn told_by_many<'a>(
+    alloc: Global,
+    words: &ArgMatches<'a>,
+    scenarios: Option<&'a str>,
+    text: DayText,
+) -> Result<Option<Command<'a>>, CommandFault> {
+    let workers = workers_of(alloc, words)?;
+    match files_of(words, scenarios) {
+        Some(files) => Ok(Some(Command::Tell {
+            files,
+            text,
+            workers,
+            is_strict: words.get_flag("strict"),
+        })),
+        None => Ok(None),
+    }
 }
 
 // The number of workers.
-fn workers_of(words: &ArgMatches<'_>) -> Option<Workers> {
-    Workers::new(words.get_one::<usize>("workers")?)
+fn workers_of(alloc: Global, words: &ArgMatches<'_>) -> Result<Workers, CommandFault> {
+    let word = words.get_str("workers").unwrap_or("1");
+    match word
+        .parse::<usize>()
+        .ok()
+        .and_then(|count| Workers::new(count))
+    {
+        Some(workers) => Ok(workers),
+        None => Err(wrong_value(
+            alloc,
+            word,
+            "--workers <N>",
+            "write a whole number from 1 to 64",
+        )?),
+    }
 }
 
-// The words of `compare`, all of which the parser has seen to but the form of the scenario's name.
+// The words of `compare`, all of which the parser has seen to but the number of workers and the form of the scenario's name.
 fn compare_of<'a>(
     alloc: Global,
     compare: &ArgMatches<'a>,
 ) -> Result<Option<Command<'a>>, CommandFault> {
-    let (Some(files), Some(workers)) = (
-        files_of(compare, compare.get_str("SCENARIOS")),
-        workers_of(compare),
-    ) else {
-        return Ok(None);
-    };
     let name = match compare.get_str("NAME") {
         Some(word) => Some(scenario_in(alloc, word, "[NAME]")?),
         None => None,
@@ -275,11 +340,8 @@ fn compare_of<'a>(
         (Some("json"), name) => Table::ComparisonJson(name),
         (_, name) => Table::Comparison(name),
     };
-    Ok(Some(Command::Tell {
-        files,
-        text: DayText::Table(table),
-        workers,
-    }))
+    let scenarios = compare.get_str("SCENARIOS");
+    told_by_many(alloc, compare, scenarios, DayText::Table(table))
 }
 
 // The scenario that a word names.
@@ -324,7 +386,7 @@ fn question_of<'a>(
     match files_of(words, scenarios) {
         Some(files) => {
             let text = DayText::Answer(question, name, format_of(words));
-            Ok(told_by_one(files, text))
+            Ok(told_by_one(words, files, text))
         }
         None => Ok(None),
     }
@@ -383,7 +445,7 @@ fn trace_of<'a>(
     match files_of(trace, None) {
         Some(files) => {
             let text = DayText::Trace(flight, since, format_of(trace));
-            Ok(told_by_one(files, text))
+            Ok(told_by_one(trace, files, text))
         }
         None => Ok(None),
     }
@@ -440,9 +502,10 @@ fn load_of<'a>(alloc: Global, load: &ArgMatches<'a>) -> Result<Option<Command<'a
     question_of(alloc, load, DayQuestion::View(Question::Load(runway)))
 }
 
-// The words of `next`, all of which the parser has seen to.
+// The words of `next`, all of which the parser has seen to but the minutes and the scenario.
 fn next_of<'a>(alloc: Global, next: &ArgMatches<'a>) -> Result<Option<Command<'a>>, CommandFault> {
-    shift_of(alloc, next, ShiftQuestion::Next(ahead_of(next)))
+    let ahead = ahead_of(alloc, next)?;
+    shift_of(alloc, next, ShiftQuestion::Next(ahead))
 }
 
 // The words of what a shift asks, all of which the parser has seen to but the scenario.
@@ -454,14 +517,23 @@ fn shift_of<'a>(
     question_of(alloc, words, DayQuestion::Shift(question))
 }
 
-// How many minutes ahead is looked, which the parser has found in their range.
-fn ahead_of(words: &ArgMatches<'_>) -> Ahead {
-    let Some(minutes) = words.get_one::<usize>("MINUTES") else {
-        return Ahead::usual();
+// How many minutes ahead is looked.
+fn ahead_of(alloc: Global, words: &ArgMatches<'_>) -> Result<Ahead, CommandFault> {
+    let Some(word) = words.get_str("MINUTES") else {
+        return Ok(Ahead::usual());
     };
-    match u16::try_from(minutes) {
-        Ok(minutes) => Ahead::new(minutes).unwrap_or(Ahead::usual()),
-        Err(_) => Ahead::usual(),
+    match word
+        .parse::<u16>()
+        .ok()
+        .and_then(|minutes| Ahead::new(minutes))
+    {
+        Some(ahead) => Ok(ahead),
+        None => Err(wrong_value(
+            alloc,
+            word,
+            "[MINUTES]",
+            "write a whole number from 1 to 2880",
+        )?),
     }
 }
 

@@ -627,18 +627,19 @@ JSON
 
 STATUS
   0  the complete output was written, even if records were refused
-  1  a file can't be read or written, the output can't be written, memory ran
-     out, JOURNAL is in use, or a check inside live failed
+  1  a file can't be read or written, the output can't be written, a standard
+     stream that is needed is closed, memory ran out, JOURNAL is in use, or a
+     check inside live failed
   2  usage error: a wrong command, option or argument
   3  a file is longer than 8388608 bytes; a record of AIRPORT, NEXT_AIRPORT,
      SCENARIOS or JOURNAL is refused; FEED1 and FEED2 need more than 4096 calls;
      the flight, runway or scenario that you name is unknown, or that scenario
      is refused; NEXT_AIRPORT isn't for the day after AIRPORT's
-  4  check found a refused record
-  For 1 and 3 standard error has the error, as
-  cdmseq: cannot read FEED (feed.csv: no such file). For an invalid record of
-  AIRPORT or SCENARIOS the line of check follows, except in live, serve and
-  carry. For 2 it has the error and a hint.
+  4  check found a refused record; with --strict, FEED has a refused record or
+     none at all
+  For 1 and 3 standard error has the error in one line, as
+  cdmseq: cannot read FEED (feed.csv: no such file). For 2 it has the error and
+  a hint. If it is a terminal, more lines for people can follow.
 ";
 
 // What a kind of updates says, in lines of 45 characters.

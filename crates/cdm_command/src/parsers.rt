@@ -7,7 +7,7 @@ use crate::manual::{
     PICTURE_EXAMPLE, PLAN_ABOUT, PLAN_EXAMPLE, SERVE_ABOUT, SERVE_EXAMPLE, TRACE_ABOUT,
     TRACE_EXAMPLE, VERSION, WARNINGS_ABOUT, WARNINGS_EXAMPLE, WHY_ABOUT, WHY_EXAMPLE,
 };
-use clap::{Arg, Command as Parser, value_parser};
+use clap::{Arg, ArgAction, Command as Parser};
 use std::alloc::{AllocError, Global};
 
 /// How the output can be written.
@@ -66,6 +66,14 @@ fn format_arg<'a>(alloc: Global, formats: &'a [&'a str], help: &'a str) -> Arg<'
         .help(help)
 }
 
+// Whether the exit status says that a record is refused.
+fn strict_arg<'a>(alloc: Global) -> Arg<'a> {
+    Arg::new(alloc, "strict")
+        .long("strict")
+        .action(ArgAction::SetTrue)
+        .help("Status 4 if FEED has a refused record, or none at all")
+}
+
 // The words that `check` takes.
 fn check_parser<'a>(alloc: Global) -> Result<Parser<'a>, AllocError> {
     day_parser(alloc, "check", CHECK_ABOUT, CHECK_EXAMPLE)?
@@ -78,7 +86,8 @@ fn plan_parser<'a>(alloc: Global) -> Result<Parser<'a>, AllocError> {
     day_parser(alloc, "plan", PLAN_ABOUT, PLAN_EXAMPLE)?
         .arg(scenarios_arg(alloc, OVER_THE_FEED))?
         .arg(format_arg(alloc, TABLE_FORMATS, "text, csv: a row a flight, or json"))?
-        .arg(workers_arg(alloc))
+        .arg(workers_arg(alloc))?
+        .arg(strict_arg(alloc))
 }
 
 // The number of workers.
@@ -86,7 +95,7 @@ fn workers_arg<'a>(alloc: Global) -> Arg<'a> {
     Arg::new(alloc, "workers")
         .long("workers")
         .value_name("N")
-        .value_parser(value_parser!(usize).range(1..=64))
+        .allow_negative_numbers(true)
         .default_value("1")
         .help("1 to 64 threads; the output is the same")
 }
@@ -97,14 +106,16 @@ fn compare_parser<'a>(alloc: Global) -> Result<Parser<'a>, AllocError> {
         .arg(required_arg(alloc, "SCENARIOS", OVER_THE_FEED))?
         .arg(Arg::new(alloc, "NAME").help("One scenario, to see what changes by it"))?
         .arg(format_arg(alloc, TABLE_FORMATS, "text, csv: a row a line, or json"))?
-        .arg(workers_arg(alloc))
+        .arg(workers_arg(alloc))?
+        .arg(strict_arg(alloc))
 }
 
 // The words that `picture` takes.
 fn picture_parser<'a>(alloc: Global) -> Result<Parser<'a>, AllocError> {
     day_parser(alloc, "picture", PICTURE_ABOUT, PICTURE_EXAMPLE)?
         .arg(scenarios_arg(alloc, OVER_THE_FEED))?
-        .arg(workers_arg(alloc))
+        .arg(workers_arg(alloc))?
+        .arg(strict_arg(alloc))
 }
 
 // The words that `live` takes.
@@ -153,7 +164,8 @@ fn question_parser<'a>(parser: Parser<'a>, alloc: Global) -> Result<Parser<'a>, 
     parser
         .arg(scenarios_arg(alloc, OVER_THE_FEED))?
         .arg(scenario_arg(alloc))?
-        .arg(format_arg(alloc, FORMATS, TEXT_OR_JSON))
+        .arg(format_arg(alloc, FORMATS, TEXT_OR_JSON))?
+        .arg(strict_arg(alloc))
 }
 
 // The words that `why` takes.
@@ -174,7 +186,7 @@ fn load_parser<'a>(alloc: Global) -> Result<Parser<'a>, AllocError> {
 fn next_parser<'a>(alloc: Global) -> Result<Parser<'a>, AllocError> {
     let parser = day_parser(alloc, "next", NEXT_ABOUT, NEXT_EXAMPLE)?;
     let minutes = Arg::new(alloc, "MINUTES")
-        .value_parser(value_parser!(usize).range(1..=2880))
+        .allow_negative_numbers(true)
         .help("How far ahead, 1 to 2880 minutes; 60 without it");
     question_parser(parser.arg(minutes)?, alloc)
 }
@@ -208,7 +220,8 @@ fn trace_parser<'a>(alloc: Global) -> Result<Parser<'a>, AllocError> {
         .help("From the first record that made it this time or later");
     parser
         .arg(since)?
-        .arg(format_arg(alloc, FORMATS, TEXT_OR_JSON))
+        .arg(format_arg(alloc, FORMATS, TEXT_OR_JSON))?
+        .arg(strict_arg(alloc))
 }
 
 // The words that `serve` takes.

@@ -1,7 +1,7 @@
 -- The exit status of each fault, and of a run that has written its text.
 -- 3 where an input is refused or doesn't know what is asked for, 1 where a file can't be opened, a device fails, memory
 -- is short or the board gives a wrong answer, 2 where the words name no command, or a time of another day.
-use Rattle.std.specs.Prelude.{ℕ, ◌==◌, if◌then◌else◌}
+use Rattle.std.specs.Prelude.{ℕ, Bool, true, false, not, ◌==◌, ◌&&◌, if◌then◌else◌}
 use Rattle.cdm_feed.specs.declared.counted.Counted.{Counted}
 use Rattle.cdm_feed.specs.declared.counted.Counted.TheVariants as counted
 use Rattle.cdm_files.specs.declared.common_fault.CommonFault.{CommonFault}
@@ -49,17 +49,19 @@ status_of_fault (fault.Carry (carry.NextRecord number word)) = 3
 status_of_fault (fault.Carry (carry.NextDay days)) = 3
 status_of_fault (fault.CannotOpenJournal file) = 1
 status_of_fault (fault.JournalNoFile path) = 1
-status_of_fault fault.JournalMissing = 3
-status_of_fault fault.JournalInUse = 1
+status_of_fault (fault.JournalMissing path) = 3
+status_of_fault (fault.JournalInUse path) = 1
 status_of_fault (fault.Serve (serve.Common e)) = status_of_common e
 status_of_fault (fault.Serve (serve.Journal number word)) = 3
 status_of_fault (fault.Serve (serve.Port e)) = status_of_port e
 status_of_fault (fault.Serve serve.TooMany) = 1
 
--- the exit status of a run that has written its text: 4 where a check refuses a record
-abbrev pub status_of_run : Counted → ℕ
-status_of_run (counted.Check counts) = if counts.refused == 0 then 0 else 4
-status_of_run (counted.Day counts) = 0
+-- the exit status of a run that has written its text: 4 where a check refuses a record, and, if it is strict, where a day refuses
+-- one of the feed or the feed has none
+abbrev pub status_of_run : Bool → Counted → ℕ
+status_of_run strict (counted.Check counts) = if counts.refused == 0 then 0 else 4
+status_of_run true (counted.Day counts) = if (counts.refused == 0) && not (counts.accepted == 0) then 0 else 4
+status_of_run false (counted.Day counts) = 0
 
 abbrev pub status_of_command_fault : CommandFault → ℕ
 status_of_command_fault (command.Usage text) = 2

@@ -45,11 +45,11 @@ pub enum Fault {
     #[error("cannot open JOURNAL ({0}: is no regular file)")]
     JournalNoFile(ShownPath),
     /// The journal was served before, and isn't there.
-    #[error("JOURNAL is missing, and was served before")]
-    JournalMissing,
+    #[error("JOURNAL is missing, and was served before ({0})")]
+    JournalMissing(ShownPath),
     /// Another process has the journal.
-    #[error("JOURNAL is in use")]
-    JournalInUse,
+    #[error("JOURNAL is in use ({0})")]
+    JournalInUse(ShownPath),
     /// The day was not served to the end of its input.
     #[error(transparent)]
     Serve(#[from] ServeError),
@@ -83,7 +83,7 @@ impl Fault {
                 | RunError::Update(..),
             )
             | Fault::Serve(ServeError::Journal(..) | ServeError::Port(PortFault::JournalTooLong))
-            | Fault::JournalMissing
+            | Fault::JournalMissing(_)
             | Fault::Live(LiveError::HistoryFull)
             | Fault::Carry(
                 CarryError::NextTooLong | CarryError::NextRecord(..) | CarryError::NextDay(_),
@@ -93,7 +93,7 @@ impl Fault {
             | Fault::Carry(CarryError::NextRead)
             | Fault::CannotOpenJournal(_)
             | Fault::JournalNoFile(_)
-            | Fault::JournalInUse
+            | Fault::JournalInUse(_)
             | Fault::NoMemory
             | Fault::Serve(ServeError::Port(_) | ServeError::TooMany)
             | Fault::Live(LiveError::Mismatch) => 1,
@@ -111,12 +111,14 @@ fn common_status(fault: CommonFault) -> u8
     }
 }
 
-/// The exit status of a run that has written its text: 4 where a check refuses a record.
-pub fn run_status(counted: &Counted) -> u8
-    ensures { result ≡ status_of_run counted.now }
+/// The exit status of a run that has written its text: 4 where a check refuses a record, and, if it is strict, where a day refuses one of the
+/// feed or the feed has none.
+pub fn run_status(counted: &Counted, is_strict: bool) -> u8
+    ensures { result ≡ status_of_run is_strict counted.now }
 {
     match counted {
         Counted::Check(counts) if counts.refused > 0 => 4,
+        Counted::Day(counts) if is_strict && (counts.refused > 0 || counts.accepted == 0) => 4,
         Counted::Check(_) | Counted::Day(_) => 0,
     }
 }

@@ -2,7 +2,9 @@
 #![tactic(auto)]
 
 mod fault;
+mod shell;
 mod unopened;
 
 pub use fault::{Fault, report_command_fault, report_fault, run_status};
-pub use unopened::{PathText, ShownPath, UnopenedFile};
+pub use shell::ShellWord;
+pub use unopened::{OpenReason, PathText, ShownPath, UnopenedFile};

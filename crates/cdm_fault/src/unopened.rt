@@ -3,22 +3,32 @@ use std::fmt;
 use std::fmt::{Display, Formatter, Write};
 use std::io::ErrorKind;
 
+/// Why a file can't be opened.
+#[derive(Clone, Copy, PartialEq, Eq, Debug)]
+pub enum OpenReason {
+    /// The process or the system has as many open files as it may have.
+    TooManyFiles,
+    /// What the system says of it.
+    Told(ErrorKind),
+}
+
 /// A file that can't be opened. It is shown as its path and the reason, where the system tells one.
 #[derive(PartialEq, Eq, Debug, Drop)]
 pub struct UnopenedFile {
     /// The file's path.
     pub path: String,
-    /// What the system says of it.
-    pub kind: ErrorKind,
+    /// Why it can't be opened.
+    pub reason: OpenReason,
 }
 
 impl Display for UnopenedFile {
     fn fmt<W: Write>(&self, f: &mut Formatter<W>) -> fmt::Result {
         write_path(&self.path, f)?;
-        match self.kind {
-            ErrorKind::NotFound => f.write_str(": no such file"),
-            ErrorKind::Other | ErrorKind::Uncategorized => Ok(()),
-            kind => write!(f, ": {kind}"),
+        match self.reason {
+            OpenReason::TooManyFiles => f.write_str(": too many open files"),
+            OpenReason::Told(ErrorKind::NotFound) => f.write_str(": no such file"),
+            OpenReason::Told(ErrorKind::Other | ErrorKind::Uncategorized) => Ok(()),
+            OpenReason::Told(kind) => write!(f, ": {kind}"),
         }
     }
 }

@@ -2,8 +2,9 @@
 ghost use Rattle.std.specs.Io.{ReadsAtMost};
 ghost use Rattle.std.specs.Io.KnownBytes.{ReadConsumes};
 
-use std::io;
+use cdm_feed::Input;
 use std::io::Read;
+use std::{fmt, io};
 
 /// A reader that remembers the last byte that it gave, and whether it came to its end.
 #[derive(Drop)]
@@ -39,5 +40,15 @@ impl<R: Read> Read for Ending<R> {
             None => self.ended |= !buf.is_empty(),
         }
         Ok(count)
+    }
+}
+
+/// The last line of this feed has no end.
+#[derive(Clone, Copy)]
+pub(crate) struct Unended(pub(crate) Input);
+
+impl fmt::Display for Unended {
+    fn fmt<W: fmt::Write>(&self, f: &mut fmt::Formatter<W>) -> fmt::Result {
+        write!(f, "cdmseq: {}: its last line has no end", self.0)
     }
 }

@@ -1,46 +1,59 @@
-//! Why a record of the airport file or of the scenario file is refused.
+//! Why a record of the airport file or of the scenario file is refused, and which names there are.
 
-use crate::files::{is_regular, open, open_scenarios, shown_path};
+use crate::files::{are_regular, shown_path, text_of};
+use crate::names::{first_day, names_after, near_flights};
 use cdm_check::FilePaths;
 use cdm_command::{Command, DayFiles};
 use cdm_fault::Fault;
-use cdm_feed::{Asked, CommonFault, Device, Input, Lent, RunError, run_asked};
+use cdm_feed::{Asked, CommonFault, RunError};
 use cdm_flight::RefusalWord;
 use cdm_kinds::Format;
-use cdm_phase::{OpenGate, Workers};
 use std::fs::Files;
 use std::io;
 use std::thread::Threads;
 
-/// The line of a check that says why the record is refused that the fault names, where the command has read files that can be
-/// read again. A fault is want of memory.
+/// The line that explains a fault to a person: that of a check about the record that the fault names, or the names that there are in place of
+/// the one that it names. There is one where the command has read files that can be read again. A fault is want of memory.
 pub(crate) fn explanation<R: AllocGlobal + Files + io::Input + Threads + Sync>(
     rt: &R,
     command: &Command<'_>,
     fault: &Fault,
 ) -> Result<Option<String>, Fault> {
-    let Command::Tell { files, .. } = command else {
+    let (Command::Tell { files, .. }, Fault::Run(error)) = (command, fault) else {
         return Ok(None);
     };
-    let found = match (fault, files.scenarios) {
-        (Fault::Run(RunError::Common(CommonFault::Airport(number, word))), _) => {
-            let airport = DayFiles {
-                scenarios: None,
-                ..*files
-            };
-            finding_in(rt, airport, files.airport, *number, *word)
-        }
-        (Fault::Run(RunError::Scenario(number, word)), Some(scenarios)) => {
-            finding_in(rt, *files, scenarios, *number, *word)
-        }
-        _ => return Ok(None),
-    };
-    match found {
+    match line_of(rt, *files, error) {
         Err(Fault::NoMemory | Fault::Run(RunError::Common(CommonFault::Memory))) => {
             Err(Fault::NoMemory)
         }
         Err(_) => Ok(None),
         Ok(line) => Ok(line),
+    }
+}
+
+// The line that explains an error of these files.
+fn line_of<R: AllocGlobal + Files + io::Input + Threads + Sync>(
+    rt: &R,
+    files: DayFiles<'_>,
+    error: &RunError,
+) -> Result<Option<String>, Fault> {
+    let airport = DayFiles {
+        scenarios: None,
+        ..files
+    };
+    match error {
+        RunError::Common(CommonFault::Airport(number, word)) => {
+            finding_in(rt, airport, files.airport, *number, *word)
+        }
+        RunError::Scenario(number, word) => {
+            let scenarios = files.scenarios.unwrap_or_default();
+            finding_in(rt, files, scenarios, *number, *word)
+        }
+        RunError::NoRunway(_) => names_after(rt, airport, "RUNWAY ", "runways"),
+        RunError::NoScenario(_) => names_after(rt, files, "SCENARIO ", "scenarios"),
+        RunError::NoFlight(name) => near_flights(rt, airport, name.text()),
+        RunError::OtherDay => first_day(rt, airport),
+        _ => Ok(None),
     }
 }
 
@@ -52,7 +65,7 @@ fn finding_in<R: AllocGlobal + Files + io::Input + Threads + Sync>(
     number: usize,
     word: RefusalWord,
 ) -> Result<Option<String>, Fault> {
-    if !is_regular(rt, files.airport) || !files.scenarios.is_none_or(|path| is_regular(rt, path)) {
+    if !are_regular(rt, files) {
         return Ok(None);
     }
     let alloc = rt.alloc();
@@ -82,29 +95,5 @@ fn check_text<R: AllocGlobal + Files + io::Input + Threads + Sync>(
         feed: "",
         scenarios,
     };
-    let text = checked(rt, files, &Asked::Check(paths, Format::Text))?;
-    Ok(String::from_utf8(text).unwrap_or(String::new(alloc)))
-}
-
-// What is asked of the airport file, of no record and of the scenario file.
-fn checked<R: AllocGlobal + Files + io::Input + Threads + Sync>(
-    rt: &R,
-    files: DayFiles<'_>,
-    asked: &Asked<'_>,
-) -> Result<Vec<u8>, Fault> {
-    let alloc = rt.alloc();
-    let airport = &mut Device::new(open(rt, files.airport, Input::Airport)?);
-    let scenarios = &mut Device::new(open_scenarios(rt, files.scenarios)?);
-    let nothing: &[u8] = &[];
-    let feed = &mut Device::new(nothing);
-    let lent = Lent {
-        rt,
-        alloc,
-        workers: Workers::new(1).unwrap(),
-        gate: &OpenGate,
-    };
-    let mut text = Vec::new(alloc);
-    let out = &mut Device::new(&mut text);
-    run_asked(&lent, asked, airport, feed, scenarios, out)?;
-    Ok(text)
+    text_of(rt, files, None, &Asked::Check(paths, Format::Text))
 }

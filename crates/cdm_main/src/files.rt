@@ -1,18 +1,23 @@
 //! The files that the words name.
 
-use cdm_command::STANDARD_INPUT;
-use cdm_fault::{Fault, PathText, UnopenedFile};
-use cdm_feed::Input;
+use cdm_command::{DayFiles, STANDARD_INPUT};
+use cdm_fault::{Fault, OpenReason, PathText, ShownPath, UnopenedFile};
+use cdm_feed::{Asked, Device, Input, Lent, run_asked};
+use cdm_phase::{OpenGate, Workers};
 use either::Either;
 use std::alloc::{AllocError, Global};
 use std::fs::Files;
 use std::io::ErrorKind;
+use std::thread::Threads;
 use std::{fs, io};
 
 /// A file, or standard input. The latter is boxed, since each move of its buffer would take room on the stack.
 pub(crate) type Opened<R> = Either<<R as Files>::File, Box<<R as io::Input>::Reader>>;
 
-/// Opens a file, or takes standard input where that is its name. A fault is named as the input.
+/// What the system answers where this process, or all processes, have as many open files as they may have.
+const TOO_MANY_FILES: [i32; 2] = [24, 23];
+
+/// Opens a file, or takes standard input where that is its name. A folder is no file. A fault is named as the input.
 pub(crate) fn open<R: AllocGlobal + Files + io::Input>(
     rt: &R,
     path: &str,
@@ -24,10 +29,14 @@ pub(crate) fn open<R: AllocGlobal + Files + io::Input>(
         };
         return Ok(Either::Right(reader));
     }
+    if fs::metadata(rt, path).is_ok_and(|found| found.is_dir()) {
+        let folder = OpenReason::Told(ErrorKind::IsADirectory);
+        return Err(Fault::CannotOpen(input, unopened(rt.alloc(), path, folder)?));
+    }
     match fs::open(rt, path) {
         Ok(file) => Ok(Either::Left(file)),
         Err(error) => {
-            let file = unopened(rt.alloc(), path, error.kind())?;
+            let file = unopened(rt.alloc(), path, reason_of(&error))?;
             Err(Fault::CannotOpen(input, file))
         }
     }
@@ -44,25 +53,67 @@ pub(crate) fn open_next<R: AllocGlobal + Files + io::Input>(
     }
 }
 
+// Why a file can't be opened, as the system says it.
+fn reason_of(error: &io::Error) -> OpenReason {
+    match error.raw_os_error() {
+        Some(code) if TOO_MANY_FILES.contains(&code) => OpenReason::TooManyFiles,
+        _ => OpenReason::Told(error.kind()),
+    }
+}
+
+/// A path of its own, for a line.
+pub(crate) fn shown(alloc: Global, path: &str) -> Result<ShownPath, AllocError> {
+    Ok(ShownPath(String::from_str(alloc, path)?))
+}
+
 /// A file that can't be opened for this reason.
 pub(crate) fn unopened(
     alloc: Global,
     path: &str,
-    kind: ErrorKind,
+    reason: OpenReason,
 ) -> Result<UnopenedFile, AllocError> {
     let path = String::from_str(alloc, path)?;
-    Ok(UnopenedFile { path, kind })
+    Ok(UnopenedFile { path, reason })
 }
 
-/// Opens the scenario file, if one is named. Without one there is no scenario.
-pub(crate) fn open_scenarios<R: AllocGlobal + Files + io::Input>(
+/// Opens the file of an input, if one is named. Without one the input has no record.
+pub(crate) fn open_named<R: AllocGlobal + Files + io::Input>(
     rt: &R,
     path: Option<&str>,
+    input: Input,
 ) -> Result<Either<Opened<R>, &'static [u8]>, Fault> {
     match path {
-        Some(path) => Ok(Either::Left(open(rt, path, Input::Scenarios)?)),
+        Some(path) => Ok(Either::Left(open(rt, path, input)?)),
         None => Ok(Either::Right(&[])),
     }
+}
+
+/// What is asked of the airport file, the scenario file and this feed, if there is one, as a text in memory.
+pub(crate) fn text_of<R: AllocGlobal + Files + io::Input + Threads + Sync>(
+    rt: &R,
+    files: DayFiles<'_>,
+    feed: Option<&str>,
+    asked: &Asked<'_>,
+) -> Result<String, Fault> {
+    let alloc = rt.alloc();
+    let airport = &mut Device::new(open(rt, files.airport, Input::Airport)?);
+    let feed = &mut Device::new(open_named(rt, feed, Input::Feed)?);
+    let scenarios = &mut Device::new(open_named(rt, files.scenarios, Input::Scenarios)?);
+    let lent = Lent {
+        rt,
+        alloc,
+        workers: Workers::new(1).unwrap(),
+        gate: &OpenGate,
+    };
+    let mut text = Vec::new(alloc);
+    let out = &mut Device::new(&mut text);
+    run_asked(&lent, asked, airport, feed, scenarios, out)?;
+    Ok(String::from_utf8(text).unwrap_or(String::new(alloc)))
+}
+
+/// Whether the airport file and the scenario file are regular files, which can be read a second time.
+pub(crate) fn are_regular<R: Files>(rt: &R, files: DayFiles<'_>) -> bool {
+    is_regular(rt, files.airport) && files.scenarios.is_none_or(|path| is_regular(rt, path))
 }
 
 /// Whether a path names a regular file, which can be read a second time.

@@ -1,26 +1,32 @@
 //! `cdmseq`: plans the start-up times of an airport's departures from its files.
 #![tactic(auto)]
 
-ghost use Rattle.std.specs.Prelude.{◌≡◌, false};
+ghost use Rattle.std.specs.Prelude.{◌≡◌, false, true};
 
+mod console;
 mod ending;
 mod explaining;
 mod files;
+mod names;
 mod refused;
+mod standard;
 
-use crate::ending::Ending;
+use crate::console::Console;
+use crate::ending::{Ending, Unended};
 use crate::explaining::explanation;
-use crate::files::{open, open_next, open_scenarios, shown_path, unopened};
+use crate::files::{open, open_named, open_next, shown, shown_path, unopened};
 use crate::refused::tell_refused;
+use crate::standard::{Closed, Standard, unread};
 use cdm_carry::run_carry;
 use cdm_check::FilePaths;
 pub use cdm_command::{Command, CommandFault, DayFiles, command_of};
 use cdm_day::Airport;
 pub use cdm_fault::{
-    Fault, ShownPath, UnopenedFile, report_command_fault, report_fault, run_status,
+    Fault, OpenReason, UnopenedFile, report_command_fault, report_fault, run_status,
 };
 use cdm_feed::{
-    Asked, Device, Input, Lent, WriteFault, airport_of, read_whole, run_asked, write_text,
+    Asked, CommonFault, Counted, Device, Input, Lent, RunError, WriteFault, airport_of, read_whole,
+    run_asked, write_text,
 };
 use cdm_kinds::{Format, kinds_text};
 pub use cdm_live::{LiveCounts, LiveError, run_live};
@@ -28,87 +34,119 @@ use cdm_phase::{OpenGate, Workers};
 use cdm_port::{OpenFault, OpenJournal, Streams};
 use cdm_serve::{ServeError, serve};
 use std::alloc::{AllocError, Global};
-use std::fs::{File, OpenOptions};
-use std::io::{BufReader, ErrorKind, Read, Write};
-use std::os::fd::{AsRawFd, RawFd};
+use std::fs::File;
+use std::io::{BufReader, ErrorKind, IsTerminal, Read, Write};
 use std::process::ExitCode;
 use std::rt::{Env, Files};
 use std::sync::Wait;
 use std::thread::Threads;
 use std::{env, io};
 
-/// The descriptor of standard error, the last of the standard streams.
-const LAST_STANDARD: RawFd = 2;
-
 /// The bytes that Linux gives a word at most.
 const LONGEST_WORD: usize = 131_072;
 
 fn main(rt: HostRuntime) -> ExitCode {
-    let _standard = fill_standard(&rt);
+    let standard = Standard::fill(&rt);
     let mut out = Device::new(rt.stdout());
-    let mut errors = Device::new(rt.stderr());
-    ExitCode::from(status_of(&rt, &mut out, &mut errors))
-}
-
-// Opens the null device for each of the descriptors 0, 1 and 2 that is closed, so that no file that is opened later
-// takes the place of a standard stream. They stay open as long as the answer is kept.
-fn fill_standard<R: Files<File = File>>(rt: &R) -> [Option<File>; 3] {
-    let mut options = OpenOptions::new();
-    options.read(true);
-    options.write(true);
-    let mut opened = [None, None, None];
-    for place in &mut opened {
-        match options.open(rt, "/dev/null") {
-            Ok(file) if file.as_raw_fd() <= LAST_STANDARD => *place = Some(file),
-            _ => break,
-        }
-    }
-    opened
+    let errors = rt.stderr();
+    let is_terminal = errors.is_terminal();
+    let status = status_of(
+        &rt,
+        standard.closed(),
+        &mut out,
+        Device::new(errors),
+        is_terminal,
+    );
+    ExitCode::from(status)
 }
 
 // Runs the command that the program's words name, and answers the exit status. Texts go to `out`,
-// and what stops the program is told on `errors`.
-fn status_of<R, O: Write, E: Write>(rt: &R, out: &mut Device<O>, errors: &mut Device<E>) -> u8
+// and what stops the program is told on `errors`, which may be a terminal.
+fn status_of<R, O: Write, E: Write + Drop>(
+    rt: &R,
+    closed: Closed,
+    out: &mut Device<O>,
+    mut errors: Device<E>,
+    is_terminal: bool,
+) -> u8
 where
     R: AllocGlobal + Env + Files<File = File> + io::Input + Threads + Wait + Sync,
     requires { out.old.failed ≡ false }
 {
-    let words = match words_of(rt) {
+    let (program, words) = match words_of(rt) {
         Ok(words) => words,
-        Err(fault) => return report_command_fault(&fault, errors),
+        Err(fault) => return report_command_fault(&fault, &mut errors),
     };
     let command = match command_of(rt.alloc(), words.as_slice()) {
         Ok(command) => command,
-        Err(fault) => return report_command_fault(&fault, errors),
+        Err(fault) => return report_command_fault(&fault, &mut errors),
     };
-    match run_command(rt, &command, out, errors) {
+    let mut console = Console {
+        errors,
+        is_terminal,
+        program: &program,
+    };
+    run_open(rt, closed, &command, out, &mut console)
+}
+
+// Runs the command, unless a standard stream that it needs is closed, and answers the exit status.
+fn run_open<R, O: Write, E: Write>(
+    rt: &R,
+    closed: Closed,
+    command: &Command<'_>,
+    out: &mut Device<O>,
+    console: &mut Console<'_, E>,
+) -> u8
+where
+    R: AllocGlobal + Files<File = File> + io::Input + Threads + Wait + Sync,
+    requires { out.old.failed ≡ false }
+
+    // Nothing is read or planned where nothing can be written.
+    ensures closed { closed.output ≡ true → (result ≡ 1) × (out.new ≡ out.old) }
+{
+    if closed.output {
+        let unwritten = Fault::Run(RunError::Common(CommonFault::Write));
+        return report_fault(&unwritten, &mut console.errors);
+    }
+    if closed.input {
+        if let Some(fault) = unread(command) {
+            return report_fault(&fault, &mut console.errors);
+        }
+    }
+    match run_command(rt, command, out, console) {
         Ok(status) => status,
-        Err(fault) => stop(rt, &command, &fault, errors),
+        Err(fault) => stop(rt, command, &fault, console),
     }
 }
 
-// Tells the fault that stops a command, and why a record is refused, if it is that. Answers the exit status.
+// Tells the fault that stops a command, and a person why a record is refused, if it is that. Answers the exit status.
 fn stop<R: AllocGlobal + Files + io::Input + Threads + Sync, E: Write>(
     rt: &R,
     command: &Command<'_>,
     fault: &Fault,
-    errors: &mut Device<E>,
+    console: &mut Console<'_, E>,
 ) -> u8 {
+    if !console.is_terminal {
+        return report_fault(fault, &mut console.errors);
+    }
     match explanation(rt, command, fault) {
         Ok(Some(line)) => {
-            let status = report_fault(fault, errors);
-            let _ = writeln!(errors, "{line}");
+            let status = report_fault(fault, &mut console.errors);
+            console.tell(&line);
             status
         }
-        Ok(None) => report_fault(fault, errors),
-        Err(memory) => report_fault(&memory, errors),
+        Ok(None) => report_fault(fault, &mut console.errors),
+        Err(memory) => report_fault(&memory, &mut console.errors),
     }
 }
 
-// The words after the program's name.
-fn words_of<R: AllocGlobal + Env>(rt: &R) -> Result<Vec<String>, CommandFault> {
+// The program's name as it was called, and the words after it.
+fn words_of<R: AllocGlobal + Env>(rt: &R) -> Result<(String, Vec<String>), CommandFault> {
     match env::args(rt) {
-        Ok(words) => Ok(words.skip(1).collect(rt.alloc())?),
+        Ok(mut words) => {
+            let program = words.next().unwrap_or(String::new(rt.alloc()));
+            Ok((program, words.collect(rt.alloc())?))
+        }
         Err(error) if error.kind() == ErrorKind::InvalidData => {
             let place = place_not_utf8(rt)?;
             let text = format!(in rt.alloc(); "error: argument {place} is not UTF-8\n")?;
@@ -134,12 +172,13 @@ fn place_not_utf8<R: AllocGlobal + Env>(rt: &R) -> Result<usize, AllocError> {
     Ok(0)
 }
 
-// Runs the command, whose text goes to `out` and what it tells besides to `errors`, and answers the exit status.
+// Runs the command, whose text goes to `out` and what it tells besides to `console`, and answers the exit status. But for a line that
+// a served day leaves out, nothing is told besides where standard error is no terminal.
 fn run_command<R, W: Write, E: Write>(
     rt: &R,
     command: &Command<'_>,
     out: &mut Device<W>,
-    errors: &mut Device<E>,
+    console: &mut Console<'_, E>,
 ) -> Result<u8, Fault>
 where
     R: AllocGlobal + Files<File = File> + io::Input + Threads + Wait + Sync,
@@ -150,23 +189,28 @@ where
             files,
             text,
             workers,
-        } => make(rt, *files, &Asked::Day(*text), *workers, out, errors),
-        Command::Check { files, format } => check(rt, *files, *format, out, errors),
+            is_strict,
+        } => {
+            let asked = Asked::Day(*text);
+            let counted = make(rt, *files, &asked, *workers, out, console)?;
+            Ok(run_status(&counted, *is_strict))
+        }
+        Command::Check { files, format } => check(rt, *files, *format, out, console),
         Command::Live {
             airport,
             feed1,
             feed2,
-        } => live(rt, [airport, feed1, feed2], out, errors),
+        } => live(rt, [airport, feed1, feed2], out, console),
         Command::Carry {
             airport,
             feed,
             next,
-        } => carry(rt, [airport, feed, next], out, errors),
+        } => carry(rt, [airport, feed, next], out, console),
         Command::Serve {
             airport,
             journal,
             format,
-        } => serve_day(rt, [airport, journal], *format, out, errors),
+        } => serve_day(rt, [airport, journal], *format, out, console),
         Command::Kinds(format) => print(&kinds_text(rt.alloc(), *format)?, out),
         Command::Print(text) => print(text.as_bytes(), out),
     }
@@ -180,21 +224,22 @@ fn print<W: Write>(text: &[u8], out: &mut Device<W>) -> Result<u8, Fault>
     Ok(0)
 }
 
-// Writes what is asked of a day and its scenarios, and answers the exit status. A feed whose last line has no end is told,
-// where a check doesn't tell it, and so is how many records a plan has refused.
+// Writes what is asked of a day and its scenarios, and answers what it counts. A person is told of a feed whose last line has no end,
+// where a check doesn't tell it, and how many records a plan has refused.
 fn make<R: AllocGlobal + Files + io::Input + Threads + Sync, W: Write, E: Write>(
     rt: &R,
     files: DayFiles<'_>,
     asked: &Asked<'_>,
     workers: Workers,
     out: &mut Device<W>,
-    errors: &mut Device<E>,
-) -> Result<u8, Fault>
+    console: &mut Console<'_, E>,
+) -> Result<Counted, Fault>
     requires { out.old.failed ≡ false }
+    ensures silent { console.old.is_terminal ≡ false → console.new ≡ console.old }
 {
     let airport = &mut Device::new(open(rt, files.airport, Input::Airport)?);
     let mut ending = Ending::new(open(rt, files.feed, Input::Feed)?);
-    let scenarios = &mut Device::new(open_scenarios(rt, files.scenarios)?);
+    let scenarios = &mut Device::new(open_named(rt, files.scenarios, Input::Scenarios)?);
     let lent = Lent {
         rt,
         alloc: rt.alloc(),
@@ -203,18 +248,27 @@ fn make<R: AllocGlobal + Files + io::Input + Threads + Sync, W: Write, E: Write>
     };
     let feed = &mut Device::new(&mut ending);
     let counted = run_asked(&lent, asked, airport, feed, scenarios, out);
-    if let Asked::Day(_) = asked {
-        tell_unended(&ending, Input::Feed, errors);
-    }
+    tell_unended_feed(asked, &ending, console);
     let counted = counted?;
-    tell_refused(files, asked, &counted, errors);
-    Ok(run_status(&counted))
+    tell_refused(files, asked, &counted, console);
+    Ok(counted)
 }
 
-// Tells that the last line of a feed has no end, where that is so: it may be the first part of another record.
-fn tell_unended<F, E: Write>(feed: &Ending<F>, input: Input, errors: &mut Device<E>) {
+// Tells a person that the last line of the feed of a day has no end. A check tells it itself.
+fn tell_unended_feed<F, E: Write>(asked: &Asked<'_>, feed: &Ending<F>, console: &mut Console<'_, E>)
+    ensures silent { console.old.is_terminal ≡ false → console.new ≡ console.old }
+{
+    if let Asked::Day(_) = asked {
+        tell_unended(feed, Input::Feed, console);
+    }
+}
+
+// Tells a person that the last line of a feed has no end, where that is so: it may be the first part of another record.
+fn tell_unended<F, E: Write>(feed: &Ending<F>, input: Input, console: &mut Console<'_, E>)
+    ensures silent { console.old.is_terminal ≡ false → console.new ≡ console.old }
+{
     if feed.lacks_end() {
-        let _ = writeln!(errors, "cdmseq: {input}: its last line has no end");
+        console.tell(&Unended(input));
     }
 }
 
@@ -224,9 +278,10 @@ fn check<R: AllocGlobal + Files + io::Input + Threads + Sync, W: Write, E: Write
     files: DayFiles<'_>,
     format: Format,
     out: &mut Device<W>,
-    errors: &mut Device<E>,
+    console: &mut Console<'_, E>,
 ) -> Result<u8, Fault>
     requires { out.old.failed ≡ false }
+    ensures silent { console.old.is_terminal ≡ false → console.new ≡ console.old }
 {
     let alloc = rt.alloc();
     let one = Workers::new(1).unwrap();
@@ -239,7 +294,9 @@ fn check<R: AllocGlobal + Files + io::Input + Threads + Sync, W: Write, E: Write
         feed: &feed,
         scenarios,
     };
-    make(rt, files, &Asked::Check(paths, format), one, out, errors)
+    let asked = Asked::Check(paths, format);
+    let counted = make(rt, files, &asked, one, out, console)?;
+    Ok(run_status(&counted, false))
 }
 
 // Serves the day of an airport: records come from standard input, and replies go to `out`. Answers
@@ -249,7 +306,7 @@ fn serve_day<R, W: Write, E: Write>(
     paths: [&str; 2],
     format: Format,
     out: &mut Device<W>,
-    errors: &mut Device<E>,
+    console: &mut Console<'_, E>,
 ) -> Result<u8, Fault>
 where
     R: AllocGlobal + Files<File = File> + io::Input + Threads + Sync,
@@ -261,7 +318,7 @@ where
         return Err(Fault::NoMemory);
     };
     let journal = open_journal(rt, journal)?;
-    let mut streams = Streams::new(input, &mut *out, &mut *errors, journal);
+    let mut streams = Streams::new(input, &mut *out, &mut console.errors, journal);
     let served = serve(rt, alloc, airport, format, &mut streams);
     let mut journal = streams.into_journal();
     if served.is_err() {
@@ -289,14 +346,17 @@ where
         Err(fault) => fault,
     };
     Err(match fault {
-        OpenFault::Journal(kind) => Fault::CannotOpenJournal(unopened(alloc, path, kind)?),
+        OpenFault::Journal(kind) => {
+            Fault::CannotOpenJournal(unopened(alloc, path, OpenReason::Told(kind))?)
+        }
         OpenFault::Lock(kind) => {
             let path = format!(in alloc; "{path}.lock")?;
-            Fault::CannotOpenJournal(UnopenedFile { path, kind })
+            let reason = OpenReason::Told(kind);
+            Fault::CannotOpenJournal(UnopenedFile { path, reason })
         }
-        OpenFault::NoFile => Fault::JournalNoFile(ShownPath(String::from_str(alloc, path)?)),
-        OpenFault::Missing => Fault::JournalMissing,
-        OpenFault::InUse => Fault::JournalInUse,
+        OpenFault::NoFile => Fault::JournalNoFile(shown(alloc, path)?),
+        OpenFault::Missing => Fault::JournalMissing(shown(alloc, path)?),
+        OpenFault::InUse => Fault::JournalInUse(shown(alloc, path)?),
         OpenFault::Memory => Fault::NoMemory,
     })
 }
@@ -306,9 +366,10 @@ fn live<R: AllocGlobal + Files + io::Input + Threads + Wait + Sync, W: Write, E:
     rt: &R,
     paths: [&str; 3],
     out: &mut Device<W>,
-    errors: &mut Device<E>,
+    console: &mut Console<'_, E>,
 ) -> Result<u8, Fault>
     requires { out.old.failed ≡ false }
+    ensures silent { console.old.is_terminal ≡ false → console.new ≡ console.old }
 {
     let [airport, feed1, feed2] = paths;
     let airport = open(rt, airport, Input::Airport)?;
@@ -323,8 +384,8 @@ fn live<R: AllocGlobal + Files + io::Input + Threads + Wait + Sync, W: Write, E:
         &OpenGate,
         out,
     );
-    tell_unended(&feed1, Input::Feed1, errors);
-    tell_unended(&feed2, Input::Feed2, errors);
+    tell_unended(&feed1, Input::Feed1, console);
+    tell_unended(&feed2, Input::Feed2, console);
     done?;
     Ok(0)
 }
@@ -334,9 +395,10 @@ fn carry<R: AllocGlobal + Files + io::Input, W: Write, E: Write>(
     rt: &R,
     paths: [&str; 3],
     out: &mut Device<W>,
-    errors: &mut Device<E>,
+    console: &mut Console<'_, E>,
 ) -> Result<u8, Fault>
     requires { out.old.failed ≡ false }
+    ensures silent { console.old.is_terminal ≡ false → console.new ≡ console.old }
 {
     let [airport, feed, next] = paths;
     let airport = open(rt, airport, Input::Airport)?;
@@ -349,7 +411,7 @@ fn carry<R: AllocGlobal + Files + io::Input, W: Write, E: Write>(
         &mut Device::new(next),
         out,
     );
-    tell_unended(&feed, Input::Feed, errors);
+    tell_unended(&feed, Input::Feed, console);
     done?;
     Ok(0)
 }

@@ -41,6 +41,7 @@ fn is_told(
         files,
         text,
         workers,
+        is_strict: false,
     };
     is_command(alloc, words, &wanted)
 }
@@ -296,11 +297,12 @@ fn wrong_words_of_a_plan_are_told(rt: HostRuntime) {
         ("plan a f --worker 2", "unexpected argument '--worker'"),
         ("plan a f --scenarios", "required for '--scenarios <FILE>'"),
         ("plan a f --workers", "required for '--workers <N>'"),
-        ("plan a f --workers 0", "0 is not in 1..=64"),
-        ("plan a f --workers 65", "65 is not in 1..=64"),
+        ("plan a f --workers 0", "write a whole number from 1 to 64"),
+        ("plan a f --workers 65", "write a whole number from 1 to 64"),
         ("plan a f --workers two", "value 'two' for '--workers <N>'"),
         ("plan a f --workers 2.0", "value '2.0' for '--workers <N>'"),
         ("plan a f --workers=-1", "value '-1' for '--workers <N>'"),
+        ("plan a f --workers -1", "value '-1' for '--workers <N>'"),
         ("plan a f --workers 2 --workers 2", "used multiple times"),
         ("plan a f --format", "required for '--format <FORMAT>'"),
         (
@@ -350,9 +352,10 @@ fn other_wrong_words_are_told(rt: HostRuntime) {
         ("load a", "<FEED>"),
         ("load a f ", "invalid value '' for '[RUNWAY]'"),
         ("load a f 27L 09", "unexpected argument '09'"),
-        ("next a f 0", "0 is not in 1..=2880"),
-        ("next a f 2881", "2881 is not in 1..=2880"),
+        ("next a f 0", "write a whole number from 1 to 2880"),
+        ("next a f 2881", "write a whole number from 1 to 2880"),
         ("next a f 2.5", "value '2.5' for '[MINUTES]'"),
+        ("next a f -1", "value '-1' for '[MINUTES]'"),
         (
             "causes a f --by flight",
             "value 'flight' for '--by <GROUP>'",

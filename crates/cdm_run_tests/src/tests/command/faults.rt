@@ -1,7 +1,7 @@
 //! The lines of faults. Their statuses are told by clauses.
 use crate::tests::asserts::assert_holds;
 use crate::tests::devices::Page;
-use cdm_fault::{Fault, UnopenedFile, report_fault};
+use cdm_fault::{Fault, OpenReason, ShownPath, UnopenedFile, report_fault};
 use cdm_feed::{CommonFault, Device, RunError};
 use cdm_flight::RefusalWord;
 use cdm_live::LiveError;
@@ -79,9 +79,20 @@ fn faults_have_lines(rt: HostRuntime) {
         check_line(&rt, Live(fault), line);
     }
     check_line(&rt, NoMemory, "out of memory");
-    check_line(&rt, Fault::JournalInUse, "JOURNAL is in use");
-    let missing = "JOURNAL is missing, and was served before";
-    check_line(&rt, Fault::JournalMissing, missing);
+}
+
+// A path of its own.
+fn shown(rt: &HostRuntime) -> ShownPath {
+    ShownPath(String::from_str(rt.alloc(), "j.csv").expect(rt, "path"))
+}
+
+#[test]
+fn faults_of_files_name_their_paths(rt: HostRuntime) {
+    let in_use = Fault::JournalInUse(shown(&rt));
+    check_line(&rt, in_use, "JOURNAL is in use (j.csv)");
+    let missing = Fault::JournalMissing(shown(&rt));
+    let line = "JOURNAL is missing, and was served before (j.csv)";
+    check_line(&rt, missing, line);
 }
 
 #[test]
@@ -124,36 +135,46 @@ fn faults_of_a_served_day_have_lines(rt: HostRuntime) {
 }
 
 // The fault of a feed at this path that can't be opened for this reason.
-fn unopened(alloc: Global, path: &str, kind: ErrorKind) -> Option<Fault> {
+fn unopened(alloc: Global, path: &str, reason: OpenReason) -> Option<Fault> {
     let path = String::from_str(alloc, path).ok()?;
-    let file = UnopenedFile { path, kind };
+    let file = UnopenedFile { path, reason };
     Some(Fault::CannotOpen(cdm_feed::Input::Feed, file))
 }
 
 #[test]
 fn unopened_files_are_told_by_path_and_reason(rt: HostRuntime) {
     use ErrorKind::{NotADirectory, NotFound, PermissionDenied, Uncategorized};
+    use OpenReason::{Told, TooManyFiles};
     let table = [
-        ("f.csv", NotFound, "cannot read FEED (f.csv: no such file)"),
         (
             "f.csv",
-            PermissionDenied,
+            Told(NotFound),
+            "cannot read FEED (f.csv: no such file)",
+        ),
+        (
+            "f.csv",
+            Told(PermissionDenied),
             "cannot read FEED (f.csv: permission denied)",
         ),
         (
             "f.csv/g",
-            NotADirectory,
+            Told(NotADirectory),
             "cannot read FEED (f.csv/g: not a directory)",
         ),
-        ("f.csv", Uncategorized, "cannot read FEED (f.csv)"),
+        ("f.csv", Told(Uncategorized), "cannot read FEED (f.csv)"),
+        (
+            "f.csv",
+            TooManyFiles,
+            "cannot read FEED (f.csv: too many open files)",
+        ),
         (
             "fl\u{fc}ge \u{1b}[2J\n\u{7f}\u{85}",
-            NotFound,
+            Told(NotFound),
             "cannot read FEED (fl\u{fc}ge \\x1b[2J\\x0a\\x7f\\xc2\\x85: no such file)",
         ),
     ];
-    for (path, kind, line) in table {
-        let fault = unopened(rt.alloc(), path, kind).expect(&rt, "path");
+    for (path, reason, line) in table {
+        let fault = unopened(rt.alloc(), path, reason).expect(&rt, "path");
         check_line(&rt, fault, line);
     }
 }
