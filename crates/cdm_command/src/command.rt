@@ -2,7 +2,7 @@
 ghost use Rattle.std.specs.Prelude.{◌≡◌};
 ghost use Rattle.cdm_command.specs.declared.command.CommandFault.TheVariants as command;
 
-use crate::manual::manual;
+use crate::manual::{VERSION, manual};
 use crate::parsers::parser;
 use cdm_feed::{Ahead, DayQuestion, DayText, GroupBy, Input, ShiftQuestion, Since};
 use cdm_flight::{FlightName, RunwayName};
@@ -195,6 +195,7 @@ fn named_in<'a>(
         Some(("warnings", words)) => shift_of(alloc, words, ShiftQuestion::Warnings),
         Some(("causes", words)) => shift_of(alloc, words, ShiftQuestion::Causes(group_by(words))),
         Some(("kinds", kinds)) => Ok(Some(Command::Kinds(format_of(kinds)))),
+        Some(("version", _)) => Ok(Some(version_of(alloc)?)),
         Some((_, help)) => Ok(Some(help_of(alloc, help.get_str("COMMAND"))?)),
         None => Ok(None),
     }
@@ -222,6 +223,11 @@ fn help_of<'a>(alloc: Global, name: Option<&str>) -> Result<Command<'a>, Command
         Err(error) => told(alloc, &error),
         Ok(_) => Err(wrong_words(alloc, "the command has no help")?),
     }
+}
+
+// The program's name and its version.
+fn version_of<'a>(alloc: Global) -> Result<Command<'a>, AllocError> {
+    Ok(Command::Print(format!(in alloc; "cdmseq {VERSION}\n")?))
 }
 
 // A line that says what is wrong with the words.

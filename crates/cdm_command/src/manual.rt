@@ -18,7 +18,7 @@ pub const PLAN_ABOUT: &str = "Plan the day: a start-up time or a blocking rule f
 pub const NEXT_ABOUT: &str = "List the next start-ups, over all runways";
 
 /// What `warnings` does.
-pub const WARNINGS_ABOUT: &str = "List what needs attention: late, blocked or at risk";
+pub const WARNINGS_ABOUT: &str = "List what needs attention: overdue, blocked or at risk";
 
 /// What `causes` does.
 pub const CAUSES_ABOUT: &str = "Count the minutes of delay by their cause";
@@ -52,6 +52,9 @@ pub const CHECK_ABOUT: &str = "Explain each refused record, with its file and li
 
 /// What `kinds` does.
 pub const KINDS_ABOUT: &str = "Print the kinds of updates, with their roles and fields";
+
+/// What `version` does.
+pub const VERSION_ABOUT: &str = "Print the version";
 
 /// What `help` does.
 pub const HELP_ABOUT: &str = "Print the manual, or the help of one command";
@@ -169,6 +172,12 @@ pub const KINDS_EXAMPLE: &str = "\
 Examples:
   cdmseq kinds
   cdmseq kinds --format json
+Full manual: cdmseq help | less";
+
+/// The end of the help of `version`.
+pub const VERSION_EXAMPLE: &str = "\
+Examples:
+  cdmseq version
 Full manual: cdmseq help | less";
 
 /// The end of the help of `help`.
@@ -316,7 +325,7 @@ PLAN
            the blocked flights, then their number by blocking rule
   REFUSED  each refused record of FEED: its number, from 1, and its refusal
            code, the first of these that applies. A refused record changes
-           nothing. Standard error has the check command that explains them.
+           nothing. check explains each of them.
              FIELDS     wrong number of fields
              ROLE       unknown role
              KIND       unknown kind of update
@@ -584,20 +593,29 @@ THE BOARD
     cdmboard AIRPORT LOG [--desks FILE] [--listen HOST:PORT] [--name HOST]
              [--tls CERT KEY | --behind-proxy] [--board NAME] [--clock]
     cdmboard import AIRPORT LOG FEED
-    cdmboard export LOG [--all]
+    cdmboard export LOG [--all | --raw]
+    cdmboard backup LOG FILE
+    cdmboard verify LOG
+    cdmboard audit LOG
+    cdmboard log init postgresql://..
     cdmboard token
 
-  LOG      the file of the log; created if missing, and never shared by two
-           servers
+  LOG      a file, made if it is missing, which one server at a time uses; or
+           postgresql://.., a log that any number of servers share
   --desks  the desks with their tokens and roles. Without it the board serves
            this machine alone, and whoever opens it may speak in every role
   --listen the address, 127.0.0.1:8270 by default; another machine's needs
            --desks, and --tls or --behind-proxy
   --name   a further name of the server, as browsers call it
-  --board  the name of the board in the log
+  --board  the name of the board in the log; every command with LOG takes it
   --clock  sends CLOCK each minute, by the machine's UTC time
   import   makes FEED the first records of a new log; all must be accepted
-  export   prints the accepted records as a feed; --all prints every record
+  export   prints the accepted records as a feed; --all prints every record with
+           its desk, time and reply, --raw every record without asking cdmseq
+  backup   copies the log of one moment to a new file, also while it is served
+  verify   has cdmseq reply to all records again, and compares the replies
+  audit    prints who signed in and out, and from where each record came
+  log init makes the tables of the logs in PostgreSQL
   token    prints a new token, and its line for the file of the desks
 
 JSON

@@ -5,7 +5,8 @@ use crate::manual::{
     COMPARE_ABOUT, COMPARE_EXAMPLE, EXAMPLES, HELP_ABOUT, HELP_EXAMPLE, KINDS_ABOUT, KINDS_EXAMPLE,
     LIVE_ABOUT, LIVE_EXAMPLE, LOAD_ABOUT, LOAD_EXAMPLE, NEXT_ABOUT, NEXT_EXAMPLE, PICTURE_ABOUT,
     PICTURE_EXAMPLE, PLAN_ABOUT, PLAN_EXAMPLE, SERVE_ABOUT, SERVE_EXAMPLE, TRACE_ABOUT,
-    TRACE_EXAMPLE, VERSION, WARNINGS_ABOUT, WARNINGS_EXAMPLE, WHY_ABOUT, WHY_EXAMPLE,
+    TRACE_EXAMPLE, VERSION, VERSION_ABOUT, VERSION_EXAMPLE, WARNINGS_ABOUT, WARNINGS_EXAMPLE,
+    WHY_ABOUT, WHY_EXAMPLE,
 };
 use clap::{Arg, ArgAction, Command as Parser};
 use std::alloc::{AllocError, Global};
@@ -52,6 +53,7 @@ fn scenario_arg<'a>(alloc: Global) -> Arg<'a> {
     Arg::new(alloc, "scenario")
         .long("scenario")
         .value_name("NAME")
+        .allow_negative_numbers(true)
         .help("The one of them that the answer is over")
 }
 
@@ -104,10 +106,17 @@ fn workers_arg<'a>(alloc: Global) -> Arg<'a> {
 fn compare_parser<'a>(alloc: Global) -> Result<Parser<'a>, AllocError> {
     day_parser(alloc, "compare", COMPARE_ABOUT, COMPARE_EXAMPLE)?
         .arg(required_arg(alloc, "SCENARIOS", OVER_THE_FEED))?
-        .arg(Arg::new(alloc, "NAME").help("One scenario, to see what changes by it"))?
+        .arg(named_arg(alloc))?
         .arg(format_arg(alloc, TABLE_FORMATS, "text, csv: a row a line, or json"))?
         .arg(workers_arg(alloc))?
         .arg(strict_arg(alloc))
+}
+
+// The scenario whose changes a comparison shows. Its name may begin with a hyphen.
+fn named_arg<'a>(alloc: Global) -> Arg<'a> {
+    Arg::new(alloc, "NAME")
+        .allow_negative_numbers(true)
+        .help("One scenario, to see what changes by it")
 }
 
 // The words that `picture` takes.
@@ -171,14 +180,20 @@ fn question_parser<'a>(parser: Parser<'a>, alloc: Global) -> Result<Parser<'a>, 
 // The words that `why` takes.
 fn why_parser<'a>(alloc: Global) -> Result<Parser<'a>, AllocError> {
     let parser = day_parser(alloc, "why", WHY_ABOUT, WHY_EXAMPLE)?;
-    let flight = required_arg(alloc, "FLIGHT", "The flight that is asked for");
+    let flight = required_arg(
+        alloc,
+        "FLIGHT",
+        "The flight that is asked for",
+    ).allow_negative_numbers(true);
     question_parser(parser.arg(flight)?, alloc)
 }
 
 // The words that `load` takes.
 fn load_parser<'a>(alloc: Global) -> Result<Parser<'a>, AllocError> {
     let parser = day_parser(alloc, "load", LOAD_ABOUT, LOAD_EXAMPLE)?;
-    let runway = Arg::new(alloc, "RUNWAY").help("One runway alone");
+    let runway = Arg::new(alloc, "RUNWAY")
+        .allow_negative_numbers(true)
+        .help("One runway alone");
     question_parser(parser.arg(runway)?, alloc)
 }
 
@@ -211,14 +226,16 @@ fn causes_parser<'a>(alloc: Global) -> Result<Parser<'a>, AllocError> {
 
 // The words that `trace` takes.
 fn trace_parser<'a>(alloc: Global) -> Result<Parser<'a>, AllocError> {
-    let parser = day_parser(alloc, "trace", TRACE_ABOUT, TRACE_EXAMPLE)?.arg(Arg::new(
-        alloc, "FLIGHT",
-    ).help("One flight alone, with the records that move it"))?;
+    let parser = day_parser(alloc, "trace", TRACE_ABOUT, TRACE_EXAMPLE)?;
+    let flight = Arg::new(alloc, "FLIGHT")
+        .allow_negative_numbers(true)
+        .help("One flight alone, with the records that move it");
     let since = Arg::new(alloc, "since")
         .long("since")
         .value_name("TIME")
         .help("From the first record that made it this time or later");
     parser
+        .arg(flight)?
         .arg(since)?
         .arg(format_arg(alloc, FORMATS, TEXT_OR_JSON))?
         .arg(strict_arg(alloc))
@@ -245,6 +262,16 @@ fn kinds_parser<'a>(alloc: Global) -> Result<Parser<'a>, AllocError> {
         .about(KINDS_ABOUT)
         .after_help(KINDS_EXAMPLE)
         .arg(format)
+}
+
+// The words that `version` takes. The program's help lists the option of this name.
+fn version_parser<'a>(alloc: Global) -> Result<Parser<'a>, AllocError> {
+    Ok(
+        Parser::new(alloc, "version")
+            .about(VERSION_ABOUT)
+            .after_help(VERSION_EXAMPLE)
+            .hide(true),
+    )
 }
 
 // The words that `help` takes.
@@ -290,5 +317,6 @@ pub(crate) fn parser<'a>(alloc: Global) -> Result<Parser<'a>, AllocError> {
     let parser = with(parser, carry_parser(alloc))?;
     let parser = with(parser, check_parser(alloc))?;
     let parser = with(parser, kinds_parser(alloc))?;
+    let parser = with(parser, version_parser(alloc))?;
     with(parser, help_parser(alloc))
 }

@@ -79,7 +79,7 @@ pub(crate) fn first_day<R: AllocGlobal + Files + io::Input + Threads + Sync>(
     }
 }
 
-// Whether two names differ in one character at most, which may also be one more.
+// Whether two names differ in one character at most, or one has one more. What both begin with and what both end with may overlap.
 fn is_near(one: &str, other: &str) -> bool {
     let (one, other) = (one.as_bytes(), other.as_bytes());
     let start = one
@@ -93,6 +93,6 @@ fn is_near(one: &str, other: &str) -> bool {
         .zip(other.iter().rev())
         .take_while(|pair| pair.0 == pair.1)
         .count();
-    let longer = one.len().max(other.len());
-    start.saturating_add(end).saturating_add(1) >= longer
+    let (shorter, longer) = (one.len().min(other.len()), one.len().max(other.len()));
+    start.saturating_add(end).min(shorter).saturating_add(1) >= longer
 }

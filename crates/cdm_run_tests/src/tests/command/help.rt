@@ -135,7 +135,7 @@ fn the_manual_and_the_version_are_printed(rt: HostRuntime) {
     for word in ["help", "manual"] {
         assert_holds(&rt, prints_manual(alloc, &[word]), word);
     }
-    for word in ["--version", "-V"] {
+    for word in ["--version", "-V", "version"] {
         assert_holds(&rt, prints_version(alloc, word), word);
     }
 }
