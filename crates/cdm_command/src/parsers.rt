@@ -224,18 +224,21 @@ fn causes_parser<'a>(alloc: Global) -> Result<Parser<'a>, AllocError> {
     question_parser(parser.arg(by)?, alloc)
 }
 
+// The flight that a trace is of.
+fn traced_arg<'a>(alloc: Global) -> Arg<'a> {
+    Arg::new(alloc, "FLIGHT")
+        .allow_negative_numbers(true)
+        .help("One flight alone, with the records that move it")
+}
+
 // The words that `trace` takes.
 fn trace_parser<'a>(alloc: Global) -> Result<Parser<'a>, AllocError> {
-    let parser = day_parser(alloc, "trace", TRACE_ABOUT, TRACE_EXAMPLE)?;
-    let flight = Arg::new(alloc, "FLIGHT")
-        .allow_negative_numbers(true)
-        .help("One flight alone, with the records that move it");
+    let parser = day_parser(alloc, "trace", TRACE_ABOUT, TRACE_EXAMPLE)?.arg(traced_arg(alloc))?;
     let since = Arg::new(alloc, "since")
         .long("since")
         .value_name("TIME")
         .help("From the first record that made it this time or later");
     parser
-        .arg(flight)?
         .arg(since)?
         .arg(format_arg(alloc, FORMATS, TEXT_OR_JSON))?
         .arg(strict_arg(alloc))
