@@ -40,7 +40,7 @@ fn refused_memory_tells_no_half_text(rt: HostRuntime) {
         (&["load", "a.csv", "f.csv", "27-L"], TRY),
         (&["kinds", "--format", "json"], "kinds"),
         (&["--version"], "cdmseq 1.0.0\n"),
-        (&["help"], "it has the error and a hint.\n"),
+        (&["help"], "more lines for people can follow.\n"),
         (&["help", "plan"], "cdmseq help | less\n"),
         (&["plan", "a.csv", "f.csv", "--workers", "65"], TRY),
     ];
