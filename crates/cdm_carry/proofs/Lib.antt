@@ -1,5 +1,6 @@
 pub mod StayLemmas
 pub mod TakingLemmas
+pub mod NoticeLemmas
 pub mod LawLemmas
 pub mod DayLemmas
 pub mod RunLemmas
