@@ -192,6 +192,7 @@ def test_another_server_of_another_airport_or_program_is_refused(board, primary,
 def test_what_one_server_takes_is_at_the_other(board, primary):
     """Records, events and `Cdm-After`; a key is one key at both; folders in memory are each server's own."""
     one, two = board(log=primary.url()), board(log=primary.url())
+    assert [server.get("/v1/plan").status for server in (one, two)] == [200, 200]
     first, = one.post(["FLT,AB1,5"], Cdm_Role="AP", key="k")
     assert two.get("/v1/why/AB1", Cdm_After="1").status == 200
     assert two.post(["FLT,AB1,5"], Cdm_Role="AP", key="k") == [first] and two.post(["FLT,AB2,5"], Cdm_Role="AP", key="k").status == 422
