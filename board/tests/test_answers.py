@@ -152,8 +152,8 @@ def test_others_come_in_between_turns():
 
 def test_what_a_program_began_ends_with_it(open_to_read):
     """A program that leaves something behind that holds its output holds no place."""
-    server = open_to_read("case $1 in why) sleep 98.25 & sleep 98.25;; esac")
-    assert server.get("/v1/why/AB1", "gh").status == 504
+    server, began = open_to_read("case $1 in why) sleep 98.25 & sleep 98.25;; esac"), time.monotonic()
+    assert server.get("/v1/why/AB1", "gh").status == 504 and time.monotonic() - began < 10 + 5 * FACTOR
     assert server.get("/v1/plan", "gh").status == 200
 
 

@@ -7,9 +7,11 @@ import pytest
 from conftest import ROOT
 
 CODE, TESTS = ([str(path) for path in sorted((ROOT / folder).glob("*.py"))] for folder in ("board", "board/tests"))
+EDITS = str(ROOT / "board/tests/must_fail")
+CHECKS = [("mypy", "--strict", "--cache-dir", os.devnull, *CODE, EDITS), ("pyflakes3", *CODE, *TESTS, EDITS)]
 
 
-@pytest.mark.parametrize("words", [("mypy", "--strict", "--cache-dir", os.devnull, *CODE), ("pyflakes3", *CODE, *TESTS)], ids=lambda words: words[0])
+@pytest.mark.parametrize("words", CHECKS, ids=lambda words: words[0])
 def test_the_code_is_clean(words):
     if not pathlib.Path("/usr/bin", words[0]).exists():
         pytest.skip(f"test_the_code_is_clean: {words[0]} is missing")

@@ -1,4 +1,5 @@
 """Replies of before: a program that gives others is told, with the position, whatever its version says."""
+import asyncio
 import contextlib
 import os
 import sqlite3
@@ -7,6 +8,13 @@ import subprocess
 import clusters
 import pytest
 from conftest import FACTOR, PROGRAM, ROOT, until
+
+from board import digests
+from board.day import Day
+from board.log import Batch
+from board.replies import Keeper
+from board.sqlite import FileLog
+from board.words import Fault, Kinds
 
 needs_postgres = pytest.mark.skipif(bool(clusters.missing()), reason=f"a log in PostgreSQL: {' and '.join(clusters.missing())} missing")
 # A rebuilt program, which gives the same version and one other word or Row.
@@ -117,3 +125,30 @@ def test_of_two_servers_that_reply_otherwise_one_ends(board, cluster):
     assert cdmboard("backup", cluster.url(), copy).returncode == 0
     for log in (copy, cluster.url()):
         assert cdmboard("verify", log).stdout == "1000 records, 988 accepted, 1 digests of replies\n"
+
+
+def test_a_digest_that_another_server_keeps_meanwhile(tmp_path, monkeypatch):
+    """Another server keeps its digest after this one has read those of the log: this one ends too."""
+    monkeypatch.setattr(digests, "EVERY", 2)
+
+    async def kept():
+        log = FileLog(str(tmp_path / "day.db"), "")
+        await log.open(b"DAY,2025-03-10\n", "v1")
+        read = log.digests
+
+        async def read_before_another():
+            found = await read()
+            await log.keep([(day.records[-1], "0" * 64)])
+            return found
+        try:
+            await log.append(Batch("ap", [("AP", "FLT,AB1,5"), ("AP", "FLT,AB2,5")], None, at="2025-03-10T06:00:00.000Z"))
+            day = Day(Kinds(b""), [], {})
+            for record in await log.rows(0, 10):
+                day.add(record, None, [])
+            monkeypatch.setattr(log, "digests", read_before_another)
+            async with asyncio.timeout(5 * FACTOR):
+                await Keeper("", PROGRAM, log, day).run()
+        finally:
+            await log.close()
+    with pytest.raises(Fault, match="a record of the positions 1 to 2 has another reply than before"):
+        asyncio.run(kept())
