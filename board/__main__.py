@@ -24,7 +24,7 @@ from types import ModuleType
 from aiohttp import web
 
 from board import clock, postgres, sqlite
-from board.answers import Answers, asked, day_of
+from board.answers import LIMITED, Answers, asked, day_of
 from board.callers import Callers
 from board.connections import is_loopback
 from board.desks import digest, read_desks
@@ -248,7 +248,8 @@ async def serve(options: argparse.Namespace) -> None:
     desks, notifier = read_desks(options.desks), Notifier()
     resource.setrlimit(resource.RLIMIT_NOFILE, (resource.getrlimit(resource.RLIMIT_NOFILE)[1],) * 2)
     async with log_of(options) as (log, folder):
-        kinds = await asked(folder, PROGRAM, "kinds", "--format", "json")
+        # Where the system forbids what questions are run with, nothing would be answered.
+        kinds = await asked(folder, PROGRAM, "kinds", "--format", "json", limits=LIMITED)
         date, day = await day_of_log(folder, PROGRAM, log, kinds)
         names, scheme = (host, "localhost", socket.gethostname(), *options.name), "https" if sealed or options.behind_proxy else "http"
         callers = Callers(desks, log, {name.lower() for name in names}, scheme, options.behind_proxy)

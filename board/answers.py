@@ -275,9 +275,9 @@ async def ended(process: Process) -> None:
     await process.wait()
 
 
-async def asked(folder: str, program: str, *words: str) -> bytes:
+async def asked(folder: str, program: str, *words: str, limits: Sequence[str] = ()) -> bytes:
     """What the program prints at a start. Raises Fault."""
-    ran = await run(folder, START_SECONDS, same(program), *words)
+    ran = await run(folder, START_SECONDS, *limits, same(program), *words)
     if ran.status != 0:
         raise Fault(ran.told or f"{' '.join(words)} ended with {ran.status}")
     return ran.output

@@ -12,6 +12,7 @@ from board.windows import Windows
 from board.words import Problem, refuse
 
 # In each minute: wrong tokens of an address, lines on standard error about an address that is refused, sign-ins of a desk at an address.
+# How many streams of events are opened is a setting.
 MINUTE = 60.0
 MOST_WRONG = 20
 MOST_TOLD = 20
@@ -31,6 +32,7 @@ class Callers:
         self.wrong = Windows(MINUTE)
         self.refused = Windows(MINUTE)
         self._sign_ins = defaultdict[str, Windows](lambda: Windows(MINUTE))
+        self._opened = defaultdict[str, Windows](lambda: Windows(MINUTE))
         self._behind_proxy = behind_proxy
 
     def address(self, request: web.Request) -> str:
@@ -88,3 +90,11 @@ class Callers:
         now = time.monotonic()
         window = self._sign_ins[desk.name].add(group_of(address), now)
         refuse(window.count > MOST_SIGN_INS, 429, "this desk signs in and out too often", Retry_After=str(1 + int(window.ends - now)))
+
+    def check_opened(self, request: web.Request) -> None:
+        """Counts a stream of events that is opened. Raises Problem if one desk, or who has none, opens too many at an address."""
+        desk: Desk = request["desk"]
+        now, limits = time.monotonic(), self.desks.limits
+        window = self._opened[desk.name].add(group_of(self.address(request)), now)
+        most = limits.opened_by_desk if desk.name else limits.opened_without_desk
+        refuse(window.count > most, 429, "too many streams of events are opened here", Retry_After=str(1 + int(window.ends - now)))

@@ -74,6 +74,8 @@ class Events:
         self._day = day
         self.streams = set[Stream]()
         self._view = View(-1, 0, b"")
+        # The last view as it is written to who comes, by whether it is packed.
+        self._view_chunks = dict[bool, bytes]()
         self.stirred = asyncio.Event()
 
     async def run(self) -> None:
@@ -128,6 +130,7 @@ class Events:
         """Takes the last view, which is written to all displays with the next events; one of a day that is gone is dropped."""
         if view.starts == self._day.starts:
             self._view = view
+            self._view_chunks.clear()
             self._day.changed.set()
 
     def _text(self, desk: str, since: int, is_first: bool = False) -> bytes:
@@ -172,12 +175,19 @@ class Events:
         is_known = is_known and past in ("", self._day.past(int(position)))
         stream.had = self._moment()
         text = self._text(stream.desk.name, int(position) if is_known else -1 if said else stream.had[1], True)
+        chunk = chunk_of(text, stream.is_packed, GZIP)
         if self._view[:2] == stream.had:
             stream.seen = stream.had
-            text += self._view.text()
-        stream.write(chunk_of(text, stream.is_packed, GZIP))
+            chunk += self._view_chunk(stream.is_packed)
+        stream.write(chunk)
         self.streams.add(stream)
         self.stirred.set()
+
+    def _view_chunk(self, is_packed: bool) -> bytes:
+        """The last view as a chunk, made once for all who come."""
+        if is_packed not in self._view_chunks:
+            self._view_chunks[is_packed] = chunk_of(self._view.text(), is_packed)
+        return self._view_chunks[is_packed]
 
     def end(self) -> None:
         """Tells all displays that the server ends."""

@@ -167,6 +167,7 @@ class Board:
         """Server-sent events."""
         refuse(request.version < HttpVersion11, 505, "events come in chunks")
         self.events.check(request["desk"])
+        self.callers.check_opened(request)
         guard, transport = request.protocol, request.transport
         assert isinstance(guard, Guard)
         if transport is None:

@@ -85,7 +85,7 @@ class Transaction:
     """One transaction in the engine, of one server."""
 
     def __init__(self, server, commit):
-        self.server, self.commit, self.is_over, self.is_heard = server, commit, False, True
+        self.server, self.commit, self.is_over, self.is_heard, self.is_overdue = server, commit, False, True, False
 
 
 class Engine:
@@ -257,9 +257,15 @@ class Server:
             del self.asked[ticket]
             attempt.desk.told(attempt, self.machine.nothing(why))
             return ticket
+        law(not self.hangs(), "503 while a commit hangs", "in the database")
         self.do(self.writer.offered(ticket, attempt.batch))
+        law(self.transaction is None or not self.transaction.is_overdue or attempt.is_over, "503 while a commit hangs", "in the file")
         self.world.clock.at(self.machine.WAIT_SECONDS, self.waited, ticket)
         return ticket
+
+    def hangs(self):
+        """Whether a commit that took too long still waits in the database. The server looks each second, so it may not know yet that it ended."""
+        return self.left is not None and not self.left.is_over
 
     def waited(self, ticket):
         if not self.is_dead:
@@ -287,6 +293,7 @@ class Server:
     def overdue(self, transaction):
         if self.is_dead or self.transaction is not transaction:
             return
+        transaction.is_overdue = True
         if self.world.engine.is_file:
             self.do(self.writer.overdue(transaction.commit.number, "it hangs"))
         else:
@@ -347,6 +354,7 @@ class Attempt:
 
     def __init__(self, desk, body, batch, began):
         self.desk, self.body, self.batch, self.began, self.is_over, self.ticket, self.server = desk, body, batch, began, False, 0, None
+        self.was_running = False
 
 
 class Body:
@@ -413,6 +421,7 @@ class Desk:
             world.clock.at(world.chance.uniform(0, 5), self.next)
             return
         law(said.status in (503, 504), "503 or 504", said.status)
+        law(said.status == 503 or attempt.was_running, "504 only of what was given to the log", body.key)
         if str(said) == world.machine.REFUSED:
             law(body.is_wrong, "a refused batch takes nothing else along", self.name, body.key)
             world.clock.at(1, self.next)
@@ -454,6 +463,7 @@ class World:
         for batch in commit.batches:
             attempt = self.attempts[id(batch)]
             attempt.body.is_running += 1
+            attempt.was_running = True
             law(attempt.body.looked is None, "what a desk didn't find never comes later", attempt.desk.name, attempt.body.key)
             law(not attempt.is_over, "what a desk doesn't wait for is never taken", attempt.desk.name, attempt.body.key)
 

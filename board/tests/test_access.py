@@ -388,6 +388,45 @@ def test_an_audit_is_bounded(board):
     assert len(audit_of(server.log)) == 20_000 and "sign-in ap 127.0.0.1" in server.told()
 
 
+# Streams of events
+
+
+def opened(server, count, source, desk=None):
+    """The answers to streams that an address opens and drops at once, each as status and Retry-After."""
+    answers = []
+    for _ in range(count):
+        connection = http.client.HTTPConnection("127.0.0.1", server.port, timeout=20, source_address=(source, 0))
+        connection.request("GET", "/v1/events", headers={"Authorization": f"Bearer token-{desk}"} if desk else {})
+        answer = connection.getresponse()
+        answers.append((answer.status, answer.headers["Retry-After"]))
+        answer.close()
+        connection.close()
+    return answers
+
+
+def test_streams_that_are_opened_and_dropped_have_a_limit(board):
+    """Each address opens so many in a minute without a token, and each desk at it; all else that it asks is answered."""
+    server = board(DESKS, start=False)
+    server.write_desks(DESKS, "anyone")
+    write_limits(server, opened_without_desk=60, opened_by_desk=80)
+    server.start()
+    answers = opened(server, 70, "127.0.0.5")
+    assert [status for status, _ in answers] == [200] * 60 + [429] * 10
+    assert all(1 <= int(seconds) <= 60 for status, seconds in answers if status == 429)
+    assert [status for status, _ in opened(server, 85, "127.0.0.5", "screen")] == [200] * 80 + [429] * 5
+    assert opened(server, 1, "127.0.0.6") == opened(server, 1, "127.0.0.6", "screen") == opened(server, 1, "127.0.0.5", "ap") == [(200, None)]
+    assert server.get("/v1/plan").status == 200 and server.post(["FLT,AB1,5"], "ap")[0]["position"] == 1
+
+
+def test_browsers_behind_one_address_come_back(board):
+    """100 without a token, five times within a minute, and 1,000 by one desk: a restart, a proxy that is restarted, people who load anew."""
+    server = board(DESKS, start=False)
+    server.write_desks(DESKS, "anyone")
+    server.start()
+    assert {status for status, _ in opened(server, 500, "127.0.0.5")} == {200}
+    assert {status for status, _ in opened(server, 1000, "127.0.0.5", "screen")} == {200}
+
+
 # Connections
 
 

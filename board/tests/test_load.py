@@ -126,8 +126,8 @@ def test_memory_after_displays_and_records(board):
     before, come = server.memory(), count("BOARD_COME", 500)
 
     async def talk():
-        for _ in range(-(-come // 250)):
-            for display in await displays(server.port, 250):
+        for turn in range(-(-come // 250)):
+            for display in await displays(server.port, 250, "screen", turn):
                 display.close()
             await asyncio.sleep(0.1)
     asyncio.run(talk())

@@ -30,6 +30,13 @@ FAULTS = [
     ("a reply to another record is kept", "life.py",
      'if not self._due or reply.get("record") != self._replies:', "if not self._due:", 33, "one day"),
     ("a reply with another count is kept", "life.py", "if number == self._accepted + 1:", "if number:", 509, "one day"),
+    ("a batch waits while a commit hangs", "writer.py",
+     "        return [*self._told(running, Problem(504, NOT_KNOWN)), *self._close(why)]\n\n    def lost",
+     "        return self._told(running, Problem(504, NOT_KNOWN))\n\n    def lost", 1, "503 while"),
+    ("a batch is taken while an earlier commit waits", "following.py",
+     "if not self._is_linked or self._is_committing:", "if not self._is_linked:", 2, "503 while"),
+    ("a batch that was never given to the log is told as not known", "writer.py",
+     "        return self._told(waiting, nothing(why))", "        return self._told(waiting, Problem(504, NOT_KNOWN))", 0, "504 only"),
     ("a transaction without bound", "writer.py", "(self._waiting, MOST_TOGETHER)", "(self._waiting, 10 ** 9)", 5, "no bound"),
 ]
 

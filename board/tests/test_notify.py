@@ -234,3 +234,10 @@ def test_the_unit_says_what_the_server_keeps():
     assert {name: found.get(name) for name in ("Type", "WatchdogSec", "OOMPolicy", "MemoryMax", "Restart")} == {
         "Type": "notify", "WatchdogSec": "30", "OOMPolicy": "continue", "MemoryMax": "4G", "Restart": "on-failure"}
     assert "NotifyAccess" not in found  # The main process alone speaks, as systemd has it by itself.
+
+
+def test_the_unit_lets_questions_run():
+    """Each is run by setpriv, which calls capset; the last filter says what is taken back of those before it."""
+    from board.answers import LIMITED
+    filters = re.findall("^SystemCallFilter=(.*)", UNIT.read_text(), re.M)
+    assert LIMITED[0] == "/usr/bin/setpriv" and filters == ["@system-service", "~@privileged", "capset"]

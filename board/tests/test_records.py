@@ -43,3 +43,24 @@ def test_a_log_is_full_at_60_000():
     with pytest.raises(Problem):
         asyncio.run(Records(log, mock.Mock(lines=[], records=[]), mock.Mock()).take(Desk("tower", "ATC"), ["FLT,AB1,5"], None))
     assert log.asked.end == 60_000
+
+
+def test_a_reply_that_does_not_come_is_504(monkeypatch):
+    """The log took the record, and no sequencer replies to it: the desk isn't kept waiting, and counts no record as waiting any more."""
+    from board import records as module
+    from board.day import Day
+    from board.log import Record
+    from board.words import Kinds
+    monkeypatch.setattr(module, "REPLY_LIMIT", 0.05)
+
+    async def talk():
+        day = Day(Kinds(b""), [], {})
+        records = Records(mock.Mock(append=mock.AsyncMock(return_value=range(1, 2)), stale_since=None), day, mock.Mock())
+        async with asyncio.timeout(5):
+            with pytest.raises(Problem) as told:
+                await records.take(Desk("ap", "AP"), ["FLT,AB1,5"], "k")
+        assert told.value.status == 504 and records.waiting() == 0
+        # With the same key it gets the reply, once there is one.
+        day.add(Record(1, "ap", "AP", "FLT,AB1,5", "t"), None, [])
+        return await records.take(Desk("ap", "AP"), ["FLT,AB1,5"], "k")
+    assert asyncio.run(talk()).startswith(b'{"position":1,"desk":"ap"')

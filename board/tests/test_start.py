@@ -462,3 +462,16 @@ def test_behind_a_proxy(board):
         own.sendall(b"GET /v1/plan HTTP/1.1\r\nHost: cdm.example\r\nX-Forwarded-For: 10.6.6.6\r\nX-Forwarded-For: 10.7.7.7\r\n\r\n")
         assert own.recv(65536).startswith(b"HTTP/1.1 401")
     assert " 10.7.7.7 " in server.told() and "10.6.6.6" not in server.told()
+
+
+def test_a_server_that_could_ask_no_question_does_not_start(board):
+    """Where the system forbids what a question is run with, as the service's filter of system calls may, it says so, and serves nothing."""
+    server = board(start=False)
+    server.collect("from board import answers; answers.LIMITED = ('/bin/sh', '-c', 'echo forbidden >&2; exit 127')")
+    command = [*server.words, server.airport, server.log, "--listen", "127.0.0.1:0"]
+    with subprocess.Popen(command, env=server.environment, stdout=subprocess.PIPE, stderr=subprocess.PIPE, text=True) as process:
+        line = process.stdout.readline()
+        process.terminate()
+        _, told = process.communicate()
+    assert (line, process.returncode) == ("", 3), line
+    assert told == "cdmboard: forbidden\n"

@@ -2,6 +2,7 @@
 import asyncio
 import sys
 import time
+import zlib
 from unittest import mock
 
 import pytest
@@ -11,7 +12,7 @@ sys.path.insert(0, str(ROOT))
 from board import events as events_module  # noqa: E402
 from board.day import Day  # noqa: E402
 from board.desks import Desk  # noqa: E402
-from board.events import Events, Stream  # noqa: E402
+from board.events import Events, Stream, View  # noqa: E402
 from board.log import Record  # noqa: E402
 from board.sending import PIECE, pack  # noqa: E402
 from board.unsent import Unsent  # noqa: E402
@@ -117,6 +118,33 @@ def test_who_has_no_token_leaves_displays_their_places(monkeypatch):
         except Problem as problem:
             said.append(problem.status)
     assert said == [200, 200, 429, 200, 200, 429, 200]
+
+
+def test_a_view_is_packed_once_for_all_who_come(monkeypatch):
+    """Whoever opens streams and drops them has it packed once, not for each of them; the next view is another."""
+    packed, chunk_of, wrote = [], events_module.chunk_of, []
+    monkeypatch.setattr(events_module, "chunk_of", lambda text, *more: packed.append(text) or chunk_of(text, *more))
+    events = Events("0", Day(Kinds(b""), [], {}))
+    for number in range(2):
+        events.show(View(0, 0, b'"next":[%d]' % number))
+        for _ in range(5):
+            display = stream("screen")
+            display.is_packed = True
+            display.transport.get_write_buffer_size.return_value, display.transport.is_closing.return_value = 0, False
+            events.open(display, "")
+            chunks = [part.partition(b"\r\n")[2] for part in split_chunks(display.transport.write.call_args.args[0])]
+            wrote.append(zlib.decompressobj(31).decompress(b"".join(chunks)))
+    assert [text.count(b'event: view\ndata: {"position":0,"next":[%d]}\n\n' % (number // 5)) for number, text in enumerate(wrote)] == [1] * 10
+    assert all(text.startswith(b"id: 0-0\nevent: from\n") for text in wrote)
+    assert sum(b"event: view" in text for text in packed) == 2
+
+
+def split_chunks(data):
+    """The chunks of HTTP, each with its length before it."""
+    while data:
+        length, _, rest = data.partition(b"\r\n")
+        yield length + b"\r\n" + rest[:int(length, 16)]
+        data = rest[int(length, 16) + 2:]
 
 
 def test_what_a_display_missed_is_bounded():
