@@ -1,10 +1,42 @@
-"""A figure stands in one page, and what pages repeat of the code and of the tests is as it is there."""
+"""A figure stands in one page; what pages repeat of the code and of the tests, and the limits of the server, are as they are there."""
 import re
 import shutil
 import subprocess
 
 import pytest
+from board import answers, callers, day, desks, events, guard, log, questions, records, sessions, signing, unsent, views, web, words, writer
 from conftest import ROOT
+
+MIB = 1 << 20
+# What docs/HTTP.md says, by the server's own numbers.
+LIMITS = [
+    f"{words.MOST_LINES} records a body, {words.MOST_BYTES} bytes a line, {web.MOST_BODY >> 10} KiB a body",
+    f"{desks.Desk.records:,} lines of a desk in a log",
+    f"up to {desks.MOST_QUOTA:,})",
+    f"{records.TOWERS:,} accepted updates, or {log.MOST_RECORDS - records.RESERVED:,} lines, for desks other than ATC's; {log.MOST_RECORDS:,} lines",
+    f"{desks.MOST_RECORDS_WAITING} waiting records of a desk; {desks.MOST_A_SECOND} records a second",
+    f"{answers.MOST_QUESTIONS} waiting questions of a desk. Without a desk one waits only while fewer than {answers.MOST_NAMELESS_QUESTIONS} wait",
+    f"{answers.PLACE_SECONDS:.0f} seconds until a question begins",
+    f"{answers.RUN_SECONDS:.0f} seconds and 2 GiB of memory for a question",
+    f"{writer.WAIT_SECONDS:.0f} seconds until the commit of a record begins, {writer.COMMIT_SECONDS:.0f} for the commit; {writer.MOST_WAITING:,} bodies",
+    f"{answers.MOST_OUTPUT // MIB} MiB for an answer",
+    f"{unsent.MOST_OF_ONE // MIB} MiB of a desk, or of an address without one",
+    f"{unsent.MOST_NAMELESS // MIB} MiB of all without a desk; {unsent.MOST_OF_ALL // MIB} MiB of all, the last {unsent.OF_THE_TOWER // MIB} MiB",
+    f"{events.MOST_STREAMS} streams of events a desk; {events.MOST_DISPLAYS:,} of all READ desks",
+    f"{events.MOST_UNSENT // MIB} MiB of a stream, {events.MOST_UNSENT_OF_ALL // MIB} MiB of all streams",
+    f"{views.MOST_VIEW >> 10} KiB for the view",
+    f"{guard.HEADERS:.0f} s for headers, {questions.BODY_LIMIT:.0f} s for a body",
+    f"{callers.MOST_WRONG} wrong tokens of an address",
+    f"{callers.MOST_SIGN_INS} sign-ins of a desk",
+    f"{signing.SIGN_OUT_LIMIT:.0f} s in which the log takes a sign-out",
+    f"at most {day.MOST_FOUND:,} records or {questions.MOST_FOUND_BYTES // MIB} MiB at once",
+    f"the changes of the last {day.KEPT:,} records, of {day.KEPT_BYTES // MIB} MiB at most",
+    f"as the server answers 504 itself after {records.REPLY_LIMIT:.0f}",
+    f"One comes every {events.COMMENT:.0f} seconds",
+    f"that changed more than {events.MOST_ROWS} rows",
+    f"within {1000 * views.BURST:.0f} ms have one view, and a new view is begun {views.APART} s after",
+]
+NUMBERS = {8: "eight", 12: "twelve", 24: "twenty-four"}
 
 
 def told(*words):
@@ -26,6 +58,15 @@ def test_figures_of_two_pages_are_listed(tmp_path):
         (tmp_path / f"{number}.md").write_text(text)
     listed, status = told(ROOT / "tools/figures", tmp_path / "0.md", tmp_path / "1.md")
     assert status == 1 and re.sub(r"\S+/(?=\d\.md)", "", listed) == "10 minute: 0.md:1  1.md:5\n20 ms: 0.md:1  1.md:1\n"
+
+
+@pytest.mark.parametrize("said", LIMITS)
+def test_a_limit_of_the_page_is_the_servers(said):
+    assert said in " ".join((ROOT / "docs/HTTP.md").read_text().split())
+
+
+def test_a_session_of_the_page_is_the_servers():
+    assert f"A browser that signs in has a session of {NUMBERS[sessions.SESSION // 3600]} hours" in (ROOT / "docs/RUN.md").read_text()
 
 
 def test_pages_repeat_what_is_there():
