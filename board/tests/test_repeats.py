@@ -1,13 +1,17 @@
 """A figure stands in one page; what pages repeat of the code and of the tests, and the limits of the server, are as they are there."""
+import dataclasses
 import re
 import shutil
 import subprocess
+import tomllib
 
 import pytest
 from board import answers, callers, day, desks, events, guard, log, questions, records, sessions, signing, unsent, views, web, words, writer
+from board.connections import Limits
 from conftest import ROOT
 
 MIB = 1 << 20
+OF = Limits()
 # What docs/HTTP.md says, by the server's own numbers.
 LIMITS = [
     f"{words.MOST_LINES} records a body, {words.MOST_BYTES} bytes a line, {web.MOST_BODY >> 10} KiB a body",
@@ -25,6 +29,7 @@ LIMITS = [
     f"{events.MOST_STREAMS} streams of events a desk; {events.MOST_DISPLAYS:,} of all READ desks",
     f"{events.MOST_UNSENT // MIB} MiB of a stream, {events.MOST_UNSENT_OF_ALL // MIB} MiB of all streams",
     f"{views.MOST_VIEW >> 10} KiB for the view",
+    f"{OF.of_address} connections of an address at which no token was shown, {OF.of_known_address:,} of another, {OF.connections:,} in all",
     f"{guard.HEADERS:.0f} s for headers, {questions.BODY_LIMIT:.0f} s for a body",
     f"{callers.MOST_WRONG} wrong tokens of an address",
     f"{callers.MOST_SIGN_INS} sign-ins of a desk",
@@ -65,8 +70,12 @@ def test_a_limit_of_the_page_is_the_servers(said):
     assert said in " ".join((ROOT / "docs/HTTP.md").read_text().split())
 
 
-def test_a_session_of_the_page_is_the_servers():
-    assert f"A browser that signs in has a session of {NUMBERS[sessions.SESSION // 3600]} hours" in (ROOT / "docs/RUN.md").read_text()
+def test_what_stands_in_the_page_of_desks_is_the_servers():
+    """A session, and the numbers that the file of desks may have."""
+    text = (ROOT / "docs/RUN.md").read_text()
+    assert f"A browser that signs in has a session of {NUMBERS[sessions.SESSION // 3600]} hours" in text
+    shown = tomllib.loads(re.search(r"```toml\n(.*?)```", text, re.S)[1])
+    assert shown["limits"] == dataclasses.asdict(OF) and shown["desk"]["lh-ops"]["records"] == desks.Desk.records
 
 
 def test_pages_repeat_what_is_there():
