@@ -6,12 +6,10 @@ import subprocess
 import pytest
 from conftest import ROOT
 
-TOOLS = [str(ROOT / "tools" / name) for name in ("figures", "repeats")]
 CODE, TESTS = ([str(path) for path in sorted((ROOT / folder).glob("*.py"))] for folder in ("board", "board/tests"))
 
 
-@pytest.mark.parametrize("words", [("mypy", "--strict", "--scripts-are-modules", "--cache-dir", os.devnull, *CODE, *TOOLS),
-                                   ("pyflakes3", *CODE, *TESTS, *TOOLS)], ids=lambda words: words[0])
+@pytest.mark.parametrize("words", [("mypy", "--strict", "--cache-dir", os.devnull, *CODE), ("pyflakes3", *CODE, *TESTS)], ids=lambda words: words[0])
 def test_the_code_is_clean(words):
     if not pathlib.Path("/usr/bin", words[0]).exists():
         pytest.skip(f"test_the_code_is_clean: {words[0]} is missing")

@@ -1,5 +1,7 @@
 """A figure stands in one page; what pages repeat of the code and of the tests, and the limits of the server, are as they are there."""
 import dataclasses
+import os
+import pathlib
 import re
 import shutil
 import subprocess
@@ -49,6 +51,14 @@ def told(*words):
     ended = subprocess.run(words, capture_output=True, text=True)
     assert ended.stderr == "", ended
     return ended.stdout, ended.returncode
+
+
+@pytest.mark.parametrize("words", [("mypy", "--strict", "--scripts-are-modules", "--cache-dir", os.devnull), ("pyflakes3",)], ids=lambda words: words[0])
+def test_the_scripts_are_clean(words):
+    if not pathlib.Path("/usr/bin", words[0]).exists():
+        pytest.skip(f"test_the_scripts_are_clean: {words[0]} is missing")
+    ended = subprocess.run([*words, ROOT / "tools/figures", ROOT / "tools/repeats"], capture_output=True, text=True)
+    assert ended.returncode == 0, ended.stdout
 
 
 def test_a_figure_stands_in_one_page():
