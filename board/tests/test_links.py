@@ -65,12 +65,3 @@ def test_links_that_lead_nowhere_are_found(tmp_path):
     page = tmp_path / "page.md"
     page.write_text("# One\n[a](none.md) [b](page.md#two) [c](#one) [d](page.md#one) `[e](none.md)` [f](https://example.org/#x)\n```\n[g](none.md)\n```\n")
     assert broken(page) == ["none.md", "page.md#two"]
-
-
-def test_figures_of_two_pages_are_listed(tmp_path):
-    """`tools/figures` lists what stands in both pages: not what is code or output, nor what is a part of another number or of a time."""
-    texts = ("In 20 ms, of 18,000 updates.\n", "Within 20 ms.\n\n    18,000\n\n`18,000` and 118,000; 2025-03-10; at 06:20, 5 ms\n")
-    for number, text in enumerate(texts):
-        (tmp_path / f"{number}.md").write_text(text)
-    told = subprocess.run([ROOT / "tools/figures", tmp_path / "0.md", tmp_path / "1.md"], capture_output=True, text=True, check=True).stdout
-    assert re.fullmatch(r"20 ms: \S+/0\.md:1  \S+/1\.md:1\n", told), told
