@@ -2,7 +2,7 @@
 import { $, el, say } from './dom.js';
 import { whenFree } from './hold.js';
 import { Sorted } from './sorted.js';
-import { Table, write } from './columns.js';
+import { Table, flag, write } from './columns.js';
 
 const PARTS = { flight: () => [el('a'), el('small')], rule: () => [el('b', { class: 'rule text' })] };
 
@@ -34,7 +34,7 @@ export class Blocked {
     const mark = this.moves.mark(name);
     write(item, row, this.day.date);
     say(item.since, this.moves.sinceText(name) || (mark ?? ''));
-    item.row.classList.toggle('moved', mark !== null);
+    flag(item, 'moved', mark !== null);
     this.list.set(item, `${row.ctot ?? '~'} ${name}`);
   }
 

@@ -37,29 +37,46 @@ export function whenFree(task) {
   return null;
 }
 
-/** The first row in sight that doesn't move. */
-function rowInSight(moving) {
+let isScrolled = false; // kept here, since the browser lays the page out for whoever asks it
+addEventListener('scroll', () => { isScrolled = scrollY > 0; }, { passive: true });
+let moved = null; // the rows that have moved, while places are changed
+
+/** Whether what one reads is kept where it is. */
+export const isKept = () => moved !== null;
+
+/** The rows in sight, with their places. */
+function rowsInSight() {
   const main = document.querySelector('main').getBoundingClientRect();
+  const rows = new Map();
   for (let y = Math.max(60, main.top + 4); y < innerHeight; y += 24) {
     const row = document.elementFromPoint(main.left + 40, y)?.closest('tbody tr');
-    if (row && !moving.has(row)) return row;
+    if (row && !rows.has(row)) rows.set(row, row.getBoundingClientRect().top);
   }
-  return null;
+  return [...rows];
 }
 
-/** Changes places while the first row in sight stays where it is. */
-export function anchored(change, moving = new Set()) {
-  const row = scrollY > 0 ? rowInSight(moving) : null;
-  const before = row?.getBoundingClientRect().top;
-  change();
-  if (!row?.isConnected) return;
-  const by = row.getBoundingClientRect().top - before;
-  if (Math.abs(by) >= 1) scrollBy({ top: by, behavior: 'instant' });
+/** Writes rows and changes places while the first row in sight that doesn't move stays where it is. What is seen is measured before. */
+export function anchored(change) {
+  if (moved || !isScrolled) {
+    change();
+    return;
+  }
+  const rows = rowsInSight();
+  moved = new Set();
+  try {
+    change();
+  } finally {
+    const [row, top] = rows.find(([one]) => one.isConnected && !one.hidden && !moved.has(one)) ?? [null];
+    moved = null;
+    const by = row ? row.getBoundingClientRect().top - top : 0;
+    if (Math.abs(by) >= 1) scrollBy({ top: by, behavior: 'instant' });
+  }
 }
 
 /** Puts a node before another one; what has the focus keeps it. */
 export function put(parent, node, before) {
   if (node.parentNode === parent && node.nextSibling === before) return;
+  moved?.add(node);
   if (parent.moveBefore && node.isConnected && parent.isConnected) {
     parent.moveBefore(node, before);
     return;

@@ -1,7 +1,7 @@
 // The rows of a table in the order of their keys. Only a row whose key changed is moved. A long table is in chunks, each a table
 // of its own with the same columns, so that the browser lays out those alone that are in sight.
 import { $ } from './dom.js';
-import { put } from './hold.js';
+import { isKept, put } from './hold.js';
 
 export class Sorted {
   /** body: where the rows are, in a table in a .chunk of its own; most: how many rows a chunk has, or 0: all. */
@@ -10,6 +10,7 @@ export class Sorted {
     this.label = body.parentNode.getAttribute('aria-label');
     this.chunks = [{ body, items: [] }];
     this.empty = [];
+    this.named = 1; // how many chunks have their names
   }
 
   get items() {
@@ -34,17 +35,27 @@ export class Sorted {
   /** Takes an item {key, row} in, or moves it to its new key. */
   set(item, key) {
     if (item.list === this && item.key === key) return;
-    const from = item.list;
-    from?.forget(item);
-    item.key = key;
-    item.list = this;
-    const number = this.chunkOf(key);
+    let number = item.list === this ? this.chunkOf(item.key) : -1;
+    if (this.fits(number, key)) {
+      const { items } = this.chunks[number];
+      items.splice(placeOf(items, item.key), 1);
+    } else {
+      item.list?.forget(item);
+      number = this.chunkOf(key);
+    }
+    Object.assign(item, { key, list: this });
     const { body, items } = this.chunks[number];
     const at = placeOf(items, key);
     items.splice(at, 0, item);
     put(body, item.row, items[at + 1]?.row ?? null);
-    if (this.most && items.length > this.most) this.split(number, at === items.length - 1 ? at : items.length >> 1);
-    from?.tidy();
+    const isEnd = number === this.chunks.length - 1 && at === items.length - 1;
+    if (this.most && items.length > this.most) this.split(number, isEnd ? at : items.length >> 1);
+  }
+
+  /** Whether a key is between those of the chunks beside a chunk. */
+  fits(number, key) {
+    const { [number - 1]: before, [number]: chunk, [number + 1]: after } = this.chunks;
+    return chunk !== undefined && !(before?.items.at(-1).key > key) && !(after?.items[0].key < key);
   }
 
   /** Makes the items of a chunk from a place on another chunk. */
@@ -53,15 +64,6 @@ export class Sorted {
     const chunk = { body: another(body), items: items.splice(from) };
     for (const item of chunk.items) put(chunk.body, item.row, null);
     this.chunks.splice(number + 1, 0, chunk);
-    this.name();
-  }
-
-  /** Each chunk is a table of its own, and so has a name of its own. */
-  name() {
-    const { length } = this.chunks;
-    for (const [at, { body }] of this.chunks.entries()) {
-      body.parentNode.setAttribute('aria-label', length === 1 ? this.label : `${this.label}, part ${at + 1} of ${length}`);
-    }
   }
 
   forget(item) {
@@ -72,11 +74,15 @@ export class Sorted {
     if (!items.length && this.chunks.length > 1) this.empty.push(...this.chunks.splice(number, 1));
   }
 
-  /** Removes the chunks that have no row any more. */
+  /** Removes the chunks that have no row any more. Each other one is a table of its own, and so has a name of its own. */
   tidy() {
-    if (!this.empty.length) return;
+    const { length } = this.chunks;
+    if (!this.empty.length && this.named === length) return;
     for (const { body } of this.empty.splice(0)) body.closest('.chunk').remove();
-    this.name();
+    this.named = length;
+    for (const [at, { body }] of this.chunks.entries()) {
+      body.parentNode.setAttribute('aria-label', length === 1 ? this.label : `${this.label}, part ${at + 1} of ${length}`);
+    }
   }
 
   remove(item) {
@@ -85,6 +91,19 @@ export class Sorted {
     item.row.remove();
     this.tidy();
   }
+}
+
+/**
+ * Puts items in their places: [item, list, key] each. Those that go further down begin with the last, the others with the first, so that
+ * rows which stay beside each other aren't moved.
+ */
+export function arrange(places) {
+  const isDown = ([item, list, key]) => item.list === list && item.key < key;
+  const byKey = ([, , one], [, , other]) => (one < other ? -1 : 1);
+  const down = places.filter(isDown).sort(byKey).reverse();
+  const lists = new Set(places.flatMap(([item, list]) => [item.list ?? list, list]));
+  for (const [item, list, key] of [...down, ...places.filter((place) => !isDown(place)).sort(byKey)]) list.set(item, key);
+  for (const list of lists) list.tidy();
 }
 
 function placeOf(items, key) {
@@ -106,5 +125,9 @@ function another(body) {
   copy.append($('colgroup', table).cloneNode(true), $('thead', table).cloneNode(true), rows);
   next.append(copy);
   chunk.after(next);
+  if (isKept()) {
+    next.classList.add('seen'); // until its height is known
+    setTimeout(() => next.classList.remove('seen'), 1000);
+  }
   return rows;
 }
