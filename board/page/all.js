@@ -1,8 +1,7 @@
 // All flights, in a table for each status; one row a flight, made once.
 import { STATUSES, Table, flag, statusWord, tell, write } from './columns.js';
 import { $, $$, el, say } from './dom.js';
-import { whenFree } from './hold.js';
-import { Sorted, arrange } from './sorted.js';
+import { Sorted, arrange, whenFree } from './hold.js';
 
 export const SLICE = 8; // ms of a task, after which others have their turn
 const CHUNK = 100;

@@ -1,8 +1,7 @@
 // The start-ups ahead: which flights, in which order and what each waits for is the program's `next`.
 import { isLate } from './day.js';
 import { $, el, say } from './dom.js';
-import { whenFree } from './hold.js';
-import { Sorted, arrange } from './sorted.js';
+import { Sorted, arrange, whenFree } from './hold.js';
 import { Table, flag, tell, write } from './columns.js';
 import { later, minutesFrom } from './times.js';
 
