@@ -1,6 +1,6 @@
 // The rows of a table in the order of their keys, and when they may change their places: not under a finger, and so that what one reads stays
 // where it is. A long table is in chunks, each a table of its own with the same columns, so that the browser lays out those alone that are in sight.
-import { $ } from './dom.js';
+import { $, el } from './dom.js';
 
 const CLICK = 1000;
 const MOST = 5000; // a pointer that went up elsewhere, as in the list of a select, isn't told
@@ -74,8 +74,6 @@ export function anchored(change) {
 
 /** Puts a node before another one; what has the focus keeps it. */
 function put(parent, node, before) {
-  if (node.parentNode === parent && node.nextSibling === before) return;
-  moved?.add(node);
   if (parent.moveBefore && node.isConnected && parent.isConnected) {
     parent.moveBefore(node, before);
     return;
@@ -129,7 +127,11 @@ export class Sorted {
     const { body, items } = this.chunks[number];
     const at = placeOf(items, key);
     items.splice(at, 0, item);
-    put(body, item.row, items[at + 1]?.row ?? null);
+    const before = items[at + 1]?.row ?? null;
+    if (item.row.parentNode !== body || item.row.nextSibling !== before) {
+      moved?.add(item.row);
+      put(body, item.row, before);
+    }
     const isEnd = number === this.chunks.length - 1 && at === items.length - 1;
     if (this.most && items.length > this.most) this.split(number, isEnd ? at : items.length >> 1);
   }
@@ -203,13 +205,15 @@ function another(body) {
   const table = body.parentNode;
   const chunk = table.closest('.chunk');
   chunk.classList.add('many');
-  const [next, copy, rows] = [chunk.cloneNode(false), table.cloneNode(false), document.createElement('tbody')];
+  const [copy, rows] = [table.cloneNode(false), el('tbody')];
   copy.append($('colgroup', table).cloneNode(true), $('thead', table).cloneNode(true), rows);
-  next.append(copy);
+  const next = el('div', { class: 'chunk many' }, copy);
   chunk.after(next);
   if (moved) {
-    next.classList.add('seen'); // until its height is known
-    setTimeout(() => next.classList.remove('seen'), 1000);
+    for (const one of [chunk, next]) {
+      one.classList.add('seen'); // until its height is known
+      setTimeout(() => one.classList.remove('seen'), 1000);
+    }
   }
   return rows;
 }
