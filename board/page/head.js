@@ -27,8 +27,13 @@ export class Head {
     say($('#date'), dayText(date));
     say($('.now time'), hm(now, date));
     $('.now time').setAttribute('datetime', now);
-    document.title = `${hm(now, date)} Start-up board`;
+    this.title();
     this.clockText();
+  }
+
+  /** The window's name, with NOW while something of the day may be seen. */
+  title() {
+    document.title = `${this.day.date && !root.classList.contains('is-out') ? `${hm(this.day.now, this.day.date)} ` : ''}Start-up board`;
   }
 
   /** A CLOCK was taken at this moment of the server's clock; null: none is known, since the page was opened. */

@@ -7,7 +7,7 @@ import { Connection } from './connection.js';
 import { Desk } from './desk.js';
 import { Filter } from './filter.js';
 import { FlightPanel, enableForms } from './flight.js';
-import { RecordForm } from './form.js';
+import { RecordForm, showRecords } from './form.js';
 import { Head, startTheme } from './head.js';
 import { anchored } from './hold.js';
 import { Machine } from './machine.js';
@@ -16,7 +16,6 @@ import { clock, heard, request, said, Streams } from './net.js';
 import { Next } from './next.js';
 import { Panels } from './panels.js';
 import { Picture } from './picture.js';
-import { showRecords } from './records.js';
 import { hms } from './times.js';
 import { Warnings } from './warnings.js';
 import { WhatIf } from './whatif.js';
@@ -117,11 +116,17 @@ function give(event) {
 function obey(order) {
   if (order.do === 'show' && (undrawn.length || making || order.what === 'answer' && isLong())) {
     undrawn.push(order);
-    if (undrawn.length === 1) drawLater().catch((problem) => failed(problem, 'page'));
+    if (undrawn.length === 1) drawLater().catch(lost);
     else if (undrawn.length > MOST_UNDRAWN) while (undrawn.length) act(undrawn.shift());
   } else {
     act(order);
   }
+}
+
+/** What waited to be shown is gone: it is read anew. */
+function lost(problem) {
+  undrawn.length = 0;
+  failed(problem, 'rows');
 }
 
 const isLong = () => performance.now() - began > SLICE;

@@ -8,6 +8,7 @@ import { later, minutesFrom } from './times.js';
 const REASONS = { ICE: 'de-icing', CTOT: 'CTOT', CLOSURE: 'closure', SPACING: 'spacing', RATE: 'rate', NOW: 'now' };
 const AHEAD = 30;
 const MOST_OUT = 3;
+const TIMES = ['tobt', 'ctot', 'ttot']; // a date before them needs a wider column
 const CHUNK = 60;
 const PARTS = {
   tsat: () => [el('div', { class: 'big' }, el('b', { class: 'text' }), ' ', el('span', { class: 'in' }))],
@@ -90,6 +91,8 @@ export class Next {
   place(moving) {
     const rows = moving.filter((item) => this.items.get(item.name) === item).map((item) => this.day.rows.get(item.name));
     arrange(rows.filter((row) => row?.tsat && this.filter.takes(row)).map((row) => [this.items.get(row.flight), this.list, keyOf(row)]));
+    const { date } = this.day;
+    $('#next').classList.toggle('dated', this.list.items.some(({ name }) => TIMES.some((time) => this.day.rows.get(name)?.[time]?.startsWith(date) === false)));
     this.divide();
     this.head();
   }
