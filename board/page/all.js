@@ -1,45 +1,45 @@
 // All flights, in a table for each status; one row a flight, made once.
-import { STATUSES, Table, statusWord, write } from './columns.js';
+import { STATUSES, Table, flag, statusWord, tell, write } from './columns.js';
 import { $, $$, el, say } from './dom.js';
-import { anchored, whenFree } from './hold.js';
-import { Sorted } from './sorted.js';
+import { Sorted, arrange, whenFree } from './hold.js';
 
-const SLICE = 100;
-const CHUNK = 200;
+export const SLICE = 8; // ms of a task, after which others have their turn
+const CHUNK = 100;
 const MANY = 300;
-const breath = () => (globalThis.scheduler?.yield ? scheduler.yield() : new Promise((resolve) => setTimeout(resolve)));
+export const breath = () => (globalThis.scheduler?.yield ? scheduler.yield() : new Promise((resolve) => setTimeout(resolve)));
 
 export class All {
   constructor(day, moves, filter) {
     Object.assign(this, { day, moves, filter, items: new Map() });
     this.isKnown = false; // until the first plan has come
     this.groups = new Map(Object.entries(STATUSES).map(([status, { word }]) => [status, groupOf(status, word)]));
-    $('#all').append(...[...this.groups.values()].map(({ group }) => group));
   }
 
-  /** Takes flights in, in slices that leave time for others; `also` takes each of them too. */
-  async build(names, also) {
-    const rows = names.map((name) => this.day.rows.get(name)).filter(Boolean);
-    rows.sort((one, other) => (keyOf(one) < keyOf(other) ? -1 : 1));
-    if (!this.items.size && rows.length > MANY) {
-      for (const status of ['AIRBORNE', 'CANCELLED']) this.groups.get(status).group.open = false;
-      for (const chunk of $$('#all .chunk')) chunk.classList.add('many');
-    }
-    for (let at = 0; at < rows.length; at += SLICE) {
-      const slice = rows.slice(at, at + SLICE).map((row) => row.flight);
-      also(slice);
-      this.changed(slice);
+  /** The flights that have no row yet. */
+  lacking(names) {
+    return [...names].filter((name) => this.day.rows.has(name) && !this.items.has(name));
+  }
+
+  /** Makes their rows in slices that leave time for others. Nothing of them is shown yet: those of a first plan are in tables that aren't either. */
+  async make(names) {
+    const rows = names.map((name) => this.day.rows.get(name)).sort((one, other) => (keyOf(one) < keyOf(other) ? -1 : 1));
+    let began = performance.now();
+    for (const { flight } of rows) {
+      const row = this.day.rows.get(flight);
+      if (row) this.write(this.itemOf(flight), row);
+      if (row && !this.isKnown) this.listOf(row).set(this.itemOf(flight), keyOf(row));
+      if (performance.now() - began < SLICE) continue;
       await breath();
+      began = performance.now();
     }
-    const gone = names.filter((name) => !this.day.rows.has(name));
-    also(gone);
-    this.changed(gone);
-    this.isKnown = true;
-    this.counts();
   }
 
-  make(name) {
-    const item = this.groups.get('PLANNED').table.make(name);
+  listOf(row) {
+    return this.groups.get(row.status).list;
+  }
+
+  itemOf(name) {
+    const item = this.items.get(name) ?? this.groups.get('PLANNED').table.make(name);
     this.items.set(name, item);
     return item;
   }
@@ -49,34 +49,43 @@ export class All {
     const moving = [];
     for (const name of names) {
       const row = this.day.rows.get(name);
-      const item = this.items.get(name) ?? (row && this.make(name));
+      const item = row ? this.itemOf(name) : this.items.get(name);
       if (!row) {
-        if (item) {
-          this.items.delete(name);
-          item.list?.remove(item);
-        }
+        this.items.delete(name);
+        item?.list?.remove(item);
         continue;
       }
       this.write(item, row);
-      if (item.list !== this.groups.get(row.status).list || item.key !== keyOf(row)) moving.push(item);
+      if (item.list !== this.listOf(row) || item.key !== keyOf(row)) moving.push(item);
     }
-    if (moving.length) {
-      whenFree(() => anchored(() => {
-        for (const item of moving) {
-          const row = this.day.rows.get(item.name);
-          if (row && this.items.get(item.name) === item) this.groups.get(row.status).list.set(item, keyOf(row));
-        }
-        this.counts();
-      }, new Set(moving.map((item) => item.row))));
+    whenFree(() => this.place(moving));
+  }
+
+  place(moving) {
+    const rows = moving.filter((item) => this.items.get(item.name) === item).map((item) => this.day.rows.get(item.name)).filter(Boolean);
+    arrange(rows.map((row) => [this.items.get(row.flight), this.listOf(row), keyOf(row)]));
+    if (!this.isKnown) this.begin();
+    this.counts();
+  }
+
+  /** The first plan is shown. */
+  begin() {
+    this.isKnown = true;
+    const groups = [...this.groups.values()].map(({ group }) => group);
+    for (const { list } of this.groups.values()) list.tidy();
+    if (this.items.size > MANY) {
+      for (const status of ['AIRBORNE', 'CANCELLED']) this.groups.get(status).group.open = false;
+      for (const chunk of groups.flatMap((group) => $$('.chunk', group))) chunk.classList.add('many');
     }
+    $('#all').append(...groups);
   }
 
   write(item, row) {
     const mark = this.moves.mark(item.name);
     const status = row.status === 'BLOCKED' ? `${statusWord(row.status)} ${row.rule}` : statusWord(row.status);
     write(item, row, this.day.date, this.moves.columns(item.name));
-    say(item.texts.status, mark ? (row.rule ? `${row.rule} ${mark.slice(2)}` : mark) : status);
-    item.row.classList.toggle('moved', mark !== null);
+    tell(item, 'status', mark ? (row.rule ? `${row.rule} ${mark.slice(2)}` : mark) : status);
+    flag(item, 'moved', mark !== null);
     item.row.hidden = !this.filter.takes(row);
   }
 
@@ -93,7 +102,7 @@ export class All {
     if (!this.isKnown) return;
     let [shown, all] = [0, 0];
     for (const [status, { group, list, count }] of this.groups) {
-      const here = list.items.filter((item) => !item.row.hidden).length;
+      const here = this.filter.isOn ? list.items.filter((item) => !item.row.hidden).length : list.length;
       say(count, here);
       group.hidden = here === 0;
       group.dataset.count = String(here);

@@ -1,9 +1,9 @@
-// The flights without a start-up time, with their rule; the first CTOT first.
+// The flights without a start-up time, with their rule, the first CTOT first; and what the delay of the others is made of.
 import { $, el, say } from './dom.js';
-import { whenFree } from './hold.js';
-import { Sorted } from './sorted.js';
-import { Table, write } from './columns.js';
+import { Sorted, whenFree } from './hold.js';
+import { Table, flag, write } from './columns.js';
 
+const CAUSES = ['delay', 'ice', 'ctot', 'closure', 'spacing', 'rate', 'now'];
 const PARTS = { flight: () => [el('a'), el('small')], rule: () => [el('b', { class: 'rule text' })] };
 
 export class Blocked {
@@ -34,7 +34,7 @@ export class Blocked {
     const mark = this.moves.mark(name);
     write(item, row, this.day.date);
     say(item.since, this.moves.sinceText(name) || (mark ?? ''));
-    item.row.classList.toggle('moved', mark !== null);
+    flag(item, 'moved', mark !== null);
     this.list.set(item, `${row.ctot ?? '~'} ${name}`);
   }
 
@@ -52,5 +52,24 @@ export class Blocked {
   head() {
     say($('#blocked h2 b'), this.list.length);
     $('#blocked').classList.toggle('some', this.list.length > 0);
+  }
+}
+
+/** What the delay is made of, by the program's `causes`; asked for only while it is shown. */
+export class Causes {
+  constructor(onOpen) {
+    this.details = $('#causes');
+    this.select = $('#causes select');
+    for (const [node, name] of [[this.details, 'toggle'], [this.select, 'change']]) node.addEventListener(name, onOpen);
+  }
+
+  get isWanted() {
+    return this.details.open;
+  }
+
+  take(list) {
+    say($('#causes thead th'), this.select.value === 'runway' ? 'Runway' : 'Operator');
+    $('#causes tbody').replaceChildren(...list.map((one) => el('tr', { class: one.group === 'TOTAL' && 'diff' },
+      el('th', { scope: 'row' }, one.group), ...CAUSES.map((name) => el('td', { class: 'n' }, String(one[name]))))));
   }
 }

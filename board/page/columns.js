@@ -92,25 +92,41 @@ export class Table {
     const row = this.model.cloneNode(true);
     row.dataset.flight = name;
     const cells = Object.fromEntries(this.names.map((column, at) => [column, row.children[at]]));
-    const texts = Object.fromEntries(this.names.map((column) => [column, $('.text', cells[column]) ?? cells[column]]));
+    const texts = Object.fromEntries(this.names.map((column) => [column, cells[column].firstElementChild ? $('.text', cells[column]) ?? cells[column] : cells[column]]));
     named($('a', cells.flight), name);
-    return { name, row, cells, texts, late: cells.delay && $('.late', cells.delay), key: '', list: null };
+    return { name, row, cells, texts, late: cells.delay && $('.late', cells.delay), key: '', list: null, has: {} };
   }
+}
+
+/** Puts a text into a place of an item, if it isn't there already. What is there is kept beside it: to read it from the page takes longer. */
+export function tell(item, name, text) {
+  if (item.has[name] === text) return;
+  item.has[name] = text;
+  item.texts[name].textContent = text;
+}
+
+/** Gives an item's row, or a part of it, a class, or takes it. */
+export function flag(item, name, isOn, node = item.row) {
+  if ((item.has[`.${name}`] ?? false) === isOn) return;
+  item.has[`.${name}`] = isOn;
+  node.classList.toggle(name, isOn);
 }
 
 /** Puts into a flight's cells what its Row says, and marks the columns that changed. */
 export function write(item, row, date, marked = []) {
-  for (const [name, node] of Object.entries(item.texts)) {
-    if (!COLUMNS[name].print) continue;
-    say(node, COLUMNS[name].print(row[name], date));
-    item.cells[name].classList.toggle('mv', marked.includes(name));
+  const marks = marked.join();
+  const areOthers = marks !== (item.has.marks ?? '');
+  item.has.marks = marks;
+  for (const name in item.cells) {
+    if (COLUMNS[name].print) tell(item, name, COLUMNS[name].print(row[name], date));
+    if (areOthers) item.cells[name].classList.toggle('mv', marked.includes(name));
   }
-  if (item.late) item.late.hidden = !isLate(row);
+  if (item.late && item.late.hidden === isLate(row)) item.late.hidden = !isLate(row);
 }
 
 /** A flight's facts: a term and its value each; where the texts go, by column. */
 export function facts(root) {
-  const item = { cells: {}, texts: {}, late: null };
+  const item = { cells: {}, texts: {}, late: null, has: {} };
   root.replaceChildren(...TABLES.facts.map((name) => {
     const cell = el('dd', { class: `c-${name}` }, ...(PARTS[name]?.() ?? []));
     item.cells[name] = cell;

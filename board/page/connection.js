@@ -16,6 +16,7 @@ export class Connection {
   state(order) {
     root.classList.toggle('is-out', order.state === 'out');
     root.classList.toggle('is-lost', order.state === 'lost');
+    this.head.title();
     if (order.state === 'lost') this.head.lost(order.since, order.detail);
     else if (order.state === 'out') this.out(order.was);
     else if (order.state === 'reading') this.reading(order);

@@ -6,8 +6,9 @@ export const isLate = (row) => row.delay != null && row.delay > LATE;
 
 /** Whether two Rows are the same: in all their members, also in those that no table shows. */
 export function isSame(one, other) {
-  const names = new Set([...Object.keys(one), ...Object.keys(other)]);
-  return [...names].every((name) => one[name] === other[name] || JSON.stringify(one[name]) === JSON.stringify(other[name]));
+  const names = Object.keys(one);
+  return names.length === Object.keys(other).length
+    && names.every((name) => one[name] === other[name] || JSON.stringify(one[name]) === JSON.stringify(other[name]));
 }
 
 export class Day {

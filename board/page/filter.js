@@ -38,16 +38,19 @@ export class Filter {
       }
       input.value = value;
     }
-    this.values = this.said();
+    this.take();
   }
 
-  said() {
+  /** What the form says. */
+  take() {
     const values = Object.fromEntries(FIELDS.map((field) => [field, this.form.elements[field].value.trim()]));
-    return { ...values, flight: values.flight.toUpperCase(), op: values.op.toUpperCase() };
+    this.values = { ...values, flight: values.flight.toUpperCase(), op: values.op.toUpperCase() };
+    this.isOn = FIELDS.some((field) => this.values[field]);
+    this.operators = this.values.op.split(/[\s,]+/).filter(Boolean); // `DLH,EWG` means either
   }
 
   typed() {
-    this.values = this.said();
+    this.take();
     const query = new URLSearchParams(Object.entries(this.values).filter(([, value]) => value)).toString();
     history.replaceState(null, '', `${location.pathname}${query && `?${query}`}${location.hash}`);
     this.onChange();
@@ -57,15 +60,6 @@ export class Filter {
   set(values) {
     for (const field of FIELDS) this.form.elements[field].value = values[field] ?? '';
     this.typed();
-  }
-
-  get isOn() {
-    return FIELDS.some((field) => this.values[field]);
-  }
-
-  /** The operators that are asked for: `DLH,EWG` means either. */
-  get operators() {
-    return this.values.op.split(/[\s,]+/).filter(Boolean);
   }
 
   /** Whether a Row is shown. */

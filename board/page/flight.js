@@ -1,9 +1,8 @@
 // One flight: what it is, why it waits, what to send, and its records.
 import { facts, inWords, statusWord, takesKind, write } from './columns.js';
 import { $, $$, el, say } from './dom.js';
-import { RecordForm } from './form.js';
+import { RecordForm, showRecords } from './form.js';
 import { Problem, objects } from './net.js';
-import { showRecords } from './records.js';
 import { hm, later, minutesFrom } from './times.js';
 import { current, explained } from './warnings.js';
 

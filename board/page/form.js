@@ -1,10 +1,11 @@
-// The records that a desk's role may make, as a form: kinds, fields, forms and ranges are those of the program's table.
+// The records that a desk's role may make, as a form: kinds, fields, forms and ranges are those of the program's table. And those of the log.
 import { COLUMNS } from './columns.js';
 import { el, say } from './dom.js';
-import { newKey } from './net.js';
-import { sentence } from './records.js';
-import { hm, typed } from './times.js';
+import { recordText, withoutName } from './moves.js';
+import { ask, newKey } from './net.js';
+import { hm, hms, typed } from './times.js';
 
+const MOST = 200; // records that are listed
 const TIME = 'YYYY-MM-DDTHH:MMZ';
 const NAMED = 8; // flights that changed, by name
 const NOT_KNOWN = 'It isn’t known whether the record was taken. Send it again: it is taken once.';
@@ -129,5 +130,38 @@ export class RecordForm {
     this.reply.classList.toggle('good', isGood);
     this.reply.hidden = false;
     this.reply.focus({ preventScroll: true });
+  }
+}
+
+/** Fills a table body with records, the newest first, with who sent them and when; those that are there already stay. */
+export function showRecords(body, records, flight = null) {
+  const there = new Map([...body.rows].map((row) => [row.dataset.position, row]));
+  const rows = records.slice(-MOST).reverse().map((record) => there.get(String(record.position)) ?? rowOf(record, flight));
+  if (rows.length !== body.rows.length || rows.some((row, at) => row !== body.rows[at])) body.replaceChildren(...rows);
+}
+
+function rowOf(record, flight) {
+  const own = flight ? withoutName(record.line, flight) : record.line;
+  const what = el('td', {}, recordText(own));
+  if (record.reply === 'REFUSED') {
+    const words = el('span', { class: 'words' });
+    const button = el('button', { type: 'button', class: 'quiet' }, 'why', el('span', { class: 'vh' }, ` was record ${record.position} refused`));
+    button.addEventListener('click', async () => {
+      button.disabled = true;
+      say(words, await sentence(record.position));
+      button.remove();
+    });
+    what.append(' ', el('b', { class: 'refused' }, `refused ${record.word}`), ' ', button, words);
+  }
+  return el('tr', { 'data-position': record.position }, el('td', { class: 'n' }, String(record.position)), el('td', {}, hms(record.at)),
+    el('th', { scope: 'row' }, record.desk, ' ', el('small', {}, record.role)), what);
+}
+
+/** Why a record was refused, in the program's words. */
+async function sentence(position) {
+  try {
+    return (await ask(`/v1/records/${position}/sentence`)).text.trim();
+  } catch (problem) {
+    return `no reason came: ${problem.message}`;
   }
 }

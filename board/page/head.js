@@ -1,4 +1,4 @@
-// NOW, the totals, and how the connection is.
+// NOW, the totals, and how the connection is; light or dark.
 import { $, el, say } from './dom.js';
 import { clock } from './net.js';
 import { recordText } from './moves.js';
@@ -6,6 +6,8 @@ import { dayText, hm, hms } from './times.js';
 
 const NO_CLOCK = 120000;
 const PAUSE = 10000;
+const THEME = 'cdm-theme';
+const root = document.documentElement;
 
 export class Head {
   constructor(day) {
@@ -25,8 +27,13 @@ export class Head {
     say($('#date'), dayText(date));
     say($('.now time'), hm(now, date));
     $('.now time').setAttribute('datetime', now);
-    document.title = `${hm(now, date)} Start-up board`;
+    this.title();
     this.clockText();
+  }
+
+  /** The window's name, with NOW while something of the day may be seen. */
+  title() {
+    document.title = `${this.day.date && !root.classList.contains('is-out') ? `${hm(this.day.now, this.day.date)} ` : ''}Start-up board`;
   }
 
   /** A CLOCK was taken at this moment of the server's clock; null: none is known, since the page was opened. */
@@ -76,7 +83,7 @@ export class Head {
 
   /** A lost connection is an alert: a screen reader says it at once, whatever it is saying. */
   lost(since, why) {
-    document.documentElement.classList.add('is-lost');
+    root.classList.add('is-lost');
     clearTimeout(this.timer);
     this.timer = 0;
     this.status.replaceChildren();
@@ -85,13 +92,13 @@ export class Head {
   }
 
   connected(words = '') {
-    document.documentElement.classList.remove('is-lost');
+    root.classList.remove('is-lost');
     this.tell([el('b', {}, 'Connected'), words && ` ${words}`].filter(Boolean), true);
   }
 
   /** A warning that is new is said at once, with the last record, which it came of. */
   warn(words) {
-    if (document.documentElement.classList.contains('is-lost')) return;
+    if (root.classList.contains('is-lost')) return;
     this.tell([el('b', {}, 'Connected'), ` New warning: ${recordText(words)}.${this.last && ` ${this.last}`}`], true);
   }
 
@@ -99,4 +106,25 @@ export class Head {
     $('#stale').hidden = !since;
     say($('#stale'), since ? `The log isn’t reached since ${hms(since)} UTC: what is shown may be old, and nothing can be sent.` : '');
   }
+}
+
+/** Light or dark: the system's, until somebody darkens the room by hand. */
+export function startTheme() {
+  try {
+    const kept = localStorage.getItem(THEME);
+    if (kept === 'light' || kept === 'dark') root.dataset.theme = kept;
+  } catch { /* the system's */ }
+  const button = $('#b-theme');
+  const system = matchMedia('(prefers-color-scheme: dark)');
+  const isDark = () => (root.dataset.theme ?? (system.matches ? 'dark' : 'light')) === 'dark';
+  const press = () => button.setAttribute('aria-pressed', String(isDark()));
+  system.addEventListener('change', press);
+  press();
+  button.addEventListener('click', () => {
+    root.dataset.theme = isDark() ? 'light' : 'dark';
+    press();
+    try {
+      localStorage.setItem(THEME, root.dataset.theme);
+    } catch { /* for this page alone */ }
+  });
 }

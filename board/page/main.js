@@ -1,27 +1,27 @@
 // The page: what people and the server do becomes an event for the machine, and what it orders is done here.
 import { $, $$, el, say } from './dom.js';
-import { All } from './all.js';
+import { All, SLICE, breath } from './all.js';
 import { Bands } from './bands.js';
-import { Blocked } from './blocked.js';
-import { Causes } from './causes.js';
+import { Blocked, Causes } from './blocked.js';
 import { Connection } from './connection.js';
 import { Desk } from './desk.js';
 import { Filter } from './filter.js';
 import { FlightPanel, enableForms } from './flight.js';
-import { RecordForm } from './form.js';
-import { Head } from './head.js';
+import { RecordForm, showRecords } from './form.js';
+import { Head, startTheme } from './head.js';
+import { anchored } from './hold.js';
 import { Machine } from './machine.js';
 import { Moves } from './moves.js';
 import { clock, heard, request, said, Streams } from './net.js';
 import { Next } from './next.js';
 import { Panels } from './panels.js';
 import { Picture } from './picture.js';
-import { showRecords } from './records.js';
-import { startTheme } from './theme.js';
 import { hms } from './times.js';
 import { Warnings } from './warnings.js';
 import { WhatIf } from './whatif.js';
 
+const FEW = 100; // so many rows are made at once
+const MOST_UNDRAWN = 50;
 const root = document.documentElement;
 const desk = new Desk(give);
 const machine = new Machine(Math.random, said.role);
@@ -29,7 +29,7 @@ const { day } = machine;
 const head = new Head(day);
 const connection = new Connection(head);
 const moves = new Moves(day, (names) => show(names));
-const filter = new Filter(() => [all, next, blocked].forEach((table) => table.again()));
+const filter = new Filter(() => anchored(() => [all, next, blocked].forEach((table) => table.again())));
 const [all, next, blocked] = [new All(day, moves, filter), new Next(day, moves, filter), new Blocked(day, moves, filter)];
 const warnings = new Warnings(day, filter, (words) => head.warn(words));
 const bands = new Bands(day);
@@ -41,11 +41,15 @@ const streams = new Streams(give);
 const asked = new Map(); // requests that have no answer yet, by number
 const forms = new Map(); // forms whose record has no answer yet, by name
 const events = []; // what the machine hasn't taken yet
+const undrawn = []; // what is to be shown in later tasks
+const unwritten = new Set(); // flights whose rows are to be written
 let operators = [];
 let shownNow = '';
 let lastRecord = null; // of those that came before the page was opened
 let timer = 0;
 let isTaking = false;
+let began = 0; // this task
+let making = null; // while rows are made that aren't shown yet
 
 const sendPanel = {
   open() {
@@ -90,6 +94,7 @@ function give(event) {
   events.push(event);
   if (isTaking) return;
   isTaking = true;
+  began = performance.now();
   while (events.length) {
     let orders = [];
     try {
@@ -97,15 +102,52 @@ function give(event) {
     } catch (fault) {
       told(fault, 'machine');
     }
-    for (const order of orders) {
-      try {
-        DONE[order.do](order);
-      } catch (fault) {
-        failed(fault, order.what === 'answer' ? order.name : ['plan', 'replies'].includes(order.what) ? 'rows' : `${order.do} ${order.what ?? ''}`);
-      }
-    }
+    const all = () => orders.forEach(obey);
+    if (orders.some((order) => order.do === 'show')) anchored(all);
+    else all();
   }
   isTaking = false;
+}
+
+/**
+ * Does what is ordered. While rows are made nothing is shown, and no answer in a task that is long already; what is to be shown behind it
+ * waits too.
+ */
+function obey(order) {
+  if (order.do === 'show' && (undrawn.length || making || order.what === 'answer' && isLong())) {
+    undrawn.push(order);
+    if (undrawn.length === 1) drawLater().catch(lost);
+    else if (undrawn.length > MOST_UNDRAWN) while (undrawn.length) act(undrawn.shift());
+  } else {
+    act(order);
+  }
+}
+
+/** What waited to be shown is gone: it is read anew. */
+function lost(problem) {
+  undrawn.length = 0;
+  failed(problem, 'rows');
+}
+
+const isLong = () => performance.now() - began > SLICE;
+
+async function drawLater() {
+  while (undrawn.length) {
+    await making;
+    await breath();
+    began = performance.now();
+    anchored(() => {
+      while (undrawn.length && !making && !isLong()) act(undrawn.shift());
+    });
+  }
+}
+
+function act(order) {
+  try {
+    DONE[order.do](order);
+  } catch (fault) {
+    failed(fault, order.what === 'answer' ? order.name : ['plan', 'replies'].includes(order.what) ? 'rows' : `${order.do} ${order.what ?? ''}`);
+  }
 }
 
 /** An exception of the page's own: the machine asks again for what wasn't shown. */
@@ -199,8 +241,7 @@ const ANSWERED = {
   records: (list) => flight.takeRecords(list),
   warnings(list) {
     warnings.take(list);
-    next.tags = warnings.tags;
-    next.again();
+    next.tag(warnings.tags);
   },
   load(list) {
     bands.take(list);
@@ -237,20 +278,12 @@ function fault(name, detail) {
 /** The whole day: what changed of it, or, where a box failed to show some of it, all. */
 function showPlan({ changed, isFirst, isOther, isWhole }) {
   if (isFirst || isOther) {
-    root.classList.remove('is-new');
     if (!moves.remember()) moves.look(hms(clock.now()).slice(0, 5));
     give({ type: 'seen', position: moves.seen.position });
   } else if (!isWhole) {
     moves.note(changed, null);
   }
-  head.now();
-  flight.changed();
-  const names = isFirst ? [...day.rows.keys()] : [...new Set([...(isWhole ? all.items.keys() : []), ...changed.keys()])];
-  all.build(names, (some) => {
-    next.changed(some);
-    blocked.changed(some);
-  }).then(() => next.again()).catch((problem) => failed(problem, 'rows'));
-  next.head();
+  show([...(isFirst ? day.rows.keys() : isWhole ? all.items.keys() : []), ...changed.keys()]);
 }
 
 /** Records that came together. */
@@ -262,22 +295,44 @@ function showReplies(replies) {
     for (const name of changed.keys()) names.add(name);
     if (reply.line.startsWith('CLOCK,')) head.clockTaken(reply.at);
   }
-  show([...names]);
-  if (day.now !== shownNow) {
-    shownNow = day.now;
-    head.now();
-    next.again();
-  }
+  show(names);
   head.record(...last);
 }
 
-/** Flights whose rows are to be written again, as a record changed them, or as they are no longer marked. */
+/**
+ * Flights whose rows are to be written again, as a record changed them, or as they are no longer marked. They are written at once, so that all
+ * that are shown are of one position; where many have no row yet, theirs are made before.
+ */
 function show(names) {
-  next.changed(names);
-  blocked.changed(names);
-  all.changed(names);
-  if (names.includes(flight.name)) flight.changed();
+  for (const name of names) unwritten.add(name);
+  if (making) return;
+  const lacking = all.lacking(unwritten);
+  if (lacking.length <= FEW) {
+    anchored(() => write([...unwritten]));
+    return;
+  }
+  making = all.make(lacking).then(() => {
+    making = null;
+    show([]);
+  }).catch((problem) => {
+    making = null;
+    unwritten.clear();
+    failed(problem, 'rows');
+  });
+}
+
+function write(names) {
+  unwritten.clear();
+  for (const table of [next, blocked, all]) table.changed(names);
+  const now = `${day.date} ${day.now}`;
+  if (now !== shownNow) {
+    shownNow = now;
+    head.now();
+    next.again();
+  }
+  if (names.includes(flight.name) || !flight.row) flight.changed();
   panels.mark();
+  root.classList.remove('is-new');
 }
 
 /** Records that came before, or that changed too much to be sent as events: when a CLOCK came, and why what moved has moved. */
@@ -305,7 +360,7 @@ function empty() {
 heard.answer = ({ status, detail, stale }) => give({ type: 'heard', status, detail, stale });
 $('#seen').addEventListener('click', () => {
   moves.look(hms(clock.now()).slice(0, 5));
-  next.again();
+  anchored(() => next.again());
 });
 for (const name of ['error', 'unhandledrejection']) addEventListener(name, (event) => failed(event.error ?? event.reason ?? event.message, 'page'));
 startTheme();

@@ -74,9 +74,11 @@ export class Moves {
   look(at) {
     const entries = [...this.day.rows.values()].map((row) => [row.flight, kept(row, this.day.date)]);
     this.seen = { at, log: this.day.moment.replace(/-[0-9]+$/, ''), position: this.day.position, rows: Object.fromEntries(entries) };
-    try {
-      sessionStorage.setItem(KEPT, JSON.stringify(this.seen));
-    } catch { /* it is kept in memory alone */ }
+    setTimeout(() => {
+      try {
+        sessionStorage.setItem(KEPT, JSON.stringify(this.seen));
+      } catch { /* it is kept in memory alone */ }
+    });
   }
 
   /** What was seen before the page was opened again, where it is of this log; whether there is any. */

@@ -1,14 +1,14 @@
 // The start-ups ahead: which flights, in which order and what each waits for is the program's `next`.
 import { isLate } from './day.js';
 import { $, el, say } from './dom.js';
-import { anchored, whenFree } from './hold.js';
-import { Sorted } from './sorted.js';
-import { Table, write } from './columns.js';
-import { minutesFrom } from './times.js';
+import { Sorted, arrange, whenFree } from './hold.js';
+import { Table, flag, tell, write } from './columns.js';
+import { later, minutesFrom } from './times.js';
 
 const REASONS = { ICE: 'de-icing', CTOT: 'CTOT', CLOSURE: 'closure', SPACING: 'spacing', RATE: 'rate', NOW: 'now' };
 const AHEAD = 30;
 const MOST_OUT = 3;
+const TIMES = ['tobt', 'ctot', 'ttot']; // a date before them needs a wider column
 const CHUNK = 60;
 const PARTS = {
   tsat: () => [el('div', { class: 'big' }, el('b', { class: 'text' }), ' ', el('span', { class: 'in' }))],
@@ -41,9 +41,17 @@ export class Next {
   make(name) {
     const item = this.table.make(name);
     const { tsat, why } = item.cells;
-    Object.assign(item, { cause: null, in: $('.in', tsat), waits: $('span', why), tag: $('.tag', why), since: $('small', why) });
+    item.cause = null;
+    Object.assign(item.texts, { in: $('.in', tsat), waits: $('span', why), tag: $('.tag', why), since: $('small', why) });
     this.items.set(name, item);
     return item;
+  }
+
+  /** The warnings' tags, by flight. */
+  tag(tags) {
+    const names = [...this.items.keys()].filter((name) => tagOf(tags, name) !== tagOf(this.tags, name));
+    this.tags = tags;
+    this.show(names);
   }
 
   drop(name) {
@@ -77,31 +85,31 @@ export class Next {
       this.write(item, row);
       if (item.list !== this.list || item.key !== keyOf(row)) moving.push(item);
     }
-    if (moving.length) {
-      whenFree(() => anchored(() => {
-        for (const item of moving) {
-          const row = this.day.rows.get(item.name);
-          if (this.items.get(item.name) === item && row?.tsat && this.filter.takes(row)) this.list.set(item, keyOf(row));
-        }
-        this.divide();
-        this.head();
-      }, new Set(moving.map((item) => item.row))));
-    }
+    whenFree(() => this.place(moving));
+  }
+
+  place(moving) {
+    const rows = moving.filter((item) => this.items.get(item.name) === item).map((item) => this.day.rows.get(item.name));
+    arrange(rows.filter((row) => row?.tsat && this.filter.takes(row)).map((row) => [this.items.get(row.flight), this.list, keyOf(row)]));
+    const { date } = this.day;
+    $('#next').classList.toggle('dated', this.list.items.some(({ name }) => TIMES.some((time) => this.day.rows.get(name)?.[time]?.startsWith(date) === false)));
+    this.divide();
     this.head();
   }
 
   write(item, row) {
     const mark = this.moves.mark(item.name);
     write(item, row, this.day.date, this.moves.columns(item.name));
-    say(item.in, mark || this.ahead(row));
-    item.in.classList.toggle('mv', Boolean(mark));
-    item.row.classList.toggle('moved', mark !== null);
-    item.row.classList.toggle('late', isLate(row));
-    say(item.waits, item.cause === null ? (row.delay ? '…' : '–') : REASONS[item.cause] ?? item.cause ?? '–');
-    say(item.tag, (this.tags.get(item.name) ?? []).join(' '));
-    item.tag.hidden = !this.tags.has(item.name);
-    say(item.since, this.moves.sinceText(item.name));
-    item.row.classList.toggle('since', item.since.textContent !== '');
+    tell(item, 'in', mark || this.ahead(row));
+    flag(item, 'mv', Boolean(mark), item.texts.in);
+    flag(item, 'moved', mark !== null);
+    flag(item, 'late', isLate(row));
+    tell(item, 'waits', item.cause === null ? (row.delay ? '…' : '–') : REASONS[item.cause] ?? item.cause ?? '–');
+    const tag = tagOf(this.tags, item.name);
+    if (tag !== item.has.tag) item.texts.tag.hidden = !tag;
+    tell(item, 'tag', tag);
+    tell(item, 'since', this.moves.sinceText(item.name));
+    flag(item, 'since', item.has.since !== '');
   }
 
   /** `in 13`, or `now` from the TSAT on. */
@@ -113,19 +121,20 @@ export class Next {
   /** All rows again, as NOW, the filter or what was seen changed. */
   again() {
     this.show([...this.items.keys()]);
-    this.divide();
   }
 
-  isSoon(tsat) {
-    return minutesFrom(this.day.now, tsat) < AHEAD;
+  /** The end of the next 30 minutes; times are in order as texts. */
+  get soon() {
+    return this.day.now && later(this.day.now, AHEAD);
   }
 
   /** A line between the flights of the next 30 minutes and the others. */
   divide() {
+    const { soon } = this;
     let was = true;
-    for (const { row, name } of this.list.items) {
-      const is = this.isSoon(this.day.rows.get(name).tsat);
-      row.classList.toggle('beyond', was && !is);
+    for (const item of this.list.items) {
+      const is = this.day.rows.get(item.name)?.tsat < soon;
+      flag(item, 'beyond', was && !is);
       was = is;
     }
   }
@@ -140,18 +149,20 @@ export class Next {
 
   /** How many of the next 30 minutes moved since one looked, and which moved out of them. */
   since(at) {
-    const soon = [...this.items.keys()].filter((name) => {
+    const { soon } = this;
+    const count = [...this.items.keys()].filter((name) => {
       const row = this.day.rows.get(name);
-      return row?.tsat && this.isSoon(row.tsat) && this.moves.since(name) !== null && this.filter.takes(row);
+      return row?.tsat && row.tsat < soon && this.moves.since(name) !== null && this.filter.takes(row);
     }).length;
-    const out = this.moves.out((tsat) => this.isSoon(tsat)).filter((name) => this.filter.takes(this.day.rows.get(name)));
-    const said = `${soon} ${at} ${out}`;
+    const out = this.moves.out((tsat) => tsat < soon).filter((name) => this.filter.takes(this.day.rows.get(name)));
+    const said = `${count} ${at} ${out}`;
     if (said === this.said) return;
     this.said = said;
     const names = out.slice(0, MOST_OUT).flatMap((name) => [' ', el('a', { href: `#${name}` }, name)]);
-    $('#since').replaceChildren(`${soon} of the next ${AHEAD} min moved since ${at}`, ...(out.length ? [`, ${out.length} moved out:`, ...names] : []),
+    $('#since').replaceChildren(`${count} of the next ${AHEAD} min moved since ${at}`, ...(out.length ? [`, ${out.length} moved out:`, ...names] : []),
       out.length > MOST_OUT ? ` +${out.length - MOST_OUT}` : '');
   }
 }
 
+const tagOf = (tags, name) => (tags.get(name) ?? []).join(' ');
 const keyOf = (row) => `${row.tsat} ${row.flight}`;

@@ -14,6 +14,7 @@ export class Panels {
     this.flight = null;
     this.from = null;
     this.behind = '';
+    this.marked = [];
     addEventListener('hashchange', () => this.follow());
     addEventListener('layout', () => this.cover());
     document.addEventListener('keydown', (event) => {
@@ -80,7 +81,8 @@ export class Panels {
 
   /** Frames the rows of the open flight. */
   mark() {
-    for (const row of $$('tr.open')) row.classList.remove('open');
-    if (this.flight) for (const row of $$(`tr[data-flight="${this.flight}"]`)) row.classList.add('open');
+    for (const row of this.marked) row.classList.remove('open');
+    this.marked = this.flight ? $$(`tr[data-flight="${this.flight}"]`) : [];
+    for (const row of this.marked) row.classList.add('open');
   }
 }

@@ -300,6 +300,23 @@ def test_what_one_reads_stays_where_it_is(page):
     assert abs(shown.js(top) - before) < 2
 
 
+def test_what_one_reads_stays_where_a_table_is_split(page):
+    """A hundred flights are one table. One more makes it two, and the browser doesn't lay out what it hasn't seen yet."""
+    names = [f"X{n:03}" for n in range(100)]
+    day = {"AP": [f"FLT,{name},5" for name in ["LAST", *names]], "ATC": [f"RWY,{name},27L" for name in ["LAST", *names]] + ["CLOCK,2025-03-10T05:50Z"],
+           "AO": [f"TOBT,{name},2025-03-10T{7 + n // 10:02}:{n % 10 * 5:02}Z" for n, name in enumerate(names)]}
+    shown = page(day=day).open()
+    tables = "return document.querySelectorAll('#all [data-status=PLANNED] table').length"
+    shown.js("document.querySelector('#all tr[data-flight=X090]').scrollIntoView({block: 'end'})")
+    top = "return document.querySelector('#all tr[data-flight=X085]').getBoundingClientRect().top"
+    before = shown.js(top)
+    assert shown.js(tables) == 1
+    shown.server.post("TOBT,LAST,2025-03-10T06:55Z", Cdm_Role="AO")
+    shown.until(tables + " === 2")
+    shown.until("return document.querySelector('.seen') === null")
+    assert abs(shown.js(top) - before) < 2
+
+
 @pytest.mark.parametrize("width,height", [(320, 640), (700, 900), (1280, 900), (1920, 1080), (3840, 2160)])
 def test_sizes(page, width, height):
     shown = page()

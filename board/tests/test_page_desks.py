@@ -5,7 +5,8 @@ import re
 import signal
 import sqlite3
 
-from browser import DAY, FACTOR, until
+import pytest
+from browser import DAY, FACTOR, size, until
 
 DESKS = {"ap": 'role = "AP"', "atc": 'role = "ATC"\nclock = true', "ao": 'role = "AO"', "nm": 'role = "NM"',
          "ground-2": 'role = "GH"', "dlh-ops": 'role = "AO"\nflights = ["DLH"]', "wall": 'role = "READ"'}
@@ -96,6 +97,31 @@ def test_a_token_that_is_taken_away(page):
     shown.is_ready()
     shown.says("#desk-left", "reads only")
     assert shown.text("#desk") == "wall" and not shown.find("#b-send").is_displayed()
+
+
+@pytest.mark.parametrize("width", [320, 1280, 3840])
+def test_who_is_signed_out_sees_why_and_nothing_of_the_day(page, width):
+    """Also where the panel in which one signs in covers the page."""
+    shown = page(DESKS, day=QUIET)
+    shown.allowed += DENIED
+    size(shown.driver, width, 640)
+    shown.open(ready=False)
+    shown.says("#conn", "Signed out.")
+    sign_in(shown, "ground-2")
+    shown.is_ready()
+    date, title = shown.text("#date"), shown.driver.title
+    assert date == "Mon 10 Mar 2025" and title == "00:00 Start-up board"
+    shown.server.write_desks({name: table for name, table in DESKS.items() if name != "ground-2"})
+    shown.server.process.send_signal(signal.SIGHUP)
+    shown.says("#conn", "Signed out. ground-2’s token isn’t taken any more.", seconds=3 * FACTOR)
+    shown.until("return document.activeElement.name === 'desk'")
+    assert shown.js("""const range = document.createRange();
+        range.selectNodeContents(document.querySelector('#conn [role=status]'));
+        return [...range.getClientRects()].filter((box) => !document.elementFromPoint((box.left + box.right) / 2, (box.top + box.bottom) / 2)?.closest('.conn')).length""") == 0
+    assert shown.driver.title == "Start-up board" and not shown.find("#date").is_displayed()
+    sign_in(shown, "wall")
+    shown.until("return document.title === arguments[0]", title)
+    assert shown.find("#date").is_displayed()
 
 
 def test_a_new_token_ends_a_session_at_once(page):

@@ -482,6 +482,27 @@ def test_the_end_of_a_panel_is_seen_while_the_connection_is_lost(page):
         return end.bottom <= over.top;""")
 
 
+@pytest.mark.parametrize("width", [900, 1280, 1920, 3840])
+def test_a_date_of_next_stays_with_its_time(page, width):
+    """At 23:20 there are times of the second day among the next start-ups: 11 00:15."""
+    shown = page()
+    fill(shown.server, {"ATC": [f"CLOCK,{at('23:20')}"], "AO": ["TOBT,DLH1,2025-03-11T00:00Z"], "NM": ["CTOT,DLH1,2025-03-11T00:20Z"]})
+    size(shown.driver, width, 900)
+    shown.open()
+    dates = r"""const found = [];
+        for (const cell of document.querySelectorAll('#next tr[data-flight=DLH1] td:is(.c-tobt,.c-ctot,.c-ttot)')) {
+          const range = document.createRange();
+          range.selectNodeContents(cell);
+          const lines = new Set([...range.getClientRects()].map((box) => box.top)).size;
+          if (/^11 \d\d:\d\d$/.test(cell.innerText)) found.push([lines, cell.scrollWidth <= cell.clientWidth]);
+        }
+        return found;"""
+    assert shown.js(dates) == [[1, True]] * 3 and shown.js(CLIPPED) == []
+    shown.server.post("TOBT,DLH1,2025-03-10T23:30Z", Cdm_Role="AO")
+    shown.server.post("CTOT,DLH1,-", Cdm_Role="NM")
+    shown.until("return !document.querySelector('#next').classList.contains('dated')")
+
+
 def test_a_date_stays_with_its_time(page):
     """EZY7 waits from the end of its window to the end of the second day, 11 23:59: that isn't broken before its hour."""
     shown = page()

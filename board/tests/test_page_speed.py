@@ -1,5 +1,5 @@
 """The page over a full day: how soon it shows, how soon an event is seen, and that it never stalls. Limits are for an idle machine,
-multiplied by BOARD_PAGE_FACTOR."""
+multiplied by BOARD_PAGE_FACTOR. What is measured is the page: where the machine kept it from its work, it is measured again."""
 import json
 import time
 from concurrent.futures import ThreadPoolExecutor
@@ -7,22 +7,19 @@ from concurrent.futures import ThreadPoolExecutor
 import pytest
 from browser import FACTOR, Page
 from conftest import Server, figure
+from processors import Taken
 
 COUNT, RECORDS, RATE = 2000, 240, 20
+TASK, EVENT, PAINT = 100 * FACTOR, 100 * FACTOR, 1000 * FACTOR  # ms
+TRIES = 3
 AIRPORT = "DAY,2025-03-10\n" + "".join(f"RUNWAY,{name},10,12\n" for name in ("09", "27L", "18", "36")) + "".join(
     f"TAXI,*,{name},15\n" for name in ("09", "27L", "18", "36"))
 RUNWAYS = ("09", "27L", "18", "36")
-# What is told of long tasks, of when a chunk of events comes, and of when a row shows it.
+# What is told of long tasks.
 WATCH = r"""
-window.long = []; window.came = []; window.seen = [];
+window.long = [];
 new PerformanceObserver((list) => { for (const e of list.getEntries()) window.long.push([e.startTime, e.duration]); })
   .observe({type: 'longtask', buffered: true});
-const read = ReadableStreamDefaultReader.prototype.read;
-ReadableStreamDefaultReader.prototype.read = async function (...words) {
-  const got = await read.apply(this, words);
-  if (typeof got.value === 'string') for (const [, at] of got.value.matchAll(/"line":"TOBT,[A-Z0-9]+,[^"]+","at":"([^"]+)"/g)) window.came.push([at, performance.now()]);
-  return got;
-};
 """
 
 
@@ -62,21 +59,49 @@ def shown(request, full):
     size(driver, 1280, 900)
     page = Page(driver, full)
     watch = driver.execute_cdp_cmd("Page.addScriptToEvaluateOnNewDocument", {"source": WATCH})
-    driver.execute_cdp_cmd("Network.clearBrowserCache", {})
-    driver.get_log("browser"), driver.get_log("performance")
+    driver.get_log("browser")
     yield page
     driver.execute_cdp_cmd("Page.removeScriptToEvaluateOnNewDocument", watch)
     assert page.told() == []
     driver.get("about:blank")
 
 
+def measured(shown, measure):
+    """Measures a fresh page until all spans of one try are within their limits; each is (start, length, limit) in ms of the page's clock.
+
+    A span goes on while other processes, or other machines of the same host, have the processor that the page waits for. So a try in which that
+    explains each span that is too long is repeated, at most twice. A span that is too long without that too is the page's own: it ends the test."""
+    for number in range(1, TRIES + 1):
+        shown.driver.execute_cdp_cmd("Network.clearBrowserCache", {})
+        assert shown.told() == []
+        shown.driver.get_log("performance")
+        with Taken(shown.driver.service.process.pid) as taken:
+            shown.open()
+            shown.until("return document.querySelectorAll('#all tbody tr').length === 2000")
+            time.sleep(2)
+            spans = measure()
+        origin = shown.js("return performance.timeOrigin")
+        late = [(length, taken.within(origin + start, length), limit) for start, length, limit in spans if length >= limit]
+        if not late:
+            return
+        figure(f"try {number}: " + ", ".join(f"{length:.0f} ms, of which {lost:.0f} were taken" for length, lost, _ in late))
+        assert all(length - lost < limit for length, lost, limit in late), "the page's own work takes too long"
+    assert not late, "no try was within the limits"
+
+
+def tasks(shown):
+    """The page's long tasks, as spans; the longest one."""
+    found = [(start, length, TASK) for start, length in shown.js("return window.long")]
+    return found, max((length for _, length, _ in found), default=0)
+
+
 def test_a_full_day_at_first(shown):
-    shown.open()
-    shown.until("return document.querySelectorAll('#all tbody tr').length === 2000")
-    paint = shown.js("return performance.getEntriesByName('first-contentful-paint')[0].startTime")
-    rows = shown.js("return window.long.map((l) => l[1])")
-    figure(f"page, {COUNT} flights: first paint {paint:.0f} ms, longest task {max(rows, default=0):.0f} ms")
-    assert paint < 1000 * FACTOR and max(rows, default=0) < 100 * FACTOR
+    def at_first():
+        paint = shown.js("return performance.getEntriesByName('first-contentful-paint')[0].startTime")
+        found, longest = tasks(shown)
+        figure(f"page, {COUNT} flights: first paint {paint:.0f} ms, longest task {longest:.0f} ms")
+        return [(0, paint, PAINT), *found]
+    measured(shown, at_first)
     # What went over the wire, besides the plan.
     messages = [json.loads(line["message"])["message"] for line in shown.driver.get_log("performance")]
     paths = {message["params"]["requestId"]: message["params"]["request"]["url"] for message in messages if message["method"] == "Network.requestWillBeSent"}
@@ -94,45 +119,54 @@ def test_a_full_day_at_first(shown):
     assert sum(ours.values()) <= 100_000, sorted(ours.items(), key=lambda one: -one[1])[:12]
 
 
-def test_twenty_records_a_second(shown):
-    shown.open()
-    shown.until("return document.querySelectorAll('#all tbody tr').length === 2000")
-    time.sleep(2)
-    shown.js("""window.long.length = 0; window.came.length = 0; window.shown = new Map();
-        new MutationObserver((list) => requestAnimationFrame(() => { const now = performance.now();
-          for (const {target} of list) { const row = (target.closest ? target : target.parentElement)?.closest?.('tr[data-flight]');
-            if (row) { const key = `${row.dataset.flight} ${row.cells[5].textContent}`; if (!window.shown.has(key)) window.shown.set(key, now); } } }))
-        .observe(document.querySelector('#all'), {subtree: true, childList: true, characterData: true});
-        window.cameOf = new Map();
-        const read = ReadableStreamDefaultReader.prototype.read;
-        ReadableStreamDefaultReader.prototype.read = async function (...words) {
-          const got = await read.apply(this, words);
-          if (typeof got.value === 'string') for (const [, name, time] of got.value.matchAll(/"line":"TOBT,([A-Z0-9]+),\\d{4}-\\d\\d-\\d\\dT(\\d\\d:\\d\\d)Z"/g)) window.cameOf.set(`${name} ${time}`, performance.now());
-          return got;
-        };""")
+# When the event of a TOBT came, and when its row showed it, by flight and time.
+FOLLOW = r"""window.long.length = 0; window.shown = new Map(); window.cameOf = new Map();
+new MutationObserver((list) => requestAnimationFrame(() => { const now = performance.now();
+  for (const {target} of list) { const row = (target.closest ? target : target.parentElement)?.closest?.('tr[data-flight]');
+    if (row) { const key = `${row.dataset.flight} ${row.cells[5].textContent}`; if (!window.shown.has(key)) window.shown.set(key, now); } } }))
+.observe(document.querySelector('#all'), {subtree: true, childList: true, characterData: true});
+const read = ReadableStreamDefaultReader.prototype.read;
+ReadableStreamDefaultReader.prototype.read = async function (...words) {
+  const got = await read.apply(this, words);
+  if (typeof got.value === 'string') for (const [, name, time] of got.value.matchAll(/"line":"TOBT,([A-Z0-9]+),\d{4}-\d\d-\d\dT(\d\d:\d\d)Z"/g))
+    window.cameOf.set(`${name} ${time}`, performance.now());
+  return got;
+};"""
+
+
+def sent(server, shift):
+    """Sends TOBTs at their rate, each when it is due, whatever the replies of those before it take; what changed, and how many seconds it took."""
     posted = []
 
     def post(number):
-        """The record that is due at its own time, whatever the replies of those before it take."""
         time.sleep(max(0, began + number / RATE - time.monotonic()))
-        name, minute = name_of(400 + number * 7), 420 + number % 300
-        reply = shown.server.post(f"TOBT,{name},{at(minute)}", Cdm_Role="AO")[0]
+        name, minute = name_of(400 + number * 7), 420 + shift + number % 300
+        reply = server.post(f"TOBT,{name},{at(minute)}", Cdm_Role="AO")[0]
         if reply["reply"] == "ACCEPTED" and reply["changes"]:
             posted.append((f"{name} {minute // 60:02}:{minute % 60:02}", len(reply["changes"])))
     began = time.monotonic()
     with ThreadPoolExecutor(12) as pool:
         list(pool.map(post, range(RECORDS)))
-    seconds = time.monotonic() - began
-    time.sleep(1.5)
-    came, seen = shown.js("return [Object.fromEntries(window.cameOf), Object.fromEntries(window.shown)]")
-    waits = sorted(seen[key] - came[key] for key, rows in posted if key in came and key in seen and rows <= 100)
-    assert len(waits) > 100, (len(posted), len(came), len(seen), posted[:3], list(came)[:3], list(seen)[:3])
-    tasks = shown.js("return window.long.map((l) => l[1])")
-    figure(f"page, {COUNT} flights, {RECORDS / seconds:.0f} records a second: an event is shown in {waits[len(waits) // 2]:.0f} ms at the median, "
-           f"{waits[-1]:.0f} ms at most ({len(waits)} events); longest task {max(tasks, default=0):.0f} ms")
-    assert RECORDS / seconds > 0.9 * RATE / FACTOR
-    assert waits[len(waits) // 2] < 100 * FACTOR / 2 and waits[-1] < 100 * FACTOR
-    assert max(tasks, default=0) < 100 * FACTOR
+    return posted, time.monotonic() - began
+
+
+def test_twenty_records_a_second(shown):
+    shifts = iter(range(TRIES))
+
+    def followed():
+        shown.js(FOLLOW)
+        posted, seconds = sent(shown.server, next(shifts))
+        time.sleep(1.5)
+        came, seen = shown.js("return [Object.fromEntries(window.cameOf), Object.fromEntries(window.shown)]")
+        events = sorted((seen[key] - came[key], came[key]) for key, rows in posted if key in came and key in seen and rows <= 100)
+        assert len(events) > 100, (len(posted), len(came), len(seen), posted[:3], list(came)[:3], list(seen)[:3])
+        found, longest = tasks(shown)
+        (median, at_median), (most, _) = events[len(events) // 2], events[-1]
+        figure(f"page, {COUNT} flights, {RECORDS / seconds:.0f} records a second: an event is shown in {median:.0f} ms at the median, "
+               f"{most:.0f} ms at most ({len(events)} events); longest task {longest:.0f} ms")
+        assert RECORDS / seconds > 0.9 * RATE / FACTOR
+        return [*found, (at_median, median, EVENT / 2), *((start, length, EVENT) for length, start in events)]
+    measured(shown, followed)
     # And it is the plan's day in the end.
     plan = {row["flight"]: row["tsat"] for row in json.loads(shown.server.get("/v1/plan.json").body)["flights"]}
     hm = lambda time: time[11:16] if time and time.startswith("2025-03-10") else f"{time[8:10]} {time[11:16]}" if time else "–"
@@ -144,22 +178,21 @@ def test_twenty_records_a_second(shown):
 
 def test_a_day_that_is_read_anew(shown):
     """A CLOCK that moves more flights than an event may have: the whole plan is asked for, and no task is long."""
-    shown.open()
-    shown.until("return document.querySelectorAll('#all tbody tr').length === 2000")
-    time.sleep(2)
-    shown.js("window.long.length = 0; performance.clearResourceTimings()")
-    now = json.loads(shown.server.get("/v1/plan.json").body)["now"]
-    minute = int(now[11:13]) * 60 + int(now[14:16]) + 5
-    reply = shown.server.post(f"CLOCK,{at(minute)}", Cdm_Role="ATC")[0]
-    began = time.monotonic()
-    assert len(reply["changes"]) > 100
-    shown.says(".now", f"NOW UTC {minute // 60:02}:{minute % 60:02}")
-    plan = {row["flight"]: row["tsat"] for row in json.loads(shown.server.get("/v1/plan.json").body)["flights"]}
-    last = max((row for row in reply["changes"] if row["tsat"]), key=lambda row: (row["tsat"], row["flight"]))
-    shown.until("return document.querySelector(`#all tr[data-flight=${arguments[0]}]`).cells[0].textContent === arguments[1]", last["flight"],
-                plan[last["flight"]][11:16])
-    seconds = time.monotonic() - began
-    time.sleep(2)
-    tasks = shown.js("return window.long.map((l) => l[1])")
-    figure(f"page, {COUNT} flights, a CLOCK that changes {len(reply['changes'])}: shown in {seconds * 1000:.0f} ms, longest task {max(tasks, default=0):.0f} ms")
-    assert max(tasks, default=0) < 100 * FACTOR
+    def anew():
+        shown.js("window.long.length = 0; performance.clearResourceTimings()")
+        now = json.loads(shown.server.get("/v1/plan.json").body)["now"]
+        minute = int(now[11:13]) * 60 + int(now[14:16]) + 5
+        reply = shown.server.post(f"CLOCK,{at(minute)}", Cdm_Role="ATC")[0]
+        began = time.monotonic()
+        assert len(reply["changes"]) > 100
+        shown.says(".now", f"NOW UTC {minute // 60:02}:{minute % 60:02}")
+        plan = {row["flight"]: row["tsat"] for row in json.loads(shown.server.get("/v1/plan.json").body)["flights"]}
+        last = max((row for row in reply["changes"] if row["tsat"]), key=lambda row: (row["tsat"], row["flight"]))
+        shown.until("return document.querySelector(`#all tr[data-flight=${arguments[0]}]`).cells[0].textContent === arguments[1]", last["flight"],
+                    plan[last["flight"]][11:16])
+        seconds = time.monotonic() - began
+        time.sleep(2)
+        found, longest = tasks(shown)
+        figure(f"page, {COUNT} flights, a CLOCK that changes {len(reply['changes'])}: shown in {seconds * 1000:.0f} ms, longest task {longest:.0f} ms")
+        return found
+    measured(shown, anew)
