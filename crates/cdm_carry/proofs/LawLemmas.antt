@@ -49,7 +49,7 @@ goes_on-flight a f (update.Cnl g) e = let same : g ≡ f = cc e in ap (stays a) 
 
 -- The updates of a flight that stays are all carried, in their order.
 
-abbrev is_of : List ℕ → Update → Bool
+abbrev pub is_of : List ℕ → Update → Bool
 is_of f u = same_reach (reach_of u) (reach.Flight f)
 
 one_carried : (a : List Update) (f : List ℕ) (p : Role × Update) (later : List (Role × Update)) (rest : List Update) → stays a f ≡ true → own later f ≡ map moved rest
@@ -70,7 +70,7 @@ own_carried a (p ∷ later) f stay =
 -- Last values.
 
 -- a value that an update keeps when it is moved
-kept : {X : Type 0} (given : Update → Option X) → ((u : Update) → given (moved u) ≡ given u) → (us : List Update) → last_value given (map moved us) ≡ last_value given us
+pub kept : {X : Type 0} (given : Update → Option X) → ((u : Update) → given (moved u) ≡ given u) → (us : List Update) → last_value given (map moved us) ≡ last_value given us
 kept {X} given same us =
     fold-map (λ (before : Option X) u. option_or (given u) before) moved None us ∙ λ i. fold (λ (before : Option X) u. option_or (same u i) before) None us
 
@@ -86,7 +86,7 @@ moved_from {X} {Y} h given start (u ∷ us) =
     ap (λ (o : Option Y). fold (λ (before : Option Y) v. option_or (option_map h (given v)) before) o us) (either_moved h (given u) start)
     ∙ moved_from h given (option_or (given u) start) us
 
-moved_value : {X : Type 0} (h : X → X) (given : Update → Option X) → ((u : Update) → given (moved u) ≡ option_map h (given u)) → (us : List Update)
+pub moved_value : {X : Type 0} (h : X → X) (given : Update → Option X) → ((u : Update) → given (moved u) ≡ option_map h (given u)) → (us : List Update)
     → last_value given (map moved us) ≡ option_map h (last_value given us)
 moved_value {X} h given same us =
     fold-map (λ (before : Option X) u. option_or (given u) before) moved None us
@@ -98,15 +98,15 @@ of_priority (update.Flt f p) = refl
 of_priority (update.Prio f p) = refl
 of_priority u = refl
 
-of_stand : (u : Update) → stand_given (moved u) ≡ stand_given u
+pub of_stand : (u : Update) → stand_given (moved u) ≡ stand_given u
 of_stand (update.Stand f s) = refl
 of_stand u = refl
 
-of_runway : (u : Update) → runway_given (moved u) ≡ runway_given u
+pub of_runway : (u : Update) → runway_given (moved u) ≡ runway_given u
 of_runway (update.Rwy f r) = refl
 of_runway u = refl
 
-of_ice : (u : Update) → ice_given (moved u) ≡ ice_given u
+pub of_ice : (u : Update) → ice_given (moved u) ≡ ice_given u
 of_ice (update.Ice f i) = refl
 of_ice u = refl
 
@@ -122,11 +122,11 @@ of_ctot : (u : Update) → ctot_given (moved u) ≡ option_map (option_map next_
 of_ctot (update.Ctot f c) = refl
 of_ctot u = refl
 
-of_aobt : (u : Update) → aobt_given (moved u) ≡ option_map next_minute (aobt_given u)
+pub of_aobt : (u : Update) → aobt_given (moved u) ≡ option_map next_minute (aobt_given u)
 of_aobt (update.Off f m) = refl
 of_aobt u = refl
 
-of_atot : (u : Update) → atot_given (moved u) ≡ option_map next_minute (atot_given u)
+pub of_atot : (u : Update) → atot_given (moved u) ≡ option_map next_minute (atot_given u)
 of_atot (update.Air f m) = refl
 of_atot u = refl
 

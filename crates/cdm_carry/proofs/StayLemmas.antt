@@ -16,7 +16,7 @@ use Rattle.cdm_plan.proofs.JournalFacts.{flight_named}
 use Rattle.cdm_plan.specs.{Day.DayRecord, Sound.IsSound}
 use Rattle.cdm_day.proofs.BatchLemmas.{accepted-keeps}
 use Rattle.cdm_carry.specs.Carry.{left_before, stays}
-use Rattle.cdm_carry.specs.inner.Leaving.{LeaveOnce, stays_by}
+use Rattle.cdm_carry.specs.{Notices.stays_by, inner.Leaving.LeaveOnce}
 
 -- Updates that no word refuses.
 

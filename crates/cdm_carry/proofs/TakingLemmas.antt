@@ -1,38 +1,86 @@
--- The records that a day accepts, from its replies.
-use Rattle.std.proofs.Common.{◌≡◌, ◌<◌, ◌++◌, subst, Bool, true, false, All, List, [], ◌∷◌, Option, None, Some, refl, sym, ap, map, length, arith}
-use Rattle.cdm_flight.specs.Accepted.{after_one, refusal, replies_to}
+-- The records that a day takes, one after another.
+use Rattle.std.proofs.Common.{◌≡◌, ◌<◌, ◌+◌, ◌++◌, ◌∙◌, ℕ, subst, Bool, true, false, All, List, [], ◌∷◌, Option, None, Some, Ok, Err, refl, sym, ap, append_assoc}
+use Rattle.cdm_flight.specs.Accepted.{accepted, after_one, refusal}
 use Rattle.cdm_flight.specs.Journal.{AirportRows}
 use Rattle.cdm_flight.specs.declared.{role.Role.Role, update.Update.Update, word.RefusalWord.RefusalWord}
 use Rattle.std.proofs.lemmas.List.Elements.{All-cons, All-head, All-nil, All-push, All-tail}
-use Rattle.std.specs.Prelude.{is_none, if◌then◌else◌}
-use Rattle.cdm_day.specs.{Replies.reply_of, declared.reply.Reply.Reply}
-use Rattle.cdm_carry.specs.{Carry.taken, Texts.window_end, inner.Taking.accepted_by}
+use Rattle.std.specs.{Prelude.{is_none, if◌then◌else◌}, List.cons_option, Option.option_map}
+use Rattle.cdm_plan.specs.Day.{DayRecord}
+use Rattle.cdm_files.specs.Refused.{Spelled, updates_in}
+use Rattle.cdm_carry.specs.{Carry.taken, Notices.{Numbered, after_spelled, if_taken, numbered, refused, refused_of}, Texts.window_end}
+use Rattle.cdm_carry.specs.declared.notice.Notice.{Notice}
 
-one_more : (p : Role × Update) (o : Option RefusalWord) (later xs : List (Role × Update)) (replies : List Reply) → accepted_by later replies ≡ xs
-    → accepted_by (p ∷ later) (reply_of o ∷ replies) ≡ (if is_none o then p ∷ xs else xs)
-unfolding accepted_by
-one_more p None later xs replies is = ap (λ zs. p ∷ zs) is
-one_more p (Some word) later xs replies is = is
+-- Records.
 
--- they are those of the definition, where the replies are those of the day
-pub accepted_by_day : (g : AirportRows) (a : List Update) (records : List (Role × Update))
-    → accepted_by records (map reply_of (replies_to g a records)) ≡ taken g a records
-unfolding accepted_by taken replies_to
-accepted_by_day g a [] = refl
-accepted_by_day g a (p ∷ later) =
-    one_more p (refusal g a p.0 p.1) later (taken g (after_one g a p) later) (map reply_of (replies_to g (after_one g a p) later)) (accepted_by_day g (after_one g a p) later)
+-- what was taken so far, and what the rest will leave and give, is what all records do
+pub record TakenSoFar (first : DayRecord) (records : List (Role × Update)) (day : DayRecord) (out rest : List (Role × Update)) : Type 0 where
+  pub airport : day.airport ≡ first.airport
+  pub journal : accepted day.airport day.journal rest ≡ accepted first.airport first.journal records
+  pub given : out ++ taken day.airport day.journal rest ≡ taken first.airport first.journal records
 
-none_taken : (records : List (Role × Update)) → accepted_by records [] ≡ []
-unfolding accepted_by
-none_taken [] = refl
-none_taken (p ∷ later) = refl
+one_more : (b : Bool) (p : Role × Update) (out later : List (Role × Update))
+    → (if b then out ++ p ∷ [] else out) ++ later ≡ out ++ (if b then p ∷ later else later)
+one_more true p out later = append_assoc out (p ∷ []) later
+one_more false p out later = refl
 
--- no record is accepted without a reply
-pub no_reply : (p : Role × Update) (later : List (Role × Update)) (replies : List Reply) → length replies < 1
-    → accepted_by (p ∷ later) replies ≡ accepted_by later replies
-unfolding accepted_by
-no_reply p later [] few = sym (none_taken later)
-no_reply p later (reply ∷ replies) few = absurd (omega (arith, few))
+-- one more record
+pub taken_more : (first : DayRecord) (records : List (Role × Update)) (day next : DayRecord) (out more : List (Role × Update)) (p : Role × Update)
+    (rest : List (Role × Update)) → TakenSoFar first records day out (p ∷ rest) → next ≡ record day { journal = after_one day.airport day.journal p }
+    → more ≡ (if is_none (refusal day.airport day.journal p.0 p.1) then out ++ p ∷ [] else out) → TakenSoFar first records next more rest
+unfolding accepted taken
+taken_more first records day next out more p rest so_far is grown = record {
+  airport = ap (λ (d : DayRecord). d.airport) is ∙ so_far.airport;
+  journal = ap (λ (d : DayRecord). accepted d.airport d.journal rest) is ∙ so_far.journal;
+  given = (λ i. grown i ++ taken (is i).airport (is i).journal rest)
+      ∙ one_more (is_none (refusal day.airport day.journal p.0 p.1)) p out (taken day.airport (after_one day.airport day.journal p) rest) ∙ so_far.given;
+}
+
+-- The records of a feed, with their numbers.
+
+pub record NumberedSoFar (first : DayRecord) (records : List Spelled) (day : DayRecord) (out : List Numbered) (number : ℕ) (rest : List Spelled) : Type 0 where
+  pub airport : day.airport ≡ first.airport
+  pub journal : accepted day.airport day.journal (updates_in rest) ≡ accepted first.airport first.journal (updates_in records)
+  pub given : out ++ numbered day.airport day.journal number rest ≡ numbered first.airport first.journal 1 records
+
+spelled_more : (g : AirportRows) (a : List Update) (s : Spelled) (rest : List Spelled)
+    → accepted g (after_spelled g a s) (updates_in rest) ≡ accepted g a (updates_in (s ∷ rest))
+unfolding accepted updates_in
+spelled_more g a (Ok p) rest = refl
+spelled_more g a (Err word) rest = refl
+
+pub numbered_more : (first : DayRecord) (records : List Spelled) (day next : DayRecord) (out more : List Numbered) (number : ℕ) (s : Spelled) (rest : List Spelled)
+    → NumberedSoFar first records day out number (s ∷ rest) → next ≡ record day { journal = after_spelled day.airport day.journal s }
+    → more ≡ out ++ if_taken day.airport day.journal number s → NumberedSoFar first records next more (number + 1) rest
+unfolding numbered
+numbered_more first records day next out more number s rest so_far is grown = record {
+  airport = ap (λ (d : DayRecord). d.airport) is ∙ so_far.airport;
+  journal = ap (λ (d : DayRecord). accepted d.airport d.journal (updates_in rest)) is ∙ spelled_more day.airport day.journal s rest ∙ so_far.journal;
+  given = (λ i. grown i ++ numbered (is i).airport (is i).journal (number + 1) rest)
+      ∙ append_assoc out (if_taken day.airport day.journal number s) (numbered day.airport (after_spelled day.airport day.journal s) (number + 1) rest) ∙ so_far.given;
+}
+
+-- The records that the next airport refuses.
+
+pub record RefusedSoFar (first : DayRecord) (before : List Notice) (records : List Numbered) (day : DayRecord) (out : List Notice) (rest : List Numbered) : Type 0 where
+  pub airport : day.airport ≡ first.airport
+  pub given : out ++ refused_of day.airport day.journal rest ≡ before ++ refused_of first.airport first.journal records
+
+refused_next : (o : Option RefusalWord) (n : Numbered) (out later : List Notice)
+    → (out ++ cons_option (option_map (refused n) o) []) ++ later ≡ out ++ cons_option (option_map (refused n) o) later
+refused_next None n out later = append_assoc out [] later
+refused_next (Some word) n out later = append_assoc out (refused n word ∷ []) later
+
+pub refused_more : (first : DayRecord) (before : List Notice) (records : List Numbered) (day next : DayRecord) (out more : List Notice) (n : Numbered)
+    (rest : List Numbered) → RefusedSoFar first before records day out (n ∷ rest) → next ≡ record day { journal = after_one day.airport day.journal n.1 }
+    → more ≡ out ++ cons_option (option_map (refused n) (refusal day.airport day.journal n.1.0 n.1.1)) [] → RefusedSoFar first before records next more rest
+unfolding refused_of
+refused_more first before records day next out more n rest so_far is grown = record {
+  airport = ap (λ (d : DayRecord). d.airport) is ∙ so_far.airport;
+  given = (λ i. grown i ++ refused_of (is i).airport (is i).journal rest)
+      ∙ refused_next (refusal day.airport day.journal n.1.0 n.1.1) n out (refused_of day.airport (after_one day.airport day.journal n.1) rest) ∙ so_far.given;
+}
+
+-- Windows that end early.
 
 -- what holds of all records holds of those that are accepted
 one_more_taken : (P : Role × Update → Type 0) (b : Bool) (p : Role × Update) (rest : List (Role × Update)) → P p → All P rest → All P (if b then p ∷ rest else rest)
@@ -52,9 +100,7 @@ pub short_more : (old new : List (Role × Update)) (p : Role × Update) → new 
 short_more old new p is others one =
     subst (All (λ (q : Role × Update). window_end q.1 < 2880)) (sym is) (All-push (λ (q : Role × Update). window_end q.1 < 2880) old p others one)
 
--- what is accepted of records whose windows end early
-pub short_taken : (h : AirportRows) (carried records taken' : List (Role × Update)) → taken' ≡ taken h [] records → records ≡ carried
-    → All (λ q. window_end q.1 < 2880) carried → All (λ q. window_end q.1 < 2880) taken'
-short_taken h carried records taken' is same all =
-    let Short : Role × Update → Type 0 = λ q. window_end q.1 < 2880 in
-    subst (All Short) (sym is) (all_taken Short h [] records (subst (All Short) (sym same) all))
+pub short_numbered : (old new : List Numbered) (n : Numbered) → new ≡ old ++ n ∷ [] → All (λ q. window_end q.1.1 < 2880) old → window_end n.1.1 < 2880
+    → All (λ q. window_end q.1.1 < 2880) new
+short_numbered old new n is others one =
+    subst (All (λ (q : Numbered). window_end q.1.1 < 2880)) (sym is) (All-push (λ (q : Numbered). window_end q.1.1 < 2880) old n others one)

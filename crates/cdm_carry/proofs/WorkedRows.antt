@@ -1,6 +1,6 @@
 -- The definitions of the next day, computed on worked examples: a flight AB1 on runway 27L, planned for the next day, and
 -- what else may happen in the old one.
-use Rattle.std.{proofs.Common.{◌≡◌, ℕ, List, [], ◌∷◌, ◌++◌, Option, None, Some, refl, map}, specs.Prelude.codes}
+use Rattle.std.{proofs.Common.{◌≡◌, ℕ, List, [], ◌∷◌, ◌++◌, Option, None, Some, Ok, Err, refl, map}, specs.Prelude.codes}
 use Rattle.cdm_flight.specs.declared.{role.Role.Role, update.Update.Update}
 use Rattle.cdm_flight.specs.Journal.{AirportRows, exot_of, flight_of, values_of}
 use Rattle.cdm_flight.specs.Accepted.{refusal, refusal_of}
@@ -9,11 +9,14 @@ use Rattle.cdm_flight.specs.declared.role.Role.TheVariants as role
 use Rattle.cdm_flight.specs.declared.update.Update.TheVariants as update
 use Rattle.cdm_time.specs.{Times.{date_text, stamp, time_text}, declared.calendar.CalendarDate.CalendarDate}
 use Rattle.cdm_flight.specs.declared.flight.{Flight.Flight, Status.Status}
-use Rattle.cdm_flight.specs.declared.flight.Status.TheVariants.{OffBlock, Planned}
+use Rattle.cdm_flight.specs.declared.flight.Status.TheVariants.{Airborne, Cancelled, OffBlock, Planned}
 use Rattle.cdm_flight.specs.Record.{fresh}
 use Rattle.cdm_carry.specs.Carry.{carried_all, taken}
 use Rattle.cdm_carry.specs.Texts.{feed_text, fields_text, record_text}
-use Rattle.cdm_carry.specs.Told.{earlier_lines, left_line, refused_line}
+use Rattle.cdm_carry.specs.NoticeTexts.{notice_line}
+use Rattle.cdm_carry.specs.Notices.{Numbered, counts, earlier, left, numbered, refused_of}
+use Rattle.cdm_carry.specs.declared.notice.Notice.TheVariants as notice
+use Rattle.cdm_report.specs.Columns.{time_column}
 use Rattle.cdm_flight.specs.declared.word.RefusalWord.TheVariants as word
 use Rattle.std.specs.Fmt.{decimal}
 
@@ -69,14 +72,14 @@ lasting : next (atc (update.Clock 1439) ++ atc (update.Rate r27 1800 2880 1) ++ 
 lasting = refl
 
 -- a planned flight with an earlier TOBT or CTOT has the first minute of the next day in its place; a CTOT that is taken back is itself
-earlier : next (planned cd2 1420 ++ (role.NetworkManager, update.Ctot cd2 (Some 1430)) ∷ (role.NetworkManager, update.Ctot cd2 None) ∷ [])
+first_minute : next (planned cd2 1420 ++ (role.NetworkManager, update.Ctot cd2 (Some 1430)) ∷ (role.NetworkManager, update.Ctot cd2 None) ∷ [])
     ≡ planned cd2 0 ++ (role.NetworkManager, update.Ctot cd2 (Some 0)) ∷ (role.NetworkManager, update.Ctot cd2 None) ∷ []
-earlier = refl
+first_minute = refl
 
 -- a flight that left its stand in the next day goes on with its OFF and AIR, and with what came before them
-left : next (planned ab1 1560 ++ atc (update.Off ab1 1560) ++ atc (update.Taxi place.Default r27 40) ++ atc (update.Air ab1 1580))
+left_in_it : next (planned ab1 1560 ++ atc (update.Off ab1 1560) ++ atc (update.Taxi place.Default r27 40) ++ atc (update.Air ab1 1580))
     ≡ planned ab1 120 ++ atc (update.Off ab1 120) ++ atc (update.Taxi place.Default r27 40) ++ atc (update.Air ab1 140)
-left = refl
+left_in_it = refl
 
 -- where the next airport hasn't the runway, it accepts the FLT and the TOBT alone
 no_runway : (h : AirportRows) → h.runways ≡ []
@@ -109,18 +112,47 @@ planned_text = refl
 abbrev known : List ℕ → Option ℕ → Status → Flight
 known f tobt status = record (fresh f 5) { tobt = tobt; runway = Some r27; status = status }
 
-left_told : left_line march_10 (known cd2 (Some 1320) (OffBlock 1320 15)) ≡ codes "LEFT    CD2 27L AOBT 102200 TTOT 102215\n"
-unfolding left_line stamp
-left_told = refl
+-- LEFT: it has left its stand before the next day
+is_left : left (known cd2 (Some 1320) (OffBlock 1320 15)) ≡ Some (notice.Left cd2 r27 1320 1335)
+is_left = refl
 
-left_later : left_line march_10 (known ab1 (Some 1560) (OffBlock 1560 15)) ≡ []
-unfolding left_line
+left_later : left (known ab1 (Some 1560) (OffBlock 1560 15)) ≡ None
 left_later = refl
 
-earlier_told : earlier_lines march_10 (known cd2 (Some 1420) Planned) ≡ codes "EARLIER CD2 TOBT 102340\n"
-unfolding earlier_lines stamp
-earlier_told = refl
+-- EARLIER: a planned flight with a TOBT at 23:40
+is_earlier : earlier (known cd2 (Some 1420) Planned) ≡ notice.EarlierTobt cd2 1420 ∷ []
+unfolding earlier
+is_earlier = refl
 
-refused_told : refused_line march_11 (2, (role.AirTrafficControl, update.Rwy ab1 r27)) word.Unknown ≡ codes "REFUSED " ++ (decimal 2 ++ codes " UNKNOWN ATC,RWY,AB1,27L\n")
-unfolding record_text fields_text
-refused_told = refl
+-- REFUSED: where the next airport hasn't the runway, by its number in the feed
+abbrev with_numbers : List Numbered
+with_numbers = (1, (role.AirportOperator, update.Flt ab1 5)) ∷ (2, (role.AirTrafficControl, update.Rwy ab1 r27)) ∷ (3, (role.AircraftOperator, update.Tobt ab1 360)) ∷ []
+
+is_refused : (h : AirportRows) → h.runways ≡ [] → refused_of h [] with_numbers ≡ notice.Refused 2 word.Unknown role.AirTrafficControl (update.Rwy ab1 r27) ∷ []
+unfolding refused_of refusal refusal_of exot_of flight_of values_of
+is_refused h none = rw none refl
+
+-- a record that the old airport refuses has a number, and isn't there
+after_a_refused_one : (g : AirportRows) → numbered g [] 1 (Err word.Role ∷ Ok (role.AirportOperator, update.Flt ab1 5) ∷ [])
+    ≡ (2, (role.AirportOperator, update.Flt ab1 5)) ∷ []
+unfolding numbered refusal refusal_of exot_of flight_of values_of
+after_a_refused_one g = refl
+
+-- GONE and STAY
+counted : counts (known cd2 (Some 1320) (Airborne 1320 1335) ∷ known ab1 (Some 1560) (OffBlock 1560 15) ∷ known cd2 (Some 1320) (OffBlock 1320 15) ∷ known ab1 None Cancelled ∷ [])
+    ≡ notice.Gone 2 ∷ notice.Stay 1 ∷ []
+counted = refl
+
+-- the lines
+left_line : notice_line march_10 march_11 (notice.Left cd2 r27 1320 1335) ≡ codes "LEFT    CD2 27L AOBT 102200 TTOT 102215\n"
+unfolding notice_line time_column stamp
+left_line = refl
+
+earlier_line : notice_line march_10 march_11 (notice.EarlierTobt cd2 1420) ≡ codes "EARLIER CD2 TOBT 102340\n"
+unfolding notice_line time_column stamp
+earlier_line = refl
+
+refused_line : notice_line march_10 march_11 (notice.Refused 2 word.Unknown role.AirTrafficControl (update.Rwy ab1 r27))
+    ≡ codes "REFUSED " ++ (decimal 2 ++ codes " UNKNOWN ATC,RWY,AB1,27L\n")
+unfolding notice_line record_text fields_text
+refused_line = refl

@@ -6,7 +6,9 @@ use Rattle.cdm_files.specs.AirportFile.{airport_in}
 use Rattle.cdm_files.specs.Readings.{AreRead, IsFailed, IsRead, IsTooLong, IsUnfailed, Reading}
 use Rattle.cdm_files.specs.declared.common_fault.CommonFault.TheVariants as common
 use Rattle.cdm_files.specs.declared.common_fault.Input.TheVariants as input
-use Rattle.cdm_carry.specs.CarriedFeed.{IsCarriedFeed, IsNextDay}
+use Rattle.cdm_carry.specs.CarriedFeed.{IsNextDay}
+use Rattle.cdm_carry.specs.Noticed.{IsCarryText}
+use Rattle.cdm_carry.specs.declared.carry_text.CarryText.{CarryText}
 use Rattle.cdm_carry.specs.declared.carry_error.OtherDay.{OtherDay}
 use Rattle.cdm_carry.specs.declared.carry_error.CarryError.{CarryError}
 use Rattle.cdm_carry.specs.declared.carry_error.CarryError.TheVariants as error
@@ -30,9 +32,9 @@ pub record OfGiven (a f n : Reading) (Holds : List ℕ → List ℕ → List ℕ
   pub of_next : n.Gave next
   pub holds : Holds airport feed next
 
--- there is a feed of the next day
-abbrev pub HaveFeed : List ℕ → List ℕ → List ℕ → Type 0
-HaveFeed airport feed next = (text : List ℕ) × IsCarriedFeed airport feed next text
+-- there is a text of what is asked for
+abbrev pub HaveText : CarryText → List ℕ → List ℕ → List ℕ → Type 0
+HaveText asked airport feed next = (care : Bool) × (text : List ℕ) × IsCarryText asked care airport feed next text
 
 -- the airport file is accepted, and this is the first faulty record of the next one
 abbrev pub IsFaultyNext : ℕ → RefusalWord → List ℕ → List ℕ → Type 0
@@ -45,18 +47,18 @@ AreOtherDays days airport next =
     × (days ≡ record { day = g.day; next = h.day }) × (¬ IsNextDay g.day h.day)
 
 -- the first fault: three inputs are read in their order, then the records of the airport file are asked, then those of the next
--- one, then the days are compared, and then, where all this is good, the feed is written. Want of memory may come anywhere
+-- one, then the days are compared, and then, where all this is good, the text is written. Want of memory may come anywhere
 -- before the writing, but not in place of a failed read or of an input that is too long.
-abbrev pub IsFirstFault : Reading → Reading → Reading → CarryError → Type 0
-IsFirstFault a f n (error.Common (common.Read name)) = HoldsOfTwo a f n (IsFailed name)
-IsFirstFault a f n (error.Common (common.TooLong name)) = HoldsOfTwo a f n (IsTooLong name)
-IsFirstFault a f n (error.Common (common.Airport number word)) = OfGiven a f n (λ x y z. airport_in x ≡ Err (number, word))
-IsFirstFault a f n (error.Common common.Memory) = IsUnfailed a × IsUnfailed f × IsUnfailed n
-IsFirstFault a f n (error.Common common.Write) = OfGiven a f n HaveFeed
-IsFirstFault a f n error.NextRead = HoldsOfNext a f n (IsFailed input.Airport)
-IsFirstFault a f n error.NextTooLong = HoldsOfNext a f n (IsTooLong input.Airport)
-IsFirstFault a f n (error.NextRecord number word) = OfGiven a f n (λ x y z. IsFaultyNext number word x z)
-IsFirstFault a f n (error.NextDay days) = OfGiven a f n (λ x y z. AreOtherDays days x z)
+abbrev pub IsFirstFault : CarryText → Reading → Reading → Reading → CarryError → Type 0
+IsFirstFault asked a f n (error.Common (common.Read name)) = HoldsOfTwo a f n (IsFailed name)
+IsFirstFault asked a f n (error.Common (common.TooLong name)) = HoldsOfTwo a f n (IsTooLong name)
+IsFirstFault asked a f n (error.Common (common.Airport number word)) = OfGiven a f n (λ x y z. airport_in x ≡ Err (number, word))
+IsFirstFault asked a f n (error.Common common.Memory) = IsUnfailed a × IsUnfailed f × IsUnfailed n
+IsFirstFault asked a f n (error.Common common.Write) = OfGiven a f n (HaveText asked)
+IsFirstFault asked a f n error.NextRead = HoldsOfNext a f n (IsFailed input.Airport)
+IsFirstFault asked a f n error.NextTooLong = HoldsOfNext a f n (IsTooLong input.Airport)
+IsFirstFault asked a f n (error.NextRecord number word) = OfGiven a f n (λ x y z. IsFaultyNext number word x z)
+IsFirstFault asked a f n (error.NextDay days) = OfGiven a f n (λ x y z. AreOtherDays days x z)
 
 -- the writer failed
 abbrev pub is_write_fault : {T : Type 0} → Result T CarryError → Bool

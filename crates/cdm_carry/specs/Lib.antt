@@ -1,7 +1,9 @@
 pub mod Carry
 pub mod Texts
-pub mod Told
+pub mod Notices
+pub mod NoticeTexts
 pub mod Laws
 pub mod CarriedFeed
+pub mod Noticed
 pub mod CarryFaults
 pub mod inner

@@ -1,23 +1,32 @@
-//! A whole run that carries a day over, from the bytes of its inputs to the bytes of its feed.
-ghost use Rattle.std.specs.Prelude.{◌≡◌, ℕ, List, take, false, IfOk, IfErr, IfSome, OnOk, OnErr, IsErrOf, Ok};
+//! A whole run that carries a day over, from the bytes of its inputs to the bytes of its text.
+ghost use Rattle.std.specs.Prelude.{◌≡◌, ℕ, Bool, List, take, false, IfOk, IfErr, IfSome, OnOk, OnErr, IsErrOf, Ok};
 ghost use Rattle.std.specs.Io.KnownBytes.{Appends};
 ghost use Rattle.cdm_files.specs.AirportFile.{airport_in};
 ghost use Rattle.cdm_files.specs.Device.{Passes};
 ghost use Rattle.cdm_files.specs.Readings.{AreRead, IfTold, IsRead, Passed, reading};
-ghost use Rattle.cdm_carry.specs.CarriedFeed.{IsCarriedFeed, IsNextDay};
+ghost use Rattle.cdm_files.specs.Refused.{updates_in};
+ghost use Rattle.cdm_carry.specs.Carry.{carry};
+ghost use Rattle.cdm_carry.specs.CarriedFeed.{IsNextDay};
 ghost use Rattle.cdm_carry.specs.CarryFaults.{IsFirstFault, is_write_fault};
-ghost use Rattle.cdm_carry.specs.inner.RunSteps.{IsFirstInputFault, IsNextAirportFault, IsNextInputFault, IsRecordFault};
+ghost use Rattle.cdm_carry.specs.Noticed.{IsCarryText};
+ghost use Rattle.cdm_carry.specs.Texts.{feed_text};
+ghost use Rattle.cdm_carry.specs.inner.RunSteps.{AreMade, IsFirstInputFault, IsNextAirportFault, IsNextInputFault, IsRecordFault};
 
 use crate::carry_error::{CarryError, OtherDay};
+use crate::carry_text::CarryText;
 use crate::carrying::carry_of;
+use crate::notice::Notice;
+use crate::noticed::{notices_of, notices_text};
 use crate::writing::feed_text;
 use cdm_day::Airport;
 use cdm_files::{
     CommonFault, Device, FileFault, Input, InputFault, Inputs, airport_of, read_airport, read_feed,
     read_input, read_whole, updates_of, write_text,
 };
+use cdm_flight::{RefusalWord, Role, Update};
+use cdm_kinds::Format;
 use cdm_time::{Day, Minute};
-use std::alloc::Global;
+use std::alloc::{AllocError, Global};
 use std::io::{Read, Write};
 
 // Reads the next airport file to its end, or answers `NextRead`, `NextTooLong` or `Memory`.
@@ -97,65 +106,111 @@ fn day_after(day: Day, next: Day) -> Result<Day, OtherDay>
     }
 }
 
-// The feed of the next day that whole inputs make.
-fn carried_text(alloc: Global, inputs: &Inputs) -> Result<Vec<u8>, CarryError>
-    ensures made { IfOk result (λ text. IsCarriedFeed inputs.now.airport.items inputs.now.second.items inputs.now.third.items text.items) }
+// A text, and whether a person has to see to something that it tells.
+#[derive(Drop)]
+struct Made {
+    text: Vec<u8>,
+    needs_care: bool,
+}
+
+// The feed of the next day that the records of a feed make.
+fn feed_made(
+    alloc: Global,
+    airport: Airport,
+    records: &[Result<(Role, Update), RefusalWord>],
+    next: Airport,
+) -> Result<Made, AllocError>
+    ensures text { IfOk result (λ made. made.text.items ≡ feed_text next.day (carry airport (updates_in records.now) next)) }
+    ensures care { IfOk result (λ made. made.needs_care ≡ false) }
+{
+    let day = *next.day();
+    let updates = updates_of(alloc, records)?;
+    let carried = carry_of(alloc, airport, &updates, next)?;
+    let text = feed_text(alloc, day, &carried)?;
+    Ok(Made {
+        text: text.into_bytes(),
+        needs_care: false,
+    })
+}
+
+// The text of the notices that the records of a feed make.
+fn notices_made(
+    alloc: Global,
+    format: Format,
+    airport: Airport,
+    records: &[Result<(Role, Update), RefusalWord>],
+    next: Airport,
+) -> Result<Made, AllocError>
+    ensures { IfOk result (λ made. AreMade format airport records.now next made.text.items made.needs_care) }
+{
+    let (day, next_day) = (*airport.day(), *next.day());
+    let notices = notices_of(alloc, airport, records, next)?;
+    Ok(Made {
+        text: notices_text(alloc, format, day, next_day, &notices)?,
+        needs_care: notices.iter().any(Notice::needs_care),
+    })
+}
+
+// What is asked for of whole inputs.
+fn made_of(alloc: Global, asked: CarryText, inputs: &Inputs) -> Result<Made, CarryError>
+    ensures made { IfOk result (λ made. IsCarryText asked made.needs_care inputs.now.airport.items inputs.now.second.items inputs.now.third.items made.text.items) }
     ensures fault { IfErr result (IsRecordFault inputs.now.airport.items inputs.now.third.items) }
 {
     let airport = airport_of(alloc, &inputs.airport)?;
     let next = next_airport(alloc, &inputs.third)?;
-    let day = match day_after(*airport.day(), *next.day()) {
-        Ok(day) => day,
-        Err(other) => return Err(CarryError::NextDay(other)),
+    if let Err(other) = day_after(*airport.day(), *next.day()) {
+        return Err(CarryError::NextDay(other));
+    }
+    let records = read_feed(alloc, airport.day(), &inputs.second)?;
+    let made = match asked {
+        CarryText::Feed => feed_made(alloc, airport, &records, next)?,
+        CarryText::Notices(format) => notices_made(alloc, format, airport, &records, next)?,
     };
-    let spelled = read_feed(alloc, airport.day(), &inputs.second)?;
-    let updates = updates_of(alloc, &spelled)?;
-    drop(spelled);
-    let carried = carry_of(alloc, airport, &updates, next)?;
-    let text = feed_text(alloc, day, &carried)?;
-    Ok(text.into_bytes())
+    Ok(made)
 }
 
 /// Carries a day over: reads the airport file, the feed and the next airport file, which is for the day after, and writes
-/// what the next airport has of the feed's accepted records, as a feed, one a line.
+/// what is asked for. This is what the next airport has of the feed's accepted records, as a feed, one a line; or the notices,
+/// what a person must know before the next day begins.
 ///
-/// `Ok` has read the three inputs to their ends, and has written the whole feed and flushed it. Faults in their order:
-/// `Read` and `TooLong` of the airport file and of the feed, then `NextRead` and `NextTooLong`; `Airport`, the first faulty
-/// record of the airport file and its word; `NextRecord`, the same of the next airport file; `NextDay`, where its day isn't
-/// the day after; `Memory`, wherever memory was first refused; `Write`. Before `Write` nothing was written, and at `Write`
-/// a prefix of the feed was.
+/// `Ok` has read the three inputs to their ends, and has written the whole text and flushed it; it tells whether a person has to
+/// see to something. Faults in their order: `Read` and `TooLong` of the airport file and of the feed, then `NextRead` and
+/// `NextTooLong`; `Airport`, the first faulty record of the airport file and its word; `NextRecord`, the same of the next airport
+/// file; `NextDay`, where its day isn't the day after; `Memory`, wherever memory was first refused; `Write`. Before `Write`
+/// nothing was written, and at `Write` a prefix of the text was.
 pub fn run_carry<A: Read, F: Read, N: Read, W: Write>(
     alloc: Global,
+    asked: CarryText,
     airport: &mut Device<A>,
     feed: &mut Device<F>,
     next: &mut Device<N>,
     out: &mut Device<W>,
-) -> Result<(), CarryError>
+) -> Result<bool, CarryError>
     requires airport { airport.old.failed ≡ false }
     requires feed { feed.old.failed ≡ false }
     requires next { next.old.failed ≡ false }
     requires out { out.old.failed ≡ false }
 
-    // The one feed of the three inputs was written.
-    ensures written { OnOk result
+    // The text that is asked for of the three inputs was written.
+    ensures written { IfOk result (λ care.
         (IfTold (A.remaining airport.old.inner) (F.remaining feed.old.inner) (N.remaining next.old.inner) (λ airport_file feed_file next_file.
-        (text : List ℕ) × IsCarriedFeed airport_file feed_file next_file text × Appends (W.contents out.old.inner) (W.contents out.new.inner) text)) }
+        (text : List ℕ) × IsCarryText asked care airport_file feed_file next_file text × Appends (W.contents out.old.inner) (W.contents out.new.inner) text))) }
 
-    // Whatever the readers and the writer are: the readers gave the bytes of three files, and the writer took exactly the feed
+    // Whatever the readers and the writer are: the readers gave the bytes of three files, and the writer took exactly the text
     // of these bytes, or the first part of it where a write failed.
-    ensures passed { OnOk result (Passed
-        (Passes airport.old airport.new) (Passes feed.old feed.new) (Passes next.old next.new) (Passes out.old out.new) IsCarriedFeed) }
+    ensures passed { IfOk result (λ care. Passed
+        (Passes airport.old airport.new) (Passes feed.old feed.new) (Passes next.old next.new) (Passes out.old out.new) (IsCarryText asked care)) }
     ensures passed_in_part { IsErrOf result (CarryError.Common CommonFault.Write) → Passed
         (Passes airport.old airport.new) (Passes feed.old feed.new) (Passes next.old next.new) (Passes out.old out.new)
         (λ airport_file feed_file next_file written.
-        (text : List ℕ) × IsCarriedFeed airport_file feed_file next_file text × (n : ℕ) × (written ≡ take n text)) }
+        (care : Bool) × (text : List ℕ) × IsCarryText asked care airport_file feed_file next_file text × (n : ℕ) × (written ≡ take n text)) }
 
     // The first fault is the answer, and Ok where there was none.
     ensures read { OnOk result (AreRead
         (reading Input.Airport A.remaining airport.old airport.new)
         (reading Input.Feed F.remaining feed.old feed.new)
         (reading Input.Airport N.remaining next.old next.new)) }
-    ensures fault { IfErr result (IsFirstFault
+    ensures fault { IfErr result (IsFirstFault asked
         (reading Input.Airport A.remaining airport.old airport.new)
         (reading Input.Feed F.remaining feed.old feed.new)
         (reading Input.Airport N.remaining next.old next.new)) }
@@ -163,11 +218,11 @@ pub fn run_carry<A: Read, F: Read, N: Read, W: Write>(
     ensures failed { out.new.failed ≡ is_write_fault result }
     ensures prefix { IsErrOf result (CarryError.Common CommonFault.Write) →
         IfTold (A.remaining airport.old.inner) (F.remaining feed.old.inner) (N.remaining next.old.inner) (λ airport_file feed_file next_file.
-        (text : List ℕ) × IsCarriedFeed airport_file feed_file next_file text
+        (care : Bool) × (text : List ℕ) × IsCarryText asked care airport_file feed_file next_file text
         × (n : ℕ) × Appends (W.contents out.old.inner) (W.contents out.new.inner) (take n text)) }
 {
     let inputs = read_all(alloc, airport, feed, next)?;
-    let text = carried_text(alloc, &inputs)?;
-    write_text(out, &text)?;
-    Ok(())
+    let made = made_of(alloc, asked, &inputs)?;
+    write_text(out, &made.text)?;
+    Ok(made.needs_care)
 }

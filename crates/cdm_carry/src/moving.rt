@@ -5,8 +5,8 @@ ghost use Rattle.cdm_carry.specs.Texts.{window_end};
 ghost use Rattle.cdm_carry.specs.inner.Leaving.{LeaveOnce};
 
 use crate::staying::{NEXT_DAY, stays};
-use cdm_day::DayState;
 use cdm_flight::Update;
+use cdm_scenario::Overlay;
 use cdm_time::{Bound, Minute};
 
 // The minute as the next day has it, or its first where the minute was before it.
@@ -84,7 +84,7 @@ pub(crate) fn moved(update: &Update) -> Update
 
 /// Whether an update of a day goes on: it is of a flight that stays, a window that ends after the next day begins, a CLOCK
 /// in the next day, a TAXI or a TOL.
-pub(crate) fn goes_on(day: &DayState, update: &Update) -> bool
+pub(crate) fn goes_on(day: &Overlay<'_>, update: &Update) -> bool
     requires { LeaveOnce day.now.journal }
     ensures { result ≡ goes_on day.now.journal update.now }
 {

@@ -1,93 +1,99 @@
 //! The records that an airport accepts.
-ghost use Rattle.std.specs.Prelude.{◌≡◌, ◌++◌, ◌∷◌, [], List, IfOk, OnOk, if◌then◌else◌};
-ghost use Rattle.cdm_flight.specs.declared.role.Role.{Role as ARole};
-ghost use Rattle.cdm_flight.specs.declared.update.Update.{Update as AnUpdate};
-ghost use Rattle.cdm_flight.specs.Accepted.{accepted};
+ghost use Rattle.std.specs.Prelude.{◌≡◌, ◌++◌, IfOk, OnOk};
+ghost use Rattle.cdm_flight.specs.Accepted.{accepted, after_one, refusal};
+ghost use Rattle.cdm_files.specs.Refused.{updates_in};
 ghost use Rattle.cdm_carry.specs.Carry.{taken};
-ghost use Rattle.cdm_carry.specs.inner.Taking.{accepted_by};
+ghost use Rattle.cdm_carry.specs.Notices.{after_spelled, if_taken, numbered};
 
 use cdm_day::{Airport, DayState, Reply};
-use cdm_flight::{Role, Update, push_last};
+use cdm_flight::{RefusalWord, Role, Update, allows, push_last};
+use cdm_scenario::Overlay;
 use std::alloc::{AllocError, Global};
 
-// Whether the first of these replies is that a record is accepted, and the other replies.
-#[tactic(auto, unfolding(crate::specs::inner::Taking::accepted_by))]
-fn next_reply(replies: &[Reply]) -> (bool, &[Reply])
-    ensures { (p : ARole × AnUpdate) (later : List (ARole × AnUpdate)) → accepted_by (p ∷ later) replies.now
-        ≡ (if result.0 then p ∷ [] else []) ++ accepted_by later result.1.now }
-{
-    match replies {
-        [Reply::Accepted, later @ ..] => (true, later),
-        [Reply::Refused(_), later @ ..] => (false, later),
-        [] => (false, replies),
-    }
-}
+/// A record with its number in the feed.
+pub(crate) type Numbered = (usize, (Role, Update));
 
-// One more record, if it is accepted.
-fn push_if(
-    records: &mut Vec<(Role, Update)>,
-    accepted: bool,
-    item: (Role, Update),
-) -> Result<(), AllocError>
-    ensures { OnOk result (records.new.items ≡ records.old.items ++ (if accepted then item ∷ [] else [])) }
-{
-    if accepted {
-        push_last(records, item)
-    } else {
-        Ok(())
-    }
-}
-
-// The records that these replies accept.
-#[tactic(auto, unfolding(crate::specs::inner::Taking::accepted_by))]
-fn accepted_by(
-    alloc: Global,
-    records: &[(Role, Update)],
-    replies: &[Reply],
-) -> Result<Vec<(Role, Update)>, AllocError>
-    ensures { IfOk result (λ taken. taken.items ≡ accepted_by records.now replies.now) }
-{
-    let mut taken = Vec::new(alloc);
-    let mut left = replies;
-    for record in records {
-        let (accepted, later) = next_reply(left);
-        push_if(&mut taken, accepted, *record)?;
-        left = later;
-    }
-    Ok(taken)
-}
-
-/// A day, and the records that it accepted.
-#[derive(Drop)]
-pub(crate) struct Taken {
-    /// The day.
-    pub day: DayState,
-    /// The records.
-    pub records: Vec<(Role, Update)>,
-}
-
-/// The day of an airport after these records, and those of them that it accepts.
-#[tactic(auto, using(crate::proofs::TakingLemmas::accepted_by_day))]
-pub(crate) fn take_records(
-    alloc: Global,
-    airport: Airport,
-    records: &[(Role, Update)],
-) -> Result<Taken, AllocError>
-    ensures day { IfOk result (λ t. t.day ≡ record { airport = airport; journal = accepted airport [] records.now }) }
-    ensures taken { IfOk result (λ t. t.records.items ≡ taken airport [] records.now) }
-{
-    let first = day_of(alloc, airport)?;
-    let (day, replies) = first.after(alloc, records)?;
-    let records = accepted_by(alloc, records, &replies)?;
-    Ok(Taken { day, records })
-}
-
-// The day of an airport before its first update.
-fn day_of(alloc: Global, airport: Airport) -> Result<DayState, AllocError>
+/// The day of an airport before its first update.
+pub(crate) fn day_of(alloc: Global, airport: Airport) -> Result<DayState, AllocError>
     ensures { IfOk result (λ s. s ≡ record { airport = airport; journal = [] }) }
 {
     match DayState::new(alloc, airport) {
         Ok(state) => Ok(state),
         Err(_) => Err(AllocError),
     }
+}
+
+/// Takes a record, unless a word refuses it, which is the answer.
+#[tactic(auto, unfolding(cdm_flight::specs::Accepted::refusal))]
+pub(crate) fn take_record(
+    alloc: Global,
+    day: &mut Overlay<'_>,
+    role: Role,
+    update: &Update,
+) -> Result<Option<RefusalWord>, AllocError>
+    ensures word { IfOk result (λ word. word ≡ refusal day.old.airport day.old.journal role update.now) }
+    ensures day { OnOk result (day.new ≡ record day.old { journal = after_one day.old.airport day.old.journal (role, update.now) }) }
+{
+    if !allows(role, update) {
+        return Ok(Some(RefusalWord::Authority));
+    }
+    match day.apply(alloc, update)? {
+        Reply::Accepted => Ok(None),
+        Reply::Refused(word) => Ok(Some(word)),
+    }
+}
+
+/// Takes records, and answers those that no word refuses.
+pub(crate) fn take_records(
+    alloc: Global,
+    day: &mut Overlay<'_>,
+    records: &[(Role, Update)],
+) -> Result<Vec<(Role, Update)>, AllocError>
+    ensures taken { IfOk result (λ t. t.items ≡ taken day.old.airport day.old.journal records.now) }
+    ensures day { OnOk result (day.new ≡ record day.old { journal = accepted day.old.airport day.old.journal records.now }) }
+{
+    let mut taken = Vec::new(alloc);
+    for record in records {
+        let (role, update) = *record;
+        if take_record(alloc, day, role, &update)?.is_none() {
+            push_last(&mut taken, *record)?;
+        }
+    }
+    Ok(taken)
+}
+
+// Takes what a record of the feed spells, if it spells an update, and puts it behind the others, if no word refuses it.
+fn take_spelled(
+    taken: &mut Vec<Numbered>,
+    alloc: Global,
+    day: &mut Overlay<'_>,
+    number: usize,
+    spelled: &Result<(Role, Update), RefusalWord>,
+) -> Result<(), AllocError>
+    ensures taken { OnOk result (taken.new.items ≡ taken.old.items ++ if_taken day.old.airport day.old.journal number spelled.now) }
+    ensures day { OnOk result (day.new ≡ record day.old { journal = after_spelled day.old.airport day.old.journal spelled.now }) }
+{
+    let Ok((role, update)) = spelled else {
+        return Ok(());
+    };
+    match take_record(alloc, day, *role, update)? {
+        None => push_last(taken, (number, (*role, *update))),
+        Some(_) => Ok(()),
+    }
+}
+
+/// Takes what the records of a feed spell, and answers what no word refuses, with the numbers of the records.
+pub(crate) fn take_feed(
+    alloc: Global,
+    day: &mut Overlay<'_>,
+    records: &[Result<(Role, Update), RefusalWord>],
+) -> Result<Vec<Numbered>, AllocError>
+    ensures taken { IfOk result (λ t. t.items ≡ numbered day.old.airport day.old.journal 1 records.now) }
+    ensures day { OnOk result (day.new ≡ record day.old { journal = accepted day.old.airport day.old.journal (updates_in records.now) }) }
+{
+    let mut taken = Vec::new(alloc);
+    for (place, spelled) in records.iter().enumerate() {
+        take_spelled(&mut taken, alloc, day, place + 1, spelled)?;
+    }
+    Ok(taken)
 }

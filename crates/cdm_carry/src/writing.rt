@@ -261,9 +261,14 @@ fn push_fields(text: &mut String, day: Day, update: &Update) -> Result<(), Alloc
     }
 }
 
-// Puts a record behind a text.
+/// Puts a record behind a text.
 #[tactic(auto, unfolding(crate::specs::Texts::record_text))]
-fn push_record(text: &mut String, day: Day, role: Role, update: &Update) -> Result<(), AllocError>
+pub(crate) fn push_record(
+    text: &mut String,
+    day: Day,
+    role: Role,
+    update: &Update,
+) -> Result<(), AllocError>
     requires { window_end update.now < 2880 }
     ensures { OnOk result (string_bytes text.new ≡ string_bytes text.old ++ record_text day (role, update.now)) }
 {

@@ -1,19 +1,10 @@
 -- How a flight leaves its stand.
-use Rattle.std.specs.Prelude.{◌≡◌, ℕ, Bool, true, false, not, nat_lt, List, None}
+use Rattle.std.specs.Prelude.{◌≡◌, ℕ, false, nat_lt, List, None}
 use Rattle.std.specs.List.{list_any}
 use Rattle.std.specs.Option.{option_map_or}
-use Rattle.cdm_flight.specs.declared.flight.Status.{Status}
-use Rattle.cdm_flight.specs.declared.flight.Status.TheVariants.{Planned, OffBlock, Airborne, Cancelled}
 use Rattle.cdm_flight.specs.declared.update.Update.{Update}
 use Rattle.cdm_flight.specs.Journal.{aobt_given, atot_given, last_value, of_flight}
 use Rattle.cdm_carry.specs.Carry.{left_before}
-
--- a flight of this status stays
-abbrev pub stays_by : Status → Bool
-stays_by Planned = true
-stays_by (OffBlock aobt exot) = not (nat_lt aobt 1440)
-stays_by (Airborne aobt atot) = not (nat_lt aobt 1440)
-stays_by Cancelled = false
 
 -- each flight left its stand once at most, and took off only after that
 pub record LeaveOnce (a : List Update) : Type 0 where

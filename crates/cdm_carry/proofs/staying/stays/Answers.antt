@@ -1,7 +1,7 @@
 use Rattle.std.proofs.Common.{◌∙◌, sym, ap, false}
 use Rattle.std.specs.Option.{option_map_or}
 use Rattle.cdm_flight.specs.declared.flight.Flight.{Flight}
-use Rattle.cdm_carry.specs.inner.Leaving.{stays_by}
+use Rattle.cdm_carry.specs.Notices.{stays_by}
 use Rattle.cdm_carry.proofs.StayLemmas.{stays_is}
 use Rattle.cdm_carry.proofs.staying.stays.Goals as goal
 
