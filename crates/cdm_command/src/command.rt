@@ -51,11 +51,13 @@ pub enum Command<'a> {
         feed1: &'a str,
         feed2: &'a str,
     },
-    /// Carry a day over: write what the next airport has of the accepted records of a feed, as a feed of the next day.
+    /// Carry a day over: write what the next airport has of the accepted records of a feed, as a feed of the next day; or tell
+    /// in this format what a person must know before.
     Carry {
         airport: &'a str,
         feed: &'a str,
         next: &'a str,
+        tell: Option<Format>,
     },
     /// Serve the day of an airport as it happens, with a journal. Standard input has the records.
     Serve {
@@ -85,6 +87,7 @@ impl Command<'_> {
                 airport,
                 feed,
                 next,
+                ..
             } => [Some(*airport), Some(*feed), Some(*next)],
             Command::Serve { .. } | Command::Kinds(_) | Command::Print(_) => [None; 3],
         };
@@ -153,7 +156,7 @@ fn named_in<'a>(
         Some(("serve", serve)) => serve_of(alloc, serve),
         Some(("picture", picture)) => Ok(picture_of(picture)),
         Some(("live", live)) => Ok(live_of(live)),
-        Some(("carry", carry)) => Ok(carry_of(carry)),
+        Some(("carry", carry)) => carry_of(alloc, carry),
         Some(("check", check)) => Ok(check_of(check)),
         Some(("why", why)) => why_of(alloc, why),
         Some(("load", load)) => load_of(alloc, load),
@@ -339,13 +342,30 @@ fn live_of<'a>(live: &ArgMatches<'a>) -> Option<Command<'a>> {
     })
 }
 
-// The words of `carry`, all of which the parser has seen to.
-fn carry_of<'a>(carry: &ArgMatches<'a>) -> Option<Command<'a>> {
-    Some(Command::Carry {
-        airport: carry.get_str("AIRPORT")?,
-        feed: carry.get_str("FEED")?,
-        next: carry.get_str("NEXT_AIRPORT")?,
-    })
+// What `carry` tells and how, if it writes no feed.
+fn tell_of(alloc: Global, carry: &ArgMatches<'_>) -> Result<Option<Format>, CommandFault> {
+    match (carry.get_flag("tell"), format_of(carry)) {
+        (true, format) => Ok(Some(format)),
+        (false, Format::Text) => Ok(None),
+        (false, Format::Json) => Err(missing(alloc, "--tell")?),
+    }
+}
+
+// The words of `carry`, all of which the parser has seen to but that only `--tell` has a format.
+fn carry_of<'a>(
+    alloc: Global,
+    carry: &ArgMatches<'a>,
+) -> Result<Option<Command<'a>>, CommandFault> {
+    let tell = tell_of(alloc, carry)?;
+    let (Some(files), Some(next)) = (files_of(carry, None), carry.get_str("NEXT_AIRPORT")) else {
+        return Ok(None);
+    };
+    Ok(Some(Command::Carry {
+        airport: files.airport,
+        feed: files.feed,
+        next,
+        tell,
+    }))
 }
 
 // The words of `check`, all of which the parser has seen to.

@@ -153,6 +153,7 @@ Full manual: cdmseq help | less";
 pub const CARRY_EXAMPLE: &str = "\
 Examples:
   cdmseq carry airport.csv feed.csv next_airport.csv > next_feed.csv
+  cdmseq carry airport.csv feed.csv next_airport.csv --tell
 - reads standard input in place of one file.
 Full manual: cdmseq help | less";
 
@@ -553,6 +554,13 @@ CARRY
     - CLOCK, if its time is in the next day
     - TAXI and TOL
   A record goes on only if both airports accept it.
+  With --tell it prints what to know before, in place of the feed:
+  LEFT     a flight that went off-block before the next day and isn't airborne:
+           the next day doesn't know it
+  EARLIER  a planned flight whose TOBT or CTOT was before the next day
+  REFUSED  a record that NEXT_AIRPORT doesn't accept, by its number in FEED
+  GONE     how many flights stay behind: airborne or cancelled
+  STAY     how many flights go on
 
 CHECK
   cdmseq check airport.csv feed.csv prints:
@@ -601,10 +609,10 @@ THE BOARD
   token    prints a new token, and its line for the file of the desks
 
 JSON
-  With --format json every command but picture, live, carry and help prints one
-  JSON object per line, for programs. Each object has all its members, and null
-  where there is no value. Times are written as in the files; minutes and counts
-  are numbers.
+  With --format json every command but picture, live and help prints one JSON
+  object per line, for programs; carry does so with --tell. Each object has all
+  its members, and null where there is no value. Times are written as in the
+  files; minutes and counts are numbers.
   plan     for the base plan and each scenario: scenario, day, now, placed,
            delay, max, late, blocked, rules (how many flights each rule blocks),
            flights (the columns of --format csv), refused (record, word)
@@ -619,6 +627,8 @@ JSON
   trace    for each record that is refused or changes a column of a flight:
            record, reply, and word or accepted (how many updates there are) and
            changes (those flights); if you name a flight record, fields, row
+  carry    kind, flight, runway, aobt, ttot, tobt, ctot, record, word, line,
+           flights
   check    path, line, record, word, sentence; path, hint; records, refused
   serve    ready; then for each record and question one line: record, reply, and
            the members above
@@ -634,7 +644,8 @@ STATUS
      SCENARIOS or JOURNAL is refused; FEED1 and FEED2 need more than 4096 calls;
      the flight, runway or scenario that you name is unknown, or that scenario
      is refused; NEXT_AIRPORT isn't for the day after AIRPORT's
-  4  check found a refused record
+  4  check found a refused record, or carry --tell a line LEFT, EARLIER or
+     REFUSED
   For 1 and 3 standard error has the error, as
   cdmseq: cannot read FEED (feed.csv: no such file). For an invalid record of
   AIRPORT or SCENARIOS the line of check follows, except in live, serve and

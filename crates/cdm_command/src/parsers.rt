@@ -7,7 +7,7 @@ use crate::manual::{
     PICTURE_EXAMPLE, PLAN_ABOUT, PLAN_EXAMPLE, SERVE_ABOUT, SERVE_EXAMPLE, TRACE_ABOUT,
     TRACE_EXAMPLE, VERSION, WARNINGS_ABOUT, WARNINGS_EXAMPLE, WHY_ABOUT, WHY_EXAMPLE,
 };
-use clap::{Arg, Command as Parser, value_parser};
+use clap::{Arg, ArgAction, Command as Parser, value_parser};
 use std::alloc::{AllocError, Global};
 
 /// How the output can be written.
@@ -123,11 +123,15 @@ fn live_parser<'a>(alloc: Global) -> Result<Parser<'a>, AllocError> {
 
 // The words that `carry` takes.
 fn carry_parser<'a>(alloc: Global) -> Result<Parser<'a>, AllocError> {
-    day_parser(alloc, "carry", CARRY_ABOUT, CARRY_EXAMPLE)?.arg(required_arg(
-        alloc,
-        "NEXT_AIRPORT",
-        "Airport file of the day after",
-    ))
+    let next = required_arg(alloc, "NEXT_AIRPORT", "Airport file of the day after");
+    let tell = Arg::new(alloc, "tell")
+        .long("tell")
+        .action(ArgAction::SetTrue)
+        .help("Print what to know before, in place of the feed");
+    day_parser(alloc, "carry", CARRY_ABOUT, CARRY_EXAMPLE)?
+        .arg(next)?
+        .arg(tell)?
+        .arg(format_arg(alloc, FORMATS, "with --tell: text, or json for programs"))
 }
 
 // A command about the day of a feed at an airport, with an example.

@@ -12,7 +12,7 @@ use crate::ending::Ending;
 use crate::explaining::explanation;
 use crate::files::{open, open_next, open_scenarios, shown_path, unopened};
 use crate::refused::tell_refused;
-use cdm_carry::run_carry;
+use cdm_carry::{CarryText, run_carry};
 use cdm_check::FilePaths;
 pub use cdm_command::{Command, CommandFault, DayFiles, command_of};
 use cdm_day::Airport;
@@ -161,7 +161,8 @@ where
             airport,
             feed,
             next,
-        } => carry(rt, [airport, feed, next], out, errors),
+            tell,
+        } => carry(rt, [airport, feed, next], *tell, out, errors),
         Command::Serve {
             airport,
             journal,
@@ -329,10 +330,12 @@ fn live<R: AllocGlobal + Files + io::Input + Threads + Wait + Sync, W: Write, E:
     Ok(0)
 }
 
-// Writes what the next day has of a day, as a feed, and answers the exit status.
+// Writes what the next day has of a day, as a feed, or what a person must know before. Answers the exit status: 4 where a person
+// has to see to something.
 fn carry<R: AllocGlobal + Files + io::Input, W: Write, E: Write>(
     rt: &R,
     paths: [&str; 3],
+    tell: Option<Format>,
     out: &mut Device<W>,
     errors: &mut Device<E>,
 ) -> Result<u8, Fault>
@@ -342,14 +345,18 @@ fn carry<R: AllocGlobal + Files + io::Input, W: Write, E: Write>(
     let airport = open(rt, airport, Input::Airport)?;
     let mut feed = Ending::new(open(rt, feed, Input::Feed)?);
     let next = open_next(rt, next)?;
+    let asked = match tell {
+        Some(format) => CarryText::Notices(format),
+        None => CarryText::Feed,
+    };
     let done = run_carry(
         rt.alloc(),
+        asked,
         &mut Device::new(airport),
         &mut Device::new(&mut feed),
         &mut Device::new(next),
         out,
     );
     tell_unended(&feed, Input::Feed, errors);
-    done?;
-    Ok(0)
+    Ok(if done? { 4 } else { 0 })
 }

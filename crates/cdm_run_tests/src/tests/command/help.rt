@@ -42,7 +42,7 @@ const PICTURE: &str = "Usage: cdmseq picture [OPTIONS] <AIRPORT> <FEED>";
 
 const LIVE: &str = "Usage: cdmseq live <AIRPORT> <FEED1> <FEED2>";
 
-const CARRY: &str = "Usage: cdmseq carry <AIRPORT> <FEED> <NEXT_AIRPORT>";
+const CARRY: &str = "Usage: cdmseq carry [OPTIONS] <AIRPORT> <FEED> <NEXT_AIRPORT>";
 
 const CHECK: &str = "Usage: cdmseq check [OPTIONS] <AIRPORT> <FEED>";
 
