@@ -2,6 +2,7 @@ pub mod StayLemmas
 pub mod TakingLemmas
 pub mod NoticeLemmas
 pub mod LawLemmas
+pub mod AcceptedLemmas
 pub mod DayLemmas
 pub mod RunLemmas
 mod WorkedRows

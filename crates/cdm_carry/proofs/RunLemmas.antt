@@ -6,6 +6,7 @@ use Rattle.cdm_files.specs.{AirportFile.airport_in, FeedDay.spelled_in, Refused.
 use Rattle.cdm_files.specs.Readings.{AreRead, Reading}
 use Rattle.cdm_files.specs.declared.common_fault.CommonFault.TheVariants as common
 use Rattle.cdm_carry.specs.{Carry.carry, CarriedFeed.{HaveOneFeed, IsCarriedFeed, IsNextDay}, CarryFaults.{AreOtherDays, IsFirstFault}, Texts.feed_text}
+use Rattle.cdm_carry.specs.declared.carry_text.CarryText.{CarryText}
 use Rattle.cdm_carry.specs.declared.carry_error.{CarryError.CarryError, OtherDay.OtherDay}
 use Rattle.cdm_carry.specs.declared.carry_error.CarryError.TheVariants as error
 use Rattle.cdm_carry.specs.inner.RunSteps.{IsFirstInputFault, IsNextAirportFault, IsRecordFault}
@@ -13,24 +14,24 @@ use Rattle.cdm_carry.specs.inner.RunSteps.{IsFirstInputFault, IsNextAirportFault
 -- Faults.
 
 -- a fault of the inputs is the first
-pub input_fault-first : (a f n : Reading) (e : CarryError) → IsFirstInputFault a f n e → IsFirstFault a f n e
-input_fault-first a f n (error.Common (common.Airport number word)) fault = absurd fault
-input_fault-first a f n (error.Common common.Write) fault = absurd fault
-input_fault-first a f n (error.NextRecord number word) fault = absurd fault
-input_fault-first a f n (error.NextDay days) fault = absurd fault
-input_fault-first a f n _ fault = fault
+pub input_fault-first : (asked : CarryText) (a f n : Reading) (e : CarryError) → IsFirstInputFault a f n e → IsFirstFault asked a f n e
+input_fault-first asked a f n (error.Common (common.Airport number word)) fault = absurd fault
+input_fault-first asked a f n (error.Common common.Write) fault = absurd fault
+input_fault-first asked a f n (error.NextRecord number word) fault = absurd fault
+input_fault-first asked a f n (error.NextDay days) fault = absurd fault
+input_fault-first asked a f n _ fault = fault
 
 -- and so is a fault of their records, where they were read
-pub record_fault-first : (a f n : Reading) (airport feed next : List ℕ) (e : CarryError) → AreRead a f n → a.Gave airport → f.Gave feed → n.Gave next
-    → IsRecordFault airport next e → IsFirstFault a f n e
-record_fault-first a f n airport feed next (error.Common common.Memory) read one two three fault = (read.0.unfailed, read.1.unfailed, read.2.unfailed)
-record_fault-first a f n airport feed next (error.Common (common.Airport number word)) read one two three fault =
+pub record_fault-first : (asked : CarryText) (a f n : Reading) (airport feed next : List ℕ) (e : CarryError) → AreRead a f n → a.Gave airport → f.Gave feed → n.Gave next
+    → IsRecordFault airport next e → IsFirstFault asked a f n e
+record_fault-first asked a f n airport feed next (error.Common common.Memory) read one two three fault = (read.0.unfailed, read.1.unfailed, read.2.unfailed)
+record_fault-first asked a f n airport feed next (error.Common (common.Airport number word)) read one two three fault =
     record { read = read; airport = airport; feed = feed; next = next; of_airport = one; of_feed = two; of_next = three; holds = fault }
-record_fault-first a f n airport feed next (error.NextRecord number word) read one two three fault =
+record_fault-first asked a f n airport feed next (error.NextRecord number word) read one two three fault =
     record { read = read; airport = airport; feed = feed; next = next; of_airport = one; of_feed = two; of_next = three; holds = fault }
-record_fault-first a f n airport feed next (error.NextDay days) read one two three fault =
+record_fault-first asked a f n airport feed next (error.NextDay days) read one two three fault =
     record { read = read; airport = airport; feed = feed; next = next; of_airport = one; of_feed = two; of_next = three; holds = fault }
-record_fault-first a f n airport feed next _ read one two three fault = absurd fault
+record_fault-first asked a f n airport feed next _ read one two three fault = absurd fault
 
 -- three files make one feed
 pub one_feed : (airport feed next : List ℕ) → HaveOneFeed airport feed next
