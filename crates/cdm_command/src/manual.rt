@@ -320,7 +320,7 @@ PLAN
              CTOT     it can't take off within its CTOT window
              CLOSURE  the runway is closed at all these minutes
              SPACING  at each open minute its spacing time overlaps another's
-             RATE     the minutes that are left are in full cells
+             RATE     every remaining minute is in a full cell
   TOTAL    PLACED the planned flights with a minute; DELAY the sum and MAX the
            maximum of their delays; LATE the delays above 15 minutes; BLOCKED
            the blocked flights, then their number by blocking rule
@@ -391,8 +391,8 @@ NEXT
 
   A line has TSAT, flight, runway, stand (- for none), TOBT, CTOT, TTOT, the
   delay, and the cause of the last minute that the flight waits, - for none.
-  The causes are the wait reasons of why. Here NOW comes last: a minute has the
-  cause NOW only if nothing but the clock took it.
+  The causes are the wait reasons of why. Unlike in why, NOW comes last: it is
+  the cause only of minutes that no other cause explains.
 
 WARNINGS
   cdmseq warnings airport.csv feed.csv lists what needs attention, and last
@@ -402,8 +402,8 @@ WARNINGS
   MISSED   off-block, and too late for its CTOT window
   BLOCKED  planned, with a TOBT or a CTOT, and without a minute
   EDGE     planned, after its CTOT, in one of the last 3 minutes of the window
-  PAST     planned, and it waits for a minute whose cause is NOW: it could have
-           gone
+  PAST     planned, and part of its delay has no cause but the clock: it could
+           have started up before now
   AHEAD    its AOBT or ATOT is more than 2 minutes after the current time
   FULL     a cell with more flights than its capacity, not over yet
   SHUT     off-block, and its runway is closed at its take-off

@@ -54,7 +54,7 @@ fn scenario_arg<'a>(alloc: Global) -> Arg<'a> {
         .long("scenario")
         .value_name("NAME")
         .allow_negative_numbers(true)
-        .help("The one of them that the answer is over")
+        .help("Answer for this scenario of FILE")
 }
 
 // How the output is written, in one of these formats.
@@ -87,7 +87,7 @@ fn check_parser<'a>(alloc: Global) -> Result<Parser<'a>, AllocError> {
 fn plan_parser<'a>(alloc: Global) -> Result<Parser<'a>, AllocError> {
     day_parser(alloc, "plan", PLAN_ABOUT, PLAN_EXAMPLE)?
         .arg(scenarios_arg(alloc, OVER_THE_FEED))?
-        .arg(format_arg(alloc, TABLE_FORMATS, "text, csv: a row a flight, or json"))?
+        .arg(format_arg(alloc, TABLE_FORMATS, "text, csv (a row per flight) or json"))?
         .arg(workers_arg(alloc))?
         .arg(strict_arg(alloc))
 }
@@ -107,7 +107,11 @@ fn compare_parser<'a>(alloc: Global) -> Result<Parser<'a>, AllocError> {
     day_parser(alloc, "compare", COMPARE_ABOUT, COMPARE_EXAMPLE)?
         .arg(required_arg(alloc, "SCENARIOS", OVER_THE_FEED))?
         .arg(named_arg(alloc))?
-        .arg(format_arg(alloc, TABLE_FORMATS, "text, csv: a row a line, or json"))?
+        .arg(format_arg(
+            alloc,
+            TABLE_FORMATS,
+            "text, csv (a row per scenario) or json",
+        ))?
         .arg(workers_arg(alloc))?
         .arg(strict_arg(alloc))
 }
@@ -116,7 +120,7 @@ fn compare_parser<'a>(alloc: Global) -> Result<Parser<'a>, AllocError> {
 fn named_arg<'a>(alloc: Global) -> Arg<'a> {
     Arg::new(alloc, "NAME")
         .allow_negative_numbers(true)
-        .help("One scenario, to see what changes by it")
+        .help("List the flights that this scenario changes")
 }
 
 // The words that `picture` takes.
@@ -241,7 +245,7 @@ fn trace_parser<'a>(alloc: Global) -> Result<Parser<'a>, AllocError> {
     let since = Arg::new(alloc, "since")
         .long("since")
         .value_name("TIME")
-        .help("From the first record that made it this time or later");
+        .help("Start at the first CLOCK of TIME or later");
     parser
         .arg(since)?
         .arg(format_arg(alloc, FORMATS, TEXT_OR_JSON))?
@@ -257,7 +261,7 @@ fn serve_parser<'a>(alloc: Global) -> Result<Parser<'a>, AllocError> {
         .arg(required_arg(
             alloc,
             "JOURNAL",
-            "File of the accepted records, made if it isn't there",
+            "Journal of accepted records; created if missing",
         ))?
         .arg(format_arg(alloc, FORMATS, TEXT_OR_JSON))
 }
