@@ -323,13 +323,11 @@ function show(names) {
 
 function write(names) {
   unwritten.clear();
-  for (const table of [next, blocked, all]) table.changed(names);
   const now = `${day.date} ${day.now}`;
-  if (now !== shownNow) {
-    shownNow = now;
-    head.now();
-    next.again();
-  }
+  next.changed(names, now !== shownNow);
+  for (const table of [blocked, all]) table.changed(names);
+  if (now !== shownNow) head.now();
+  shownNow = now;
   if (names.includes(flight.name) || !flight.row) flight.changed();
   panels.mark();
   root.classList.remove('is-new');

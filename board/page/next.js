@@ -60,14 +60,14 @@ export class Next {
     this.list.remove(item);
   }
 
-  /** What records changed. Where they are newer than the answer, the cause isn't known until the program is asked again. */
-  changed(names) {
+  /** What records changed; all is written if NOW did. Where they are newer than the answer, the cause isn't known until the program is asked again. */
+  changed(names, isNow) {
     const isNewer = this.day.position > this.position;
     for (const name of names) {
       if (!isNewer) this.admit(name);
       else if (this.items.has(name)) this.items.get(name).cause = null;
     }
-    this.show(names);
+    this.show(isNow ? [...this.items.keys()] : names);
   }
 
   /** Writes these flights' rows, and puts them in their places. */
