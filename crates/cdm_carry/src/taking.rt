@@ -1,5 +1,5 @@
 //! The records that an airport accepts.
-ghost use Rattle.std.specs.Prelude.{◌≡◌, ◌++◌, IfOk, OnOk};
+ghost use Rattle.std.specs.Prelude.{◌≡◌, ◌++◌, [], IfOk, OnOk};
 ghost use Rattle.cdm_flight.specs.Accepted.{accepted, after_one, refusal};
 ghost use Rattle.cdm_files.specs.Refused.{updates_in};
 ghost use Rattle.cdm_carry.specs.Carry.{taken};
