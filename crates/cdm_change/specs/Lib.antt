@@ -1,0 +1,2 @@
+pub mod NextDay
+pub mod Unnoticed
