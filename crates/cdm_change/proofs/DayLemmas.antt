@@ -55,23 +55,23 @@ clock_by (Some c) o' kept late = ap (λ (o : Option ℕ). unwrap_or o 0) (kept (
 abbrev pub ClockRises : List Update → Type 0
 ClockRises a = (m : ℕ) → Contains a (update.Clock m) → m ≤ (values_of a).clock
 
-early_clock : (a : List Update) → ClockRises a → (values_of a).clock < 1440 → (u : Update) → Contains a u → option_and_then kept_minute (clock_given u) ≡ None
+early_clock : (us : List Update) → ClockRises us → (values_of us).clock < 1440 → (u : Update) → Contains us u → option_and_then kept_minute (clock_given u) ≡ None
 unfolding kept_minute
-early_clock a rises early (update.Clock m) i =
+early_clock us rises early (update.Clock m) i =
     let before = rises m i in
     ap (λ b. then_some b (m - 1440)) (not_le m (omega (arith, before, early)))
   where
     not_le : (k : ℕ) → k < 1440 → nat_le 1440 k ≡ false
     not_le k h = grind (arith, nat_tests)
-early_clock a rises early u i = refl
+early_clock us rises early u i = refl
 
-clock_next : (a : List Update) → ClockRises a
-    → unwrap_or (last_value clock_given (filter_map (carried a) (touching reach.Day a))) 0 ≡ unwrap_or (last_value clock_given (touching reach.Day a)) 0 - 1440
+clock_next : (a us : List Update) → ClockRises us
+    → unwrap_or (last_value clock_given (filter_map (carried a) (touching reach.Day us))) 0 ≡ unwrap_or (last_value clock_given (touching reach.Day us)) 0 - 1440
 unfolding values_of
-clock_next a rises = by (nat_lt clock 1440) refl
+clock_next a us rises = by (nat_lt clock 1440) refl
   where
     day : List Update
-    day = touching reach.Day a
+    day = touching reach.Day us
 
     clock : ℕ
     clock = unwrap_or (last_value clock_given day) 0
@@ -83,7 +83,7 @@ clock_next a rises = by (nat_lt clock 1440) refl
     by true e =
         let early = ltb-true clock 1440 e in
         let none = last_none (carried a) clock_given clock_given day
-        (λ u i. clock_carried a u ∙ early_clock a rises early u (contains_all (λ v. same_reach (reach_of v) reach.Day) a u i)) in
+        (λ u i. clock_carried a u ∙ early_clock us rises early u (contains_all (λ v. same_reach (reach_of v) reach.Day) us u i)) in
         let zero : 0 ≡ clock - 1440 = omega (arith, early) in
         ap (λ (o : Option ℕ). unwrap_or o 0) none ∙ zero
 
@@ -92,16 +92,19 @@ tolerance_carried : (a : List Update) (u : Update) → option_and_then tolerance
 tolerance_carried a (update.Tol t) = refl
 tolerance_carried a u = none_and tolerance_given (goes_on a u) (moved u) refl
 
-pub values_of-next : (a : List Update) → ClockRises a → values_of (next_journal a) ≡ record (values_of a) { clock = (values_of a).clock - 1440 }
+pub values_of-carried : (a us : List Update) → ClockRises us → values_of (filter_map (carried a) us) ≡ record (values_of us) { clock = (values_of us).clock - 1440 }
 unfolding values_of
-values_of-next a rises =
-    let day : List Update = touching reach.Day a in
-    let same = touching-carried a reach.Day a in
-    let clock = ap (λ (us : List Update). unwrap_or (last_value clock_given us) 0) same ∙ clock_next a rises in
-    let tolerance = ap (λ (us : List Update). unwrap_or (last_value tolerance_given us) usual_tolerance) same
+values_of-carried a us rises =
+    let day : List Update = touching reach.Day us in
+    let same = touching-carried a reach.Day us in
+    let clock = ap (λ (vs : List Update). unwrap_or (last_value clock_given vs) 0) same ∙ clock_next a us rises in
+    let tolerance = ap (λ (vs : List Update). unwrap_or (last_value tolerance_given vs) usual_tolerance) same
     ∙ ap (λ (o : Option Tolerance). unwrap_or o usual_tolerance)
     (last_selected (carried a) tolerance_given tolerance_given (λ t. t) (tolerance_carried a) day ∙ the_same (last_value tolerance_given day)) in
     λ i. record { clock = clock i; tolerance = tolerance i }
+
+pub values_of-next : (a : List Update) → ClockRises a → values_of (next_journal a) ≡ record (values_of a) { clock = (values_of a).clock - 1440 }
+values_of-next a rises = values_of-carried a a rises
 
 -- Windows.
 

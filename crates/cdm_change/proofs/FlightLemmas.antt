@@ -26,7 +26,7 @@ use Rattle.cdm_change.proofs.ListLemmas.{list_any-moved, take_while-given}
 
 -- Tests of updates.
 
-fresh_moved : (u : Update) → is_fresh (moved u) ≡ is_fresh u
+pub fresh_moved : (u : Update) → is_fresh (moved u) ≡ is_fresh u
 fresh_moved (update.Flt f p) = refl
 fresh_moved u = refl
 
@@ -72,12 +72,12 @@ module _ (g h : AirportRows) (taxi : h.taxi ≡ g.taxi) (a : List Update) (f : L
       of_it true c e = refl
       of_it false c e = cc
 
-  pub exot_of-next : exot_of h (next_journal a) f ≡ exot_of g a f
+  pub exot_of-carried : (us : List Update) → exot_of h (filter_map (carried a) us) f ≡ exot_of g us f
   unfolding exot_of
-  exot_of-next =
-      ap (λ (us : List Update). exot_now h us f)
-      (take_while-given (λ u. not (is_off u)) (λ u. not (is_off u)) (carried a) moved before left (λ u e. ap not (off-moved u) ∙ e) a)
-      ∙ exot_now-carried (take_while (λ u. not (is_off u)) a)
+  exot_of-carried us =
+      ap (λ (vs : List Update). exot_now h vs f)
+      (take_while-given (λ u. not (is_off u)) (λ u. not (is_off u)) (carried a) moved before left (λ u e. ap not (off-moved u) ∙ e) us)
+      ∙ exot_now-carried (take_while (λ u. not (is_off u)) us)
 
   -- The status.
 
@@ -90,29 +90,29 @@ module _ (g h : AirportRows) (taxi : h.taxi ≡ g.taxi) (a : List Update) (f : L
   status_moved false true None None e = refl
   status_moved false false None None e = refl
 
-  pub status_of-next : status_of h (next_journal a) f ≡ option_map next_status (status_of g a f)
-  status_of-next =
-      let own : List Update = of_flight f a in
-      let next : List Update = of_flight f (next_journal a) in
-      let same = said a in
-      let all = of_flight-carried a f stay a in
+  pub status_of-carried : (us : List Update) → status_of h (filter_map (carried a) us) f ≡ option_map next_status (status_of g us f)
+  status_of-carried us =
+      let own : List Update = of_flight f us in
+      let next : List Update = of_flight f (filter_map (carried a) us) in
+      let same = said us in
+      let all = of_flight-carried a f stay us in
       let cancelled : list_any is_cancel next ≡ list_any is_cancel own = ap (list_any is_cancel) all ∙ list_any-moved is_cancel moved cancel_moved own in
-      let known : is_known (next_journal a) f ≡ is_known a f = ap (list_any is_fresh) all ∙ list_any-moved is_fresh moved fresh_moved own in
-      (λ i. status_from (cancelled i) (same.atot i) (same.aobt i) (exot_of-next i) (known i))
-      ∙ status_moved (list_any is_cancel own) (is_known a f) (last_value atot_given own) (last_value aobt_given own) (exot_of g a f)
+      let known : list_any is_fresh next ≡ list_any is_fresh own = ap (list_any is_fresh) all ∙ list_any-moved is_fresh moved fresh_moved own in
+      (λ i. status_from (cancelled i) (same.atot i) (same.aobt i) (exot_of-carried us i) (known i))
+      ∙ status_moved (list_any is_cancel own) (is_known us f) (last_value atot_given own) (last_value aobt_given own) (exot_of g us f)
 
   -- The record.
 
-  record_moved : (s : Status) → record_with f (of_flight f (next_journal a)) (next_status s) ≡ next_flight (record_with f (of_flight f a) s)
-  record_moved s =
-      let same = said a in
+  record_moved : (us : List Update) (s : Status) → record_with f (of_flight f (filter_map (carried a) us)) (next_status s) ≡ next_flight (record_with f (of_flight f us) s)
+  record_moved us s =
+      let same = said us in
       λ i. record {
         name = f;
         priority = unwrap_or (same.priority i) 0;
         tobt = same.tobt i;
         stand = same.stand i;
         runway = same.runway i;
-        ctot = (ap (λ (o : Option (Option ℕ)). unwrap_or o None) same.ctot ∙ inner (last_value ctot_given (of_flight f a))) i;
+        ctot = (ap (λ (o : Option (Option ℕ)). unwrap_or o None) same.ctot ∙ inner (last_value ctot_given (of_flight f us))) i;
         ice = unwrap_or (same.ice i) NoIce;
         group = unwrap_or (same.group i) Medium;
         status = next_status s;
@@ -122,15 +122,19 @@ module _ (g h : AirportRows) (taxi : h.taxi ≡ g.taxi) (a : List Update) (f : L
       inner None = refl
       inner (Some c) = refl
 
-  by_status : (o p : Option Status) → p ≡ option_map next_status o
-      → option_map (record_with f (of_flight f (next_journal a))) p ≡ option_map next_flight (option_map (record_with f (of_flight f a)) o)
-  by_status None p e = ap (option_map (record_with f (of_flight f (next_journal a)))) e
-  by_status (Some s) p e = ap (option_map (record_with f (of_flight f (next_journal a)))) e ∙ ap (λ (x : Flight). Some x) (record_moved s)
+  by_status : (us : List Update) (o p : Option Status) → p ≡ option_map next_status o
+      → option_map (record_with f (of_flight f (filter_map (carried a) us))) p ≡ option_map next_flight (option_map (record_with f (of_flight f us)) o)
+  by_status us None p e = ap (option_map (record_with f (of_flight f (filter_map (carried a) us)))) e
+  by_status us (Some s) p e = ap (option_map (record_with f (of_flight f (filter_map (carried a) us)))) e ∙ ap (λ (x : Flight). Some x) (record_moved us s)
 
-  -- The next day knows of a flight that stays what the day knew, with its minutes.
-  pub flight_of-next : flight_of h (next_journal a) f ≡ option_map next_flight (flight_of g a f)
+  -- Of a flight that stays the carried ones of some updates say what these say, with its minutes.
+  pub flight_of-carried : (us : List Update) → flight_of h (filter_map (carried a) us) f ≡ option_map next_flight (flight_of g us f)
   unfolding flight_of
-  flight_of-next = by_status (status_of g a f) (status_of h (next_journal a) f) status_of-next
+  flight_of-carried us = by_status us (status_of g us f) (status_of h (filter_map (carried a) us) f) (status_of-carried us)
+
+  -- So the next day knows of it what the day knew.
+  pub flight_of-next : flight_of h (next_journal a) f ≡ option_map next_flight (flight_of g a f)
+  flight_of-next = flight_of-carried a
 
 -- It doesn't know the others.
 pub flight_of-gone : (g h : AirportRows) (a : List Update) (f : List ℕ) → stays a f ≡ false → flight_of h (next_journal a) f ≡ None

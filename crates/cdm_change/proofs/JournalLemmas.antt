@@ -77,7 +77,7 @@ clock_after g a u good =
     let same : (values_of (a ++ u ∷ [])).clock ≡ (values_of a).clock = ap (λ (v : DayValues). v.clock) (values_of-untouched a u refl) in
     (omega (arith, same), λ k e. cc e)
 
-one_clock : (g : AirportRows) (a : List Update) (u : Update) → refusal_of g a u ≡ None → ClockRises a → ClockRises (a ++ u ∷ [])
+pub one_clock : (g : AirportRows) (a : List Update) (u : Update) → refusal_of g a u ≡ None → ClockRises a → ClockRises (a ++ u ∷ [])
 one_clock g a u good rises = λ m i.
     let after = clock_after g a u good in
     elim (Contains-push_cases a u (Clock m) i) [

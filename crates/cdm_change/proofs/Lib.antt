@@ -12,4 +12,5 @@ pub mod FixedLemmas
 pub mod PlacingLemmas
 pub mod StandLemmas
 pub mod JournalLemmas
+pub mod AcceptLemmas
 pub mod UnnoticedLemmas

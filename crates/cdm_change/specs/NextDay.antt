@@ -1,4 +1,4 @@
--- What the next day has of a day, where it accepts all that is carried.
+-- What the next day knows, where it accepts all that is carried.
 use Rattle.std.specs.Prelude.{List}
 use Rattle.std.specs.List.{filter_map}
 use Rattle.std.specs.Option.{option_map}

@@ -20,10 +20,9 @@ use Rattle.cdm_sequence.specs.declared.slot.Slot.{Slot}
 use Rattle.cdm_plan.specs.Airport.{IsAirport}
 use Rattle.cdm_plan.specs.Day.{DayRecord}
 use Rattle.cdm_plan.specs.DayPlan.{IsDayPlan, records_in}
-use Rattle.cdm_carry.specs.Carry.{stays}
+use Rattle.cdm_carry.specs.Carry.{carry, stays}
 use Rattle.cdm_carry.specs.Laws.{next_minute}
 use Rattle.cdm_carry.specs.Told.{is_left}
-use Rattle.cdm_change.specs.NextDay.{next_journal}
 
 -- Plans.
 
@@ -87,12 +86,9 @@ pub record MayChange (d : DayRecord) : Type 0 where
 abbrev pub day_after : AirportRows → List (Role × Update) → DayRecord
 day_after g records = record { airport = g; journal = accepted g [] records }
 
--- the next day, where the next airport accepts all that is carried
-abbrev pub next_day : DayRecord → AirportRows → DayRecord
-next_day d h = record { airport = h; journal = next_journal d.journal }
-
+-- Let the next airport be the same, let the day change when it may, and let the next plan end in time: then nobody notices.
 abbrev pub NobodyNotices : Type 0
 NobodyNotices = (g h : AirportRows) (records : List (Role × Update)) (plan next : Plan)
     → IsAirport g → All KeepsHours g.runways → IsSameAirport g h → MayChange (day_after g records)
-    → IsDayPlan (day_after g records) plan → IsDayPlan (next_day (day_after g records) h) next → EndsInTime next
+    → IsDayPlan (day_after g records) plan → IsDayPlan (day_after h (carry g records h)) next → EndsInTime next
     → AreUnnoticed (accepted g [] records) plan next

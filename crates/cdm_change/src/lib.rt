@@ -1,6 +1,6 @@
-//! The change of day: a law of the plans before and after it. No program uses this crate.
+//! The change of day: laws of what is carried, and of the plans before and after it. No program uses this crate.
 #![tactic(auto)]
 
 mod laws;
 
-pub use laws::nobody_notices;
+pub use laws::{all_accepted, nobody_notices};
