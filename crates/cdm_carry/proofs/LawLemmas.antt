@@ -130,7 +130,7 @@ pub of_atot : (u : Update) → atot_given (moved u) ≡ option_map next_minute (
 of_atot (update.Air f m) = refl
 of_atot u = refl
 
-says_the_same : (us : List Update) → SaysTheSame us (map moved us)
+pub says_the_same : (us : List Update) → SaysTheSame us (map moved us)
 says_the_same us = record {
   priority = kept priority_given of_priority us;
   stand = kept stand_given of_stand us;

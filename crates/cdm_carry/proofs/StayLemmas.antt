@@ -28,7 +28,7 @@ third_none false false v w None p h = (refl, refl)
 third_none false false v w (Some x) p h = cc h
 
 -- the flight's own state refuses none of them
-state_allows : (g : AirportRows) (a : List Update) (u : Update) → refusal_of g a u ≡ None → (is_unknown g a u ≡ false) × (flight_refusal g a u ≡ None)
+pub state_allows : (g : AirportRows) (a : List Update) (u : Update) → refusal_of g a u ≡ None → (is_unknown g a u ≡ false) × (flight_refusal g a u ≡ None)
 unfolding refusal_of
 state_allows g a u good =
     third_none (is_unknown g a u) (is_fresh u && option_map_or (is_known a) (flight_of_update u) false) Unknown Exists (flight_refusal g a u)
@@ -59,7 +59,7 @@ air_by f t own false None None e true known h none = cc h
 air_by f t own false None None e false known h none = cc known
 
 -- an OFF is the first of its flight
-off_first : (g : AirportRows) (a : List Update) (f : List ℕ) (m : ℕ) → refusal_of g a (Off f m) ≡ None → aobt_of a f ≡ None
+pub off_first : (g : AirportRows) (a : List Update) (f : List ℕ) (m : ℕ) → refusal_of g a (Off f m) ≡ None → aobt_of a f ≡ None
 unfolding flight_of
 off_first g a f m good =
     off_by f m (of_flight f a) (is_cancelled a f) (atot_of a f) (aobt_of a f) (exot_of g a f) (is_known a f) (state_allows g a (Off f m) good).1
@@ -91,7 +91,7 @@ flown_by g a f (Off q m) e good before none = cc none
 flown_by g a f (Air q t) e good before none = let same : q ≡ f = cc e in absurd (rw same at (air_after g a q t good) none)
 flown_by g a f u e good before none = before none
 
-one_more : (g : AirportRows) (a : List Update) (u : Update) → refusal_of g a u ≡ None → LeaveOnce a → LeaveOnce (a ++ u ∷ [])
+pub one_more : (g : AirportRows) (a : List Update) (u : Update) → refusal_of g a u ≡ None → LeaveOnce a → LeaveOnce (a ++ u ∷ [])
 one_more g a u good once = record {
   left = λ f. left f (same_reach (reach_of u) (reach.Flight f)) refl;
   flown = λ f. flown f (same_reach (reach_of u) (reach.Flight f)) refl;

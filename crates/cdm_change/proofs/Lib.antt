@@ -1,0 +1,16 @@
+pub mod ListLemmas
+pub mod CarriedLemmas
+pub mod LastLemmas
+pub mod DayLemmas
+pub mod FlightLemmas
+pub mod RecordLemmas
+pub mod RulesLemmas
+pub mod AimLemmas
+pub mod RoomLemmas
+pub mod SiftLemmas
+pub mod FixedLemmas
+pub mod PlacingLemmas
+pub mod StandLemmas
+pub mod JournalLemmas
+pub mod AcceptLemmas
+pub mod UnnoticedLemmas

@@ -1,0 +1,3 @@
+pub mod NextDay
+pub mod Unnoticed
+pub mod AllAccepted

@@ -1,0 +1,6 @@
+//! The change of day: laws of what is carried, and of the plans before and after it. No program uses this crate.
+#![tactic(auto)]
+
+mod laws;
+
+pub use laws::{all_accepted, nobody_notices};
