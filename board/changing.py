@@ -38,10 +38,12 @@ class Changing:
         refuse(ran.status not in (0, 4), 503, ran.told or "the program ended", Retry_After="5")
         return position, ran.output.decode("ascii", "replace").splitlines()
 
-    async def make(self, desk: Desk, airport: bytes | None, address: str | None = None) -> None:
-        """Has the next day begin, with the same airport file or with another one. Raises Problem; 504: not known."""
+    async def make(self, desk: Desk, day: str, airport: bytes | None, address: str | None = None) -> None:
+        """Has the day of a date, which is the next one, begin, with the same airport file or with another one. Raises Problem; 504: not
+        known."""
         async with self._making:
-            began, day = self._day.change.position, next_date(self._day)
+            refuse(next_date(self._day) != day, 409, MADE)
+            began = self._day.change.position
             wanted = next_airport(self._day) if airport is None else airport
 
             async def carry(last: int) -> Change:
@@ -82,7 +84,7 @@ class Changing:
             left = [line for line in lines if line.startswith("LEFT ")]
             if left and now < due + WAIT:
                 return f"{day} waits for flights that are off-block since before midnight: {'; '.join(left[:MOST_TOLD])}"
-            await self.make(DESK, None)
+            await self.make(DESK, day, None)
         except Problem as problem:
             return f"{day} doesn't begin yet: {problem}"
         return f"{day} has begun" + (f"; LEFT behind: {'; '.join(left[:MOST_TOLD])}" if left else "")

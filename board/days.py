@@ -51,7 +51,7 @@ class Days:
             refuse(wanted not in (None, following), 409, f"the next day is {following}")
             if not is_even:
                 await self._check(self._callers.asker(request), airport)
-            await self._changing.make(desk, airport, self._callers.address(request))
+            await self._changing.make(desk, following, airport, self._callers.address(request))
         return web.json_response(await self._state())
 
     async def _check(self, asker: str, airport: bytes | None) -> None:

@@ -237,8 +237,8 @@ def change_of(name: str, position: int, rows: Sequence[Sequence[Any]]) -> Change
     if not rows:
         return None
     (airport, feed, digest), = rows
-    change = Change(position, bytes(airport), bytes(feed))
-    if change.digest != digest:
+    change = Change(position, airport, feed)
+    if not isinstance(airport, bytes) or not isinstance(feed, bytes) or change.digest != digest:
         raise Fault(f"{name}: the change of day at position {position} was changed")
     return change
 

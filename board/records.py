@@ -69,7 +69,7 @@ class Records:
             self._replied = time.monotonic()
         # The day may have changed since, or the key came before that.
         try:
-            day = await self.sequencer.past.of_position(positions[0])
+            day = self._day if positions[0] >= self._day.first else await self.sequencer.past.of_position(positions[0])
         except Problem:
             raise Problem(504, "no reply yet; send again with the same key") from None
         records = day.of(positions[0], positions[-1])

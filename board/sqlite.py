@@ -139,7 +139,7 @@ class FileLog(Kept):
         self._database = sqlite3.connect(self.name, timeout=BUSY_SECONDS, isolation_level=None, check_same_thread=False)
         self._database.executescript(PRAGMAS)
         # A log that is complete is opened without a lock, which another program may hold for a while.
-        if not self._database.execute("SELECT 1 FROM sqlite_master WHERE name = 'cdm_day'").fetchone():
+        if self._database.execute("SELECT count(*) FROM sqlite_master WHERE name IN ('cdm_digest', 'cdm_day')").fetchone() != (2,):
             self._database.executescript(SCHEMA)
         # It stays open: who closes a file takes away each of the process's locks on it, SQLite's too.
         self._index = os.open(f"{self.name}-shm", os.O_RDWR | os.O_CLOEXEC)

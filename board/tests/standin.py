@@ -73,6 +73,8 @@ class Day:
                 return "UNKNOWN"
             if row["status"] == "CANCELLED":
                 return "ENDED"
+            if kind == "RWY" and said[1] not in self.runways:
+                return "UNKNOWN"
         if KINDS[kind][0] == "runway" and said[0] not in self.runways:
             return "UNKNOWN"
         if kind == "CLOCK" and said[0] < self.now:

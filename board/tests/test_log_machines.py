@@ -30,6 +30,7 @@ FAULTS = [
     ("a reply to another record is kept", "life.py",
      'if not self._due or reply.get("record") != self._replies:', "if not self._due:", 33, "one day"),
     ("a reply with another count is kept", "life.py", "if number == self._accepted + 1:", "if number:", 509, "one day"),
+    ("a change of day goes with others", "writer.py", "(self._waiting if batch.change is None else self._alone)", "self._waiting", 44, "goes alone"),
     ("a transaction without bound", "writer.py", "(self._waiting, MOST_TOGETHER)", "(self._waiting, 10 ** 9)", 5, "no bound"),
 ]
 
