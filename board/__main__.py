@@ -175,11 +175,11 @@ async def give_out(options: argparse.Namespace) -> None:
     """`export`: the accepted records of a day, or all, or its airport file. Raises Fault."""
     changes, _, records = await engine_of(options.log).read_log(options.log, options.board)
     parts = parts_of(changes, records)
-    dates = [span.date for span in spans_of("", [part[0] for _, part in parts[1:]])] if len(parts) > 1 else []
     with folder_of("export", changes[0].airport) as folder:
         if options.day is not None:
-            date = dates[0] if dates else (await day_of(folder, PROGRAM, [])).date
-            parts = [part for part, date in zip(parts, dates or [date], strict=True) if date == options.day]
+            first = (await day_of(folder, PROGRAM, [])).date
+            dates = [span.date for span in spans_of(first, [some[0] for _, some in parts[1:]])]
+            parts = [part for part, date in zip(parts, dates, strict=True) if date == options.day]
             if not parts:
                 raise Fault(f"{options.log} has no day {options.day}")
         for change, some in parts if options.all or options.raw else parts[-1:]:

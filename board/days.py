@@ -27,13 +27,16 @@ class Days:
 
     def routes(self) -> list[web.RouteDef]:
         """All paths."""
-        return [web.get("/v1/day", self.get), web.post("/v1/day", self.post)]
+        return [web.get(r"/v1/day{form:(\.json)?}", self.get), web.post("/v1/day", self.post)]
 
     async def get(self, request: web.Request) -> web.Response:
         """The day, the next one and the one before, and what a person must know before the day changes."""
         position, lines = await self._changing.told(self._callers.asker(request))
-        told = await self._state() | {"told": lines}
-        return await self._questions.of_moment(request, position, "json", json.dumps(told, separators=(",", ":")).encode() + b"\n")
+        state, form = await self._state(), request.match_info["form"][1:]
+        said = json.dumps(state | {"told": lines}, separators=(",", ":"))
+        if not form:
+            said = "\n".join([f"DAY {state['day']} BEFORE {state['before'] or '-'} NEXT {state['next']}", *lines])
+        return await self._questions.of_moment(request, position, form, f"{said}\n".encode())
 
     async def _state(self) -> dict[str, object]:
         earlier = [span.date for span in await self._past.spans() if span.base < self._day.change.position]

@@ -135,7 +135,7 @@ CREATE OR REPLACE FUNCTION public.cdm_hold(of_board text, silent text)
     RETURNS integer LANGUAGE plpgsql VOLATILE SECURITY DEFINER SET search_path = pg_catalog, pg_temp AS $$
 BEGIN
     PERFORM set_config('idle_in_transaction_session_timeout', silent, true);
-    PERFORM 1 FROM public.cdm_log WHERE board = of_board FOR UPDATE;
+    PERFORM 1 FROM public.cdm_log WHERE cdm_log.board = of_board FOR UPDATE;
     RETURN (SELECT coalesce(max(position), 0) FROM public.cdm_record WHERE board = of_board);
 END $$;
 

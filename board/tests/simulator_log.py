@@ -505,13 +505,14 @@ class Tower:
     """Who changes the day, now and then, at any server."""
 
     def __init__(self, world):
-        self.world, self.name, self.bodies = world, "tower", []
-        for _ in range(world.chance.choice((0, 0, 1, 2, 4))):
-            world.clock.at(world.chance.uniform(1, 70), self.begin)
+        # A chance of its own, so that a seed has the desks that it had without changes.
+        self.world, self.name, self.bodies, self.chance = world, "tower", [], random.Random(world.chance.getstate()[1][1])
+        for _ in range(self.chance.choice((0, 0, 1, 2, 4))):
+            world.clock.at(self.chance.uniform(1, 70), self.begin)
 
     def begin(self):
         world = self.world
-        server = world.chance.choice(world.servers)
+        server = self.chance.choice(world.servers)
         if server.is_dead:
             world.clock.at(1, self.begin)
             return
@@ -521,8 +522,8 @@ class Tower:
         attempt = Attempt(self, body, batch, world.clock.now)
         attempt.server = server
         world.attempts[id(batch)] = attempt
-        if not world.is_calm and world.chance.random() < 0.3:
-            world.clock.at(world.chance.choice((0.0, 0.02, 1, 5)), Desk.leave, self, attempt)
+        if not world.is_calm and self.chance.random() < 0.3:
+            world.clock.at(self.chance.choice((0.0, 0.02, 1, 5)), Desk.leave, self, attempt)
         attempt.ticket = server.offer(attempt)
 
     def left(self, attempt):

@@ -80,9 +80,10 @@ def test_a_day_begins(board):
     """At the next position: records, keys, positions and questions about the day before go on, limits begin anew, also after a start."""
     server = begun(board({**DESKS, "ap": 'role = "AP"\nrecords = 5'}))
     first, before = server.records("ap"), flights(server)
-    asked = json.loads(server.get("/v1/day", "ap").body)
+    asked = json.loads(server.get("/v1/day.json", "ap").body)
     assert (asked["day"], asked["next"], asked["before"], asked["position"]) == ("2025-03-10", "2025-03-11", None, 0)
     assert [line.split() for line in asked["told"]] == [["GONE", "1"], ["STAY", "2"]]
+    assert server.get("/v1/day", "ap").body.decode().splitlines() == ["DAY 2025-03-10 BEFORE - NEXT 2025-03-11", *asked["told"]]
     old = {path: server.get(f"/v1/{path}", "ap") for path in ("plan", "plan.json", "plan.csv", "journal.csv", "next", "why/AB1")}
     assert change(server, "/v1/day") == {"day": "2025-03-11", "position": 10, "before": "2025-03-10", "next": "2025-03-12"}
     for is_new in (False, True):
@@ -326,10 +327,61 @@ def test_two_servers_change_at_once(board, chance, cluster):
         made = {answer["position"] for answer in answers if isinstance(answer, dict)}
         assert len(made) == 1, answers
         for server in servers:
-            until(lambda: json.loads(server.get("/v1/day", "ap").body)["day"] == f"2025-03-{day}")
+            until(lambda: json.loads(server.get("/v1/day.json", "ap").body)["day"] == f"2025-03-{day}")
     log = servers[0].records("ap")
     assert [record["line"] for record in log if record["line"].startswith("DAY")] == [f"DAY,2025-03-{day}" for day in range(11, 15)]
     assert servers[0].get("/v1/plan.json", "ap").body == servers[1].get("/v1/plan.json", "ap").body
+
+
+def test_records_come_while_a_day_is_carried_over(board):
+    """That takes its time: what comes meanwhile waits, is in the new day or in the one before, and the change is made at the first try."""
+    server = board(DESKS, start=False)
+    server.program('[ "$1" = carry ] && [ "$5" = "" ] && sleep 0.5')
+    server.start()
+    begun(server)
+    stop, waits = threading.Event(), []
+
+    def post():
+        number = 0
+        while not stop.is_set():
+            began, number = time.monotonic(), number + 1
+            assert server.post([f"FLT,A{number},5"], "ap")[0]["reply"] == "ACCEPTED"
+            waits.append(time.monotonic() - began)
+            time.sleep(0.02)
+    with concurrent.futures.ThreadPoolExecutor(1) as pool:
+        posting = pool.submit(post)
+        try:
+            until(lambda: len(waits) > 3)
+            assert change(server)["position"] > 12
+            at = len(waits)
+            until(lambda: len(waits) > at + 3)
+        finally:
+            stop.set()
+        posting.result()
+    assert 0.4 < max(waits) < 5 * FACTOR
+    days = of_each(server.records("ap"))
+    assert [len(days), set(flights(server))] == [2, {"AB1", "EF3", *(f"A{number}" for number in range(1, len(waits) + 1))}]
+    figure(f"Day: longest wait of a desk at a change of day whose carrying over takes 0.5 s: {max(waits):.2f} s")
+
+
+def test_a_change_is_taken_at_its_position(tmp_path):
+    """One that was carried over for another position is taken at none."""
+    from board.log import Batch
+    from board.sqlite import FileLog
+
+    async def talk():
+        log = FileLog(str(tmp_path / "day.db"), "")
+        await log.open(b"DAY,2025-03-10\n", "program")
+        try:
+            assert await log.append(Batch("ap", [("AP", "FLT,AB1,5")])) == range(1, 2)
+            with pytest.raises(Problem) as why:
+                await log.append(Batch("tower", [("ATC", "DAY,2025-03-11")], change=Change(1, b"DAY,2025-03-11\n", b"")))
+            assert why.value.status == 503 and len(await log.whole()) == 1 and await log.changes() == []
+            assert await log.append(Batch("tower", [("ATC", "DAY,2025-03-11")], change=Change(2, b"DAY,2025-03-11\n", b"x\n"))) == range(2, 3)
+            assert await log.change(2) == Change(2, b"DAY,2025-03-11\n", b"x\n") and [one.position for one in await log.changes()] == [2]
+        finally:
+            await log.close()
+    asyncio.run(talk())
 
 
 class Display:
@@ -574,7 +626,7 @@ def test_a_server_changes_the_day(board):
     today = datetime.datetime.now(datetime.timezone.utc).date()
     first = str(today - datetime.timedelta(days=2))
     server = board(DESKS, ["--day-at", "01:00"], airport=AIRPORT.replace("2025-03-10", first))
-    until(lambda: json.loads(server.get("/v1/day", "ap").body)["day"] > first, 20)
+    until(lambda: json.loads(server.get("/v1/day.json", "ap").body)["day"] > first, 20)
     until(lambda: f"cdmboard: {today - datetime.timedelta(days=1)} has begun" in server.told())
     record = server.records("ap")[0]
     assert (record["desk"], record["role"], record["line"]) == ("day-at", "ATC", f"DAY,{today - datetime.timedelta(days=1)}")
