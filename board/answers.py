@@ -291,9 +291,9 @@ async def ended(process: Process) -> None:
     await process.wait()
 
 
-async def asked(folder: str, program: str, *words: str) -> bytes:
+async def asked(folder: str, program: str, *words: str, bound: Sequence[str] = ()) -> bytes:
     """What the program prints at a start. Raises Fault."""
-    ran = await run(folder, START_SECONDS, same(program), *words)
+    ran = await run(folder, START_SECONDS, *bound, same(program), *words)
     if ran.status != 0:
         raise Fault(ran.told or f"{' '.join(words)} ended with {ran.status}")
     return ran.output
@@ -306,14 +306,15 @@ def put_airport(folder: str, change: Change) -> None:
         os.rename(f"{folder}/{change.file}.new", f"{folder}/{change.file}")
 
 
-async def day_of(folder: str, program: str, records: list[Record], kinds: bytes = b"", change: Change = Change(0, b"")) -> Day:
-    """The day that these records make, behind what its change carried over. Raises Fault, OSError."""
+async def day_of(folder: str, program: str, records: list[Record], kinds: bytes = b"", change: Change = Change(0, b""),
+                 bound: Sequence[str] = ()) -> Day:
+    """The day that these records make, behind what its change carried over; `bound`: what bounds the program. Raises Fault, OSError."""
     put_airport(folder, change)
     carried, sent = change.lines, [record for record in records if not record.is_change]
     with tempfile.TemporaryDirectory(dir=folder) as inside:
         lines = [*carried, *(f"{record.role},{record.line}" for record in sent)]
         Path(inside, "log.csv").write_text("".join(f"{line}\n" for line in lines), "ascii")
-        told = await asked(inside, program, "plan", f"../{change.file}", "log.csv", "--format", "json")
+        told = await asked(inside, program, "plan", f"../{change.file}", "log.csv", "--format", "json", bound=bound)
     plan, words = json.loads(told.splitlines()[0]), dict[int, str]()
     for refused in plan["refused"]:
         if refused["record"] <= len(carried):

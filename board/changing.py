@@ -7,8 +7,8 @@ from board.carrying import next_airport, next_date
 from board.day import Day
 from board.desks import Desk
 from board.log import Batch, Change, Log
-from board.sequencer import Sequencer
-from board.words import Problem, refuse, tell
+from board.records import Records
+from board.words import Fault, Problem, refuse, tell
 
 # Seconds between two looks at the clock, and for which flights that are LEFT are waited for.
 LOOK_SECONDS = 20.0
@@ -23,17 +23,17 @@ MADE = "another day began meanwhile"
 class Changing:
     """Makes the changes of a board's day."""
 
-    def __init__(self, log: Log, day: Day, answers: Answers, sequencer: Sequencer) -> None:
+    def __init__(self, log: Log, day: Day, answers: Answers, records: Records) -> None:
         self._log = log
         self._day = day
         self._answers = answers
-        self._sequencer = sequencer
+        self._records = records
         self._making = asyncio.Lock()
 
-    async def told(self, asker: str, airport: bytes | None = None) -> tuple[int, list[str]]:
+    async def told(self, asker: str, airport: bytes | None = None, is_tower: bool = True) -> tuple[int, list[str]]:
         """The position of which it is, and what a person must know before the day changes to an airport file, line by line. Raises Problem."""
         wanted = next_airport(self._day) if airport is None else airport
-        position, ran = await self._answers.ask(asker, Question("carry", ("scenarios.csv", "--tell"), wanted), True)
+        position, ran = await self._answers.ask(asker, Question("carry", ("scenarios.csv", "--tell"), wanted), is_tower)
         refuse(ran.status == 3, 422, ran.told)
         refuse(ran.status not in (0, 4), 503, ran.told or "the program ended", Retry_After="5")
         return position, ran.output.decode("ascii", "replace").splitlines()
@@ -42,6 +42,7 @@ class Changing:
         """Has the day of a date, which is the next one, begin, with the same airport file or with another one. Raises Problem; 504: not
         known."""
         async with self._making:
+            refuse(self._records.is_closing, 503, "the server is ending; nothing was taken", Retry_After="5")
             refuse(next_date(self._day) != day, 409, MADE)
             began = self._day.change.position
             wanted = next_airport(self._day) if airport is None else airport
@@ -49,9 +50,12 @@ class Changing:
             async def carry(last: int) -> Change:
                 await self._day.reached(last)
                 refuse(self._day.change.position != began, 409, MADE)
-                feed = await self._sequencer.carry(wanted)
-                change = Change(last + 1, wanted, feed)
-                self._sequencer.carried = change.digest
+                sequencer = self._records.sequencer
+                try:
+                    change = Change(last + 1, wanted, await sequencer.carry(wanted))
+                except (Fault, OSError) as fault:
+                    raise Problem(503, f"the day wasn't carried over: {fault}; nothing was taken", Retry_After="5") from None
+                sequencer.carried = change.digest
                 return change
             batch = Batch(desk.name, [("ATC", f"DAY,{day}")], address=address, carry=carry)
             try:

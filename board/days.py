@@ -7,9 +7,10 @@ from board.callers import Callers
 from board.carrying import next_date
 from board.changing import MOST_TOLD, Changing
 from board.day import Day
+from board.desks import Desk
 from board.past import Past
 from board.questions import Questions, body_of
-from board.words import refuse
+from board.words import Problem, refuse
 
 # Of what is told before a change, what it doesn't begin with, unless a desk wants it even so.
 STOPS = ("LEFT ", "REFUSED ")
@@ -31,7 +32,8 @@ class Days:
 
     async def get(self, request: web.Request) -> web.Response:
         """The day, the next one and the one before, and what a person must know before the day changes."""
-        position, lines = await self._changing.told(self._callers.asker(request))
+        desk: Desk = request["desk"]
+        position, lines = await self._changing.told(self._callers.asker(request), is_tower=desk.role == "ATC")
         state, form = await self._state(), request.match_info["form"][1:]
         said = json.dumps(state | {"told": lines}, separators=(",", ":"))
         if not form:
@@ -55,7 +57,10 @@ class Days:
             if not is_even:
                 await self._check(self._callers.asker(request), airport)
             await self._changing.make(desk, following, airport, self._callers.address(request))
-        return web.json_response(await self._state())
+        try:
+            return web.json_response(await self._state())
+        except Problem as problem:
+            raise Problem(504, f"{self._day.date} has begun: {problem}") from None
 
     async def _check(self, asker: str, airport: bytes | None) -> None:
         """Raises Problem if the day isn't over, or something would be lost with it."""

@@ -97,8 +97,6 @@ class Batch:
                 return replace(self, change=await self.carry(last))
         except TimeoutError:
             raise Problem(503, f"the day wasn't carried over within {CARRY_SECONDS:.0f} seconds; nothing was taken", Retry_After="5") from None
-        except (Fault, OSError) as fault:
-            raise Problem(503, f"the day wasn't carried over: {fault}; nothing was taken", Retry_After="5") from None
 
 
 class Event(NamedTuple):
@@ -163,8 +161,9 @@ class Log(Protocol):
     async def between(self, first: int, last: int) -> list[Record]:
         """The records from one position to another. Raises Away, Fault."""
 
-    async def sought(self, after: int, flight: str | None, desk: str | None) -> int | None:
-        """The first position behind another that may be of a flight and of a desk, if these are asked for. Raises Away, Fault."""
+    async def sought(self, after: int, last: int, flight: str | None, desk: str | None) -> int | None:
+        """The first position behind another, up to a last one, that may be of a flight and of a desk, if these are asked for. Raises Away,
+        Fault."""
 
     async def digests(self) -> dict[int, str]:
         """The digests of the replies, each by the position up to which it goes. Raises Fault."""

@@ -1,16 +1,19 @@
 """Earlier days of the log: each is read when it is asked for, and a few are kept."""
 import asyncio
+import contextlib
 from collections import OrderedDict
+from collections.abc import AsyncIterator
 from datetime import date, timedelta
 from typing import NamedTuple
 
-from board.answers import day_of
+from board.answers import LIMITED, PLACE_SECONDS, day_of
 from board.day import Day
 from board.log import Away, Change, Log, Record
 from board.words import Fault, Problem, refuse
 
-# Earlier days that are kept.
+# Earlier days that are kept; records among which a flight or a desk is sought at once.
 MOST_DAYS = 2
+MOST_SOUGHT = 20_000
 AWAY = "the log can't be asked for an earlier day at present"
 
 
@@ -78,7 +81,7 @@ class Past:
         """The day that a change at a position begins; 0: the first one. Raises Problem."""
         if base == self._day.change.position:
             return self._day
-        async with self._reading:
+        async with self._turn():
             if base in self._kept:
                 self._kept.move_to_end(base)
                 return self._kept[base]
@@ -94,23 +97,39 @@ class Past:
             self.keep(day)
             return day
 
+    @contextlib.asynccontextmanager
+    async def _turn(self) -> AsyncIterator[None]:
+        """One day is read at a time. Raises Problem."""
+        try:
+            async with asyncio.timeout(PLACE_SECONDS):
+                await self._reading.acquire()
+        except TimeoutError:
+            raise Problem(503, AWAY, Retry_After="5") from None
+        try:
+            yield
+        finally:
+            self._reading.release()
+
     async def _read_day(self, span: Span) -> Day:
         """Reads a day that has ended, and asks the program for its replies. Raises Away, Fault, OSError."""
         change = await self._log.change(span.base) if span.base else Change(0, self._log.airport)
         if change is None:
             raise Away("its change is gone")
         records = await self._log.between(max(1, span.base), span.last)
-        return await day_of(self._folder, self._program, records, self._day.kinds.text, change)
+        return await day_of(self._folder, self._program, records, self._day.kinds.text, change, LIMITED)
 
     async def found(self, since: int, flight: str | None, desk: str | None) -> tuple[Day, list[Record]]:
         """The first records behind a position, of a flight and of a desk if these are asked for, all of one day. Raises Problem."""
         while since + 1 < self._day.first:
-            try:
-                next_one = await self._log.sought(since, flight, desk)
-            except (Away, Fault):
-                raise Problem(503, AWAY, Retry_After="1") from None
-            if next_one is None or next_one >= self._day.first:
-                break
+            next_one: int | None = since + 1
+            if flight is not None or desk is not None:
+                try:
+                    next_one = await self._log.sought(since, since + MOST_SOUGHT, flight, desk)
+                except (Away, Fault):
+                    raise Problem(503, AWAY, Retry_After="1") from None
+            if next_one is None:
+                since += MOST_SOUGHT
+                continue
             day = await self.of_position(next_one)
             if found := day.found(since, flight, desk):
                 return day, found

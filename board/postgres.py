@@ -54,8 +54,8 @@ COLUMNS = """SELECT position, desk, role, line, at, cdm_day.position IS NOT NULL
     LEFT JOIN public.cdm_day USING (board, position) WHERE board = $1"""
 CHANGES = f"{COLUMNS} AND cdm_day.position IS NOT NULL ORDER BY position"
 CHANGE = "SELECT airport, feed, digest FROM public.cdm_day WHERE board = $1 AND position = $2"
-SOUGHT = """SELECT min(position) FROM public.cdm_record WHERE board = $1 AND position > $2 AND ($3::text IS NULL OR desk = $3)
-    AND ($4::text IS NULL OR strpos(line || ',', ',' || $4 || ',') > 0)"""
+SOUGHT = """SELECT min(position) FROM public.cdm_record WHERE board = $1 AND position > $2 AND position <= $3
+    AND ($4::text IS NULL OR desk = $4) AND ($5::text IS NULL OR strpos(line || ',', ',' || $5 || ',') > 0)"""
 PRESENT = "SELECT airport FROM public.cdm_day WHERE board = $1 ORDER BY position DESC LIMIT 1"
 TIMELINE = "SELECT ('x' || left(pg_walfile_name(pg_current_wal_lsn()), 8))::bit(32)::integer"
 COMMITTING = """SELECT count(*) FROM pg_stat_activity
@@ -329,8 +329,8 @@ class PostgresLog(Kept):
         query = f"{COLUMNS} AND position BETWEEN $2 AND $3 ORDER BY position"
         return records_of(self.name, first - 1, await self._linked_read(query, first, last))
 
-    async def sought(self, after: int, flight: str | None, desk: str | None) -> int | None:
-        (found,), = await self._linked_read(SOUGHT, after, desk, flight)
+    async def sought(self, after: int, last: int, flight: str | None, desk: str | None) -> int | None:
+        (found,), = await self._linked_read(SOUGHT, after, last, desk, flight)
         position: int | None = found
         return position
 

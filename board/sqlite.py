@@ -67,7 +67,7 @@ ROWS = f"{COLUMNS} ORDER BY position LIMIT ?"
 OLD_ROWS = "SELECT position, desk, role, line, at, 0 FROM cdm_record WHERE board = ? AND position > ? ORDER BY position LIMIT ?"
 CHANGES = f"{COLUMNS} AND cdm_day.position IS NOT NULL ORDER BY position"
 CHANGE = "SELECT airport, feed, digest FROM cdm_day WHERE board = ? AND position = ?"
-SOUGHT = """SELECT min(position) FROM cdm_record WHERE board = ? AND position > ? AND (? IS NULL OR desk = ?)
+SOUGHT = """SELECT min(position) FROM cdm_record WHERE board = ? AND position > ? AND position <= ? AND (? IS NULL OR desk = ?)
 AND (? IS NULL OR instr(line || ',', ',' || ? || ',') > 0)"""
 PRESENT = "SELECT airport FROM cdm_day WHERE board = ? ORDER BY position DESC LIMIT 1"
 LOCKED = (sqlite3.SQLITE_BUSY, sqlite3.SQLITE_LOCKED)
@@ -323,9 +323,9 @@ class FileLog(Kept):
         """The records from one position to another. Raises Away, Fault."""
         return records_of(self.name, first - 1, await self._call(ROWS, self._board, first - 1, last - first + 1))
 
-    async def sought(self, after: int, flight: str | None, desk: str | None) -> int | None:
-        """The first position behind another that may be of a flight and of a desk. Raises Away, Fault."""
-        (found,), = await self._call(SOUGHT, self._board, after, desk, desk, flight, flight)
+    async def sought(self, after: int, last: int, flight: str | None, desk: str | None) -> int | None:
+        """The first position behind another, up to a last one, that may be of a flight and of a desk. Raises Away, Fault."""
+        (found,), = await self._call(SOUGHT, self._board, after, last, desk, desk, flight, flight)
         position: int | None = found
         return position
 

@@ -60,7 +60,7 @@ class Board:
         self._unsent = Unsent()
         self._requests = set["asyncio.Task[object]"]()
         self.questions = Questions(log, sequencer.past, day, answers, self._unsent, callers.asker)
-        self.changing = Changing(log, day, answers, sequencer)
+        self.changing = Changing(log, day, answers, self.records)
         self._days = Days(callers, day, sequencer.past, self.changing, self.questions)
         self.health = Health(log, day, answers, events, self.records, self._unsent)
 

@@ -580,7 +580,7 @@ class Looks:
 
     def __init__(self, day, lines=()):
         self.lines, self.made, self.day = list(lines), [], mock.Mock(date=day)
-        self.changing = changing.Changing(None, self.day, None, None)
+        self.changing = changing.Changing(None, self.day, None, mock.Mock())
         self.changing.told, self.changing.make = self.told, self.make
 
     async def told(self, asker):
