@@ -364,6 +364,40 @@ def test_records_come_while_a_day_is_carried_over(board):
     figure(f"Day: longest wait of a desk at a change of day whose carrying over takes 0.5 s: {max(waits):.2f} s")
 
 
+def test_a_large_day_changes(board):
+    """For how long a desk stands still."""
+    server, number = board(DESKS, start=False), count("BOARD_CHANGE_RECORDS", 1000)
+    names = [f"L{flight}" for flight in range(min(1900, number // 4))]
+    lines = [line for place, name in enumerate(names)
+             for line in (f"AP,FLT,{name},5", f"ATC,RWY,{name},27L", f"AO,TOBT,{name},2025-03-11T0{4 + place % 6}:00Z")]
+    lines += [f"AP,STAND,{names[place % len(names)]},S{place % 900}" for place in range(number - len(lines) - 1)]
+    (server.folder / "feed.csv").write_text("".join(f"{line}\n" for line in [*lines, "ATC,CLOCK,2025-03-11T03:00Z"]))
+    assert cdmboard("import", server.airport, server.log, server.folder / "feed.csv").returncode == 0
+    server.start()
+    stop, waits = threading.Event(), []
+
+    def post():
+        while not stop.is_set():
+            began = time.monotonic()
+            assert server.post([f"STAND,{names[len(waits) % len(names)]},X{len(waits) % 90}"], "ap")[0]["reply"] == "ACCEPTED"
+            waits.append(time.monotonic() - began)
+            time.sleep(0.03)
+    with concurrent.futures.ThreadPoolExecutor(1) as pool:
+        posting = pool.submit(post)
+        try:
+            until(lambda: len(waits) > 5)
+            before, began = len(waits), time.monotonic()
+            assert change(server)["position"] > number
+            took, behind = time.monotonic() - began, len(waits)
+            until(lambda: len(waits) > behind + 3)
+        finally:
+            stop.set()
+        posting.result()
+    figure(f"Day of {number} records: its change took {took:.2f} s, longest wait of a desk {max(waits[before - 1:]):.2f} s, "
+           f"before that {sorted(waits[:before])[before // 2] * 1000:.0f} ms in the middle")
+    assert max(waits) < 5 * FACTOR and len(flights(server)) == len(names)
+
+
 def test_a_change_is_taken_at_its_position(tmp_path):
     """One that was carried over for another position is taken at none."""
     from board.log import Batch
