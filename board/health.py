@@ -51,6 +51,7 @@ class Health:
         metrics.DISPLAYS.set(len(self._events.streams))
         metrics.ACCEPTED.set(len(self._day.lines))
         metrics.POSITION.set(self._day.position)
+        metrics.OF_DAY.set(len(self._day.records))
         metrics.RESTARTS.set(self._sequencer.starts - 1)
         metrics.NOW.set(self._clock())
         metrics.TAKING.set(not self._records.why_not())

@@ -56,6 +56,7 @@ class Sequencer:
         self.carried = ""
         self.is_ready = asyncio.Event()
         self.starts = 0
+        self._is_first = False
         self._life = Life()
         self._is_without_room = False
 
@@ -68,7 +69,6 @@ class Sequencer:
                 await self._serve_somewhere()
             except NextDay as found:
                 self._next = found.record
-                self.starts -= 1
             except Changed as changed:
                 tell(f"cdmboard: {changed}")
                 self.past.forget()
@@ -102,6 +102,8 @@ class Sequencer:
             await self._check(change)
             put_airport(self._folder, change)
             self.past.keep(self._day.begin(record, change, record.line.removeprefix("DAY,")))
+            # The day's first process isn't one that was started again.
+            self._is_first = True
 
     async def _check(self, change: Change) -> None:
         """Raises Fault if another server carried over otherwise than this one would."""
@@ -119,7 +121,8 @@ class Sequencer:
         """One process, in a folder of its own where there is room for its journal: in memory, if there is."""
         journal = self._day.feed()
         with tempfile.TemporaryDirectory(dir=place_with_room(len(journal) + MOST_JOURNAL, self._folder)) as folder:
-            self.starts += 1
+            self.starts += not self._is_first
+            self._is_first = False
             Path(folder, "journal.csv").write_text(journal, "ascii")
             await self._serve(folder)
 

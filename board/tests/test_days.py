@@ -87,7 +87,8 @@ def test_a_day_begins(board):
     old = {path: server.get(f"/v1/{path}", "ap") for path in ("plan", "plan.json", "plan.csv", "journal.csv", "next", "why/AB1")}
     assert change(server, "/v1/day") == {"day": "2025-03-11", "position": 10, "before": "2025-03-10", "next": "2025-03-12"}
     for is_new in (False, True):
-        assert set(flights(server)) == {"AB1", "EF3"} and server.metric("cdm_position", "ap") == 10 + is_new
+        assert set(flights(server)) == {"AB1", "EF3"}
+        assert (server.metric("cdm_position", "ap"), server.metric("cdm_day_records", "ap")) == (10 + is_new, 1 + is_new)
         assert flights(server)["AB1"] == {**before["AB1"], **({"priority": 7} if is_new else {})}
         for path, said in old.items():
             again = server.get(f"/v1/{path}?day=2025-03-10", "ap")
