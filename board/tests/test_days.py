@@ -556,7 +556,7 @@ def test_a_start_reads_the_last_day(board):
     assert server.end() == 0
     told = cdmboard("verify", server.log)
     assert (told.returncode, told.stdout) == (3, "") and "position 10 carried over otherwise" in told.stderr
-    in_file(server, "UPDATE cdm_day SET feed = replace(feed, 'AB1,4', 'AB1,5') || 'ATC,PRIO,AB1,1\n'")
+    in_file(server, "UPDATE cdm_day SET feed = CAST(CAST(feed AS TEXT) || 'ATC,PRIO,AB1,1\n' AS BLOB)")
     told = cdmboard(server.airport, server.log, *server.options)
     assert told.returncode == 3 and "the change of day at position 10 was changed" in told.stderr
 
