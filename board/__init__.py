@@ -1,4 +1,4 @@
-"""The board server: one day of `cdmseq serve`, reached over HTTP. It knows no rule of the sequence."""
+"""The board server: the days of `cdmseq serve`, reached over HTTP. It knows no rule of the sequence."""
 import importlib.util
 import sys
 

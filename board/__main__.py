@@ -30,8 +30,11 @@ from board.connections import is_loopback
 from board.desks import digest, read_desks
 from board.events import Events
 from board.guard import HEADERS, Door, Guard
-from board.log import MOST_RECORDS, Batch, Log, Record
+from board.carrying import carried_over
+from board.changing import time_of
+from board.log import MOST_RECORDS, Batch, Change, Log, Record
 from board.notify import Notifier
+from board.past import Past, spans_of
 from board.replies import Keeper, check_length, day_of_log, reply_again
 from board.sequencer import MOST_JOURNAL, Sequencer, place_with_room
 from board.telling import Teller
@@ -65,6 +68,7 @@ def words() -> argparse.Namespace:
     server.add_argument("--listen", metavar="HOST:PORT", default="127.0.0.1:8270")
     server.add_argument("--name", metavar="HOST", action="append", default=[])
     server.add_argument("--clock", action="store_true", help="takes the machine's UTC minutes")
+    server.add_argument("--day-at", metavar="HH:MM", type=time_of, help="changes the day at this time, UTC, from 01:00 to 21:59")
     sealed = server.add_mutually_exclusive_group()
     sealed.add_argument("--tls", nargs=2, metavar=("CERT", "KEY"))
     sealed.add_argument("--behind-proxy", action="store_true")
@@ -72,6 +76,8 @@ def words() -> argparse.Namespace:
     forms = command("export", give_out, "log").add_mutually_exclusive_group()
     forms.add_argument("--all", action="store_true", help="every record, with desk, time and reply")
     forms.add_argument("--raw", action="store_true", help="every record as it is in the log, without asking the program")
+    forms.add_argument("--airport", action="store_true", help="the day's airport file")
+    commands.choices["export"].add_argument("--day", metavar="YYYY-MM-DD", help="of one day; otherwise the last one, or with --all and --raw all")
     command("backup", back_up, "log", "file")
     command("verify", verify, "log")
     command("audit", give_audit, "log")
@@ -158,7 +164,7 @@ async def take_in(options: argparse.Namespace) -> None:
     async with log_of(options) as (log, folder):
         if await log.whole():
             raise Fault(f"{options.log} has records already")
-        _, day = await day_of(folder, PROGRAM, [Record(number, "import", role, line) for number, (role, _, line) in enumerate(feed, 1)])
+        day = await day_of(folder, PROGRAM, [Record(number, "import", role, line) for number, (role, _, line) in enumerate(feed, 1)])
         for record in day.records:
             if record.word is not None:
                 raise Fault(f"{options.feed} record {record.position}: {record.word} (see cdmseq check)")
@@ -166,15 +172,36 @@ async def take_in(options: argparse.Namespace) -> None:
 
 
 async def give_out(options: argparse.Namespace) -> None:
-    """`export`: the accepted records, or all."""
-    airport, _, records = await engine_of(options.log).read_log(options.log, options.board)
-    if options.raw:
+    """`export`: the accepted records of a day, or all, or its airport file. Raises Fault."""
+    changes, _, records = await engine_of(options.log).read_log(options.log, options.board)
+    parts = parts_of(changes, records)
+    with folder_of("export", changes[0].airport) as folder:
+        if options.day is not None:
+            first = (await day_of(folder, PROGRAM, [])).date
+            dates = [span.date for span in spans_of(first, [some[0] for _, some in parts[1:]])]
+            parts = [part for part, date in zip(parts, dates, strict=True) if date == options.day]
+            if not parts:
+                raise Fault(f"{options.log} has no day {options.day}")
+        for change, some in parts if options.all or options.raw else parts[-1:]:
+            await give_part(options, folder, change, some)
+
+
+async def give_part(options: argparse.Namespace, folder: str, change: Change, records: list[Record]) -> None:
+    """What `export` prints of a day. Raises Fault."""
+    if options.airport:
+        sys.stdout.buffer.write(change.airport)
+    elif options.raw:
         for record in records:
             print(json.dumps(dict(zip(("position", "desk", "role", "line", "at"), record)), separators=(",", ":")))
-        return
-    with folder_of("export", airport) as folder:
-        _, day = await day_of(folder, PROGRAM, records)
-    print(day.texts(day.records).decode() if options.all else day.feed(), end="")
+    else:
+        day = await day_of(folder, PROGRAM, records, change=change)
+        print(day.texts(day.records).decode() if options.all else day.feed(), end="")
+
+
+def parts_of(changes: list[Change], records: list[Record]) -> list[tuple[Change, list[Record]]]:
+    """The days of a log: what begins each, and its records."""
+    ends = [change.position for change in changes[1:]] + [len(records) + 1]
+    return [(change, records[max(1, change.position) - 1:end - 1]) for change, end in zip(changes, ends, strict=True)]
 
 
 async def give_audit(options: argparse.Namespace) -> None:
@@ -202,16 +229,23 @@ async def back_up(options: argparse.Namespace) -> None:
 async def verify(options: argparse.Namespace) -> None:
     """`verify`: each row of a log is read and given to the program, whose replies have to be those of the digests. Raises Fault."""
     digests = await engine_of(options.log).read_digests(options.log, options.board)
-    airport, made_by, records = await engine_of(options.log).read_log(options.log, options.board)
+    changes, made_by, records = await engine_of(options.log).read_log(options.log, options.board)
     version = (await asked("/", PROGRAM, "--version")).decode("ascii", "replace").strip()
     if made_by != version:
         raise Fault(f"{options.log} was made by another program: {made_by}, and this is {version}")
-    with folder_of("verify", airport) as folder:
-        _, day = await day_of(folder, PROGRAM, records)
-        check_length(day, digests, options.log)
-        await reply_again(folder, PROGRAM, day.records, day.digests)
-    day.digests.compare(digests, options.log)
-    print(f"{len(day.records)} records, {len(day.lines)} accepted, {len(digests)} digests of replies")
+    parts, accepted, day = parts_of(changes, records), 0, None
+    with folder_of("verify", changes[0].airport) as folder:
+        for change, some in parts:
+            if day is not None and await carried_over(folder, PROGRAM, day, change.airport) != change.feed:
+                raise Fault(f"{options.log}: the change of day at position {change.position} carried over otherwise than this program does")
+            day = await day_of(folder, PROGRAM, some, change=change)
+            await reply_again(folder, PROGRAM, day)
+            accepted += len(day.lines) - len(change.lines)
+            if change is changes[-1]:
+                check_length(day, digests, options.log)
+            day.digests.compare(digests, options.log)
+    more = f", {len(parts)} days" if len(parts) > 1 else ""
+    print(f"{len(records)} records, {accepted} accepted, {len(digests)} digests of replies{more}")
 
 
 def listening(options: argparse.Namespace) -> tuple[str, int, ssl.SSLContext | None]:
@@ -250,10 +284,12 @@ async def serve(options: argparse.Namespace) -> None:
     async with log_of(options) as (log, folder):
         # Where the system forbids what questions are run with, nothing would be answered.
         kinds = await asked(folder, PROGRAM, "kinds", "--format", "json", limits=LIMITED)
-        date, day = await day_of_log(folder, PROGRAM, log, kinds)
+        day = await day_of_log(folder, PROGRAM, log, kinds)
+        past = Past(folder, PROGRAM, log, day)
         names, scheme = (host, "localhost", socket.gethostname(), *options.name), "https" if sealed or options.behind_proxy else "http"
         callers = Callers(desks, log, {name.lower() for name in names}, scheme, options.behind_proxy)
-        board = Board(callers, log, day, Sequencer(PROGRAM, folder, log, day), Answers(PROGRAM, folder, day), Events(log.id, day))
+        sequencer, answers = Sequencer(PROGRAM, folder, log, day, past), Answers(PROGRAM, folder, day, past.of_base)
+        board = Board(callers, log, day, sequencer, answers, Events(log.id, day))
         runner, door = web.AppRunner(board.application()), Door(host, port, options.behind_proxy, desks.limits)
         await runner.setup()
         assert (manager := runner.server) is not None
@@ -262,7 +298,7 @@ async def serve(options: argparse.Namespace) -> None:
         loop.add_signal_handler(signal.SIGHUP, notifier.reload, functools.partial(again, options, board, door, sealed))
         at = f"{scheme}://{f'[{host}]' if ':' in host else host}:{door.getsockname()[1]}/"
         try:
-            await run(board, at, date if options.clock else "", notifier, Keeper(folder, PROGRAM, log, day))
+            await run(board, at, options, notifier, Keeper(folder, PROGRAM, log, day))
         except ExceptionGroup as faults:
             raise faults.exceptions[0] from None
         finally:
@@ -274,7 +310,7 @@ async def serve(options: argparse.Namespace) -> None:
             await runner.cleanup()
 
 
-async def run(board: Board, address: str, date: str, notifier: Notifier, keeper: Keeper) -> None:
+async def run(board: Board, address: str, options: argparse.Namespace, notifier: Notifier, keeper: Keeper) -> None:
     """Runs all that a board has running, until it is told to end and each record has its reply."""
     ending, loop = asyncio.Event(), asyncio.get_running_loop()
     for number in (signal.SIGTERM, signal.SIGINT):
@@ -284,15 +320,17 @@ async def run(board: Board, address: str, date: str, notifier: Notifier, keeper:
         vital = [group.create_task(part) for part in (board.sequencer.run(), board.log.ended())]
         parts = [board.events.run(), views.run(), board.signing.watch(), board.audit.run(), keeper.run(), ready(board, address),
                  notifier.run(board.health.words, vital)]
-        tasks = vital + [group.create_task(part) for part in parts + ([clock.run(date, board.records.take)] if date else [])]
+        parts += [clock.run(board.day, board.records.take)] if options.clock else []
+        parts += [board.changing.run(options.day_at)] if options.day_at else []
+        tasks = vital + [group.create_task(part) for part in parts]
         await ending.wait()
         notifier.stopping()
         board.records.is_closing = True
         async with asyncio.timeout(20):
             # What another server takes from now on gets its reply there.
-            rest = [] if board.log.stale_since else await board.log.rows(len(board.day.records))
+            rest = [] if board.log.stale_since else await board.log.rows(board.day.position)
             last = rest[-1].position if rest else 0
-            while len(board.day.records) < last and not board.log.stale_since or board.records.waiting():
+            while board.day.position < last and not board.log.stale_since or board.records.waiting():
                 await asyncio.sleep(0.02)
         for task in tasks:
             task.cancel()

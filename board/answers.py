@@ -7,13 +7,13 @@ import signal
 import tempfile
 import time
 from asyncio.subprocess import DEVNULL, PIPE, Process
-from collections.abc import AsyncIterator, Sequence
+from collections.abc import AsyncIterator, Awaitable, Callable, Sequence
 from pathlib import Path
 from typing import NamedTuple
 from weakref import WeakValueDictionary
 
 from board.day import Day
-from board.log import Record
+from board.log import Change, Record
 from board.metrics import QUESTIONS
 from board.places import Places, Ticket
 from board.program import same
@@ -37,12 +37,14 @@ LIMITED = ("/usr/bin/setpriv", "--pdeathsig", "KILL", "/usr/bin/prlimit", f"--as
 
 
 class Question(NamedTuple):
-    """Words of the program, over the day of the moment at which it is run, or over the first `accepted` records and one more, `last`."""
+    """Words of the program, over the day of the moment at which it is run, or over the first `accepted` records and one more, `last`; over
+    another day than the present one, if `base` names it."""
     command: str
     words: tuple[str, ...] = ()
     scenarios: bytes | None = None
     accepted: int | None = None
     last: str = ""
+    base: int | None = None
 
 
 class Answer(NamedTuple):
@@ -56,6 +58,7 @@ class Answer(NamedTuple):
     starts: int = 0
     accepted: int = 0
     position: int = 0
+    is_earlier: bool = False
 
 
 class Answers:
@@ -63,10 +66,11 @@ class Answers:
     before it was begun, and for all who ask the same while the day is as it was. Runs belong to nobody who asks: who goes away leaves
     the others' answers as they are."""
 
-    def __init__(self, program: str, folder: str, day: Day) -> None:
+    def __init__(self, program: str, folder: str, day: Day, earlier: Callable[[int], Awaitable[Day]] | None = None) -> None:
         self._program = program
         self._folder = folder
         self._day = day
+        self._earlier = earlier
         self._places = Places(max(1, (os.cpu_count() or 2) - 1), MOST_QUESTIONS, MOST_NAMELESS_QUESTIONS)
         self._answers: dict[Ticket, asyncio.Future[Answer]] = {}
         self._runs: dict[asyncio.Task[None], float] = {}
@@ -93,13 +97,20 @@ class Answers:
 
     async def ask(self, asker: str, question: Question, is_tower: bool = False) -> tuple[int, Answer]:
         """The position at which it was asked, and the program's answer. The asker is a desk, or @ and an address. Raises Problem."""
+        answer = await self._had(asker, question, is_tower)
+        if answer.starts != self._day.starts and answer.position > self._day.doubtful:
+            # The day has changed meanwhile.
+            answer = await self._had(asker, question, is_tower)
+        refuse(answer.starts != self._day.starts, 503, "the day began anew; ask again", Retry_After="1")
+        return self._day.position if self._is_now(answer) else answer.position, answer
+
+    async def _had(self, asker: str, question: Question, is_tower: bool) -> Answer:
+        """An answer that is kept, or a new one. Raises Problem."""
         answer = self._kept.get(question)
         if answer is None or not self._is_now(answer):
-            answer = await self._made_for(Ticket(asker, question, is_tower), question)
-        else:
-            QUESTIONS.labels("kept").inc()
-        refuse(answer.starts != self._day.starts, 503, "the day began anew; ask again", Retry_After="1")
-        return len(self._day.records) if self._is_now(answer) else answer.position, answer
+            return await self._made_for(Ticket(asker, question, is_tower), question)
+        QUESTIONS.labels("kept").inc()
+        return answer
 
     def is_stuck(self) -> bool:
         """Whether a run doesn't come to its end, so that questions aren't answered."""
@@ -166,14 +177,14 @@ class Answers:
 
     def _is_now(self, answer: Answer) -> bool:
         """Whether an answer is of the day as it is now, and would be the same again."""
-        is_same = (answer.starts, answer.accepted) == (self._day.starts, len(self._day.lines))
+        is_same = (answer.starts, answer.accepted) == (self._day.starts, len(self._day.lines)) and not answer.is_earlier
         return is_same and answer.status in (0, 2, 3)
 
     async def together(self, questions: Sequence[Question]) -> tuple[tuple[int, int], list[Answer]]:
         """Answers of one moment, which is the day's `starts` and a position; no more than up to the first that took too long. They are
         made beside the pool, in a place of their own: no desk's questions wait for them, nor they for a desk's. Raises Problem."""
         async with self._beside:
-            moment = self._day.starts, len(self._day.records)
+            moment = self._day.starts, self._day.position
             kept = [self._kept.get(question) for question in questions]
             are_now = [answer for answer in kept if answer is not None and self._is_now(answer)]
             if len(are_now) == len(questions):
@@ -190,16 +201,21 @@ class Answers:
         """New answers, which are kept, up to the first that took too long. All are over the same records and scenarios."""
         first = questions[0]
         made = dict[Question, Answer]()
-        accepted = len(self._day.lines) if first.accepted is None else first.accepted
-        starts, position, began = self._day.starts, len(self._day.records), time.monotonic()
+        starts, began, day = self._day.starts, time.monotonic(), self._day
+        if first.base is not None and self._earlier is not None:
+            try:
+                day = await self._earlier(first.base)
+            except Problem as problem:
+                return [Answer(503, b"", str(problem), began, starts)]
+        accepted, position, file = len(day.lines) if first.accepted is None else first.accepted, day.position, day.change.file
         try:
             with tempfile.TemporaryDirectory(dir=self._folder) as folder:
-                Path(folder, "feed.csv").write_text(self._day.feed(accepted) + first.last, "ascii")
+                Path(folder, "feed.csv").write_text(day.feed(accepted) + first.last, "ascii")
                 Path(folder, "scenarios.csv").write_bytes(first.scenarios or b"")
                 for question in questions:
-                    words = (question.command, "../airport.csv", "feed.csv", *question.words)
+                    words = (question.command, f"../{file}", "feed.csv", *question.words)
                     ran = await run(folder, RUN_SECONDS, *LIMITED, same(self._program), *words)
-                    made[question] = ran._replace(began=began, starts=starts, accepted=accepted, position=position)
+                    made[question] = ran._replace(began=began, starts=starts, accepted=accepted, position=position, is_earlier=day is not self._day)
                     if ran.status == 504:
                         break
         except Fault as fault:
@@ -283,9 +299,25 @@ async def asked(folder: str, program: str, *words: str, limits: Sequence[str] = 
     return ran.output
 
 
-async def day_of(folder: str, program: str, records: list[Record], kinds: bytes = b"") -> tuple[str, Day]:
-    """The date and the day that these records make. Raises Fault."""
-    Path(folder, "log.csv").write_text("".join(f"{record.role},{record.line}\n" for record in records), "ascii")
-    told = await asked(folder, program, "plan", "airport.csv", "log.csv", "--format", "json")
-    plan = json.loads(told.splitlines()[0])
-    return plan["day"], Day(Kinds(kinds), records, {refused["record"]: refused["word"] for refused in plan["refused"]})
+def put_airport(folder: str, change: Change) -> None:
+    """Puts the airport file of a day into a server's folder, where the first one is already. Raises OSError."""
+    if change.position:
+        Path(folder, f"{change.file}.new").write_bytes(change.airport)
+        os.rename(f"{folder}/{change.file}.new", f"{folder}/{change.file}")
+
+
+async def day_of(folder: str, program: str, records: list[Record], kinds: bytes = b"", change: Change = Change(0, b""),
+                 bound: Sequence[str] = ()) -> Day:
+    """The day that these records make, behind what its change carried over; `bound`: what bounds the program. Raises Fault, OSError."""
+    put_airport(folder, change)
+    carried, sent = change.lines, [record for record in records if not record.is_change]
+    with tempfile.TemporaryDirectory(dir=folder) as inside:
+        lines = [*carried, *(f"{record.role},{record.line}" for record in sent)]
+        Path(inside, "log.csv").write_text("".join(f"{line}\n" for line in lines), "ascii")
+        told = await asked(inside, program, "plan", f"../{change.file}", "log.csv", "--format", "json", limits=bound)
+    plan, words = json.loads(told.splitlines()[0]), dict[int, str]()
+    for refused in plan["refused"]:
+        if refused["record"] <= len(carried):
+            raise Fault(f"record {refused['record']} of what was carried over to {plan['day']} is refused: {refused['word']}")
+        words[sent[refused["record"] - len(carried) - 1].position] = refused["word"]
+    return Day(Kinds(kinds), records, words, change, plan["day"])

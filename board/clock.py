@@ -4,6 +4,7 @@ import time
 from collections.abc import Awaitable, Callable
 from datetime import date, timedelta
 
+from board.day import Day
 from board.desks import ANY, Desk
 from board.words import Problem, now_text, tell
 
@@ -11,13 +12,13 @@ CLOCK_DESK = Desk("clock", "ATC", (), 60_000, None, ANY)
 JUMP = timedelta(minutes=5)
 
 
-async def run(day: str, take: Callable[[Desk, list[str], str], Awaitable[object]]) -> None:
+async def run(day: Day, take: Callable[[Desk, list[str], str], Awaitable[object]]) -> None:
     """Takes a CLOCK each minute, the first at once, with the minute as its key. Returns never."""
-    days, limit, told = (day, str(date.fromisoformat(day) + timedelta(days=1))), "", ""
+    limit, told = "", ""
     while True:
         now, why = now_text("minutes"), ""
-        if now[:10] not in days:
-            why = f"no CLOCK is taken outside the two days from {day} on"
+        if now[:10] not in (day.date, str(date.fromisoformat(day.date) + timedelta(days=1))):
+            why = f"no CLOCK is taken outside the two days from {day.date} on"
         elif limit and now > limit:
             why = f"no CLOCK is taken: {now} is more than 5 minutes after the last; a new start takes it"
         else:

@@ -1,5 +1,6 @@
-"""The day as this server has it: the records of the log that were replied to, with their replies."""
+"""The day as this server has it: the records of the log from the last change of day on that were replied to, with their replies."""
 import asyncio
+import copy
 import json
 import re
 from bisect import bisect
@@ -8,27 +9,30 @@ from collections.abc import Iterable, Mapping
 from weakref import WeakValueDictionary
 
 from board.digests import Digests
-from board.log import Record
+from board.log import Change, Record
 from board.words import Kinds, refuse
 
 KEPT = 2000
 KEPT_BYTES = 64 << 20
 MOST_FOUND = 1000
+CLOCK = "ATC,CLOCK,"
 
 
 class Day:
-    """All records by position, from the first to the moment that is now; `lines` are the accepted ones. `starts`: how often it began
-    anew; up to `doubtful` it may have had other records before. `changed` is set at each reply, and when it begins anew; `digested` when
-    there is a digest that the log may lack."""
+    """All records by position, from the change of day, or the log's first, to the moment that is now; `lines` are those that were carried
+    over, and the accepted ones. `starts`: how often it began, or began anew; up to `doubtful` it may have had other records before.
+    `changed` is set at each reply, and when it begins; `digested` when there is a digest that the log may lack."""
 
-    def __init__(self, kinds: Kinds, records: Iterable[Record], refused: Mapping[int, str]) -> None:
+    def __init__(self, kinds: Kinds, records: Iterable[Record], refused: Mapping[int, str], change: Change = Change(0, b""), date: str = "") -> None:
         self.kinds = kinds
+        self.change = change
+        self.date = date
         self.starts = 0
         self.doubtful = -1
         self.changed = asyncio.Event()
         self.records = list[Record]()
-        self.lines = list[str]()
-        self.digests = Digests()
+        self.lines = change.lines
+        self.digests = Digests(change.position, change.position and change.digest or "")
         self.digested = asyncio.Event()
         self._texts = OrderedDict[int, bytes]()
         self._bytes = 0
@@ -39,7 +43,8 @@ class Day:
 
     def restart(self, day: "Day") -> None:
         """Begins anew with the records of another day. Whoever waits is told."""
-        self.doubtful = max(self.doubtful, len(self.records))
+        self.doubtful = max(self.doubtful, self.position)
+        self.change, self.date = day.change, day.date
         self.records, self.lines, self._of, self._bytes = day.records, day.lines, day._of, 0
         self.digests = day.digests
         self.digested.set()
@@ -48,9 +53,39 @@ class Day:
         self.changed.set()
         self.end()
 
+    def begin(self, record: Record, change: Change, date: str) -> "Day":
+        """The next day begins, with a change of day. Returns the day that ends."""
+        before = copy.copy(self)
+        self.change, self.date = change, date
+        self.records, self.lines, self._of, self._bytes = [], change.lines, defaultdict(list), 0
+        self._texts = OrderedDict()
+        self.digests = Digests(change.position, change.digest)
+        self._keep(record, None, 0)
+        self.starts += 1
+        self.changed.set()
+        self.digested.set()
+        self._wake(record.position)
+        return before
+
+    @property
+    def first(self) -> int:
+        """The position of its first record."""
+        return max(1, self.change.position)
+
+    @property
+    def position(self) -> int:
+        """The position of the last record with a reply; 0 before the log's first."""
+        return self.first + len(self.records) - 1
+
+    @property
+    def clock(self) -> str:
+        """NOW, the last CLOCK that was accepted; nothing before the first."""
+        said = next((line for line in reversed(self.lines) if line.startswith(CLOCK)), CLOCK)
+        return said.removeprefix(CLOCK)
+
     def _keep(self, record: Record, word: str | None, changes: int) -> Record:
-        assert record.position == len(self.records) + 1
-        if word is None:
+        assert record.position == self.position + 1
+        if word is None and not record.is_change:
             self.lines.append(f"{record.role},{record.line}")
         flight = self.kinds.flight_of(record.line)
         record = record._replace(word=word, accepted=len(self.lines), changes=changes, flight=flight)
@@ -70,18 +105,25 @@ class Day:
         while len(self._texts) > KEPT or self._bytes > KEPT_BYTES:
             self._bytes -= len(self._texts.popitem(last=False)[1])
         self.changed.set()
-        if waited_for := self._waited_for.get(record.position):
+        self._wake(record.position)
+
+    def _wake(self, position: int) -> None:
+        if waited_for := self._waited_for.get(position):
             waited_for.set()
 
     def digest_kept(self) -> bool:
         """Takes replies that are kept into the digests, in their order. Whether there are digests of all replies now."""
-        for record in self.records[self.digests.position:]:
+        for record in self.of(self.digests.position + 1, self.position):
             text = self._texts.get(record.position)
             if text is None:
                 return False
             if self.digests.add(text):
                 self.digested.set()
         return True
+
+    def of(self, first: int, last: int) -> list[Record]:
+        """The records of these positions, both of them too, that are of this day."""
+        return self.records[max(0, first - self.first):max(0, last - self.first + 1)]
 
     def unkept(self) -> dict[int, str]:
         """The digests that the log isn't known to have."""
@@ -104,7 +146,7 @@ class Day:
     def at(self, position: int) -> str:
         """When the record at a position was taken, '' before the first one. Where a fail-over has lost records, others may stand in their
         places; by this they are told apart."""
-        return self.records[position - 1].at if 0 < position <= len(self.records) else ""
+        return self.records[position - self.first].at if self.first <= position <= self.position else ""
 
     def past(self, position: int) -> str:
         """What tells the records up to a position apart from others that may have stood there: the digits of when the last one was taken."""
@@ -116,7 +158,7 @@ class Day:
 
     def kept_behind(self, position: int) -> list[Record] | None:
         """All records behind a position, None if their replies aren't all kept whole."""
-        return self.records[position:] if 0 <= len(self.records) - position <= len(self._texts) else None
+        return self.of(position + 1, self.position) if 0 <= self.position - position <= len(self._texts) else None
 
     def found(self, since: int, flight: str | None, desk: str | None) -> list[Record]:
         """The first records behind a position, of a flight and of a desk if these are asked for."""
@@ -130,9 +172,9 @@ class Day:
 
     async def reached(self, position: int) -> None:
         """Returns as soon as this record has its reply. Raises Problem if it won't have one here."""
-        if position > len(self.records):
+        if position > self.position:
             await self._waited_for.setdefault(position, asyncio.Event()).wait()
-        refuse(position > len(self.records), 504, "the server ended; send again with the same key")
+        refuse(position > self.position, 504, "the server ended; send again with the same key")
 
     def end(self) -> None:
         """No more replies come: who waits is told."""

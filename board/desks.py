@@ -145,7 +145,7 @@ def _desk(name: str, told: Any) -> Desk:
     right = {"role": role in (*ROLES, "READ"), "records": type(records) is int and 0 <= records <= MOST_QUOTA, "clock": isinstance(clock, bool),
              "token": tokens and _are(tokens, TOKEN), "flights": flights is None or _are(flights, re.compile(".+"))}
     wrong = [word for word in table if not right.get(word)]
-    if not DESK.fullmatch(name) or name in ("clock", "import") or wrong:
+    if not DESK.fullmatch(name) or name in ("clock", "import", "day-at") or wrong:
         raise ValueError(f"desk {name!a}: {', '.join(wrong) or 'its name'}: missing, unknown or malformed")
     digests = tuple(bytes.fromhex(token.removeprefix("sha256:")) for token in tokens)
     return Desk(name, role, digests, records, None if flights is None else tuple(flights), AHEAD if clock else None)

@@ -10,12 +10,12 @@ EVERY = 1000
 
 
 class Digests:
-    """The digests of the first replies of a day. `position`: how many replies there are; `made`: each digest by the position up to which
-    it goes; `kept`: the positions of those that the log has too."""
+    """The digests of the first replies of a day, whose change is at `base`, where `seed` is the digest of what stands there. `position`: that
+    of the last reply; `made`: each digest by the position up to which it goes; `kept`: the positions of those that the log has too."""
 
-    def __init__(self) -> None:
-        self._all = hashlib.sha256()
-        self.position = 0
+    def __init__(self, base: int = 0, seed: str = "") -> None:
+        self._all = hashlib.sha256(seed.encode())
+        self.base = self.position = base
         self.made = dict[int, str]()
         self.kept = set[int]()
 
@@ -31,10 +31,10 @@ class Digests:
     def compare(self, said: Mapping[int, str], name: str) -> None:
         """Compares a log's digests with those that are made. Raises Fault if one isn't the same."""
         for position in sorted(said):
-            if position > self.position:
+            if not self.base < position <= self.position:
                 continue
             if self.made.get(position) != said[position]:
-                first = 1 + max((kept for kept in self.kept if kept < position), default=0)
+                first = 1 + max((kept for kept in self.kept if kept < position), default=self.base)
                 raise Fault(f"{name}: a record of the positions {first} to {position} has another reply than before: the program isn't the one that"
                             " gave it, or the log was changed; start that program, or make a new log (cdmboard export, import)")
             self.kept.add(position)

@@ -115,7 +115,7 @@ class Events:
         self.stirred.set()
 
     def _moment(self) -> tuple[int, int]:
-        return self._day.starts, len(self._day.records)
+        return self._day.starts, self._day.position
 
     def _is_due(self, stream: Stream) -> bool:
         """Whether the last view is of this day and newer than what the display has seen. It is never newer than the display's events,
@@ -136,7 +136,7 @@ class Events:
     def _text(self, desk: str, since: int, is_first: bool = False) -> bytes:
         """What a desk gets of the records behind a position: `reset` if they aren't kept, or are too much. is_first: nothing went before,
         so it begins with `from`."""
-        reset, records = self._moment_event("reset", len(self._day.records)), self._day.kept_behind(since)
+        reset, records = self._moment_event("reset", self._day.position), self._day.kept_behind(since)
         if records is None:
             return reset
         text = bytearray(self._moment_event("from", since) if is_first else b":\nid: %s-%d\n\n" % (self._log_id, since))

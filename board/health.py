@@ -13,8 +13,6 @@ from board.log import Log
 from board.records import Records
 from board.unsent import Unsent
 
-CLOCK = "CLOCK,"
-
 
 class Health:
     """What is asked of the server itself."""
@@ -27,14 +25,11 @@ class Health:
         self._events = events
         self._records = records
         self._unsent = unsent
-        # NOW, as of so many records of a day that began so often.
-        self._now = 0.0
-        self._looked = (0, 0)
 
     async def health(self, request: web.Request) -> web.Response:
         """200 while plans and questions are answered."""
         is_well = not self._records.is_closing and not self._answers.is_stuck()
-        told = {"ready": self._sequencer.is_ready.is_set(), "accepted": len(self._day.lines), "position": len(self._day.records),
+        told = {"ready": self._sequencer.is_ready.is_set(), "accepted": len(self._day.lines), "position": self._day.position,
                 "taking": not self._records.why_not(), "stale_since": self._log.stale_since}
         return web.json_response(told, status=200 if is_well else 503)
 
@@ -44,7 +39,7 @@ class Health:
             return "Questions get no answers: a run of the program doesn't end"
         if why := self._records.why_not():
             return f"Plans and questions are answered; records get no replies: {why}"
-        return f"Records get replies; position {len(self._day.records)}"
+        return f"Records get replies; position {self._day.position}"
 
     async def ready(self, request: web.Request) -> web.Response:
         """200 only while records get replies; else why not."""
@@ -55,7 +50,8 @@ class Health:
         """What to watch, for Prometheus."""
         metrics.DISPLAYS.set(len(self._events.streams))
         metrics.ACCEPTED.set(len(self._day.lines))
-        metrics.POSITION.set(len(self._day.records))
+        metrics.POSITION.set(self._day.position)
+        metrics.OF_DAY.set(len(self._day.records))
         metrics.RESTARTS.set(self._sequencer.starts - 1)
         metrics.NOW.set(self._clock())
         metrics.TAKING.set(not self._records.why_not())
@@ -66,18 +62,8 @@ class Health:
         return web.Response(body=prometheus.generate_latest(), headers={"Content-Type": prometheus.CONTENT_TYPE_LATEST})
 
     def _clock(self) -> float:
-        """The last CLOCK that was accepted, in seconds since 1970; 0 if there is none. Each record is looked at once."""
-        starts, position = self._looked
-        records = self._day.records
-        if starts != self._day.starts:
-            position = 0
-            self._now = 0.0
-        for record in reversed(records[position:]):
-            if record.word is None and record.line.startswith(CLOCK):
-                self._now = datetime.fromisoformat(record.line.removeprefix(CLOCK)).timestamp()
-                break
-        self._looked = (self._day.starts, len(records))
-        return self._now
+        """The last CLOCK that was accepted, in seconds since 1970; 0 if there is none."""
+        return datetime.fromisoformat(self._day.clock).timestamp() if self._day.clock else 0.0
 
     def _away(self) -> float:
         """For how many seconds the log has been away."""

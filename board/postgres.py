@@ -6,6 +6,7 @@ which may lead to another host. No call is ever cancelled. asyncpg would pass th
 commit that waits for its standby and is cancelled counts as done. A connection that hangs is closed, which the
 database's process sees only after its commit."""
 import asyncio
+import base64
 import contextlib
 import json
 import secrets
@@ -21,7 +22,8 @@ from urllib.parse import parse_qsl, urlencode, urlsplit
 from board import sqlite
 from board.commits import Commit, Commits
 from board.following import AWAY, Following, Seen
-from board.log import MOST_RECORDS, Accept, Away, Batch, Changed, Event, Kept, Record, accepted, audit_of, digests_as_json, records_of
+from board.log import (BEFORE, CARRY_SECONDS, MOST_RECORDS, Accept, Away, Batch, Change, Changed, Event, Kept, Record, accepted, audit_of, change_of,
+                       digests_as_json, records_of)
 from board.notices import Notices
 from board.words import Fault, Problem, now_text, tell
 from board.writer import COMMIT_SECONDS, Outcome, nothing
@@ -39,24 +41,35 @@ LOOK_SECONDS = 1.0
 STALE_SECONDS = 3.0
 # Seconds after which a connection that has nothing to commit is asked whether it is still there.
 IDLE_SECONDS = 10.0
+# Seconds for which a server that says nothing more may hold the lock of a board.
+HOLD_SECONDS = CARRY_SECONDS + 2
+APPEND = "SELECT public.cdm_append($1, $2)"
 # What a role or a database may have set otherwise, and would end a commit, or let it see too little.
 SETTINGS = {"statement_timeout": "0", "lock_timeout": "0", "idle_in_transaction_session_timeout": "0",
             "idle_session_timeout": "0", "client_connection_check_interval": "0",
             "default_transaction_isolation": "read committed", "jit": "off",
             "tcp_keepalives_idle": "15", "tcp_keepalives_interval": "5", "tcp_keepalives_count": "3"}
-COLUMNS = "SELECT position, desk, role, line, at FROM public.cdm_record WHERE board = $1"
+# A record is a change of day if something stands beside it.
+COLUMNS = """SELECT position, desk, role, line, at, cdm_day.position IS NOT NULL FROM public.cdm_record
+    LEFT JOIN public.cdm_day USING (board, position) WHERE board = $1"""
+CHANGES = f"{COLUMNS} AND cdm_day.position IS NOT NULL ORDER BY position"
+CHANGE = "SELECT airport, feed, digest FROM public.cdm_day WHERE board = $1 AND position = $2"
+SOUGHT = """SELECT min(position) FROM public.cdm_record WHERE board = $1 AND position > $2 AND position <= $3
+    AND ($4::text IS NULL OR desk = $4) AND ($5::text IS NULL OR strpos(line || ',', ',' || $5 || ',') > 0)"""
+PRESENT = "SELECT airport FROM public.cdm_day WHERE board = $1 ORDER BY position DESC LIMIT 1"
 TIMELINE = "SELECT ('x' || left(pg_walfile_name(pg_current_wal_lsn()), 8))::bit(32)::integer"
 COMMITTING = """SELECT count(*) FROM pg_stat_activity
                 WHERE application_name = $1 AND state = 'active' AND pid <> $2"""
 LAST = "SELECT coalesce(max(position), 0) FROM public.cdm_record WHERE board = $1"
-# Tables of an older version have no sessions, or no digests.
-TABLES = "SELECT num_nulls(to_regclass('public.cdm_record'), to_regclass('public.cdm_session'), to_regclass('public.cdm_digest')) = 0"
+# Tables of an older version have no sessions, no digests, or no days.
+TABLES = """SELECT num_nulls(to_regclass('public.cdm_record'), to_regclass('public.cdm_session'), to_regclass('public.cdm_digest'),
+    to_regclass('public.cdm_day')) = 0"""
 # Notices that another server took records, and ended sessions.
 CHANNELS = ("cdm_record", "cdm_session")
 DIGESTS = "SELECT position, digest FROM public.cdm_digest WHERE board = $1"
 SESSIONS = "SELECT desk, not_before FROM public.cdm_session WHERE board = $1"
 AUDIT = "SELECT at, event, desk, address, position, count, detail FROM public.cdm_audit WHERE board = $1 ORDER BY number"
-WRONG = {422: "this key came with another body before"}
+WRONG = {422: "this key came with another body before", 503: BEFORE}
 LOST: tuple[Any, ...] = (OSError,) if asyncpg is None else (
     OSError, asyncpg.InterfaceError, asyncpg.InternalClientError, asyncpg.PostgresConnectionError,
     asyncpg.OperatorInterventionError)
@@ -245,6 +258,8 @@ class PostgresLog(Kept):
         super().__init__(name_of(url), board)
         self.id = ""
         self.airport = b""
+        # The airport file with which this server was started.
+        self._given = b""
         self._version = ""
         self._accept: Accept = accepted
         self._url = url
@@ -263,7 +278,7 @@ class PostgresLog(Kept):
         self._is_closing = False
 
     async def open(self, airport: bytes, version: str, accept: Accept = accepted) -> None:
-        self.airport, self._version, self._accept = airport, version, accept
+        self.airport, self._given, self._version, self._accept = airport, airport, version, accept
         self._following.timeline = await newest(self._url)
         try:
             self._use(await first(self._url, self._to))
@@ -295,14 +310,36 @@ class PostgresLog(Kept):
             raise Changed(f"{self.name} hasn't the last row that was read; it is read anew")
         return await self._read(after, most) or []
 
-    async def whole(self) -> list[Record]:
+    async def whole(self, after: int = 0) -> list[Record]:
         while True:
             await self._linked.wait()
             self._following.read_anew()
-            records = await self._read(0, MOST_RECORDS, 60.0)
+            records = await self._read(after, None, 60.0)
             if records is not None:
                 return records
             await asyncio.sleep(0.05)
+
+    async def changes(self) -> list[Record]:
+        return [Record(*row) for row in await self._linked_read(CHANGES)]
+
+    async def change(self, position: int) -> Change | None:
+        return change_of(self.name, position, await self._linked_read(CHANGE, position))
+
+    async def between(self, first: int, last: int) -> list[Record]:
+        query = f"{COLUMNS} AND position BETWEEN $2 AND $3 ORDER BY position"
+        return records_of(self.name, first - 1, await self._linked_read(query, first, last))
+
+    async def sought(self, after: int, last: int, flight: str | None, desk: str | None) -> int | None:
+        (found,), = await self._linked_read(SOUGHT, after, last, desk, flight)
+        position: int | None = found
+        return position
+
+    async def _linked_read(self, query: str, *words: object) -> Any:
+        """The rows of a query about this board, from the link. Raises Away."""
+        link = self._link
+        if link is None:
+            raise Away("the database is away")
+        return await link.read(query, self._board, *words)
 
     async def digests(self) -> dict[int, str]:
         """As of a file; waits for the database."""
@@ -313,13 +350,13 @@ class PostgresLog(Kept):
                     return dict(await link.read(DIGESTS, self._board))
             await asyncio.sleep(0.05)
 
-    async def _read(self, after: int, most: int, seconds: float = READ_SECONDS) -> list[Record] | None:
+    async def _read(self, after: int, most: int | None, seconds: float = READ_SECONDS) -> list[Record] | None:
         """Rows, None where the database is away. They're handed on: a later link has to have the last."""
         link = self._link
         if link is None:
             return None
         try:
-            query = f"{COLUMNS} AND position > $2 ORDER BY position LIMIT $3"
+            query = f"{COLUMNS} AND position > $2 ORDER BY position LIMIT $3::integer"
             found = await link.read(query, self._board, after, most, seconds=seconds)
         except Away:
             return None
@@ -331,10 +368,7 @@ class PostgresLog(Kept):
 
     async def sessions(self) -> dict[str, int]:
         """As of a file. Raises Away too."""
-        link = self._link
-        if link is None:
-            raise Away("the database is away")
-        return dict(await link.read(SESSIONS, self._board))
+        return dict(await self._linked_read(SESSIONS))
 
     # What is written.
 
@@ -399,10 +433,29 @@ class PostgresLog(Kept):
 
     async def _take(self, link: Link, batches: Sequence[Batch]) -> list[range | Problem]:
         """The answers of one transaction, one for each batch. Raises Refused, Away."""
-        told = json.dumps([vars(batch) | {"closed": batch.closed is not None} for batch in batches])
-        answers = json.loads(await link.write("SELECT public.cdm_append($1, $2)", self._board, told))
+        if batches[0].change is not None:
+            return await self._change(link, batches[0])
+        answers = json.loads(await link.write(APPEND, self._board, _as_json(batches)))
         self.grown.set()
         return [_said(batch, answer) for batch, answer in zip(batches, answers, strict=True)]
+
+    async def _change(self, link: Link, batch: Batch) -> list[range | Problem]:
+        """A change of day, in a transaction that holds the lock of the board: what came before it is carried over while no server takes a
+        record. Raises Refused, Away."""
+        await link.write("BEGIN")
+        try:
+            last = await link.write("SELECT public.cdm_hold($1, $2)", self._board, f"{HOLD_SECONDS:.0f}s")
+            self.grown.set()
+            batch = await batch.carried(last)
+            answer, = json.loads(await link.write(APPEND, self._board, _as_json([batch])))
+        except (Problem, Refused) as why:
+            await link.write("ROLLBACK")
+            if isinstance(why, Problem):
+                return [why]
+            raise
+        await link.write("COMMIT")
+        self.grown.set()
+        return [_said(batch, answer)]
 
     # The link.
 
@@ -494,16 +547,28 @@ class PostgresLog(Kept):
         if not await link.read(row, self._board):
             await self._accept()
             await link.write("SELECT public.cdm_append($1, '[]', $2, $3, $4)", self._board,
-                             self.id or secrets.token_hex(8), self.airport, self._version)
-        airport, (found,) = self.airport, await link.read(row, self._board)
+                             self.id or secrets.token_hex(8), self._given, self._version)
+        found, = await link.read(row, self._board)
         if self.id not in ("", found[0]):
             raise Fault(f"{self.name} has another log of this board now")
         self.id, self.airport, self.secret = found[0], found[1], found[3]
-        self.check(airport, found[2], self._version)
+        present = await link.read(PRESENT, self._board)
+        self.check(self._given, found[2], self._version, present[0][0] if present else None)
         last = self._following.last
         kept = await link.read(f"{COLUMNS} AND position = $2", self._board, last.position if last else 0)
         self._following.linked(Seen(timeline, Record(*kept[0]) if kept else None, await link.is_committing(self._writer_name)))
         self._looked, self._looked_at = began, at
+
+
+def _as_json(batches: Sequence[Batch]) -> str:
+    """Batches as `cdm_append` takes them."""
+    names = "desk", "records", "key", "most", "at", "end", "address"
+    told = [{name: getattr(batch, name) for name in names} | {"closed": batch.closed is not None} for batch in batches]
+    for batch, one in zip(batches, told, strict=True):
+        if (change := batch.change) is not None:
+            airport, feed = (base64.b64encode(said).decode() for said in (change.airport, change.feed))
+            one["change"] = {"position": change.position, "airport": airport, "feed": feed, "digest": change.digest}
+    return json.dumps(told)
 
 
 def _said(batch: Batch, answer: dict[str, Any]) -> range | Problem:
@@ -538,14 +603,16 @@ async def init(options: Namespace) -> None:
     print(f"database {name}: CONNECT is taken from PUBLIC; for a server's user: GRANT cdm_server TO user")
 
 
-async def read_log(url: str, board: str) -> tuple[bytes, str, list[Record]]:
-    """Airport file, program and all records of a log, also while it is served. Raises Fault."""
+async def read_log(url: str, board: str) -> tuple[list[Change], str, list[Record]]:
+    """What begins each day, the program, and all records of a log, also while it is served. Raises Fault."""
     async with database_of(url) as database:
         row = await database.fetchrow("SELECT airport, version FROM public.cdm_log WHERE board = $1", board)
         if row is None:
             raise Fault(f"{name_of(url)} has no board {board!a} (--board NAME)")
-        rows = await database.fetch(f"{COLUMNS} ORDER BY position", board)
-        return row[0], row[1], records_of(name_of(url), 0, rows)
+        records = records_of(name_of(url), 0, await database.fetch(f"{COLUMNS} ORDER BY position", board))
+        changes = [change_of(name_of(url), record.position, await database.fetch(CHANGE, board, record.position))
+                   for record in records if record.is_change]
+        return [Change(0, row[0]), *(change for change in changes if change)], row[1], records
 
 
 async def read_digests(url: str, board: str) -> dict[int, str]:
@@ -563,11 +630,11 @@ async def read_audit(url: str, board: str) -> bytes:
 async def copy_log(url: str, board: str, copy: str) -> None:
     """A copy of a whole log in a file of SQLite that is empty, with an id of its own. Records are never changed, so what is read here is of
     one moment. Raises Fault."""
-    airport, version, _ = await read_log(url, board)
+    changes, version, _ = await read_log(url, board)
     digests = await read_digests(url, board)
     async with database_of(url) as database:
         rows = await database.fetch("SELECT board, position, desk, key, n, lines, role, line, at FROM public.cdm_record"
                                     " WHERE board = $1 ORDER BY position", board)
         audit = await database.fetch(AUDIT, board)
-    sqlite.write_log(copy, (board, secrets.token_hex(8), airport, version), [tuple(row) for row in rows],
-                     list(digests.items()), [tuple(row) for row in audit])
+    sqlite.write_log(copy, (board, secrets.token_hex(8), changes[0].airport, version), [tuple(row) for row in rows],
+                     list(digests.items()), [tuple(row) for row in audit], [(*change, change.digest) for change in changes[1:]])

@@ -10,6 +10,7 @@ from board.answers import Answers, Question
 from board.day import Day
 from board.desks import READER, Desk
 from board.log import Log
+from board.past import Past
 from board.sending import pack
 from board.unsent import Unsent
 from board.words import POSITION, Problem, refuse
@@ -43,8 +44,9 @@ async def body_of(request: web.Request) -> bytes:
 class Questions:
     """What is read of a day. `asker`: who asks, for what each may have."""
 
-    def __init__(self, log: Log, day: Day, answers: Answers, unsent: Unsent, asker: Callable[[web.Request], str]) -> None:
+    def __init__(self, log: Log, past: Past, day: Day, answers: Answers, unsent: Unsent, asker: Callable[[web.Request], str]) -> None:
         self._log = log
+        self._past = past
         self._day = day
         self._answers = answers
         self._unsent = unsent
@@ -58,22 +60,26 @@ class Questions:
                 *(web.post(f"/v1/{path}", self.question) for path in (*PATHS, *BY_POST))]
 
     async def get_records(self, request: web.Request) -> web.Response:
-        """The log, with the replies."""
-        since, desk = request.query.get("since", "0"), request.query.get("desk")
+        """The log, or a day of it, with the replies."""
+        since, which = request.query.get("since", "0"), (request.query.get("flight"), request.query.get("desk"))
         refuse(not POSITION.fullmatch(since), 400, "since is a position")
         async with self._answers.turn(("log", self._asker(request))):
-            now = len(self._day.records)
-            found = self._day.found(int(since), request.query.get("flight"), desk)
-            return await self.of_moment(request, now, "json", self._day.texts(found, MOST_FOUND_BYTES))
+            if "day" in request.query:
+                day = await self._past.of_date(request.query["day"])
+                found = day.found(int(since), *which)
+            else:
+                day, found = await self._past.found(int(since), *which)
+            return await self.of_moment(request, self._day.position, "json", day.texts(found, MOST_FOUND_BYTES))
 
     async def sentence(self, request: web.Request) -> web.Response:
         """Why a record is refused, in words: what `check` says of it behind the records accepted before."""
-        position = int(request.match_info["position"])
-        now = len(self._day.records)
-        record = self._day.records[position - 1] if 0 < position <= now else None
+        position, now = int(request.match_info["position"]), self._day.position
+        day = await self._past.of_position(position)
+        record = next(iter(day.of(position, position)), None)
         if record is None or record.word is None:
             raise Problem(404, "no refused record stands there")
-        question = Question("check", ("--format", "json"), None, record.accepted, f"{record.role},{record.line}\n")
+        base = None if day is self._day else day.change.position
+        question = Question("check", ("--format", "json"), None, record.accepted, f"{record.role},{record.line}\n", base)
         _, ran = await self._answers.ask(self._asker(request), question, _is_tower(request))
         found = [json.loads(line) for line in ran.output.splitlines() if ran.status in (0, 4)]
         sentence = next((one["sentence"] for one in found if one.get("record") == record.accepted + 1), None)
@@ -97,32 +103,35 @@ class Questions:
             words += [*option, said] if name in request.query else []
         words += ["--format", form] if form in ("csv", "json") else []
         scenarios = await body_of(request) if is_post else None
-        asked = Question(command, tuple(words), scenarios)
+        day = await self._past.of_date(request.query["day"]) if "day" in request.query else self._day
+        asked = Question(command, tuple(words), scenarios, base=None if day is self._day else day.change.position)
         now, ran = await self._answers.ask(self._asker(request), asked, _is_tower(request))
         status = 404 if ran.told.startswith(UNKNOWN) else STATUSES.get(ran.status, 503)
         again = {"Retry_After": "5"} if status == 503 else {}
         refuse(ran.status != 0, status, ran.told or "the program ended", None, **again)
-        return await self.of_moment(request, now, form, ran.output)
+        return await self.of_moment(request, now, form, ran.output, day)
 
     async def file(self, request: web.Request) -> web.Response:
         """The table of kinds, or the airport file."""
-        text, form = (self._day.kinds.text, "json") if request.path == "/v1/kinds" else (self._log.airport, "csv")
+        text, form = (self._day.kinds.text, "json") if request.path == "/v1/kinds" else (self._day.change.airport, "csv")
         return web.Response(body=text, content_type=TYPES[form])
 
     async def journal(self, request: web.Request) -> web.Response:
-        """The accepted records as a feed."""
+        """The accepted records of a day as a feed."""
         async with self._answers.turn(("log", self._asker(request))):
-            return await self.of_moment(request, len(self._day.records), "csv", self._day.feed().encode())
+            day = await self._past.of_date(request.query.get("day", self._day.date))
+            return await self.of_moment(request, day.position, "csv", day.feed().encode(), day)
 
-    def tags(self, position: int) -> dict[str, str]:
-        """The headers that say of which moment an answer is."""
+    def tags(self, position: int, day: Day | None = None) -> dict[str, str]:
+        """The headers that say of which moment of a day an answer is."""
         stale = {"Cdm-Stale-Since": self._log.stale_since} if self._log.stale_since else {}
-        return {"Cdm-Position": str(position), "Cdm-At": self._day.at(position), "ETag": f'"{self._log.id}.{self._day.past(position)}-{position}"',
+        day = day or self._day
+        return {"Cdm-Position": str(position), "Cdm-At": day.at(position), "ETag": f'"{self._log.id}.{day.past(position)}-{position}"',
                 "Vary": "Accept, Accept-Encoding", **stale}
 
-    async def of_moment(self, request: web.Request, position: int, form: str, body: bytes) -> web.Response:
-        """An answer about the day at one moment, which may be had already. Raises Problem."""
-        headers = self.tags(position) | {"Content-Type": TYPES[form]}
+    async def of_moment(self, request: web.Request, position: int, form: str, body: bytes, day: Day | None = None) -> web.Response:
+        """An answer about a day, the present one if none is said, at one moment, which may be had already. Raises Problem."""
+        headers = self.tags(position, day) | {"Content-Type": TYPES[form]}
         response = await pack(request, body, headers, position > self._day.doubtful)
         self._unsent.check(self._asker(request), response.content_length or 0, _is_tower(request))
         return response

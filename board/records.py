@@ -67,10 +67,15 @@ class Records:
             except TimeoutError:
                 raise Problem(504, "no reply yet; send again with the same key") from None
             self._replied = time.monotonic()
-        records = self._day.records[positions[0] - 1:positions[-1]]
+        # The day may have changed since, or the key came before that.
+        try:
+            day = self._day if positions[0] >= self._day.first else await self.sequencer.past.of_position(positions[0])
+        except Problem:
+            raise Problem(504, "no reply yet; send again with the same key") from None
+        records = day.of(positions[0], positions[-1])
         # A fail-over that lost them may have given their positions to others.
         refuse([(record.desk, record.line) for record in records] != [(desk.name, line) for line in lines], 504, NOT_KNOWN)
-        return self._day.texts(records)
+        return day.texts(records)
 
     @contextlib.contextmanager
     def _counted(self) -> Iterator[None]:

@@ -2,6 +2,7 @@
 
 What the program replied is told by its `trace`, which is proved to say what `serve` says."""
 import asyncio
+import copy
 import json
 from asyncio.subprocess import DEVNULL, PIPE
 from collections.abc import Sequence
@@ -10,7 +11,7 @@ from pathlib import Path
 from board.answers import LIMITED, day_of, ended
 from board.day import Day, text_of
 from board.digests import Digests
-from board.log import Away, Log, Record
+from board.log import Away, Change, Log, Record
 from board.program import MOST_REPLY, same
 from board.words import Fault, tell
 
@@ -20,27 +21,41 @@ TRACE_SECONDS = 900.0
 TRACE = ("trace", "airport.csv", "replies.csv", "--format", "json")
 
 
-async def day_of_log(folder: str, program: str, log: Log, kinds: bytes) -> tuple[str, Day]:
-    """The date and the day of a log. Raises Fault, also if the log has digests of records that it hasn't."""
-    # Its digests are read first: so each is of records that are read too.
-    digests = await log.digests()
-    date, day = await day_of(folder, program, await log.whole(), kinds)
+async def day_of_log(folder: str, program: str, log: Log, kinds: bytes) -> Day:
+    """The last day of a log: nothing before it is read. Raises Fault, also if the log has digests of records that it hasn't."""
+    while True:
+        # Its digests are read first: so each is of records that are read too.
+        digests = await log.digests()
+        try:
+            changes = await log.changes()
+            change = await log.change(changes[-1].position) if changes else Change(0, log.airport)
+        except Away:
+            change = None
+        if change is not None:
+            records = await log.whole(max(0, change.position - 1))
+            if not change.position or records and records[0].is_change:
+                break
+        await asyncio.sleep(AGAIN_SECONDS / 10)
+    # Another day may have begun meanwhile; the sequencer comes to it.
+    end = next((number for number, record in enumerate(records) if number and record.is_change), len(records))
+    day = await day_of(folder, program, records[:end], kinds, change)
     check_length(day, digests, log.name)
-    return date, day
+    return day
 
 
 def check_length(day: Day, digests: dict[int, str], name: str) -> None:
     """Raises Fault if a log has digests of records that it hasn't."""
-    if (most := max(digests, default=0)) > len(day.records):
-        raise Fault(f"{name}: position {len(day.records) + 1} is missing, and there were {most} records or more")
+    if (most := max(digests, default=0)) > day.position:
+        raise Fault(f"{name}: position {day.position + 1} is missing, and there were {most} records or more")
 
 
 class Again:
-    """Replies to records of before, which are given again in their order, for the digests alone."""
+    """Replies to records of before, which are given again in their order behind those that were carried over, for the digests alone."""
 
-    def __init__(self, records: Sequence[Record], digests: Digests) -> None:
+    def __init__(self, records: Sequence[Record], digests: Digests, carried: int = 0) -> None:
         self._records = records
         self._digests = digests
+        self._carried = carried
 
     def take(self, reply: object) -> None:
         """A reply of `trace`, which leaves out those that change nothing. Raises ValueError."""
@@ -53,30 +68,37 @@ class Again:
                 pass
             case _:
                 raise ValueError("a reply of no form that it has")
-        if number <= self._digests.position:
+        number -= self._carried
+        if number <= self._done():
             return
         self.unchanged(number - 1)
         if number > len(self._records):
             raise ValueError(f"a reply to record {number}, which isn't there")
         self._add(word, changes)
 
-    def unchanged(self, position: int) -> None:
-        """The next records, up to a position, changed nothing."""
-        for record in self._records[self._digests.position:position]:
+    def _done(self) -> int:
+        """How many have their replies."""
+        return self._digests.position - self._digests.base
+
+    def unchanged(self, number: int) -> None:
+        """The next records, up to one of them, changed nothing."""
+        for record in self._records[self._done():number]:
             self._add(record.word, [])
 
     def _add(self, word: str | None, changes: list[object]) -> None:
-        self._digests.add(text_of(self._records[self._digests.position]._replace(word=word), changes))
+        self._digests.add(text_of(self._records[self._done()]._replace(word=word), changes))
 
 
-async def reply_again(folder: str, program: str, records: Sequence[Record], digests: Digests) -> None:
-    """Has the program reply to records from the first one on. Raises Fault."""
+async def reply_again(folder: str, program: str, day: Day) -> None:
+    """Has the program reply to a day's records from the first one on. Raises Fault."""
+    records, carried = [record for record in day.records if not record.is_change], day.change.lines
     if not records:
         return
-    again = Again(records, digests)
-    Path(folder, TRACE[2]).write_text("".join(f"{record.role},{record.line}\n" for record in records), "ascii")
-    process = await asyncio.create_subprocess_exec(
-        *LIMITED, same(program), *TRACE, cwd=folder, stdin=DEVNULL, stdout=PIPE, limit=MOST_REPLY, start_new_session=True)
+    again = Again(records, day.digests, len(carried))
+    lines = [*carried, *(f"{record.role},{record.line}" for record in records)]
+    Path(folder, TRACE[2]).write_text("".join(f"{line}\n" for line in lines), "ascii")
+    process = await asyncio.create_subprocess_exec(*LIMITED, same(program), TRACE[0], day.change.file, *TRACE[2:], cwd=folder, stdin=DEVNULL,
+                                                   stdout=PIPE, limit=MOST_REPLY, start_new_session=True)
     assert process.stdout is not None
     try:
         async with asyncio.timeout(TRACE_SECONDS):
@@ -122,7 +144,7 @@ class Keeper:
         digests = day.digests
         try:
             if not day.digest_kept():
-                await reply_again(self._folder, self._program, tuple(day.records), digests)
+                await reply_again(self._folder, self._program, copy.copy(day))
             if digests is not day.digests or not day.digest_kept():
                 return False
             kept = await self._log.digests()
@@ -141,7 +163,7 @@ class Keeper:
         """Whether the log has these digests now; not if it is away, or lacks their records, so that the day is about to begin anew."""
         starts = self._day.starts
         try:
-            kept = await self._log.keep([(self._day.records[position - 1], digest) for position, digest in said.items()])
+            kept = await self._log.keep([(self._day.of(position, position)[0], digest) for position, digest in said.items()])
         except (Away, Fault):
             return False
         if starts == self._day.starts:

@@ -22,7 +22,7 @@ ALTER TABLE public.cdm_log ADD COLUMN IF NOT EXISTS
     secret text NOT NULL DEFAULT replace(gen_random_uuid()::text || gen_random_uuid()::text, '-', '');
 CREATE TABLE IF NOT EXISTS public.cdm_record (
     board text NOT NULL,
-    position integer NOT NULL CHECK (position BETWEEN 1 AND 60000),
+    position integer NOT NULL CHECK (position >= 1),
     desk text NOT NULL, key text, n integer NOT NULL, lines integer NOT NULL,
     role text NOT NULL CHECK (role IN ('AO', 'GH', 'AP', 'ATC', 'NM')),
     line text NOT NULL CHECK (line COLLATE "C" ~ '^[ !#-~]{1,100}$'),
@@ -36,6 +36,17 @@ DO $$ BEGIN
         ALTER TABLE public.cdm_log ADD CONSTRAINT cdm_log_readable CHECK (id ~ '^[0-9A-Za-z]{1,32}$') NOT VALID;
     END IF;
 END $$;
+-- A log has any number of days; those of a release before had one, of 60,000 records at most.
+DO $$ BEGIN
+    IF EXISTS (SELECT FROM pg_constraint WHERE conname = 'cdm_record_position_check' AND pg_get_constraintdef(oid) LIKE '%60000%') THEN
+        ALTER TABLE public.cdm_record DROP CONSTRAINT cdm_record_position_check;
+        ALTER TABLE public.cdm_record ADD CONSTRAINT cdm_record_position_check CHECK (position >= 1) NOT VALID;
+    END IF;
+END $$;
+-- What stands beside a change of day, which is a record: the airport file from there on, and the feed with which the new day begins.
+CREATE TABLE IF NOT EXISTS public.cdm_day (
+    board text NOT NULL, position integer NOT NULL, airport bytea NOT NULL, feed bytea NOT NULL,
+    digest text NOT NULL CHECK (digest = encode(sha256(airport || feed), 'hex')), PRIMARY KEY (board, position));
 -- Sessions of a desk are numbered from 0; those before `not_before` have ended.
 CREATE TABLE IF NOT EXISTS public.cdm_session (
     board text NOT NULL, desk text NOT NULL, not_before integer NOT NULL, PRIMARY KEY (board, desk));
@@ -49,7 +60,8 @@ CREATE TABLE IF NOT EXISTS public.cdm_audit (
 CREATE INDEX IF NOT EXISTS cdm_audit_board ON public.cdm_audit (board, event);
 
 -- Takes batches of records, in their order, and returns one answer for each: {"first": position, "count": n}, or
--- {"status": 403 or 422, "closed": whether the batch says why itself}. A board that is new is made where id, airport and version are given.
+-- {"status": 403, 422 or 503, "closed": whether the batch says why itself}. A batch with a change of day is taken only at the position for
+-- which it was made. A board that is new is made where id, airport and version are given.
 -- The lock of the board's row is held until the commit has ended, so positions become visible in their order and without a gap. Only who
 -- may change the row can take it. Each statement below it sees what was committed before the lock was had, which needs `read committed`.
 -- The lock is written to the database's log, so each commit waits for the standby, even if it only found a key: a primary that was
@@ -59,6 +71,7 @@ CREATE OR REPLACE FUNCTION public.cdm_append(
     RETURNS jsonb LANGUAGE plpgsql VOLATILE SECURITY DEFINER SET search_path = pg_catalog, pg_temp AS $$
 DECLARE
     batch jsonb; answers jsonb := '[]'; count_new integer; first_kept integer; kept text[]; sent text[]; last integer; mine integer;
+    first_of_day integer;
 BEGIN
     IF current_setting('transaction_isolation') <> 'read committed' THEN
         RAISE EXCEPTION 'cdm_append needs the isolation level read committed';
@@ -90,8 +103,17 @@ BEGIN
             CONTINUE;
         END IF;
         SELECT coalesce(max(position), 0) INTO last FROM public.cdm_record WHERE board = of_board;
-        SELECT count(*) INTO mine FROM public.cdm_record WHERE board = of_board AND desk = batch ->> 'desk';
-        IF last + count_new > (batch ->> 'end')::integer OR mine + count_new > (batch ->> 'most')::integer THEN
+        SELECT coalesce(max(position), 1) INTO first_of_day FROM public.cdm_day WHERE board = of_board;
+        SELECT count(*) INTO mine FROM public.cdm_record WHERE board = of_board AND desk = batch ->> 'desk' AND position >= first_of_day;
+        IF batch -> 'change' IS NOT NULL THEN
+            IF (batch #>> '{change,position}')::integer <> last + 1 OR count_new <> 1 OR batch #>> '{records,0,0}' <> 'ATC'
+                OR batch #>> '{records,0,1}' !~ '^DAY,[0-9]{4}-[0-9]{2}-[0-9]{2}$' THEN
+                answers := answers || '{"status": 503}'::jsonb;
+                CONTINUE;
+            END IF;
+            INSERT INTO public.cdm_day VALUES (of_board, last + 1, decode(batch #>> '{change,airport}', 'base64'),
+                decode(batch #>> '{change,feed}', 'base64'), batch #>> '{change,digest}');
+        ELSIF last + 1 - first_of_day + count_new > (batch ->> 'end')::integer OR mine + count_new > (batch ->> 'most')::integer THEN
             answers := answers || '{"status": 403, "closed": false}'::jsonb;
             CONTINUE;
         END IF;
@@ -105,6 +127,16 @@ BEGIN
         answers := answers || jsonb_build_object('first', last + 1, 'count', count_new);
     END LOOP;
     RETURN answers;
+END $$;
+
+-- Holds the lock of a board until the transaction ends, or is silent for so long, and returns the last position: a change of day carries over
+-- what comes before it.
+CREATE OR REPLACE FUNCTION public.cdm_hold(of_board text, silent text)
+    RETURNS integer LANGUAGE plpgsql VOLATILE SECURITY DEFINER SET search_path = pg_catalog, pg_temp AS $$
+BEGIN
+    PERFORM set_config('idle_in_transaction_session_timeout', silent, true);
+    PERFORM 1 FROM public.cdm_log WHERE cdm_log.board = of_board FOR UPDATE;
+    RETURN (SELECT coalesce(max(position), 0) FROM public.cdm_record WHERE board = of_board);
 END $$;
 
 -- Keeps events that are no records, up to 20,000 of a board. Returns how many were kept.
@@ -154,16 +186,19 @@ ALTER TABLE public.cdm_record OWNER TO cdm_owner;
 ALTER TABLE public.cdm_session OWNER TO cdm_owner;
 ALTER TABLE public.cdm_audit OWNER TO cdm_owner;
 ALTER TABLE public.cdm_digest OWNER TO cdm_owner;
+ALTER TABLE public.cdm_day OWNER TO cdm_owner;
+ALTER FUNCTION public.cdm_hold(text, text) OWNER TO cdm_owner;
 ALTER FUNCTION public.cdm_append(text, jsonb, text, bytea, text) OWNER TO cdm_owner;
 ALTER FUNCTION public.cdm_note(text, jsonb) OWNER TO cdm_owner;
 ALTER FUNCTION public.cdm_keep(text, jsonb) OWNER TO cdm_owner;
 ALTER FUNCTION public.cdm_sign_out(text, text, integer) OWNER TO cdm_owner;
-REVOKE ALL ON public.cdm_log, public.cdm_record, public.cdm_session, public.cdm_audit, public.cdm_digest FROM PUBLIC, cdm_server;
+REVOKE ALL ON public.cdm_log, public.cdm_record, public.cdm_session, public.cdm_audit, public.cdm_digest, public.cdm_day
+    FROM PUBLIC, cdm_server;
 REVOKE ALL ON FUNCTION public.cdm_append(text, jsonb, text, bytea, text), public.cdm_note(text, jsonb), public.cdm_keep(text, jsonb),
-    public.cdm_sign_out(text, text, integer) FROM PUBLIC;
-GRANT SELECT ON public.cdm_log, public.cdm_record, public.cdm_session, public.cdm_audit, public.cdm_digest TO cdm_server;
+    public.cdm_sign_out(text, text, integer), public.cdm_hold(text, text) FROM PUBLIC;
+GRANT SELECT ON public.cdm_log, public.cdm_record, public.cdm_session, public.cdm_audit, public.cdm_digest, public.cdm_day TO cdm_server;
 GRANT EXECUTE ON FUNCTION public.cdm_append(text, jsonb, text, bytea, text), public.cdm_note(text, jsonb), public.cdm_keep(text, jsonb),
-    public.cdm_sign_out(text, text, integer) TO cdm_server;
+    public.cdm_sign_out(text, text, integer), public.cdm_hold(text, text) TO cdm_server;
 GRANT USAGE ON SCHEMA public TO cdm_server;
 -- Nobody else has anything to do in this database.
 DO $$ BEGIN

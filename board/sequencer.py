@@ -9,20 +9,23 @@ import time
 from asyncio.subprocess import PIPE, Process
 from pathlib import Path
 
-from board.answers import START_SECONDS
+from board.answers import START_SECONDS, put_airport
+from board.carrying import carried_over
 from board.day import Day
 from board.life import End, Keep, Life, Ready
-from board.log import Changed, Log
+from board.log import Away, Change, Changed, Log, Record
 from board.metrics import RECORDS
+from board.past import Past
 from board.program import MOST_REPLY, same
 from board.replies import day_of_log
-from board.words import Fault, tell
+from board.words import Fault, Problem, tell
 
 # Records that are handed on together.
 MOST_AHEAD = 256
 # Seconds for a reply, and until a process that found no room is started again.
 PATIENCE_SECONDS = 10.0
 ROOM_SECONDS = 1.0
+AGAIN_SECONDS = 0.2
 # Bytes that the journal of a process may need beyond the day that it begins with.
 MOST_JOURNAL = 4 << 20
 
@@ -31,16 +34,29 @@ class Ended(Exception):
     """A sequencer that ended, or said what it mustn't say, and is not asked again."""
 
 
-class Sequencer:
-    """Hands the log's records on, and gives the replies to the day."""
+class NextDay(Exception):
+    """All records before a change of day have their replies."""
 
-    def __init__(self, program: str, folder: str, log: Log, day: Day) -> None:
+    def __init__(self, record: Record) -> None:
+        super().__init__(record.line)
+        self.record = record
+
+
+class Sequencer:
+    """Hands the log's records on, and gives the replies to the day. `carried`: the digest of the change of day that this server has made
+    itself."""
+
+    def __init__(self, program: str, folder: str, log: Log, day: Day, past: Past) -> None:
         self._program = program
         self._folder = folder
         self._log = log
         self._day = day
+        self.past = past
+        self._next: Record | None = None
+        self.carried = ""
         self.is_ready = asyncio.Event()
         self.starts = 0
+        self._is_first = False
         self._life = Life()
         self._is_without_room = False
 
@@ -48,11 +64,15 @@ class Sequencer:
         """Returns never. Rows that the database has lost are another day, which begins. Raises Fault if the sequencer ends too often."""
         while True:
             try:
+                if self._next is not None:
+                    await self._begin(self._next)
                 await self._serve_somewhere()
+            except NextDay as found:
+                self._next = found.record
             except Changed as changed:
                 tell(f"cdmboard: {changed}")
-                _, day = await day_of_log(self._folder, self._program, self._log, self._day.kinds.text)
-                self._day.restart(day)
+                self.past.forget()
+                self._day.restart(await day_of_log(self._folder, self._program, self._log, self._day.kinds.text))
             except (Ended, ConnectionError) as end:
                 tell(f"cdmboard: the sequencer: {end}")
                 if not self._life.ended(time.monotonic()):
@@ -66,17 +86,49 @@ class Sequencer:
                 self._is_without_room = True
                 await asyncio.sleep(ROOM_SECONDS)
 
+    async def carry(self, airport: bytes) -> bytes:
+        """The feed with which the next day begins, as the day is now. Raises Problem, Fault, OSError."""
+        return await carried_over(self._folder, self._program, self._day, airport)
+
+    async def _begin(self, record: Record) -> None:
+        """Begins the day of a change, if the log has it still. Raises Fault, OSError."""
+        self._next = None
+        try:
+            change = await self._log.change(record.position)
+        except Away:
+            await asyncio.sleep(AGAIN_SECONDS)
+            return
+        if change is not None:
+            await self._check(change)
+            put_airport(self._folder, change)
+            self.past.keep(self._day.begin(record, change, record.line.removeprefix("DAY,")))
+            # The day's first process isn't one that was started again.
+            self._is_first = True
+
+    async def _check(self, change: Change) -> None:
+        """Raises Fault if another server carried over otherwise than this one would."""
+        if change.digest == self.carried:
+            return
+        try:
+            feed = await self.carry(change.airport)
+        except Problem as problem:
+            tell(f"cdmboard: what was carried over at position {change.position} isn't compared: {problem}")
+            return
+        if feed != change.feed:
+            raise Fault(f"{self._log.name}: the change of day at position {change.position} carried over otherwise than this program does")
+
     async def _serve_somewhere(self) -> None:
         """One process, in a folder of its own where there is room for its journal: in memory, if there is."""
         journal = self._day.feed()
         with tempfile.TemporaryDirectory(dir=place_with_room(len(journal) + MOST_JOURNAL, self._folder)) as folder:
-            self.starts += 1
+            self.starts += not self._is_first
+            self._is_first = False
             Path(folder, "journal.csv").write_text(journal, "ascii")
             await self._serve(folder)
 
     async def _serve(self, folder: str) -> None:
         """One process, on the day as it is, until it ends. The next one gets the rest."""
-        words, patience = ("serve", f"{self._folder}/airport.csv", "journal.csv", "--format", "json"), PATIENCE_SECONDS
+        words, patience = ("serve", f"{self._folder}/{self._day.change.file}", "journal.csv", "--format", "json"), PATIENCE_SECONDS
         self._life.started(len(self._day.lines))
         process = await asyncio.create_subprocess_exec(
             same(self._program), *words, cwd=folder, stdin=PIPE, stdout=PIPE, limit=MOST_REPLY, start_new_session=True)
@@ -105,13 +157,17 @@ class Sequencer:
         while True:
             if process.returncode is not None:
                 raise Ended(f"it ended with {process.returncode}")
-            records = await self._log.rows(len(self._day.records), MOST_AHEAD)
+            records = await self._log.rows(self._day.position, MOST_AHEAD)
             if not records:
                 await self._log.grown.wait()
                 self._log.grown.clear()
-            lines.write(self._life.given(records).encode("ascii"))
+            change = next((record for record in records if record.is_change), None)
+            before = records[:records.index(change)] if change else records
+            lines.write(self._life.given(before).encode("ascii"))
             while self._life.due:
                 self._do(self._life.heard(await _reply(replies, PATIENCE_SECONDS)))
+            if change is not None:
+                raise NextDay(change)
 
     def _do(self, order: Ready | Keep | End) -> None:
         """Carries out what the life orders. Raises Ended."""

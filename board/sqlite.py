@@ -16,7 +16,8 @@ from typing import Any
 from urllib.parse import quote
 
 from board.commits import Commit, Commits
-from board.log import MOST_EVENTS, MOST_RECORDS, Accept, Away, Batch, Event, Kept, Record, accepted, audit_of, digests_as_json, records_of
+from board.log import (BEFORE, MOST_EVENTS, MOST_RECORDS, Accept, Away, Batch, Change, Event, Kept, Record, accepted, audit_of, change_of,
+                       digests_as_json, records_of)
 from board.words import Fault, Problem, now_text, tell
 from board.writer import COMMIT_SECONDS, Outcome
 
@@ -44,6 +45,9 @@ CREATE TABLE IF NOT EXISTS cdm_audit (
     position INTEGER, count INTEGER, detail TEXT);
 CREATE TABLE IF NOT EXISTS cdm_digest (
     board TEXT NOT NULL, position INTEGER NOT NULL, digest TEXT NOT NULL, PRIMARY KEY (board, position)) WITHOUT ROWID;
+CREATE TABLE IF NOT EXISTS cdm_day (
+    board TEXT NOT NULL, position INTEGER NOT NULL, airport BLOB NOT NULL, feed BLOB NOT NULL, digest TEXT NOT NULL,
+    PRIMARY KEY (board, position));
 COMMIT;
 """
 AUDIT = "SELECT at, event, desk, address, position, count, detail FROM cdm_audit WHERE board = ? ORDER BY number"
@@ -56,7 +60,16 @@ WHERE board = ?"""
 KEEP = f"INSERT INTO cdm_digest SELECT board, position, json_extract(value, '$[5]') {SAID} ON CONFLICT DO NOTHING"
 KEPT = f"SELECT position, digest FROM cdm_digest WHERE position IN (SELECT position {SAID}) AND board = ?"
 LOG = "SELECT id, airport, version, secret FROM cdm_log WHERE board = ?"
-ROWS = "SELECT position, desk, role, line, at FROM cdm_record WHERE board = ? AND position > ? ORDER BY position LIMIT ?"
+# A record is a change of day if something stands beside it.
+COLUMNS = """SELECT position, desk, role, line, at, cdm_day.position IS NOT NULL FROM cdm_record LEFT JOIN cdm_day USING (board, position)
+WHERE board = ? AND position > ?"""
+ROWS = f"{COLUMNS} ORDER BY position LIMIT ?"
+OLD_ROWS = "SELECT position, desk, role, line, at, 0 FROM cdm_record WHERE board = ? AND position > ? ORDER BY position LIMIT ?"
+CHANGES = f"{COLUMNS} AND cdm_day.position IS NOT NULL ORDER BY position"
+CHANGE = "SELECT airport, feed, digest FROM cdm_day WHERE board = ? AND position = ?"
+SOUGHT = """SELECT min(position) FROM cdm_record WHERE board = ? AND position > ? AND position <= ? AND (? IS NULL OR desk = ?)
+AND (? IS NULL OR instr(line || ',', ',' || ? || ',') > 0)"""
+PRESENT = "SELECT airport FROM cdm_day WHERE board = ? ORDER BY position DESC LIMIT 1"
 LOCKED = (sqlite3.SQLITE_BUSY, sqlite3.SQLITE_LOCKED)
 # What may be otherwise at the next try, without anybody's change of a file.
 PASSING = (*LOCKED, sqlite3.SQLITE_FULL, sqlite3.SQLITE_IOERR, sqlite3.SQLITE_NOMEM)
@@ -80,6 +93,7 @@ class FileLog(Kept):
         self._database: sqlite3.Connection | None = None
         self._index: int | None = None
         self._commits = Commits(self._begin)
+        self._changing: asyncio.Task[End] | None = None
         self._failed_at = ""
         # What ended the log; None: a commit failed, and the log is to be tried again.
         self._ends = asyncio.Queue[Fault | None]()
@@ -104,7 +118,8 @@ class FileLog(Kept):
         except (OSError, sqlite3.Error) as fault:
             raise Fault(f"{self.name}: {fault}", status_of(fault)) from None
         self.id, self.airport, made_by, self.secret = row
-        self.check(airport, made_by, version)
+        present = database.execute(PRESENT, log[:1]).fetchone()
+        self.check(airport, made_by, version, present and present[0])
 
     def _update(self, database: sqlite3.Connection, secret: str) -> None:
         """An older log gets a secret, and nobody else may read its file then."""
@@ -124,7 +139,7 @@ class FileLog(Kept):
         self._database = sqlite3.connect(self.name, timeout=BUSY_SECONDS, isolation_level=None, check_same_thread=False)
         self._database.executescript(PRAGMAS)
         # A log that is complete is opened without a lock, which another program may hold for a while.
-        if not self._database.execute("SELECT 1 FROM sqlite_master WHERE name = 'cdm_digest'").fetchone():
+        if self._database.execute("SELECT count(*) FROM sqlite_master WHERE name IN ('cdm_digest', 'cdm_day')").fetchone() != (2,):
             self._database.executescript(SCHEMA)
         # It stays open: who closes a file takes away each of the process's locks on it, SQLite's too.
         self._index = os.open(f"{self.name}-shm", os.O_RDWR | os.O_CLOEXEC)
@@ -150,8 +165,30 @@ class FileLog(Kept):
     def _begin(self, commit: Commit) -> None:
         """Has a transaction run in the thread. One that hangs keeps the thread, but no desk."""
         overdue = self._loop.call_later(COMMIT_SECONDS, self._overdue, commit.number)
-        done = self._loop.run_in_executor(self._thread, self._committed, commit.batches)
+        done: asyncio.Future[End]
+        if commit.batches[0].change is None:
+            done = self._loop.run_in_executor(self._thread, self._committed, commit.batches)
+        else:
+            done = self._changing = self._loop.create_task(self._changed(commit.batches[0]))
         done.add_done_callback(lambda done: self._done(commit.number, overdue, done))
+
+    async def _changed(self, batch: Batch) -> "End":
+        """A change of day in a transaction of its own. What came before it is carried over while no other one runs."""
+        try:
+            last = await self._loop.run_in_executor(self._thread, self._last)
+            batch = await batch.carried(last)
+        except Problem as problem:
+            return [problem]
+        except sqlite3.Error as fault:
+            return Outcome.NOTHING, fault
+        return await self._loop.run_in_executor(self._thread, self._committed, [batch])
+
+    def _last(self) -> int:
+        """In the thread: the last position."""
+        if self._database is None:
+            raise sqlite3.OperationalError("it isn't open")
+        last: int = self._database.execute("SELECT coalesce(max(position), 0) FROM cdm_record WHERE board = ?", (self._board,)).fetchone()[0]
+        return last
 
     def _overdue(self, number: int) -> None:
         why = f"a commit takes longer than {COMMIT_SECONDS:.0f} seconds"
@@ -230,11 +267,18 @@ class FileLog(Kept):
             if kept:
                 return range(kept[0][0], kept[0][0] + len(kept))
         last, = query("SELECT coalesce(max(position), 0) FROM cdm_record WHERE board = ?", desk[:1]).fetchone()
-        mine, = query("SELECT count(*) FROM cdm_record WHERE board = ? AND desk = ?", desk).fetchone()
+        # The day's first position.
+        first, = query("SELECT coalesce(max(position), 1) FROM cdm_day WHERE board = ?", desk[:1]).fetchone()
+        mine, = query("SELECT count(*) FROM cdm_record WHERE board = ? AND desk = ? AND position >= ?", (*desk, first)).fetchone()
         if batch.closed is not None:
             return Problem(403, batch.closed)
-        if last + count > batch.end or mine + count > batch.most:
+        change = batch.change
+        if change is None and (last + 1 - first + count > batch.end or mine + count > batch.most):
             return batch.full()
+        if change is not None:
+            if change.position != last + 1:
+                return Problem(503, BEFORE)
+            query("INSERT INTO cdm_day VALUES (?, ?, ?, ?, ?)", (self._board, last + 1, change.airport, change.feed, change.digest))
         database.executemany(
             "INSERT INTO cdm_record VALUES (?, ?, ?, ?, ?, ?, ?, ?, ?)",
             [(self._board, last + 1 + n, batch.desk, batch.key, n, count, *record, batch.at) for n, record in enumerate(batch.records)])
@@ -260,12 +304,30 @@ class FileLog(Kept):
             raise sqlite3.OperationalError("it isn't open")
         return rows_of(self._database, self.name, self._board, after, most)
 
-    async def whole(self) -> list[Record]:
-        """All records. Raises Fault."""
+    async def whole(self, after: int = 0) -> list[Record]:
+        """All records behind a position. Raises Fault."""
         try:
-            return await self._loop.run_in_executor(self._thread, self._rows, 0, MOST_RECORDS)
+            return await self._loop.run_in_executor(self._thread, self._rows, after, -1)
         except sqlite3.Error as fault:
             raise Fault(f"{self.name}: {fault}", status_of(fault)) from None
+
+    async def changes(self) -> list[Record]:
+        """All changes of day. Raises Away, Fault."""
+        return [Record(*row[:5])._replace(is_change=True) for row in await self._call(CHANGES, self._board, 0)]
+
+    async def change(self, position: int) -> Change | None:
+        """What stands beside the change of day at a position. Raises Away, Fault."""
+        return change_of(self.name, position, await self._call(CHANGE, self._board, position))
+
+    async def between(self, first: int, last: int) -> list[Record]:
+        """The records from one position to another. Raises Away, Fault."""
+        return records_of(self.name, first - 1, await self._call(ROWS, self._board, first - 1, last - first + 1))
+
+    async def sought(self, after: int, last: int, flight: str | None, desk: str | None) -> int | None:
+        """The first position behind another, up to a last one, that may be of a flight and of a desk. Raises Away, Fault."""
+        (found,), = await self._call(SOUGHT, self._board, after, last, desk, desk, flight, flight)
+        position: int | None = found
+        return position
 
     async def digests(self) -> dict[int, str]:
         """The digests of the replies, each by the position up to which it goes. Raises Fault."""
@@ -338,6 +400,9 @@ class FileLog(Kept):
 
     async def close(self) -> None:
         """Ends what is open."""
+        if self._changing is not None:
+            self._changing.cancel()
+            await asyncio.gather(self._changing, return_exceptions=True)
         self._thread.shutdown()
         self._disconnect()
         for lock in self._locks:
@@ -371,14 +436,21 @@ def status_of(fault: Exception) -> int:
     return 1 if passes else 3
 
 
-async def read_log(path: str, board: str) -> tuple[bytes, str, list[Record]]:
-    """Airport file, program and all records of a log, also while it is served. Raises Fault."""
+async def read_log(path: str, board: str) -> tuple[list[Change], str, list[Record]]:
+    """What begins each day, the program, and all records of a log, also while it is served. Raises Fault."""
     try:
         with contextlib.closing(sqlite3.connect(f"file:{quote(path)}?mode=ro", uri=True)) as database:
             row = database.execute("SELECT airport, version FROM cdm_log WHERE board = ?", (board,)).fetchone()
             if row is None:
                 raise Fault(f"{path} has no board {board!a} (--board NAME)")
-            return row[0], row[1], rows_of(database, path, board, 0, MOST_RECORDS)
+            if not database.execute("SELECT 1 FROM sqlite_master WHERE name = 'cdm_day'").fetchone():
+                return [Change(0, row[0])], row[1], records_of(path, 0, database.execute(OLD_ROWS, (board, 0, -1)).fetchall())
+            # All of one moment.
+            database.execute("BEGIN")
+            records = rows_of(database, path, board, 0, -1)
+            changes = [change_of(path, record.position, database.execute(CHANGE, (board, record.position)).fetchall())
+                       for record in records if record.is_change]
+            return [Change(0, row[0]), *(change for change in changes if change)], row[1], records
     except sqlite3.Error as fault:
         raise Fault(f"{path} is no log: {fault}") from None
 
@@ -422,7 +494,7 @@ async def copy_log(path: str, board: str, copy: str) -> None:
 
 
 def write_log(copy: str, log: Sequence[object], rows: Sequence[Sequence[object]], digests: Sequence[Sequence[object]],
-              audit: Sequence[Sequence[object]]) -> None:
+              audit: Sequence[Sequence[object]], days: Sequence[Sequence[object]]) -> None:
     """A log in a file that is empty, of the rows of its tables. Raises Fault."""
     try:
         with contextlib.closing(sqlite3.connect(copy, isolation_level=None)) as database:
@@ -430,6 +502,7 @@ def write_log(copy: str, log: Sequence[object], rows: Sequence[Sequence[object]]
             database.execute("INSERT INTO cdm_log (board, id, airport, version) VALUES (?, ?, ?, ?)", log)
             database.executemany("INSERT INTO cdm_record VALUES (?, ?, ?, ?, ?, ?, ?, ?, ?)", rows)
             database.executemany("INSERT INTO cdm_digest VALUES (?, ?, ?)", [(log[0], *row) for row in digests])
+            database.executemany("INSERT INTO cdm_day VALUES (?, ?, ?, ?, ?)", [(log[0], *row) for row in days])
             database.executemany("INSERT INTO cdm_audit (board, at, event, desk, address, position, count, detail)"
                                  " VALUES (?, ?, ?, ?, ?, ?, ?, ?)", [(log[0], *row) for row in audit])
             database.execute("COMMIT")

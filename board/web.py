@@ -12,7 +12,9 @@ from aiohttp import HttpVersion11, web
 from board.answers import Answers
 from board.audit import Audit
 from board.callers import Callers
+from board.changing import Changing
 from board.day import Day
+from board.days import Days
 from board.desks import READER, Desk
 from board.events import Events, Stream
 from board.files import Files
@@ -57,7 +59,9 @@ class Board:
         self._files = Files()
         self._unsent = Unsent()
         self._requests = set["asyncio.Task[object]"]()
-        self.questions = Questions(log, day, answers, self._unsent, callers.asker)
+        self.questions = Questions(log, sequencer.past, day, answers, self._unsent, callers.asker)
+        self.changing = Changing(log, day, answers, self.records)
+        self._days = Days(callers, day, sequencer.past, self.changing, self.questions)
         self.health = Health(log, day, answers, events, self.records, self._unsent)
 
     @web.middleware
@@ -82,7 +86,7 @@ class Board:
             with contextlib.suppress(TimeoutError, Problem):
                 async with asyncio.timeout(AFTER_LIMIT):
                     await self.day.reached(int(after))
-            refuse(int(after) > len(self.day.records), 503, "this position isn't here yet", Retry_After="1")
+            refuse(int(after) > self.day.position, 503, "this position isn't here yet", Retry_After="1")
         return await handler(request)
 
     @web.middleware
@@ -206,7 +210,7 @@ class Board:
         """All paths."""
         application = web.Application(middlewares=[self.answered, self.checked], client_max_size=MOST_BODY + 1)
         application.add_routes([
-            web.post("/v1/records", self.post_records), *self.questions.routes(),
+            web.post("/v1/records", self.post_records), *self.questions.routes(), *self._days.routes(),
             web.post("/v1/session", self.signing.sign_in), web.delete("/v1/session", self.signing.sign_out),
             web.get("/v1/who", self.who), web.get("/v1/events", self.get_events, allow_head=False),
             web.get("/health", self.health.health), web.get("/ready", self.health.ready), web.get("/metrics", self.health.metrics),

@@ -55,7 +55,8 @@ class Writer:
     def __init__(self, closed: str | None = None) -> None:
         self._closed = closed
         self._number = 0
-        # Those that wait; those that go one by one, since a transaction with them was refused; those of the transaction that runs.
+        # Those that wait; those that go one by one, since a transaction with them was refused, or which change the day; those of the
+        # transaction that runs.
         self._waiting = dict[int, Batch]()
         self._alone = dict[int, Batch]()
         self._running: dict[int, Batch] | None = None
@@ -79,7 +80,8 @@ class Writer:
             return [Answer(ticket, nothing(self._closed))]
         if self.waiting >= MOST_WAITING:
             return [Answer(ticket, nothing(MANY))]
-        self._waiting[ticket] = batch
+        # A change of day needs the last position for itself.
+        (self._waiting if batch.change is None else self._alone)[ticket] = batch
         return self._next()
 
     def waited(self, ticket: int) -> list[Order]:

@@ -1,6 +1,6 @@
 // NOW, the totals, and how the connection is; light or dark.
 import { $, el, say } from './dom.js';
-import { clock } from './net.js';
+import { clock, objects, Problem } from './net.js';
 import { recordText } from './moves.js';
 import { dayText, hm, hms } from './times.js';
 
@@ -20,6 +20,23 @@ export class Head {
     this.written = -PAUSE;
     this.timer = 0;
     setInterval(() => this.clockText(), 1000);
+    $('#date').addEventListener('click', (event) => {
+      event.preventDefault();
+      this.ahead();
+    });
+  }
+
+  /** What is to be known before the day changes, and the plan of the day before. */
+  async ahead() {
+    const box = $('#day');
+    box.showPopover();
+    try {
+      const [{ told, before, next }] = (await objects('/v1/day.json')).list;
+      box.replaceChildren(`Before ${dayText(next)}`, el('pre', {}, told.join('\n')), before ? el('a', { href: `/v1/plan?day=${before}` }, `Plan of ${dayText(before)}`) : '');
+    } catch (problem) {
+      if (!(problem instanceof Problem)) throw problem;
+      box.replaceChildren(`No answer: ${problem.message}.`);
+    }
   }
 
   now() {

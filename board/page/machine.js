@@ -42,7 +42,7 @@ export class Machine extends Following {
         path: () => `/v1/records?since=${this.stream.moment.position}`, after: () => this.stream.moment.position },
       { name: 'next', isOfDay: true, isWanted: isOn, path: () => '/v1/next.json' },
       { name: 'why', isOfDay: true, isWanted: () => isOn() && Boolean(flight()) && this.day.rows.has(flight()), path: () => `/v1/why/${flight()}.json` },
-      { name: 'records', isOfDay: true, isWanted: () => isOn() && Boolean(flight()), path: () => `/v1/records?flight=${flight()}` },
+      { name: 'records', isOfDay: true, isWanted: () => isOn() && Boolean(flight()), path: () => `/v1/records?flight=${flight()}&day=${this.day.date}` },
       { name: 'totals', isOfDay: true, isWanted: isOn, path: () => '/v1/compare', method: 'POST', body: '', accept: 'application/json' },
       { name: 'warnings', isOfDay: true, isWanted: isOn, path: () => '/v1/warnings.json' },
       { name: 'load', isOfDay: true, isWanted: isOn, path: () => '/v1/load.json' },

@@ -56,7 +56,7 @@ export class Reading extends Views {
     if (!this.isWanted(moment, answer)) return false;
     const isOther = this.rows !== null && (moment.log !== this.rows.log || this.need?.isOther === true);
     const since = this.rows && !isOther ? Math.max(0, this.rows.position - RECENT) : null; // the last ones may be of another past
-    const isWhole = this.isBroken;
+    const isWhole = this.isBroken || this.rows !== null && this.day.date !== plan.day; // on another date each time has other words
     const changed = this.day.take(plan, moment.position, `${moment.log}-${moment.position}`);
     if (isWhole) for (const [name, row] of this.day.rows) if (!changed.has(name)) changed.set(name, [row, row]);
     const { queue, isFirst } = this;

@@ -226,7 +226,8 @@ EACH_LOG = ("test_a_reply_goes_to_its_own_record", "test_a_desk_speaks_for_its_o
             "test_a_sequencer_that_says_what_it_must_not_say_is_ended", "test_what_is_kept_of_replies_is_bounded", "test_a_day_is_its_log",
             "test_what_was_answered_is_kept", "test_an_end_answers_what_waits", "test_the_clock_is_taken",
             "test_an_operator_sends_for_its_own_flights", "test_each_event_once_among_many_displays",
-            "test_a_log_is_bound_to_no_airport_file_that_is_refused")
+            "test_a_log_is_bound_to_no_airport_file_that_is_refused", "test_a_day_begins", "test_who_changes_the_day",
+            "test_a_display_stays_connected")
 
 
 def pytest_generate_tests(metafunc):

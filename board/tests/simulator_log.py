@@ -2,8 +2,8 @@
 """Runs the log's machines over a clock and an engine of its own, under schedules drawn by a seed, and holds them to their laws.
     board/tests/simulator_log.py [COUNT [FIRST_SEED]]
 The engine is a model of SQLite's file and of PostgreSQL: commits that are slow, fail, hang, or end without an answer; servers that are
-killed; desks that go away; fail-overs that lose records or don't; a database of the past; a sequencer that says what it mustn't. What
-decides is the real code of board/writer.py, following.py and life.py."""
+killed; desks that go away; fail-overs that lose records or don't; a database of the past; a sequencer that says what it mustn't; changes of
+day in the middle of it all. What decides is the real code of board/writer.py, following.py and life.py."""
 import heapq
 import itertools
 import pathlib
@@ -17,7 +17,8 @@ sys.path.insert(0, str(ROOT))
 from board import following as real_following  # noqa: E402
 from board import life as real_life  # noqa: E402
 from board import writer as real_writer  # noqa: E402
-from board.log import Batch, Record  # noqa: E402
+from board.log import CARRY_SECONDS, Batch, Change, Record  # noqa: E402
+from board.words import Problem  # noqa: E402
 
 # So small that schedules reach them.
 TOGETHER, WAITING = 3, 6
@@ -81,18 +82,28 @@ def word_of(state, line):
     return "WORD" if zlib.crc32(line.encode(), state) % 4 == 0 else None
 
 
+def carried(lines):
+    """What of a day's accepted lines the next day begins with."""
+    state, found = 0, []
+    for line in lines:
+        if zlib.crc32(line.encode()) % 3 and not word_of(state, line):
+            state = zlib.crc32(line.encode(), state)
+            found.append(line)
+    return found
+
+
 class Transaction:
-    """One transaction in the engine, of one server."""
+    """One transaction in the engine, of one server. `held`: since when it keeps the others waiting, to carry over a day."""
 
     def __init__(self, server, commit):
-        self.server, self.commit, self.is_over, self.is_heard, self.is_overdue = server, commit, False, True, False
+        self.server, self.commit, self.is_over, self.is_heard, self.is_overdue, self.held = server, commit, False, True, False, None
 
 
 class Engine:
     """The records that are committed, and who may commit: one transaction after the other."""
 
     def __init__(self, world):
-        self.world, self.rows, self.keys = world, [], {}
+        self.world, self.rows, self.keys, self.changes = world, [], {}, {}
         self.turn, self.queue, self.timeline, self.past = None, [], 1, None
         self.is_file = world.chance.random() < 0.5
 
@@ -107,6 +118,24 @@ class Engine:
                 kept = self.keys[batch.desk, batch.key] = range(len(self.rows) + 1, len(self.rows) + 1 + len(batch.records))
                 self.rows += [(batch.desk, batch.key, line) for _, line in batch.records]
             said.append(kept)
+        return said
+
+    def change(self, transaction):
+        """The answers of a transaction that changes the day: what came before it is carried over now; None where its server hasn't that yet."""
+        (batch,), last, now = transaction.commit.batches, len(self.rows), self.world.clock.now
+        feed, number = list(batch.change.feed), int(batch.records[0][1].partition(",")[2])
+        if batch.change.position != last + 1:
+            if transaction.held is None:
+                transaction.held = now
+            if transaction.server.is_dead or now - transaction.held >= CARRY_SECONDS:
+                return [Problem(503, "the day wasn't carried over")]
+            if len(transaction.server.day) != last:
+                return None
+            if transaction.server.number != number - 1:
+                return [Problem(409, "another day began meanwhile")]
+            feed = transaction.server.carry()
+        said = self.append([batch])
+        self.changes[last + 1] = feed
         return said
 
     def begin(self, transaction):
@@ -125,14 +154,17 @@ class Engine:
         if not 0 < position <= len(rows):
             return None
         desk, _, line = rows[position - 1]
-        return Record(position, desk, "AP", line)
+        return Record(position, desk, "AP", line, is_change=line.startswith("DAY,"))
 
     def fail_over(self):
         """Another database takes its place. What ran is over; without a synchronous standby the last records may be gone."""
         chance, running = self.world.chance, [*([self.turn] if self.turn else []), *self.queue]
         self.past, self.timeline = (self.timeline, list(self.rows)), self.timeline + 1
         if running and chance.random() < 0.5:
-            self.append(running[0].commit.batches)
+            if running[0].commit.batches[0].change is None:
+                self.append(running[0].commit.batches)
+            else:
+                self.change(running[0])
         if chance.random() < 0.5:
             self.lose(chance.randrange(4))
         self.turn, self.queue = None, []
@@ -147,7 +179,8 @@ class Engine:
         # A transaction is lost whole.
         kept = min([self.keys[desk, key].start - 1 for desk, key in gone], default=kept)
         del self.rows[kept:]
-        for desk in self.world.desks:
+        self.changes = {position: feed for position, feed in self.changes.items() if position <= kept}
+        for desk in [*self.world.desks, self.world.tower]:
             for body in desk.bodies:
                 there = self.keys.get((desk.name, body.key))
                 if there is not None and there.start > kept:
@@ -161,7 +194,12 @@ class Engine:
         chance, calm = self.world.chance, self.world.is_calm
         fate = "well" if calm else chance.choices(("well", "nothing", "lost", "kept"), (85, 5, 5, 5))[0]
         said = None
-        if fate in ("well", "kept"):
+        if fate in ("well", "kept") and transaction.commit.batches[0].change is not None:
+            said = self.change(transaction)
+            if said is None:
+                self.world.clock.at(0.1, self.end, transaction)
+                return
+        elif fate in ("well", "kept"):
             said = self.append(transaction.commit.batches)
             if said is None:
                 fate = "refused"
@@ -178,8 +216,9 @@ class Server:
         self.writer = self.machine.Writer("starting")
         self.following, self.life = world.following.Following(), world.life.Life()
         self.asked, self.transaction, self.is_dead = {}, None, False
-        # The day: records, each with what the sequencer said of it; and the process, with what it was told.
-        self.day, self.process, self.reads = [], None, 0
+        # All days: records, each with what the sequencer said of it; the present one: its number, and the lines with which it began and
+        # those that were accepted since; and the process, with what it was told.
+        self.day, self.number, self.lines, self.process, self.reads = [], 0, [], None, 0
         self.world.clock.at(0.1, self.reopened)
         self.world.clock.at(1, self.look)
 
@@ -204,7 +243,7 @@ class Server:
         rows = [self.world.engine.record_at(position) for position in range(1 if anew else after + 1, len(self.world.engine.rows) + 1)]
         self.following.handed_on(rows)
         if anew:
-            self.day, self.process = [], None
+            self.day, self.number, self.lines, self.process = [], 0, [], None
             self.following.wanted()
         self.reply(rows)
 
@@ -215,12 +254,40 @@ class Server:
             self.reads += 1
             self.world.clock.at(0.1, self.have_read, self.reads if self.is_linked else -1, True, 0)
 
+    def carry(self):
+        """What the next day begins with, as the day is here."""
+        return carried(self.lines)
+
+    def begin(self, change):
+        """The next day begins, if the log has its change still. Whether it has."""
+        feed = self.world.engine.changes.get(change.position)
+        if feed is None:
+            return False
+        law(feed == self.carry(), "all servers carry over alike", change.position)
+        self.day.append((change, None))
+        self.number, self.lines, self.process = self.number + 1, list(feed), None
+        return True
+
     def reply(self, rows):
-        """The sequencer, or the next one, replies to rows."""
+        """The sequencer, or the next one, replies to rows, up to each change of day."""
+        rest = rows
+        while rest and not self.is_dead:
+            change = next((number for number, record in enumerate(rest) if record.is_change), len(rest))
+            if change == 0:
+                if not self.begin(rest[0]):
+                    return
+                rest = rest[1:]
+                continue
+            behind, rest = rest[change:], rest[:change]
+            self.reply_to(rest)
+            rest = behind
+
+    def reply_to(self, rows):
+        """The sequencer, or the next one, replies to rows of one day."""
         rest = rows
         while rest and not self.is_dead:
             if self.process is None:
-                accepted = [record.line for record, word in self.day if word is None]
+                accepted = self.lines
                 self.process = Sequencer(self.world, accepted)
                 self.life.started(len(accepted))
                 law(isinstance(self.life.heard({"ready": self.process.accepted}), self.world.life.Ready), "it is ready with the day")
@@ -235,6 +302,7 @@ class Server:
                     break
                 law(order.record == record, "a reply goes to its own record", order.record, record)
                 self.day.append((record, order.word))
+                self.lines += [] if order.word else [record.line]
             else:
                 rest = []
 
@@ -282,6 +350,7 @@ class Server:
             if isinstance(order, self.machine.Commit):
                 law(self.transaction is None, "one transaction at a time")
                 law(0 < len(order.batches) <= TOGETHER, "no bound is passed", len(order.batches))
+                law(len(order.batches) == 1 or not any(batch.change for batch in order.batches), "a change of day goes alone")
                 self.transaction = Transaction(self, order)
                 self.world.clock.at(self.machine.COMMIT_SECONDS, self.overdue, self.transaction)
                 self.world.begins(order)
@@ -441,6 +510,46 @@ class Desk:
         world.clock.at(world.chance.uniform(0.1, 3), self.send if is_patient else self.next)
 
 
+class Tower:
+    """Who changes the day, now and then, at any server."""
+
+    def __init__(self, world):
+        # A chance of its own, so that a seed has the desks that it had without changes.
+        self.world, self.name, self.bodies, self.chance = world, "tower", [], random.Random(world.chance.getstate()[1][1])
+        for _ in range(self.chance.choice((0, 0, 1, 2, 4))):
+            world.clock.at(self.chance.uniform(1, 70), self.begin)
+
+    def begin(self):
+        world = self.world
+        server = self.chance.choice(world.servers)
+        if server.is_dead:
+            world.clock.at(1, self.begin)
+            return
+        body = Body(self, len(self.bodies), [f"DAY,{server.number + 1}"], False)
+        self.bodies.append(body)
+        batch = Batch(self.name, [("AP", body.lines[0])], body.key, change=Change(len(server.day) + 1, b"", tuple(server.carry())))
+        attempt = Attempt(self, body, batch, world.clock.now)
+        attempt.server = server
+        world.attempts[id(batch)] = attempt
+        if not world.is_calm and self.chance.random() < 0.3:
+            world.clock.at(self.chance.choice((0.0, 0.02, 1, 5)), Desk.leave, self, attempt)
+        attempt.ticket = server.offer(attempt)
+
+    def left(self, attempt):
+        attempt.is_over = True
+
+    def told(self, attempt, said):
+        """It began, or it didn't; a day that may have begun is in the log or not, and everybody sees which."""
+        attempt.is_over, body = True, attempt.body
+        if isinstance(said, range):
+            law(said.start in self.world.engine.changes, "a day that was told began", said)
+            body.positions = said
+            return
+        law(said.status in (409, 503, 504), "409, 503 or 504", said.status)
+        is_there = (self.name, body.key) in self.world.engine.keys
+        law(said.status == 504 or body.is_running or not is_there, "a day that was told not to begin hasn't begun", body.lines)
+
+
 class World:
     """One schedule."""
 
@@ -451,6 +560,7 @@ class World:
         self.tickets, self.attempts, self.is_calm = itertools.count(1), {}, False
         self.engine = Engine(self)
         self.servers = [Server(self) for _ in range(1 if self.engine.is_file else 2)]
+        self.tower = Tower(self)
         self.desks = [Desk(self, name) for name in "pqrstuvw"[:self.chance.randrange(2, 9)]]
         for _ in range(self.chance.randrange(3)):
             self.clock.at(self.chance.uniform(1, 60), self.kill, self.chance.randrange(len(self.servers)))
@@ -495,11 +605,26 @@ class World:
                 there = keys.get((desk.name, body.key))
                 law(body.positions is None or there == body.positions, "what was answered is in the log once", there, body.positions)
                 law(there is None or body.positions is not None or body.may_be, "what was answered 503 never comes", desk.name, body.key)
-        state, replies = 0, []
+        changes = [line for _, _, line in rows if line.startswith("DAY,")]
+        law(changes == [f"DAY,{number}" for number in range(1, len(changes) + 1)], "one change a day", changes)
+        law(len(changes) == len(self.engine.changes), "what was carried over stands beside each change")
+        for desk in self.desks:
+            for body in desk.bodies:
+                of = [] if body.positions is None or body.is_lost else [
+                    sum(change <= position for change in self.engine.changes) for position in body.positions]
+                law(len(set(of)) <= 1, "what was answered is in one day", desk.name, body.key)
+        state, replies, lines = 0, [], []
         for position, (_, _, line) in enumerate(rows, 1):
+            record = self.engine.record_at(position)
+            if record.is_change:
+                replies.append((record, None))
+                lines, state = carried(lines), 0
+                for line in lines:
+                    state = zlib.crc32(line.encode(), state)
+                continue
             word = word_of(state, line)
-            replies.append((self.engine.record_at(position), word))
-            state = state if word else zlib.crc32(line.encode(), state)
+            replies.append((record, word))
+            state, lines = (state, lines) if word else (zlib.crc32(line.encode(), state), [*lines, line])
         for server in self.servers:
             law(not server.is_dead and server.day == replies, "all servers tell the one day of the log", len(server.day), len(replies))
         law(not any(server.asked for server in self.servers), "each desk has an answer")

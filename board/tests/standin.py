@@ -13,7 +13,9 @@ slot of its own: its TSAT is its TOBT, and nothing holds it. It is no part of th
     standin.py causes AIRPORT FEED [--by runway|operator] [--scenarios FILE --scenario NAME] [--format json]
     standin.py check AIRPORT FEED --format json
     standin.py trace AIRPORT FEED --format json
+    standin.py carry AIRPORT FEED NEXT_AIRPORT [--tell]
     standin.py serve AIRPORT JOURNAL --format json"""
+import datetime
 import fcntl
 import json
 import os
@@ -71,6 +73,8 @@ class Day:
                 return "UNKNOWN"
             if row["status"] == "CANCELLED":
                 return "ENDED"
+            if kind == "RWY" and said[1] not in self.runways:
+                return "UNKNOWN"
         if KINDS[kind][0] == "runway" and said[0] not in self.runways:
             return "UNKNOWN"
         if kind == "CLOCK" and said[0] < self.now:
@@ -178,6 +182,54 @@ def shift(day, command, words, options):
     return 0
 
 
+def following(day):
+    return str(datetime.date.fromisoformat(day) + datetime.timedelta(days=1))
+
+
+def told_time(time):
+    return time[8:10] + time[11:13] + time[14:16]
+
+
+def carried(today, feed, tomorrow):
+    """The records that go on, and what is told; nobody is ever off-block."""
+    day, begin, numbered = Day(today), tomorrow.day + "T00:00Z", []
+    for number, fields in enumerate(records(feed), 1):
+        if day.take(fields)[0] is None:
+            numbered.append((number, fields))
+    gone = {name for name, row in day.rows.items() if row["status"] == "CANCELLED"}
+    made, refused, earlier = [], [], []
+    for number, (role, kind, *said) in numbered:
+        of, forms = KINDS[kind][0], KINDS[kind][2]
+        if of == "flight" and said[0] in gone or kind == "CLOCK" and said[0] < begin:
+            continue
+        if kind in ("RATE", "CLOSE", "OPEN") and said[2] <= begin:
+            continue
+        said = [max(begin, field) if form in ("time", "ctot") and field != "-" else field for form, field in zip(forms, said)]
+        word, _ = tomorrow.take([role, kind, *said])
+        if word is None:
+            made.append(",".join([role, kind, *said]))
+        else:
+            refused.append(f"REFUSED {number} {word} {','.join([role, kind, *said])}")
+    for name, row in sorted(day.rows.items()):
+        for kind in ("tobt", "ctot"):
+            if name not in gone and row[kind] and row[kind] < begin:
+                earlier.append(f"EARLIER {name} {kind.upper()} {told_time(row[kind])}")
+    # A toy for what the real rule says of flights that are off-block: such flights have this stand.
+    left = [f"LEFT    {name} {row['runway']} AOBT 102350 TTOT 110005" for name, row in sorted(day.rows.items()) if row["stand"] == "LEFT"]
+    return made, [*left, *earlier, *refused, f"GONE    {len(gone)}", f"STAY    {len(day.rows) - len(gone)}"], bool(left or earlier or refused)
+
+
+def carry(today, feed, next_airport, is_told):
+    tomorrow = Day(next_airport)
+    wanted, here = following(Day(today).day), tomorrow.day
+    if here != wanted:
+        raise Fault(f"cdmseq: NEXT_AIRPORT: its day is {here}, and the day after AIRPORT is {wanted}", 3)
+    lines, told, is_much = carried(today, feed, tomorrow)
+    for line in told if is_told else lines:
+        print(line)
+    return 4 if is_told and is_much else 0
+
+
 def main(words):
     options = {name: words[words.index(name) + 1] for name in ("--format", "--scenarios", "--scenario", "--by") if name in words}
     command, *rest = [word for word in words if word not in options and word not in options.values()]
@@ -191,6 +243,8 @@ def main(words):
     if command == "serve":
         serve(*rest)
         return 0
+    if command == "carry":
+        return carry(rest[0], rest[1], [word for word in rest if word != "--tell"][2], "--tell" in rest)
     day = Day(rest[0])
     if command == "trace":
         for number, fields in enumerate(records(rest[1]), 1):

@@ -23,7 +23,7 @@ def day_of(*flights):
 
 
 def board_of(desks, log, day):
-    return Board(Callers(desks, log, {"localhost"}, "http", False), log, day, None, None, None)
+    return Board(Callers(desks, log, {"localhost"}, "http", False), log, day, mock.Mock(), None, None)
 
 
 def test_what_is_found_is_of_the_day_that_began_anew():

@@ -54,7 +54,7 @@ def test_whoever_asks_whether_it_is_ready_needs_no_token(board):
 def test_records_that_wait_get_no_replies():
     """A log that commits nothing, as on a frozen disk: after ten seconds it is said, and no longer once a reply came."""
     from board.records import Records
-    log, day, sequencer = mock.Mock(stale_since=None), mock.Mock(lines=[], records=[]), mock.Mock()
+    log, day, sequencer = mock.Mock(stale_since=None), mock.Mock(lines=[], records=[], first=1), mock.Mock()
     records = Records(log, day, sequencer)
     begun = time.monotonic()
 

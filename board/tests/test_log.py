@@ -34,7 +34,7 @@ def log_at(request, tmp_path):
             database.close()
         return (lambda board="": sqlite.FileLog(path, board)), force
     cluster = request.getfixturevalue("primary")
-    cluster.sql("TRUNCATE cdm_log, cdm_record, cdm_digest")
+    cluster.sql("TRUNCATE cdm_log, cdm_record, cdm_digest, cdm_day")
     return (lambda board="": postgres.PostgresLog(cluster.url(), board)), cluster.sql
 
 

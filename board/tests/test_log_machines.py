@@ -16,7 +16,7 @@ FAULTS = [
      "        return self._is_late(ticket)", 0, "never comes later"),
     ("a refused batch takes the others of its transaction along", "writer.py", "if len(running) == 1:", "if True:", 0, "takes nothing else along"),
     ("a refused batch takes the link along", "writer.py", "        if outcome is Outcome.REFUSED:\n", "        if False:\n", 0, "along"),
-    ("a batch that waited in a refused transaction waits again", "writer.py", "if ticket not in late}", "}", 169, "never taken"),
+    ("a batch that waited in a refused transaction waits again", "writer.py", "if ticket not in late}", "}", 185, "never taken"),
     ("an unknown commit is told as none", "writer.py",
      "said = Problem(504, NOT_KNOWN) if outcome is Outcome.UNKNOWN else nothing(why)", "said = nothing(why)", 0, "isn't in the log"),
     ("a commit that hangs keeps its desks waiting", "writer.py",
@@ -37,7 +37,8 @@ FAULTS = [
      "if not self._is_linked or self._is_committing:", "if not self._is_linked:", 2, "503 while"),
     ("a batch that was never given to the log is told as not known", "writer.py",
      "        return self._told(waiting, nothing(why))", "        return self._told(waiting, Problem(504, NOT_KNOWN))", 0, "504 only"),
-    ("a transaction without bound", "writer.py", "(self._waiting, MOST_TOGETHER)", "(self._waiting, 10 ** 9)", 5, "no bound"),
+    ("a change of day goes with others", "writer.py", "(self._waiting if batch.change is None else self._alone)", "self._waiting", 26, "goes alone"),
+    ("a transaction without bound", "writer.py", "(self._waiting, MOST_TOGETHER)", "(self._waiting, 10 ** 9)", 14, "no bound"),
 ]
 
 

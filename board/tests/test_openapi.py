@@ -28,7 +28,7 @@ PLAIN = ("/v1/plan", "/v1/plan.csv", "/v1/plan.json", "/v1/picture.svg", "/v1/lo
          "/v1/load/{runway}.json", "/v1/next", "/v1/next.json", "/v1/warnings", "/v1/warnings.json", "/v1/causes", "/v1/causes.json",
          "/v1/why/{flight}", "/v1/why/{flight}.json")
 OTHERS = ("/v1/records", "/v1/records/{position}/sentence", "/v1/kinds", "/v1/airport.csv", "/v1/journal.csv", "/v1/who", "/health", "/ready",
-          "/metrics", "/", "/page-{digest}/{file}")
+          "/metrics", "/", "/page-{digest}/{file}", "/v1/day", "/v1/day.json")
 NAMES = {"runway": "27L", "flight": "AB1", "name": "SHUT", "position": "4", "file": "main.js"}
 
 
@@ -160,6 +160,20 @@ def test_the_file_has_records(server):
     assert wrong.status == 429
 
 
+def test_the_file_has_changes_of_day(server):
+    """One that doesn't begin, and why; one that does; and what is asked of the day before."""
+    wrong = "DAY,2025-03-17\nRUNWAY,27L,10,20\n"
+    for status, query, body, desk in ((409, "", "", "tower"), (409, "?day=2025-03-17", "", "tower"), (422, "?even=yes", wrong, "tower"),
+                                      (403, "", "", "ap"), (401, "", "", "nobody"), (413, "", "A" * 65_537, "tower"),
+                                      (200, "?even=yes", "", "tower"), (200, "?day=2025-03-11", "", "tower")):
+        asked(server, "POST", "/v1/day", status, query, body, desk)
+    for path in (*PLAIN, "/v1/records", "/v1/journal.csv"):
+        assert asked(server, "GET", path, 200, "?day=2025-03-10").body
+    for path in ("/v1/plan", "/v1/records", "/v1/journal.csv"):
+        asked(server, "GET", path, 404, "?day=2025-03-09")
+    assert objects(asked(server, "GET", "/v1/day.json", 200).body)[0]["before"] == "2025-03-10"
+
+
 def test_the_file_has_what_is_not_there(server):
     """404, 422, and a position that doesn't come."""
     for path, names, status in (("/v1/why/{flight}", {"flight": "NIX"}, 404), ("/v1/load/{runway}", {"runway": "01X"}, 404),
@@ -204,7 +218,7 @@ def test_the_file_has_events(server):
 
 def test_each_operation_was_asked():
     """By the tests above."""
-    posted = {*PLAIN, "/v1/what-if", "/v1/compare", "/v1/compare/{name}", "/v1/records", "/v1/session"}
+    posted = {*PLAIN, "/v1/day", "/v1/what-if", "/v1/compare", "/v1/compare/{name}", "/v1/records", "/v1/session"}
     read = {*PLAIN, *OTHERS, "/v1/events"}
     assert {(path, method) for path, item in DOCUMENT["paths"].items() for method in METHODS if method in item} == {
         *((path, "post") for path in posted), *((path, "get") for path in read), ("/v1/session", "delete")}

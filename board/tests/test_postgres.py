@@ -34,7 +34,7 @@ def shared():
 
 @pytest.fixture
 def primary(shared):
-    shared.sql("TRUNCATE cdm_log, cdm_record, cdm_session, cdm_audit, cdm_digest")
+    shared.sql("TRUNCATE cdm_log, cdm_record, cdm_session, cdm_audit, cdm_digest, cdm_day")
     return shared
 
 
@@ -52,7 +52,8 @@ def test_the_servers_user_can_only_append_and_read(primary):
     for text in ("INSERT INTO cdm_record VALUES ('', 2, 'd', NULL, 0, 1, 'AP', 'B', 't')", "INSERT INTO cdm_log VALUES ('x', 'x', 'x', 'x')",
                  "UPDATE cdm_record SET line = 'B'", "UPDATE cdm_log SET version = 'w'", "DELETE FROM cdm_record", "DELETE FROM cdm_log",
                  "TRUNCATE cdm_record", "TRUNCATE cdm_log", "UPDATE cdm_log SET secret = ''", "DELETE FROM cdm_session", "DELETE FROM cdm_audit",
-                 "DELETE FROM cdm_digest", "UPDATE cdm_digest SET digest = ''", "INSERT INTO cdm_digest VALUES ('', 1, '')",
+                 "DELETE FROM cdm_digest", "UPDATE cdm_digest SET digest = ''", "INSERT INTO cdm_digest VALUES ('', 1, '')", "DELETE FROM cdm_day",
+                 "INSERT INTO cdm_day VALUES ('', 1, '', '', '')",
                  "UPDATE cdm_session SET not_before = 0", "UPDATE cdm_audit SET address = ''", "SELECT FROM cdm_log FOR UPDATE", "DROP TABLE cdm_record", "ALTER TABLE cdm_record DISABLE TRIGGER ALL",
                  "DROP FUNCTION cdm_append", "CREATE TABLE own (x integer)", "SET ROLE cdm_owner", "SELECT lo_creat(-1); COPY cdm_record FROM '/dev/null'",
                  "CREATE OR REPLACE FUNCTION cdm_append(text, jsonb, text, bytea, text) RETURNS jsonb LANGUAGE sql AS 'SELECT NULL::jsonb'"):
@@ -62,7 +63,7 @@ def test_the_servers_user_can_only_append_and_read(primary):
     # Who isn't a server can't even read, also where it is let into the database.
     primary.sql("DROP ROLE IF EXISTS other; CREATE ROLE other LOGIN; GRANT CONNECT ON DATABASE cdm TO other")
     for text in ("SELECT * FROM cdm_record", "SELECT secret FROM cdm_log", "SELECT * FROM cdm_session", "SELECT * FROM cdm_audit",
-                 "SELECT cdm_sign_out('', 'd', 1)", "SELECT * FROM cdm_digest", "SELECT cdm_keep('', '[]')", "SELECT cdm_note('', '[]')", told):
+                 "SELECT cdm_sign_out('', 'd', 1)", "SELECT * FROM cdm_digest", "SELECT * FROM cdm_day", "SELECT cdm_hold('', '1s')", "SELECT cdm_keep('', '[]')", "SELECT cdm_note('', '[]')", told):
         with pytest.raises(RuntimeError, match="permission denied"):
             primary.sql(text, who="other")
     primary.sql("DROP OWNED BY other; DROP ROLE other")
@@ -120,7 +121,7 @@ def test_older_tables_are_told_and_brought_up_to_date(board):
         server.post(["FLT,AB1,5"], Cdm_Role="AP")
         assert server.end() == 0
         primary.sql("SELECT cdm_append('other', '[]', 'id', 'x', 'v')")
-        primary.sql("ALTER TABLE cdm_log DROP COLUMN secret; DROP TABLE cdm_session, cdm_audit, cdm_digest; DROP FUNCTION cdm_note, cdm_sign_out, cdm_keep")
+        primary.sql("ALTER TABLE cdm_log DROP COLUMN secret; DROP TABLE cdm_session, cdm_audit, cdm_digest, cdm_day; DROP FUNCTION cdm_note, cdm_sign_out, cdm_keep, cdm_hold")
         ended = cdmboard(server.airport, primary.url())
         assert ended.returncode == 3 and "log init" in ended.stderr
         assert cdmboard("log", "init", primary.url("postgres")).returncode == 0

@@ -23,7 +23,7 @@ class Log:
 
 def closed_for(role, accepted, records):
     """Whether a desk of this role is told that ATC alone sends."""
-    log, day = Log(), mock.Mock(lines=["AP,FLT,AB1,5"] * accepted, records=[None] * records)
+    log, day = Log(), mock.Mock(lines=["AP,FLT,AB1,5"] * accepted, records=[None] * records, first=1)
     with pytest.raises(Problem, match="nothing was taken"):
         asyncio.run(Records(log, day, mock.Mock()).take(Desk("desk", role), ["FLT,AB1,5"], None))
     return log.asked.closed is not None
@@ -41,7 +41,7 @@ def test_a_log_is_full_at_60_000():
     """Whoever sends."""
     log = Log()
     with pytest.raises(Problem):
-        asyncio.run(Records(log, mock.Mock(lines=[], records=[]), mock.Mock()).take(Desk("tower", "ATC"), ["FLT,AB1,5"], None))
+        asyncio.run(Records(log, mock.Mock(lines=[], records=[], first=1), mock.Mock()).take(Desk("tower", "ATC"), ["FLT,AB1,5"], None))
     assert log.asked.end == 60_000
 
 

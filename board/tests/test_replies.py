@@ -112,7 +112,7 @@ def test_a_log_that_was_changed_is_told(board):
 @needs_postgres
 def test_of_two_servers_that_reply_otherwise_one_ends(board, cluster):
     """Who comes second to a digest, with another one, ends with status 3; the first goes on. A copy in a file has the digests too."""
-    cluster.sql("TRUNCATE cdm_log, cdm_record, cdm_session, cdm_audit, cdm_digest")
+    cluster.sql("TRUNCATE cdm_log, cdm_record, cdm_session, cdm_audit, cdm_digest, cdm_day")
     one, other = (board(log=cluster.url(), start=False) for _ in range(2))
     other.program(OTHER_LIVE)
     with_records(one, 900)

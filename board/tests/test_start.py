@@ -411,7 +411,7 @@ def test_a_log_that_is_away_stops_no_clock(caplog):
             raise asyncio.CancelledError
     with mock.patch.object(clock, "now_text", lambda _, ahead=datetime.timedelta(): f"{now[0] + ahead:%Y-%m-%dT%H:%MZ}"), \
             mock.patch.object(clock.asyncio, "sleep", sleep), pytest.raises(asyncio.CancelledError):
-        asyncio.run(clock.run("2025-03-10", take))
+        asyncio.run(clock.run(mock.Mock(date="2025-03-10"), take))
     minutes = [f"2025-03-10T06:{minute}Z" for minute in ("00", 10, 11, 12)]
     assert taken == [("clock", [f"CLOCK,{minute}"], minute) for minute in minutes]
     told = caplog.text

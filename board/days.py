@@ -1,0 +1,71 @@
+"""Changes of day over HTTP: what is told before one, and one that a desk makes."""
+import json
+
+from aiohttp import web
+
+from board.callers import Callers
+from board.carrying import next_date
+from board.changing import MOST_TOLD, Changing
+from board.day import Day
+from board.desks import Desk
+from board.past import Past
+from board.questions import Questions, body_of
+from board.words import Problem, refuse
+
+# Of what is told before a change, what it doesn't begin with, unless a desk wants it even so.
+STOPS = ("LEFT ", "REFUSED ")
+
+
+class Days:
+    """The board's days."""
+
+    def __init__(self, callers: Callers, day: Day, past: Past, changing: Changing, questions: Questions) -> None:
+        self._callers = callers
+        self._day = day
+        self._past = past
+        self._changing = changing
+        self._questions = questions
+
+    def routes(self) -> list[web.RouteDef]:
+        """All paths."""
+        return [web.get(r"/v1/day{form:(\.json)?}", self.get), web.post("/v1/day", self.post)]
+
+    async def get(self, request: web.Request) -> web.Response:
+        """The day, the next one and the one before, and what a person must know before the day changes."""
+        desk: Desk = request["desk"]
+        position, lines = await self._changing.told(self._callers.asker(request), is_tower=desk.role == "ATC")
+        state, form = await self._state(), request.match_info["form"][1:]
+        said = json.dumps(state | {"told": lines}, separators=(",", ":"))
+        if not form:
+            said = "\n".join([f"DAY {state['day']} BEFORE {state['before'] or '-'} NEXT {state['next']}", *lines])
+        return await self._questions.of_moment(request, position, form, f"{said}\n".encode())
+
+    async def _state(self) -> dict[str, object]:
+        earlier = [span.date for span in await self._past.spans() if span.base < self._day.change.position]
+        return {"day": self._day.date, "position": self._day.change.position, "before": earlier[-1] if earlier else None, "next": next_date(self._day)}
+
+    async def post(self, request: web.Request) -> web.Response:
+        """Has the next day begin: with the airport file of the body, or with the same one."""
+        airport, is_even, wanted = await body_of(request) or None, request.query.get("even") == "yes", request.query.get("day")
+        # Who lost the right while the body came changes nothing.
+        desk, day = self._callers.desk_of(request), self._day
+        refuse(desk.role != "ATC" or desk.clock is None, 403, "a desk of the tower that sends CLOCK changes the day")
+        has_begun = wanted == day.date if airport is None else airport == day.change.airport
+        if not has_begun:
+            following = next_date(day)
+            refuse(wanted not in (None, following), 409, f"the next day is {following}")
+            if not is_even:
+                await self._check(self._callers.asker(request), airport)
+            await self._changing.make(desk, following, airport, self._callers.address(request))
+        try:
+            return web.json_response(await self._state())
+        except Problem as problem:
+            raise Problem(504, f"{self._day.date} has begun: {problem}") from None
+
+    async def _check(self, asker: str, airport: bytes | None) -> None:
+        """Raises Problem if the day isn't over, or something would be lost with it."""
+        following, now = next_date(self._day), self._day.clock
+        _, lines = await self._changing.told(asker, airport)
+        refuse(now[:10] < following, 409, f"NOW is {now or 'not known'}, and {following} hasn't begun; ?even=yes changes the day even so")
+        stops = [line for line in lines if line.startswith(STOPS)]
+        refuse(stops, 409, "\n".join(lines[:MOST_TOLD]))

@@ -1,0 +1,42 @@
+"""The page over a change of day: the new date, without a lost connection, and no row that jumps."""
+from browser import fill
+
+AT = "2025-03-11T{}Z".format
+DAY = {"AP": ["FLT,AB1,5", "FLT,AB2,5", "FLT,CD3,5"],
+       "ATC": ["RWY,AB1,27L", "RWY,AB2,09", f"CLOCK,{AT('03:00')}"],
+       "AO": [f"TOBT,AB1,{AT('03:20')}", f"TOBT,AB2,{AT('06:10')}", "CNL,CD3"]}
+WATCH = """window.lost = 0; window.moved = 0;
+new MutationObserver(() => {
+  window.lost += document.documentElement.classList.contains('is-lost');
+  window.moved += document.querySelectorAll('tr.moved').length;
+}).observe(document.documentElement, {attributes: true, childList: true, subtree: true});"""
+
+
+def test_the_page_over_a_change_of_day(page):
+    shown = page(day=DAY).open()
+    assert "Mon 10 Mar 2025" in shown.text("h1") and shown.row("all", "AB2")[0] == "11 06:10" and "11 03:00" in shown.text(".now")
+    assert shown.flights("next") == ["AB1"] and shown.row("next", "AB1")[0] == "11 03:20 in 20"
+    shown.js(WATCH)
+    shown.click("#date")
+    shown.says("#day", "Before Tue 11 Mar 2025 GONE 1 STAY 2")
+    assert shown.js("return document.querySelector('#day a')") is None
+    shown.js("document.querySelector('#day').hidePopover()")
+    answer = shown.server.request("POST", "/v1/day", "", Cdm_Role="ATC")
+    assert answer.status == 200, answer
+    shown.says("h1", "Tue 11 Mar 2025")
+    # Each time has its new words, also of rows that are as they were; the one that was cancelled is gone.
+    shown.until("return document.querySelector('#all tr[data-flight=AB2]').innerText.startsWith('06:10')")
+    shown.until("return document.querySelector('#all tr[data-flight=CD3]') === null")
+    assert shown.row("next", "AB1")[0] == "03:20 in 20" and "NOW UTC 03:00" == shown.text(".now")
+    fill(shown.server, {"ATC": [f"CLOCK,{AT('03:01')}"]})
+    shown.says(".now", "NOW UTC 03:01")
+    assert shown.js("return [window.lost, window.moved]") == [0, 0]
+    shown.click("#date")
+    shown.says("#day", "Before Wed 12 Mar 2025")
+    shown.until("return document.querySelector('#day a') !== null")
+    assert shown.js("return document.querySelector('#day a').getAttribute('href')") == "/v1/plan?day=2025-03-10"
+    # What is open of a flight is of this day, not of one before.
+    shown.server.request("POST", "/v1/records", "PRIO,AB1,3", Cdm_Role="ATC")
+    shown.open("#AB1")
+    shown.says("#f-records", "PRIO")
+    assert "TOBT" not in shown.text("#f-records")
