@@ -137,7 +137,8 @@ def engine_of(place: str) -> ModuleType:
 @contextlib.asynccontextmanager
 async def log_of(options: argparse.Namespace) -> AsyncIterator[tuple[Log, str]]:
     """The log and its folder, while they are used. Raises Fault."""
-    airport, version = read(options.airport), await asked("/", PROGRAM, "--version")
+    airport = read(options.airport)
+    version = await asked("/", PROGRAM, "--version")
 
     async def accept() -> None:
         """A new log is bound to its airport file for good, so to none that the program refuses. Raises Fault."""
@@ -233,7 +234,9 @@ async def verify(options: argparse.Namespace) -> None:
     version = (await asked("/", PROGRAM, "--version")).decode("ascii", "replace").strip()
     if made_by != version:
         raise Fault(f"{options.log} was made by another program: {made_by}, and this is {version}")
-    parts, accepted, day = parts_of(changes, records), 0, None
+    parts = parts_of(changes, records)
+    accepted = 0
+    day = None
     with folder_of("verify", changes[0].airport) as folder:
         for change, some in parts:
             if day is not None and await carried_over(folder, PROGRAM, day, change.airport) != change.feed:
@@ -251,7 +254,8 @@ async def verify(options: argparse.Namespace) -> None:
 def listening(options: argparse.Namespace) -> tuple[str, int, ssl.SSLContext | None]:
     """Where the server listens, if it may. Raises Fault."""
     host, _, port = options.listen.rpartition(":")
-    host, is_local = host.strip("[]"), is_loopback(host.strip("[]"))
+    host = host.strip("[]")
+    is_local = is_loopback(host.strip("[]"))
     if not port.isdecimal() or int(port) > 65_535 or not host:
         raise Fault("--listen is HOST:PORT", 2)
     if not options.desks and (options.behind_proxy or not is_local):
@@ -273,24 +277,29 @@ def sealed_by(files: list[str]) -> ssl.SSLContext:
 
 async def serve(options: argparse.Namespace) -> None:
     """Serves a board until it is told to end, or something that it needs has ended. Raises Fault."""
-    loop, starting = asyncio.get_running_loop(), asyncio.current_task()
+    loop = asyncio.get_running_loop()
+    starting = asyncio.current_task()
     assert starting is not None
     loop.add_signal_handler(signal.SIGHUP, tell, "cdmboard: it is only just starting; nothing is read again")
     for number in (signal.SIGTERM, signal.SIGINT):
         loop.add_signal_handler(number, starting.cancel)
     host, port, sealed = listening(options)
-    desks, notifier = read_desks(options.desks), Notifier()
+    desks = read_desks(options.desks)
+    notifier = Notifier()
     resource.setrlimit(resource.RLIMIT_NOFILE, (resource.getrlimit(resource.RLIMIT_NOFILE)[1],) * 2)
     async with log_of(options) as (log, folder):
         # Where the system forbids what questions are run with, nothing would be answered.
         kinds = await asked(folder, PROGRAM, "kinds", "--format", "json", limits=LIMITED)
         day = await day_of_log(folder, PROGRAM, log, kinds)
         past = Past(folder, PROGRAM, log, day)
-        names, scheme = (host, "localhost", socket.gethostname(), *options.name), "https" if sealed or options.behind_proxy else "http"
+        names = (host, "localhost", socket.gethostname(), *options.name)
+        scheme = "https" if sealed or options.behind_proxy else "http"
         callers = Callers(desks, log, {name.lower() for name in names}, scheme, options.behind_proxy)
-        sequencer, answers = Sequencer(PROGRAM, folder, log, day, past), Answers(PROGRAM, folder, day, past.of_base)
+        sequencer = Sequencer(PROGRAM, folder, log, day, past)
+        answers = Answers(PROGRAM, folder, day, past.of_base)
         board = Board(callers, log, day, sequencer, answers, Events(log.id, day))
-        runner, door = web.AppRunner(board.application()), Door(host, port, options.behind_proxy, desks.limits)
+        runner = web.AppRunner(board.application())
+        door = Door(host, port, options.behind_proxy, desks.limits)
         await runner.setup()
         assert (manager := runner.server) is not None
         server = await loop.create_server(
@@ -312,7 +321,8 @@ async def serve(options: argparse.Namespace) -> None:
 
 async def run(board: Board, address: str, options: argparse.Namespace, notifier: Notifier, keeper: Keeper) -> None:
     """Runs all that a board has running, until it is told to end and each record has its reply."""
-    ending, loop = asyncio.Event(), asyncio.get_running_loop()
+    ending = asyncio.Event()
+    loop = asyncio.get_running_loop()
     for number in (signal.SIGTERM, signal.SIGINT):
         loop.add_signal_handler(number, ending.set)
     views = Views(board.answers, board.events)

@@ -201,13 +201,17 @@ class Answers:
         """New answers, which are kept, up to the first that took too long. All are over the same records and scenarios."""
         first = questions[0]
         made = dict[Question, Answer]()
-        starts, began, day = self._day.starts, time.monotonic(), self._day
+        starts = self._day.starts
+        began = time.monotonic()
+        day = self._day
         if first.base is not None and self._earlier is not None:
             try:
                 day = await self._earlier(first.base)
             except Problem as problem:
                 return [Answer(503, b"", str(problem), began, starts)]
-        accepted, position, file = len(day.lines) if first.accepted is None else first.accepted, day.position, day.change.file
+        accepted = len(day.lines) if first.accepted is None else first.accepted
+        position = day.position
+        file = day.change.file
         try:
             with tempfile.TemporaryDirectory(dir=self._folder) as folder:
                 Path(folder, "feed.csv").write_text(day.feed(accepted) + first.last, "ascii")
@@ -310,12 +314,14 @@ async def day_of(folder: str, program: str, records: list[Record], kinds: bytes 
                  bound: Sequence[str] = ()) -> Day:
     """The day that these records make, behind what its change carried over; `bound`: what bounds the program. Raises Fault, OSError."""
     put_airport(folder, change)
-    carried, sent = change.lines, [record for record in records if not record.is_change]
+    carried = change.lines
+    sent = [record for record in records if not record.is_change]
     with tempfile.TemporaryDirectory(dir=folder) as inside:
         lines = [*carried, *(f"{record.role},{record.line}" for record in sent)]
         Path(inside, "log.csv").write_text("".join(f"{line}\n" for line in lines), "ascii")
         told = await asked(inside, program, "plan", f"../{change.file}", "log.csv", "--format", "json", limits=bound)
-    plan, words = json.loads(told.splitlines()[0]), dict[int, str]()
+    plan = json.loads(told.splitlines()[0])
+    words = dict[int, str]()
     for refused in plan["refused"]:
         if refused["record"] <= len(carried):
             raise Fault(f"record {refused['record']} of what was carried over to {plan['day']} is refused: {refused['word']}")

@@ -94,7 +94,8 @@ class Callers:
     def check_opened(self, request: web.Request) -> None:
         """Counts a stream of events that is opened. Raises Problem if one desk, or who has none, opens too many at an address."""
         desk: Desk = request["desk"]
-        now, limits = time.monotonic(), self.desks.limits
+        now = time.monotonic()
+        limits = self.desks.limits
         window = self._opened[desk.name].add(group_of(self.address(request)), now)
         most = limits.opened_by_desk if desk.name else limits.opened_without_desk
         refuse(window.count > most, 429, "too many streams of events are opened here", Retry_After=str(1 + int(window.ends - now)))

@@ -28,7 +28,8 @@ def next_airport(day: Day) -> bytes:
 
 async def carried_over(folder: str, program: str, day: Day, airport: bytes) -> bytes:
     """The feed with which the next day begins. Raises Problem, Fault, OSError."""
-    file, feed = day.change.file, day.feed()
+    file = day.change.file
+    feed = day.feed()
     with tempfile.TemporaryDirectory(dir=folder) as inside:
         Path(inside, "feed.csv").write_text(feed, "ascii")
         Path(inside, "next.csv").write_bytes(airport)

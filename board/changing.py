@@ -13,7 +13,8 @@ from board.words import Fault, Problem, refuse, tell
 # Seconds between two looks at the clock, and for which flights that are LEFT are waited for.
 LOOK_SECONDS = 20.0
 WAIT = timedelta(hours=2)
-EARLIEST, LATEST = time(1), time(21, 59)
+EARLIEST = time(1)
+LATEST = time(21, 59)
 REPLY_SECONDS = 20.0
 MOST_TOLD = 200
 DESK = Desk("day-at", "ATC")

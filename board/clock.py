@@ -14,9 +14,11 @@ JUMP = timedelta(minutes=5)
 
 async def run(day: Day, take: Callable[[Desk, list[str], str], Awaitable[object]]) -> None:
     """Takes a CLOCK each minute, the first at once, with the minute as its key. Returns never."""
-    limit, told = "", ""
+    limit = ""
+    told = ""
     while True:
-        now, why = now_text("minutes"), ""
+        now = now_text("minutes")
+        why = ""
         if now[:10] not in (day.date, str(date.fromisoformat(day.date) + timedelta(days=1))):
             why = f"no CLOCK is taken outside the two days from {day.date} on"
         elif limit and now > limit:

@@ -19,7 +19,8 @@ class Commits:
 
     async def append(self, batch: Batch) -> range:
         """The records' positions, once they are in the log. Raises Problem; 503: nothing was taken; 504: not known."""
-        loop, ticket = asyncio.get_running_loop(), next(self._tickets)
+        loop = asyncio.get_running_loop()
+        ticket = next(self._tickets)
         positions: asyncio.Future[range] = loop.create_future()
         self._desks[ticket] = positions
         is_late = loop.call_later(WAIT_SECONDS, lambda: self.do(self.writer.waited(ticket)))

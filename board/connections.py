@@ -99,7 +99,8 @@ class Places:
         if goes is not None:
             self.leave(goes)
         group = self._groups.setdefault(name, group)
-        group.strangers[number], self._group_of[number] = None, name
+        group.strangers[number] = None
+        self._group_of[number] = name
         if not group.is_known:
             self._unknown[number] = None
         return Entry(True, goes)

@@ -44,8 +44,12 @@ class Day:
     def restart(self, day: "Day") -> None:
         """Begins anew with the records of another day. Whoever waits is told."""
         self.doubtful = max(self.doubtful, self.position)
-        self.change, self.date = day.change, day.date
-        self.records, self.lines, self._of, self._bytes = day.records, day.lines, day._of, 0
+        self.change = day.change
+        self.date = day.date
+        self.records = day.records
+        self.lines = day.lines
+        self._of = day._of
+        self._bytes = 0
         self.digests = day.digests
         self.digested.set()
         self._texts.clear()
@@ -56,8 +60,12 @@ class Day:
     def begin(self, record: Record, change: Change, date: str) -> "Day":
         """The next day begins, with a change of day. Returns the day that ends."""
         before = copy.copy(self)
-        self.change, self.date = change, date
-        self.records, self.lines, self._of, self._bytes = [], change.lines, defaultdict(list), 0
+        self.change = change
+        self.date = date
+        self.records = []
+        self.lines = change.lines
+        self._of = defaultdict(list)
+        self._bytes = 0
         self._texts = OrderedDict()
         self.digests = Digests(change.position, change.digest)
         self._keep(record, None, 0)

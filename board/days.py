@@ -34,7 +34,8 @@ class Days:
         """The day, the next one and the one before, and what a person must know before the day changes."""
         desk: Desk = request["desk"]
         position, lines = await self._changing.told(self._callers.asker(request), is_tower=desk.role == "ATC")
-        state, form = await self._state(), request.match_info["form"][1:]
+        state = await self._state()
+        form = request.match_info["form"][1:]
         said = json.dumps(state | {"told": lines}, separators=(",", ":"))
         if not form:
             said = "\n".join([f"DAY {state['day']} BEFORE {state['before'] or '-'} NEXT {state['next']}", *lines])
@@ -46,9 +47,12 @@ class Days:
 
     async def post(self, request: web.Request) -> web.Response:
         """Has the next day begin: with the airport file of the body, or with the same one."""
-        airport, is_even, wanted = await body_of(request) or None, request.query.get("even") == "yes", request.query.get("day")
+        airport = await body_of(request) or None
+        is_even = request.query.get("even") == "yes"
+        wanted = request.query.get("day")
         # Who lost the right while the body came changes nothing.
-        desk, day = self._callers.desk_of(request), self._day
+        desk = self._callers.desk_of(request)
+        day = self._day
         refuse(desk.role != "ATC" or desk.clock is None, 403, "a desk of the tower that sends CLOCK changes the day")
         has_begun = wanted == day.date if airport is None else airport == day.change.airport
         if not has_begun:
@@ -64,7 +68,8 @@ class Days:
 
     async def _check(self, asker: str, airport: bytes | None) -> None:
         """Raises Problem if the day isn't over, or something would be lost with it."""
-        following, now = next_date(self._day), self._day.clock
+        following = next_date(self._day)
+        now = self._day.clock
         _, lines = await self._changing.told(asker, airport)
         refuse(now[:10] < following, 409, f"NOW is {now or 'not known'}, and {following} hasn't begun; ?even=yes changes the day even so")
         stops = [line for line in lines if line.startswith(STOPS)]

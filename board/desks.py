@@ -40,7 +40,8 @@ class Desk:
         """Raises Problem if one of the lines isn't this desk's to send."""
         refuse(self.role not in ROLES, 403, "who only reads sends no records")
         for number, line in enumerate(lines, 1):
-            flight, (kind, _, at) = kinds.flight_of(line), line.partition(",")
+            flight = kinds.flight_of(line)
+            (kind, _, at) = line.partition(",")
             is_other = self.flights is not None and not (flight or "").startswith(self.flights)
             refuse(is_other, 403, f"{self.name} sends records of its own flights alone", number)
             if kind == "CLOCK":
@@ -64,9 +65,12 @@ class Pace:
         """While these records wait. Raises Problem if they are too many."""
         now = time.monotonic()
         room = min(MOST_A_SECOND * PACE_SECONDS, self.room + (now - self.then) * MOST_A_SECOND)
-        is_much, seconds = self.waiting + count > MOST_RECORDS_WAITING or room < count, 1 + int(max(0, count - room) / MOST_A_SECOND)
+        is_much = self.waiting + count > MOST_RECORDS_WAITING or room < count
+        seconds = 1 + int(max(0, count - room) / MOST_A_SECOND)
         refuse(is_much, 429, "too many records at once", Retry_After=str(seconds))
-        self.room, self.then, self.waiting = room - count, now, self.waiting + count
+        self.room = room - count
+        self.then = now
+        self.waiting = self.waiting + count
         try:
             yield
         finally:
@@ -84,7 +88,8 @@ class Desks:
 
     def by_token(self, token: str) -> Desk | None:
         """The desk of a token. All are compared, in constant time."""
-        asked, desks = digest(token), self.by_name.values()
+        asked = digest(token)
+        desks = self.by_name.values()
         found = [desk for desk in desks for kept in desk.tokens if hmac.compare_digest(asked, kept)]
         return found[0] if found else None
 
@@ -116,7 +121,9 @@ def read_desks(path: str | None) -> Desks:
             if os.fstat(file.fileno()).st_mode & 0o077:
                 raise ValueError(f"others can read it; chmod 600 {path}")
             told = tomllib.load(file)
-        read, tables, limits = told.pop("read", "desks"), told.pop("desk", {}), _limits(told.pop("limits", {}))
+        read = told.pop("read", "desks")
+        tables = told.pop("desk", {})
+        limits = _limits(told.pop("limits", {}))
         if told or read not in ("desks", "anyone") or not isinstance(tables, dict):
             raise ValueError('it has read = "desks" or "anyone", [limits] and [desk.NAME] alone')
         desks = [_desk(name, table) for name, table in tables.items()]
@@ -130,7 +137,8 @@ def read_desks(path: str | None) -> Desks:
 
 def _limits(told: Any) -> Limits:
     """The table of limits. Raises ValueError."""
-    names, table = {part.name for part in fields(Limits)}, told if isinstance(told, dict) else {"": told}
+    names = {part.name for part in fields(Limits)}
+    table = told if isinstance(told, dict) else {"": told}
     wrong = [name for name, most in table.items() if name not in names or type(most) is not int or most < 1]
     if wrong:
         raise ValueError(f"[limits]: {', '.join(wrong)}: unknown, or no number from 1 on; it has {', '.join(sorted(names))}")
@@ -139,7 +147,10 @@ def _limits(told: Any) -> Limits:
 
 def _desk(name: str, told: Any) -> Desk:
     table: dict[str, Any] = {"role": "", "token": [], "flights": None, "clock": False} | (told if isinstance(told, dict) else {})
-    role, tokens, flights, clock = table["role"], table["token"], table["flights"], table["clock"]
+    role = table["role"]
+    tokens = table["token"]
+    flights = table["flights"]
+    clock = table["clock"]
     records = table.setdefault("records", 20_000 if role in ("ATC", "NM") else 2000)
     tokens = tokens if isinstance(tokens, list) else [tokens]
     right = {"role": role in (*ROLES, "READ"), "records": type(records) is int and 0 <= records <= MOST_QUOTA, "clock": isinstance(clock, bool),

@@ -136,7 +136,8 @@ class Events:
     def _text(self, desk: str, since: int, is_first: bool = False) -> bytes:
         """What a desk gets of the records behind a position: `reset` if they aren't kept, or are too much. is_first: nothing went before,
         so it begins with `from`."""
-        reset, records = self._moment_event("reset", self._day.position), self._day.kept_behind(since)
+        reset = self._moment_event("reset", self._day.position)
+        records = self._day.kept_behind(since)
         if records is None:
             return reset
         text = bytearray(self._moment_event("from", since) if is_first else b":\nid: %s-%d\n\n" % (self._log_id, since))

@@ -36,7 +36,9 @@ class Following:
 
     def linked(self, seen: Seen) -> None:
         """There is a new link."""
-        self.timeline, self._is_committing, self._is_linked = seen.timeline, seen.is_committing, True
+        self.timeline = seen.timeline
+        self._is_committing = seen.is_committing
+        self._is_linked = True
         self._is_other = self._is_other or self.last is not None and seen.last != self.last
 
     def lost(self) -> None:
@@ -70,7 +72,9 @@ class Following:
 
     def read_anew(self) -> None:
         """The whole day is about to be read: from now on no record is taken before the sequencer has these rows."""
-        self._is_anew, self._is_other, self.last = self._is_other or self._is_anew, False, None
+        self._is_anew = self._is_other or self._is_anew
+        self._is_other = False
+        self.last = None
 
     def handed_on(self, records: Sequence[Record]) -> None:
         """Rows are handed on: a later link has to have the last."""

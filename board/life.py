@@ -49,7 +49,9 @@ class Life:
     def started(self, accepted: int) -> None:
         """A process was started on so many accepted records."""
         self._due.clear()
-        self._accepted, self._replies, self._is_ready = accepted, 0, False
+        self._accepted = accepted
+        self._replies = 0
+        self._is_ready = False
 
     def given(self, records: Sequence[Record]) -> str:
         """Records that the process is to get next; their lines."""

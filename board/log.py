@@ -209,7 +209,8 @@ class Kept:
             raise Fault(f"{self.name}: its id isn't one that cdmboard gives")
         is_own = airport == self.airport or present is not None and undated(airport) == undated(present)
         if not is_own or made_by != version:
-            what, board = "program" if is_own else "airport file", f" --board {self._board}" if self._board else ""
+            what = "program" if is_own else "airport file"
+            board = f" --board {self._board}" if self._board else ""
             raise Fault(f"{self.name} belongs to another {what}; for a new log: cdmboard export {self.name}{board} > day.csv"
                         f" && cdmboard import AIRPORT NEWLOG day.csv{board}")
 

@@ -18,9 +18,11 @@ class Notifier:
         if self._manager.socket is not None:
             # A manager that reads nothing doesn't stop the event loop.
             self._manager.socket.setblocking(False)
-        own, environment = str(os.getpid()), os.environ
+        own = str(os.getpid())
+        environment = os.environ
         environment.pop("NOTIFY_SOCKET", None)
-        patience, process = environment.pop("WATCHDOG_USEC", ""), environment.pop("WATCHDOG_PID", own)
+        patience = environment.pop("WATCHDOG_USEC", "")
+        process = environment.pop("WATCHDOG_PID", own)
         self._has_watchdog = patience.isdecimal() and int(patience) > 0 and process == own
         self._pause = min(LOOK, int(patience) / 3e6) if self._has_watchdog else LOOK
         self._is_stopping = False

@@ -59,7 +59,8 @@ class Past:
             changes = await self._log.changes()
         except (Away, Fault):
             raise Problem(503, AWAY, Retry_After="1") from None
-        self._spans, self._read = spans_of(self._day.date, changes), starts
+        self._spans = spans_of(self._day.date, changes)
+        self._read = starts
         return self._spans
 
     async def of_date(self, said: str) -> Day:

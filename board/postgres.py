@@ -184,7 +184,8 @@ async def finished(connection: Any, seconds: float, call: Awaitable[T]) -> T:
 
 async def newest(url: str) -> int:
     """The highest timeline of several hosts that take commits at present; 0 where there is no choice. Raises Fault."""
-    hosts, timelines = hosts_of(url), [0]
+    hosts = hosts_of(url)
+    timelines = [0]
     for host in hosts if len(hosts) > 1 else ():
         with contextlib.suppress(Away, Refused):
             connection = await connect(host)
@@ -278,7 +279,10 @@ class PostgresLog(Kept):
         self._is_closing = False
 
     async def open(self, airport: bytes, version: str, accept: Accept = accepted) -> None:
-        self.airport, self._given, self._version, self._accept = airport, airport, version, accept
+        self.airport = airport
+        self._given = airport
+        self._version = version
+        self._accept = accept
         self._following.timeline = await newest(self._url)
         try:
             self._use(await first(self._url, self._to))
@@ -403,7 +407,8 @@ class PostgresLog(Kept):
 
     async def _commit(self, link: Link) -> None:
         """Runs the writer's transactions, one after the other. Raises Away."""
-        writer, do = self._commits.writer, self._commits.do
+        writer = self._commits.writer
+        do = self._commits.do
         while True:
             try:
                 async with asyncio.timeout(IDLE_SECONDS):
@@ -414,11 +419,13 @@ class PostgresLog(Kept):
             self._ordered.clear()
             while self._order:
                 commit = self._order.pop()
-                outcome, why = Outcome.UNKNOWN, AWAY
+                outcome = Outcome.UNKNOWN
+                why = AWAY
                 try:
                     answers = await self._take(link, commit.batches)
                 except Refused as refused:
-                    outcome, why = Outcome.REFUSED if refused.is_of_data else Outcome.NOTHING, "the log's database refused; nothing was taken"
+                    outcome = Outcome.REFUSED if refused.is_of_data else Outcome.NOTHING
+                    why = "the log's database refused; nothing was taken"
                     tell(f"cdmboard: {self.name} refused records: {refused}")
                     if outcome is Outcome.NOTHING:
                         raise Away(refused) from None
@@ -489,9 +496,11 @@ class PostgresLog(Kept):
     async def _look(self, link: Link) -> None:
         """Looks each second whether the link is there, and has more. Raises Away."""
         while True:
-            began, at = time.monotonic(), now_text()
+            began = time.monotonic()
+            at = now_text()
             (last,), = await link.read(LAST, self._board)
-            self._looked, self._looked_at = began, at
+            self._looked = began
+            self._looked_at = at
             self.read_at = began
             if last > (self._following.last.position if self._following.last else 0):
                 self.grown.set()
@@ -535,7 +544,8 @@ class PostgresLog(Kept):
     async def _check(self, link: Link) -> None:
         """Whether a link leads to the log, and whether it has the last row that was handed on. Raises Away,
         Refused, Fault."""
-        began, at = time.monotonic(), now_text()
+        began = time.monotonic()
+        at = now_text()
         (timeline,), = await link.read(TIMELINE)
         if self._following.is_past(timeline):
             raise Away("of an older timeline")
@@ -551,13 +561,16 @@ class PostgresLog(Kept):
         found, = await link.read(row, self._board)
         if self.id not in ("", found[0]):
             raise Fault(f"{self.name} has another log of this board now")
-        self.id, self.airport, self.secret = found[0], found[1], found[3]
+        self.id = found[0]
+        self.airport = found[1]
+        self.secret = found[3]
         present = await link.read(PRESENT, self._board)
         self.check(self._given, found[2], self._version, present[0][0] if present else None)
         last = self._following.last
         kept = await link.read(f"{COLUMNS} AND position = $2", self._board, last.position if last else 0)
         self._following.linked(Seen(timeline, Record(*kept[0]) if kept else None, await link.is_committing(self._writer_name)))
-        self._looked, self._looked_at = began, at
+        self._looked = began
+        self._looked_at = at
 
 
 def _as_json(batches: Sequence[Batch]) -> str:

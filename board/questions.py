@@ -61,7 +61,8 @@ class Questions:
 
     async def get_records(self, request: web.Request) -> web.Response:
         """The log, or a day of it, with the replies."""
-        since, which = request.query.get("since", "0"), (request.query.get("flight"), request.query.get("desk"))
+        since = request.query.get("since", "0")
+        which = (request.query.get("flight"), request.query.get("desk"))
         refuse(not POSITION.fullmatch(since), 400, "since is a position")
         async with self._answers.turn(("log", self._asker(request))):
             if "day" in request.query:
@@ -73,7 +74,8 @@ class Questions:
 
     async def sentence(self, request: web.Request) -> web.Response:
         """Why a record is refused, in words: what `check` says of it behind the records accepted before."""
-        position, now = int(request.match_info["position"]), self._day.position
+        position = int(request.match_info["position"])
+        now = self._day.position
         day = await self._past.of_position(position)
         record = next(iter(day.of(position, position)), None)
         if record is None or record.word is None:

@@ -52,7 +52,8 @@ class Records:
     async def take(self, desk: Desk, lines: list[str], key: str | None, address: str | None = None) -> bytes:
         """Records into the log, and their replies out of the sequencer; `address`: who sent them. Raises Problem."""
         refuse(self.is_closing, 503, "the server is ending; nothing was taken", Retry_After="5")
-        accepted, waiting = len(self._day.lines), self.waiting()
+        accepted = len(self._day.lines)
+        waiting = self.waiting()
         is_full = accepted >= TOWERS or len(self._day.records) >= MOST_RECORDS - RESERVED
         is_rush = desk.role != "ATC" and not is_full and waiting and accepted + waiting >= TOWERS
         refuse(is_rush, 429, "the last updates are taken one desk after the other", Retry_After="1")

@@ -91,7 +91,8 @@ class Again:
 
 async def reply_again(folder: str, program: str, day: Day) -> None:
     """Has the program reply to a day's records from the first one on. Raises Fault."""
-    records, carried = [record for record in day.records if not record.is_change], day.change.lines
+    records = [record for record in day.records if not record.is_change]
+    carried = day.change.lines
     if not records:
         return
     again = Again(records, day.digests, len(carried))

@@ -128,11 +128,14 @@ class Sequencer:
 
     async def _serve(self, folder: str) -> None:
         """One process, on the day as it is, until it ends. The next one gets the rest."""
-        words, patience = ("serve", f"{self._folder}/{self._day.change.file}", "journal.csv", "--format", "json"), PATIENCE_SECONDS
+        words = ("serve", f"{self._folder}/{self._day.change.file}", "journal.csv", "--format", "json")
+        patience = PATIENCE_SECONDS
         self._life.started(len(self._day.lines))
         process = await asyncio.create_subprocess_exec(
             same(self._program), *words, cwd=folder, stdin=PIPE, stdout=PIPE, limit=MOST_REPLY, start_new_session=True)
-        lines, replies, ended = process.stdin, process.stdout, asyncio.create_task(process.wait())
+        lines = process.stdin
+        replies = process.stdout
+        ended = asyncio.create_task(process.wait())
         assert lines is not None and replies is not None
         ended.add_done_callback(lambda _: self._log.grown.set())
         try:

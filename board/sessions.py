@@ -40,11 +40,13 @@ class Sessions:
     def of(self, cookie: str, desks: Desks) -> Session | None:
         """The session of a cookie, None if it isn't one that is open. What was signed too far ahead, and would so end later than twelve
         hours from now, is none either."""
-        desk, now = desks.by_name.get(cookie.partition(".")[0]), time.time()
+        desk = desks.by_name.get(cookie.partition(".")[0])
+        now = time.time()
         for token in desk.tokens if desk else ():
             with contextlib.suppress(BadData, UnicodeError):
                 said, began = self._signer(token).unsign(cookie, return_timestamp=True)
-                number, ends = int(said.rpartition(b".")[2]), began.timestamp() + SESSION - CLOCKS_APART
+                number = int(said.rpartition(b".")[2])
+                ends = began.timestamp() + SESSION - CLOCKS_APART
                 is_open = number >= self.not_before.get(desk.name, 0) if desk else False
                 return Session(desk, ends) if desk and is_open and now < ends <= now + SESSION else None
         return None

@@ -37,7 +37,8 @@ class Signing:
         """A cookie for who has a token."""
         try:
             said = json.loads(await body_of(request))
-            name, token = said["desk"], said["token"]
+            name = said["desk"]
+            token = said["token"]
             desk = self._callers.desks.by_token(token)
         except (ValueError, TypeError, AttributeError, LookupError, RecursionError):
             raise Problem(400, 'the body is {"desk":"..","token":".."}') from None

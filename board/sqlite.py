@@ -205,7 +205,8 @@ class FileLog(Kept):
         overdue.cancel()
         if done.cancelled():
             return
-        end, writer = done.result(), self._commits.writer
+        end = done.result()
+        writer = self._commits.writer
         if isinstance(end, list):
             was_closed = writer.closed
             self._commits.do(writer.committed(number, end))
@@ -220,7 +221,8 @@ class FileLog(Kept):
 
     def _committed(self, batches: Sequence[Batch]) -> "End":
         """In the thread: all these batches in one transaction. Its answers, or why it has none."""
-        outcome, database = Outcome.NOTHING, self._database
+        outcome = Outcome.NOTHING
+        database = self._database
         if database is None:
             return outcome, sqlite3.OperationalError("it isn't open")
         try:
@@ -258,7 +260,9 @@ class FileLog(Kept):
 
     def _take(self, database: sqlite3.Connection, batch: Batch) -> range | Problem:
         """The records' positions: those that their key has already, or new ones."""
-        query, desk, count = database.execute, (self._board, batch.desk), len(batch.records)
+        query = database.execute
+        desk = (self._board, batch.desk)
+        count = len(batch.records)
         if batch.key is not None:
             kept = query("SELECT position, line FROM cdm_record WHERE board = ? AND desk = ? AND key = ? ORDER BY n",
                          (*desk, batch.key)).fetchall()

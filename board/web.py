@@ -71,7 +71,8 @@ class Board:
         is_framed_twice = "Transfer-Encoding" in headers and "Content-Length" in headers
         is_double = is_framed_twice or any(len(headers.getall(name, ())) > 1 for name in ONCE)
         refuse(is_double, 400, "the request can be read in two ways")
-        host, after = headers.get("Host", ""), headers.get("Cdm-After", "0")
+        host = headers.get("Host", "")
+        after = headers.get("Cdm-After", "0")
         is_ours = re.sub(r":[0-9]*$", "", host).strip("[]").lower() in self.callers.names
         refuse(request.path not in OPEN and not is_ours, 421, "this server has another name (--name HOST adds one)")
         origin = f"{self.callers.scheme}://{host}"
@@ -160,7 +161,8 @@ class Board:
 
     async def post_records(self, request: web.Request) -> web.Response:
         """The lines of the body are records of this desk."""
-        lines, key = lines_of(await body_of(request)), request.headers.get("Idempotency-Key")
+        lines = lines_of(await body_of(request))
+        key = request.headers.get("Idempotency-Key")
         # Who lost the right while the body came speaks no more.
         desk = self.callers.desk_of(request)
         refuse(key is not None and not KEY.fullmatch(key), 400, "Idempotency-Key has 1 to 64 printable bytes")
@@ -172,7 +174,8 @@ class Board:
         refuse(request.version < HttpVersion11, 505, "events come in chunks")
         self.events.check(request["desk"])
         self.callers.check_opened(request)
-        guard, transport = request.protocol, request.transport
+        guard = request.protocol
+        transport = request.transport
         assert isinstance(guard, Guard)
         if transport is None:
             raise ConnectionResetError("the display is gone")

@@ -108,14 +108,16 @@ class Writer:
         """A transaction ended without answers."""
         if self._running is None or number != self._number:
             return []
-        running, late = self._running, self._late
+        running = self._running
+        late = self._late
         if outcome is Outcome.REFUSED:
             self._end()
             if len(running) == 1:
                 return [*self._told(running, nothing(REFUSED)), *self._next()]
             self._alone = {ticket: batch for ticket, batch in running.items() if ticket not in late} | self._alone
             return [*self._told([ticket for ticket in running if ticket in late], nothing(LATE)), *self._next()]
-        self._running, self._is_overdue = None, False
+        self._running = None
+        self._is_overdue = False
         said = Problem(504, NOT_KNOWN) if outcome is Outcome.UNKNOWN else nothing(why)
         return [*self._told(running, said), *self._close(why)]
 
@@ -123,12 +125,16 @@ class Writer:
         """A transaction takes longer than it may, and still runs: its desks aren't kept waiting."""
         if self._running is None or number != self._number or self._is_overdue:
             return []
-        running, self._running, self._is_overdue = self._running, {}, True
+        running = self._running
+        self._running = {}
+        self._is_overdue = True
         return [*self._told(running, Problem(504, NOT_KNOWN)), *self._close(why)]
 
     def lost(self, why: str) -> list[Order]:
         """The engine is away. It isn't known what became of the transaction that ran."""
-        running, self._running, self._is_overdue = self._running or {}, None, False
+        running = self._running or {}
+        self._running = None
+        self._is_overdue = False
         return [*self._told(running, Problem(504, NOT_KNOWN)), *self._close(why)]
 
     def opened(self) -> list[Order]:
@@ -145,11 +151,16 @@ class Writer:
         """The transaction that ran is over, and the engine is there: also where it took longer than it may."""
         if self._is_overdue:
             self._closed = None
-        self._running, self._is_overdue, self._late = None, False, set()
+        self._running = None
+        self._is_overdue = False
+        self._late = set()
 
     def _close(self, why: str) -> list[Order]:
         waiting = self._alone | self._waiting
-        self._closed, self._alone, self._waiting, self._late = why, {}, {}, set()
+        self._closed = why
+        self._alone = {}
+        self._waiting = {}
+        self._late = set()
         return self._told(waiting, nothing(why))
 
     @staticmethod

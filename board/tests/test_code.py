@@ -1,4 +1,5 @@
 """The code is typed, and has nothing that isn't used."""
+import ast
 import os
 import pathlib
 import subprocess
@@ -17,3 +18,10 @@ def test_the_code_is_clean(words):
         pytest.skip(f"test_the_code_is_clean: {words[0]} is missing")
     ended = subprocess.run(words, cwd=ROOT, capture_output=True, text=True)
     assert ended.returncode == 0, ended.stdout
+
+
+def test_an_assignment_has_one_value():
+    """`a, b = b, a + b` is two steps in one line; only what a call gives is unpacked."""
+    several = [f"{path}:{node.lineno}" for path in CODE for node in ast.walk(ast.parse(pathlib.Path(path).read_text()))
+               if isinstance(node, ast.Assign) and isinstance(node.targets[0], ast.Tuple) and isinstance(node.value, ast.Tuple)]
+    assert several == []
