@@ -17,9 +17,9 @@ OF = Limits()
 # What docs/HTTP.md says, by the server's own numbers.
 LIMITS = [
     f"{words.MOST_LINES} records a body, {words.MOST_BYTES} bytes a line, {web.MOST_BODY >> 10} KiB a body",
-    f"{desks.Desk.records:,} lines of a desk in a log",
+    f"{desks.Desk.records:,} lines of a desk in a day",
     f"up to {desks.MOST_QUOTA:,})",
-    f"{records.TOWERS:,} accepted updates, or {log.MOST_RECORDS - records.RESERVED:,} lines, for desks other than ATC's; {log.MOST_RECORDS:,} lines",
+    f"{records.TOWERS:,} accepted updates, also those carried over, or {log.MOST_RECORDS - records.RESERVED:,} lines of a day, for desks other than ATC's; {log.MOST_RECORDS:,} lines of a day",
     f"{desks.MOST_RECORDS_WAITING} waiting records of a desk; {desks.MOST_A_SECOND} records a second",
     f"{answers.MOST_QUESTIONS} waiting questions of a desk. Without a desk one waits only while fewer than {answers.MOST_NAMELESS_QUESTIONS} wait",
     f"{answers.PLACE_SECONDS:.0f} seconds until a question begins",
