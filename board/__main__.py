@@ -32,7 +32,7 @@ from board.events import Events
 from board.guard import HEADERS, Door, Guard
 from board.carrying import carried_over
 from board.changing import time_of
-from board.log import MOST_RECORDS, Batch, Change, Log, Record
+from board.log import MOST_RECORDS, Batch, Change, Log, Record, rules_of
 from board.notify import Notifier
 from board.past import Past, spans_of
 from board.replies import Keeper, check_length, day_of_log, reply_again
@@ -232,7 +232,7 @@ async def verify(options: argparse.Namespace) -> None:
     digests = await engine_of(options.log).read_digests(options.log, options.board)
     changes, made_by, records = await engine_of(options.log).read_log(options.log, options.board)
     version = (await asked("/", PROGRAM, "--version")).decode("ascii", "replace").strip()
-    if made_by != version:
+    if rules_of(made_by) != rules_of(version):
         raise Fault(f"{options.log} was made by another program: {made_by}, and this is {version}")
     parts = parts_of(changes, records)
     accepted = 0

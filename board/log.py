@@ -21,6 +21,7 @@ AT = re.compile("[0-9A-Za-z:.+-]{0,40}")
 # The day in an airport file, and the line of a change of day.
 DATED = re.compile(rb'(?m)^("?DAY"?,"?)[0-9]{4}-[0-9]{2}-[0-9]{2}')
 DAY = re.compile("DAY,[0-9]{4}-[0-9]{2}-[0-9]{2}")
+RULES = re.compile(r"\(rules ([0-9]+)\)$")
 BEFORE = "other records came before the change of day; nothing was taken"
 NOT_KNOWN = "not known whether the records are in the log; send again with the same key"
 
@@ -208,11 +209,18 @@ class Kept:
         if not ID.fullmatch(self.id):
             raise Fault(f"{self.name}: its id isn't one that cdmboard gives")
         is_own = airport == self.airport or present is not None and undated(airport) == undated(present)
-        if not is_own or made_by != version:
+        if not is_own or rules_of(made_by) != rules_of(version):
             what = "program" if is_own else "airport file"
             board = f" --board {self._board}" if self._board else ""
             raise Fault(f"{self.name} belongs to another {what}; for a new log: cdmboard export {self.name}{board} > day.csv"
                         f" && cdmboard import AIRPORT NEWLOG day.csv{board}")
+
+
+def rules_of(version: str) -> str:
+    """By what rules a program plans, as its version says: the number changes where an accepted input means something else. Release 1.0.0 has
+    the first rules, and says no number."""
+    found = RULES.search(version)
+    return found[1] if found else "1" if version == "cdmseq 1.0.0" else version
 
 
 def dated(airport: bytes, day: str) -> bytes:

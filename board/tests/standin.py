@@ -234,7 +234,7 @@ def main(words):
     options = {name: words[words.index(name) + 1] for name in ("--format", "--scenarios", "--scenario", "--by") if name in words}
     command, *rest = [word for word in words if word not in options and word not in options.values()]
     if command == "--version":
-        print("cdmseq stand-in")
+        print("cdmseq 0.1.0 (rules 1)")
         return 0
     if command == "kinds":
         for kind, (of, roles, fields) in KINDS.items():

@@ -270,6 +270,20 @@ def test_an_end_at_the_moment_at_which_a_connection_breaks(primary, turns):
     asyncio.run(talk())
 
 
+def test_two_programs_of_the_same_rules_serve_one_board(board, primary):
+    """One server after the other is upgraded, while the desks go on."""
+    old, new = board(log=primary.url()), board(log=primary.url(), start=False)
+    old.post(["FLT,AB1,5"], Cdm_Role="AP")
+    new.program('[ "$1" = --version ] && echo "cdmseq 9.9.9 (rules 1)" && exit')
+    new.start()
+    new.post(["FLT,AB2,5"], Cdm_Role="AP")
+    assert old.end() == 0
+    old.start().post(["FLT,AB3,5"], Cdm_Role="AP")
+    for server in (old, new):
+        until(lambda: [row["line"] for row in server.records()] == ["FLT,AB1,5", "FLT,AB2,5", "FLT,AB3,5"])
+    assert old.get("/v1/plan.json", Cdm_After="3").body == new.get("/v1/plan.json", Cdm_After="3").body
+
+
 def test_two_clocks_take_each_minute_once(board, primary):
     today = time.strftime("%Y-%m-%d", time.gmtime())
     servers = [board(log=primary.url(), options=["--clock"], airport=AIRPORT.replace("2025-03-10", today)) for _ in range(2)]

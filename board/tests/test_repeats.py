@@ -125,6 +125,6 @@ def test_what_is_otherwise_is_found(tmp_path, page, old, new, difference):
 def test_the_version_has_a_section():
     """CHANGELOG has what isn't released yet first, then each release, the newest first, and the program's version among them."""
     first, *releases = re.findall(r"^## \[([^]]+)\]", (ROOT / "CHANGELOG.md").read_text(), re.M)
-    version = re.search(r'^pub const VERSION: &str = "(.*)";$', (ROOT / "crates/cdm_command/src/manual.rt").read_text(), re.M)
+    version = re.search(r'^pub const VERSION: &str = "(\S+) \(rules \d+\)";$', (ROOT / "crates/cdm_command/src/manual.rt").read_text(), re.M)
     assert first == "Unreleased" and version is not None and version[1] in releases
     assert releases == sorted(releases, key=lambda release: [int(part) for part in release.split(".")], reverse=True)

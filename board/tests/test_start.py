@@ -1,6 +1,7 @@
 """Start and end: words, files, locks, the clock, TLS, a proxy, import and export."""
 import asyncio
 import concurrent.futures
+import contextlib
 import datetime
 import fcntl
 import json
@@ -64,6 +65,39 @@ def test_files_that_are_refused_are_status_3(files, board):
     (files / "other").chmod(0o755)
     ended = cdmboard(server.airport, server.log, environment=dict(ENVIRONMENT, CDMSEQ=str(files / "other")))
     assert ended.returncode == 3 and "another program" in ended.stderr
+
+
+def says(rules):
+    """A program of another release, with these rules."""
+    return f'[ "$1" = --version ] && echo "cdmseq 9.9.9 (rules {rules})" && exit'
+
+
+def test_a_log_goes_on_with_another_program_of_the_same_rules(board):
+    """Forth and back; with other rules it is refused, and so it is by `verify`."""
+    server = board()
+    server.post(["FLT,AB1,5"], Cdm_Role="AP")
+    for program in (says(1), ""):
+        assert server.end() == 0
+        server.program(program)
+        server.start()
+        assert server.post(["FLT,AB2,5"], Cdm_Role="AP")[0]["position"] == (2 if program else 3)
+    assert [row["line"] for row in server.records()] == ["FLT,AB1,5", "FLT,AB2,5", "FLT,AB2,5"]
+    assert server.end() == 0
+    server.program(says(2))
+    for words in ((server.airport, server.log), ("verify", server.log)):
+        ended = cdmboard(*words, environment=server.environment)
+        assert ended.returncode == 3 and "another program" in ended.stderr
+
+
+def test_a_log_of_the_first_release_goes_on(board):
+    """It has the first rules, and its program says no number."""
+    server = board()
+    server.post(["FLT,AB1,5"], Cdm_Role="AP")
+    assert server.end() == 0
+    with contextlib.closing(sqlite3.connect(server.log)) as database:
+        database.execute("UPDATE cdm_log SET version = 'cdmseq 1.0.0'")
+        database.commit()
+    assert server.start().post(["FLT,AB2,5"], Cdm_Role="AP")[0]["position"] == 2
 
 
 def test_a_log_is_bound_to_no_airport_file_that_is_refused(files, board, log_engine):

@@ -5,7 +5,7 @@ use std::alloc::{AllocError, Global};
 use std::fmt::Write;
 
 /// The program's version.
-pub const VERSION: &str = "1.0.0";
+pub const VERSION: &str = "1.1.0 (rules 1)";
 
 /// What the program is.
 pub const ABOUT: &str = "\

@@ -125,7 +125,7 @@ fn prints_manual(alloc: Global, words: &[&str]) -> bool {
 
 // Whether the word prints the version.
 fn prints_version(alloc: Global, word: &str) -> bool {
-    printed(alloc, &[word]).as_deref() == Some("cdmseq 1.0.0\n")
+    printed(alloc, &[word]).as_deref() == Some("cdmseq 1.1.0 (rules 1)\n")
 }
 
 #[test]

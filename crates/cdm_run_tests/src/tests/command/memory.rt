@@ -39,7 +39,7 @@ fn refused_memory_tells_no_half_text(rt: HostRuntime) {
         (&["why", "a.csv", "f.csv", "AB1"], "f.csv"),
         (&["load", "a.csv", "f.csv", "27-L"], TRY),
         (&["kinds", "--format", "json"], "kinds"),
-        (&["--version"], "cdmseq 1.0.0\n"),
+        (&["--version"], "cdmseq 1.1.0 (rules 1)\n"),
         (&["help"], "more lines for people can follow.\n"),
         (&["help", "plan"], "cdmseq help | less\n"),
         (&["plan", "a.csv", "f.csv", "--workers", "65"], TRY),
