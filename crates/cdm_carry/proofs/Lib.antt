@@ -5,4 +5,5 @@ pub mod LawLemmas
 pub mod AcceptedLemmas
 pub mod DayLemmas
 pub mod RunLemmas
+pub mod NoticedLemmas
 mod WorkedRows

@@ -1,5 +1,5 @@
 -- The records that a day takes, one after another.
-use Rattle.std.proofs.Common.{◌≡◌, ◌<◌, ◌+◌, ◌++◌, ◌∙◌, ℕ, subst, Bool, true, false, All, List, [], ◌∷◌, Option, None, Some, Ok, Err, refl, sym, ap, append_assoc}
+use Rattle.std.proofs.Common.{◌≡◌, ◌<◌, ◌+◌, ◌++◌, ◌∙◌, ℕ, subst, Bool, true, false, All, List, [], ◌∷◌, Option, None, Some, Ok, Err, refl, sym, ap, add-one, append_assoc, append-nil, drop, drop-cons, get_or, length}
 use Rattle.cdm_flight.specs.Accepted.{accepted, after_one, refusal}
 use Rattle.cdm_flight.specs.Journal.{AirportRows}
 use Rattle.cdm_flight.specs.declared.{role.Role.Role, update.Update.Update, word.RefusalWord.RefusalWord}
@@ -9,6 +9,10 @@ use Rattle.cdm_plan.specs.Day.{DayRecord}
 use Rattle.cdm_files.specs.Refused.{Spelled, updates_in}
 use Rattle.cdm_carry.specs.{Carry.taken, Notices.{Numbered, after_spelled, if_taken, numbered, refused, refused_of}, Texts.window_end}
 use Rattle.cdm_carry.specs.declared.notice.Notice.{Notice}
+
+-- from a place on, the item there and the others
+pub from_here : {A : Type 0} (xs : List A) (k : ℕ) (x : A) → k < length xs → x ≡ get_or xs k x → drop k xs ≡ x ∷ drop (k + 1) xs
+from_here xs k x within is = drop-cons xs k x within ∙ (λ i. sym is i ∷ drop (sym (add-one k) i) xs)
 
 -- Records.
 
@@ -35,6 +39,19 @@ taken_more first records day next out more p rest so_far is grown = record {
       ∙ one_more (is_none (refusal day.airport day.journal p.0 p.1)) p out (taken day.airport (after_one day.airport day.journal p) rest) ∙ so_far.given;
 }
 
+-- no more records
+pub taken_day : (first : DayRecord) (records : List (Role × Update)) (day : DayRecord) (out rest : List (Role × Update)) → TakenSoFar first records day out rest
+    → rest ≡ [] → day ≡ record first { journal = accepted first.airport first.journal records }
+unfolding accepted
+taken_day first records day out rest so_far none =
+    λ i. record { airport = so_far.airport i; journal = ((λ j. accepted day.airport day.journal (sym none j)) ∙ so_far.journal) i }
+
+pub taken_all : (first : DayRecord) (records : List (Role × Update)) (day : DayRecord) (out rest : List (Role × Update)) → TakenSoFar first records day out rest
+    → rest ≡ [] → out ≡ taken first.airport first.journal records
+unfolding taken
+taken_all first records day out rest so_far none =
+    sym (append-nil out) ∙ (λ i. out ++ taken day.airport day.journal (sym none i)) ∙ so_far.given
+
 -- The records of a feed, with their numbers.
 
 pub record NumberedSoFar (first : DayRecord) (records : List Spelled) (day : DayRecord) (out : List Numbered) (number : ℕ) (rest : List Spelled) : Type 0 where
@@ -59,6 +76,18 @@ numbered_more first records day next out more number s rest so_far is grown = re
       ∙ append_assoc out (if_taken day.airport day.journal number s) (numbered day.airport (after_spelled day.airport day.journal s) (number + 1) rest) ∙ so_far.given;
 }
 
+pub numbered_day : (first : DayRecord) (records : List Spelled) (day : DayRecord) (out : List Numbered) (number : ℕ) (rest : List Spelled)
+    → NumberedSoFar first records day out number rest → rest ≡ [] → day ≡ record first { journal = accepted first.airport first.journal (updates_in records) }
+unfolding accepted updates_in
+numbered_day first records day out number rest so_far none =
+    λ i. record { airport = so_far.airport i; journal = ((λ j. accepted day.airport day.journal (updates_in (sym none j))) ∙ so_far.journal) i }
+
+pub numbered_all : (first : DayRecord) (records : List Spelled) (day : DayRecord) (out : List Numbered) (number : ℕ) (rest : List Spelled)
+    → NumberedSoFar first records day out number rest → rest ≡ [] → out ≡ numbered first.airport first.journal 1 records
+unfolding numbered
+numbered_all first records day out number rest so_far none =
+    sym (append-nil out) ∙ (λ i. out ++ numbered day.airport day.journal number (sym none i)) ∙ so_far.given
+
 -- The records that the next airport refuses.
 
 pub record RefusedSoFar (first : DayRecord) (before : List Notice) (records : List Numbered) (day : DayRecord) (out : List Notice) (rest : List Numbered) : Type 0 where
@@ -80,6 +109,12 @@ refused_more first before records day next out more n rest so_far is grown = rec
       ∙ refused_next (refusal day.airport day.journal n.1.0 n.1.1) n out (refused_of day.airport (after_one day.airport day.journal n.1) rest) ∙ so_far.given;
 }
 
+pub refused_all : (first : DayRecord) (before : List Notice) (records : List Numbered) (day : DayRecord) (out : List Notice) (rest : List Numbered)
+    → RefusedSoFar first before records day out rest → rest ≡ [] → out ≡ before ++ refused_of first.airport first.journal records
+unfolding refused_of
+refused_all first before records day out rest so_far none =
+    sym (append-nil out) ∙ (λ i. out ++ refused_of day.airport day.journal (sym none i)) ∙ so_far.given
+
 -- Windows that end early.
 
 -- what holds of all records holds of those that are accepted
@@ -93,6 +128,12 @@ all_taken P g a [] h = All-nil P
 all_taken P g a (p ∷ later) h =
     one_more_taken P (is_none (refusal g a p.0 p.1)) p (taken g (after_one g a p) later) (All-head P p later h)
     (all_taken P g (after_one g a p) later (All-tail P p later h))
+
+pub short_taken : (g : AirportRows) (a : List Update) (carried records all : List (Role × Update)) → all ≡ taken g a records → records ≡ carried
+    → All (λ q. window_end q.1 < 2880) carried → All (λ q. window_end q.1 < 2880) all
+short_taken g a carried records all is same short =
+    let Short : Role × Update → Type 0 = λ q. window_end q.1 < 2880 in
+    subst (All Short) (sym is) (all_taken Short g a records (subst (All Short) (sym same) short))
 
 -- one record more
 pub short_more : (old new : List (Role × Update)) (p : Role × Update) → new ≡ old ++ p ∷ [] → All (λ q. window_end q.1 < 2880) old → window_end p.1 < 2880

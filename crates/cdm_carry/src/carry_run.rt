@@ -15,8 +15,7 @@ ghost use Rattle.cdm_carry.specs.inner.RunSteps.{AreMade, IsFirstInputFault, IsN
 use crate::carry_error::{CarryError, OtherDay};
 use crate::carry_text::CarryText;
 use crate::carrying::carry_of;
-use crate::notice::Notice;
-use crate::noticed::{notices_of, notices_text};
+use crate::noticed::{need_care, notices_of, notices_text};
 use crate::writing::feed_text;
 use cdm_day::Airport;
 use cdm_files::{
@@ -147,7 +146,7 @@ fn notices_made(
     let notices = notices_of(alloc, airport, records, next)?;
     Ok(Made {
         text: notices_text(alloc, format, day, next_day, &notices)?,
-        needs_care: notices.iter().any(Notice::needs_care),
+        needs_care: need_care(&notices),
     })
 }
 

@@ -62,5 +62,6 @@ pub fn carry_of(
 {
     let carried = carried_of(alloc, airport, records)?;
     let first = day_of(alloc, next)?;
-    take_records(alloc, &mut Overlay::over(alloc, &first), &carried)
+    let taken = take_records(alloc, &mut Overlay::over(alloc, &first), &carried)?;
+    Ok(taken)
 }

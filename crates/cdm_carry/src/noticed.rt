@@ -3,6 +3,7 @@ ghost use Rattle.std.specs.Prelude.{◌≡◌, ◌<◌, All, IfOk, List};
 ghost use Rattle.std.specs.List.{list_any};
 ghost use Rattle.cdm_carry.specs.NoticeTexts.{notice_end, notices_text};
 ghost use Rattle.cdm_carry.specs.Noticed.{AreNotices};
+ghost use Rattle.cdm_carry.specs.Notices.{needs_care};
 
 use crate::notice::Notice;
 use crate::notice_object::notice_objects;
@@ -40,6 +41,13 @@ pub fn notices_of(
     push_refused(&mut notices, alloc, &mut next, &carried)?;
     push_counts(&mut notices, &flights)?;
     Ok(notices)
+}
+
+/// Whether a person has to see to one of these notices.
+pub(crate) fn need_care(notices: &[Notice]) -> bool
+    ensures { result ≡ list_any needs_care notices.now }
+{
+    notices.iter().any(Notice::needs_care)
 }
 
 /// The text of notices before the next day, in this format. A record that is refused has a window that ends before the horizon

@@ -4,7 +4,7 @@ ghost use Rattle.std.specs.List.{cons_option, filter_map};
 ghost use Rattle.std.specs.Option.{option_copied, option_map};
 ghost use Rattle.cdm_flight.specs.Names.{name_cmp};
 ghost use Rattle.cdm_plan.specs.DayPlan.{records_in};
-ghost use Rattle.cdm_carry.specs.Notices.{carried_numbered, counts, earlier, early, is_gone, left, refused_of, stays_by};
+ghost use Rattle.cdm_carry.specs.Notices.{carried_numbered, counts, earlier, early, is_gone, left, refused, refused_of, stays_by};
 ghost use Rattle.cdm_carry.specs.Texts.{window_end};
 ghost use Rattle.cdm_carry.specs.declared.notice.Notice.TheVariants.{EarlierTobt, EarlierCtot};
 ghost use Rattle.cdm_carry.specs.inner.Leaving.{LeaveOnce};
@@ -14,7 +14,7 @@ use crate::notice::Notice;
 use crate::staying::{NEXT_DAY, stays_by};
 use crate::taking::{Numbered, take_record};
 use cdm_day::Records;
-use cdm_flight::{Flight, Status, push_last};
+use cdm_flight::{Flight, RefusalWord, Status, push_last};
 use cdm_scenario::Overlay;
 use cdm_time::Minute;
 use std::alloc::{AllocError, Global};
@@ -152,6 +152,17 @@ pub(crate) fn carried_numbered(
     Ok(carried)
 }
 
+// The notice of a record that a word refuses.
+fn refused(item: Numbered, word: Option<RefusalWord>) -> Option<Notice>
+    ensures { result ≡ option_map (refused item) word }
+{
+    let (number, (role, update)) = item;
+    match word {
+        Some(word) => Some(Notice::Refused(number, word, role, update)),
+        None => None,
+    }
+}
+
 /// The records that the next airport refuses, one after another, behind the other notices.
 pub(crate) fn push_refused(
     notices: &mut Vec<Notice>,
@@ -162,10 +173,9 @@ pub(crate) fn push_refused(
     ensures { OnOk result (notices.new.items ≡ notices.old.items ++ refused_of next.old.airport next.old.journal records.now) }
 {
     for item in records {
-        let (number, (role, update)) = *item;
-        if let Some(word) = take_record(alloc, next, role, &update)? {
-            push_last(notices, Notice::Refused(number, word, role, update))?;
-        }
+        let (_, (role, update)) = *item;
+        let word = take_record(alloc, next, role, &update)?;
+        push_if_any(notices, refused(*item, word))?;
     }
     Ok(())
 }

@@ -1,5 +1,5 @@
 //! The records that an airport accepts.
-ghost use Rattle.std.specs.Prelude.{◌≡◌, ◌++◌, [], IfOk, OnOk};
+ghost use Rattle.std.specs.Prelude.{◌≡◌, ◌++◌, [], ◌∷◌, IfOk, OnOk, is_none, if◌then◌else◌};
 ghost use Rattle.cdm_flight.specs.Accepted.{accepted, after_one, refusal};
 ghost use Rattle.cdm_files.specs.Refused.{updates_in};
 ghost use Rattle.cdm_carry.specs.Carry.{taken};
@@ -43,6 +43,20 @@ pub(crate) fn take_record(
     }
 }
 
+// A record behind the others, unless a word refuses it.
+fn push_unless(
+    records: &mut Vec<(Role, Update)>,
+    word: Option<RefusalWord>,
+    item: (Role, Update),
+) -> Result<(), AllocError>
+    ensures { OnOk result (records.new.items ≡ (if is_none word then records.old.items ++ item ∷ [] else records.old.items)) }
+{
+    match word {
+        None => push_last(records, item),
+        Some(_) => Ok(()),
+    }
+}
+
 /// Takes records, and answers those that no word refuses.
 pub(crate) fn take_records(
     alloc: Global,
@@ -55,9 +69,8 @@ pub(crate) fn take_records(
     let mut taken = Vec::new(alloc);
     for record in records {
         let (role, update) = *record;
-        if take_record(alloc, day, role, &update)?.is_none() {
-            push_last(&mut taken, *record)?;
-        }
+        let word = take_record(alloc, day, role, &update)?;
+        push_unless(&mut taken, word, *record)?;
     }
     Ok(taken)
 }
