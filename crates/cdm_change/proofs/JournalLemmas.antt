@@ -31,10 +31,10 @@ use Rattle.cdm_plan.proofs.JournalFacts.{accepted_is, flight_named}
 use Rattle.cdm_day.proofs.BatchLemmas.{accepted-keeps}
 use Rattle.cdm_day.proofs.SoundLemmas.{sound_after}
 use Rattle.cdm_carry.specs.Carry.{stays}
-use Rattle.cdm_carry.specs.Told.{is_left}
-use Rattle.cdm_carry.specs.inner.Leaving.{LeaveOnce, stays_by}
+use Rattle.cdm_carry.specs.inner.Leaving.{LeaveOnce}
+use Rattle.cdm_carry.specs.Notices.{stays_by}
 use Rattle.cdm_carry.proofs.StayLemmas.{leave_once, off_first, one_more, state_allows, stays_is}
-use Rattle.cdm_change.specs.Unnoticed.{IsLongGone, MayChange, day_after, is_earlier}
+use Rattle.cdm_change.specs.Unnoticed.{IsLongGone, MayChange, day_after, is_earlier, is_left}
 use Rattle.cdm_change.proofs.FixedLemmas.{StandsBy}
 
 -- A day of accepted records is sound.

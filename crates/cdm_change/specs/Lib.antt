@@ -1,3 +1,4 @@
 pub mod NextDay
 pub mod Unnoticed
 pub mod AllAccepted
+pub mod Flights

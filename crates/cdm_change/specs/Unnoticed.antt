@@ -4,7 +4,7 @@ use Rattle.std.specs.Option.{option_map, option_map_or}
 use Rattle.cdm_flight.specs.declared.airport.RunwayRow.{RunwayRow}
 use Rattle.cdm_flight.specs.declared.flight.Flight.{Flight}
 use Rattle.cdm_flight.specs.declared.flight.Status.{Status}
-use Rattle.cdm_flight.specs.declared.flight.Status.TheVariants.{Airborne}
+use Rattle.cdm_flight.specs.declared.flight.Status.TheVariants.{OffBlock, Airborne}
 use Rattle.cdm_flight.specs.declared.group.Group.{Group}
 use Rattle.cdm_flight.specs.declared.role.Role.{Role}
 use Rattle.cdm_flight.specs.declared.update.Update.{Update}
@@ -22,7 +22,6 @@ use Rattle.cdm_plan.specs.Day.{DayRecord}
 use Rattle.cdm_plan.specs.DayPlan.{IsDayPlan, records_in}
 use Rattle.cdm_carry.specs.Carry.{carry, stays}
 use Rattle.cdm_carry.specs.Laws.{next_minute}
-use Rattle.cdm_carry.specs.Told.{is_left}
 
 -- Plans.
 
@@ -63,6 +62,11 @@ pub record IsSameAirport (g h : AirportRows) : Type 0 where
   pub taxi : h.taxi ≡ g.taxi
 
 -- Days.
+
+-- a flight of this status is LEFT: it left its stand before the next day, which doesn't know it, and isn't airborne
+abbrev pub is_left : Status → Bool
+is_left (OffBlock aobt exot) = nat_lt aobt 1440
+is_left status = false
 
 -- the flight is EARLIER: it is planned, and its TOBT or CTOT was before the next day
 abbrev pub is_earlier : Flight → Bool

@@ -1,11 +1,18 @@
 //! Laws of a change of day.
 ghost use Rattle.cdm_change.specs.AllAccepted.{AllAccepted};
+ghost use Rattle.cdm_change.specs.Flights.{FlightsGoOn};
 ghost use Rattle.cdm_change.specs.Unnoticed.{NobodyNotices};
 
 /// A next airport with the airport's runways, cells, capacities, spacing times and taxi times accepts each record that is
 /// carried, in its place.
 pub fn all_accepted()
     ensures { AllAccepted }
+{}
+
+/// Such an airport has, behind what is carried, exactly the flights that stay, in their order, each as it was: its minutes less
+/// 1440, and its priority, stand, runway, de-icing, group and taxi time the same, also one that its off-block has fixed.
+pub fn flights_go_on()
+    ensures { FlightsGoOn }
 {}
 
 /// Nobody notices a change of day. Let the next airport have the runways, with their cells, capacities and spacing times, and

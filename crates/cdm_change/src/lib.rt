@@ -3,4 +3,4 @@
 
 mod laws;
 
-pub use laws::{all_accepted, nobody_notices};
+pub use laws::{all_accepted, flights_go_on, nobody_notices};
