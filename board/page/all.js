@@ -6,7 +6,12 @@ import { Sorted, arrange, whenFree } from './hold.js';
 export const SLICE = 8; // ms of a task, after which others have their turn
 const CHUNK = 100;
 const MANY = 300;
-export const breath = () => (globalThis.scheduler?.yield ? scheduler.yield() : new Promise((resolve) => setTimeout(resolve)));
+const LONG = 100; // ms after which a pause ends anyway
+/** Others have their turn. */
+export const breath = () => new Promise((go) => {
+  const isSoon = globalThis.scheduler?.yield?.().then(go);
+  setTimeout(go, isSoon ? LONG : 0);
+});
 
 export class All {
   constructor(day, moves, filter) {
@@ -28,7 +33,7 @@ export class All {
       const row = this.day.rows.get(flight);
       if (row) this.write(this.itemOf(flight), row);
       if (row && !this.isKnown) this.listOf(row).set(this.itemOf(flight), keyOf(row));
-      if (performance.now() - began < SLICE) continue;
+      if (document.hidden || performance.now() - began < SLICE) continue;
       await breath();
       began = performance.now();
     }

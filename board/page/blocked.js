@@ -15,27 +15,37 @@ export class Blocked {
   }
 
   changed(names) {
+    for (const name of names) this.write(name);
     whenFree(() => {
-      for (const name of names) this.show(name);
+      for (const name of names) this.place(name);
       this.head();
     });
   }
 
-  show(name) {
+  /** Writes a flight's row, if it has one; it may have to leave, but not yet. */
+  write(name) {
     const row = this.day.rows.get(name);
-    const isHere = row?.status === 'BLOCKED' && this.filter.takes(row);
-    const item = this.items.get(name) ?? (isHere && this.make(name));
+    const item = row && (this.items.get(name) ?? (this.takes(row) && this.make(name)));
     if (!item) return;
-    if (!isHere) {
-      this.items.delete(name);
-      this.list.remove(item);
-      return;
-    }
     const mark = this.moves.mark(name);
     write(item, row, this.day.date);
     say(item.since, this.moves.sinceText(name) || (mark ?? ''));
     flag(item, 'moved', mark !== null);
-    this.list.set(item, `${row.ctot ?? '~'} ${name}`);
+  }
+
+  takes(row) {
+    return row?.status === 'BLOCKED' && this.filter.takes(row);
+  }
+
+  place(name) {
+    const item = this.items.get(name);
+    const row = this.day.rows.get(name);
+    if (item && this.takes(row)) {
+      this.list.set(item, `${row.ctot ?? '~'} ${name}`);
+    } else if (item) {
+      this.items.delete(name);
+      this.list.remove(item);
+    }
   }
 
   make(name) {

@@ -8,6 +8,9 @@ let free = 0;
 let timer = 0;
 const waiting = new Set();
 
+/** Who draws by itself does it in its turn: what is shown is the day as the machine has it then. */
+export const turn = { take: (task) => anchored(task) };
+
 /** Holds rows until so many milliseconds from now. */
 function hold(milliseconds) {
   free = performance.now() + milliseconds;
@@ -29,14 +32,14 @@ const isHeld = () => performance.now() < free;
 function release() {
   const tasks = [...waiting];
   waiting.clear();
-  if (tasks.length) anchored(() => tasks.forEach((task) => task()));
+  if (tasks.length) turn.take(() => tasks.forEach((task) => task()));
 }
 
-/** Does it now, or as soon as no pointer is down and a click is a second old. */
+/** Does it now, or as soon as no pointer is down and a click is a second old; whether it is done. */
 export function whenFree(task) {
-  if (!isHeld()) return task();
-  waiting.add(task);
-  return null;
+  if (isHeld()) waiting.add(task);
+  else task();
+  return !waiting.has(task);
 }
 
 let isScrolled = false; // kept here, since the browser lays the page out for whoever asks it

@@ -9,7 +9,7 @@ import { Filter } from './filter.js';
 import { FlightPanel, enableForms } from './flight.js';
 import { RecordForm, showRecords } from './form.js';
 import { Head, startTheme } from './head.js';
-import { anchored } from './hold.js';
+import { anchored, turn } from './hold.js';
 import { Machine } from './machine.js';
 import { Moves } from './moves.js';
 import { clock, heard, request, said, Streams } from './net.js';
@@ -21,15 +21,15 @@ import { Warnings } from './warnings.js';
 import { WhatIf } from './whatif.js';
 
 const FEW = 100; // so many rows are made at once
-const MOST_UNDRAWN = 50;
+const ASIDE = ['ask', 'abandon', 'open', 'close', 'wait']; // orders by which nothing is shown
 const root = document.documentElement;
 const desk = new Desk(give);
 const machine = new Machine(Math.random, said.role);
 const { day } = machine;
 const head = new Head(day);
 const connection = new Connection(head);
-const moves = new Moves(day, (names) => show(names));
-const filter = new Filter(() => anchored(() => [all, next, blocked].forEach((table) => table.again())));
+const moves = new Moves(day, (names) => give(() => show(names)));
+const filter = new Filter(() => again(all, next, blocked));
 const [all, next, blocked] = [new All(day, moves, filter), new Next(day, moves, filter), new Blocked(day, moves, filter)];
 const warnings = new Warnings(day, filter, (words) => head.warn(words));
 const bands = new Bands(day);
@@ -40,14 +40,15 @@ const flight = new FlightPanel(day, desk, runways, send);
 const streams = new Streams(give);
 const asked = new Map(); // requests that have no answer yet, by number
 const forms = new Map(); // forms whose record has no answer yet, by name
-const events = []; // what the machine hasn't taken yet
-const undrawn = []; // what is to be shown in later tasks
+const events = []; // what the machine hasn't taken yet, and what else is to be drawn
 const unwritten = new Set(); // flights whose rows are to be written
+let newest = null; // the record that changed them last, and how many start-ups it moved
 let operators = [];
 let shownNow = '';
 let lastRecord = null; // of those that came before the page was opened
 let timer = 0;
 let isTaking = false;
+let taken = null; // when the last event is
 let began = 0; // this task
 let making = null; // while rows are made that aren't shown yet
 
@@ -89,64 +90,73 @@ function send(form, line, key) {
   give({ type: 'send', form: form.id, line, key });
 }
 
-/** An event for the machine, in its turn; what it orders is done at once. */
+/**
+ * An event for the machine, or a task that draws, in its turn: not before what was ordered is shown, so that all that is shown is of one
+ * position. Answers when it was taken.
+ */
 function give(event) {
   events.push(event);
-  if (isTaking) return;
+  if (!isTaking) taken = take().catch((fault) => failed(fault, 'rows'));
+  return taken;
+}
+
+turn.take = give;
+
+async function take() {
   isTaking = true;
   began = performance.now();
-  while (events.length) {
-    let orders = [];
-    try {
-      orders = machine.take({ at: performance.now(), now: clock.now(), ...events.shift() });
-    } catch (fault) {
-      told(fault, 'machine');
+  try {
+    while (events.length) {
+      const orders = ordersOf(events.shift());
+      draw(orders);
+      while (orders.length || making) {
+        await rest();
+        draw(orders);
+      }
+      if (isLong()) await rest();
     }
-    const all = () => orders.forEach(obey);
-    if (orders.some((order) => order.do === 'show')) anchored(all);
-    else all();
-  }
-  isTaking = false;
-}
-
-/**
- * Does what is ordered. While rows are made nothing is shown, and no answer in a task that is long already; what is to be shown behind it
- * waits too.
- */
-function obey(order) {
-  if (order.do === 'show' && (undrawn.length || making || order.what === 'answer' && isLong())) {
-    undrawn.push(order);
-    if (undrawn.length === 1) drawLater().catch(lost);
-    else if (undrawn.length > MOST_UNDRAWN) while (undrawn.length) act(undrawn.shift());
-  } else {
-    act(order);
+  } finally {
+    isTaking = false;
   }
 }
 
-/** What waited to be shown is gone: it is read anew. */
-function lost(problem) {
-  undrawn.length = 0;
-  failed(problem, 'rows');
+/** What is ordered upon an event, without that by which nothing is shown: that is done already. */
+function ordersOf(event) {
+  if (typeof event === 'function') return [{ do: 'show', what: 'task', task: event }];
+  try {
+    const orders = machine.take({ at: performance.now(), now: clock.now(), ...event });
+    orders.filter((order) => ASIDE.includes(order.do)).forEach(act);
+    return orders.filter((order) => !ASIDE.includes(order.do));
+  } catch (fault) {
+    told(fault, 'machine');
+    return [];
+  }
 }
 
-const isLong = () => performance.now() - began > SLICE;
+/** Does what is ordered: all of it, but nothing behind rows that are being made, and no answer in a task that is long already. */
+function draw(orders) {
+  const all = () => {
+    if (unwritten.size) act({ do: 'show', what: 'rows' });
+    while (orders.length && !making && !(orders[0].what === 'answer' && isLong())) act(orders.shift());
+  };
+  if (unwritten.size || orders.some((order) => order.do === 'show')) anchored(all);
+  else all();
+}
 
-async function drawLater() {
-  while (undrawn.length) {
-    await making;
-    await breath();
-    began = performance.now();
-    anchored(() => {
-      while (undrawn.length && !making && !isLong()) act(undrawn.shift());
-    });
-  }
+/** Nobody waits for a page that isn't seen, and the browser may stop what such a page wants to do later. */
+const isLong = () => !document.hidden && performance.now() - began > SLICE;
+
+async function rest() {
+  await making;
+  await breath();
+  began = performance.now();
 }
 
 function act(order) {
   try {
     DONE[order.do](order);
   } catch (fault) {
-    failed(fault, order.what === 'answer' ? order.name : ['plan', 'replies'].includes(order.what) ? 'rows' : `${order.do} ${order.what ?? ''}`);
+    failed(fault, order.what === 'answer' ? order.name : ['plan', 'replies', 'rows', 'task'].includes(order.what) ? 'rows' : `${order.do} ${order.what ?? ''}`);
   }
 }
 
@@ -197,6 +207,8 @@ const SHOWN = {
     if (flight.name) flight.makeForm();
   },
   plan: showPlan,
+  rows: write,
+  task: ({ task }) => task(),
   replies: ({ replies }) => showReplies(replies),
   history: showHistory,
   totals: ({ totals, position, isOld }) => {
@@ -289,14 +301,12 @@ function showPlan({ changed, isFirst, isOther, isWhole }) {
 /** Records that came together. */
 function showReplies(replies) {
   const names = new Set();
-  let last = null;
   for (const { reply, changed } of replies) {
-    last = [reply, moves.note(changed, reply)];
+    newest = [reply, moves.note(changed, reply)];
     for (const name of changed.keys()) names.add(name);
     if (reply.line.startsWith('CLOCK,')) head.clockTaken(reply.at);
   }
   show(names);
-  head.record(...last);
 }
 
 /**
@@ -305,23 +315,13 @@ function showReplies(replies) {
  */
 function show(names) {
   for (const name of names) unwritten.add(name);
-  if (making) return;
   const lacking = all.lacking(unwritten);
-  if (lacking.length <= FEW) {
-    anchored(() => write([...unwritten]));
-    return;
-  }
-  making = all.make(lacking).then(() => {
-    making = null;
-    show([]);
-  }).catch((problem) => {
-    making = null;
-    unwritten.clear();
-    failed(problem, 'rows');
-  });
+  if (lacking.length <= FEW || document.hidden) write();
+  else making = all.make(lacking).catch((fault) => failed(fault, 'rows')).finally(() => { making = null; });
 }
 
-function write(names) {
+function write() {
+  const names = [...unwritten];
   unwritten.clear();
   const now = `${day.date} ${day.now}`;
   next.changed(names, now !== shownNow);
@@ -331,6 +331,13 @@ function write(names) {
   if (names.includes(flight.name) || !flight.row) flight.changed();
   panels.mark();
   root.classList.remove('is-new');
+  if (newest) head.record(...newest);
+  newest = null;
+}
+
+/** Tables as the filter or what was seen is now. */
+function again(...tables) {
+  give(() => tables.forEach((table) => table.again()));
 }
 
 /** Records that came before, or that changed too much to be sent as events: when a CLOCK came, and why what moved has moved. */
@@ -357,8 +364,8 @@ function empty() {
 
 heard.answer = ({ status, detail, stale }) => give({ type: 'heard', status, detail, stale });
 $('#seen').addEventListener('click', () => {
-  moves.look(hms(clock.now()).slice(0, 5));
-  anchored(() => next.again());
+  give(() => moves.look(hms(clock.now()).slice(0, 5)));
+  again(next, blocked);
 });
 for (const name of ['error', 'unhandledrejection']) addEventListener(name, (event) => failed(event.error ?? event.reason ?? event.message, 'page'));
 startTheme();

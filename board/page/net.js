@@ -92,7 +92,7 @@ export function newKey() {
 
 /** The events of the server: connections, and their text as it comes. */
 export class Streams {
-  /** @param {(event: object) => void} give takes opened, chunk and ended, each with the stream's number */
+  /** @param {(event: object) => Promise<void>} give takes opened, chunk and ended, each with the stream's number */
   constructor(give) {
     this.give = give;
     /** @type {Map<number, AbortController>} */
@@ -124,7 +124,7 @@ export class Streams {
       for (;;) {
         const { value, done } = await reader.read();
         if (done) return { status: 0, detail: 'the server closed it', retry: 0 };
-        this.give({ type: 'chunk', stream, text: value });
+        await this.give({ type: 'chunk', stream, text: value }); // no more is read than is taken
       }
     } catch {
       return { status: 0, detail: 'the connection broke', retry: 0 };

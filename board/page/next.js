@@ -85,7 +85,7 @@ export class Next {
       this.write(item, row);
       if (item.list !== this.list || item.key !== keyOf(row)) moving.push(item);
     }
-    whenFree(() => this.place(moving));
+    if (!whenFree(() => this.place(moving))) this.head();
   }
 
   place(moving) {

@@ -1,5 +1,6 @@
 // Which panel is open, kept in the address: #CLH67 is the flight's, #what-if, #send and #sign-in are the others.
 import { $, $$ } from './dom.js';
+import { turn } from './hold.js';
 
 const FLIGHT = /^[A-Z0-9]{1,7}$/;
 /** Where a panel covers the page, what is below it has no focus; what the connection is stays in sight. */
@@ -49,6 +50,10 @@ export class Panels {
 
   /** Shows what the address says. */
   follow() {
+    turn.take(() => this.show());
+  }
+
+  show() {
     const name = this.nameOf(location.hash);
     const flight = name === 'flight' ? location.hash.slice(1) : null;
     if (name === this.open && flight === this.flight) return;

@@ -1,6 +1,6 @@
 // The program's warnings, in its order: filled ones are to be acted on, framed ones to be looked at.
 import { $, el } from './dom.js';
-import { anchored, whenFree } from './hold.js';
+import { turn, whenFree } from './hold.js';
 import { hm } from './times.js';
 
 const MOST = 8;
@@ -66,7 +66,7 @@ export function explained(name, date) {
 export class Warnings {
   constructor(day, filter, onNew) {
     Object.assign(this, { day, filter, onNew, first: null, list: [], aging: 0, tags: new Map(), whole: new Set() });
-    this.draw = () => anchored(() => this.write());
+    this.draw = () => this.write();
   }
 
   /** The program's answer. It is drawn at once, as the rest of the page is, but not under a finger. */
@@ -104,7 +104,7 @@ export class Warnings {
         ?.querySelector(`a[href="${CSS.escape(href ?? '')}"]`).focus({ preventScroll: true });
     }
     $('#warnings h2 b').textContent = String(this.list.length);
-    if (this.list.some((one) => this.isNew(one))) this.aging = setTimeout(() => whenFree(this.draw), AGING);
+    if (this.list.some((one) => this.isNew(one))) this.aging = setTimeout(() => turn.take(() => whenFree(this.draw)), AGING);
   }
 
   isNew(one) {

@@ -1,6 +1,6 @@
 // What-if: a box for scenarios, their comparison, what moves, and the picture of both. Nothing of it changes the day.
 import { $, el, say } from './dom.js';
-import { anchored } from './hold.js';
+import { turn } from './hold.js';
 import { startUp } from './moves.js';
 import { Problem, objects } from './net.js';
 import { minutesFrom } from './times.js';
@@ -40,7 +40,7 @@ export class WhatIf {
 
   /** The second row of the bands: its place is there as long as the panel is open. */
   beside(loads) {
-    anchored(() => this.bands.beside(loads));
+    turn.take(() => this.bands.beside(loads));
   }
 
   fault(words) {

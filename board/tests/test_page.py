@@ -304,12 +304,12 @@ def test_a_day_that_is_read_anew(page):
     shown = page(day=day).open()
     assert shown.row("next", "X000")[0] == "06:00 in 10"
     shown.server.post("CLOSE,27L,2025-03-10T06:10Z,2025-03-10T06:40Z", Cdm_Role="ATC")
-    shown.until("return document.querySelector('#all tr[data-flight=Y059]').innerText.includes('was')", seconds=2 * WAIT)
+    shown.until("return document.querySelector('#all tr[data-flight=Y059]').textContent.includes('was')", seconds=2 * WAIT)
     plan = json.loads(shown.server.get("/v1/plan.json").body)
     told = {row["flight"]: row["tsat"][11:16] for row in plan["flights"]}
     assert told["X000"] == "06:25"
     shown.until("return document.querySelectorAll('#all tbody tr').length === 120")
-    assert shown.js("return Object.fromEntries([...document.querySelectorAll('#all tbody tr')].map((r) => [r.dataset.flight, r.cells[0].innerText]))") == told
+    assert shown.js("return Object.fromEntries([...document.querySelectorAll('#all tbody tr')].map((r) => [r.dataset.flight, r.cells[0].textContent]))") == told
 
 
 def test_the_rows_are_those_of_the_plan(page, chance):

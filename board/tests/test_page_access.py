@@ -1,6 +1,6 @@
 """The page by keyboard, by a screen reader, at each size and in each theme. The day by hand is in browser.py."""
 import pytest
-from browser import WAIT, size
+from browser import WAIT, size, until
 from selenium_or_none import Keys
 
 # The contrast of each text over its ground, from what the browser computes. Under 4.5 it is told, but for what is disabled.
@@ -140,7 +140,7 @@ def test_what_a_screen_reader_is_told(page):
 
 
 def test_long_tables_are_tables(page):
-    """A group of more than 200 flights is in tables of its own with the same heads, each with all its rows: nothing is left out of sight."""
+    """A group of more than 100 flights is in tables of its own with the same heads, each with all its rows: nothing is left out of sight."""
     names = [f"X{number:03}" for number in range(450)]
     day = {"AP": [f"FLT,{name},5" for name in names], "ATC": [f"RWY,{name},27L" for name in names]}
     shown = page(day=day).open()
@@ -197,11 +197,11 @@ def test_by_keyboard_alone(page):
     assert at == sorted(at), order
     shown.js("document.querySelector('#next tr[data-flight=DLH2] a').focus()")
     shown.keys(Keys.ENTER)
-    assert shown.js(where)[0] == "h-f"
+    until(lambda: shown.js(where)[0] == "h-f")
     shown.keys(Keys.TAB)
     assert shown.js(where)[0] == "Close"
     shown.keys(Keys.ENTER)
-    assert shown.js(where)[0] == "DLH2"
+    until(lambda: shown.js(where)[0] == "DLH2")
     # The focus stays on its flight while rows move.
     shown.server.post("TOBT,DLH2,2025-03-10T06:45Z", Cdm_Role="AO")
     shown.until("return document.querySelector('#next tbody tr:last-child').dataset.flight === 'DLH2'")

@@ -4,7 +4,7 @@ import json
 import signal
 import time
 
-from browser import AIRPORT, WAIT, fill, until
+from browser import AIRPORT, DAY, WAIT, fill, until
 from test_page_desks import DENIED, DESKS, sign_in
 
 # Holds the answers to questions for the plan until they are let go; they are those of the moment at which they were asked for.
@@ -13,7 +13,7 @@ HOLD = """window.held = []; const real = window.fetch; window.fetch = async (pat
     if (String(path) === '/v1/plan.json' && window.held) await new Promise((go) => window.held.push(go));
     return got; };"""
 LET_GO = "const { held } = window; window.held = null; for (const go of held) go();"
-SHOWN = "return Object.fromEntries([...document.querySelectorAll('#all tbody tr')].map((r) => [r.dataset.flight, r.cells[0].innerText.slice(0, 5).trim()]))"
+SHOWN = "return Object.fromEntries([...document.querySelectorAll('#all tbody tr')].map((r) => [r.dataset.flight, r.cells[0].textContent.slice(0, 5).trim()]))"
 # Each with its TSAT as it is planned; a runway takes two in ten minutes, so a CLOCK behind them moves all.
 MANY = [f"{letter}{number:03}" for letter in "XY" for number in range(60)]
 CROWDED = {"AP": [f"FLT,{name},5" for name in MANY], "ATC": [f"RWY,{name},27L" for name in MANY] + ["CLOCK,2025-03-10T05:50Z"],
@@ -148,3 +148,95 @@ def test_totals_say_of_which_record_they_are(page):
     shown.until(f"{under} === arguments[0]", f'"of record {last + 1}"', seconds=2 * WAIT)
     assert shown.js("return document.querySelector('header dl').getAttribute('aria-label')") == "Totals"
     assert shown.js("const { x, y, height } = document.querySelector('#warnings').getBoundingClientRect(); return [x, y, height]") == box
+
+
+# Rows are made in slices; each of their pauses is as long as that of a page that has much to do.
+SLOW = "scheduler.yield = () => new Promise((go) => setTimeout(go, arguments[0]));"
+# What is shown, at each look: TSAT and runway of each flight in both tables, NOW, and of which record the totals are.
+LOOK = """window.looks = new Set();
+    const rows = (table, at) => [...document.querySelectorAll(`${table} tbody tr`)].map((r) => [r.dataset.flight, r.cells[0].textContent.slice(0, 5), r.cells[at].textContent]);
+    window.look = () => looks.add(JSON.stringify([Object.fromEntries(rows('#all', 3).map(([name, ...cells]) => [name, cells])), rows('#next', 2),
+      document.querySelector('.now time').innerText, document.querySelector('header dl').dataset.of]));
+    setInterval(look, 20);"""
+
+
+def as_shown(plan):
+    """What a page shows of a plan."""
+    return {row["flight"]: [row["tsat"][11:16] if row["tsat"] else "–", row["runway"] or "–"] for row in plan["flights"]}
+
+
+def test_what_is_shown_is_of_one_position(page):
+    """A plan with many flights that are new to the page, whose rows take a while, and behind it two records: at each moment the rows of both
+    tables, NOW and the totals are those of one record, or the totals say that they are of an older one."""
+    shown = page(day=CROWDED | {"AP": CROWDED["AP"] + ["FLT,Z1,5", "FLT,Z2,5"], "ATC": CROWDED["ATC"] + ["RWY,Z1,09", "RWY,Z2,09"],
+                                "AO": CROWDED["AO"] + ["TOBT,Z1,2025-03-10T06:00Z", "TOBT,Z2,2025-03-10T06:10Z"]}).open()
+    server, truths = shown.server, {}
+
+    def truth():
+        plan = server.get("/v1/plan.json")
+        position = int(plan.headers["ETag"].strip('"').rpartition("-")[2])
+        truths[position] = json.loads(plan.body)
+        return position
+    truth()
+    shown.js(LOOK)
+    shown.js("""window.held = []; const real = window.fetch; window.fetch = async (path, ...words) => {
+        if (String(path) === '/v1/plan.json' && window.held) await new Promise((go) => window.held.push(go));
+        return real(path, ...words); };""")
+    server.post("CLOSE,27L,2025-03-10T06:00Z,2025-03-10T06:30Z", Cdm_Role="ATC")
+    shown.until("return window.held.length > 0", seconds=2 * WAIT)
+    fill(server, {"AP": [f"FLT,N{number:03},5" for number in range(250)]})
+    read = truth()
+    shown.js(SLOW, 100)
+    shown.js(LET_GO)
+    time.sleep(0.3)
+    for line in ("RWY,Z1,27L", "CLOCK,2025-03-10T05:51Z"):
+        server.post(line, Cdm_Role="ATC")
+        last = truth()
+    is_the_day(shown)
+    shown.until(f"return document.querySelector('header dl').dataset.of === 'of record {last}'", seconds=2 * WAIT)
+    looks = [json.loads(look) for look in shown.js("look(); return [...looks]")]
+    assert any("N000" in rows and of == f"of record {read}" for rows, _, _, of in looks) or len(looks) > 2
+    for rows, ahead, now, of in looks:
+        mine = [position for position, plan in truths.items() if (as_shown(plan), plan["now"][11:16]) == (rows, now)]
+        assert mine, (now, of, [name for name, cells in rows.items() if cells != as_shown(truths[last]).get(name)][:5])
+        assert all(rows[name] == cells for name, *cells in ahead)
+        assert of in {f"of record {position}" for position in mine} or of.startswith("still of record "), (mine, of)
+
+
+# A browser that never goes on behind a pause of the page, and how many of them a hidden page made.
+STOPPED = {"source": "window.paused = 0; scheduler.yield = () => { paused += document.hidden; return new Promise(() => {}); };"}
+MORE = {"AP": [f"FLT,N{number:03},5" for number in range(250)]}
+
+
+def test_a_page_that_nobody_sees(page):
+    """A browser stops much of what a hidden tab wants to do later. The tab follows the day nevertheless, and so does one that is opened there."""
+    shown = page()
+    stopped = shown.driver.execute_cdp_cmd("Page.addScriptToEvaluateOnNewDocument", STOPPED)
+    try:
+        shown.open()
+        shown.js("window.open('/health')")
+        first, second = shown.driver.window_handles
+        shown.driver.switch_to.window(second)
+        shown.driver.execute_cdp_cmd("Page.bringToFront", {})
+        shown.until("return opener.document.hidden")
+        fill(shown.server, MORE | {"ATC": ["CLOCK,2025-03-10T05:51Z"]})
+        all_are_there = "return opener.document.title.startsWith('05:51') && opener.document.querySelectorAll('#all tbody tr').length === 257"
+        shown.until(all_are_there, seconds=2 * WAIT)
+        shown.js("opener.document.title = ''; opener.location.reload()")
+        shown.until(all_are_there, seconds=2 * WAIT)
+        assert shown.js("return opener.document.hidden")
+        assert shown.js("return opener.paused") == 0
+        shown.close_tab(first)
+    finally:
+        shown.driver.execute_cdp_cmd("Page.removeScriptToEvaluateOnNewDocument", stopped)
+
+
+def test_a_pause_that_never_ends(page):
+    """Rows are made in slices, with a pause between them. The page goes on also where the browser doesn't say that a pause has ended."""
+    shown = page(day=DAY | {"AP": DAY["AP"] + MORE["AP"]})
+    stopped = shown.driver.execute_cdp_cmd("Page.addScriptToEvaluateOnNewDocument", STOPPED)
+    try:
+        shown.open()
+        shown.until("return document.querySelectorAll('#all tbody tr').length === 257", seconds=2 * WAIT)
+    finally:
+        shown.driver.execute_cdp_cmd("Page.removeScriptToEvaluateOnNewDocument", stopped)

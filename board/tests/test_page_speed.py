@@ -7,6 +7,7 @@ from concurrent.futures import ThreadPoolExecutor
 import pytest
 from browser import FACTOR, Page
 from conftest import Server, figure
+import processors
 from processors import Taken
 
 COUNT, RECORDS, RATE = 2000, 240, 20
@@ -67,7 +68,8 @@ def shown(request, full):
 
 
 def measured(shown, measure):
-    """Measures a fresh page until all spans of one try are within their limits; each is (start, length, limit) in ms of the page's clock.
+    """Measures a fresh page until all spans of one try are within their limits; each is (start, length, limit, whether it ends as it is drawn) in ms
+    of the page's clock.
 
     A span goes on while other processes, or other machines of the same host, have the processor that the page waits for. So a try in which that
     explains each span that is too long is repeated, at most twice. A span that is too long without that too is the page's own: it ends the test."""
@@ -81,7 +83,7 @@ def measured(shown, measure):
             time.sleep(2)
             spans = measure()
         origin = shown.js("return performance.timeOrigin")
-        late = [(length, taken.within(origin + start, length), limit) for start, length, limit in spans if length >= limit]
+        late = [(length, taken.within(origin + start, length, is_drawn), limit) for start, length, limit, is_drawn in spans if length >= limit]
         if not late:
             return
         figure(f"try {number}: " + ", ".join(f"{length:.0f} ms, of which {lost:.0f} were taken" for length, lost, _ in late))
@@ -91,8 +93,42 @@ def measured(shown, measure):
 
 def tasks(shown):
     """The page's long tasks, as spans; the longest one."""
-    found = [(start, length, TASK) for start, length in shown.js("return window.long")]
-    return found, max((length for _, length, _ in found), default=0)
+    found = [(start, length, TASK, False) for start, length in shown.js("return window.long")]
+    return found, max((length for _, length, *_ in found), default=0)
+
+
+def test_what_the_machine_took(tmp_path, monkeypatch):
+    """Of two pages the one that runs counts. Its thread waited 30 ms, the one that puts it together 20, and the host took 400 ms of four processors."""
+    monkeypatch.setattr(processors, "PROC", tmp_path)
+    monkeypatch.setattr(processors, "TICKS", 100)
+
+    def at(host, times):
+        cpus = "".join(f"cpu{number} 0 0 0 0 0 0 0 {host // 4} 0 0\n" for number in range(4))
+        (tmp_path / "stat").write_text(f"cpu  0 0 0 0 0 0 0 {host} 0 0\n{cpus}intr 0\n")
+        for (process, thread, name), (ran, waited) in times.items():
+            folder = tmp_path / str(process) / "task" / str(thread)
+            folder.mkdir(parents=True, exist_ok=True)
+            (tmp_path / str(process) / "stat").write_text(f"{process} (chromium) S 7 0\n")
+            (tmp_path / str(process) / "cmdline").write_bytes(b"chromium\0--type=renderer\0")
+            (folder / "comm").write_text(f"{name}\n")
+            (folder / "schedstat").write_text(f"{ran * 10**6} {waited * 10**6} 1\n")
+        taken.look(list(processors.pages_of(7)))
+    taken, page, drawing, other = Taken(7), (8, 8, "chromium"), (8, 9, "Compositor"), (11, 11, "chromium")
+    at(0, {page: (0, 0), drawing: (0, 0), other: (0, 0)})
+    began = time.time() * 1000
+    at(40, {page: (150, 30), drawing: (5, 20), other: (1, 500)})
+    assert taken.within(began, 0.001) == 0.001
+    taken.looks[-1] = (began + 300, *taken.looks[-1][1:])
+    assert taken.within(began, 300) == 30 + 100 and taken.within(began, 300, True) == 30 + 20 + 100
+
+
+def test_a_long_task_of_the_page_is_never_excused(shown):
+    def busy():
+        shown.js("window.long.length = 0; setTimeout(() => { const end = performance.now() + arguments[0]; while (performance.now() < end); })", 1.5 * TASK)
+        time.sleep(1.5 * TASK / 1000 + 1)
+        return tasks(shown)[0]
+    with pytest.raises(AssertionError):
+        measured(shown, busy)
 
 
 def test_a_full_day_at_first(shown):
@@ -100,7 +136,7 @@ def test_a_full_day_at_first(shown):
         paint = shown.js("return performance.getEntriesByName('first-contentful-paint')[0].startTime")
         found, longest = tasks(shown)
         figure(f"page, {COUNT} flights: first paint {paint:.0f} ms, longest task {longest:.0f} ms")
-        return [(0, paint, PAINT), *found]
+        return [(0, paint, PAINT, True), *found]
     measured(shown, at_first)
     # What went over the wire, besides the plan.
     messages = [json.loads(line["message"])["message"] for line in shown.driver.get_log("performance")]
@@ -165,7 +201,7 @@ def test_twenty_records_a_second(shown):
         figure(f"page, {COUNT} flights, {RECORDS / seconds:.0f} records a second: an event is shown in {median:.0f} ms at the median, "
                f"{most:.0f} ms at most ({len(events)} events); longest task {longest:.0f} ms")
         assert RECORDS / seconds > 0.9 * RATE / FACTOR
-        return [*found, (at_median, median, EVENT / 2), *((start, length, EVENT) for length, start in events)]
+        return [*found, (at_median, median, EVENT / 2, True), *((start, length, EVENT, True) for length, start in events)]
     measured(shown, followed)
     # And it is the plan's day in the end.
     plan = {row["flight"]: row["tsat"] for row in json.loads(shown.server.get("/v1/plan.json").body)["flights"]}
