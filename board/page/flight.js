@@ -97,7 +97,9 @@ export class FlightPanel {
     }
     this.answered = JSON.stringify([row.tobt, row.status]);
     say($('#f-send small'), `as ${this.desk.words}`);
-    if (!this.form?.isUsed) {
+    if (this.form?.isUsed) {
+      this.form.offer(kinds, row);
+    } else {
       this.form = new RecordForm(kinds, { flight: this.name, row, day: this.day, runways: this.runways, onSend: this.onSend,
         label: `One record for ${this.name}` });
       this.form.enable(!document.documentElement.classList.contains('is-lost'));

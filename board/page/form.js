@@ -31,12 +31,9 @@ function changedText(reply) {
 export class RecordForm {
   /** kinds: rows of the table; flight: of which all records are, or null; day; runways(): their names; onSend(form, line, key). */
   constructor(kinds, { flight, row, day, runways, onSend, label }) {
-    Object.assign(this, { kinds, flight, row, day, runways, onSend, isSending: false });
+    Object.assign(this, { flight, day, runways, onSend, isSending: false });
     this.id = `f${count += 1}`;
-    this.kind = el('select', { name: 'kind' }, ...kinds.map((kind) => el('option', { value: kind.kind }, kind.kind)));
-    // What comes next of a flight, where the desk may send it.
-    const due = { PLANNED: row?.runway ? ['TOBT', 'OFF'] : [], BLOCKED: ['TOBT'], OFFBLOCK: ['AIR'] }[row?.status] ?? [];
-    this.kind.value = (kinds.find((kind) => due.includes(kind.kind)) ?? kinds[0]).kind;
+    this.kind = el('select', { name: 'kind' });
     this.fields = el('div', { class: 'fields' });
     this.line = el('code');
     this.button = el('button', {}, 'Send');
@@ -49,7 +46,22 @@ export class RecordForm {
       event.preventDefault();
       this.send();
     });
+    this.offer(kinds, row);
+  }
+
+  /** The kinds that are taken now; the one that is chosen stays with what is typed, if it is among them. */
+  offer(kinds, row) {
+    const { value } = this.kind;
+    Object.assign(this, { kinds, row });
+    this.kind.replaceChildren(...kinds.map(({ kind }) => el('option', { value: kind }, kind)));
+    this.kind.value = value;
+    if (value && this.kind.value) return;
+    // What comes next of a flight, where the desk may send it.
+    const due = { PLANNED: row?.runway ? ['TOBT', 'OFF'] : [], BLOCKED: ['TOBT'], OFFBLOCK: ['AIR'] }[row?.status] ?? [];
+    this.kind.value = (kinds.find(({ kind }) => due.includes(kind)) ?? kinds[0]).kind;
+    const isTyping = this.fields.contains(document.activeElement);
     this.choose();
+    if (isTyping) this.kind.focus();
   }
 
   /** The fields of the kind that is chosen. */

@@ -17,6 +17,9 @@ export class Head {
     this.status = $('#conn [role=status]');
     this.alert = $('#conn [role=alert]');
     this.last = ''; // the last record, in words
+    this.position = 0; // of it
+    this.own = Infinity; // of a record that was sent from here, until it is said
+    this.count = 0; // records since the last warnings
     this.written = -PAUSE;
     this.timer = 0;
     setInterval(() => this.clockText(), 1000);
@@ -74,11 +77,24 @@ export class Head {
     this.status.replaceChildren(...this.parts);
   }
 
-  /** The last record, and how many start-ups it moved. */
-  record(reply, moved) {
-    this.last = `Record ${reply.position} at ${hms(reply.at)}: ${reply.desk} sent ${recordText(reply.line)}. `
-      + `${moved === 1 ? '1 start-up' : `${moved} start-ups`} moved.`;
-    this.tell([el('b', {}, 'Connected'), ` ${this.last}`]);
+  /** The last one of so many records, and how many start-ups it moved. */
+  record({ position, at, desk, line }, moved, count) {
+    this.position = position;
+    this.count += count;
+    this.last = `Record ${position} at ${hms(at)}: ${desk} sent ${recordText(line)}. ${moved === 1 ? '1 start-up' : `${moved} start-ups`} moved.`;
+    this.sayLast();
+  }
+
+  /** A record that was sent from here is taken: it is said at once, as soon as what it did is known. */
+  taken(position) {
+    this.own = position;
+    if (this.own <= this.position) this.sayLast();
+  }
+
+  sayLast() {
+    const isOwn = this.own <= this.position;
+    if (isOwn) this.own = Infinity;
+    this.tell([el('b', {}, 'Connected'), ` ${this.last}`], isOwn);
   }
 
   /** A lost connection is an alert: a screen reader says it at once, whatever it is saying. */
@@ -96,10 +112,11 @@ export class Head {
     this.tell([el('b', {}, 'Connected'), words && ` ${words}`].filter(Boolean), true);
   }
 
-  /** A warning that is new is said at once, with the last record, which it came of. */
-  warn(words) {
-    if (root.classList.contains('is-lost')) return;
-    this.tell([el('b', {}, 'Connected'), ` New warning: ${recordText(words)}.${this.last && ` ${this.last}`}`], true);
+  /** Warnings of a position have come. One that is new is said at once, behind the last record: it came of that, if there was no other. */
+  warnings(fresh, position) {
+    const word = this.count === 1 && position === this.position ? 'It made a new warning' : 'New warning';
+    this.count = 0;
+    if (fresh && !root.classList.contains('is-lost')) this.tell([el('b', {}, 'Connected'), ` ${this.last} ${word}: ${recordText(fresh)}.`], true);
   }
 
   stale(since) {

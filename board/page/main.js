@@ -31,7 +31,7 @@ const connection = new Connection(head);
 const moves = new Moves(day, (names) => give(() => show(names)));
 const filter = new Filter(() => again(all, next, blocked));
 const [all, next, blocked] = [new All(day, moves, filter), new Next(day, moves, filter), new Blocked(day, moves, filter)];
-const warnings = new Warnings(day, filter, (words) => head.warn(words));
+const warnings = new Warnings(day, filter);
 const bands = new Bands(day);
 const runways = () => bands.runways.map((one) => one.runway);
 const whatIf = new WhatIf(day, bands, new Picture());
@@ -42,7 +42,7 @@ const asked = new Map(); // requests that have no answer yet, by number
 const forms = new Map(); // forms whose record has no answer yet, by name
 const events = []; // what the machine hasn't taken yet, and what else is to be drawn
 const unwritten = new Set(); // flights whose rows are to be written
-let newest = null; // the record that changed them last, and how many start-ups it moved
+let newest = null; // the record that changed them last, how many start-ups it moved, and how many records there were
 let operators = [];
 let shownNow = '';
 let lastRecord = null; // of those that came before the page was opened
@@ -243,6 +243,7 @@ const SAID = {
     forms.delete(order.form);
     form?.told(order).catch((fault_) => failed(fault_, 'form'));
     if (!form?.root.isConnected) connection.sent(order);
+    else if (order.word === 'taken') head.taken(order.reply.position);
   },
 };
 
@@ -251,8 +252,8 @@ const ANSWERED = {
   next: (list, position) => next.take(list, position),
   why: (list) => flight.takeWhy(list),
   records: (list) => flight.takeRecords(list),
-  warnings(list) {
-    warnings.take(list);
+  warnings(list, position) {
+    head.warnings(warnings.take(list), position);
     next.tag(warnings.tags);
   },
   load(list) {
@@ -302,7 +303,7 @@ function showPlan({ changed, isFirst, isOther, isWhole }) {
 function showReplies(replies) {
   const names = new Set();
   for (const { reply, changed } of replies) {
-    newest = [reply, moves.note(changed, reply)];
+    newest = [reply, moves.note(changed, reply), (newest?.[2] ?? 0) + 1];
     for (const name of changed.keys()) names.add(name);
     if (reply.line.startsWith('CLOCK,')) head.clockTaken(reply.at);
   }

@@ -64,12 +64,12 @@ export function explained(name, date) {
 }
 
 export class Warnings {
-  constructor(day, filter, onNew) {
-    Object.assign(this, { day, filter, onNew, first: null, list: [], aging: 0, tags: new Map(), whole: new Set() });
+  constructor(day, filter) {
+    Object.assign(this, { day, filter, first: null, list: [], aging: 0, tags: new Map(), whole: new Set() });
     this.draw = () => this.write();
   }
 
-  /** The program's answer. It is drawn at once, as the rest of the page is, but not under a finger. */
+  /** The program's answer. It is drawn at once, as the rest of the page is, but not under a finger. Answers which are new, in words, or ''. */
   take(list) {
     const now = performance.now();
     const isFirst = this.first === null;
@@ -85,7 +85,7 @@ export class Warnings {
     whenFree(this.draw);
     current.list = list;
     current.dispatchEvent(new Event('told'));
-    if (fresh.length) this.onNew(fresh.length === 1 ? fresh[0] : `${fresh[0]} and ${fresh.length - 1} more`);
+    return fresh.length < 2 ? fresh.join('') : `${fresh[0]} and ${fresh.length - 1} more`;
   }
 
   write() {

@@ -3,8 +3,9 @@ import { $, el, say } from './dom.js';
 import { turn } from './hold.js';
 import { startUp } from './moves.js';
 import { Problem, objects } from './net.js';
-import { minutesFrom } from './times.js';
+import { minutesFrom, typed } from './times.js';
 
+const SHORT = /(?<=,)(\d\d )?\d\d:\d\d(?=,|\s*$)/gm; // a time without its day
 const COLUMNS = ['placed', 'delay', 'max', 'late', 'blocked', 'moved'];
 
 export class WhatIf {
@@ -15,7 +16,7 @@ export class WhatIf {
       event.preventDefault();
       this.compare();
     });
-    $('#b-pictures').addEventListener('click', () => this.picture.show(this.names.length ? this.box.value : '', this.names));
+    $('#b-pictures').addEventListener('click', () => this.picture.show(this.names.length ? this.text : '', this.names));
   }
 
   open() {
@@ -29,8 +30,8 @@ export class WhatIf {
   hint() {
     const { date } = this.day;
     if (!date) return;
-    const record = `CLOSE,${this.bands.runways[0]?.runway ?? '27L'},${date}T06:20Z,${date}T06:40Z`;
-    $('#scenario-h').replaceChildren('SCENARIO,name, then records as desks send them, one a line; times are UTC:', el('code', {}, record));
+    $('#scenario-h').replaceChildren('SCENARIO,name, then records as desks send them, one a line. A time is HH:MM UTC '
+      + `(or ${date.slice(8)} HH:MM, or with its whole date).`, el('code', {}, `CLOSE,${this.bands.runways[0]?.runway ?? '27L'},06:20,06:40`));
   }
 
   close() {
@@ -51,6 +52,11 @@ export class WhatIf {
     if (words) node.focus({ preventScroll: true });
   }
 
+  /** What is written, with whole times. */
+  get text() {
+    return this.box.value.replace(SHORT, (said) => typed(said, this.day.date));
+  }
+
   get names() {
     return this.box.value.split('\n').map((line) => /^SCENARIO,([A-Z0-9-]{1,16})\s*$/.exec(line)?.[1]).filter(Boolean);
   }
@@ -58,7 +64,7 @@ export class WhatIf {
   /** Compares them; `name` is the scenario whose flights are shown. */
   async compare(name = this.names[0]) {
     const number = this.asked += 1;
-    const body = this.box.value;
+    const body = this.text;
     this.fault('');
     if (!name) return this.fault('A scenario begins with a line SCENARIO,NAME.');
     try {

@@ -288,6 +288,16 @@ def test_a_row_isn_t_moved_under_a_finger(page):
     shown.until("return [...document.querySelectorAll('#next tbody tr')].map((r) => r.dataset.flight).join() === 'DLH1,DLH2,BAW3,RYR6'")
 
 
+def test_what_is_written_under_a_finger_is_new(page):
+    """Rows stay where they are, but each says what the day is, also one of a flight that isn't blocked any more."""
+    shown = page().open()
+    shown.js("window.down = () => dispatchEvent(new PointerEvent('pointerdown', {bubbles: true})); down(); window.finger = setInterval(down, 200)")
+    shown.server.post(["CTOT,EZY7,2025-03-10T06:35Z", "CTOT,EZY7,-"], Cdm_Role="NM")
+    shown.until("return document.querySelector('#blocked tr[data-flight=EZY7]').innerText.replace(/\\s+/g, ' ').includes('– 27L 07:00 –')")
+    shown.js("clearInterval(finger); dispatchEvent(new PointerEvent('pointerup', {bubbles: true}))")
+    shown.until("return document.querySelector('#blocked tr[data-flight=EZY7]') === null")
+
+
 def test_what_one_reads_stays_where_it_is(page):
     day = {"AP": [f"FLT,X{n:03},5" for n in range(80)], "ATC": [f"RWY,X{n:03},27L" for n in range(80)] + ["CLOCK,2025-03-10T05:50Z"],
            "AO": [f"TOBT,X{n:03},2025-03-10T{7 + n // 10:02}:{n % 10 * 5:02}Z" for n in range(80)]}

@@ -86,7 +86,7 @@ def test_a_new_warning_is_new_for_a_minute(page):
     shown = page().open()
     shown.server.post(f"CTOT,AFR4,{at('06:40')}", Cdm_Role="NM")
     shown.says("#warnings", "BLOCKED 2 of 3 new AFR4 EZY7", seconds=10 + WAIT)
-    shown.says("#conn", "New warning: BLOCKED AFR4.")
+    shown.says("#conn", "It made a new warning: BLOCKED AFR4.")
     # A minute passes, for the page.
     shown.js("const real = performance.now.bind(performance); performance.now = () => real() + 61000;")
     shown.until("return !document.querySelector('#warnings').innerText.includes('new')", seconds=15 + WAIT)

@@ -3,7 +3,7 @@ of columns, and what the strip of warnings says. The day by hand is in browser.p
 import json
 
 import pytest
-from browser import WAIT, fill, size
+from browser import WAIT, fill, size, until
 from conftest import ROOT
 from test_page_access import tree
 
@@ -261,7 +261,7 @@ def test_the_strip_is_as_new_as_the_rest(page):
     assert shown.driver.execute_async_script("""const done = arguments[0];
         (async () => {
           const {Warnings} = await import(document.querySelector('script[type=module]').src.replace('main.js', 'warnings.js'));
-          const strip = new Warnings({date: '2025-03-10', rows: new Map()}, null, () => {}), said = () => document.querySelector('#warnings ul').textContent;
+          const strip = new Warnings({date: '2025-03-10', rows: new Map()}, null), said = () => document.querySelector('#warnings ul').textContent;
           const one = {kind: 'PAST', flight: 'A1', time: '2025-03-10T06:00Z'};
           strip.take([]); const first = said().includes('A1');
           strip.take([one]); const second = said().includes('A1');
@@ -277,7 +277,7 @@ def test_a_press_in_the_strip_is_never_lost(page):
     shown.server.post(f"CTOT,AFR4,{at('06:40')}", Cdm_Role="NM")
     shown.says("#blocked", "KLM5")
     shown.until("return document.querySelector('header .blk dd').textContent === '3'")
-    shown.says("#conn", "New warning: BLOCKED AFR4.")
+    shown.says("#conn", "new warning: BLOCKED AFR4.")
     assert shown.js("return link.isConnected")
     shown.js("link.dispatchEvent(new PointerEvent('pointerup', {bubbles: true})); link.click()")
     assert shown.js("return location.hash") == "#EZY7"
@@ -323,6 +323,26 @@ def test_an_airborne_flight_offers_no_record(page):
     assert shown.js(kinds) == ["TOBT", "CNL"]
 
 
+def test_a_form_in_use_offers_what_is_taken_now(page):
+    """Its reply is still there when the flight has left its stand; of the flight's records AIR alone is offered then, and later none."""
+    shown = page().open("#BAW3")
+    shown.choose("#role", "ATC")
+    shown.says("#p-flight form", "Kind")
+    kinds = "return [...document.querySelectorAll('#p-flight form [name=kind] option')].map((o) => o.value)"
+    assert "OFF" in shown.js(kinds) and "AIR" not in shown.js(kinds)
+    for kind, time, left in (("OFF", "05:40", ["AIR"]), ("AIR", "05:50", [])):
+        shown.choose("#p-flight form [name=kind]", kind)
+        shown.type("#p-flight form [name=time]", time)
+        shown.click("#p-flight form button")
+        shown.says("#h-f", {"OFF": "off-block", "AIR": "airborne"}[kind])
+        until(lambda: shown.js(kinds) == left)
+        shown.says("#conn", f"{kind} BAW3 {time}")
+        if left:
+            shown.says("#p-flight .reply", "Accepted.")
+            assert shown.text("#p-flight form code").startswith("AIR,BAW3,")
+    assert not shown.find("#f-send").is_displayed()
+
+
 def test_how_many_are_blocked(page):
     """The program warns of those alone that have a TOBT or a CTOT; the strip says of how many."""
     shown = page().open()
@@ -352,6 +372,20 @@ def test_nothing_is_said_before_it_is_known(page):
             "const e = document.createElement('i'); e.style.color = 'var(--alarm)'; document.body.append(e); return getComputedStyle(e).color")
     finally:
         driver.execute_cdp_cmd("Page.removeScriptToEvaluateOnNewDocument", {"identifier": script["identifier"]})
+
+
+def test_a_what_if_takes_hours_and_minutes(page):
+    """As a form does: of the plan's day, or of the second one with its date before them. What it takes is said under the field."""
+    shown = page().open()
+    shown.click("#b-what-if")
+    shown.says("#scenario-h", "A time is HH:MM UTC (or 10 HH:MM, or with its whole date). CLOSE,09,06:20,06:40")
+    shown.js(f"document.querySelector('#scenario').value = 'SCENARIO,OPEN-0630\\nOPEN,09,06:30,{at('06:50')}\\nTOBT,BAW3,11 00:12'")
+    shown.click("#p-what-if form button")
+    shown.says("#wi-flights", "RYR6")
+    assert shown.texts("#wi-flights tr")[-1] == "RYR6 06:38 06:18 −20 min" and "BAW3 06:00 11 00:12" in " ".join(shown.texts("#wi-flights tr"))
+    shown.says("#rw-09 + .scroll .wi", "RYR6*")
+    shown.click("#b-pictures")
+    shown.says("#picture", "OPEN-0630")
 
 
 def test_an_error_of_a_what_if_hides_the_comparison(page):
@@ -393,11 +427,33 @@ def test_a_link_to_a_flight_outlives_the_sign_in(page):
     assert shown.js("return location.hash") == "#DLH2"
 
 
-def test_what_just_was_done_is_said_with_a_new_warning(page):
+def test_what_just_was_done_is_said_before_its_warning(page):
+    """A record that made a warning, and one that comes with the next."""
     shown = page().open()
     shown.server.post(f"CTOT,AFR4,{at('06:40')}", Cdm_Role="NM")
-    shown.says("#conn", "New warning: BLOCKED AFR4.")
-    assert "NM sent CTOT AFR4 06:40." in shown.text("#conn")
+    shown.says("#conn", "NM sent CTOT AFR4 06:40. 1 start-up moved. It made a new warning: BLOCKED AFR4.")
+    shown.server.post([f"CTOT,AFR4,{at('07:10')}", f"CTOT,BAW3,{at('05:00')}"], Cdm_Role="NM")
+    shown.says("#conn", "warning: BLOCKED BAW3.")
+    assert "AFR4" not in shown.text("#conn")
+
+
+def test_what_was_sent_from_here_is_said_at_once(page):
+    """Also where something else was said just before it."""
+    shown = page().open("#AFR4")
+    shown.choose("#role", "NM")
+    shown.says("#p-flight form", "Kind")
+    for time in ("06:40", "07:10"):
+        position = len(shown.server.records()) + 1
+        shown.type("#p-flight form [name=time]", time)
+        shown.click("#p-flight form button")
+        shown.until("return document.querySelector('#p-flight .reply').innerText.includes(arguments[0])"
+                    " && document.querySelector('#p-flight .c-ctot').textContent === arguments[1]", f"record {position}", time)
+        said = shown.text("#conn")
+        assert f"NM sent CTOT AFR4 {time}." in said, said
+        if time == "06:40":
+            shown.says("#conn", "It made a new warning: BLOCKED AFR4.")
+    assert "warning" not in shown.text("#conn")
+
 
 
 def test_the_page_says_the_program_s_words(page):
@@ -520,7 +576,7 @@ def test_a_date_stays_with_its_time(page):
 def test_a_new_warning_of_a_cell_says_its_time_in_short(page):
     shown = page().open()
     fill(shown.server, {"ATC": [f"OFF,BAW3,{at('05:50')}", f"OFF,DLH1,{at('05:50')}", f"RATE,27L,{at('06:00')},{at('06:10')},1"]})
-    shown.says("#conn", "New warning: FULL 27L 06:00.")
+    shown.says("#conn", "warning: FULL 27L 06:00.")
 
 
 def test_buttons_of_a_warning_keep_apart(page):
