@@ -674,6 +674,7 @@ def test_a_database_of_the_past_is_not_used(board):
         end = time.monotonic() + 2 * FACTOR
         while time.monotonic() < end:
             assert getattr(server.post(["FLT,AB3,5"], Cdm_Role="AP"), "status", 200) == 503 and len(server.records()) == 2
+            time.sleep(0.1)
         assert primary.sql("SELECT count(*) FROM cdm_record") == "1"
         standby.start()
         until(lambda: isinstance(server.post(["FLT,AB3,5"], Cdm_Role="AP", key="k3"), list), 30)
