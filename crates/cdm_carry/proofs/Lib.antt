@@ -2,7 +2,6 @@ pub mod StayLemmas
 pub mod TakingLemmas
 pub mod NoticeLemmas
 pub mod LawLemmas
-pub mod AcceptedLemmas
 pub mod DayLemmas
 pub mod RunLemmas
 pub mod NoticedLemmas
