@@ -358,9 +358,11 @@ function empty() {
   warnings.first = null;
   operators = [];
   for (const body of $$('#s-records, #f-records, #causes tbody')) body.replaceChildren();
-  if (flight.name) flight.open(flight.name);
-  whatIf.close();
-  if (panels.open === 'what-if') whatIf.open();
+  give(() => { // the rows of the other day are shown first
+    if (flight.name) flight.open(flight.name);
+    whatIf.close();
+    if (panels.open === 'what-if') whatIf.open();
+  });
 }
 
 heard.answer = ({ status, detail, stale }) => give({ type: 'heard', status, detail, stale });

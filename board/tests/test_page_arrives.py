@@ -160,6 +160,9 @@ LOOK = """window.looks = new Set();
     setInterval(look, 20);"""
 
 
+MORE = {"AP": [f"FLT,N{number:03},5" for number in range(250)]}
+
+
 def as_shown(plan):
     """What a page shows of a plan."""
     return {row["flight"]: [row["tsat"][11:16] if row["tsat"] else "–", row["runway"] or "–"] for row in plan["flights"]}
@@ -184,7 +187,7 @@ def test_what_is_shown_is_of_one_position(page):
         return real(path, ...words); };""")
     server.post("CLOSE,27L,2025-03-10T06:00Z,2025-03-10T06:30Z", Cdm_Role="ATC")
     shown.until("return window.held.length > 0", seconds=2 * WAIT)
-    fill(server, {"AP": [f"FLT,N{number:03},5" for number in range(250)]})
+    fill(server, MORE)
     read = truth()
     shown.js(SLOW, 100)
     shown.js(LET_GO)
@@ -203,9 +206,28 @@ def test_what_is_shown_is_of_one_position(page):
         assert of in {f"of record {position}" for position in mine} or of.startswith("still of record "), (mine, of)
 
 
+def test_an_open_flight_is_of_the_day_that_is_shown(page):
+    """Another log with many flights, whose rows take a while: the flight that is open is the one of the table until they are there."""
+    shown = page().open("#BAW3")
+    shown.allowed += ["ERR_", "503 (Service Unavailable)"]
+    shown.js(SLOW, 100)
+    shown.js("""window.looks = new Set();
+        const cell = (selector) => document.querySelector(selector)?.textContent ?? '';
+        setInterval(() => looks.add(`${cell('#all tr[data-flight=BAW3] td')} ${cell('#p-flight .c-tsat')}`), 20);""")
+    server = shown.server
+    server.end()
+    server.log = server.folder / "next.db"
+    server.start()
+    fill(server, {"AP": ["FLT,BAW3,5", *MORE["AP"]], "ATC": ["RWY,BAW3,27L", "CLOCK,2025-03-10T05:00Z"], "AO": ["TOBT,BAW3,2025-03-10T05:30Z"]})
+    shown.until("return document.querySelectorAll('#all tbody tr').length === 251", seconds=4 * WAIT)
+    is_the_day(shown)
+    shown.until("return document.querySelector('#p-flight .c-tsat').textContent === '05:30'")
+    looks = shown.js("return [...looks]")
+    assert "06:00 06:00" in looks and all(len(set(look.split())) == 1 for look in looks), looks
+
+
 # A browser that never goes on behind a pause of the page, and how many of them a hidden page made.
 STOPPED = {"source": "window.paused = 0; scheduler.yield = () => { paused += document.hidden; return new Promise(() => {}); };"}
-MORE = {"AP": [f"FLT,N{number:03},5" for number in range(250)]}
 
 
 def test_a_page_that_nobody_sees(page):

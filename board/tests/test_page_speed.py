@@ -214,10 +214,12 @@ def test_twenty_records_a_second(shown):
 
 def test_a_day_that_is_read_anew(shown):
     """A CLOCK that moves more flights than an event may have: the whole plan is asked for, and no task is long."""
+    steps = iter([5, 60, 60])  # minutes; another five would move few flights
+
     def anew():
         shown.js("window.long.length = 0; performance.clearResourceTimings()")
         now = json.loads(shown.server.get("/v1/plan.json").body)["now"]
-        minute = int(now[11:13]) * 60 + int(now[14:16]) + 5
+        minute = int(now[11:13]) * 60 + int(now[14:16]) + next(steps)
         reply = shown.server.post(f"CLOCK,{at(minute)}", Cdm_Role="ATC")[0]
         began = time.monotonic()
         assert len(reply["changes"]) > 100
