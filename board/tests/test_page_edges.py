@@ -194,23 +194,33 @@ def test_a_record_without_a_reply_is_sent_again(page):
 
 
 def test_an_answer_that_comes_before_its_event(page):
-    """Events come together, so an answer of the program may be newer than the rows: nothing of it is lost when they follow."""
+    """Events come together, so an answer of the program may be newer than the rows: nothing of it is lost when they follow. No view is sent,
+    so the page asks; its question waits for the record, and the record's event for the answer."""
     shown = page().open("#KLM5")
     shown.choose("#role", "AO")
     shown.says("#p-flight form", "Kind")
-    shown.js("""const read = ReadableStreamDefaultReader.prototype.read;
+    shown.js("""let taken, had; const [isTaken, isHad] = [new Promise((go) => { taken = go; }), new Promise((go) => { had = go; })];
+        const real = window.fetch; window.fetch = async (path, options) => {
+          if (path === '/v1/next.json') await isTaken;
+          const got = await real(path, options); const text = got.text.bind(got);
+          if (options?.method === 'POST' && path === '/v1/records') taken();
+          if (path === '/v1/next.json') got.text = async () => { const all = await text(); setTimeout(had, 500); return all; };
+          return got; };
+        const read = ReadableStreamDefaultReader.prototype.read;
         ReadableStreamDefaultReader.prototype.read = async function (...words) {
-          const got = await read.apply(this, words);
-          if (typeof got.value === 'string' && got.value.includes('KLM5')) await new Promise((next) => setTimeout(next, 4000));
-          return got; };""")
+          const { value, done } = await read.apply(this, words);
+          if (value?.includes('TOBT,KLM5')) { window.wasHeld = true; await isHad; }
+          return { value: value?.replaceAll('event: view', 'event: other'), done }; };""")
     # The read that waits already is the browser's own; the next one is this.
-    shown.server.post("STAND,BAW3,B1", Cdm_Role="AP")
-    shown.says("#next", "B1")
+    for stand in ("B1", "B2"):
+        shown.server.post(f"STAND,BAW3,{stand}", Cdm_Role="AP")
+        shown.says("#next", stand)
     # Behind BAW3 and DLH1 it takes the second place of the cell in which DLH2 takes off.
     shown.type("#p-flight form [name=time]", "06:00")
     shown.click("#p-flight form button")
     shown.says("#p-flight .reply", "Accepted.")
     shown.says("#next", "KLM5", seconds=5 + WAIT)
+    assert shown.js("return window.wasHeld")
     assert shown.row("next", "KLM5")[0].startswith("06:05 ") and shown.row("next", "KLM5")[9].startswith("rate")
     assert "…" not in shown.text("#next tbody")
 
