@@ -55,6 +55,11 @@ class Written(logging.Handler):
             notice.fields = {}
             self._write(self.format(notice))
 
+    def handle(self, record: logging.LogRecord) -> bool:
+        """A later Python's own method doesn't do without a lock."""
+        self.emit(record)
+        return True
+
     def _write(self, text: str) -> None:
         left = f"{text}\n".encode("utf-8", "backslashreplace")
         try:
