@@ -349,7 +349,7 @@ function showHistory({ list, isFirst }) {
   next.again();
   const end = list.at(-1);
   if (end && isFirst) lastRecord = end;
-  if (end && isFirst && machine.state === 'live') head.tell([el('b', {}, 'Connected'), ` Record ${end.position} at ${hms(end.at)} is the last.`]);
+  if (end && isFirst && machine.state === 'live') head.tell([el('b', {}, 'Connected'), ` Record ${end.position} at ${hms(end.at)} is the last.`], true);
 }
 
 /** What was shown of a day that is gone. */

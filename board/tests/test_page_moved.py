@@ -30,7 +30,8 @@ def test_what_moved_out_of_the_next_minutes(page):
     shown.click("#seen")
     shown.until("return !document.querySelector('#since').innerText.includes('out')")
     assert shown.text("#since").startswith("0 of")
-    shown.until("return !document.querySelector('#blocked').innerText.includes('was')")
+    # A flight that just changed is highlighted for ten seconds all the same.
+    shown.until("return !document.querySelector('#blocked').innerText.includes('was')", seconds=10 + WAIT)
 
 
 def test_what_moved_is_kept_over_a_load(page):
