@@ -28,6 +28,10 @@ class Pieces(payload.Payload):
     def size(self) -> int:
         return len(self._body)
 
+    def decode(self, encoding: str = "utf-8", errors: str = "strict") -> str:
+        """As a text, which a later aiohttp asks a body for."""
+        return self._body.decode(encoding, errors)
+
     async def write(self, writer: AbstractStreamWriter) -> None:
         """Writes each piece once the one before it has left."""
         for start in range(0, len(self._body), PIECE):

@@ -78,7 +78,8 @@ class Writer:
         """A desk has a batch."""
         if self._closed is not None:
             return [Answer(ticket, nothing(self._closed))]
-        if self.waiting >= MOST_WAITING:
+        # Those of a transaction that is refused wait again, one by one.
+        if self.waiting + len(self._running or {}) >= MOST_WAITING:
             return [Answer(ticket, nothing(MANY))]
         # A change of day needs the last position for itself.
         (self._waiting if batch.change is None else self._alone)[ticket] = batch

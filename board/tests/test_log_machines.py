@@ -23,7 +23,9 @@ FAULTS = [
      "running = self._running\n        self._running = {}\n        self._is_overdue = True", "running, self._is_overdue = {}, True", 1, "in time"),
     ("a transaction begins while one hangs", "writer.py",
      "running = self._running\n        self._running = {}\n        self._is_overdue = True", "running, self._running, self._is_overdue = self._running, None, True", 11, "along"),
-    ("waiting batches without bound", "writer.py", "if self.waiting >= MOST_WAITING:", "if False:", 1, "no bound"),
+    ("waiting batches without bound", "writer.py", "if self.waiting + len(self._running or {}) >= MOST_WAITING:", "if False:", 1, "no bound"),
+    ("a refused transaction's batches wait beyond the bound", "writer.py", "if self.waiting + len(self._running or {}) >= MOST_WAITING:",
+     "if self.waiting >= MOST_WAITING:", 30890, "no bound"),
     ("a database of the past is used", "following.py", "return timeline < self.timeline", "return False", 0, "of the past"),
     ("the last row isn't compared", "following.py",
      "self._is_other = self._is_other or self.last is not None and seen.last != self.last", "pass", 0, "one day"),
@@ -38,7 +40,7 @@ FAULTS = [
     ("a batch that was never given to the log is told as not known", "writer.py",
      "        return self._told(waiting, nothing(why))", "        return self._told(waiting, Problem(504, NOT_KNOWN))", 0, "504 only"),
     ("a change of day goes with others", "writer.py", "(self._waiting if batch.change is None else self._alone)", "self._waiting", 26, "goes alone"),
-    ("a transaction without bound", "writer.py", "(self._waiting, MOST_TOGETHER)", "(self._waiting, 10 ** 9)", 14, "no bound"),
+    ("a transaction without bound", "writer.py", "(self._waiting, MOST_TOGETHER)", "(self._waiting, 10 ** 9)", 61, "no bound"),
 ]
 
 
