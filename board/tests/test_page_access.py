@@ -1,4 +1,6 @@
 """The page by keyboard, by a screen reader, at each size and in each theme. The day by hand is in browser.py."""
+import time
+
 import pytest
 from browser import WAIT, size, until
 from selenium_or_none import Keys
@@ -172,11 +174,12 @@ def test_one_live_region_that_doesn_t_flood(page):
         ["status", True], ["alert", False]]
     shown.js("""window.writes = []; new MutationObserver(() => window.writes.push(performance.now()))
         .observe(document.querySelector('#conn'), {childList: true, subtree: true, characterData: true});""")
-    for minute in range(10, 40):
+    began = time.monotonic()
+    for minute in range(10, 22):
         shown.server.post(f"TOBT,DLH1,2025-03-10T06:{minute}Z", Cdm_Role="AO")
-    shown.until("return document.querySelector('#next tr[data-flight=DLH1]').innerText.includes('06:39')")
-    assert len(shown.js("return window.writes")) <= 2
-    shown.says("#conn", "sent TOBT DLH1 06:39", seconds=10 + WAIT)
+        shown.until("return document.querySelector('#next tr[data-flight=DLH1]').innerText.includes(arguments[0])", f"06:{minute}")
+    assert len(shown.js("return window.writes")) <= 2 + (time.monotonic() - began) // 10
+    shown.says("#conn", "sent TOBT DLH1 06:21", seconds=10 + WAIT)
 
 
 def test_by_keyboard_alone(page):
