@@ -378,13 +378,13 @@ class Wire:
 
 def test_a_connection_that_a_firewall_forgot_is_replaced(primary, monkeypatch):
     """The morning's first record is taken, not 504."""
-    from board import postgres
+    from board import link, postgres
     from board.log import Batch
     from board.postgres import PostgresLog
     monkeypatch.setattr(postgres, "IDLE_SECONDS", 0.5)
-    monkeypatch.setattr(postgres, "READ_SECONDS", 1.0)
+    monkeypatch.setattr(link, "READ_SECONDS", 1.0)
     # Nor does a commit end that is under way, which would be noticed too.
-    monkeypatch.setattr(postgres, "COMMIT_SECONDS", 3600.0)
+    monkeypatch.setattr(link, "COMMIT_SECONDS", 3600.0)
 
     async def talk():
         wire = Wire(primary.port)
@@ -423,8 +423,8 @@ def test_a_connection_that_a_firewall_forgot_is_replaced(primary, monkeypatch):
 def test_a_host_s_second_address_is_tried(primary, monkeypatch):
     """Where the first one answers nobody."""
     import socket
-    from board import postgres
-    monkeypatch.setattr(postgres, "CONNECT_SECONDS", 1.0)
+    from board import link
+    monkeypatch.setattr(link, "CONNECT_SECONDS", 1.0 * FACTOR)
 
     async def talk():
         loop, addresses = asyncio.get_running_loop(), ["127.0.0.2", "127.0.0.1"]
@@ -442,7 +442,7 @@ def test_a_host_s_second_address_is_tried(primary, monkeypatch):
                 full = opened.enter_context(socket.socket())
                 full.setblocking(False)
                 full.connect_ex(("127.0.0.2", primary.port))
-            connection = await postgres.first(f"postgresql://cdm@db.example:{primary.port}/cdm", postgres.connect)
+            connection = await link.first(f"postgresql://cdm@db.example:{primary.port}/cdm", link.connect)
             try:
                 return await connection.fetchval("SELECT 1")
             finally:
