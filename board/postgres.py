@@ -29,6 +29,8 @@ LOOK_SECONDS = 1.0
 STALE_SECONDS = 3.0
 # Seconds after which a connection that has nothing to commit is asked whether it is still there.
 IDLE_SECONDS = 10.0
+# Seconds for which a start waits for a database.
+AT_START_SECONDS = 60.0
 # Seconds for which a server that says nothing more may hold the lock of a board.
 HOLD_SECONDS = CARRY_SECONDS + 2
 APPEND = "SELECT public.cdm_append($1, $2)"
@@ -81,12 +83,25 @@ class PostgresLog(Kept):
         self._given = airport
         self._version = version
         self._accept = accept
-        self._following.timeline = await newest(self._url)
-        try:
-            self._use(await first(self._url, self._to))
-        except Away as why:
-            raise Fault(f"{self.name}: {why}", 1) from None
+        self._use(await self._first_link())
         self._keeping = asyncio.create_task(self._keep())
+
+    async def _first_link(self) -> Link:
+        """A link to the database of the highest timeline, as soon as there is one: it may start later than the server. Raises Fault."""
+        end = time.monotonic() + AT_START_SECONDS
+        said = ""
+        while True:
+            try:
+                self._following.timeline = await newest(self._url)
+                return await first(self._url, self._to)
+            except Away as away:
+                why = str(away)
+            if time.monotonic() > end:
+                raise Fault(f"{self.name}: {why}", 1)
+            if why != said:
+                tell(f"cdmboard: {self.name}: {why}; it is waited for")
+            said = why
+            await asyncio.sleep(LOOK_SECONDS)
 
     async def ended(self) -> None:
         assert self._keeping is not None

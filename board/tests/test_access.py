@@ -14,7 +14,7 @@ import time
 
 import clusters
 import pytest
-from conftest import AIRPORT, certificates, objects, until
+from conftest import AIRPORT, FACTOR, certificates, objects, until
 from itsdangerous import TimestampSigner
 from test_nobody_else import hang_up, login
 from test_start import cdmboard
@@ -334,6 +334,22 @@ def test_one_line_for_many(monkeypatch):
     assert (event, desk, address) == ("wrong-token", None, "192.0.2.2") and "addresses: 2" in detail
 
 
+def test_the_end_of_a_minute_is_told(board):
+    """By one line and one event, while the server goes on."""
+    server = board(DESKS, start=False)
+    server.collect("from board import callers; callers.MINUTE = 3.0 * " + str(FACTOR))
+    server.start()
+    for _ in range(30):
+        server.get("/v1/plan", "nobody")
+    for _ in range(25):
+        server.get("/v1/plan")
+    until(lambda: "more were refused within a minute" in server.told() and "wrong tokens within a minute" in server.told(), 12)
+    assert "127.0.0.1 25 more were refused" in server.told()
+    until(lambda: any(event["event"] == "wrong-token" for event in audit_of(server.log)))
+    found, = [event for event in audit_of(server.log) if event["event"] == "wrong-token"]
+    assert found["address"] == "127.0.0.1" and found["detail"].startswith("30 wrong tokens within a minute, 30 of them from here")
+
+
 # The audit
 
 
@@ -418,6 +434,44 @@ def test_streams_that_are_opened_and_dropped_have_a_limit(board):
     assert server.get("/v1/plan").status == 200 and server.post(["FLT,AB1,5"], "ap")[0]["position"] == 1
 
 
+def test_streams_of_many_addresses_have_one_limit(board):
+    """Without a token, from however many addresses: who comes later waits longer. Desks and all other questions aren't counted with them."""
+    server = board(DESKS, start=False)
+    server.write_desks(DESKS, "anyone")
+    write_limits(server, opened_without_desk=30, opened_together=100)
+    server.collect("from board import callers; callers.TOGETHER_SECONDS = 40.0")
+    server.start()
+    # What one address opens beyond its own limit isn't counted for all.
+    answers = [answer for number in range(5) for answer in opened(server, 32, f"127.0.7.{number + 1}")]
+    assert [status for status, _ in answers] == ([200] * 30 + [429] * 2) * 3 + [200] * 10 + [429] * 22 + [429] * 32
+    first = [int(seconds) for status, seconds in answers[106:126] if status == 429]
+    assert first and all(1 <= seconds <= 41 for seconds in first)
+    assert [status for status, _ in opened(server, 30, "127.0.7.1", "screen")] == [200] * 30
+    assert server.get("/v1/plan").status == 200 and server.post(["FLT,AB1,5"], "ap")[0]["position"] == 1
+
+
+def test_who_comes_later_waits_longer():
+    """All displays of a server that is started again, whose connections come at once: in turns of so many as may come."""
+    from unittest import mock
+    from board.callers import Callers
+    from board.connections import Limits
+    from board.desks import READER, Desks
+    from board.words import Problem
+    callers, told = Callers(Desks([], True, limits=Limits(opened_together=10)), mock.Mock(id="0", secret="s"), {"localhost"}, "http", False), []
+    for number in range(100):
+        request = mock.MagicMock(remote=f"192.0.2.{number}")
+        request.__getitem__.return_value = READER
+        try:
+            callers.check_opened(request)
+            told.append(0)
+        except Problem as problem:
+            assert problem.status == 429
+            told.append(int(problem.headers["Retry-After"]))
+    # Ten seconds, whatever of them is over, and then ten more for each ten that came; never more than a minute.
+    assert told[:10] == [0] * 10 and told == sorted(told) and all(told.count(seconds) <= 11 for seconds in told if 0 < seconds < 60)
+    assert {seconds // 10 for seconds in told[10:]} == {1, 2, 3, 4, 5, 6} and max(told) <= 61
+
+
 def test_browsers_behind_one_address_come_back(board):
     """100 without a token, five times within a minute, and 1,000 by one desk: a restart, a proxy that is restarted, people who load anew."""
     server = board(DESKS, start=False)
@@ -497,6 +551,35 @@ def test_limits_that_are_wrong_are_told(board):
         write_limits(server, **limits)
         refused = cdmboard(server.airport, server.log, *server.options)
         assert refused.returncode == 3 and "[limits]" in refused.stderr, limits
+
+
+def test_a_proxy_keeps_the_time_of_headers(board):
+    """So a connection that it keeps for later isn't cut meanwhile; one that comes without a proxy is."""
+    for options, host in (["--behind-proxy", "--name", "cdm.example"], b"cdm.example"), ([], b"localhost"):
+        server = board(DESKS, start=False, options=options)
+        server.collect("from board import guard; guard.HEADERS = 0.5")
+        server.start()
+        with socket.create_connection(("127.0.0.1", server.port)) as own:
+            own.settimeout(20)
+            time.sleep(1.5)
+            if not options:
+                assert ended(own)
+                continue
+            own.sendall(b"GET /health HTTP/1.1\r\nHost: " + host + b"\r\nConnection: close\r\n\r\n")
+            assert own.recv(65536).startswith(b"HTTP/1.1 200")
+
+
+def test_limits_are_read_again(board):
+    """HUP: those of connections count for who comes from then on."""
+    server = board(DESKS)
+    first = held(server, 5, "127.0.0.9")
+    assert len(open_of(first)) == 5
+    write_limits(server, of_address=7)
+    hang_up(server)
+    more = held(server, 5, "127.0.0.9")
+    assert len(open_of(more)) == 2 and len(open_of(first)) == 5
+    for own in (*first, *more):
+        own.close()
 
 
 def own_address():

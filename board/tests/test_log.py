@@ -282,6 +282,71 @@ def test_a_commit_that_failed_is_not_known(tmp_path):
     talk(lambda _="": sqlite.FileLog(str(tmp_path / "day.db"), ""), what)
 
 
+@pytest.mark.parametrize("when", ["BEGIN IMMEDIATE", "COMMIT"])
+def test_a_log_that_is_moved_in_a_transaction_answers_nothing(tmp_path, when):
+    """Before its commit, or right after it: the desk is told that it isn't known, and the server ends."""
+    from board import sqlite
+    from board.words import Fault, Problem
+    path = tmp_path / "day.db"
+
+    class Moving:
+        """A connection during one of whose statements the file is moved."""
+
+        def __init__(self, database):
+            self.database = database
+
+        def __getattr__(self, name):
+            return getattr(self.database, name)
+
+        def execute(self, text, *words):
+            done = self.database.execute(text, *words)
+            if text == when:
+                path.rename(tmp_path / "moved.db")
+            return done
+
+    async def what(log):
+        log._database = Moving(log._database)
+        with pytest.raises(Problem) as why:
+            await log.append(batch("A", key="k"))
+        assert why.value.status == 504
+        with pytest.raises(Fault, match="no longer there"):
+            await asyncio.wait_for(log.ended(), 5)
+        log._database = log._database.database
+    talk(lambda _="": sqlite.FileLog(str(path), ""), what)
+
+
+def test_the_log_itself_has_a_key_once(log_at):
+    """Whoever writes, and whatever was looked up before: the same key of the same desk isn't there twice, nor is a position."""
+    open_log, force = log_at
+    talk(open_log, lambda log: log.append(batch("A", key="k")))
+    for position, key, is_there in ((2, "k", True), (1, "other", True), (2, "other", False)):
+        text = f"INSERT INTO cdm_record VALUES ('', {position}, 'ap', '{key}', 0, 1, 'AP', 'B', 't')"
+        if is_there:
+            with pytest.raises((sqlite3.IntegrityError, RuntimeError), match="UNIQUE|unique"):
+                force(text)
+        else:
+            force(text)
+
+
+def test_another_program_is_told_with_the_board(log_at):
+    """What to do with a log that is another program's names the board, where it has a name."""
+    from board.words import Fault
+    open_log, _ = log_at
+
+    async def opened(name):
+        for version in ("v1", "v2"):
+            log = open_log(name)
+            try:
+                await log.open(AIRPORT, version)
+            finally:
+                await log.close()
+    for name in ("EDDF", ""):
+        with pytest.raises(Fault, match="belongs to another program") as why:
+            asyncio.run(opened(name))
+        said = str(why.value)
+        assert ("--board EDDF > day.csv" in said and said.endswith("day.csv --board EDDF")) if name else "--board" not in said
+
+
 def test_want_of_memory_in_a_transaction_ends_nothing(tmp_path, monkeypatch):
     """Whatever a transaction of a file raises, its desks are told, and the log is tried again."""
     import sys
