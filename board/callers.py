@@ -17,7 +17,7 @@ MINUTE = 60.0
 # Seconds in which the streams of all who have no desk are counted together.
 TOGETHER_SECONDS = 10.0
 MOST_WRONG = 20
-MOST_TOLD = 20
+MOST_REFUSALS_TOLD = 20
 MOST_SIGN_INS = 20
 
 
@@ -86,7 +86,7 @@ class Callers:
 
     def count_refused(self, request: web.Request) -> bool:
         """Counts a request that was refused. Whether standard error has a line for it; of the others the end of the minute tells."""
-        return self.refused.add(group_of(self.address(request)), time.monotonic()).count <= MOST_TOLD
+        return self.refused.add(group_of(self.address(request)), time.monotonic()).count <= MOST_REFUSALS_TOLD
 
     def check_sign_ins(self, desk: Desk, address: str) -> None:
         """Raises Problem if a desk signs in too often at an address, or out (at no address)."""

@@ -25,7 +25,7 @@ from board.words import Fault, Problem, now_text, tell
 from board.writer import COMMIT_SECONDS, Outcome, nothing
 
 SCHEMA = Path(__file__).with_name("schema.sql")
-LOOK_SECONDS = 1.0
+LINK_LOOK_SECONDS = 1.0
 STALE_SECONDS = 3.0
 # Seconds after which a connection that has nothing to commit is asked whether it is still there.
 IDLE_SECONDS = 10.0
@@ -101,7 +101,7 @@ class PostgresLog(Kept):
             if why != said:
                 tell(f"cdmboard: {self.name}: {why}; it is waited for")
             said = why
-            await asyncio.sleep(LOOK_SECONDS)
+            await asyncio.sleep(LINK_LOOK_SECONDS)
 
     async def ended(self) -> None:
         assert self._keeping is not None
@@ -320,7 +320,7 @@ class PostgresLog(Kept):
             if self._following.is_committing:
                 self._following.committed_before(await link.is_committing(self._writer_name))
             with contextlib.suppress(TimeoutError):
-                async with asyncio.timeout(LOOK_SECONDS):
+                async with asyncio.timeout(LINK_LOOK_SECONDS):
                     await link.broken.wait()
                 raise Away(link.why)
 

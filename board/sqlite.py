@@ -58,7 +58,7 @@ FROM json_each(?) JOIN cdm_record ON position = json_extract(value, '$[0]') AND 
     AND role = json_extract(value, '$[2]') AND line = json_extract(value, '$[3]') AND at = json_extract(value, '$[4]')
 WHERE board = ?"""
 KEEP = f"INSERT INTO cdm_digest SELECT board, position, json_extract(value, '$[5]') {SAID} ON CONFLICT DO NOTHING"
-KEPT = f"SELECT position, digest FROM cdm_digest WHERE position IN (SELECT position {SAID}) AND board = ?"
+KEPT_DIGESTS = f"SELECT position, digest FROM cdm_digest WHERE position IN (SELECT position {SAID}) AND board = ?"
 LOG = "SELECT id, airport, version, secret FROM cdm_log WHERE board = ?"
 # A record is a change of day if something stands beside it.
 COLUMNS = """SELECT position, desk, role, line, at, cdm_day.position IS NOT NULL FROM cdm_record LEFT JOIN cdm_day USING (board, position)
@@ -342,7 +342,7 @@ class FileLog(Kept):
         the log hasn't. Raises Away, Fault."""
         told = digests_as_json(said)
         await self._call(KEEP, told, self._board)
-        return dict(await self._call(KEPT, told, self._board, self._board))
+        return dict(await self._call(KEPT_DIGESTS, told, self._board, self._board))
 
     async def sessions(self) -> dict[str, int]:
         """The number of each desk's first session that hasn't ended, where it isn't 0. Raises Fault."""

@@ -288,6 +288,22 @@ def test_notices_wake_a_server_so_often(primary):
     opened(primary.url(), what)
 
 
+def test_notices_set_one_timer(monkeypatch):
+    """However many come before it is over."""
+    from unittest import mock
+    from board import notices
+    loop, event = mock.Mock(time=lambda: 100.0), mock.Mock()
+    monkeypatch.setattr(notices.asyncio, "get_running_loop", lambda: loop)
+    own = notices.Notices(event)
+    for _ in range(1000):
+        own.heard()
+    assert loop.call_at.call_count == 1 and not event.set.called
+    loop.call_at.call_args.args[1]()
+    assert event.set.call_count == 1
+    own.heard()
+    assert loop.call_at.call_args.args[0] == 100.0 + notices.PAUSE_SECONDS
+
+
 @pytest.mark.parametrize("turns", range(3))
 def test_an_end_at_the_moment_at_which_a_connection_breaks(primary, turns):
     """It ends all the same."""
