@@ -94,6 +94,21 @@ def test_a_session_is_at_most_twelve_hours(board):
         assert server.get("/v1/who", Cookie=made(server, seconds)).status == 200, seconds
 
 
+def test_a_token_that_is_being_replaced(board):
+    """Both are taken while both are listed; then the old one, and the sessions that it began, have ended."""
+    server = board(DESKS)
+    path = server.folder / "desks.toml"
+    old, new = (hashlib.sha256(token).hexdigest() for token in (b"token-gh", b"token-gh-2"))
+    cookie = login(server, "gh")
+    for tokens, statuses in (([old, new], (200, 200, 200)), ([new], (401, 200, 401))):
+        text = path.read_text()
+        line = next(line for line in text.splitlines() if old in line)
+        path.write_text(text.replace(line, f"token = {json.dumps([f'sha256:{one}' for one in tokens])}"))
+        hang_up(server)
+        asked = ({"Authorization": "Bearer token-gh"}, {"Authorization": "Bearer token-gh-2"}, {"Cookie": cookie})
+        assert tuple(server.get("/v1/who", **headers).status for headers in asked) == statuses
+
+
 def test_a_stream_ends_with_its_cookie(board):
     """At its end, a few seconds from now; one of a token stays."""
     server = board(DESKS)
@@ -373,7 +388,9 @@ def test_who_from_where_in_postgresql(board, cluster):
 def check_audit(server, *words):
     connection = http.client.HTTPConnection("127.0.0.1", server.port, source_address=("127.0.0.8", 0))
     for key in ("k", "k"):
-        connection.request("POST", "/v1/records", b"FLT,AB1,5\nFOO", {"Authorization": "Bearer token-ap", "Idempotency-Key": key})
+        # What says another address counts from a proxy alone.
+        headers = {"Authorization": "Bearer token-ap", "Idempotency-Key": key, "X-Forwarded-For": "192.0.2.1"}
+        connection.request("POST", "/v1/records", b"FLT,AB1,5\nFOO", headers)
         assert connection.getresponse().read().count(b"\n") == 2
     server.post(["FLT,AB2,5"], "ap")
     cookie = login(server, "gh")

@@ -282,6 +282,52 @@ def test_a_commit_that_failed_is_not_known(tmp_path):
     talk(lambda _="": sqlite.FileLog(str(tmp_path / "day.db"), ""), what)
 
 
+def test_a_commit_that_hangs_keeps_nobody_waiting(tmp_path, monkeypatch):
+    """A disk that is frozen: the desk is told that it isn't known, those that come meanwhile that nothing was taken; once the commit ends
+    records are taken again, and with the same key the first is there once."""
+    import threading
+    from board import sqlite
+    from board.words import Problem
+    monkeypatch.setattr(sqlite, "COMMIT_SECONDS", 0.3)
+    thaws = threading.Event()
+
+    class Frozen:
+        """A connection whose commit hangs."""
+
+        def __init__(self, database):
+            self.database = database
+
+        def __getattr__(self, name):
+            return getattr(self.database, name)
+
+        def execute(self, text, *words):
+            if text == "COMMIT":
+                thaws.wait()
+            return self.database.execute(text, *words)
+
+    async def what(log):
+        keeping = asyncio.create_task(log.ended())
+        log._database = Frozen(log._database)
+        told = []
+        try:
+            for line, key in (("A", "k"), ("B", "l")):
+                with pytest.raises(Problem) as why:
+                    await asyncio.wait_for(log.append(batch(line, key=key)), 5)
+                told.append(why.value.status)
+            assert told == [504, 503] and log.stale_since
+        finally:
+            thaws.set()
+        for _ in range(100):
+            if log.stale_since is None:
+                break
+            await asyncio.sleep(0.05)
+        positions = [await log.append(batch("A", key="k")), await log.append(batch("B", key="l"))]
+        keeping.cancel()
+        await asyncio.gather(keeping, return_exceptions=True)
+        return positions
+    assert talk(lambda _="": sqlite.FileLog(str(tmp_path / "day.db"), ""), what) == [range(1, 2), range(2, 3)]
+
+
 @pytest.mark.parametrize("when", ["BEGIN IMMEDIATE", "COMMIT"])
 def test_a_log_that_is_moved_in_a_transaction_answers_nothing(tmp_path, when):
     """Before its commit, or right after it: the desk is told that it isn't known, and the server ends."""
