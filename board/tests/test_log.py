@@ -1,5 +1,6 @@
 """The log's promises, over each engine by the same calls."""
 import asyncio
+import contextlib
 import sqlite3
 
 import clusters
@@ -28,10 +29,9 @@ def log_at(request, tmp_path):
         path = str(tmp_path / "day.db")
 
         def force(text):
-            database = sqlite3.connect(path)
-            database.execute(text)
-            database.commit()
-            database.close()
+            with contextlib.closing(sqlite3.connect(path)) as database:
+                database.execute(text)
+                database.commit()
         return (lambda board="": sqlite.FileLog(path, board)), force
     cluster = request.getfixturevalue("primary")
     cluster.sql("TRUNCATE cdm_log, cdm_record, cdm_digest, cdm_day")
@@ -287,8 +287,10 @@ def test_a_commit_that_hangs_keeps_nobody_waiting(tmp_path, monkeypatch):
     records are taken again, and with the same key the first is there once."""
     import threading
     from board import sqlite
+    from board.log import Away
     from board.words import Problem
     monkeypatch.setattr(sqlite, "COMMIT_SECONDS", 0.3)
+    monkeypatch.setattr(sqlite, "BEHIND_SECONDS", 0.3)
     thaws = threading.Event()
 
     class Frozen:
@@ -315,6 +317,10 @@ def test_a_commit_that_hangs_keeps_nobody_waiting(tmp_path, monkeypatch):
                     await asyncio.wait_for(log.append(batch(line, key=key)), 5)
                 told.append(why.value.status)
             assert told == [504, 503] and log.stale_since
+            # Nor does who asks for an earlier day wait for its end.
+            for read in (log.changes(), log.change(1), log.between(1, 2), log.sought(0, 2, "AB1", None), log.sessions()):
+                with pytest.raises(Away):
+                    await asyncio.wait_for(read, 5)
         finally:
             thaws.set()
         for _ in range(100):
