@@ -23,7 +23,7 @@ from types import ModuleType
 
 from aiohttp import web
 
-from board import clock, postgres, sqlite
+from board import clock, hosts, postgres, sqlite
 from board.answers import LIMITED, Answers, asked, day_of
 from board.callers import Callers
 from board.connections import is_loopback
@@ -124,14 +124,14 @@ def folder_of(name: str, airport: bytes) -> Iterator[str]:
 
 def log_at(place: str, board: str) -> Log:
     """A log, which isn't open yet."""
-    if postgres.is_url(place):
+    if hosts.is_url(place):
         return postgres.PostgresLog(place, board)
     return sqlite.FileLog(place, board)
 
 
 def engine_of(place: str) -> ModuleType:
     """The module that reads and copies logs of a place."""
-    return postgres if postgres.is_url(place) else sqlite
+    return postgres if hosts.is_url(place) else sqlite
 
 
 @contextlib.asynccontextmanager

@@ -8,14 +8,16 @@ from board.connections import group_of, is_loopback
 from board.desks import READER, Desk, Desks
 from board.log import Log
 from board.sessions import Sessions
-from board.windows import Windows
+from board.windows import OTHERS, Windows
 from board.words import Problem, refuse
 
 # In each minute: wrong tokens of an address, lines on standard error about an address that is refused, sign-ins of a desk at an address.
 # How many streams of events are opened is a setting.
 MINUTE = 60.0
+# Seconds in which the streams of all who have no desk are counted together.
+TOGETHER_SECONDS = 10.0
 MOST_WRONG = 20
-MOST_TOLD = 20
+MOST_REFUSALS_TOLD = 20
 MOST_SIGN_INS = 20
 
 
@@ -33,6 +35,7 @@ class Callers:
         self.refused = Windows(MINUTE)
         self._sign_ins = defaultdict[str, Windows](lambda: Windows(MINUTE))
         self._opened = defaultdict[str, Windows](lambda: Windows(MINUTE))
+        self._together = Windows(TOGETHER_SECONDS)
         self._behind_proxy = behind_proxy
 
     def address(self, request: web.Request) -> str:
@@ -83,7 +86,7 @@ class Callers:
 
     def count_refused(self, request: web.Request) -> bool:
         """Counts a request that was refused. Whether standard error has a line for it; of the others the end of the minute tells."""
-        return self.refused.add(group_of(self.address(request)), time.monotonic()).count <= MOST_TOLD
+        return self.refused.add(group_of(self.address(request)), time.monotonic()).count <= MOST_REFUSALS_TOLD
 
     def check_sign_ins(self, desk: Desk, address: str) -> None:
         """Raises Problem if a desk signs in too often at an address, or out (at no address)."""
@@ -92,10 +95,16 @@ class Callers:
         refuse(window.count > MOST_SIGN_INS, 429, "this desk signs in and out too often", Retry_After=str(1 + int(window.ends - now)))
 
     def check_opened(self, request: web.Request) -> None:
-        """Counts a stream of events that is opened. Raises Problem if one desk, or who has none, opens too many at an address."""
+        """Counts a stream of events that is opened. Raises Problem if one desk, or who has none, opens too many at an address, or all who have
+        none do together: they come back in turns then."""
         desk: Desk = request["desk"]
         now = time.monotonic()
         limits = self.desks.limits
         window = self._opened[desk.name].add(group_of(self.address(request)), now)
         most = limits.opened_by_desk if desk.name else limits.opened_without_desk
         refuse(window.count > most, 429, "too many streams of events are opened here", Retry_After=str(1 + int(window.ends - now)))
+        if not desk.name:
+            together = self._together.add(OTHERS, now)
+            turn = together.count // limits.opened_together
+            seconds = min(MINUTE, together.ends - now + TOGETHER_SECONDS * max(0, turn - 1))
+            refuse(together.count > limits.opened_together, 429, "too many streams of events are opened without a token", Retry_After=str(1 + int(seconds)))

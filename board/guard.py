@@ -82,8 +82,9 @@ class Guard(web.RequestHandler):
     """A connection that is cut off if it takes more than its share. Between two requests aiohttp keeps the time itself."""
 
     def __init__(self, server: web.Server, door: Door, is_for_proxy: bool) -> None:
-        super().__init__(server, loop=asyncio.get_running_loop(), lingering_time=5.0, auto_decompress=False,
-                         keepalive_timeout=OF_A_PROXY if is_for_proxy else HEADERS)
+        # A proxy keeps the time of headers itself, and connections for requests that come.
+        self._patience = OF_A_PROXY if is_for_proxy else HEADERS
+        super().__init__(server, loop=asyncio.get_running_loop(), lingering_time=5.0, auto_decompress=False, keepalive_timeout=self._patience)
         self.access_logger = None
         self.lost = asyncio.Event()
         self._door = door
@@ -94,7 +95,7 @@ class Guard(web.RequestHandler):
     def connection_made(self, transport: asyncio.BaseTransport) -> None:
         assert isinstance(transport, asyncio.Transport)
         self._number: int = transport.get_extra_info("socket").fileno()
-        self._late = asyncio.get_running_loop().call_later(HEADERS, transport.abort)
+        self._late = asyncio.get_running_loop().call_later(self._patience, transport.abort)
         super().connection_made(transport)
 
     async def start(self) -> None:

@@ -14,7 +14,7 @@ from board.words import Fault, Problem, refuse
 # Earlier days that are kept; records among which a flight or a desk is sought at once.
 MOST_DAYS = 2
 MOST_SOUGHT = 20_000
-AWAY = "the log can't be asked for an earlier day at present"
+PAST_AWAY = "the log can't be asked for an earlier day at present"
 
 
 class Span(NamedTuple):
@@ -58,7 +58,7 @@ class Past:
         try:
             changes = await self._log.changes()
         except (Away, Fault):
-            raise Problem(503, AWAY, Retry_After="1") from None
+            raise Problem(503, PAST_AWAY, Retry_After="1") from None
         self._spans = spans_of(self._day.date, changes)
         self._read = starts
         return self._spans
@@ -93,7 +93,7 @@ class Past:
             try:
                 day = await self._read_day(span)
             except (Away, Fault, OSError):
-                raise Problem(503, AWAY, Retry_After="1") from None
+                raise Problem(503, PAST_AWAY, Retry_After="1") from None
             refuse(starts != self._day.starts, 503, "the day began anew; ask again", Retry_After="1")
             self.keep(day)
             return day
@@ -105,7 +105,7 @@ class Past:
             async with asyncio.timeout(PLACE_SECONDS):
                 await self._reading.acquire()
         except TimeoutError:
-            raise Problem(503, AWAY, Retry_After="5") from None
+            raise Problem(503, PAST_AWAY, Retry_After="5") from None
         try:
             yield
         finally:
@@ -127,7 +127,7 @@ class Past:
                 try:
                     next_one = await self._log.sought(since, since + MOST_SOUGHT, flight, desk)
                 except (Away, Fault):
-                    raise Problem(503, AWAY, Retry_After="1") from None
+                    raise Problem(503, PAST_AWAY, Retry_After="1") from None
             if next_one is None:
                 since += MOST_SOUGHT
                 continue

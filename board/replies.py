@@ -16,7 +16,7 @@ from board.program import MOST_REPLY, same
 from board.words import Fault, tell
 
 # Seconds until a log that takes no digest is tried again, and for the replies of a whole day.
-AGAIN_SECONDS = 1.0
+DIGEST_AGAIN_SECONDS = 1.0
 TRACE_SECONDS = 900.0
 TRACE = ("trace", "airport.csv", "replies.csv", "--format", "json")
 
@@ -35,7 +35,7 @@ async def day_of_log(folder: str, program: str, log: Log, kinds: bytes) -> Day:
             records = await log.whole(max(0, change.position - 1))
             if not change.position or records and records[0].is_change:
                 break
-        await asyncio.sleep(AGAIN_SECONDS / 10)
+        await asyncio.sleep(DIGEST_AGAIN_SECONDS / 10)
     # Another day may have begun meanwhile; the sequencer comes to it.
     end = next((number for number, record in enumerate(records) if number and record.is_change), len(records))
     day = await day_of(folder, program, records[:end], kinds, change)
@@ -131,11 +131,11 @@ class Keeper:
         while True:
             self._day.digested.clear()
             if not await self._catch_up():
-                await asyncio.sleep(AGAIN_SECONDS)
+                await asyncio.sleep(DIGEST_AGAIN_SECONDS)
                 continue
             while said := self._day.unkept():
                 if not await self._keep(said):
-                    await asyncio.sleep(AGAIN_SECONDS)
+                    await asyncio.sleep(DIGEST_AGAIN_SECONDS)
             await self._day.digested.wait()
 
     async def _catch_up(self) -> bool:

@@ -7,8 +7,9 @@ DO $$ BEGIN
     END IF;
     IF NOT EXISTS (SELECT FROM pg_roles WHERE rolname = 'cdm_owner') THEN CREATE ROLE cdm_owner NOLOGIN; END IF;
     IF NOT EXISTS (SELECT FROM pg_roles WHERE rolname = 'cdm_server') THEN CREATE ROLE cdm_server NOLOGIN; END IF;
-    -- Who is no superuser may give a table to a role of which it is a member, and which may create in the schema; both until the end.
-    IF NOT pg_has_role(current_user, 'cdm_owner', 'MEMBER') THEN
+    -- Who is no superuser may give a table to a role that it may become, and which may create in the schema; both until the end. From 16 on a
+    -- member, as whoever made the role is, may not become it by that alone.
+    IF NOT pg_has_role(current_user, 'cdm_owner', CASE WHEN current_setting('server_version_num')::integer < 160000 THEN 'MEMBER' ELSE 'SET' END) THEN
         EXECUTE format('GRANT cdm_owner TO %I', current_user);
         PERFORM set_config('cdmboard.was_member', 'no', true);
     END IF;

@@ -14,6 +14,7 @@ WORTH_WHILE = 1024
 MOST_SHARED = 1 << 20
 PIECE = 64 << 10
 MOST_PACKED = 16
+# How hard answers and events are packed.
 LEVEL = 4
 
 

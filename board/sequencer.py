@@ -25,7 +25,7 @@ MOST_AHEAD = 256
 # Seconds for a reply, and until a process that found no room is started again.
 PATIENCE_SECONDS = 10.0
 ROOM_SECONDS = 1.0
-AGAIN_SECONDS = 0.2
+CHANGE_AGAIN_SECONDS = 0.2
 # Bytes that the journal of a process may need beyond the day that it begins with.
 MOST_JOURNAL = 4 << 20
 
@@ -96,7 +96,7 @@ class Sequencer:
         try:
             change = await self._log.change(record.position)
         except Away:
-            await asyncio.sleep(AGAIN_SECONDS)
+            await asyncio.sleep(CHANGE_AGAIN_SECONDS)
             return
         if change is not None:
             await self._check(change)

@@ -21,9 +21,10 @@ from board.log import (BEFORE, MOST_EVENTS, MOST_RECORDS, Accept, Away, Batch, C
 from board.words import Fault, Problem, now_text, tell
 from board.writer import COMMIT_SECONDS, Outcome
 
-# Seconds that a foreign lock is waited for, and between two tries of a log that failed.
+# Seconds that a foreign lock is waited for, between two tries of a log that failed, and that a read waits behind a commit that hangs.
 BUSY_SECONDS = 5.0
 RETRY_SECONDS = 1.0
+BEHIND_SECONDS = 10.0
 # Bytes that a disk has to take, more than a large batch needs; bytes of the index, for a write-ahead log of 16,000 pages.
 ROOM_BYTES = 1 << 18
 INDEX_BYTES = 4 << 15
@@ -58,7 +59,7 @@ FROM json_each(?) JOIN cdm_record ON position = json_extract(value, '$[0]') AND 
     AND role = json_extract(value, '$[2]') AND line = json_extract(value, '$[3]') AND at = json_extract(value, '$[4]')
 WHERE board = ?"""
 KEEP = f"INSERT INTO cdm_digest SELECT board, position, json_extract(value, '$[5]') {SAID} ON CONFLICT DO NOTHING"
-KEPT = f"SELECT position, digest FROM cdm_digest WHERE position IN (SELECT position {SAID}) AND board = ?"
+KEPT_DIGESTS = f"SELECT position, digest FROM cdm_digest WHERE position IN (SELECT position {SAID}) AND board = ?"
 LOG = "SELECT id, airport, version, secret FROM cdm_log WHERE board = ?"
 # A record is a change of day if something stands beside it.
 COLUMNS = """SELECT position, desk, role, line, at, cdm_day.position IS NOT NULL FROM cdm_record LEFT JOIN cdm_day USING (board, position)
@@ -317,19 +318,19 @@ class FileLog(Kept):
 
     async def changes(self) -> list[Record]:
         """All changes of day. Raises Away, Fault."""
-        return [Record(*row[:5])._replace(is_change=True) for row in await self._call(CHANGES, self._board, 0)]
+        return [Record(*row[:5])._replace(is_change=True) for row in await self._read(CHANGES, self._board, 0)]
 
     async def change(self, position: int) -> Change | None:
         """What stands beside the change of day at a position. Raises Away, Fault."""
-        return change_of(self.name, position, await self._call(CHANGE, self._board, position))
+        return change_of(self.name, position, await self._read(CHANGE, self._board, position))
 
     async def between(self, first: int, last: int) -> list[Record]:
         """The records from one position to another. Raises Away, Fault."""
-        return records_of(self.name, first - 1, await self._call(ROWS, self._board, first - 1, last - first + 1))
+        return records_of(self.name, first - 1, await self._read(ROWS, self._board, first - 1, last - first + 1))
 
     async def sought(self, after: int, last: int, flight: str | None, desk: str | None) -> int | None:
         """The first position behind another, up to a last one, that may be of a flight and of a desk. Raises Away, Fault."""
-        (found,), = await self._call(SOUGHT, self._board, after, last, desk, desk, flight, flight)
+        (found,), = await self._read(SOUGHT, self._board, after, last, desk, desk, flight, flight)
         position: int | None = found
         return position
 
@@ -342,11 +343,11 @@ class FileLog(Kept):
         the log hasn't. Raises Away, Fault."""
         told = digests_as_json(said)
         await self._call(KEEP, told, self._board)
-        return dict(await self._call(KEPT, told, self._board, self._board))
+        return dict(await self._call(KEPT_DIGESTS, told, self._board, self._board))
 
     async def sessions(self) -> dict[str, int]:
-        """The number of each desk's first session that hasn't ended, where it isn't 0. Raises Fault."""
-        return dict(await self._call("SELECT desk, not_before FROM cdm_session WHERE board = ?", self._board))
+        """The number of each desk's first session that hasn't ended, where it isn't 0. Raises Away, Fault."""
+        return dict(await self._read("SELECT desk, not_before FROM cdm_session WHERE board = ?", self._board))
 
     async def sign_out(self, desk: str, least: int = 1) -> None:
         """Ends all sessions of a desk, also those before number `least`. Raises Fault."""
@@ -362,6 +363,14 @@ class FileLog(Kept):
             words = [word for event in kept for word in (self._board, *event)]
             await self._call(f"INSERT INTO cdm_audit (board, event, desk, address, detail, at) VALUES {rows}", *words)
         return len(kept)
+
+    async def _read(self, query: str, *words: object) -> list[Any]:
+        """The rows of a query, if the thread comes to it in time: a commit that hangs keeps it. Raises Away, Fault."""
+        try:
+            async with asyncio.timeout(BEHIND_SECONDS):
+                return await self._call(query, *words)
+        except TimeoutError:
+            raise Away(f"a commit takes longer than {BEHIND_SECONDS:.0f} seconds") from None
 
     async def _call(self, query: str, *words: object) -> list[Any]:
         try:

@@ -111,6 +111,19 @@ def test_a_question_does_not_outlive_the_server(board):
         until(lambda: not os.path.exists(f"/proc/{asked}"), 3)
 
 
+def test_what_a_killed_server_leaves(board):
+    """Its sequencer ends with it, and the next start removes its folder in memory."""
+    server = board()
+    log = json.loads(server.get("/v1/who").body)["log"]
+    folders = lambda: {name for name in os.listdir("/dev/shm") if name.startswith(f"cdmboard-{log}-")}
+    (first,), (sequencer,) = folders(), server.sequencers()
+    server.kill()
+    until(lambda: not os.path.exists(f"/proc/{sequencer}"), 3)
+    assert folders() == {first}
+    server.start()
+    assert len(folders()) == 1 and first not in folders()
+
+
 def test_a_question_that_is_killed_is_503(board):
     """As where memory runs out; the next one is answered."""
     server = board(faulty="slow:2")
@@ -213,6 +226,50 @@ def test_displays_share_what_may_be_unsent():
         asyncio.run(events._write())
         assert [transport.is_cut for transport in transports] == [are_cut and transport.unsent > 10 for transport in transports]
         assert not are_cut or sum(transport.unsent for transport in transports if not transport.is_cut) < MOST_UNSENT_OF_ALL
+
+
+def test_displays_are_written_to_in_turns(monkeypatch):
+    """So that what a desk waits for comes in between, however many displays there are."""
+    from board import events as module
+    from board.day import Day
+    from board.desks import Desk
+    from board.words import Kinds
+    order = []
+
+    class Transport:
+        def get_write_buffer_size(self):
+            return 0
+
+        def is_closing(self):
+            return False
+
+        def write(self, data):
+            order.append("display")
+
+    async def talk():
+        events = module.Events("0", Day(Kinds(b""), [], {}))
+        events.streams |= {module.Stream(None, Desk("screen", "READ"), Transport(), asyncio.Event()) for _ in range(200)}
+        writing = asyncio.create_task(events._write())
+        while not writing.done():
+            order.append("desk")
+            await asyncio.sleep(0)
+    asyncio.run(talk())
+    turns = [len(turn.split()) for turn in " ".join(order).split("desk")]
+    assert sum(turns) == 200 and max(turns) == module.IN_A_TURN == 25
+
+
+def test_a_silent_day_is_no_silent_stream(board):
+    """A comment comes where nothing else does, so that a display knows a dead connection."""
+    server = board(DESKS, start=False)
+    server.collect("from board import events; events.COMMENT = 0.5")
+    server.start()
+    with socket.create_connection(("127.0.0.1", server.port)) as own:
+        own.settimeout(10)
+        own.sendall(b"GET /v1/events HTTP/1.1\r\nHost: localhost\r\nAuthorization: Bearer token-ap\r\n\r\n")
+        told = b""
+        while told.count(b"\r\n:\n") < 4:
+            told += own.recv(65536)
+    assert b"event: reply" not in told
 
 
 def test_an_end_at_the_moment_of_a_reply():

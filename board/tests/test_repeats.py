@@ -14,6 +14,7 @@ from conftest import ROOT
 
 MIB = 1 << 20
 OF = Limits()
+NUMBERS = {8: "eight", 10: "ten", 12: "twelve", 24: "twenty-four"}
 # What docs/HTTP.md says, by the server's own numbers.
 LIMITS = [
     f"{words.MOST_LINES} records a body, {words.MOST_BYTES} bytes a line, {web.MOST_BODY >> 10} KiB a body",
@@ -30,6 +31,8 @@ LIMITS = [
     f"{unsent.MOST_NAMELESS // MIB} MiB of all without a desk; {unsent.MOST_OF_ALL // MIB} MiB of all, the last {unsent.OF_THE_TOWER // MIB} MiB",
     f"{events.MOST_STREAMS} streams of events a desk; {events.MOST_DISPLAYS:,} of all READ desks",
     f"{events.MOST_UNSENT // MIB} MiB of a stream, {events.MOST_UNSENT_OF_ALL // MIB} MiB of all streams",
+    f"{OF.opened_without_desk} streams that an address opens in a minute without a token, {OF.opened_by_desk:,} that one desk opens",
+    f"{OF.opened_together:,} streams that all addresses open together in {NUMBERS[callers.TOGETHER_SECONDS]} seconds without a token",
     f"{views.MOST_VIEW >> 10} KiB for the view",
     f"{OF.of_address} connections of an address at which no token was shown, {OF.of_known_address:,} of another, {OF.connections:,} in all",
     f"{guard.HEADERS:.0f} s for headers, {questions.BODY_LIMIT:.0f} s for a body",
@@ -43,7 +46,6 @@ LIMITS = [
     f"that changed more than {events.MOST_ROWS} rows",
     f"within {1000 * views.BURST:.0f} ms have one view, and a new view is begun {views.APART} s after",
 ]
-NUMBERS = {8: "eight", 12: "twelve", 24: "twenty-four"}
 
 
 def told(*words):

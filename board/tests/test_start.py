@@ -319,6 +319,7 @@ def test_import_and_export(files, board):
     server = board(start=False)
     assert cdmboard("import", server.airport, server.log, feed).returncode == 0
     assert cdmboard("import", server.airport, server.log, feed).returncode == 3
+    assert cdmboard("audit", server.log).stdout == ""
     server.start()
     assert server.post(["FOO", "FLT,AB2,5"], Cdm_Role="AP")[1]["accepted"] == 3
     assert cdmboard("export", server.log).stdout == feed.read_text() + "AP,FLT,AB2,5\n" == server.get("/v1/journal.csv").body.decode()
@@ -348,6 +349,12 @@ def test_a_backup_is_a_log(board):
     assert server.end() == copy.end() == 0
 
 
+def secrets_of(log):
+    """The keys of the cookies of its boards."""
+    with contextlib.closing(sqlite3.connect(log)) as database:
+        return [secret for secret, in database.execute("SELECT secret FROM cdm_log")]
+
+
 def test_a_backup_while_it_is_served(files, board):
     """`backup` makes a new file, 0600, with an id of its own; `verify` reads it; a start has the same day."""
     server, copy = board(), board(start=False)
@@ -362,6 +369,7 @@ def test_a_backup_while_it_is_served(files, board):
     copy.start()
     assert copy.records() == [record | ({"changes": None} if "changes" in record else {}) for record in server.records()]
     assert json.loads(copy.get("/v1/who").body)["log"] != json.loads(server.get("/v1/who").body)["log"]
+    assert len(set(secrets_of(copy.log) + secrets_of(server.log))) == 2
     assert copy.post(["FLT,AB1,5", "FOO"], Cdm_Role="AP", key="k")[0]["position"] == 1
     # A mistyped name makes no file; nor does a board that isn't there.
     for words in (("backup", files / "none.db", files / "copy.db"), ("backup", server.log, files / "copy.db", "--board", "x")):
@@ -419,6 +427,8 @@ def test_the_clock_is_taken(board):
     until(lambda: len(server.records()) >= 1)
     record = server.records()[0]
     assert (record["desk"], record["role"], record["reply"]) == ("clock", "ATC", "ACCEPTED") and record["line"].startswith(f"CLOCK,{today}T")
+    board_of = server.options[server.options.index("--board"):][:2] if "--board" in server.options else []
+    assert cdmboard("audit", server.log, *board_of).stdout == ""
     server.kill()
     server.start()
     time.sleep(0.5)
