@@ -142,7 +142,8 @@ export class Answers extends Knowing {
     if (own) return own();
     const question = this.questions.table.get(ask.name);
     if (!question.isWanted() || this.need) return true;
-    if (question.path() !== ask.path && ask.name !== 'log') {
+    const isSame = ask.name === 'log' ? ask.path.endsWith(this.day.date) : question.path() === ask.path;
+    if (!isSame) {
       this.questions.wantNow(ask.name, this.at);
       return true;
     }
@@ -151,8 +152,9 @@ export class Answers extends Knowing {
     this.hasStale ||= Boolean(event.stale);
     if (ask.name === 'totals') this.holdTotals(list[0], event.position);
     else this.showAnswer(ask.name, list, event.position);
-    if (ask.name === 'operators') this.operators = true;
-    return event.position >= this.rows.position;
+    const isNow = event.position >= this.rows.position;
+    if (ask.name === 'operators') this.operators = isNow;
+    return isNow;
   }
 
   takeKinds(list) {

@@ -6,7 +6,7 @@ import { QUIET, OPENING, RECORD_DEADLINE, SOON, LOG } from './limits.js';
  * What comes in. Each has `at`, milliseconds of a clock that only goes on, and `now`, milliseconds of the server's clock as far as it is
  * known, for words alone. `type` is the name of the method that takes it:
  * start; wake; opened {stream}; chunk {stream, text}; ended {stream, status, detail, retry}; answer {id, status, log, position, lastAt, text,
- * stale, retry, detail, isOwn}; heard {status, detail, stale}: of a question that a box asked by itself; send {form, line, key};
+ * stale, retry, detail, isOwn}; heard {status, stale}: of a question that a box asked by itself; send {form, line, key};
  * signIn {desk, token}; signOut; role {role}; tab; panel {open, flight}; causes {isOpen, by}; seen {position}; fault {part, detail}.
  * What goes out: ask {id, name, path, method, body, accept, after, key, role}, abandon {id}, open {stream, since, role}, close {stream},
  * wait {until}, show {what, ..}, say {what, ..}, enable {isOn}, tell {word} (to other tabs).
@@ -32,7 +32,7 @@ export class Machine extends Following {
     const isOn = () => this.rows !== null && !this.isOut && this.stream?.isOpen === true;
     const flight = () => this.panel.open === 'flight' && this.panel.flight;
     return [
-      { name: 'who', isApart: true, isWanted: () => true, path: () => '/v1/who' },
+      { name: 'who', isApart: true, isWanted: () => true, path: () => '/v1/who', after: () => (this.who ? this.rows?.position ?? 0 : 0) },
       { name: 'kinds', isApart: true, isWanted: () => this.kinds === null && Boolean(this.who?.kinds.length), path: () => '/v1/kinds' },
       { name: 'plan', isApart: true, isOfDay: true, isWanted: () => this.rows === null || this.need !== null, path: () => '/v1/plan.json' },
       { name: 'health', isApart: true, isWanted: isOn, path: () => '/health' },
@@ -47,7 +47,7 @@ export class Machine extends Following {
       { name: 'warnings', isOfDay: true, isWanted: isOn, path: () => '/v1/warnings.json' },
       { name: 'load', isOfDay: true, isWanted: isOn, path: () => '/v1/load.json' },
       { name: 'log', isOfDay: true, isWanted: () => isOn() && this.panel.open === 'send',
-        path: () => `/v1/records?since=${Math.max(0, Math.floor(this.rows.position / LOG) - 1) * LOG}` },
+        path: () => `/v1/records?since=${Math.max(0, Math.floor(this.rows.position / LOG) - 1) * LOG}&day=${this.day.date}` },
       { name: 'causes', isOfDay: true, isWanted: () => isOn() && this.causesOf.isOpen, path: () => `/v1/causes.json?by=${this.causesOf.by}` },
       { name: 'operators', isOfDay: true, isWanted: () => isOn() && !this.operators, path: () => '/v1/causes.json?by=operator' },
     ];
@@ -108,9 +108,9 @@ export class Machine extends Following {
     this.questions.wantNow('causes', this.at);
   }
 
-  /** A box asked by itself; what its answer says of the whole page. */
-  onHeard({ status, detail, stale }) {
-    if (status === 401) this.signedOut(detail);
+  /** A box asked by itself; what its answer says of the whole page. It may have asked as somebody who spoke before: so it is asked who speaks. */
+  onHeard({ status, stale }) {
+    if (status === 401 && this.who) this.questions.wantNow('who', this.at);
     else if (stale !== undefined) this.takeStale(stale);
   }
 
@@ -145,6 +145,7 @@ export class Machine extends Following {
     this.faults += 1;
     if (this.questions.turns.has(part)) {
       this.had.delete(part);
+      if (part === 'operators') this.operators = false;
       this.questions.failed(part, this.at, 0);
       return;
     }

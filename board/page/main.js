@@ -221,6 +221,7 @@ const SHOWN = {
     ANSWERED[name](list, position);
   },
   empty,
+  past,
 };
 
 /** What it says. */
@@ -357,7 +358,7 @@ function empty() {
   for (const known of [moves.recent, moves.causes, moves.told]) known.clear();
   warnings.first = null;
   operators = [];
-  for (const body of $$('#s-records, #f-records, #causes tbody')) body.replaceChildren();
+  $('#causes tbody').replaceChildren();
   give(() => { // the rows of the other day are shown first
     if (flight.name) flight.open(flight.name);
     whatIf.close();
@@ -365,7 +366,14 @@ function empty() {
   });
 }
 
-heard.answer = ({ status, detail, stale }) => give({ type: 'heard', status, detail, stale });
+/** What was told of a day that has ended. */
+function past() {
+  for (const body of $$('#s-records, #f-records')) body.replaceChildren();
+  say($('#f-count'), '');
+  $('#day').hidePopover();
+}
+
+heard.answer = ({ status, stale }) => give({ type: 'heard', status, stale });
 $('#seen').addEventListener('click', () => {
   give(() => moves.look(hms(clock.now()).slice(0, 5)));
   again(next, blocked);

@@ -19,7 +19,7 @@ export const clock = {
   },
 };
 
-/** Who is told what the answer to a box's own question says of the whole page: {status, detail, stale}. */
+/** Who is told what the answer to a box's own question says of the whole page: {status, stale}. */
 export const heard = { answer: () => {} };
 
 /** The role that a request says, where the server asks for none. */

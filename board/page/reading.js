@@ -56,13 +56,16 @@ export class Reading extends Views {
     if (!this.isWanted(moment, answer)) return false;
     const isOther = this.rows !== null && (moment.log !== this.rows.log || this.need?.isOther === true);
     const since = this.rows && !isOther ? Math.max(0, this.rows.position - RECENT) : null; // the last ones may be of another past
-    const isWhole = this.isBroken || this.rows !== null && this.day.date !== plan.day; // on another date each time has other words
+    const isNext = this.rows !== null && this.day.date !== plan.day;
+    const isWhole = this.isBroken || isNext; // on another date each time has other words
     const changed = this.day.take(plan, moment.position, `${moment.log}-${moment.position}`);
     if (isWhole) for (const [name, row] of this.day.rows) if (!changed.has(name)) changed.set(name, [row, row]);
     const { queue, isFirst } = this;
     Object.assign(this, { rows: moment, need: null, queue: [], oldSince: null, isFirst: false, held: null, isBroken: false });
     if (this.stream?.moment === null) this.reopen();
     if (isOther) this.empty();
+    if (isOther || isNext) this.beginDay();
+    if (!this.operators) this.questions.want('operators', this.at + this.chance() * SOON); // what came meanwhile wasn't shown
     this.had.clear();
     this.order({ do: 'show', what: 'plan', changed, isFirst, isOther, isWhole });
     this.wantAhead();
@@ -105,9 +108,15 @@ export class Reading extends Views {
   /** What was shown of a day that is gone. */
   empty() {
     this.had.clear();
-    Object.assign(this, { totals: null, operators: false, history: null, seen: Infinity });
+    Object.assign(this, { totals: null, history: null, seen: Infinity });
     this.order({ do: 'show', what: 'empty' });
-    this.questions.want('operators', this.at + this.chance() * SOON);
+  }
+
+  /** What is of a day as a whole begins anew: what panels list of it, its operators, and how many records a desk may send. */
+  beginDay() {
+    this.operators = false;
+    this.order({ do: 'show', what: 'past' });
+    if (this.who?.kinds.length) this.questions.want('who', this.at + this.chance() * SOON);
   }
 
   /** The records behind a position are asked for: when a CLOCK came, and what moved whom. Of a day that is new to it, the last ones. */

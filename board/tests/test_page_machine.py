@@ -55,6 +55,38 @@ FAULTS = [
         ("answers.js", "    if (ask.name === 'totals') this.holdTotals(", "    if (ask.name === 'totals') this.takeTotals(")]),
     ("old totals aren't said to be old", "Shown", 1, [
         ("views.js", "const isOld = this.totals.position < this.rows.position;", "const isOld = false;")]),
+    ("a change of day keeps the old date", "Shown", 1, [
+        ("day.js", "date: plan.day, now: plan.now", "date: this.date || plan.day, now: plan.now")]),
+    ("a change of day keeps the rows that are gone", "Shown", 1, [
+        ("day.js", "const rows = new Map(plan.flights.map((row) => [row.flight, row]));",
+         "const rows = new Map([...this.rows.values(), ...plan.flights].map((row) => [row.flight, row]));")]),
+    ("a change of day counts as a record that changed nothing", "Shown", 1, [
+        ("views.js", "const isSame = last && isPast && !list.some((reply) => reply.reply",
+         "const isSame = last && isPast && !list.some((reply) => !reply.line.startsWith('DAY,') && reply.reply")]),
+    ("what was sent in the day before is sent as another record", "Said", 1, [
+        ("reading.js", "    this.operators = false;\n    this.order(", "    this.operators = false;\n    this.sending.unknown.clear();\n    this.order(")]),
+    ("a panel lists records of the day before", "Shown", 1, [
+        ("reading.js", "    this.order({ do: 'show', what: 'past' });\n", "")]),
+    ("a panel lists records of the day before again, as they were asked for", "Shown", 1, [
+        ("answers.js", "ask.name === 'log' ? ask.path.endsWith(this.day.date) :", "ask.name === 'log' ||")]),
+    ("the list of the log lacks the new day", "Arrives", 1, [
+        ("machine.js", " * LOG}&day=${this.day.date}` },", " * LOG}` },"),
+        ("answers.js", "ask.name === 'log' ? ask.path.endsWith(this.day.date) :", "ask.name === 'log' ||")]),
+    ("the operators are those of the day before", "Arrives", 1, [
+        ("reading.js", "    this.operators = false;\n", "")]),
+    ("the operators that a server of the day before tells are the last word", "Arrives", 1, [
+        ("answers.js", "this.operators = isNow;", "this.operators = true;")]),
+    ("the operators that came while the plan was read are dropped", "Arrives", 1, [
+        ("reading.js", "    if (!this.operators) this.questions.want(", "    if (isOther || isNext) this.questions.want(")]),
+    ("the operators that a box failed to show are never shown", "Arrives", 1, [
+        ("machine.js", "      if (part === 'operators') this.operators = false;\n", "")]),
+    ("how many records are left is of the day before", "Arrives", 1, [
+        ("reading.js", "    if (this.who?.kinds.length) this.questions.want('who', this.at + this.chance() * SOON);\n", "")]),
+    ("how many records are left is told by a server of the day before", "Arrives", 1, [
+        ("machine.js", ", after: () => (this.who ? this.rows?.position ?? 0 : 0) },", " },")]),
+    ("a question of who spoke before signs out who speaks now", "Alive", 1, [
+        ("machine.js", "    if (status === 401 && this.who) this.questions.wantNow('who', this.at);\n",
+         "    if (status === 401) this.signedOut('a token of a desk is needed');\n")]),
 ]
 
 

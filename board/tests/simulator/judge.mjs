@@ -2,6 +2,7 @@
 import { FLIGHTS, nowOf, rowsOf, totalsOf } from './servers.mjs';
 
 const TOLD = 20000; // ms within which a silent break is told
+const OF_A_DAY = ['records', 'log']; // panels that list what came in the day
 
 /** A law that doesn't hold. */
 export class Broken extends Error {
@@ -13,7 +14,7 @@ export class Broken extends Error {
 
 export class Judge {
   constructor(world, machine) {
-    Object.assign(this, { world, machine, rows: new Map(), date: '', totals: null, isTotalsOld: false, state: null, since: null, boxes: new Map(), clocks: new Set(), stale: null });
+    Object.assign(this, { world, machine, rows: new Map(), date: '', who: null, totals: null, isTotalsOld: false, state: null, since: null, boxes: new Map(), clocks: new Set(), stale: null });
     Object.assign(this, { sends: new Map(), notTaken: [], faultyUntil: 0, firstShown: null, isDirty: false });
   }
 
@@ -37,7 +38,9 @@ export class Judge {
       for (const { reply } of order.replies ?? []) if (isClock(reply)) this.clocks.add(`${machine.rows.log} ${reply.at}`);
       this.isDirty = true;
     }
+    if (order.what === 'who') this.who = order.who;
     if (order.what === 'empty') this.boxes.clear();
+    if (order.what === 'past') for (const name of OF_A_DAY) this.boxes.delete(name);
     if (order.what === 'history') for (const reply of order.list) if (isClock(reply)) this.clocks.add(`${machine.rows.log} ${reply.at}`);
     if (order.what === 'totals') Object.assign(this, { totals: order.totals, isTotalsOld: order.isOld, isDirty: true });
     if (order.what === 'answer') this.boxes.set(order.name, { list: order.list, log: machine.rows.log });
@@ -92,16 +95,35 @@ export class Judge {
 
   check(at) {
     const { machine, world } = this;
+    this.seeDay();
     if (machine.state !== 'out' && !Number.isFinite(machine.wakeAt)) throw new Broken('Alive', `the state ${machine.state} waits for ever`);
     if (this.state !== machine.state) throw new Broken('Shown', `the state ${machine.state} isn't said`);
     if (this.state === 'out' || this.state === 'new') return;
     const isOld = this.state === 'lost' || this.state === 'behind' || this.state === 'reading' && this.since !== null;
     if (isOld && this.since === null) throw new Broken('Shown', 'it is old, and since when isn\'t said');
     this.checkStream(at, isOld);
+    this.checkPanels();
     for (const [name, { log }] of this.boxes) if (log !== machine.rows.log) throw new Broken('Shown', `${name} is of a day that is gone`);
     if (!this.isDirty || world.faulty) return;
     this.isDirty = false;
     this.checkRows(isOld);
+  }
+
+  /** Which day the page knows, and what it knew of its desk before that one. */
+  seeDay() {
+    const { rows, day } = this.machine;
+    if (!rows || this.log === rows.log && this.known === day.date) return;
+    if (this.log) this.whoBefore = this.who;
+    Object.assign(this, { log: rows.log, known: day.date });
+  }
+
+  /** What a panel tells of a day is of the one that is shown. */
+  checkPanels() {
+    if (this.world.faulty) return;
+    for (const name of OF_A_DAY) {
+      const other = this.boxes.get(name)?.list.find(({ date }) => date !== this.date);
+      if (other) throw new Broken('Shown', `${name} is of ${other.date}, and the date is ${this.date}`);
+    }
   }
 
   checkStream(at, isOld) {
@@ -119,14 +141,15 @@ export class Judge {
   checkRows(isOld) {
     const shown = this.stamps(this.rows);
     const moment = this.moment;
-    const day = this.pasts(moment).find((state) => this.stampsOf(moment.log, state) === shown);
+    const day = this.pasts(moment).find((state) => this.stampsOf(moment.log, state) === shown && state.date === this.date);
     const log = this.world.logs.find((one) => one.id === moment.log);
-    if (!day || this.date !== log.date) {
-      throw new Broken('Shown', `the rows are of no moment: ${shown} ${this.date} as ${moment.log}-${moment.position} ${this.pasts(moment).map((state) => this.stampsOf(moment.log, state))}`);
+    if (!day) {
+      const known = this.pasts(moment).map((state) => `${this.stampsOf(moment.log, state)} ${state.date}`);
+      throw new Broken('Shown', `the rows and the date are of no moment: ${shown} ${this.date} as ${moment.log}-${moment.position} ${known}`);
     }
     if (moment.now !== nowOf(day)) throw new Broken('Shown', `NOW is ${moment.now}, of another moment than the rows, ${nowOf(day)}`);
     // Two pasts under one name: which of them an answer is of, only the server that still has the lost one can say, as soon as it sees it.
-    const isCurrent = log === this.world.log && log.eras.at(-1).states[moment.position] === day;
+    const isCurrent = log === this.world.log && log.states[moment.position] === day;
     if (!this.totals || this.isTotalsOld || isOld || !isCurrent) return;
     if (this.totals.delay !== totalsOf(moment.log, day).delay) throw new Broken('Shown', `the totals ${this.totals.delay} are of another moment than the rows ${moment.log}/${day.stamp}, and that isn't said`);
   }
@@ -156,8 +179,9 @@ export class Judge {
     const truth = `${world.log.id}: ${this.stampsOf(world.log.id, world.log.states.at(-1))}`;
     const shown = `${machine.rows.log}: ${this.stamps(this.rows)}`;
     if (shown !== truth) throw new Broken('Arrives', `shown is ${shown}, the day is ${truth}`);
-    if (this.date !== world.log.date || this.machine.day.now !== nowOf(world.log.states.at(-1))) throw new Broken('Arrives', `the date or NOW is another one`);
+    if (this.date !== world.log.states.at(-1).date || this.machine.day.now !== nowOf(world.log.states.at(-1))) throw new Broken('Arrives', `the date or NOW is another one`);
     this.checkBoxes();
+    this.checkDay();
     this.checkClock();
   }
 
@@ -172,6 +196,20 @@ export class Judge {
       const of = name === 'records' && !this.boxes.get(name)?.list[0]?.of ? null : this.boxes.get(name)?.list[0].of;
       if (of !== `${world.log.id}/${stamp}`) throw new Broken('Arrives', `${name} is of ${of}, the day is ${world.log.id}/${stamp}`);
     }
+  }
+
+  /** What is of a day as a whole: the operators, how many records a desk may send, and the panel's records. */
+  checkDay() {
+    const { world, machine } = this;
+    const { date } = world.log.states.at(-1);
+    const [operators] = this.boxes.get('operators')?.list ?? [];
+    if (operators?.date !== date) throw new Broken('Arrives', `the operators are of ${operators?.date}, the day is ${date}`);
+    const day = `${world.log.id} ${date}`;
+    const isAskedSince = this.who !== this.whoBefore && (!this.who?.isAfter || this.who.of === day);
+    if (this.who?.kinds.length && !isAskedSince) throw new Broken('Arrives', `how many records are left is of ${this.who.of}, the day is ${day}`);
+    const listed = this.boxes.get('log')?.list.at(-1)?.position ?? 0;
+    const last = world.log.records.findLast((record) => record.isAccepted)?.position ?? 0; // who else is refused is told to nobody
+    if (machine.panel.open === 'send' && listed < last) throw new Broken('Arrives', `the last record that is listed is ${listed}, of the log ${last}`);
   }
 
   /** The last CLOCK is counted as one. */

@@ -35,7 +35,9 @@ class Schedule {
     this.world.isQuiet = true;
     this.settle();
     this.until(end + GIVEN_UP - ARRIVES);
-    for (let count = this.chance.below(4); count > 0; count -= 1) this.world.agenda.put(this.world.at + this.chance.between(0, ARRIVES), () => this.world.post());
+    for (let count = this.chance.below(4); count > 0; count -= 1) {
+      this.world.agenda.put(this.world.at + this.chance.between(0, ARRIVES), () => (this.chance.is(0.1) ? this.world.nextDay() : this.world.post()));
+    }
     this.until(this.world.at + 2 * ARRIVES + 500);
     this.judge.checkEnd();
   }
@@ -102,26 +104,28 @@ class Schedule {
   happens() {
     const { chance, world } = this;
     const kind = chance.draw();
-    if (kind < 0.5) world.post();
-    else if (kind < 0.54) world.restart(chance.of(world.servers));
-    else if (kind < 0.56) world.change();
-    else if (kind < 0.6) world.away();
-    else if (kind < 0.63) world.cutAll(chance.of(world.servers), false);
-    else if (kind < 0.65) world.revoke();
-    else if (kind < 0.69) world.otherTab();
-    else if (kind < 0.71) world.jump += chance.between(-3600000, 3600000);
-    else if (kind < 0.8) this.clicks();
+    if (kind < 0.46) world.post();
+    else if (kind < 0.5) world.restart(chance.of(world.servers));
+    else if (kind < 0.52) world.change();
+    else if (kind < 0.56) world.away();
+    else if (kind < 0.59) world.cutAll(chance.of(world.servers), false);
+    else if (kind < 0.61) world.revoke();
+    else if (kind < 0.65) world.otherTab();
+    else if (kind < 0.67) world.jump += chance.between(-3600000, 3600000);
+    else if (kind < 0.72) world.nextDay();
+    else if (kind < 0.82) this.clicks();
     else this.sends();
   }
 
   clicks() {
     const { chance, world } = this;
-    const what = chance.below(5);
+    const what = chance.below(6);
     if (what === 0) this.give({ type: 'openPanel', open: chance.of(['flight', 'send', null]), flight: 'AB1' });
     else if (what === 1) this.give({ type: 'causes', isOpen: chance.is(0.5), by: 'operator' });
     else if (what === 2 && world.isOpen) this.give({ type: 'role', role: chance.of(['', 'AO', 'ATC']) });
     else if (what === 3 && !world.isOpen) this.give({ type: 'signIn', desk: chance.of(['AO', 'ATC']), token: chance.of(['right', 'right', 'wrong']) });
     else if (what === 4 && !world.isOpen && chance.is(0.3)) this.give({ type: 'signOut' });
+    else if (what === 5) world.ownQuestion();
   }
 
   /** A desk sends a record, or again the one that had no reply. */

@@ -1,4 +1,4 @@
-// A model of what a page talks to: a log, two servers of it of which one may be behind, and what they answer at a moment.
+// A model of what a page talks to: a log, which is a chain of days, two servers of it of which one may be behind, and what they answer.
 
 export const FLIGHTS = ['AB1', 'AB2', 'AB3', 'AB4'];
 const KEPT = 12; // records of which a server still has what they changed
@@ -7,7 +7,7 @@ const DESKS = ['ATC', 'AO'];
 /** A log of records; what was lost of it is kept for the judge. */
 export class Log {
   constructor(id, date) {
-    Object.assign(this, { id, date, eras: [{ from: 0, states: [stateOf(null)] }], records: [] });
+    Object.assign(this, { id, eras: [{ from: 0, states: [firstState(date)] }], records: [] });
   }
 
   /** The records' own days, by position: of each flight the position that changed it last, and of the last CLOCK. */
@@ -19,8 +19,9 @@ export class Log {
     const position = this.records.length + 1;
     const before = this.states.at(-1);
     if (record.isClock) record.line = `CLOCK,${nowOf({ clock: `${this.eras.length}.${position}` })}`;
+    if (record.isChange) record.line = `DAY,${nextDay(before.date)}`;
     this.records.push(Object.assign(record, { position }));
-    this.states.push(record.isAccepted ? stateOf(before, record, this.eras.length) : before);
+    this.states.push(record.isChange ? nextState(before, record, this.eras.length) : record.isAccepted ? stateOf(before, record, this.eras.length) : before);
     return record;
   }
 
@@ -32,13 +33,23 @@ export class Log {
   }
 }
 
+const firstState = (date) => ({ stamps: FLIGHTS.map((name, at) => (at < 3 ? '0' : null)), clock: '0', last: 0, stamp: '0', date });
+
 /** The day behind a record. Each has a number of its own, so that two that are equal are one. */
-function stateOf(before, record = null, era = 0) {
-  if (!before) return { stamps: FLIGHTS.map((name, at) => (at < 3 ? '0' : null)), clock: '0', last: 0, stamp: '0' };
+function stateOf(before, record, era) {
   const stamp = `${era}.${record.position}`;
   const stamps = before.stamps.map((old, at) => (record.flights.includes(at) ? stamp : old));
-  return { stamps, clock: record.isClock ? stamp : before.clock, last: record.position, stamp };
+  return { stamps, clock: record.isClock ? stamp : before.clock, last: record.position, stamp, date: before.date };
 }
+
+/** The day that a change of day begins: some flights stay behind, and of those that go on a few are another Row. */
+function nextState(before, record, era) {
+  const stamp = `${era}.${record.position}`;
+  const stamps = before.stamps.map((old, at) => (old === null || record.gone.includes(at) ? null : record.flights.includes(at) ? stamp : old));
+  return { stamps, clock: before.clock, last: record.position, stamp, date: nextDay(before.date) };
+}
+
+const nextDay = (date) => new Date(Date.parse(date) + 86400000).toISOString().slice(0, 10);
 
 const rowOf = (log, name, stamp) => ({ flight: name, status: 'PLANNED', runway: '27L', stand: null, priority: 5, group: 'M', tobt: null, exot: 15, ctot: null,
   tsat: `${log}/${stamp}`, ttot: null, delay: 0, rule: null });
@@ -56,22 +67,31 @@ export class Server {
   constructor(log) {
     Object.assign(this, { log, has: log.records.length, era: log.eras.length, records: [...log.records], isUp: true, staleSince: null, doubtful: -1, starts: 0, lag: 0 });
     this.states = [...log.states];
-    this.first = this.has;
+    this.first = this.firstBefore = this.has; // behind which it has what records changed, of its day and of the one before
+    this.turning = null; // while a change of day takes its time
   }
 
-  /** Takes over the next record of the log, if it has one more. */
+  /** The next record of the log, if it reaches it. */
+  get next() {
+    return this.staleSince === null ? this.log.records[this.has] : undefined;
+  }
+
+  /** Takes over the next record of the log. Where that is a change of day, all that it had of what records changed is of the day before. */
   advance() {
-    if (this.staleSince !== null || this.has >= this.log.records.length) return false;
-    this.records.push(this.log.records[this.has]);
+    const record = this.log.records[this.has];
+    this.records.push(record);
     this.states.push(this.log.states[this.has + 1]);
     this.has += 1;
-    return true;
+    if (!record.isChange) return;
+    Object.assign(this, { firstBefore: this.first, first: this.has });
+    this.starts += 1;
   }
 
   /** Begins anew with what the log has: another past, or another log. */
   restart(log = this.log) {
     this.doubtful = log === this.log ? Math.max(this.doubtful, this.has) : -1;
-    Object.assign(this, { log, has: log.records.length, records: [...log.records], states: [...log.states], era: log.eras.length, first: log.records.length });
+    Object.assign(this, { log, has: log.records.length, records: [...log.records], states: [...log.states], era: log.eras.length, turning: null });
+    this.first = this.firstBefore = this.has;
     this.starts += 1;
   }
 
@@ -79,8 +99,13 @@ export class Server {
     return this.states[this.has];
   }
 
+  /** Whether it has what a record changed. */
+  isKept({ position, isChange }) {
+    return !isChange && this.has - position < KEPT && position > (position < this.first ? this.firstBefore : this.first);
+  }
+
   /** The reply to a record; what it changed, if that is kept. */
-  reply(record, isWhole = this.has - record.position < KEPT && record.position > this.first) {
+  reply(record, isWhole = this.isKept(record)) {
     const { position, desk, line, at } = record;
     if (!record.isAccepted) return { position, desk, role: desk, line, at, reply: 'REFUSED', word: 'RANGE' };
     const changes = isWhole ? record.flights.map((flight) => rowOf(this.log.id, FLIGHTS[flight], this.states[position].stamps[flight])) : null;
@@ -130,25 +155,52 @@ export class Server {
   text(path) {
     const { state } = this;
     state.texts ??= new Map();
-    if (!state.texts.has(path)) state.texts.set(path, this.answer(path).map((one) => JSON.stringify(one)).join('\n'));
+    if (!state.texts.has(path)) state.texts.set(path, textOf(this.answer(path)));
     return state.texts.get(path);
   }
 
-  told() {
-    return [{ of: `${this.log.id}/${this.state.stamp}` }];
+  told(state = this.state) {
+    return [{ of: `${this.log.id}/${state.stamp}`, date: state.date }];
   }
 
-  /** What it answers to a question about the day. */
-  answer(path) {
+  /** Of which day it tells: its log's, and the date. */
+  get day() {
+    return `${this.log.id} ${this.state.date}`;
+  }
+
+  /** The records behind a position, all of one day; null where that isn't of the log. */
+  found(since, date, most) {
+    const { records, states } = this;
+    const first = date === undefined ? since : states.findIndex((state) => state.date === date) - 1;
+    if (first < -1) return null;
+    const list = records.slice(Math.max(first, since), Math.max(first, since) + most);
+    const end = list.findIndex((record, at) => at > 0 && record.isChange);
+    const found = end < 0 ? list : list.slice(0, end);
+    return found.map((record) => ({ ...this.reply(record), date: states[record.position].date }));
+  }
+
+  /** What it answers to a question about the day; of records so many at most. */
+  answer(path, most = Infinity) {
     if (path === '/v1/plan.json') {
       const { scenario, ...totals } = totalsOf(this.log.id, this.state);
-      return [{ day: this.log.date, now: nowOf(this.state), flights: rowsOf(this.log.id, this.state), ...totals }];
+      return [{ day: this.state.date, now: nowOf(this.state), flights: rowsOf(this.log.id, this.state), ...totals }];
     }
     if (path === '/v1/compare') return [totalsOf(this.log.id, this.state)];
-    const since = /^\/v1\/records\?since=(\d+)$/.exec(path);
-    if (since) return this.records.slice(Number(since[1]), Number(since[1]) + 5).map((record) => this.reply(record));
-    return this.told();
+    const since = /^\/v1\/records\?since=(\d+)(?:&day=(.+))?$/.exec(path);
+    if (since) return this.found(Number(since[1]), since[2], most);
+    const date = /^\/v1\/records\?flight=.*&day=(.+)$/.exec(path);
+    const state = date && this.states.findLast((one) => one.date === date[1]);
+    return date && !state ? null : this.told(state ?? this.state);
   }
+}
+
+/** Objects as an answer has them, one a line; null where there is none. */
+export const textOf = (list) => list && list.map((one) => JSON.stringify(one)).join('\n');
+
+/** A change of day, drawn: which flights stay behind, and which others are another Row. */
+export function changeOf(chance, at) {
+  const [gone, flights] = [0.4, 0.1].map((share) => FLIGHTS.map((name, flight) => flight).filter(() => chance.is(share)));
+  return { desk: 'day-at', line: '', key: null, at: new Date(at).toISOString(), isAccepted: true, isClock: false, isBig: false, isChange: true, gone, flights };
 }
 
 /** A record of somebody, drawn. */

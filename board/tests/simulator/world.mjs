@@ -1,10 +1,12 @@
 // A model of the network between a page and its servers, and of whoever else speaks: what happens when is drawn by a seed.
 import { Agenda } from './chance.mjs';
-import { Log, Server, recordOf } from './servers.mjs';
+import { Log, Server, changeOf, recordOf, textOf } from './servers.mjs';
 
 const COMMENT = 15000; // ms between two comments of a stream
 const TOGETHER = 100; // ms: events are written together
+const FOUND = 5; // records that are found at once by who asks for many
 const REACHED = 2000; // ms for which a question waits for its position
+const TURNS = { plan: 0.03, record: 0.1 }; // the share of such requests meanwhile the next day begins
 const BY_HAND = ['record', 'sign-in', 'forget']; // who presses a button asks when it pleases
 const OWN = 'application/problem+json';
 
@@ -23,17 +25,22 @@ export class World {
     this.kept = new Map();
   }
 
-  /** A log of another day, with so many records. */
+  /** Another log, with so many records, among which may be a change of day. */
   newLog(count) {
     const log = new Log(`L${this.logs.length}`, `2025-03-${10 + this.logs.length}`);
     this.logs.push(log);
-    for (let number = 0; number < count; number += 1) log.add(this.draw(log));
+    const change = this.chance.below(12);
+    for (let number = 0; number < count; number += 1) log.add(number === change ? this.drawChange(log) : this.draw(log));
     return log;
   }
 
   draw(log, desk) {
     const record = recordOf(this.chance, this.records += 1, this.now, desk);
     return Object.assign(record, { isSure: this.chance.is(0.7), log });
+  }
+
+  drawChange(log) {
+    return Object.assign(changeOf(this.chance, this.now), { isSure: this.chance.is(0.7), log });
   }
 
   get now() {
@@ -53,9 +60,19 @@ export class World {
 
   // Records and servers.
 
+  /** Whether any server takes records. */
+  get isTaken() {
+    return !this.isAway && this.servers.some((server) => server.isUp && server.staleSince === null && server.log === this.log);
+  }
+
   /** Somebody else's record, at whichever server. */
   post() {
-    if (!this.isAway && this.servers.some((server) => server.isUp && server.staleSince === null && server.log === this.log)) this.commit(this.draw(this.log));
+    if (this.isTaken) this.commit(this.draw(this.log));
+  }
+
+  /** The next day begins, by the clock or as a desk of the tower wants it: at one of the servers first. */
+  nextDay() {
+    if (this.isTaken) this.commit(this.drawChange(this.log));
   }
 
   commit(record) {
@@ -66,8 +83,34 @@ export class World {
 
   catchUp(server, pause) {
     this.later(pause, () => {
-      while (server.log === this.log && server.era === this.log.eras.length && server.advance());
+      this.advance(server);
       this.writeAll(server);
+    });
+  }
+
+  /** A server goes on up to a change of day, which takes its time. */
+  advance(server) {
+    while (server.log === this.log && server.era === this.log.eras.length && server.next && !server.turning) {
+      if (server.next.isChange) this.turn(server);
+      else server.advance();
+    }
+  }
+
+  /** A server carries over, and begins the day; no record has a reply before its sequencer is started. */
+  turn(server) {
+    const { chance } = this;
+    const turning = server.turning = {};
+    const pause = () => (this.isQuiet || chance.is(0.5) ? chance.between(20, 300) : chance.between(300, 3000));
+    this.later(pause(), () => {
+      if (server.turning !== turning) return; // it began anew meanwhile
+      const isThere = server.log === this.log && server.era === this.log.eras.length && server.next?.isChange;
+      if (isThere) server.advance();
+      this.writeAll(server);
+      this.later(isThere ? pause() : 0, () => {
+        if (server.turning !== turning) return;
+        server.turning = null;
+        this.catchUp(server, 0);
+      });
     });
   }
 
@@ -76,6 +119,7 @@ export class World {
     if (!server.isUp) return;
     server.isUp = false;
     this.cutAll(server, this.chance.is(0.3));
+    if (!this.isQuiet && this.chance.is(0.1)) this.later(pause * this.chance.draw(), () => this.nextDay());
     const start = () => {
       if (server.isUp) return; // by a start that was ordered later
       if (this.isAway) { this.later(200, start); return; } // it starts as soon as it reaches the log
@@ -274,11 +318,22 @@ export class World {
 
   // Requests.
 
+  /** A box asks by itself, such as what is to be known before the day changes. */
+  ownQuestion() {
+    const cookie = this.cookie;
+    const server = this.chance.of(this.servers);
+    this.later(this.way(), () => {
+      const status = !server.isUp || this.chance.is(0.1) ? 0 : this.denied(cookie) || 200;
+      this.later(this.way(), () => this.give({ type: 'heard', status, stale: status === 200 ? server.staleSince : undefined }));
+    });
+  }
+
   /** A request: it may be lost on its way or its answer may, it may break, come twice or late, or somebody between says no. */
   request(ask) {
     const { chance } = this;
     const cookie = this.cookie;
     this.asks.set(ask.id, ask);
+    if (!this.isQuiet && chance.is(TURNS[ask.name] ?? 0)) this.later(chance.between(0, 600), () => this.nextDay());
     const fate = this.isQuiet ? 1 : chance.draw();
     if (fate < 0.03) return; // nothing comes of it, ever
     if (fate < 0.06) { this.later(this.way(), () => this.back(ask, failed(0, 'The server isn’t reached'))); return; }
@@ -328,20 +383,21 @@ export class World {
     if (denied) return failed(denied, 'a token of a desk is needed', OWN);
     if (path === '/v1/records' && method === 'POST') return this.take(ask, cookie, server);
     if (method === 'GET' && ask.after > server.has) return failed(503, 'this position isn’t here yet', OWN, 1);
-    if (path === '/v1/who') return this.found(server, [this.who(ask, cookie)], false);
+    if (path === '/v1/who') return this.found(server, [{ ...this.who(ask, cookie), of: server.day, isAfter: ask.after > 0 }], false);
     if (path === '/v1/kinds') return this.found(server, [{ kind: 'TOBT' }], false);
     if (path.startsWith('/v1/why/') && this.chance.is(0.05)) return failed(404, 'no flight', OWN);
-    return this.found(server, path.startsWith('/v1/records?since=') ? server.answer(path) : server.text(path), true);
+    const text = path.startsWith('/v1/records?since=') ? textOf(server.answer(path, ask.name === 'history' ? FOUND : Infinity)) : server.text(path);
+    return text === null ? failed(404, 'the log has no such day', OWN) : this.found(server, text, true);
   }
 
   found(server, list, isOfDay) {
-    return { status: 200, text: typeof list === 'string' ? list : list.map((one) => JSON.stringify(one)).join('\n'), detail: '', retry: 0, isOwn: true, log: isOfDay ? server.log.id : '',
+    return { status: 200, text: typeof list === 'string' ? list : textOf(list), detail: '', retry: 0, isOwn: true, log: isOfDay ? server.log.id : '',
       position: isOfDay ? server.has : NaN, lastAt: isOfDay ? server.lastAt(server.has) : undefined, stale: isOfDay ? server.staleSince : undefined };
   }
 
   who(ask, cookie) {
-    if (this.isOpen) return { desk: ask.role || null, role: ask.role || 'READ', kinds: [], roles: ['AO', 'ATC'], left: 1 };
-    return { desk: cookie?.desk ?? null, role: cookie?.desk ?? 'READ', kinds: [], roles: [], left: 1 };
+    const desk = this.isOpen ? ask.role || null : cookie?.desk ?? null;
+    return { desk, role: desk ?? 'READ', kinds: desk ? ['TOBT'] : [], roles: this.isOpen ? ['AO', 'ATC'] : [], left: 1 };
   }
 
   session(ask) {
@@ -362,7 +418,8 @@ export class World {
     const { fate } = ask;
     const until = this.at + 5000;
     const wait = () => {
-      const isHere = server.has >= record.position && server.records[record.position - 1] === record;
+      const isPast = record.position < server.first && !this.isQuiet && this.chance.is(0.2); // its day can't be read at present
+      const isHere = server.has >= record.position && server.records[record.position - 1] === record && !isPast;
       if (!isHere && this.at < until && server.isUp) { this.later(50, wait); return; }
       this.send(ask, isHere && server.isUp ? this.found(server, [server.reply(record)], false) : failed(504, 'no reply yet', OWN), fate ?? (this.isQuiet ? 1 : this.chance.draw()));
     };
