@@ -279,6 +279,19 @@ def test_no_request_hides_in_another(board):
     assert statuses(raw(server, SMUGGLED.replace(b"Host", b"Connection: close\r\nHost"))) == [200]
 
 
+MALFORMED = [b"<b> / HTTP/1.1\r\nHost: localhost\r\n\r\n", b"GET / HTTP/1.1\r\nHost: localhost\r\n<b>\r\n\r\n", b"<b>\r\n\r\n",
+             b"\x16\x03\x01\x02\0\x01\0\x01\xfc\x03\x03<b>\r\n\r\n", b"GET / HTTP/1.1\r\nHost: localhost\r\n<b>: \0\r\n\r\n"]
+
+
+def test_what_is_malformed_is_not_said_again(board):
+    """In the answer or on standard error: aiohttp's own words repeat what came, and tell a traceback of each."""
+    server = board(DESKS)
+    for text in MALFORMED:
+        answer = raw(server, text)
+        assert statuses(answer) == [400] and answer.endswith(b"\r\n\r\nthe request is malformed"), (text, answer)
+    assert server.told() == "" and server.get("/health").status == 200
+
+
 def test_a_body_stands_as_it_is(board):
     """No Content-Encoding is undone, so a small body can't become a large one; chunks and trailers are read as they should be."""
     server, bomb = board(DESKS), gzip.compress(b"FLT,AB1,5\n" * 3_000_000, 9)
