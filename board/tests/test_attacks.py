@@ -139,6 +139,12 @@ def test_no_room_for_a_question_is_503(board):
 # Memory
 
 
+def test_a_body_has_so_many_bytes(board):
+    """64 KiB and none more: versions of aiohttp differ by one."""
+    server = board(DESKS)
+    assert [server.request("POST", "/v1/records", b"A" * size, "ap").status for size in (65_536, 65_537, 65_538)] == [400, 413, 413]
+
+
 @pytest.fixture
 def large(board, tmp_path):
     """A day of 2,000 flights, whose plan is long."""
