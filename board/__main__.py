@@ -29,7 +29,7 @@ from board.callers import Callers
 from board.connections import is_loopback
 from board.desks import digest, read_desks
 from board.events import Events
-from board.guard import HEADERS, Door, Guard
+from board.guard import HEADERS, Door, Guard, check_library
 from board.carrying import carried_over
 from board.changing import time_of
 from board.log import MOST_RECORDS, Batch, Change, Log, Record, rules_of
@@ -302,6 +302,7 @@ async def serve(options: argparse.Namespace) -> None:
         door = Door(host, port, options.behind_proxy, desks.limits)
         await runner.setup()
         assert (manager := runner.server) is not None
+        check_library(manager, door)
         server = await loop.create_server(
             lambda: Guard(manager, door, options.behind_proxy), sock=door, ssl=sealed, ssl_handshake_timeout=HEADERS if sealed else None)
         loop.add_signal_handler(signal.SIGHUP, notifier.reload, functools.partial(again, options, board, door, sealed))

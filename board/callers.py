@@ -1,6 +1,8 @@
 """Who asks: by which address, as which desk, and how often with a wrong token."""
 import time
 from collections import defaultdict
+from collections.abc import Callable
+from typing import Any
 
 from aiohttp import web
 
@@ -19,6 +21,10 @@ TOGETHER_SECONDS = 10.0
 MOST_WRONG = 20
 MOST_REFUSALS_TOLD = 20
 MOST_SIGN_INS = 20
+# What a request keeps: the desk that asks, and when its cookie ends. A later aiohttp warns of keys that are texts, which an earlier one needs.
+REQUEST_KEY: Callable[[str, type], Any] = getattr(web, "RequestKey", lambda name, _: name)
+DESK = REQUEST_KEY("desk", Desk)
+ENDS = REQUEST_KEY("ends", float)
 
 
 class Callers:
@@ -48,7 +54,7 @@ class Callers:
 
     def asker(self, request: web.Request) -> str:
         """Who asks, for what each may have: a desk, or @ and an address or network."""
-        return request.get("desk", READER).name or f"@{group_of(self.address(request))}"
+        return request.get(DESK, READER).name or f"@{group_of(self.address(request))}"
 
     def desk_of(self, request: web.Request) -> Desk:
         """The desk that asks; who may read without a token is a display without a name. Raises Problem."""
@@ -64,7 +70,7 @@ class Callers:
         elif cookie is not None:
             session = self.sessions.of(cookie, self.desks)
             desk = session.desk if session else None
-            request["ends"] = session.ends if session else 0.0
+            request[ENDS] = session.ends if session else 0.0
         else:
             desk = READER if self.desks.anyone_reads else None
         if desk is None:
@@ -97,7 +103,7 @@ class Callers:
     def check_opened(self, request: web.Request) -> None:
         """Counts a stream of events that is opened. Raises Problem if one desk, or who has none, opens too many at an address, or all who have
         none do together: they come back in turns then."""
-        desk: Desk = request["desk"]
+        desk: Desk = request[DESK]
         now = time.monotonic()
         limits = self.desks.limits
         window = self._opened[desk.name].add(group_of(self.address(request)), now)

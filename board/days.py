@@ -3,7 +3,7 @@ import json
 
 from aiohttp import web
 
-from board.callers import Callers
+from board.callers import DESK, Callers
 from board.carrying import next_date
 from board.changing import MOST_TOLD, Changing
 from board.day import Day
@@ -32,7 +32,7 @@ class Days:
 
     async def get(self, request: web.Request) -> web.Response:
         """The day, the next one and the one before, and what a person must know before the day changes."""
-        desk: Desk = request["desk"]
+        desk: Desk = request[DESK]
         position, lines = await self._changing.told(self._callers.asker(request), is_tower=desk.role == "ATC")
         state = await self._state()
         form = request.match_info["form"][1:]

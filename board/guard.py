@@ -5,11 +5,12 @@ import socket
 import time
 from typing import Any
 
+import aiohttp
 from aiohttp import web
 
 from board.connections import Limits, Places, group_of, is_loopback
 from board.windows import Windows
-from board.words import tell
+from board.words import Fault, tell
 
 KEPT_FREE = 200
 TCP_USER_TIMEOUT = 18  # Linux' number of it, which mypy doesn't know.
@@ -139,3 +140,11 @@ class Guard(web.RequestHandler):
         """What is wrong before a request reaches the server's own code is the request's fault."""
         self.take()
         return super().handle_error(request, 400, None, "the request is malformed")
+
+
+def check_library(server: web.Server, door: Door) -> None:
+    """Raises Fault if this aiohttp doesn't count requests where a guard reads the count: nothing would bound a connection then."""
+    tried = Guard(server, door, is_for_proxy=False)
+    web.RequestHandler.data_received(tried, b"GET / HTTP/1.1\r\nHost: localhost\r\n\r\n" * 2)
+    if getattr(tried, "_request_count", 0) != 2:
+        raise Fault(f"aiohttp {aiohttp.__version__} doesn't count the requests of a connection; docs/RUN.md names versions that do")

@@ -7,6 +7,7 @@ from collections.abc import Callable
 from aiohttp import web
 
 from board.answers import Answers, Question
+from board.callers import DESK
 from board.day import Day
 from board.desks import READER, Desk
 from board.log import Log
@@ -16,6 +17,7 @@ from board.unsent import Unsent
 from board.words import POSITION, Problem, refuse
 
 MOST_FOUND_BYTES = 1 << 20
+MOST_BODY = 64 << 10
 BODY_LIMIT = 20.0
 TYPES = {"": "text/plain", "csv": "text/csv", "json": "application/x-ndjson", "svg": "image/svg+xml"}
 # The program's commands as paths. Those that want a scenario are asked by POST alone, in a format by Accept.
@@ -36,9 +38,12 @@ async def body_of(request: web.Request) -> bytes:
     refuse(is_coded, 400, "a body is sent as it is, without Content-Encoding or Upgrade")
     try:
         async with asyncio.timeout(BODY_LIMIT):
-            return await request.read()
+            body = await request.read()
     except TimeoutError:
         raise Problem(408, "the body took too long") from None
+    # A later aiohttp takes one byte more than an earlier one.
+    refuse(len(body) > MOST_BODY, 413, "the body is too large")
+    return body
 
 
 class Questions:
@@ -140,5 +145,5 @@ class Questions:
 
 
 def _is_tower(request: web.Request) -> bool:
-    desk: Desk = request.get("desk", READER)
+    desk: Desk = request.get(DESK, READER)
     return desk.role == "ATC"

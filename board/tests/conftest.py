@@ -281,7 +281,8 @@ def board(tmp_path, log_engine):
             server.kill()
         if server.process is not None:
             server.clean()
-            assert "Traceback" not in server.told()
+            told = server.told()
+            assert "Traceback" not in told and "Warning: " not in told
 
 
 @pytest.fixture(scope="session")

@@ -152,6 +152,12 @@ def test_no_room_for_a_question_is_503(board):
 # Memory
 
 
+def test_a_body_has_so_many_bytes(board):
+    """64 KiB and none more: versions of aiohttp differ by one."""
+    server = board(DESKS)
+    assert [server.request("POST", "/v1/records", b"A" * size, "ap").status for size in (65_536, 65_537, 65_538)] == [400, 413, 413]
+
+
 @pytest.fixture
 def large(board, tmp_path):
     """A day of 2,000 flights, whose plan is long."""
@@ -334,6 +340,19 @@ def test_no_request_hides_in_another(board):
         found = statuses(raw(server, text))
         assert found in ([400], []) and server.records("ap") == [], text
     assert statuses(raw(server, SMUGGLED.replace(b"Host", b"Connection: close\r\nHost"))) == [200]
+
+
+MALFORMED = [b"<b> / HTTP/1.1\r\nHost: localhost\r\n\r\n", b"GET / HTTP/1.1\r\nHost: localhost\r\n<b>\r\n\r\n", b"<b>\r\n\r\n",
+             b"\x16\x03\x01\x02\0\x01\0\x01\xfc\x03\x03<b>\r\n\r\n", b"GET / HTTP/1.1\r\nHost: localhost\r\n<b>: \0\r\n\r\n"]
+
+
+def test_what_is_malformed_is_not_said_again(board):
+    """In the answer or on standard error: aiohttp's own words repeat what came, and tell a traceback of each."""
+    server = board(DESKS)
+    for text in MALFORMED:
+        answer = raw(server, text)
+        assert statuses(answer) == [400] and answer.endswith(b"\r\n\r\nthe request is malformed"), (text, answer)
+    assert server.told() == "" and server.get("/health").status == 200
 
 
 def test_a_body_stands_as_it_is(board):

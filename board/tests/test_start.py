@@ -215,6 +215,16 @@ def test_a_missing_package_is_named(files):
     assert ended.returncode == 1 and ended.stderr == "cdmboard: python3-aiohttp missing: sudo apt-get install python3-aiohttp\n"
 
 
+def test_an_aiohttp_that_counts_no_requests_is_refused(files):
+    """The count is no public part of it, and without it nothing bounds a connection: a later one may count elsewhere."""
+    code = "import runpy, aiohttp.web as web; web.RequestHandler._request_count = property(lambda self: 0, lambda self, count: None)\n" \
+           "runpy.run_module('board', run_name='__main__')"
+    words = ["timeout", str(30 * FACTOR), "/usr/bin/python3", "-B", "-c", code, str(files / "airport.csv"), str(files / "day.db")]
+    ended = subprocess.run([*words, "--listen", "127.0.0.1:0"], cwd=ROOT, env=ENVIRONMENT, capture_output=True, text=True)
+    assert ended.returncode == 3 and ended.stderr.count("\n") == 1, ended.stderr
+    assert "doesn't count the requests of a connection; docs/RUN.md names versions that do" in ended.stderr
+
+
 def test_an_end_answers_what_waits(board):
     """TERM: what is in the log gets its reply, displays are told, status 0, and nothing is left in memory."""
     server = board()
