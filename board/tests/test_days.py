@@ -18,6 +18,7 @@ from unittest import mock
 import clusters
 import pytest
 from conftest import AIRPORT, FACTOR, PROGRAM, ROLES, ROOT, count, figure, objects, of_role, until
+from displays import DESK, Watched
 
 sys.path.insert(0, str(ROOT))
 from board import changing  # noqa: E402
@@ -264,38 +265,58 @@ def checked(talk, servers, folder, days):
 
 
 def talked(servers, chance, tmp_path, days, kills):
-    """Days in a row, while 16 desks post and servers are killed."""
+    """Days in a row, while 16 desks post and servers are killed. A display that stays shows at each change, and at the end, what a new one
+    shows."""
     desks = {f"desk-{number}": ROLES[number % 5] for number in range(16)}
-    talk = Talk(servers, chance, desks)
+    talk, watched = Talk(servers, chance, desks), Watched(servers, chance)
     talking = threading.Thread(target=talk.run, daemon=True)
     talking.start()
     try:
         killed = sorted(chance.choices(range(days), k=kills))
         for number in range(1, days + 1):
             time.sleep(chance.uniform(0.1, 0.6))
-            before = None if number - 1 in killed else servers[0].get("/v1/plan.json", "tower")
-            day = str(datetime.date(2025, 3, 10) + datetime.timedelta(days=number))
-            with concurrent.futures.ThreadPoolExecutor(1) as pool:
-                changing_day = pool.submit(change_somehow, servers, chance, day)
-                for _ in range(killed.count(number - 1)):
-                    time.sleep(chance.uniform(0, 0.3))
-                    server = chance.choice(servers)
-                    server.kill()
-                    server.start()
-                position = changing_day.result()
-            assert before is None or int(before.headers["Cdm-Position"]) < position
+            before = reached(servers[0])
+            position = change_while_killed(servers, chance, day_of(number), killed.count(number - 1))
+            assert before < position
             talk.day += 1
+            watched.shows_the_same_behind(position)
         talk.is_over = True
         talking.join(120 * FACTOR)
         assert not talking.is_alive()
     finally:
         talk.is_over = True
     checked(talk, servers, tmp_path, days)
+    watched.shows_the_same_at(reached(servers[0]))
+    # Behind a server that has just started it may show an earlier day once more, but none is missing.
+    assert set(watched.staying.dates) == {day_of(number) for number in range(days + 1)} and watched.staying.dates[-1] == day_of(days)
     said = sum(len(replies) for sent in talk.got.values() for _, replies in sent)
-    figure(f"Days: {days} in a row, {said} records of 16 desks, {kills} kills, {len(servers)} servers, longest wait of a desk {talk.longest:.1f} s")
+    figure(f"Days: {days} in a row, {said} records of 16 desks, {kills} kills, {len(servers)} servers, longest wait of a desk {talk.longest:.1f} s, "
+           f"a display that stayed had {watched.staying.connections} connections and showed {len(watched.staying.at)} positions")
 
 
-TALKERS = {f"desk-{number}": f'role = "{ROLES[number % 5]}"\nrecords = 20000' for number in range(16)} | {"tower": 'role = "ATC"\nclock = true'}
+def reached(server):
+    """The last position of which a server has the reply."""
+    return json.loads(server.get("/health").body)["position"]
+
+
+def day_of(number):
+    return str(datetime.date(2025, 3, 10) + datetime.timedelta(days=number))
+
+
+def change_while_killed(servers, chance, day, kills):
+    """The position at which a day has begun, while servers are killed and started."""
+    with concurrent.futures.ThreadPoolExecutor(1) as pool:
+        changing_day = pool.submit(change_somehow, servers, chance, day)
+        for _ in range(kills):
+            time.sleep(chance.uniform(0, 0.3))
+            server = chance.choice(servers)
+            server.kill()
+            server.start()
+        return changing_day.result()
+
+
+TALKERS = {f"desk-{number}": f'role = "{ROLES[number % 5]}"\nrecords = 20000' for number in range(16)} | {
+    "tower": 'role = "ATC"\nclock = true', DESK: 'role = "READ"'}
 
 
 def test_ten_days_in_a_row(board, chance, tmp_path):
