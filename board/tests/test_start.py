@@ -99,9 +99,10 @@ def test_a_log_of_the_last_release_goes_on(board, before):
     server = board(start=False)
     server.program(before)
     server.start()
-    for name in "ABCD":
-        server.post([line for number in range(125) for line in (f"FLT,{name}{number},5", f"STAND,{name}{number},A1")], Cdm_Role="AP")
-    until(lambda: in_file(server, "SELECT position FROM cdm_digest") == [(1000,)])
+    for number, role in enumerate(("AP", "ATC", "AO", "GH", "NM")):
+        line = ("FLT,AB{0},5", "RWY,AB{0},27L", "TOBT,AB{0},2025-03-10T06:00Z", "ICE,AB{0},STAND,9", "CTOT,AB{0},-")[number]
+        assert len(server.post([line.format(flight) for flight in range(200)], Cdm_Role=role)) == 200
+    until(lambda: in_file(server, "SELECT position FROM cdm_digest") == [(1000,)], 30)
     for position, program in enumerate(("", before, ""), 1001):
         plan = server.get("/v1/plan.json").body
         assert server.end() == 0
