@@ -3,7 +3,7 @@ import asyncio
 from datetime import date, datetime, time, timedelta, timezone
 
 from board.answers import Answers, Question
-from board.carrying import next_airport, next_date
+from board.carrying import NO_CARRY, next_airport, next_date
 from board.day import Day
 from board.desks import Desk
 from board.log import Batch, Change, Log
@@ -35,6 +35,7 @@ class Changing:
         """The position of which it is, and what a person must know before the day changes to an airport file, line by line. Raises Problem."""
         wanted = next_airport(self._day) if airport is None else airport
         position, ran = await self._answers.ask(asker, Question("carry", ("scenarios.csv", "--tell"), wanted), is_tower)
+        refuse(ran.status == 2, 503, NO_CARRY)
         refuse(ran.status == 3, 422, ran.told)
         refuse(ran.status not in (0, 4), 503, ran.told or "the program ended", Retry_After="5")
         return position, ran.output.decode("ascii", "replace").splitlines()

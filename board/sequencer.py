@@ -165,6 +165,8 @@ class Sequencer:
                 await self._log.grown.wait()
                 self._log.grown.clear()
             change = next((record for record in records if record.is_change), None)
+            # A day that found no room hasn't begun, though the process of the day before was started.
+            self._is_without_room = self._is_without_room and change is not None
             before = records[:records.index(change)] if change else records
             lines.write(self._life.given(before).encode("ascii"))
             while self._life.due:
@@ -176,7 +178,6 @@ class Sequencer:
         """Carries out what the life orders. Raises Ended."""
         match order:
             case Ready():
-                self._is_without_room = False
                 self.is_ready.set()
             case Keep(record, word, changes):
                 self._day.add(record, word, changes)

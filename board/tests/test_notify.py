@@ -243,3 +243,11 @@ def test_the_unit_lets_questions_run():
     from board.answers import LIMITED
     filters = re.findall("^SystemCallFilter=(.*)", UNIT.read_text(), re.M)
     assert LIMITED[0] == "/usr/bin/setpriv" and filters == ["@system-service", "~@privileged", "capset"]
+
+
+def test_the_unit_changes_the_day():
+    """At 03:00, unless a board's options, which come behind it, name another time, or none."""
+    text = UNIT.read_text()
+    assert text.index('\nEnvironment="DAY=--day-at 03:00"\n') < text.index("\nEnvironmentFile=-/etc/cdmseq/%i/options\n")
+    start, = re.findall("^ExecStart=(.*)$", text, re.M)
+    assert start.split()[-2:] == ["$DAY", "$OPTIONS"]

@@ -1,5 +1,11 @@
 """The page over a change of day: the new date, without a lost connection, and no row that jumps."""
-from browser import fill
+import re
+import signal
+
+import browser
+import pytest
+from browser import Page, fill, size, until
+from test_page_desks import sign_in
 
 AT = "2025-03-11T{}Z".format
 DAY = {"AP": ["FLT,AB1,5", "FLT,AB2,5", "FLT,CD3,5"],
@@ -40,3 +46,101 @@ def test_the_page_over_a_change_of_day(page):
     shown.open("#AB1")
     shown.says("#f-records", "PRIO")
     assert "TOBT" not in shown.text("#f-records")
+
+
+# Ten flights that stay, on two runways, one of which de-ices and one of which has a slot; GO1 took off, GO2 is cancelled, and LE1 left its
+# stand at 23:50 and isn't airborne.
+STAY = [f"ST{number}" for number in range(10)]
+DESKS = {"ap": 'role = "AP"', "atc": 'role = "ATC"\nclock = true', "ao": 'role = "AO"', "nm": 'role = "NM"', "gh": 'role = "GH"'}
+TWO = {"AP": [f"FLT,{name},5" for name in (*STAY, "GO1", "GO2", "LE1")],
+       "ATC": [f"RWY,{name},{'27L' if number % 2 else '09'}" for number, name in enumerate((*STAY, "GO1", "GO2", "LE1"))],
+       "AO": [f"TOBT,{name},{AT(f'03:{10 + 5 * number}')}" for number, name in enumerate(STAY)] + [
+           "TOBT,GO1,2025-03-10T23:00Z", "CNL,GO2", "TOBT,LE1,2025-03-10T23:40Z"],
+       "GH": ["ICE,ST3,STAND,12"], "NM": [f"CTOT,ST5,{AT('04:20')}"]}
+LATER = {"ATC": ["OFF,GO1,2025-03-10T23:00Z", "AIR,GO1,2025-03-10T23:15Z", "OFF,LE1,2025-03-10T23:50Z", f"CLOCK,{AT('03:00')}"]}
+# What a person sees at each change of the page: whether the connection is lost, and the rows of each list that stay, in their order, with
+# the words of each cell, without the date that stands before a time of the other day.
+SEEN = """window.seen = {lost: 0, hidden: 0, lists: new Set(), dates: []};
+const look = () => {
+  const { classList } = document.documentElement;
+  window.seen.lost += classList.contains('is-lost') || /LOST|out/.test(document.querySelector('#conn').innerText);
+  window.seen.hidden += getComputedStyle(document.querySelector('#next')).visibility !== 'visible';
+  const date = document.querySelector('#date').innerText;
+  if (window.seen.dates.at(-1) !== date) window.seen.dates.push(date);
+  for (const list of ['next', 'all']) {
+    const rows = [...document.querySelectorAll(`#${list} tr[data-flight^=ST]`)].filter((row) => row.checkVisibility());
+    const words = rows.map((row) => [...row.children].map((cell) => cell.innerText.replace(/\\b1[01] (?=\\d\\d:)/g, '').replace(/\\s+/g, ' ').trim()).join('|'));
+    window.seen.lists.add(`${list}: ${words.join(' / ')}`);
+  }
+};
+look();
+new MutationObserver(look).observe(document.documentElement, {attributes: true, childList: true, subtree: true, characterData: true});"""
+
+
+@pytest.fixture
+def second():
+    """Another person's browser."""
+    opened = browser.driven()
+    driver = next(opened)
+    try:
+        yield driver
+    finally:
+        opened.close()
+        driver.quit()
+
+
+def test_two_people_over_a_change(page, second):
+    """One is signed in, with a form begun; one isn't. Neither loses the connection, no row moves or has other words but for the date, and
+    both see what to know before, with the flight that is LEFT by name, and yesterday's plan as it ended."""
+    signed = page(DESKS, day=TWO)
+    server = signed.server
+    fill(server, LATER, True)
+    server.write_desks(DESKS, "anyone")
+    server.process.send_signal(signal.SIGHUP)
+    until(lambda: server.get("/v1/plan").status == 200)
+    other = Page(second, server)
+    size(second, 1280, 900)
+    other.open()
+    signed.open("#sign-in")
+    sign_in(signed, "atc")
+    signed.is_ready()
+    assert signed.text("#desk") == "atc" and other.text("#desk") == ""
+    signed.click('#all tr[data-flight="ST4"] a')
+    signed.says("#p-flight form", "Kind")
+    signed.type("#p-flight form [name=priority]", "7")
+    before = {shown: shown.flights("next") for shown in (signed, other)}
+    assert before[signed] == before[other] == STAY
+    old = server.get("/v1/plan").body.decode()
+    assert re.search(r"^LE1 +102340 .* 110005 ", old, re.M), old
+    for shown in (signed, other):
+        shown.js(SEEN)
+        shown.click("#date")
+        shown.says("#day", "Before Tue 11 Mar 2025 LEFT LE1 09 AOBT 102350 TTOT 110002 GONE 2 STAY 10")
+        shown.js("document.querySelector('#day').hidePopover()")
+    wait = server.request("POST", "/v1/day", "", "atc")
+    assert wait.status == 409 and b"LEFT    LE1 09 AOBT 102350 TTOT 110002" in wait.body
+    assert server.request("POST", "/v1/day?even=yes", "", "atc").status == 200
+    for shown in (signed, other):
+        shown.says("h1", "Tue 11 Mar 2025")
+        shown.until("return document.querySelector('#all tr[data-flight=LE1]') === null && document.querySelector('#all tr[data-flight=GO1]') === null")
+        assert shown.flights("next") == STAY
+    fill(server, {"AO": ["TOBT,ST9,2025-03-11T09:00Z"]}, True)
+    for shown in (signed, other):
+        seen = {}
+        shown.until("return document.querySelector('#all tr[data-flight=ST9]').innerText.includes('09:00')")
+        seen = shown.js("return {...window.seen, lists: [...window.seen.lists]}")
+        assert (seen["lost"], seen["hidden"], seen["dates"]) == (0, 0, ["Mon 10 Mar 2025", "Tue 11 Mar 2025"])
+        # The lists as they were, and then with the record behind the change.
+        for name in ("next", "all"):
+            lists = [one for one in seen["lists"] if one.startswith(f"{name}: ") and "09:00" not in one]
+            assert len(lists) == 1, lists
+    assert signed.js("return document.querySelector('#p-flight form [name=priority]').value") == "7"
+    signed.click("#p-flight form button")
+    signed.says("#p-flight .reply", "Accepted.")
+    for shown in (signed, other):
+        shown.click("#date")
+        shown.says("#day", "Plan of Mon 10 Mar 2025")
+        shown.click("#day a")
+        shown.until("return document.querySelector('pre') !== null")
+        assert shown.js("return document.querySelector('pre').innerText") == old
+    assert other.told() == []

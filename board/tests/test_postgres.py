@@ -2,12 +2,15 @@
 import asyncio
 import concurrent.futures
 import contextlib
+import http.client
+import itertools
 import json
 import os
 import re
 import signal
 import socket
 import subprocess
+import threading
 import time
 
 import clusters
@@ -321,18 +324,73 @@ def test_an_end_at_the_moment_at_which_a_connection_breaks(primary, turns):
     asyncio.run(talk())
 
 
-def test_two_programs_of_the_same_rules_serve_one_board(board, primary):
-    """One server after the other is upgraded, while the desks go on."""
-    old, new = board(log=primary.url()), board(log=primary.url(), start=False)
-    old.post(["FLT,AB1,5"], Cdm_Role="AP")
-    new.program('[ "$1" = --version ] && echo "cdmseq 9.9.9 (rules 1)" && exit')
-    new.start()
-    new.post(["FLT,AB2,5"], Cdm_Role="AP")
-    assert old.end() == 0
-    old.start().post(["FLT,AB3,5"], Cdm_Role="AP")
-    for server in (old, new):
-        until(lambda: [row["line"] for row in server.records()] == ["FLT,AB1,5", "FLT,AB2,5", "FLT,AB3,5"])
-    assert old.get("/v1/plan.json", Cdm_After="3").body == new.get("/v1/plan.json", Cdm_After="3").body
+def test_two_programs_of_the_same_rules_serve_one_board(board, primary, before):
+    """The last release's and this one, while one server after the other is upgraded and desks go on: each body is taken once, all servers
+    tell one plan, and each gives the replies of the log's digests."""
+    servers = [board(log=primary.url(), start=False) for _ in range(2)]
+    for server in servers:
+        server.program(before)
+        server.start()
+    is_over, sent = threading.Event(), []
+
+    def talk(role):
+        """One body after the other, each until it has its answer, from one of the servers or from the other."""
+        for number in itertools.count():
+            if is_over.is_set():
+                return
+            lines = [f"{'FLT' if number == 0 else 'STAND'},{role}{flight},{number % 9}" for flight in range(40)]
+            for turn in itertools.count():
+                with contextlib.suppress(OSError, http.client.HTTPException):
+                    if isinstance(answer := servers[(number + turn) % 2].post(lines, Cdm_Role="AP", key=f"{role}-{number}"), list):
+                        sent.append(answer)
+                        break
+                    assert answer.status in (429, 503, 504), answer
+                time.sleep(0.05)
+    with concurrent.futures.ThreadPoolExecutor(3) as pool:
+        talking = [pool.submit(talk, role) for role in "ABC"]
+        try:
+            for server in servers:
+                until(lambda: primary.sql("SELECT count(*) FROM cdm_digest") >= str(1 + servers.index(server)), 60)
+                assert server.end() == 0
+                server.program("")
+                server.start()
+            until(lambda: primary.sql("SELECT count(*) FROM cdm_digest") >= "3", 60)
+        finally:
+            is_over.set()
+        assert [one.result() for one in talking] == [None] * 3
+    log = servers[0].records()
+    found = [[(record["position"], record["line"]) for record in log[replies[0]["position"] - 1:replies[-1]["position"]]] for replies in sent]
+    assert found == [[(reply["position"], reply["line"]) for reply in replies] for replies in sent] and sum(map(len, found)) == len(log)
+    plans = [server.get("/v1/plan.json", Cdm_After=str(len(log))).body for server in servers]
+    assert plans[0] == plans[1]
+    for program in (before, ""):
+        servers[0].program(program)
+        ended = cdmboard("verify", primary.url(), CDMSEQ=servers[0].environment["CDMSEQ"])
+        assert ended.returncode == 0 and f"{len(log) // 1000} digests of replies" in ended.stdout, ended.stderr
+
+
+def test_a_change_of_day_beside_the_last_release(board, primary, before):
+    """Its program carries nothing over, so its server begins no day, and says why; the day that another server begins is the same for both,
+    and so it is after a start."""
+    old, new = board(log=primary.url(), start=False), board(log=primary.url())
+    old.program(before)
+    old.options += ["--day-at", "03:00"]
+    old.start()
+    old.post(["FLT,AB1,5", "FLT,CD2,5"], Cdm_Role="AP")
+    old.post(["TOBT,AB1,2025-03-11T06:00Z", "CNL,CD2"], Cdm_Role="AO")
+    until(lambda: "2025-03-11 doesn't begin yet: this server's program can't carry a day over" in old.told())
+    for answer in (old.get("/v1/day.json"), old.request("POST", "/v1/day", "", Cdm_Role="ATC"),
+                   old.request("POST", "/v1/day?even=yes", "", Cdm_Role="ATC")):
+        assert answer.status == 503 and "this server's program can't carry a day over" in json.loads(answer.body)["detail"]
+    assert len(new.records()) == 4
+    assert json.loads(new.request("POST", "/v1/day?even=yes", "", Cdm_Role="ATC").body)["position"] == 5
+    for _ in range(2):
+        old.post(["FLT,EF3,5"], Cdm_Role="AP", key="k")
+        plans = [json.loads(server.get("/v1/plan.json", Cdm_After="6").body) for server in (old, new)]
+        assert plans[0] == plans[1] and plans[0]["day"] == "2025-03-11" and [row["flight"] for row in plans[0]["flights"]] == ["AB1", "EF3"]
+        assert old.end() == 0
+        old.start()
+    assert "what was carried over at position 5 isn't compared: this server's program can't carry a day over" in old.told()
 
 
 def test_two_clocks_take_each_minute_once(board, primary):

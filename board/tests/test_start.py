@@ -89,15 +89,29 @@ def test_a_log_goes_on_with_another_program_of_the_same_rules(board):
         assert ended.returncode == 3 and "another program" in ended.stderr
 
 
-def test_a_log_of_the_first_release_goes_on(board):
-    """It has the first rules, and its program says no number."""
-    server = board()
-    server.post(["FLT,AB1,5"], Cdm_Role="AP")
-    assert server.end() == 0
+def in_file(server, query):
     with contextlib.closing(sqlite3.connect(server.log)) as database:
-        database.execute("UPDATE cdm_log SET version = 'cdmseq 1.0.0'")
-        database.commit()
-    assert server.start().post(["FLT,AB2,5"], Cdm_Role="AP")[0]["position"] == 2
+        return database.execute(query).fetchall()
+
+
+def test_a_log_of_the_last_release_goes_on(board, before):
+    """Under this program, back, and again: each tells the same plan, and gives the replies whose digest the log has."""
+    server = board(start=False)
+    server.program(before)
+    server.start()
+    for number, role in enumerate(("AP", "ATC", "AO", "GH", "NM")):
+        line = ("FLT,AB{0},5", "RWY,AB{0},27L", "TOBT,AB{0},2025-03-10T06:00Z", "ICE,AB{0},STAND,9", "CTOT,AB{0},-")[number]
+        assert len(server.post([line.format(flight) for flight in range(200)], Cdm_Role=role)) == 200
+    until(lambda: in_file(server, "SELECT position FROM cdm_digest") == [(1000,)], 30)
+    for position, program in enumerate(("", before, ""), 1001):
+        plan = server.get("/v1/plan.json").body
+        assert server.end() == 0
+        server.program(program)
+        told = cdmboard("verify", server.log, environment=server.environment)
+        assert told.stdout.endswith(" 1 digests of replies\n"), told.stderr
+        assert server.start().get("/v1/plan.json").body == plan
+        assert server.post([f"FLT,E{position},5"], Cdm_Role="AP")[0]["position"] == position
+    assert in_file(server, "SELECT version FROM cdm_log") == [("cdmseq 1.0.0",)]
 
 
 def test_a_log_is_bound_to_no_airport_file_that_is_refused(files, board, log_engine):
