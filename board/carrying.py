@@ -1,10 +1,10 @@
 """What a new day begins with: the airport file of the next day, and what the program carries over to it."""
 import os
 import tempfile
-from datetime import date, timedelta
 from pathlib import Path
 
 from board.answers import run
+from board.chain import BOUND, after
 from board.day import Day
 from board.log import DATED, dated
 from board.program import same
@@ -13,13 +13,11 @@ from board.words import refuse
 CARRY_LIMIT = 6.0
 # Release 1.0.0 has no such command.
 NO_CARRY = "this server's program can't carry a day over; install a newer one and restart the server"
-# It mustn't outlive a server that is killed; records may wait for it, so nothing else is limited.
-BOUND = ("/usr/bin/setpriv", "--pdeathsig", "KILL", "--")
 
 
 def next_date(day: Day) -> str:
     """The date of the day after a day."""
-    return str(date.fromisoformat(day.date) + timedelta(days=1))
+    return after(day.date)
 
 
 def next_airport(day: Day) -> bytes:

@@ -7,6 +7,7 @@ from datetime import date, timedelta
 from typing import NamedTuple
 
 from board.answers import LIMITED, PLACE_SECONDS, day_of
+from board.chain import begun_of
 from board.day import Day
 from board.log import Away, Change, Log, Record
 from board.words import Fault, Problem, refuse
@@ -56,8 +57,8 @@ class Past:
             return self._spans
         starts = self._day.starts
         try:
-            changes = await self._log.changes()
-        except (Away, Fault):
+            changes = await begun_of(self._folder, self._program, self._log)
+        except (Away, Fault, OSError):
             raise Problem(503, PAST_AWAY, Retry_After="1") from None
         self._spans = spans_of(self._day.date, changes)
         self._read = starts
@@ -125,7 +126,7 @@ class Past:
             next_one: int | None = since + 1
             if flight is not None or desk is not None:
                 try:
-                    next_one = await self._log.sought(since, since + MOST_SOUGHT, flight, desk)
+                    next_one = await self._log.sought(since, since + MOST_SOUGHT, flight, desk, self._day.kinds.of_flight)
                 except (Away, Fault):
                     raise Problem(503, PAST_AWAY, Retry_After="1") from None
             if next_one is None:

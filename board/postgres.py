@@ -19,7 +19,7 @@ from board.following import AWAY, Following, Seen
 from board.hosts import is_url, name_of
 from board.link import CHANNELS, READ_SECONDS, TIMELINE, Link, Refused, connect, database_of, finished, first, newest
 from board.log import (BEFORE, CARRY_SECONDS, MOST_RECORDS, Accept, Away, Batch, Change, Changed, Event, Kept, Record, accepted, audit_of, change_of,
-                       digests_as_json, records_of)
+                       digests_as_json, halves, records_of)
 from board.notices import Notices
 from board.words import Fault, Problem, now_text, tell
 from board.writer import COMMIT_SECONDS, Outcome, nothing
@@ -40,8 +40,10 @@ COLUMNS = """SELECT position, desk, role, line, at, cdm_day.position IS NOT NULL
 CHANGES = f"{COLUMNS} AND cdm_day.position IS NOT NULL ORDER BY position"
 CHANGE = "SELECT airport, feed, digest FROM public.cdm_day WHERE board = $1 AND position = $2"
 SOUGHT = """SELECT min(position) FROM public.cdm_record WHERE board = $1 AND position > $2 AND position <= $3
-    AND ($4::text IS NULL OR desk = $4) AND ($5::text IS NULL OR strpos(line || ',', ',' || $5 || ',') > 0)"""
-PRESENT = "SELECT airport FROM public.cdm_day WHERE board = $1 ORDER BY position DESC LIMIT 1"
+    AND ($4::text IS NULL OR desk = $4) AND ($5::text IS NULL OR split_part(line, ',', 2) = $5 AND split_part(line, ',', 1) = ANY($6::text[]))"""
+# Of the last change of day whose airport file is the same before the ten bytes of its day, and behind them.
+PRESENT = """SELECT airport FROM public.cdm_day WHERE board = $1 AND substring(airport FROM 1 FOR octet_length($2::bytea)) = $2
+    AND substring(airport FROM octet_length($2) + 11) = $3 ORDER BY position DESC LIMIT 1"""
 LAST = "SELECT coalesce(max(position), 0) FROM public.cdm_record WHERE board = $1"
 # Tables of an older version have no sessions, no digests, or no days.
 TABLES = """SELECT num_nulls(to_regclass('public.cdm_record'), to_regclass('public.cdm_session'), to_regclass('public.cdm_digest'),
@@ -137,17 +139,18 @@ class PostgresLog(Kept):
             await asyncio.sleep(0.05)
 
     async def changes(self) -> list[Record]:
-        return [Record(*row) for row in await self._linked_read(CHANGES)]
+        return [record for record in (Record(*row) for row in await self._linked_read(CHANGES)) if record.position not in self.void]
 
     async def change(self, position: int) -> Change | None:
         return change_of(self.name, position, await self._linked_read(CHANGE, position))
 
     async def between(self, first: int, last: int) -> list[Record]:
         query = f"{COLUMNS} AND position BETWEEN $2 AND $3 ORDER BY position"
-        return records_of(self.name, first - 1, await self._linked_read(query, first, last))
+        rows = await self._linked_read(query, first, last)
+        return self.seen(await asyncio.to_thread(records_of, self.name, first - 1, rows))
 
-    async def sought(self, after: int, last: int, flight: str | None, desk: str | None) -> int | None:
-        (found,), = await self._linked_read(SOUGHT, after, last, desk, flight)
+    async def sought(self, after: int, last: int, flight: str | None, desk: str | None, kinds: Sequence[str]) -> int | None:
+        (found,), = await self._linked_read(SOUGHT, after, last, desk, flight, kinds)
         position: int | None = found
         return position
 
@@ -181,7 +184,7 @@ class PostgresLog(Kept):
             return None
         records = records_of(self.name, after, found)
         self._following.handed_on(records)
-        return records
+        return self.seen(records)
 
     async def sessions(self) -> dict[str, int]:
         """As of a file. Raises Away too."""
@@ -377,7 +380,7 @@ class PostgresLog(Kept):
         self.id = found[0]
         self.airport = found[1]
         self.secret = found[3]
-        present = await link.read(PRESENT, self._board)
+        present = await link.read(PRESENT, self._board, *halves(self._given))
         self.check(self._given, found[2], self._version, present[0][0] if present else None)
         last = self._following.last
         kept = await link.read(f"{COLUMNS} AND position = $2", self._board, last.position if last else 0)

@@ -6,7 +6,7 @@ from collections.abc import Callable
 
 from aiohttp import web
 
-from board.answers import Answers, Question
+from board.answers import Answer, Answers, Question
 from board.callers import DESK
 from board.day import Day
 from board.desks import READER, Desk
@@ -88,6 +88,9 @@ class Questions:
         base = None if day is self._day else day.change.position
         question = Question("check", ("--format", "json"), None, record.accepted, f"{record.role},{record.line}\n", base)
         _, ran = await self._answers.ask(self._asker(request), question, _is_tower(request))
+        if base is None and position < self._day.first:
+            # Its day has ended meanwhile.
+            return await self.sentence(request)
         found = [json.loads(line) for line in ran.output.splitlines() if ran.status in (0, 4)]
         sentence = next((one["sentence"] for one in found if one.get("record") == record.accepted + 1), None)
         refuse(sentence is None, 504 if ran.status == 504 else 503, ran.told or "the program says nothing of it")
@@ -110,13 +113,22 @@ class Questions:
             words += [*option, said] if name in request.query else []
         words += ["--format", form] if form in ("csv", "json") else []
         scenarios = await body_of(request) if is_post else None
-        day = await self._past.of_date(request.query["day"]) if "day" in request.query else self._day
-        asked = Question(command, tuple(words), scenarios, base=None if day is self._day else day.change.position)
-        now, ran = await self._answers.ask(self._asker(request), asked, _is_tower(request))
+        day, now, ran = await self._answered(request, Question(command, tuple(words), scenarios))
         status = 404 if ran.told.startswith(UNKNOWN) else STATUSES.get(ran.status, 503)
         again = {"Retry_After": "5"} if status == 503 else {}
         refuse(ran.status != 0, status, ran.told or "the program ended", None, **again)
         return await self.of_moment(request, now, form, ran.output, day)
+
+    async def _answered(self, request: web.Request, question: Question) -> tuple[Day, int, Answer]:
+        """The answer to a question about the day that is said, or about the present one. Raises Problem."""
+        said = request.query.get("day")
+        while True:
+            day = self._day if said is None else await self._past.of_date(said)
+            asked = question._replace(base=None if day is self._day else day.change.position)
+            now, ran = await self._answers.ask(self._asker(request), asked, _is_tower(request))
+            # The present day may have ended meanwhile.
+            if said in (None, day.date):
+                return day, now, ran
 
     async def file(self, request: web.Request) -> web.Response:
         """The table of kinds, or the airport file."""

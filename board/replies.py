@@ -9,6 +9,7 @@ from collections.abc import Sequence
 from pathlib import Path
 
 from board.answers import LIMITED, day_of, ended
+from board.chain import begun_of
 from board.day import Day, text_of
 from board.digests import Digests
 from board.log import Away, Change, Log, Record
@@ -23,11 +24,13 @@ TRACE = ("trace", "airport.csv", "replies.csv", "--format", "json")
 
 async def day_of_log(folder: str, program: str, log: Log, kinds: bytes) -> Day:
     """The last day of a log: nothing before it is read. Raises Fault, also if the log has digests of records that it hasn't."""
+    # What a log of another past had.
+    log.void.clear()
     while True:
         # Its digests are read first: so each is of records that are read too.
         digests = await log.digests()
         try:
-            changes = await log.changes()
+            changes = await begun_of(folder, program, log, True)
             change = await log.change(changes[-1].position) if changes else Change(0, log.airport)
         except Away:
             change = None
@@ -37,7 +40,7 @@ async def day_of_log(folder: str, program: str, log: Log, kinds: bytes) -> Day:
                 break
         await asyncio.sleep(DIGEST_AGAIN_SECONDS / 10)
     # Another day may have begun meanwhile; the sequencer comes to it.
-    end = next((number for number, record in enumerate(records) if number and record.is_change), len(records))
+    end = next((number for number, record in enumerate(records) if record.is_change and record.position != change.position), len(records))
     day = await day_of(folder, program, records[:end], kinds, change)
     check_length(day, digests, log.name)
     return day

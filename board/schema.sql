@@ -48,6 +48,13 @@ END $$;
 CREATE TABLE IF NOT EXISTS public.cdm_day (
     board text NOT NULL, position integer NOT NULL, airport bytea NOT NULL, feed bytea NOT NULL,
     digest text NOT NULL CHECK (digest = encode(sha256(airport || feed), 'hex')), PRIMARY KEY (board, position));
+-- What no server reads within its time, or at all, would stand before all that comes behind it.
+DO $$ BEGIN
+    IF NOT EXISTS (SELECT FROM pg_constraint WHERE conname = 'cdm_day_readable') THEN
+        ALTER TABLE public.cdm_day ADD CONSTRAINT cdm_day_readable
+            CHECK (octet_length(airport) <= 8388608 AND octet_length(feed) <= 8388608) NOT VALID;
+    END IF;
+END $$;
 -- Sessions of a desk are numbered from 0; those before `not_before` have ended.
 CREATE TABLE IF NOT EXISTS public.cdm_session (
     board text NOT NULL, desk text NOT NULL, not_before integer NOT NULL, PRIMARY KEY (board, desk));

@@ -6,6 +6,7 @@ import asyncio
 import contextlib
 import errno
 import fcntl
+import json
 import os
 import secrets
 import sqlite3
@@ -17,7 +18,7 @@ from urllib.parse import quote
 
 from board.commits import Commit, Commits
 from board.log import (BEFORE, MOST_EVENTS, MOST_RECORDS, Accept, Away, Batch, Change, Event, Kept, Record, accepted, audit_of, change_of,
-                       digests_as_json, records_of)
+                       digests_as_json, halves, records_of)
 from board.words import Fault, Problem, now_text, tell
 from board.writer import COMMIT_SECONDS, Outcome
 
@@ -69,8 +70,11 @@ OLD_ROWS = "SELECT position, desk, role, line, at, 0 FROM cdm_record WHERE board
 CHANGES = f"{COLUMNS} AND cdm_day.position IS NOT NULL ORDER BY position"
 CHANGE = "SELECT airport, feed, digest FROM cdm_day WHERE board = ? AND position = ?"
 SOUGHT = """SELECT min(position) FROM cdm_record WHERE board = ? AND position > ? AND position <= ? AND (? IS NULL OR desk = ?)
-AND (? IS NULL OR instr(line || ',', ',' || ? || ',') > 0)"""
-PRESENT = "SELECT airport FROM cdm_day WHERE board = ? ORDER BY position DESC LIMIT 1"
+AND (? IS NULL OR instr(substr(line, instr(line, ',') + 1) || ',', ? || ',') = 1
+    AND substr(line, 1, instr(line, ',') - 1) IN (SELECT value FROM json_each(?)))"""
+# Of the last change of day whose airport file is the same before the ten bytes of its day, and behind them.
+PRESENT = """SELECT airport FROM cdm_day WHERE board = ?1 AND substr(airport, 1, length(?2)) = ?2 AND substr(airport, length(?2) + 11) = ?3
+ORDER BY position DESC LIMIT 1"""
 LOCKED = (sqlite3.SQLITE_BUSY, sqlite3.SQLITE_LOCKED)
 # What may be otherwise at the next try, without anybody's change of a file.
 PASSING = (*LOCKED, sqlite3.SQLITE_FULL, sqlite3.SQLITE_IOERR, sqlite3.SQLITE_NOMEM)
@@ -119,7 +123,7 @@ class FileLog(Kept):
         except (OSError, sqlite3.Error) as fault:
             raise Fault(f"{self.name}: {fault}", status_of(fault)) from None
         self.id, self.airport, made_by, self.secret = row
-        present = database.execute(PRESENT, log[:1]).fetchone()
+        present = database.execute(PRESENT, (log[0], *halves(airport))).fetchone()
         self.check(airport, made_by, version, present and present[0])
 
     def _update(self, database: sqlite3.Connection, secret: str) -> None:
@@ -297,7 +301,7 @@ class FileLog(Kept):
         try:
             found = await self._loop.run_in_executor(self._thread, self._rows, after, most)
             self.read_at = time.monotonic()
-            return found
+            return self.seen(found)
         except sqlite3.Error as fault:
             if code_of(fault) not in LOCKED and not self.stale_since:
                 raise Fault(f"{self.name}: {fault}", 1) from None
@@ -312,13 +316,14 @@ class FileLog(Kept):
     async def whole(self, after: int = 0) -> list[Record]:
         """All records behind a position. Raises Fault."""
         try:
-            return await self._loop.run_in_executor(self._thread, self._rows, after, -1)
+            return self.seen(await self._loop.run_in_executor(self._thread, self._rows, after, -1))
         except sqlite3.Error as fault:
             raise Fault(f"{self.name}: {fault}", status_of(fault)) from None
 
     async def changes(self) -> list[Record]:
         """All changes of day. Raises Away, Fault."""
-        return [Record(*row[:5])._replace(is_change=True) for row in await self._read(CHANGES, self._board, 0)]
+        found = [Record(*row[:5])._replace(is_change=True) for row in await self._read(CHANGES, self._board, 0)]
+        return [record for record in found if record.position not in self.void]
 
     async def change(self, position: int) -> Change | None:
         """What stands beside the change of day at a position. Raises Away, Fault."""
@@ -326,11 +331,12 @@ class FileLog(Kept):
 
     async def between(self, first: int, last: int) -> list[Record]:
         """The records from one position to another. Raises Away, Fault."""
-        return records_of(self.name, first - 1, await self._read(ROWS, self._board, first - 1, last - first + 1))
+        rows = await self._read(ROWS, self._board, first - 1, last - first + 1)
+        return self.seen(await asyncio.to_thread(records_of, self.name, first - 1, rows))
 
-    async def sought(self, after: int, last: int, flight: str | None, desk: str | None) -> int | None:
-        """The first position behind another, up to a last one, that may be of a flight and of a desk. Raises Away, Fault."""
-        (found,), = await self._read(SOUGHT, self._board, after, last, desk, desk, flight, flight)
+    async def sought(self, after: int, last: int, flight: str | None, desk: str | None, kinds: Sequence[str]) -> int | None:
+        """The first position behind another, up to a last one, of a flight, which such kinds have, and of a desk. Raises Away, Fault."""
+        (found,), = await self._read(SOUGHT, self._board, after, last, desk, desk, flight, flight, json.dumps(kinds))
         position: int | None = found
         return position
 
