@@ -463,7 +463,7 @@ def test_streams_of_many_addresses_have_one_limit(board):
     answers = [answer for number in range(5) for answer in opened(server, 32, f"127.0.7.{number + 1}")]
     assert [status for status, _ in answers] == ([200] * 30 + [429] * 2) * 3 + [200] * 10 + [429] * 22 + [429] * 32
     first = [int(seconds) for status, seconds in answers[106:126] if status == 429]
-    assert len(first) == 16 and all(1 <= seconds <= 601 for seconds in first)
+    assert len(first) == 20 and all(1 <= seconds <= 601 for seconds in first)
     assert [status for status, _ in opened(server, 30, "127.0.7.1", "screen")] == [200] * 30
     assert server.get("/v1/plan").status == 200 and server.post(["FLT,AB1,5"], "ap")[0]["position"] == 1
 
