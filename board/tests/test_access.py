@@ -456,24 +456,26 @@ def test_streams_of_many_addresses_have_one_limit(board):
     server = board(DESKS, start=False)
     server.write_desks(DESKS, "anyone")
     write_limits(server, opened_without_desk=30, opened_together=100)
-    server.collect("from board import callers; callers.TOGETHER_SECONDS = 40.0")
+    # On a busy machine it takes long to open so many.
+    server.collect("from board import callers; callers.TOGETHER_SECONDS = callers.MINUTE = 600.0")
     server.start()
     # What one address opens beyond its own limit isn't counted for all.
     answers = [answer for number in range(5) for answer in opened(server, 32, f"127.0.7.{number + 1}")]
     assert [status for status, _ in answers] == ([200] * 30 + [429] * 2) * 3 + [200] * 10 + [429] * 22 + [429] * 32
     first = [int(seconds) for status, seconds in answers[106:126] if status == 429]
-    assert first and all(1 <= seconds <= 41 for seconds in first)
+    assert len(first) == 20 and all(1 <= seconds <= 601 for seconds in first)
     assert [status for status, _ in opened(server, 30, "127.0.7.1", "screen")] == [200] * 30
     assert server.get("/v1/plan").status == 200 and server.post(["FLT,AB1,5"], "ap")[0]["position"] == 1
 
 
-def test_who_comes_later_waits_longer():
+def test_who_comes_later_waits_longer(monkeypatch):
     """All displays of a server that is started again, whose connections come at once: in turns of so many as may come."""
     from unittest import mock
     from board.callers import Callers
     from board.connections import Limits
     from board.desks import READER, Desks
     from board.words import Problem
+    monkeypatch.setattr("board.callers.time", mock.Mock(monotonic=lambda: 100.0))
     callers, told = Callers(Desks([], True, limits=Limits(opened_together=10)), mock.Mock(id="0", secret="s"), {"localhost"}, "http", False), []
     for number in range(100):
         request = mock.MagicMock(remote=f"192.0.2.{number}")
@@ -484,9 +486,8 @@ def test_who_comes_later_waits_longer():
         except Problem as problem:
             assert problem.status == 429
             told.append(int(problem.headers["Retry-After"]))
-    # Ten seconds, whatever of them is over, and then ten more for each ten that came; never more than a minute.
-    assert told[:10] == [0] * 10 and told == sorted(told) and all(told.count(seconds) <= 11 for seconds in told if 0 < seconds < 60)
-    assert {seconds // 10 for seconds in told[10:]} == {1, 2, 3, 4, 5, 6} and max(told) <= 61
+    # Until these ten seconds are over, and then ten more for each ten that came; never more than a minute.
+    assert told == [0] * 10 + [11] * 9 + [21] * 10 + [31] * 10 + [41] * 10 + [51] * 10 + [61] * 41
 
 
 def test_browsers_behind_one_address_come_back(board):
