@@ -18,6 +18,7 @@ from board.words import POSITION, Problem, refuse
 
 MOST_FOUND_BYTES = 1 << 20
 MOST_BODY = 64 << 10
+TOO_LARGE = f"a body has at most {MOST_BODY >> 10} KiB"
 BODY_LIMIT = 20.0
 TYPES = {"": "text/plain", "csv": "text/csv", "json": "application/x-ndjson", "svg": "image/svg+xml"}
 # The program's commands as paths. Those that want a scenario are asked by POST alone, in a format by Accept.
@@ -41,8 +42,10 @@ async def body_of(request: web.Request) -> bytes:
             body = await request.read()
     except TimeoutError:
         raise Problem(408, "the body took too long") from None
+    except web.HTTPRequestEntityTooLarge:
+        raise Problem(413, TOO_LARGE) from None
     # A later aiohttp takes one byte more than an earlier one.
-    refuse(len(body) > MOST_BODY, 413, "the body is too large")
+    refuse(len(body) > MOST_BODY, 413, TOO_LARGE)
     return body
 
 

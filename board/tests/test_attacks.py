@@ -153,9 +153,11 @@ def test_no_room_for_a_question_is_503(board):
 
 
 def test_a_body_has_so_many_bytes(board):
-    """64 KiB and none more: versions of aiohttp differ by one."""
+    """64 KiB and none more: versions of aiohttp differ by one, and in what they say of it."""
     server = board(DESKS)
-    assert [server.request("POST", "/v1/records", b"A" * size, "ap").status for size in (65_536, 65_537, 65_538)] == [400, 413, 413]
+    answers = [server.request("POST", "/v1/records", b"A" * size, "ap") for size in (65_536, 65_537, 65_538)]
+    assert [answer.status for answer in answers] == [400, 413, 413]
+    assert [json.loads(answer.body)["detail"] for answer in answers[1:]] == ["a body has at most 64 KiB"] * 2
 
 
 @pytest.fixture
