@@ -624,12 +624,18 @@ def test_a_log_of_before_goes_on(board):
     assert server.end() == 0
     with contextlib.closing(sqlite3.connect(server.log, isolation_level=None)) as database:
         database.execute("DROP TABLE cdm_day")
+        database.execute("UPDATE cdm_log SET version = 'cdmseq 1.0.0'")
     assert cdmboard("verify", server.log).stdout == "9 records, 8 accepted, 0 digests of replies\n"
     assert cdmboard("export", server.log).stdout.encode() == cdmboard("export", server.log, "--day", "2025-03-10").stdout.encode() != b""
     assert server.start().get("/v1/plan.json", "ap").body == plan.body
     # A line of before that the program refused is no change of day.
     assert server.post(["DAY,2025-03-11"], "tower")[0]["word"] == "KIND"
+    assert in_file(server, "SELECT version FROM cdm_log") == [("cdmseq 1.0.0",)]
     assert change(server)["position"] == 11 and set(flights(server)) == {"AB1", "EF3"}
+    # That release would take both days for one. It serves a log of its own version alone.
+    assert in_file(server, "SELECT version FROM cdm_log") == [("cdmseq 1.0.0 (rules 1)",)]
+    assert server.end() == 0
+    assert set(flights(server.start())) == {"AB1", "EF3"}
 
 
 def in_file(server, query):
