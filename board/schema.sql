@@ -121,6 +121,8 @@ BEGIN
             END IF;
             INSERT INTO public.cdm_day VALUES (of_board, last + 1, decode(batch #>> '{change,airport}', 'base64'),
                 decode(batch #>> '{change,feed}', 'base64'), batch #>> '{change,digest}');
+            -- A server of release 1.0.0 takes all days for one: it refuses a log of another version than its own.
+            UPDATE public.cdm_log SET version = version || ' (rules 1)' WHERE board = of_board AND version = 'cdmseq 1.0.0';
         ELSIF last + 1 - first_of_day + count_new > (batch ->> 'end')::integer OR mine + count_new > (batch ->> 'most')::integer THEN
             answers := answers || '{"status": 403, "closed": false}'::jsonb;
             CONTINUE;

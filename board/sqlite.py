@@ -288,6 +288,8 @@ class FileLog(Kept):
             if change.position != last + 1:
                 return Problem(503, BEFORE)
             query("INSERT INTO cdm_day VALUES (?, ?, ?, ?, ?)", (self._board, last + 1, change.airport, change.feed, change.digest))
+            # A server of release 1.0.0 takes all days for one: it refuses a log of another version than its own.
+            query("UPDATE cdm_log SET version = version || ' (rules 1)' WHERE board = ? AND version = 'cdmseq 1.0.0'", desk[:1])
         database.executemany(
             "INSERT INTO cdm_record VALUES (?, ?, ?, ?, ?, ?, ?, ?, ?)",
             [(self._board, last + 1 + n, batch.desk, batch.key, n, count, *record, batch.at) for n, record in enumerate(batch.records)])

@@ -189,12 +189,13 @@ def test_flights_go_on_over_changes(board, chance):
 
 
 class Talk:
-    """Desks that post for as long as days go on. Each sends the same body with the same key until it has its answer."""
+    """Desks that post for as long as days go on, with an end of each day. Each sends the same body with the same key until it has its answer."""
+    MOST = 100
 
     def __init__(self, servers, chance, desks):
         self.servers, self.chance, self.desks = servers, chance, desks
         self.day, self.is_over, self.got = 10, False, {name: [] for name in desks}
-        self.longest = 0.0
+        self.longest, self.is_quiet, self.idle, self.of_day = 0.0, False, set(), dict.fromkeys(desks, (10, 0))
 
     def run(self):
         with concurrent.futures.ThreadPoolExecutor(len(self.desks)) as pool:
@@ -210,10 +211,25 @@ class Talk:
     def speak(self, name):
         chance, number = type(self.chance)(self.chance.random()), 0
         while not self.is_over:
+            self.idle.discard(name)
+            day, count_of_day = self.of_day[name]
+            if self.is_quiet or day == self.day and count_of_day == self.MOST:
+                self.idle.add(name)
+                time.sleep(0.05)
+                continue
+            self.of_day[name] = self.day, count_of_day + 1 if day == self.day else 1
             number, lines, began = number + 1, self.lines(chance, name), time.monotonic()
             self.got[name].append((lines, self.told(chance, name, lines, f"k{number}")))
             self.longest = max(self.longest, time.monotonic() - began)
             time.sleep(chance.uniform(0, 0.15))
+
+    @contextlib.contextmanager
+    def quiet(self):
+        """While nobody sends, and each desk has its answer: the last position that was accepted."""
+        self.is_quiet = True
+        until(lambda: self.idle >= self.desks.keys(), 120)
+        yield max((reply["position"] for sent in self.got.values() for _, replies in sent for reply in replies if reply["reply"] == "ACCEPTED"), default=0)
+        self.is_quiet = False
 
     def told(self, chance, name, lines, key):
         end = time.monotonic() + 90 * FACTOR
@@ -300,19 +316,20 @@ def talked(servers, chance, tmp_path, days, kills):
             position = change_while_killed(servers, chance, day_of(number), killed.count(number - 1))
             assert before < position
             talk.day += 1
-            watched.shows_the_same_behind(position)
+            with talk.quiet() as last:
+                watched.shows_the_same(max(last, position))
         talk.is_over = True
         talking.join(120 * FACTOR)
         assert not talking.is_alive()
     finally:
         talk.is_over = True
     checked(talk, servers, tmp_path, days)
-    watched.shows_the_same_at(reached(servers[0]))
+    watched.ends(reached(servers[0]))
     # Behind a server that has just started it may show an earlier day once more, but none is missing.
     assert set(watched.staying.dates) == {day_of(number) for number in range(days + 1)} and watched.staying.dates[-1] == day_of(days)
     said = sum(len(replies) for sent in talk.got.values() for _, replies in sent)
     figure(f"Days: {days} in a row, {said} records of 16 desks, {kills} kills, {len(servers)} servers, longest wait of a desk {talk.longest:.1f} s, "
-           f"a display that stayed had {watched.staying.connections} connections and showed {len(watched.staying.at)} positions")
+           f"a display that stayed had {watched.staying.connections} connections and showed {watched.staying.shows} plans")
 
 
 def reached(server):
@@ -624,12 +641,18 @@ def test_a_log_of_before_goes_on(board):
     assert server.end() == 0
     with contextlib.closing(sqlite3.connect(server.log, isolation_level=None)) as database:
         database.execute("DROP TABLE cdm_day")
+        database.execute("UPDATE cdm_log SET version = 'cdmseq 1.0.0'")
     assert cdmboard("verify", server.log).stdout == "9 records, 8 accepted, 0 digests of replies\n"
     assert cdmboard("export", server.log).stdout.encode() == cdmboard("export", server.log, "--day", "2025-03-10").stdout.encode() != b""
     assert server.start().get("/v1/plan.json", "ap").body == plan.body
     # A line of before that the program refused is no change of day.
     assert server.post(["DAY,2025-03-11"], "tower")[0]["word"] == "KIND"
+    assert in_file(server, "SELECT version FROM cdm_log") == [("cdmseq 1.0.0",)]
     assert change(server)["position"] == 11 and set(flights(server)) == {"AB1", "EF3"}
+    # That release would take both days for one. It serves a log of its own version alone.
+    assert in_file(server, "SELECT version FROM cdm_log") == [("cdmseq 1.0.0 (rules 1)",)]
+    assert server.end() == 0
+    assert set(flights(server.start())) == {"AB1", "EF3"}
 
 
 def in_file(server, query):

@@ -372,10 +372,10 @@ def test_two_programs_of_the_same_rules_serve_one_board(board, primary, before):
 def test_a_change_of_day_beside_the_last_release(board, primary, before):
     """Its program carries nothing over, so its server begins no day, and says why; the day that another server begins is the same for both,
     and so it is after a start."""
-    old, new = board(log=primary.url(), start=False), board(log=primary.url())
+    old, new = board(log=primary.url(), start=False), board(log=primary.url(), start=False)
     old.program(before)
     old.options += ["--day-at", "03:00"]
-    old.start()
+    old.start(), new.start()
     old.post(["FLT,AB1,5", "FLT,CD2,5"], Cdm_Role="AP")
     old.post(["TOBT,AB1,2025-03-11T06:00Z", "CNL,CD2"], Cdm_Role="AO")
     until(lambda: "2025-03-11 doesn't begin yet: this server's program can't carry a day over" in old.told())
@@ -390,6 +390,8 @@ def test_a_change_of_day_beside_the_last_release(board, primary, before):
         assert plans[0] == plans[1] and plans[0]["day"] == "2025-03-11" and [row["flight"] for row in plans[0]["flights"]] == ["AB1", "EF3"]
         assert old.end() == 0
         old.start()
+    # A server of that release itself would take both days for one. It serves a log of its own version alone.
+    assert primary.sql("SELECT version FROM cdm_log") == "cdmseq 1.0.0 (rules 1)"
     assert "what was carried over at position 5 isn't compared: this server's program can't carry a day over" in old.told()
 
 
