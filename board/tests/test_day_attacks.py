@@ -6,6 +6,7 @@ import datetime
 import hashlib
 import json
 import os
+import re
 import subprocess
 import sys
 import time
@@ -84,8 +85,8 @@ def test_a_day_that_no_server_can_begin_is_none(board, chance, cluster):
     plan = objects(plan_of(server))[0]["flights"]
     for last, bad in enumerate(BAD, 7):
         assert write_day(cluster, name, *BAD[bad]) == {"first": last, "count": 1}, bad
-        until(lambda: server.metric("cdm_position", "ap") == last, 20)
-    until(lambda: other.metric("cdm_position", "ap") == last, 20)
+        until(lambda: server.metric("cdm_position", "ap") == last, 40)
+    until(lambda: other.metric("cdm_position", "ap") == last, 40)
     for one in (server, other):
         assert [record.get("word") for record in one.records("ap")[6:]] == ["KIND"] * len(BAD)
         assert objects(plan_of(one))[0]["flights"] == plan and day_of(one) == "2025-03-10"
@@ -109,6 +110,23 @@ def test_a_day_that_no_server_can_begin_is_none(board, chance, cluster):
         assert [row["priority"] for row in objects(plan_of(one))[0]["flights"]] == [7]
     assert cdmboard("verify", cluster.url(), "--board", name).stdout == f"{last + 4} records, 7 accepted, 0 digests of replies, 2 days\n"
     assert len(cdmboard("export", cluster.url(), "--board", name, "--day", "2025-03-10").stdout.splitlines()) == 7
+
+
+@needs_postgres
+def test_a_day_that_carries_over_something_else_is_removed(board, chance, cluster):
+    """It ends the servers, which say where; by the lines of the page the board goes on as it was before."""
+    name = f"{chance.randrange(1 << 62):x}"
+    server = begun(board(DESKS, log=cluster.url(), options=["--board", name]))
+    assert write_day(cluster, name, "2025-03-11", NEXT, b"AP,FLT,XX1,5\n") == {"first": 7, "count": 1}
+    until(lambda: server.process.poll() is not None, 40)
+    assert server.process.returncode == 3 and "position 7 carried over otherwise than this program does" in server.told()
+    ended = cdmboard("verify", cluster.url(), "--board", name)
+    assert ended.returncode == 3 and "position 7 carried over otherwise" in ended.stderr
+    lines, = re.findall(r"```sql\n(BEGIN;[^`]*>= 4711;\nCOMMIT;)\n```", (ROOT / "docs/POSTGRES.md").read_text())
+    cluster.sql(lines.replace("4711", "7").replace("EDDF", name))
+    server.start()
+    assert day_of(server) == "2025-03-10" and server.metric("cdm_position", "ap") == 6
+    assert server.request("POST", "/v1/day", "", "tower").status == 200 and day_of(server) == "2025-03-11"
 
 
 @needs_postgres
