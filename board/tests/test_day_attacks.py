@@ -259,6 +259,10 @@ def test_a_change_that_is_sent_again(board):
     for path, status in (("/v1/day", 200), ("/v1/day", 200), ("/v1/day?day=2025-03-11", 200), ("/v1/day?day=2025-03-12", 422), ("/v1/day?day=2025-03-10", 409)):
         assert server.request("POST", path, NEXT, "tower").status == status, path
     assert day_of(server) == "2025-03-11" and server.metric("cdm_position", "ap") == 7
+    # Nor does a request without a body, which came twice.
+    again = server.request("POST", "/v1/day?even=yes", "", "tower")
+    assert again.status == 409 and "?day=2025-03-12" in json.loads(again.body)["detail"] and day_of(server) == "2025-03-11"
+    assert server.request("POST", "/v1/day?even=yes&day=2025-03-12", "", "tower").status == 200
 
 
 def test_a_day_that_ends_while_it_is_asked_about(board):
