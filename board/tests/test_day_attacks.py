@@ -305,13 +305,13 @@ def test_a_crowd_of_readers_keeps_no_desk_waiting(board):
     """Who has no desk has earlier days read one after the other with all others, however many addresses there are."""
     server = board(DESKS, ["--behind-proxy"], start=False)
     server.write_desks(DESKS, "anyone")
-    server.program('[ "$1" = plan -a -e "$0.slow" ] && sleep 1')
+    server.program('[ "$1" = plan -a -e "$0.slow" ] && sleep 4')
     begun(server.start())
     for day in range(11, 15):
         assert server.request("POST", f"/v1/day?even=yes&day=2025-03-{day}", "", "tower").status == 200
     (server.folder / "program.slow").touch()
     with concurrent.futures.ThreadPoolExecutor(24) as pool:
         crowd = [pool.submit(server.get, f"/v1/journal.csv?day=2025-03-1{number % 3}", X_Forwarded_For=f"10.{number}.0.1") for number in range(24)]
-        time.sleep(1.5)
+        time.sleep(0.5)
         answer = server.get("/v1/journal.csv?day=2025-03-13", "ap", X_Forwarded_For="10.99.0.1")
         assert answer.status == 200 and {asked.result().status for asked in crowd} <= {200, 503}
