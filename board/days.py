@@ -1,6 +1,7 @@
 """Changes of day over HTTP: what is told before one, and one that a desk makes."""
 import functools
 import json
+import time
 
 from aiohttp import web
 
@@ -15,6 +16,8 @@ from board.words import Problem, refuse
 
 # Of what is told before a change, what it doesn't begin with, unless a desk wants it even so.
 STOPS = ("LEFT ", "REFUSED ")
+# Seconds in which a request that names no day may be the one that began the present day.
+SOON = 60.0
 
 
 class Days:
@@ -59,6 +62,9 @@ class Days:
         if not self._has_begun(airport, wanted):
             following = next_date(day)
             refuse(wanted not in (None, following), 409, f"the next day is {following}")
+            # Nothing in such a request says that it isn't the one before, which came twice.
+            is_again = airport is None and wanted is None and time.monotonic() - day.began < SOON
+            refuse(is_again, 409, f"{day.date} has just begun; ?day={following} begins the next day")
             check = None if is_even else functools.partial(self._check, self._callers.asker(request), airport)
             if check is not None:
                 await check()

@@ -1,5 +1,6 @@
 """Questions over HTTP: the program's commands as paths, the log, and the day's files. Each answer is of one moment."""
 import asyncio
+import contextlib
 import json
 import re
 from collections.abc import Callable
@@ -12,6 +13,7 @@ from board.day import Day
 from board.desks import READER, Desk
 from board.log import Log
 from board.past import Past
+from board.places import NAMELESS
 from board.sending import pack
 from board.unsent import Unsent
 from board.words import POSITION, Problem, refuse
@@ -74,17 +76,19 @@ class Questions:
         refuse(not POSITION.fullmatch(since), 400, "since is a position")
         async with self._answers.turn(("log", self._asker(request))):
             if "day" in request.query:
-                day = await self._past.of_date(request.query["day"])
+                day = await self._of_date(request, request.query["day"])
                 found = day.found(int(since), *which)
             else:
-                day, found = await self._past.found(int(since), *which)
+                async with self._turn(request, int(since) + 1):
+                    day, found = await self._past.found(int(since), *which)
             return await self.of_moment(request, self._day.position, "json", day.texts(found, MOST_FOUND_BYTES))
 
     async def sentence(self, request: web.Request) -> web.Response:
         """Why a record is refused, in words: what `check` says of it behind the records accepted before."""
         position = int(request.match_info["position"])
         now = self._day.position
-        day = await self._past.of_position(position)
+        async with self._turn(request, position):
+            day = await self._past.of_position(position)
         record = next(iter(day.of(position, position)), None)
         if record is None or record.word is None:
             raise Problem(404, "no refused record stands there")
@@ -126,12 +130,24 @@ class Questions:
         """The answer to a question about the day that is said, or about the present one. Raises Problem."""
         said = request.query.get("day")
         while True:
-            day = self._day if said is None else await self._past.of_date(said)
+            day = self._day if said is None else await self._of_date(request, said)
             asked = question._replace(base=None if day is self._day else day.change.position)
             now, ran = await self._answers.ask(self._asker(request), asked, _is_tower(request))
             # The present day may have ended meanwhile.
             if said in (None, day.date):
                 return day, now, ran
+
+    async def _of_date(self, request: web.Request, said: str) -> Day:
+        """The day of a date. Raises Problem."""
+        async with self._turn(request, self._day.first if said == self._day.date else 0):
+            return await self._past.of_date(said)
+
+    def _turn(self, request: web.Request, first: int) -> contextlib.AbstractAsyncContextManager[None]:
+        """The turn of a desk to have an earlier day read, if the first position that is asked for is of one. All who have no desk take turns
+        as one, so that they keep no desk waiting."""
+        asker = self._asker(request)
+        is_earlier = first < self._day.first
+        return self._answers.turn(("day", NAMELESS if asker.startswith(NAMELESS) else asker)) if is_earlier else contextlib.nullcontext()
 
     async def file(self, request: web.Request) -> web.Response:
         """The table of kinds, or the airport file."""
@@ -141,7 +157,7 @@ class Questions:
     async def journal(self, request: web.Request) -> web.Response:
         """The accepted records of a day as a feed."""
         async with self._answers.turn(("log", self._asker(request))):
-            day = await self._past.of_date(request.query.get("day", self._day.date))
+            day = await self._of_date(request, request.query.get("day", self._day.date))
             return await self.of_moment(request, day.position, "csv", day.feed().encode(), day)
 
     def tags(self, position: int, day: Day | None = None) -> dict[str, str]:

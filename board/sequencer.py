@@ -110,7 +110,8 @@ class Sequencer:
         record. Raises Fault, OSError."""
         try:
             change = await self._log.change(record.position)
-            if change is None or change.digest != self.carried:
+            is_own = change is not None and change.digest == self.carried and date_of(record) == after(self._day.date)
+            if not is_own:
                 await self._check(record, change)
         except Away:
             await asyncio.sleep(CHANGE_AGAIN_SECONDS)
@@ -135,7 +136,7 @@ class Sequencer:
             return
         if feed != change.feed:
             raise Fault(f"{self._log.name}: the change of day at position {change.position} carried over otherwise than this program does: another"
-                        " program made it, or who has a server's login; cdmboard verify tells which (docs/POSTGRES.md#a-login-that-others-have)")
+                        " program made it, or somebody who has a server's login; cdmboard verify tells which (docs/POSTGRES.md#a-login-that-others-have)")
 
     async def _serve_somewhere(self) -> None:
         """One process, in a folder of its own where there is room for its journal: in memory, if there is."""

@@ -6,6 +6,7 @@ import datetime
 import hashlib
 import json
 import os
+import re
 import subprocess
 import sys
 import time
@@ -84,8 +85,8 @@ def test_a_day_that_no_server_can_begin_is_none(board, chance, cluster):
     plan = objects(plan_of(server))[0]["flights"]
     for last, bad in enumerate(BAD, 7):
         assert write_day(cluster, name, *BAD[bad]) == {"first": last, "count": 1}, bad
-        until(lambda: server.metric("cdm_position", "ap") == last, 20)
-    until(lambda: other.metric("cdm_position", "ap") == last, 20)
+        until(lambda: server.metric("cdm_position", "ap") == last, 40)
+    until(lambda: other.metric("cdm_position", "ap") == last, 40)
     for one in (server, other):
         assert [record.get("word") for record in one.records("ap")[6:]] == ["KIND"] * len(BAD)
         assert objects(plan_of(one))[0]["flights"] == plan and day_of(one) == "2025-03-10"
@@ -109,6 +110,23 @@ def test_a_day_that_no_server_can_begin_is_none(board, chance, cluster):
         assert [row["priority"] for row in objects(plan_of(one))[0]["flights"]] == [7]
     assert cdmboard("verify", cluster.url(), "--board", name).stdout == f"{last + 4} records, 7 accepted, 0 digests of replies, 2 days\n"
     assert len(cdmboard("export", cluster.url(), "--board", name, "--day", "2025-03-10").stdout.splitlines()) == 7
+
+
+@needs_postgres
+def test_a_day_that_carries_over_something_else_is_removed(board, chance, cluster):
+    """It ends the servers, which say where; by the lines of the page the board goes on as it was before."""
+    name = f"{chance.randrange(1 << 62):x}"
+    server = begun(board(DESKS, log=cluster.url(), options=["--board", name]))
+    assert write_day(cluster, name, "2025-03-11", NEXT, b"AP,FLT,XX1,5\n") == {"first": 7, "count": 1}
+    until(lambda: server.process.poll() is not None, 40)
+    assert server.process.returncode == 3 and "position 7 carried over otherwise than this program does" in server.told()
+    ended = cdmboard("verify", cluster.url(), "--board", name)
+    assert ended.returncode == 3 and "position 7 carried over otherwise" in ended.stderr
+    lines, = re.findall(r"```sql\n(BEGIN;[^`]*>= 4711;\nCOMMIT;)\n```", (ROOT / "docs/POSTGRES.md").read_text())
+    cluster.sql(lines.replace("4711", "7").replace("EDDF", name))
+    server.start()
+    assert day_of(server) == "2025-03-10" and server.metric("cdm_position", "ap") == 6
+    assert server.request("POST", "/v1/day", "", "tower").status == 200 and day_of(server) == "2025-03-11"
 
 
 @needs_postgres
@@ -241,6 +259,10 @@ def test_a_change_that_is_sent_again(board):
     for path, status in (("/v1/day", 200), ("/v1/day", 200), ("/v1/day?day=2025-03-11", 200), ("/v1/day?day=2025-03-12", 422), ("/v1/day?day=2025-03-10", 409)):
         assert server.request("POST", path, NEXT, "tower").status == status, path
     assert day_of(server) == "2025-03-11" and server.metric("cdm_position", "ap") == 7
+    # Nor does a request without a body, which came twice.
+    again = server.request("POST", "/v1/day?even=yes", "", "tower")
+    assert again.status == 409 and "?day=2025-03-12" in json.loads(again.body)["detail"] and day_of(server) == "2025-03-11"
+    assert server.request("POST", "/v1/day?even=yes&day=2025-03-12", "", "tower").status == 200
 
 
 def test_a_day_that_ends_while_it_is_asked_about(board):
@@ -277,3 +299,19 @@ def test_a_record_that_comes_while_a_change_is_checked(board):
     assert answer.status == 409 and "UNKNOWN ATC,RWY,AB1,09" in json.loads(answer.body)["detail"]
     assert day_of(server) == "2025-03-10"
     assert server.request("POST", "/v1/day?even=yes", other, "tower").status == 200 and day_of(server) == "2025-03-11"
+
+
+def test_a_crowd_of_readers_keeps_no_desk_waiting(board):
+    """Who has no desk has earlier days read one after the other with all others, however many addresses there are."""
+    server = board(DESKS, ["--behind-proxy"], start=False)
+    server.write_desks(DESKS, "anyone")
+    server.program('[ "$1" = plan -a -e "$0.slow" ] && sleep 4')
+    begun(server.start())
+    for day in range(11, 15):
+        assert server.request("POST", f"/v1/day?even=yes&day=2025-03-{day}", "", "tower").status == 200
+    (server.folder / "program.slow").touch()
+    with concurrent.futures.ThreadPoolExecutor(24) as pool:
+        crowd = [pool.submit(server.get, f"/v1/journal.csv?day=2025-03-1{number % 3}", X_Forwarded_For=f"10.{number}.0.1") for number in range(24)]
+        time.sleep(0.5)
+        answer = server.get("/v1/journal.csv?day=2025-03-13", "ap", X_Forwarded_For="10.99.0.1")
+        assert answer.status == 200 and {asked.result().status for asked in crowd} <= {200, 503}
