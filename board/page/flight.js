@@ -35,7 +35,6 @@ export class FlightPanel {
     $('#wait').replaceChildren();
     say($('#wait-ends'), '');
     this.changed();
-    this.makeForm();
   }
 
   close() {
@@ -60,7 +59,7 @@ export class FlightPanel {
       inWords('priority', row.priority), inWords('group', row.group)].filter(Boolean).join(', '));
     write(this.facts, row, date);
     this.warned();
-    if (this.answered && this.answered !== JSON.stringify([row.tobt, row.status])) this.makeForm();
+    if (this.answered !== JSON.stringify([row.tobt, row.status])) this.makeForm();
   }
 
   /** What its warnings mean, what to do, and a button for each record that answers them and that the desk may send. */
@@ -88,6 +87,7 @@ export class FlightPanel {
   makeForm() {
     const { row } = this;
     const kinds = this.kinds();
+    this.answered = row && JSON.stringify([row.tobt, row.status]);
     $('#f-send').hidden = !kinds.length;
     this.warned();
     if (!kinds.length) {
@@ -95,7 +95,6 @@ export class FlightPanel {
       $('#f-form').replaceChildren();
       return;
     }
-    this.answered = JSON.stringify([row.tobt, row.status]);
     say($('#f-send small'), `as ${this.desk.words}`);
     if (this.form?.isUsed) {
       this.form.offer(kinds, row);
