@@ -67,7 +67,7 @@ export class Reading extends Views {
     if (isOther || isNext) this.beginDay();
     if (!this.operators) this.questions.want('operators', this.at + this.chance() * SOON); // what came meanwhile wasn't shown
     this.had.clear();
-    this.order({ do: 'show', what: 'plan', changed, isFirst, isOther, isWhole });
+    this.order({ do: 'show', what: 'plan', changed, isFirst, isOther, isNext, isWhole });
     this.wantAhead();
     this.takeTotals(plan, moment.position);
     this.remember(since);
