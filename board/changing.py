@@ -19,7 +19,7 @@ EARLIEST = time(1)
 LATEST = time(21, 59)
 REPLY_SECONDS = 20.0
 MOST_TOLD = 200
-CLOCK_DESK = Desk("day-at", "ATC")
+DAY_AT_DESK = Desk("day-at", "ATC")
 MADE = "another day began meanwhile"
 
 
@@ -102,14 +102,14 @@ class Changing:
             left = await self._left()
             if left and now < due + WAIT:
                 return f"{day} waits for flights that are off-block since before midnight: {'; '.join(left)}"
-            await self.make(CLOCK_DESK, day, None)
+            await self.make(DAY_AT_DESK, day, None)
         except Problem as problem:
             return f"{day} doesn't begin yet: {problem}"
         return f"{day} has begun" + (f"; LEFT behind: {'; '.join(left)}" if left else "")
 
     async def _left(self) -> list[str]:
         """What is told of flights that would be LEFT. Raises Problem."""
-        _, lines = await self.told(CLOCK_DESK.name)
+        _, lines = await self.told(DAY_AT_DESK.name)
         return [line for line in lines if line.startswith("LEFT ")][:MOST_TOLD]
 
 

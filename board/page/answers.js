@@ -25,7 +25,7 @@ class Knowing {
     Object.assign(this, { strangers: 0, staleReads: 0, isFirst: true, told: '', isEnabled: null, wakeAt: null });
     /** @type {Map<string, number>} of which position the answer to a question is that is shown */
     this.had = new Map();
-    Object.assign(this, { totals: null, held: null, view: null, operators: false, history: null, seen: Infinity });
+    Object.assign(this, { totals: null, held: null, view: null, operators: false, operatorsAt: Infinity, history: null, seen: Infinity });
     Object.assign(this, { isBroken: false, faults: 0, lostSince: null, hasStale: false }); // isBroken: a box has failed to show rows
     this.panel = { open: null, flight: null };
     this.causesOf = { isOpen: false, by: 'operator' };
@@ -153,7 +153,7 @@ export class Answers extends Knowing {
     if (ask.name === 'totals') this.holdTotals(list[0], event.position);
     else this.showAnswer(ask.name, list, event.position);
     const isNow = event.position >= this.rows.position;
-    if (ask.name === 'operators') this.operators = isNow;
+    if (ask.name === 'operators') this.takeOperators(isNow, event.position);
     return isNow;
   }
 

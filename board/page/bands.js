@@ -31,7 +31,7 @@ export class Bands {
       if (!now) continue;
       const cells = cellsOf(runway, now, this.day.date);
       const other = this.other && likeOf(this.other.find((one) => one.runway === runway.runway), cells);
-      const text = JSON.stringify([cells, now, other, withFlights]);
+      const text = JSON.stringify([this.day.date, cells, now, other, withFlights]);
       const band = this.bands.get(runway.runway) ?? this.make(runway.runway);
       if (band.text === text) continue;
       band.text = text;

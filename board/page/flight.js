@@ -130,7 +130,7 @@ export class FlightPanel {
 
   /** The program's `why`. */
   takeWhy([why]) {
-    const told = JSON.stringify([why.row, why.waits, this.isWhole]);
+    const told = JSON.stringify([this.day.date, why.row, why.waits, this.isWhole]);
     if (told === this.why) return;
     this.why = told;
     const { row, waits } = why;

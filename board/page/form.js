@@ -114,10 +114,11 @@ export class RecordForm {
     this.button.disabled = !isOn || this.isSending;
   }
 
+  /** What it says goes out: a time that was typed is of the date at which it was typed. */
   send() {
     this.isSending = true;
     this.button.disabled = true;
-    this.onSend(this, this.text(), newKey());
+    this.onSend(this, this.line.textContent, newKey());
   }
 
   /** What is known of the record that it sent: `taken`, `refused`, `not taken`, `not known`, or `not sent`. */

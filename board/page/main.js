@@ -193,11 +193,15 @@ const DONE = {
   tell: ({ word }) => desk.tell(word),
 };
 
+/** Who speaks and what it may send, but for how many. */
+const speaks = (who) => JSON.stringify({ ...who, left: 0 });
+
 /** What it shows. */
 const SHOWN = {
   who({ who, role = '' }) {
+    const isSame = speaks(who) === speaks(desk.who);
     desk.show(who, role);
-    if (!who) return;
+    if (!who || isSame) return; // what is being typed stays
     flight.changed();
     if (flight.name) flight.makeForm();
     if (panels.open === 'send' && !$('#s-form form')) makeForm();
@@ -291,10 +295,12 @@ function fault(name, detail) {
 }
 
 /** The whole day: what changed of it, or, where a box failed to show some of it, all. */
-function showPlan({ changed, isFirst, isOther, isWhole }) {
+function showPlan({ changed, isFirst, isOther, isNext, isWhole }) {
   if (isFirst || isOther) {
     if (!moves.remember()) moves.look(hms(clock.now()).slice(0, 5));
     give({ type: 'seen', position: moves.seen.position });
+  } else if (isNext) {
+    moves.forget([...changed.keys()].filter((name) => !day.rows.has(name)));
   } else if (!isWhole) {
     moves.note(changed, null);
   }

@@ -74,6 +74,21 @@ export class Moves {
   look(at) {
     const entries = [...this.day.rows.values()].map((row) => [row.flight, kept(row, this.day.date)]);
     this.seen = { at, log: this.day.moment.replace(/-[0-9]+$/, ''), position: this.day.position, rows: Object.fromEntries(entries) };
+    this.keep();
+  }
+
+  /** Another day has begun, without these flights: one that has such a name from now on is another one. */
+  forget(names) {
+    for (const name of names) {
+      for (const known of [this.recent, this.causes, this.told]) known.delete(name);
+      delete this.seen?.rows[name];
+    }
+    if (this.seen) this.keep();
+  }
+
+  /** What was seen is kept for a page that is opened again on the same date. */
+  keep() {
+    this.seen.date = this.day.date;
     setTimeout(() => {
       try {
         sessionStorage.setItem(KEPT, JSON.stringify(this.seen));
@@ -81,12 +96,12 @@ export class Moves {
     });
   }
 
-  /** What was seen before the page was opened again, where it is of this log; whether there is any. */
+  /** What was seen before the page was opened again, where it is of this log's present day; whether there is any. */
   remember() {
     try {
       this.seen = JSON.parse(sessionStorage.getItem(KEPT));
     } catch { /* nothing was kept */ }
-    if (this.seen?.log !== this.day.moment.replace(/-[0-9]+$/, '')) this.seen = null;
+    if (this.seen?.log !== this.day.moment.replace(/-[0-9]+$/, '') || this.seen.date !== this.day.date) this.seen = null;
     return this.seen !== null;
   }
 

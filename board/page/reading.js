@@ -65,9 +65,9 @@ export class Reading extends Views {
     if (this.stream?.moment === null) this.reopen();
     if (isOther) this.empty();
     if (isOther || isNext) this.beginDay();
-    if (!this.operators) this.questions.want('operators', this.at + this.chance() * SOON); // what came meanwhile wasn't shown
+    if (!this.operators || this.operatorsAt < Infinity) this.forgetOperators(); // what came meanwhile wasn't shown
     this.had.clear();
-    this.order({ do: 'show', what: 'plan', changed, isFirst, isOther, isWhole });
+    this.order({ do: 'show', what: 'plan', changed, isFirst, isOther, isNext, isWhole });
     this.wantAhead();
     this.takeTotals(plan, moment.position);
     this.remember(since);
@@ -114,7 +114,7 @@ export class Reading extends Views {
 
   /** What is of a day as a whole begins anew: what panels list of it, its operators, and how many records a desk may send. */
   beginDay() {
-    this.operators = false;
+    this.forgetOperators();
     this.order({ do: 'show', what: 'past' });
     if (this.who?.kinds.length) this.questions.want('who', this.at + this.chance() * SOON);
   }

@@ -67,6 +67,17 @@ export class Views extends Session {
       this.takeTotals(values, position);
     }
     if (this.totals && this.totals.isOld !== this.totals.position < this.rows.position) this.showTotals();
+    if (this.operatorsAt <= this.rows.position) this.forgetOperators();
+  }
+
+  /** Operators are told for a day. Those that are newer than the rows may be of records that are lost: they are asked for once more. */
+  takeOperators(isNow, position) {
+    Object.assign(this, { operators: isNow, operatorsAt: position > this.rows.position ? position : Infinity });
+  }
+
+  forgetOperators() {
+    Object.assign(this, { operators: false, operatorsAt: Infinity });
+    this.questions.want('operators', this.at + this.chance() * SOON);
   }
 
   /** Totals of an answer may be newer than the rows; then they wait for the events, or for the word that nothing came between. */

@@ -22,6 +22,7 @@ def test_the_page_over_a_change_of_day(page):
     shown = page(day=DAY).open()
     assert "Mon 10 Mar 2025" in shown.text("h1") and shown.row("all", "AB2")[0] == "11 06:10" and "11 03:00" in shown.text(".now")
     assert shown.flights("next") == ["AB1"] and shown.row("next", "AB1")[0] == "11 03:20 in 20"
+    shown.until("return document.querySelector('#runways th.hour')?.textContent === '11 03:00'")
     shown.js(WATCH)
     shown.click("#date")
     shown.says("#day", "Before Tue 11 Mar 2025 GONE 1 STAY 2")
@@ -34,8 +35,12 @@ def test_the_page_over_a_change_of_day(page):
     shown.until("return document.querySelector('#all tr[data-flight=AB2]').innerText.startsWith('06:10')")
     shown.until("return document.querySelector('#all tr[data-flight=CD3]') === null")
     assert shown.row("next", "AB1")[0] == "03:20 in 20" and "NOW UTC 03:00" == shown.text(".now")
-    fill(shown.server, {"ATC": [f"CLOCK,{AT('03:01')}"]})
+    # What a form and a runway's band say is of the new date too; a flight of a name that flew before is another one.
+    shown.until("return document.querySelector('#runways th.hour').textContent === '03:00'")
+    fill(shown.server, {"AP": ["FLT,CD3,5"], "ATC": ["RWY,CD3,27L", f"CLOCK,{AT('03:01')}"], "AO": [f"TOBT,CD3,{AT('03:40')}"]})
     shown.says(".now", "NOW UTC 03:01")
+    shown.until("return document.querySelector('#next tr[data-flight=CD3]') !== null")
+    assert "new" in shown.row("next", "CD3")[9] and "was" not in shown.row("next", "CD3")[9]
     assert shown.js("return [window.lost, window.moved]") == [0, 0]
     shown.click("#date")
     shown.says("#day", "Before Wed 12 Mar 2025")
@@ -146,3 +151,25 @@ def test_two_people_over_a_change(page, second):
         shown.until("return document.querySelector('pre') !== null")
         assert shown.js("return document.querySelector('pre').textContent") == old
     assert other.told() == []
+
+
+def test_what_is_typed_over_a_change_of_day(page):
+    """It stays, also where one looks elsewhere; and what goes out is what the form says, with the date at which it was typed."""
+    shown = page(day=DAY).open()
+    shown.choose("#role", "AO")
+    shown.open("#AB1")
+    shown.until("return document.querySelector('#p-flight form input[name=time]') !== null")
+    shown.until("return document.querySelector('#f-records tr') !== null")
+    shown.type("#p-flight form input[name=time]", "23:50")
+    shown.says("#p-flight form .hint code", "TOBT,AB1,2025-03-10T23:50Z")
+    shown.js("document.activeElement.blur()")
+    left = shown.text("#desk-left")
+    assert shown.server.request("POST", "/v1/day", "", Cdm_Role="ATC").status == 200
+    shown.says("h1", "Tue 11 Mar 2025")
+    # The records that are listed, and how many are left, are those of the new day.
+    shown.until("return document.querySelector('#f-records tr') === null")
+    shown.until("return document.querySelector('#desk-left').innerText !== arguments[0]", left)
+    assert shown.js("return document.querySelector('#p-flight form input[name=time]').value") == "23:50"
+    shown.click("#p-flight form button:not([type])")
+    shown.says("#p-flight .reply", "Refused, RANGE.")
+    assert "2025-03-10T23:50Z" in shown.server.get("/v1/records?desk=AO&day=2025-03-11").body

@@ -64,7 +64,7 @@ FAULTS = [
         ("views.js", "const isSame = last && isPast && !list.some((reply) => reply.reply",
          "const isSame = last && isPast && !list.some((reply) => !reply.line.startsWith('DAY,') && reply.reply")]),
     ("what was sent in the day before is sent as another record", "Said", 1, [
-        ("reading.js", "    this.operators = false;\n    this.order(", "    this.operators = false;\n    this.sending.unknown.clear();\n    this.order(")]),
+        ("reading.js", "    this.forgetOperators();\n    this.order(", "    this.forgetOperators();\n    this.sending.unknown.clear();\n    this.order(")]),
     ("a panel lists records of the day before", "Shown", 1, [
         ("reading.js", "    this.order({ do: 'show', what: 'past' });\n", "")]),
     ("a panel lists records of the day before again, as they were asked for", "Shown", 1, [
@@ -73,11 +73,13 @@ FAULTS = [
         ("machine.js", " * LOG}&day=${this.day.date}` },", " * LOG}` },"),
         ("answers.js", "ask.name === 'log' ? ask.path.endsWith(this.day.date) :", "ask.name === 'log' ||")]),
     ("the operators are those of the day before", "Arrives", 1, [
-        ("reading.js", "    this.operators = false;\n", "")]),
+        ("reading.js", "    this.forgetOperators();\n    this.order(", "    this.order(")]),
     ("the operators that a server of the day before tells are the last word", "Arrives", 1, [
-        ("answers.js", "this.operators = isNow;", "this.operators = true;")]),
+        ("views.js", "{ operators: isNow, operatorsAt:", "{ operators: true, operatorsAt:")]),
+    ("the operators of records that are lost stay", "Arrives", 700848, [
+        ("views.js", "position > this.rows.position ? position : Infinity", "Infinity")]),
     ("the operators that came while the plan was read are dropped", "Arrives", 1, [
-        ("reading.js", "    if (!this.operators) this.questions.want(", "    if (isOther || isNext) this.questions.want(")]),
+        ("reading.js", "    if (!this.operators || this.operatorsAt < Infinity) this.forgetOperators();", "    if (this.operators && this.operatorsAt < Infinity) this.forgetOperators();")]),
     ("the operators that a box failed to show are never shown", "Arrives", 1, [
         ("machine.js", "      if (part === 'operators') this.operators = false;\n", "")]),
     ("how many records are left is of the day before", "Arrives", 1, [

@@ -98,28 +98,32 @@ def tasks(shown):
 
 
 def test_what_the_machine_took(tmp_path, monkeypatch):
-    """Of two pages the one that runs counts. Its thread waited 30 ms, the one that puts it together 20, and the host took 400 ms of four processors."""
+    """Of two pages the one that runs counts. Its thread waited 30 ms on processor 2, of which the host took 100 ms, and then rested while the host
+    took 50 ms more of it; the thread that puts it together waited 20 ms on processor 1, of which the host took 40 ms. What it took of the others,
+    much more, nobody else has to answer for."""
     monkeypatch.setattr(processors, "PROC", tmp_path)
     monkeypatch.setattr(processors, "TICKS", 100)
 
-    def at(host, times):
-        cpus = "".join(f"cpu{number} 0 0 0 0 0 0 0 {host // 4} 0 0\n" for number in range(4))
-        (tmp_path / "stat").write_text(f"cpu  0 0 0 0 0 0 0 {host} 0 0\n{cpus}intr 0\n")
-        for (process, thread, name), (ran, waited) in times.items():
+    def look(moment, hosts, times):
+        cpus = "".join(f"cpu{number} 0 0 0 0 0 0 0 {host} 0 0\n" for number, host in enumerate(hosts))
+        (tmp_path / "stat").write_text(f"cpu  0 0 0 0 0 0 0 {sum(hosts)} 0 0\n{cpus}intr 0\n")
+        for (process, thread, name), (processor, ran, waited) in times.items():
             folder = tmp_path / str(process) / "task" / str(thread)
             folder.mkdir(parents=True, exist_ok=True)
             (tmp_path / str(process) / "stat").write_text(f"{process} (chromium) S 7 0\n")
             (tmp_path / str(process) / "cmdline").write_bytes(b"chromium\0--type=renderer\0")
             (folder / "comm").write_text(f"{name}\n")
+            (folder / "stat").write_text(f"{thread} ({name}) S 7 {' '.join(['0'] * 34)} {processor} 0 0\n")
             (folder / "schedstat").write_text(f"{ran * 10**6} {waited * 10**6} 1\n")
         taken.look(list(processors.pages_of(7)))
+        taken.looks[-1] = taken.looks[-1]._replace(at=moment)
     taken, page, drawing, other = Taken(7), (8, 8, "chromium"), (8, 9, "Compositor"), (11, 11, "chromium")
-    at(0, {page: (0, 0), drawing: (0, 0), other: (0, 0)})
-    began = time.time() * 1000
-    at(40, {page: (150, 30), drawing: (5, 20), other: (1, 500)})
-    assert taken.within(began, 0.001) == 0.001
-    taken.looks[-1] = (began + 300, *taken.looks[-1][1:])
-    assert taken.within(began, 300) == 30 + 100 and taken.within(began, 300, True) == 30 + 20 + 100
+    look(1000, (0, 0, 0, 0), {page: (2, 0, 0), drawing: (1, 0, 0), other: (0, 0, 0)})
+    look(1200, (60, 4, 10, 30), {page: (2, 150, 30), drawing: (1, 5, 20), other: (0, 1, 500)})
+    look(1300, (90, 4, 15, 30), {page: (2, 150, 30), drawing: (1, 5, 20), other: (0, 1, 500)})
+    assert taken.within(1000, 300) == 30 + 100
+    assert taken.within(1000, 300, is_drawn=True) == 30 + 100 + 20 + 40
+    assert taken.within(1250, 50, is_drawn=True) == 0 and taken.within(1100, 20) == 20
 
 
 def test_a_long_task_of_the_page_is_never_excused(shown):
