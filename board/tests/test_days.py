@@ -307,6 +307,7 @@ def talked(servers, chance, tmp_path, days, kills):
     shows."""
     desks = {f"desk-{number}": ROLES[number % 5] for number in range(16)}
     talk, watched = Talk(servers, chance, desks), Watched(servers, chance)
+    watched.shows_the_same(0)
     talking = threading.Thread(target=talk.run, daemon=True)
     talking.start()
     try:
