@@ -196,6 +196,7 @@ class Talk:
         self.servers, self.chance, self.desks = servers, chance, desks
         self.day, self.is_over, self.got = 10, False, {name: [] for name in desks}
         self.longest, self.is_quiet, self.idle, self.of_day = 0.0, False, set(), dict.fromkeys(desks, (10, 0))
+        self.is_given_up = False
 
     def run(self):
         with concurrent.futures.ThreadPoolExecutor(len(self.desks)) as pool:
@@ -233,7 +234,7 @@ class Talk:
 
     def told(self, chance, name, lines, key):
         end = time.monotonic() + 90 * FACTOR
-        while time.monotonic() < end:
+        while time.monotonic() < end and not self.is_given_up:
             with contextlib.suppress(OSError, http.client.HTTPException):
                 answer = chance.choice(self.servers).post(lines, name, key)
                 if isinstance(answer, list):
@@ -306,6 +307,7 @@ def talked(servers, chance, tmp_path, days, kills):
     shows."""
     desks = {f"desk-{number}": ROLES[number % 5] for number in range(16)}
     talk, watched = Talk(servers, chance, desks), Watched(servers, chance)
+    watched.shows_the_same(0)
     talking = threading.Thread(target=talk.run, daemon=True)
     talking.start()
     try:
@@ -322,7 +324,7 @@ def talked(servers, chance, tmp_path, days, kills):
         talking.join(120 * FACTOR)
         assert not talking.is_alive()
     finally:
-        talk.is_over = True
+        talk.is_over = talk.is_given_up = True
     checked(talk, servers, tmp_path, days)
     watched.ends(reached(servers[0]))
     # Behind a server that has just started it may show an earlier day once more, but none is missing.
