@@ -72,7 +72,9 @@ class Changing:
                     batch.change = await carry(self._day.position)
                     positions = await self._log.append(batch)
                     await self._day.reached(positions[-1])
-            except TimeoutError:
+            except (TimeoutError, Problem) as why:
+                if isinstance(why, Problem) and why.status != 504:
+                    raise
                 raise Problem(504, f"it isn't known whether {day} has begun; ask again, with ?day={day}") from None
 
     async def run(self, at: time) -> None:

@@ -19,6 +19,7 @@ from conftest import AIRPORT, FACTOR, PROGRAM, ROOT, objects, until
 sys.path.insert(0, str(ROOT))
 from board import answers, changing, postgres, sqlite  # noqa: E402
 from board.log import Batch, Change, Record  # noqa: E402
+from board.words import Fault, Problem  # noqa: E402
 
 needs_postgres = pytest.mark.skipif(bool(clusters.missing()), reason=f"a log in PostgreSQL: {' and '.join(clusters.missing())} missing")
 DESKS = {"ap": 'role = "AP"', "ops": 'role = "AO"', "tower": 'role = "ATC"\nclock = true', "other": 'role = "ATC"'}
@@ -179,7 +180,6 @@ def test_a_start_whatever_airport_file_came_last(open_log):
         return [change.position for change in await log.changes()]
     for airport in (first, second, other, second.replace(b"-11", b"-29")):
         assert open_log(airport, changes) == [1, 2]
-    from board.words import Fault
     for airport in (first.replace(b"-10", b"-11"), second + b"TAXI,*,27L,9\n", b"", b"DAY,"):
         with pytest.raises(Fault, match="another airport file"):
             open_log(airport, changes)
@@ -243,6 +243,27 @@ def test_a_clock_that_jumps_begins_no_day():
         asyncio.run(talk())
     assert [int((look - at).total_seconds()) for look in looks] == [0, 20, 320, 340, 631, 340]
     assert said == ["cdmboard: no day begins by itself: 2026-03-05T12:00Z is more than 5 minutes after the last look at the clock; a new start goes by it"]
+
+
+def test_a_change_of_which_nothing_is_known():
+    """Whoever made it is told what to ask: a change of day has no key with which it could be sent again."""
+    def made(status):
+        async def fails(_):
+            raise Problem(status, "send again with the same key")
+
+        async def carry(_):
+            return b""
+
+        async def reached(_):
+            return None
+        day = mock.Mock(date="2025-03-10", position=6, reached=reached, change=Change(0, AIRPORT.encode()))
+        records = mock.Mock(is_closing=False, sequencer=mock.Mock(carry=carry))
+        making = changing.Changing(mock.Mock(append=fails), day, None, records)
+        with pytest.raises(Problem) as raised:
+            asyncio.run(making.make(changing.DESK, "2025-03-11", None))
+        return raised.value.status, str(raised.value)
+    assert made(504) == (504, "it isn't known whether 2025-03-11 has begun; ask again, with ?day=2025-03-11")
+    assert made(503) == (503, "send again with the same key")
 
 
 def test_a_change_that_is_sent_again(board):
