@@ -14,32 +14,32 @@ SCHEDULES = 50_000
 # The fault, the law that it breaks, a seed whose schedule shows it, and the edits: a file of the page, its words, and what stands there
 # instead.
 FAULTS = [
-    ("a reset asks for the old position, of whichever log", "Arrives", 79, [
+    ("a reset asks for the old position, of whichever log", "Arrives", 119, [
         ("answers.js", "this.need ? this.need.position :", "this.need ? Math.max(this.need.position, this.rows?.position ?? 0) :")]),
-    ("a reset during a read is dropped", "Arrives", 29, [
+    ("a reset during a read is dropped", "Arrives", 207, [
         ("reading.js", "  readAnew(isOther = false) {", "  readAnew(isOther = false) {\n    if (this.need) return;")]),
-    ("a sign-in during a read ends the page", "Alive", 16, [
+    ("a sign-in during a read ends the page", "Alive", 37, [
         ("session.js", "  begin() {\n", "  begin() {\n    if (this.questions.isAsked('plan')) {\n      for (const ask of [...this.asks.values()]) this.abandon(ask);\n"
          "      this.questions.clear();\n      this.closeStream();\n      this.who = null;\n      return;\n    }\n")]),
-    ("a record without a reply gets a second key", "Said", 1210, [
+    ("a record without a reply gets a second key", "Said", 22, [
         ("sending.js", "    if (!isAgain && isNothingTaken(answer)) return", "    if (isNothingTaken(answer)) this.unknown.delete(line);\n"
          "    if (isNothingTaken(answer)) return")]),
-    ("a CLOCK that came as a reset isn't counted", "Arrives", 10, [
+    ("a CLOCK that came as a reset isn't counted", "Arrives", 13, [
         ("reading.js", "    if (this.history.since >= position) this.endHistory();", "    if (since !== null || this.history.since >= position) this.endHistory();")]),
-    ("one answer that isn't understood ends all questions", "Alive", 1, [
+    ("one answer that isn't understood ends all questions", "Alive", 40, [
         ("answers.js", "      isTaken = false;\n      fault =", "      if (ask.name !== 'who') throw new Error('not JSON');\n      isTaken = false;\n      fault =")]),
-    ("what a box failed to show is never shown", "Arrives", 71, [
+    ("what a box failed to show is never shown", "Arrives", 622, [
         ("machine.js", "    this.isBroken = true;\n", "    if (part) return;\n")]),
-    ("a log that is away isn't shown", "Arrives", 30, [
+    ("a log that is away isn't shown", "Arrives", 29, [
         ("answers.js", "      if (event.status === 200) this.takeStale(told.stale_since ?? null);", "      void told;")]),
     ("a silent break is told late", "Shown", 155, [
         ("limits.js", "export const QUIET = 17000;", "export const QUIET = 25000;")]),
-    ("a server that is behind leaves a gap after a reset", "Arrives", 953, [
+    ("a server that is behind leaves a gap after a reset", "Arrives", 518, [
         ("reading.js", "    if (moment.position < need.position) return false;\n", ""),
         ("answers.js", "this.need ? this.need.position :", "this.need ? 0 :")]),
-    ("a panel shows records of a day that is gone", "Shown", 90, [
+    ("a panel shows records of a day that is gone", "Shown", 95, [
         ("reading.js", "    this.order({ do: 'show', what: 'empty' });\n", "")]),
-    ("Retry-After isn't heeded", "Heeded", 9, [
+    ("Retry-After isn't heeded", "Heeded", 5, [
         ("questions.js", "retry * 1000 * (1 + chance / 4)", "0")]),
     ("a server with another past under the same name isn't seen", "Shown", 1884, [
         ("following.js", "else if (isSameMoment(rows, stream.moment) && !this.isBroken)", "else if (!this.isBroken)"),
@@ -55,38 +55,35 @@ FAULTS = [
         ("answers.js", "    if (ask.name === 'totals') this.holdTotals(", "    if (ask.name === 'totals') this.takeTotals(")]),
     ("old totals aren't said to be old", "Shown", 1, [
         ("views.js", "const isOld = this.totals.position < this.rows.position;", "const isOld = false;")]),
-    ("a change of day keeps the old date", "Shown", 1, [
+    ("a change of day keeps the old date", "Shown", 2, [
         ("day.js", "date: plan.day, now: plan.now", "date: this.date || plan.day, now: plan.now")]),
-    ("a change of day keeps the rows that are gone", "Shown", 1, [
+    ("a change of day keeps the rows that are gone", "Shown", 2, [
         ("day.js", "const rows = new Map(plan.flights.map((row) => [row.flight, row]));",
          "const rows = new Map([...this.rows.values(), ...plan.flights].map((row) => [row.flight, row]));")]),
-    ("a change of day counts as a record that changed nothing", "Shown", 1, [
-        ("views.js", "const isSame = last && isPast && !list.some((reply) => reply.reply",
-         "const isSame = last && isPast && !list.some((reply) => !reply.line.startsWith('DAY,') && reply.reply")]),
-    ("what was sent in the day before is sent as another record", "Said", 1, [
+    ("what was sent in the day before is sent as another record", "Said", 1472, [
         ("reading.js", "    this.forgetOperators();\n    this.order(", "    this.forgetOperators();\n    this.sending.unknown.clear();\n    this.order(")]),
-    ("a panel lists records of the day before", "Shown", 1, [
+    ("a panel lists records of the day before", "Shown", 11, [
         ("reading.js", "    this.order({ do: 'show', what: 'past' });\n", "")]),
-    ("a panel lists records of the day before again, as they were asked for", "Shown", 1, [
+    ("a panel lists records of the day before again, as they were asked for", "Shown", 52, [
         ("answers.js", "ask.name === 'log' ? ask.path.endsWith(this.day.date) :", "ask.name === 'log' ||")]),
-    ("the list of the log lacks the new day", "Arrives", 1, [
+    ("the list of the log lacks the new day", "Shown", 11, [
         ("machine.js", " * LOG}&day=${this.day.date}` },", " * LOG}` },"),
         ("answers.js", "ask.name === 'log' ? ask.path.endsWith(this.day.date) :", "ask.name === 'log' ||")]),
-    ("the operators are those of the day before", "Arrives", 1, [
+    ("the operators are those of the day before", "Arrives", 2, [
         ("reading.js", "    this.forgetOperators();\n    this.order(", "    this.order(")]),
     ("the operators that a server of the day before tells are the last word", "Arrives", 1, [
         ("views.js", "{ operators: isNow, operatorsAt:", "{ operators: true, operatorsAt:")]),
     ("the operators of records that are lost stay", "Arrives", 700848, [
         ("views.js", "position > this.rows.position ? position : Infinity", "Infinity")]),
-    ("the operators that came while the plan was read are dropped", "Arrives", 1, [
+    ("the operators that came while the plan was read are dropped", "Arrives", 63, [
         ("reading.js", "    if (!this.operators || this.operatorsAt < Infinity) this.forgetOperators();", "    if (this.operators && this.operatorsAt < Infinity) this.forgetOperators();")]),
     ("the operators that a box failed to show are never shown", "Arrives", 1, [
         ("machine.js", "      if (part === 'operators') this.operators = false;\n", "")]),
-    ("how many records are left is of the day before", "Arrives", 1, [
+    ("how many records are left is of the day before", "Arrives", 2, [
         ("reading.js", "    if (this.who?.kinds.length) this.questions.want('who', this.at + this.chance() * SOON);\n", "")]),
     ("how many records are left is told by a server of the day before", "Arrives", 1, [
         ("machine.js", ", after: () => (this.who ? this.rows?.position ?? 0 : 0) },", " },")]),
-    ("a question of who spoke before signs out who speaks now", "Alive", 1, [
+    ("a question of who spoke before signs out who speaks now", "Alive", 6982, [
         ("machine.js", "    if (status === 401 && this.who) this.questions.wantNow('who', this.at);\n",
          "    if (status === 401) this.signedOut('a token of a desk is needed');\n")]),
 ]
