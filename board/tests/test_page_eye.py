@@ -734,7 +734,8 @@ def test_a_log_that_is_away_is_an_alert(page):
         const body = words[0] === '/health' ? JSON.stringify({...await got.json(), stale_since: '2025-03-10T05:49:12.000Z'}) : got.body;
         return new Response(body, {status: got.status, headers}); };""")
     shown.says("#stale", "The log isn’t reached since 05:49:12 UTC", seconds=20 + WAIT)
-    assert [name for role, name in tree(shown) if role == "alert"] != [] and shown.js("return document.querySelector('#stale [role=alert]').checkVisibility()")
+    alerts = shown.js("return [...document.querySelectorAll('[role=alert]')].filter((one) => one.textContent && one.checkVisibility()).map((one) => one.textContent)")
+    assert len(alerts) == 1 and alerts[0].startswith("The log isn’t reached since 05:49:12 UTC")
     shown.until("return !document.querySelector('#conn').innerText.includes('is the last')")
 
 
