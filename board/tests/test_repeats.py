@@ -153,6 +153,8 @@ def test_pages_repeat_what_is_there():
     ("docs/PROVED.md", "| `may_make` |", "| `may_send` |", "docs/PROVED.md: may_send isn't defined in `cdm_flight/specs/Authority.antt`"),
     ("docs/DEFINITIONS.md", "`cdm_row/specs/Json.antt`", "`cdm_row/specs/Text.antt`",
      "docs/DEFINITIONS.md: no file of a crate is cdm_row/specs/Text.antt"),
+    ("README.md", "`cdm_feed::run_asked`, the call", "`cdm_feed::run`, the call",
+     "README.md: the call behind `plan` isn't one that crates/cdm_main/src/main.rt makes"),
     ("docs/PROVED.md", "the clause `passed` says", "the clause `passed_on` says", "docs/PROVED.md: `passed_on`: no passed_on in the code"),
 ])
 def test_what_is_otherwise_is_found(tmp_path, page, old, new, difference):
@@ -211,6 +213,45 @@ def test_a_folder_without_a_line_is_found(tmp_path):
         "plan: 2", "one  0  plan airport.csv", "    the first two", "two  0  plan airport.csv", "    the first two", "",
         "cases/shows: four is named 1 times, and is not there", "cases/shows: three is named 0 times, and is there",
         "cases/shows: two is named 2 times, and is there"], 1)
+
+
+def test_the_readme_is_short_and_the_index_has_its_order():
+    """What it is, the board, three doors, the commands, a first day, the guarantee last; then each door's pages, in the order of reading."""
+    text = (ROOT / "README.md").read_text()
+    assert len(text.splitlines()) <= 170
+    parts = ["board.png", "## Three doors", "    ./cdmseq plan ", "    ./cdmseq prove", "## A first day", "## Commands", "## The guarantee"]
+    assert [text.index(part) for part in parts] == sorted(text.index(part) for part in parts)
+    assert re.findall(r"^## (.*)", text, re.M)[-1] == "The guarantee"
+    table = (ROOT / "docs/README.md").read_text().partition("\n[examples]")[0]
+    assert [name for name in re.findall(r"\]\((?:\.\./)?([A-Z]+)\.md\)", table.partition("|---|")[2])] == [
+        "BOARD", "QUESTIONS", "TUTORIAL", "DEFINITIONS", "HTTP", "FORMATS", "RUN", "POSTGRES", "FIGURES", "PROVED", "CONTRACTS", "MAP",
+        "CONTRIBUTING", "DECISIONS"]
+
+
+def test_each_warning_has_its_line_on_the_board_s_page():
+    """The kinds of FORMATS, in its order; none is about late flights."""
+    specified = re.findall(r"^\| `([A-Z]+) [a-z]", (ROOT / "docs/FORMATS.md").read_text().partition("\n## `warnings`\n")[2].partition("\n## ")[0], re.M)
+    explained = re.findall(r"^\| ([A-Z]+) \|", (ROOT / "docs/BOARD.md").read_text().partition("\n## Warnings\n")[2].partition("\n## ")[0], re.M)
+    assert len(specified) > 5 and explained == specified
+
+
+def test_the_service_s_options_are_those_of_the_package():
+    """With the name by which the proxy is reached; a service without it answers each request with 421."""
+    page, note = ((ROOT / name).read_text() for name in ("docs/RUN.md", "packaging/README.Debian"))
+    found = re.search(r"echo '(OPTIONS=.*? --name (\S+) .*?)' \| sudo tee", page)
+    assert found is not None and f"echo '{found[1]}' |" in note and f"server_name {found[2]};" in page
+
+
+def test_what_is_installed_is_named_as_it_is():
+    """The server's messages and what the package alone has: there is no ./cdmboard where it is installed."""
+    files = [*(ROOT / "board").glob("*.py"), *(file for file in (ROOT / "packaging").iterdir() if file.is_file())]
+    assert [file.name for file in files if re.search(r"(?<![.\w])\./cdm(?:board|seq)\b", file.read_text())] == []
+
+
+def test_no_page_teaches_columns_by_their_numbers():
+    """They are found by their names: a release may add one."""
+    for name in ("README.md", "docs/QUESTIONS.md", "docs/TUTORIAL.md", "docs/HTTP.md", "docs/FORMATS.md"):
+        assert not re.search(r"\bawk\b|\bcut -d,", (ROOT / name).read_text()), name
 
 
 def test_the_version_has_a_section():
