@@ -96,10 +96,8 @@ impl Command<'_> {
             Command::Live { airport, .. } if *airport == STANDARD_INPUT => Some(Input::Airport),
             Command::Live { feed1, .. } if *feed1 == STANDARD_INPUT => Some(Input::Feed1),
             Command::Live { feed2, .. } if *feed2 == STANDARD_INPUT => Some(Input::Feed2),
-            Command::Live { .. }
-            | Command::Serve { .. }
-            | Command::Kinds(_)
-            | Command::Print(_) => None,
+            Command::Live { .. } | Command::Serve { .. } | Command::Kinds(_) | Command::Print(_) =>
+                None,
         }
     }
 

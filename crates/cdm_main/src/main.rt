@@ -24,8 +24,8 @@ pub use cdm_fault::{
     Fault, OpenReason, UnopenedFile, report_command_fault, report_fault, run_status,
 };
 use cdm_feed::{
-    Asked, CarryText, CommonFault, Counted, Device, Input, Lent, RunError, WriteFault, airport_of, read_whole,
-    run_asked, write_text,
+    Asked, CarryText, CommonFault, Counted, Device, Input, Lent, RunError, WriteFault, airport_of,
+    read_whole, run_asked, write_text,
 };
 use cdm_kinds::{Format, kinds_text};
 pub use cdm_live::{LiveCounts, LiveError, run_live};
