@@ -43,59 +43,6 @@ LIMITS = [
     f"that changed more than {events.MOST_ROWS} rows",
     f"within {1000 * views.BURST:.0f} ms have one view, and a new view is begun {views.APART} s after",
 ]
-SMALL = """//! A thing.
-/// A thing.
-pub struct Thing(u8);
-
-/// A way.
-pub trait Way {
-    /// Goes. And more.
-    fn go(&mut self) -> bool
-        requires { true }
-        ensures ok { yes }
-        ensures err { no };
-}
-
-impl Way for Thing {
-    fn go(&mut self) -> bool
-        ensures ok { yes }
-
-        // It is kept.
-        ensures kept { same }
-    {
-        true
-    }
-}
-
-impl Thing {
-    /// How large it is.
-    pub fn size(&self) -> u8
-        ensures value { result }
-    {
-        self.0
-    }
-
-    /// Nobody sees it.
-    fn own(&self)
-        ensures one { yes }
-        ensures two { yes }
-    {
-    }
-}
-
-/// There is one. It is the same everywhere.
-///
-/// For whoever asks.
-#[tactic(auto)]
-pub fn law()
-    ensures one { yes }
-{}
-
-/// Nobody sees it.
-pub fn hidden()
-    ensures one { yes }
-{}
-"""
 NUMBERS = {8: "eight", 12: "twelve", 24: "twenty-four"}
 
 
@@ -172,6 +119,61 @@ def test_what_is_otherwise_is_found(tmp_path, page, old, new, difference):
 
 def test_the_page_of_contracts_is_made_of_the_code():
     assert told(ROOT / "tools/contracts") == ((ROOT / "docs/CONTRACTS.md").read_text(), 0)
+
+
+SMALL = """//! A thing.
+/// A thing.
+pub struct Thing(u8);
+
+/// A way.
+pub trait Way {
+    /// Goes. And more.
+    fn go(&mut self) -> bool
+        requires { true }
+        ensures ok { yes }
+        ensures err { no };
+}
+
+impl Way for Thing {
+    fn go(&mut self) -> bool
+        ensures ok { yes }
+
+        // It is kept.
+        ensures kept { same }
+    {
+        true
+    }
+}
+
+impl Thing {
+    /// How large it is.
+    pub fn size(&self) -> u8
+        ensures value { result }
+    {
+        self.0
+    }
+
+    /// Nobody sees it.
+    fn own(&self)
+        ensures one { yes }
+        ensures two { yes }
+    {
+    }
+}
+
+/// There is one. It is the same everywhere.
+///
+/// For whoever asks.
+#[tactic(auto)]
+pub fn law()
+    ensures one { yes }
+{}
+
+/// Nobody sees it.
+pub fn hidden()
+    ensures one { yes }
+{}
+"""
 
 
 def test_what_is_made_of_the_code(tmp_path):
