@@ -3,6 +3,6 @@ pub mod TakingLemmas
 pub mod NoticeLemmas
 pub mod LawLemmas
 pub mod DayLemmas
-pub mod RunLemmas
+pub mod MadeLemmas
 pub mod NoticedLemmas
 mod WorkedRows

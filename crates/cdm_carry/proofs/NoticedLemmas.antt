@@ -1,16 +1,17 @@
 -- The notices that records make, and their texts.
-use Rattle.std.proofs.Common.{◌≡◌, ◌<◌, ◌++◌, ◌∙◌, ℕ, subst, Bool, false, All, List, [], Ok, sym, ap}
-use Rattle.std.specs.{List.filter_map, Prelude.{IsPermutation, IsSortedByKey, flat_map}}
+use Rattle.std.proofs.Common.{◌≡◌, ◌<◌, ◌++◌, ◌∙◌, ℕ, subst, subst₂, Bool, false, All, List, [], Ok, sym, ap}
+use Rattle.std.specs.{List.{IsDistinct, filter_map}, Prelude.{IsPermutation, IsSortedByKey, flat_map}}
 use Rattle.cdm_time.specs.{Times.next_date, declared.calendar.CalendarDate.CalendarDate}
-use Rattle.cdm_flight.specs.{Accepted.accepted, Journal.AirportRows, Names.name_cmp, declared.flight.Flight.Flight}
+use Rattle.cdm_flight.specs.{Accepted.accepted, Journal.AirportRows, Names.{name_cmp, same_name}, declared.flight.Flight.Flight}
 use Rattle.cdm_kinds.specs.declared.format.Format.{Format}
-use Rattle.cdm_plan.specs.{Day.DayRecord, DayPlan.records_in}
-use Rattle.cdm_files.specs.{AirportFile.airport_in, FeedDay.spelled_in, Refused.{Spelled, updates_in}}
-use Rattle.cdm_carry.specs.{CarriedFeed.{IsCarriedFeed, IsNextDay}, NoticeTexts.notice_end, Noticed.{AreNotices, IsCarryText, IsNoticeText}}
-use Rattle.cdm_carry.specs.{Notices.{Numbered, carried_numbered, counts, earlier, left, notices, numbered, refused_of}, Texts.window_end, inner.RunSteps.AreMade}
+use Rattle.cdm_plan.{specs.{Day.{DayRecord, flights_in}, DayPlan.records_in}, proofs.{DayPlanLemmas.record_names_differ, NameLemmas.by_name}}
+use Rattle.cdm_files.specs.{AirportFile.airport_in, FeedDay.{accepted_in, spelled_in}, Refused.{Spelled, updates_in}}
+use Rattle.cdm_files.proofs.FeedDayLemmas.{own_journal}
+use Rattle.cdm_carry.specs.{CarriedFeed.{IsCarriedFeed, IsNextDay}, NoticeTexts.{notice_end, notices_text}, Noticed.{AreNotices, IsCarryText, IsNoticeText}}
+use Rattle.cdm_carry.specs.{Notices.{Numbered, carried_numbered, counts, earlier, left, notices, numbered, refused_of}, Texts.window_end, inner.Steps.AreMade}
 use Rattle.cdm_carry.specs.declared.{carry_text.CarryText.CarryText, notice.Notice.Notice}
 use Rattle.cdm_carry.specs.declared.carry_text.CarryText.TheVariants as asked
-use Rattle.cdm_carry.proofs.NoticeLemmas.{all_short}
+use Rattle.cdm_carry.proofs.{MadeLemmas.one_feed, NoticeLemmas.all_short}
 
 -- Notices.
 
@@ -78,3 +79,32 @@ feed_asked what care airport feed next text is made none = subst (λ (x : CarryT
 pub notices_asked : (what : CarryText) (format : Format) (care : Bool) (airport feed next text : List ℕ) → what ≡ asked.Notices format
     → IsNoticeText format care airport feed next text → IsCarryText what care airport feed next text
 notices_asked what format care airport feed next text is made = subst (λ (x : CarryText). IsCarryText x care airport feed next text) (sym is) made
+
+-- One text.
+
+own_flights : (g : AirportRows) (feed : List ℕ) → IsDistinct same_name (flights_in (accepted g [] (updates_in (spelled_in g feed))))
+unfolding accepted_in
+own_flights g feed = own_journal g feed
+
+-- a feed has one list of notices, since its flights are taken by name
+one_list : (g h : AirportRows) (feed : List ℕ) (x y : List Notice) → AreNotices g (spelled_in g feed) h x → AreNotices g (spelled_in g feed) h y → x ≡ y
+one_list g h feed x y a b =
+    let records = spelled_in g feed in
+    let journal = accepted g [] (updates_in records) in
+    let flights : a.flights ≡ b.flights =
+    by_name (λ (f : Flight). f.name) (records_in g journal) a.flights b.flights (record_names_differ (record { airport = g; journal = journal }) (own_flights g feed))
+    a.all b.all a.by_name b.by_name in
+    a.value ∙ (λ i. notices (flights i) journal (numbered g [] 1 records) h) ∙ sym b.value
+
+one_notices : (format : Format) (airport feed next x y : List ℕ) (c d : Bool) → IsNoticeText format c airport feed next x → IsNoticeText format d airport feed next y → x ≡ y
+one_notices format airport feed next x y c d a b =
+    let same : b.rows ≡ a.rows = cc (sym b.airport_file ∙ a.airport_file) in
+    let too : b.next_rows ≡ a.next_rows = cc (sym b.next_file ∙ a.next_file) in
+    let are = subst₂ (λ (g h : AirportRows). AreNotices g (spelled_in g feed) h b.notices) same too b.are in
+    let list : a.notices ≡ b.notices = one_list a.rows a.next_rows feed a.notices b.notices a.are are in
+    a.bytes ∙ (λ i. notices_text format (sym same i).day (sym too i).day (list i)) ∙ sym b.bytes
+
+-- three files have one text of what is asked for
+pub one_carried : (what : CarryText) (airport feed next x y : List ℕ) (c d : Bool) → IsCarryText what c airport feed next x → IsCarryText what d airport feed next y → x ≡ y
+one_carried asked.Feed airport feed next x y c d a b = one_feed airport feed next x y a.0 b.0
+one_carried (asked.Notices format) airport feed next x y c d a b = one_notices format airport feed next x y c d a b

@@ -5,5 +5,5 @@ pub mod NoticeTexts
 pub mod Laws
 pub mod CarriedFeed
 pub mod Noticed
-pub mod CarryFaults
+pub mod Uncarried
 pub mod inner

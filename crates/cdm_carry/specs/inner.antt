@@ -1,3 +1,3 @@
 pub mod Leaving
-pub mod RunSteps
+pub mod Steps
 pub mod NoticeLines

@@ -1,7 +1,7 @@
-//! What a run writes that carries a day over.
+//! What is asked for that carries a day over.
 use cdm_kinds::Format;
 
-/// What a run writes that carries a day over.
+/// What is asked for that carries a day over.
 #[derive(Clone, Copy, PartialEq, Eq, Debug)]
 pub enum CarryText {
     /// The feed of the next day.

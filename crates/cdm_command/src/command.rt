@@ -4,7 +4,7 @@ ghost use Rattle.cdm_command.specs.declared.command.CommandFault.TheVariants as 
 
 use crate::manual::{VERSION, manual};
 use crate::parsers::parser;
-use cdm_feed::{Ahead, DayQuestion, DayText, GroupBy, Input, ShiftQuestion, Since};
+use cdm_feed::{Ahead, CarryText, DayQuestion, DayText, GroupBy, Input, ShiftQuestion, Since};
 use cdm_flight::{FlightName, RunwayName};
 use cdm_kinds::Format;
 use cdm_phase::Workers;
@@ -20,26 +20,26 @@ use thiserror::Error;
 /// The name of a file that is standard input.
 pub const STANDARD_INPUT: &str = "-";
 
-/// The paths of the files of a day, and of its scenarios, if there are some.
+/// The paths of the files of a day, and of the one that is read after them, if there is one.
 #[derive(Clone, Copy, PartialEq, Eq, Debug)]
 pub struct DayFiles<'a> {
     /// The airport file.
     pub airport: &'a str,
     /// The feed.
     pub feed: &'a str,
-    /// The scenario file.
-    pub scenarios: Option<&'a str>,
+    /// The scenario file, or the airport file of the next day.
+    pub third: Option<&'a str>,
 }
 
 impl DayFiles<'_> {
-    // The first of the files that is standard input, as the input that it is.
-    fn standard_input(&self) -> Option<Input> {
+    // The first of the files that is standard input, as the input that it is, where the third one is this.
+    fn standard_input(&self, third: Input) -> Option<Input> {
         if self.airport == STANDARD_INPUT {
             Some(Input::Airport)
         } else if self.feed == STANDARD_INPUT {
             Some(Input::Feed)
-        } else if self.scenarios == Some(STANDARD_INPUT) {
-            Some(Input::Scenarios)
+        } else if self.third == Some(STANDARD_INPUT) {
+            Some(third)
         } else {
             None
         }
@@ -68,13 +68,10 @@ pub enum Command<'a> {
         feed1: &'a str,
         feed2: &'a str,
     },
-    /// Carry a day over: write what the next airport has of the accepted records of a feed, as a feed of the next day; or tell
-    /// in this format what a person must know before.
+    /// Carry a day over to the airport of the next day: write this of its files, of which the third is the next airport file.
     Carry {
-        airport: &'a str,
-        feed: &'a str,
-        next: &'a str,
-        tell: Option<Format>,
+        files: DayFiles<'a>,
+        text: CarryText,
     },
     /// Serve the day of an airport as it happens, with a journal. Standard input has the records.
     Serve {
@@ -89,40 +86,32 @@ pub enum Command<'a> {
 }
 
 impl Command<'_> {
-    /// The first of the files that is standard input, as the input that it is. None of the names is that of the next airport file.
+    /// The first of the files that is standard input, as the input that it is.
     pub fn standard_input(&self) -> Option<Input> {
         match self {
-            Command::Tell { files, .. } | Command::Check { files, .. } => files.standard_input(),
+            Command::Tell { files, .. } | Command::Check { files, .. } => {
+                files.standard_input(Input::Scenarios)
+            }
+            Command::Carry { files, .. } => files.standard_input(Input::NextAirport),
             Command::Live { airport, .. } if *airport == STANDARD_INPUT => Some(Input::Airport),
             Command::Live { feed1, .. } if *feed1 == STANDARD_INPUT => Some(Input::Feed1),
             Command::Live { feed2, .. } if *feed2 == STANDARD_INPUT => Some(Input::Feed2),
-            Command::Carry { airport, .. } if *airport == STANDARD_INPUT => Some(Input::Airport),
-            Command::Carry { feed, .. } if *feed == STANDARD_INPUT => Some(Input::Feed),
-            Command::Live { .. }
-            | Command::Carry { .. }
-            | Command::Serve { .. }
-            | Command::Kinds(_)
-            | Command::Print(_) => None,
+            Command::Live { .. } | Command::Serve { .. } | Command::Kinds(_) | Command::Print(_) =>
+                None,
         }
     }
 
     // Whether more than one of the files is standard input.
     fn has_standard_input_twice(&self) -> bool {
         let files = match self {
-            Command::Tell { files, .. } | Command::Check { files, .. } => {
-                [Some(files.airport), Some(files.feed), files.scenarios]
-            }
+            Command::Tell { files, .. }
+            | Command::Check { files, .. }
+            | Command::Carry { files, .. } => [Some(files.airport), Some(files.feed), files.third],
             Command::Live {
                 airport,
                 feed1,
                 feed2,
             } => [Some(*airport), Some(*feed1), Some(*feed2)],
-            Command::Carry {
-                airport,
-                feed,
-                next,
-                ..
-            } => [Some(*airport), Some(*feed), Some(*next)],
             Command::Serve { .. } | Command::Kinds(_) | Command::Print(_) => [None; 3],
         };
         files
@@ -238,12 +227,12 @@ fn wrong_words(alloc: Global, cause: &str) -> Result<CommandFault, AllocError> {
     Ok(CommandFault::Usage(format!(in alloc; "error: {cause}\n")?))
 }
 
-// The files of a day, with this scenario file.
-fn files_of<'a>(words: &ArgMatches<'a>, scenarios: Option<&'a str>) -> Option<DayFiles<'a>> {
+// The files of a day, with this one after them.
+fn files_of<'a>(words: &ArgMatches<'a>, third: Option<&'a str>) -> Option<DayFiles<'a>> {
     Some(DayFiles {
         airport: words.get_str("AIRPORT")?,
         feed: words.get_str("FEED")?,
-        scenarios,
+        third,
     })
 }
 
@@ -410,11 +399,11 @@ fn live_of<'a>(live: &ArgMatches<'a>) -> Option<Command<'a>> {
     })
 }
 
-// What `carry` tells and how, if it writes no feed.
-fn tell_of(alloc: Global, carry: &ArgMatches<'_>) -> Result<Option<Format>, CommandFault> {
+// What `carry` writes: a feed, or what it tells in place of it.
+fn carry_text_of(alloc: Global, carry: &ArgMatches<'_>) -> Result<CarryText, CommandFault> {
     match (carry.get_flag("tell"), format_of(carry)) {
-        (true, format) => Ok(Some(format)),
-        (false, Format::Text) => Ok(None),
+        (true, format) => Ok(CarryText::Notices(format)),
+        (false, Format::Text) => Ok(CarryText::Feed),
         (false, Format::Json) => Err(missing(alloc, "--tell")?),
     }
 }
@@ -424,16 +413,11 @@ fn carry_of<'a>(
     alloc: Global,
     carry: &ArgMatches<'a>,
 ) -> Result<Option<Command<'a>>, CommandFault> {
-    let tell = tell_of(alloc, carry)?;
-    let (Some(files), Some(next)) = (files_of(carry, None), carry.get_str("NEXT_AIRPORT")) else {
-        return Ok(None);
-    };
-    Ok(Some(Command::Carry {
-        airport: files.airport,
-        feed: files.feed,
-        next,
-        tell,
-    }))
+    let text = carry_text_of(alloc, carry)?;
+    match files_of(carry, carry.get_str("NEXT_AIRPORT")) {
+        Some(files) => Ok(Some(Command::Carry { files, text })),
+        None => Ok(None),
+    }
 }
 
 // The words of `check`, all of which the parser has seen to.

@@ -4,7 +4,6 @@ ghost use Rattle.cdm_fault.specs.Statuses.{status_of_command_fault, status_of_co
 ghost use Rattle.cdm_fault.specs.declared.fault.Fault.TheVariants as fault;
 
 use crate::unopened::{ShownPath, UnopenedFile};
-use cdm_carry::CarryError;
 use cdm_command::CommandFault;
 use cdm_feed::{CommonFault, Counted, Device, Input, RunError};
 use cdm_live::LiveError;
@@ -23,9 +22,6 @@ pub enum Fault {
     /// The file of this input can't be opened.
     #[error("cannot read {0} ({1})")]
     CannotOpen(Input, UnopenedFile),
-    /// The next airport file can't be opened.
-    #[error("cannot read NEXT_AIRPORT ({0})")]
-    CannotOpenNext(UnopenedFile),
     /// Want of memory before the run.
     #[error("out of memory")]
     NoMemory,
@@ -35,9 +31,6 @@ pub enum Fault {
     /// The live run has not written its whole text.
     #[error(transparent)]
     Live(#[from] LiveError),
-    /// The feed of the next day is not written, or not all of it.
-    #[error(transparent)]
-    Carry(#[from] CarryError),
     /// The journal's file or its lock can't be opened.
     #[error("cannot open JOURNAL ({0})")]
     CannotOpenJournal(UnopenedFile),
@@ -72,7 +65,6 @@ impl Fault {
         match self {
             Fault::Run(RunError::Common(fault))
             | Fault::Live(LiveError::Common(fault))
-            | Fault::Carry(CarryError::Common(fault))
             | Fault::Serve(ServeError::Common(fault)) => common_status(*fault),
             Fault::Run(RunError::OtherDay) => USAGE_STATUS,
             Fault::Run(
@@ -80,17 +72,14 @@ impl Fault {
                 | RunError::NoFlight(_)
                 | RunError::NoRunway(_)
                 | RunError::NoScenario(_)
-                | RunError::Update(..),
+                | RunError::Update(..)
+                | RunError::NextAirport(..)
+                | RunError::NextDay(_),
             )
             | Fault::Serve(ServeError::Journal(..) | ServeError::Port(PortFault::JournalTooLong))
             | Fault::JournalMissing(_)
-            | Fault::Live(LiveError::HistoryFull)
-            | Fault::Carry(
-                CarryError::NextTooLong | CarryError::NextRecord(..) | CarryError::NextDay(_),
-            ) => 3,
+            | Fault::Live(LiveError::HistoryFull) => 3,
             Fault::CannotOpen(..)
-            | Fault::CannotOpenNext(_)
-            | Fault::Carry(CarryError::NextRead)
             | Fault::CannotOpenJournal(_)
             | Fault::JournalNoFile(_)
             | Fault::JournalInUse(_)
@@ -111,15 +100,16 @@ fn common_status(fault: CommonFault) -> u8
     }
 }
 
-/// The exit status of a run that has written its text: 4 where a check refuses a record, and, if it is strict, where a day refuses one of the
-/// feed or the feed has none.
+/// The exit status of a run that has written its text: 4 where a check refuses a record, where a person has to see to something before the
+/// next day, and, if it is strict, where a day refuses a record of the feed or the feed has none.
 pub fn run_status(counted: &Counted, is_strict: bool) -> u8
     ensures { result ≡ status_of_run is_strict counted.now }
 {
     match counted {
         Counted::Check(counts) if counts.refused > 0 => 4,
         Counted::Day(counts) if is_strict && (counts.refused > 0 || counts.accepted == 0) => 4,
-        Counted::Check(_) | Counted::Day(_) => 0,
+        Counted::Carry { needs_care: true } => 4,
+        Counted::Check(_) | Counted::Day(_) | Counted::Carry { .. } => 0,
     }
 }
 

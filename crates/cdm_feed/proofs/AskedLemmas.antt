@@ -54,6 +54,8 @@ module _ (question : DayQuestion) (format : Format) (d : DayRecord) (questions :
   untold-of (error.NoRunway runway) is = (is.0, laid-of (Ok is.0) is.1, is.2)
   untold-of (error.NoScenario scenario) is = absurd is
   untold-of error.OtherDay is = absurd is
+  untold-of (error.NextAirport number word) is = absurd is
+  untold-of (error.NextDay days) is = absurd is
   untold-of (error.Update scenario number word) is = (refl-some is.0, laid-of (Err (number, word)) is.1)
     where
       refl-some : scenario ≡ name → Some name ≡ Some scenario

@@ -50,6 +50,8 @@ module _ (a f s : List ℕ) (g : AirportRows) (questions : List ScenarioRecord) 
   unmade asked (error.NoFlight name) is = there (λ h q. IsUntold asked (day_in h f) q (error.NoFlight name)) is
   unmade asked (error.NoRunway name) is = there (λ h q. IsUntold asked (day_in h f) q (error.NoRunway name)) is
   unmade asked (error.NoScenario name) is = there (λ h q. IsUntold asked (day_in h f) q (error.NoScenario name)) is
+  unmade asked (error.NextAirport number word) is = there (λ h q. IsUntold asked (day_in h f) q (error.NextAirport number word)) is
+  unmade asked (error.NextDay days) is = there (λ h q. IsUntold asked (day_in h f) q (error.NextDay days)) is
   unmade asked error.OtherDay is = there (λ h q. IsUntold asked (day_in h f) q error.OtherDay) is
   unmade asked (error.Update name number word) is = there (λ h q. IsUntold asked (day_in h f) q (error.Update name number word)) is
 

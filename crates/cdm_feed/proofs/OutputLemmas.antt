@@ -12,6 +12,7 @@ use Rattle.cdm_kinds.specs.declared.format.Format.{Format, TheVariants.{Text, Js
 use Rattle.cdm_table.proofs.TableLemmas.{one_plans, one_table}
 use Rattle.cdm_trace.{specs.Traces.{IsTrace, from_minute}, proofs.OneTrace.one}
 use Rattle.cdm_shift.{specs.Answers.IsDayAnswer, specs.declared.question.DayQuestion.DayQuestion, proofs.OneAnswer.answer_one}
+use Rattle.cdm_carry.{specs.declared.carry_text.CarryText.CarryText, proofs.NoticedLemmas.one_carried}
 use Rattle.cdm_files.{specs.FeedDay.day_in, proofs.FeedDayLemmas.{own_airport, own_journal}}
 use Rattle.cdm_feed.specs.{Answers.IsAnswer, Made.{HaveOne, IsAskedOf, IsMade, IsPlanIn, IsTextOf, IsTraceSince, IsView}}
 use Rattle.cdm_feed.specs.{Output.{HaveOneText, IsMadeBy, IsReport}, inner.OneAnswer.one_answer, declared.asked.DayText.DayText}
@@ -112,10 +113,21 @@ one-counted : (asked : DayText) (airport feed scenarios : List ℕ)
     → (x y : List ℕ) (c d : Counted) → IsMade (ask.Day asked) airport feed scenarios x c → IsMade (ask.Day asked) airport feed scenarios y d → x ≡ y
 one-counted asked airport feed scenarios alone x y (counted.Day c) (counted.Day d) a b = one-by (IsTextOf asked) airport feed scenarios alone x y c d a b
 one-counted asked airport feed scenarios alone x y (counted.Check c) d a b = absurd a
+one-counted asked airport feed scenarios alone x y (counted.Carry c) d a b = absurd a
 one-counted asked airport feed scenarios alone x y (counted.Day c) (counted.Check d) a b = absurd b
+one-counted asked airport feed scenarios alone x y (counted.Day c) (counted.Carry d) a b = absurd b
+
+one-carried : (carry : CarryText) (airport feed next x y : List ℕ) (c d : Counted) → IsMade (ask.Carry carry) airport feed next x c
+    → IsMade (ask.Carry carry) airport feed next y d → x ≡ y
+one-carried carry airport feed next x y (counted.Carry c) (counted.Carry d) a b = one_carried carry airport feed next x y c d a b
+one-carried carry airport feed next x y (counted.Day c) d a b = absurd a
+one-carried carry airport feed next x y (counted.Check c) d a b = absurd a
+one-carried carry airport feed next x y (counted.Carry c) (counted.Day d) a b = absurd b
+one-carried carry airport feed next x y (counted.Carry c) (counted.Check d) a b = absurd b
 
 pub one-each : (asked : Asked) (airport feed scenarios : List ℕ) → HaveOne asked airport feed scenarios
 one-each (ask.Check paths format) airport feed scenarios = tt
+one-each (ask.Carry carry) airport feed next = one-carried carry airport feed next
 one-each (ask.Day Picture) airport feed scenarios = tt
 one-each (ask.Day (told.Plan format)) airport feed scenarios =
     one-counted (told.Plan format) airport feed scenarios (λ g questions kept. one-plan format (day_in g feed) _ questions (own-day g feed kept))

@@ -2,4 +2,5 @@ pub mod Answers
 pub mod Output
 pub mod Made
 pub mod Counts
+pub mod Inputs
 pub mod inner

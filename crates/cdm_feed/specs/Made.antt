@@ -1,4 +1,4 @@
--- What runs make of an airport file, a feed and a scenario file, and why they make nothing.
+-- What runs make of an airport file, a feed and a third file, which has scenarios or is the next airport file, and why they make nothing.
 use Rattle.std.specs.Prelude.{◌≡◌, ⊤, ℕ, List, Option, None, Some, IsSome, IsErr, Result, Ok, Err}
 use Rattle.std.specs.Option.{IsSomeAnd}
 use Rattle.std.specs.Result.{IsOkAnd}
@@ -22,10 +22,12 @@ use Rattle.cdm_table.specs.declared.table.TableFault.TheVariants as table
 use Rattle.cdm_picture.specs.Pictures.{IsPicture}
 use Rattle.cdm_trace.specs.Traces.{IsTrace, from_minute}
 use Rattle.cdm_check.specs.Paths.{IsCheckAt, counts_at}
+use Rattle.cdm_carry.specs.Noticed.{IsCarryText}
+use Rattle.cdm_carry.specs.Uncarried.{IsUncarried}
 use Rattle.cdm_files.specs.AirportFile.{airport_in}
-use Rattle.cdm_files.specs.CommonFaults.{IsAirportFault, IsFirstCommonFault}
+use Rattle.cdm_files.specs.CommonFaults.{IsAirportFault}
 use Rattle.cdm_files.specs.FeedDay.{day_in, refusals_in}
-use Rattle.cdm_files.specs.Readings.{AreRead, OfBytes, Reading}
+use Rattle.cdm_files.specs.Readings.{HoldsFirst, IsFailed, IsTooLong, IsUnfailed, OfRead, Reading}
 use Rattle.cdm_files.specs.RunFaults.{Asks}
 use Rattle.cdm_files.specs.ScenarioFile.{scenarios_in}
 use Rattle.cdm_files.specs.declared.common_fault.CommonFault.TheVariants as common
@@ -84,10 +86,11 @@ IsTextOf Picture g feed = IsPicture (day_in g feed)
 IsTextOf (Answer question scenario format) g feed = λ questions. IsView format question (IsAskedOf scenario (day_in g feed) questions)
 IsTextOf (Trace flight since format) g feed = λ questions. IsTraceSince flight since format g feed
 
--- the text that is made of the bytes of an airport file, of a feed and of a scenario file, and what is counted
+-- the text that is made of the bytes of an airport file, of a feed and of a third file, and what is counted
 abbrev pub IsMade : Asked → List ℕ → List ℕ → List ℕ → List ℕ → Counted → Type 0
 IsMade (ask.Day asked) a f s text (counted.Day counts) = IsMadeBy (IsTextOf asked) a f s text counts
 IsMade (ask.Check paths format) a f s text (counted.Check counts) = IsCheckAt format paths a f s text × (counts ≡ counts_at paths a f s)
+IsMade (ask.Carry carry) a f s text (counted.Carry needs_care) = IsCarryText carry needs_care a f s text
 IsMade asked a f s text other = ⊥
 
 -- there is such a text
@@ -126,18 +129,21 @@ IsUntold (Table table) d questions (error.NoScenario name) = unknown_among quest
 IsUntold asked d questions fault = ⊥
 
 -- why whole inputs make no such text: the first faulty record, of the airport file or else of the scenario file, what the
--- day doesn't know, or want of memory. To a check a faulty record is a finding, and no fault.
+-- day doesn't know, or want of memory. To a check a faulty record is a finding, and no fault. Where a day is carried over, the third
+-- file is the next airport file.
 abbrev pub IsUnmade : Asked → List ℕ → List ℕ → List ℕ → RunError → Type 0
 IsUnmade (ask.Check paths format) a f s fault = fault ≡ error.Common common.Memory
+IsUnmade (ask.Carry carry) a f s fault = IsUncarried a s fault
 IsUnmade (ask.Day asked) a f s (error.Common fault) = IsAirportFault a fault
 IsUnmade (ask.Day asked) a f s (error.Scenario number word) = Asks (λ said. said ≡ Err (number, word)) a s
 IsUnmade (ask.Day asked) a f s fault =
     IsOkAnd (airport_in a) (λ g. IsOkAnd (scenarios_in g.day s) (λ questions. IsUntold asked (day_in g f) questions fault))
 
--- the first fault of a run: three inputs are read in their order, then they are asked why they make no text, and then the
--- text is written
+-- the first fault of a run: three inputs are read in their order, then they are asked why they make no text, and then the text is
+-- written. Want of memory may come anywhere before the writing, but not in place of a failed read or of an input that is too long.
 abbrev pub IsFirstOf : Asked → Reading → Reading → Reading → RunError → Type 0
-IsFirstOf (ask.Day asked) a f s (error.Common fault) = IsFirstCommonFault a f s (OfBytes a.before f.before s.before (HaveText (ask.Day asked))) fault
-IsFirstOf (ask.Check paths format) a f s (error.Common (common.Airport number word)) = ⊥
-IsFirstOf (ask.Check paths format) a f s (error.Common fault) = IsFirstCommonFault a f s (OfBytes a.before f.before s.before (HaveText (ask.Check paths format))) fault
-IsFirstOf asked a f s fault = AreRead a f s × OfBytes a.before f.before s.before (λ x y z. IsUnmade asked x y z fault)
+IsFirstOf asked a f s (error.Common (common.Read name)) = HoldsFirst a f s (IsFailed name)
+IsFirstOf asked a f s (error.Common (common.TooLong name)) = HoldsFirst a f s (IsTooLong name)
+IsFirstOf asked a f s (error.Common common.Memory) = IsUnfailed a × IsUnfailed f × IsUnfailed s
+IsFirstOf asked a f s (error.Common common.Write) = OfRead a f s (HaveText asked)
+IsFirstOf asked a f s fault = OfRead a f s (λ x y z. IsUnmade asked x y z fault)

@@ -1,5 +1,10 @@
 //! What is asked of a run.
+ghost use Rattle.std.specs.Prelude.{◌≡◌};
+ghost use Rattle.cdm_feed.specs.Inputs.{third_input};
+
+use cdm_carry::CarryText;
 use cdm_check::FilePaths;
+use cdm_files::Input;
 use cdm_flight::FlightName;
 use cdm_kinds::Format;
 use cdm_scenario::ScenarioName;
@@ -29,4 +34,18 @@ pub enum Asked<'a> {
     Day(DayText),
     /// What is wrong with the files, which have these paths.
     Check(FilePaths<'a>, Format),
+    /// What the next day has of the day, or what a person must know before it begins.
+    Carry(CarryText),
+}
+
+impl Asked<'_> {
+    /// The input that is read after the airport file and the feed.
+    pub fn third_input(&self) -> Input
+        ensures { result ≡ third_input self.now }
+    {
+        match self {
+            Asked::Day(_) | Asked::Check(..) => Input::Scenarios,
+            Asked::Carry(_) => Input::NextAirport,
+        }
+    }
 }

@@ -1,27 +1,29 @@
-//! What a run counts.
+//! What a run counts, or tells beside its text.
 ghost use Rattle.std.specs.Prelude.{◌≡◌};
 ghost use Rattle.cdm_feed.specs.Counts.{day_counts};
 
 use crate::runs::RunCounts;
 use cdm_check::CheckCounts;
 
-/// What a run counts, beside the text that it writes.
+/// What a run counts, or tells beside the text that it writes.
 #[derive(Clone, Copy, PartialEq, Eq, Debug)]
 pub enum Counted {
     /// Of a day.
     Day(RunCounts),
     /// Of a check.
     Check(CheckCounts),
+    /// Of a day that is carried over: whether a person has to see to something that the text tells.
+    Carry { needs_care: bool },
 }
 
 impl Counted {
-    /// What is counted of a day, and nothing of a check.
+    /// What is counted of a day, and nothing of any other text.
     pub fn of_day(self) -> RunCounts
         ensures { result ≡ day_counts self }
     {
         match self {
             Counted::Day(counts) => counts,
-            Counted::Check(_) => RunCounts::default(),
+            Counted::Check(_) | Counted::Carry { .. } => RunCounts::default(),
         }
     }
 }

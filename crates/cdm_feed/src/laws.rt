@@ -9,7 +9,7 @@ pub fn one_text()
     ensures { (airport feed scenarios : List ℕ) → HaveOneText airport feed scenarios }
 {}
 
-/// So they have whatever is told of a day, but for a picture.
+/// So have the bytes of three files of whatever is asked for, but for a picture and a check.
 pub fn one_text_each()
-    ensures { (asked : Asked) (airport feed scenarios : List ℕ) → HaveOne asked airport feed scenarios }
+    ensures { (asked : Asked) (airport feed third : List ℕ) → HaveOne asked airport feed third }
 {}

@@ -18,6 +18,7 @@ use crate::answers::{BaseTold, push_answers};
 use crate::asked::{Asked, DayText};
 use crate::counted::Counted;
 use crate::runs::RunCounts;
+use cdm_carry::{Carried, carried_text};
 use cdm_check::{Checked, check_of};
 use cdm_day::{Airport, DayState, Records};
 use cdm_files::{
@@ -368,7 +369,7 @@ fn made_of_day<R: Threads + Sync, G: Gate>(
     }
 }
 
-/// What is asked for, made of whole inputs: an airport file, a feed and a scenario file.
+/// What is asked for, made of whole inputs: an airport file, a feed, and a scenario file or the next airport file.
 pub(crate) fn made_of_inputs<R: Threads + Sync, G: Gate>(
     lent: &Lent<'_, R, G>,
     asked: &Asked<'_>,
@@ -384,6 +385,11 @@ pub(crate) fn made_of_inputs<R: Threads + Sync, G: Gate>(
         Asked::Check(paths, format) => {
             let Checked { text, counts } = check_of(lent, *paths, &inputs, *format)?;
             let counted = Counted::Check(counts);
+            Ok(Made { text, counted })
+        }
+        Asked::Carry(carry) => {
+            let Carried { text, needs_care } = carried_text(lent.alloc, *carry, &inputs)?;
+            let counted = Counted::Carry { needs_care };
             Ok(Made { text, counted })
         }
     }

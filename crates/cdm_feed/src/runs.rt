@@ -4,6 +4,7 @@ ghost use Rattle.std.specs.Io.KnownBytes.{Appends};
 ghost use Rattle.cdm_files.specs.Device.{Passes};
 ghost use Rattle.cdm_files.specs.Readings.{AreRead, IfTold, OfBytes, Passed, reading};
 ghost use Rattle.cdm_files.specs.RunFaults.{IsFirstFault, is_write_fault};
+ghost use Rattle.cdm_feed.specs.Inputs.{third_input};
 ghost use Rattle.cdm_feed.specs.Made.{HaveOne, IsFirstOf, IsMade};
 ghost use Rattle.cdm_feed.specs.Output.{HaveOneText, IsOutput};
 ghost use Rattle.cdm_feed.specs.declared.counted.Counted.{Counted};
@@ -30,68 +31,67 @@ pub struct RunCounts {
     pub scenarios: usize,
 }
 
-/// Makes what is asked for: reads the airport file, the feed and the scenario file, makes the one text of their bytes, and
-/// writes it. Where no scenario file is asked for, its reader has no byte. The text depends on what is asked for and on the
-/// bytes of the inputs alone, whatever the workers and the gate do.
+/// Makes what is asked for: reads the airport file, the feed and the third file, makes the one text of their bytes, and writes it.
+/// The third file is the scenario file, or where a day is carried over the next airport file. Where no scenario file is asked for, its
+/// reader has no byte. The text depends on what is asked for and on the bytes of the inputs alone, whatever the workers and the gate do.
 ///
 /// `Ok` has read the three inputs to their ends, answers what is counted, and has written the whole text and flushed it.
-/// Faults in their order: `Read` and `TooLong` of the airport file, of the feed and of the scenario file; `Airport` and
-/// `Scenario`, the first faulty record of that file and its word, unless a check is asked for, to which these are findings;
-/// `NoFlight`, `NoRunway` and `NoScenario`, where what is asked for isn't known; `OtherDay`, where it is asked from a time of another
-/// day on; `Update`, the first refused update of the
-/// scenario that is asked for; `Memory`, wherever memory was first refused;
-/// `Write`. Before `Write` nothing was written, and at `Write` a prefix of the text was.
-pub fn run_asked<R: Threads + Sync, A: Read, F: Read, S: Read, G: Gate, W: Write>(
+/// Faults in their order: `Read` and `TooLong` of the airport file, of the feed and of the third file; `Airport`, and `Scenario` or
+/// `NextAirport`, the first faulty record of that file and its word, unless a check is asked for, to which these are findings;
+/// `NextDay`, where the next airport's day isn't the day after; `NoFlight`, `NoRunway` and `NoScenario`, where what is asked for isn't
+/// known; `OtherDay`, where it is asked from a time of another day on; `Update`, the first refused update of the scenario that is asked
+/// for; `Memory`, wherever memory was first refused; `Write`. Before `Write` nothing was written, and at `Write` a prefix of the text was.
+pub fn run_asked<R: Threads + Sync, A: Read, F: Read, T: Read, G: Gate, W: Write>(
     lent: &Lent<'_, R, G>,
     asked: &Asked<'_>,
     airport: &mut Device<A>,
     feed: &mut Device<F>,
-    scenarios: &mut Device<S>,
+    third: &mut Device<T>,
     out: &mut Device<W>,
 ) -> Result<Counted, RunError>
     requires airport { airport.old.failed ≡ false }
     requires feed { feed.old.failed ≡ false }
-    requires scenarios { scenarios.old.failed ≡ false }
+    requires third { third.old.failed ≡ false }
     requires out { out.old.failed ≡ false }
 
     // The text that is asked for was written, and what it counts is the answer.
     ensures written { IfOk result (λ counted.
-        OfBytes (A.remaining airport.old.inner) (F.remaining feed.old.inner) (S.remaining scenarios.old.inner) (λ airport_file feed_file scenario_file.
-        (text : List ℕ) × IsMade asked.now airport_file feed_file scenario_file text counted
+        OfBytes (A.remaining airport.old.inner) (F.remaining feed.old.inner) (T.remaining third.old.inner) (λ airport_file feed_file third_file.
+        (text : List ℕ) × IsMade asked.now airport_file feed_file third_file text counted
         × Appends (W.contents out.old.inner) (W.contents out.new.inner) text)) }
     ensures one { OnOk result
-        (IfTold (A.remaining airport.old.inner) (F.remaining feed.old.inner) (S.remaining scenarios.old.inner) (HaveOne asked.now)) }
+        (IfTold (A.remaining airport.old.inner) (F.remaining feed.old.inner) (T.remaining third.old.inner) (HaveOne asked.now)) }
 
     // Whatever the readers and the writer are: the readers gave the bytes of three files, and the writer took exactly the one text
     // that is asked for of these bytes, or the first part of it where a write failed.
     ensures passed { IfOk result (λ counted. Passed
-        (Passes airport.old airport.new) (Passes feed.old feed.new) (Passes scenarios.old scenarios.new) (Passes out.old out.new)
-        (λ airport_file feed_file scenario_file text.
-        IsMade asked.now airport_file feed_file scenario_file text counted × HaveOne asked.now airport_file feed_file scenario_file)) }
+        (Passes airport.old airport.new) (Passes feed.old feed.new) (Passes third.old third.new) (Passes out.old out.new)
+        (λ airport_file feed_file third_file text.
+        IsMade asked.now airport_file feed_file third_file text counted × HaveOne asked.now airport_file feed_file third_file)) }
     ensures passed_in_part { IsErrOf result (RunError.Common CommonFault.Write) → Passed
-        (Passes airport.old airport.new) (Passes feed.old feed.new) (Passes scenarios.old scenarios.new) (Passes out.old out.new)
-        (λ airport_file feed_file scenario_file written.
-        (text : List ℕ) × (counted : Counted) × IsMade asked.now airport_file feed_file scenario_file text counted
+        (Passes airport.old airport.new) (Passes feed.old feed.new) (Passes third.old third.new) (Passes out.old out.new)
+        (λ airport_file feed_file third_file written.
+        (text : List ℕ) × (counted : Counted) × IsMade asked.now airport_file feed_file third_file text counted
         × (n : ℕ) × (written ≡ take n text)) }
 
     // The first fault is the answer, and Ok where there was none.
     ensures read { OnOk result (AreRead
         (reading Input.Airport A.remaining airport.old airport.new)
         (reading Input.Feed F.remaining feed.old feed.new)
-        (reading Input.Scenarios S.remaining scenarios.old scenarios.new)) }
+        (reading (third_input asked.now) T.remaining third.old third.new)) }
     ensures fault { IfErr result (IsFirstOf asked.now
         (reading Input.Airport A.remaining airport.old airport.new)
         (reading Input.Feed F.remaining feed.old feed.new)
-        (reading Input.Scenarios S.remaining scenarios.old scenarios.new)) }
+        (reading (third_input asked.now) T.remaining third.old third.new)) }
     ensures nothing { OnErr result (is_write_fault result ≡ false → out.new ≡ out.old) }
     ensures failed { out.new.failed ≡ is_write_fault result }
     ensures prefix { IsErrOf result (RunError.Common CommonFault.Write) →
-        OfBytes (A.remaining airport.old.inner) (F.remaining feed.old.inner) (S.remaining scenarios.old.inner) (λ airport_file feed_file scenario_file.
-        (text : List ℕ) × (counted : Counted) × IsMade asked.now airport_file feed_file scenario_file text counted
+        OfBytes (A.remaining airport.old.inner) (F.remaining feed.old.inner) (T.remaining third.old.inner) (λ airport_file feed_file third_file.
+        (text : List ℕ) × (counted : Counted) × IsMade asked.now airport_file feed_file third_file text counted
         × (n : ℕ) × Appends (W.contents out.old.inner) (W.contents out.new.inner) (take n text)) }
 {
-    let names = (Input::Feed, Input::Scenarios);
-    let inputs = read_inputs(lent.alloc, names, airport, feed, scenarios)?;
+    let names = (Input::Feed, asked.third_input());
+    let inputs = read_inputs(lent.alloc, names, airport, feed, third)?;
     let made = made_of_inputs(lent, asked, inputs)?;
     write_text(out, &made.text)?;
     Ok(made.counted)

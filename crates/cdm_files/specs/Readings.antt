@@ -69,6 +69,10 @@ pub record OfBytes (a s t : Option (List ℕ)) (Holds : List ℕ → List ℕ �
   pub of_third : IfSome t (λ all. third ≡ all)
   pub holds : Holds airport second third
 
+-- all three inputs were read to their ends, and it holds of the bytes that their readers gave, which are those that the readers had left
+abbrev pub OfRead : Reading → Reading → Reading → (List ℕ → List ℕ → List ℕ → Type 0) → Type 0
+OfRead a s t Holds = AreRead a s t × OfBytes a.before s.before t.before (λ x y z. a.Gave x × s.Gave y × t.Gave z × Holds x y z)
+
 -- what passed in a run: the bytes that the readers of its three inputs gave, and those that its writer took, of which this holds
 pub record Passed (a s t w : List ℕ → Type 0) (Holds : List ℕ → List ℕ → List ℕ → List ℕ → Type 0) : Type 0 where
   pub airport : List ℕ

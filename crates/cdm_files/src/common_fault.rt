@@ -18,6 +18,8 @@ pub enum Input {
     Feed,
     /// The scenario file.
     Scenarios,
+    /// The airport file of the next day.
+    NextAirport,
     /// The feed of the first desk of a live run.
     Feed1,
     /// The feed of the second desk of a live run.
@@ -34,6 +36,7 @@ impl fmt::Display for Input {
             Input::Airport => "AIRPORT",
             Input::Feed => "FEED",
             Input::Scenarios => "SCENARIOS",
+            Input::NextAirport => "NEXT_AIRPORT",
             Input::Feed1 => "FEED1",
             Input::Feed2 => "FEED2",
         })

@@ -5,6 +5,7 @@
 mod airport_file;
 mod asking;
 mod common_fault;
+mod days_apart;
 mod device;
 mod feed;
 mod feed_record;
@@ -26,6 +27,7 @@ mod scenario_record;
 pub use airport_file::{airport_of, cell_field, occupancy_field, read_airport};
 pub use asking::{AskedDay, asked_day, scenarios_of};
 pub use common_fault::{CommonFault, Input};
+pub use days_apart::DaysApart;
 pub use device::Device;
 pub use feed::read_feed;
 pub use feed_record::{ctot_field, ice_field, parse_record, tolerance_fields};

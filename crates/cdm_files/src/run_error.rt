@@ -4,6 +4,7 @@ ghost use Rattle.cdm_files.specs.declared.common_fault.CommonFault.TheVariants a
 ghost use Rattle.cdm_files.specs.declared.run_error.RunError.TheVariants as error;
 
 use crate::common_fault::CommonFault;
+use crate::days_apart::DaysApart;
 use crate::output::WriteFault;
 use cdm_flight::{FlightName, RefusalWord, RunwayName};
 use cdm_scenario::ScenarioName;
@@ -34,6 +35,12 @@ pub enum RunError {
     /// The time from which is asked isn't one of the airport's two days.
     #[error("--since names a time outside the airport's two days")]
     OtherDay,
+    /// The first faulty record of the next airport file, and the word that refuses it.
+    #[error("NEXT_AIRPORT record {0}: {1}")]
+    NextAirport(usize, RefusalWord),
+    /// The day of the next airport isn't the one after the airport's.
+    #[error("NEXT_AIRPORT: {0}")]
+    NextDay(DaysApart),
 }
 
 impl From<CommonFault> for RunError {

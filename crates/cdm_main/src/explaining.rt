@@ -38,7 +38,7 @@ fn line_of<R: AllocGlobal + Files + io::Input + Threads + Sync>(
     error: &RunError,
 ) -> Result<Option<String>, Fault> {
     let airport = DayFiles {
-        scenarios: None,
+        third: None,
         ..files
     };
     match error {
@@ -46,7 +46,7 @@ fn line_of<R: AllocGlobal + Files + io::Input + Threads + Sync>(
             finding_in(rt, airport, files.airport, *number, *word)
         }
         RunError::Scenario(number, word) => {
-            let scenarios = files.scenarios.unwrap_or_default();
+            let scenarios = files.third.unwrap_or_default();
             finding_in(rt, files, scenarios, *number, *word)
         }
         RunError::NoRunway(_) => names_after(rt, airport, "RUNWAY ", "runways"),
@@ -88,8 +88,8 @@ fn check_text<R: AllocGlobal + Files + io::Input + Threads + Sync>(
 ) -> Result<String, Fault> {
     let alloc = rt.alloc();
     let airport = shown_path(alloc, files.airport)?;
-    let scenarios = shown_path(alloc, files.scenarios.unwrap_or_default())?;
-    let scenarios = files.scenarios.map(|_| scenarios.as_str());
+    let scenarios = shown_path(alloc, files.third.unwrap_or_default())?;
+    let scenarios = files.third.map(|_| scenarios.as_str());
     let paths = FilePaths {
         airport: &airport,
         feed: "",

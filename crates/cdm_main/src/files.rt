@@ -42,17 +42,6 @@ pub(crate) fn open<R: AllocGlobal + Files + io::Input>(
     }
 }
 
-/// Opens the next airport file, or takes standard input where that is its name.
-pub(crate) fn open_next<R: AllocGlobal + Files + io::Input>(
-    rt: &R,
-    path: &str,
-) -> Result<Opened<R>, Fault> {
-    match open(rt, path, Input::Airport) {
-        Err(Fault::CannotOpen(_, file)) => Err(Fault::CannotOpenNext(file)),
-        opened => opened,
-    }
-}
-
 // Why a file can't be opened, as the system says it.
 fn reason_of(error: &io::Error) -> OpenReason {
     match error.raw_os_error() {
@@ -88,7 +77,7 @@ pub(crate) fn open_named<R: AllocGlobal + Files + io::Input>(
     }
 }
 
-/// What is asked of the airport file, the scenario file and this feed, if there is one, as a text in memory.
+/// What is asked of the airport file, the third file and this feed, if there is one, as a text in memory.
 pub(crate) fn text_of<R: AllocGlobal + Files + io::Input + Threads + Sync>(
     rt: &R,
     files: DayFiles<'_>,
@@ -98,7 +87,7 @@ pub(crate) fn text_of<R: AllocGlobal + Files + io::Input + Threads + Sync>(
     let alloc = rt.alloc();
     let airport = &mut Device::new(open(rt, files.airport, Input::Airport)?);
     let feed = &mut Device::new(open_named(rt, feed, Input::Feed)?);
-    let scenarios = &mut Device::new(open_named(rt, files.scenarios, Input::Scenarios)?);
+    let third = &mut Device::new(open_named(rt, files.third, asked.third_input())?);
     let lent = Lent {
         rt,
         alloc,
@@ -107,13 +96,13 @@ pub(crate) fn text_of<R: AllocGlobal + Files + io::Input + Threads + Sync>(
     };
     let mut text = Vec::new(alloc);
     let out = &mut Device::new(&mut text);
-    run_asked(&lent, asked, airport, feed, scenarios, out)?;
+    run_asked(&lent, asked, airport, feed, third, out)?;
     Ok(String::from_utf8(text).unwrap_or(String::new(alloc)))
 }
 
-/// Whether the airport file and the scenario file are regular files, which can be read a second time.
+/// Whether the airport file and the third file are regular files, which can be read a second time.
 pub(crate) fn are_regular<R: Files>(rt: &R, files: DayFiles<'_>) -> bool {
-    is_regular(rt, files.airport) && files.scenarios.is_none_or(|path| is_regular(rt, path))
+    is_regular(rt, files.airport) && files.third.is_none_or(|path| is_regular(rt, path))
 }
 
 /// Whether a path names a regular file, which can be read a second time.

@@ -14,10 +14,9 @@ mod standard;
 use crate::console::Console;
 use crate::ending::{Ending, Unended};
 use crate::explaining::explanation;
-use crate::files::{open, open_named, open_next, shown, shown_path, unopened};
+use crate::files::{open, open_named, shown, shown_path, unopened};
 use crate::refused::tell_refused;
 use crate::standard::{Closed, Standard, unread};
-use cdm_carry::{CarryText, run_carry};
 use cdm_check::FilePaths;
 pub use cdm_command::{Command, CommandFault, DayFiles, command_of};
 use cdm_day::Airport;
@@ -25,8 +24,8 @@ pub use cdm_fault::{
     Fault, OpenReason, UnopenedFile, report_command_fault, report_fault, run_status,
 };
 use cdm_feed::{
-    Asked, CommonFault, Counted, Device, Input, Lent, RunError, WriteFault, airport_of, read_whole,
-    run_asked, write_text,
+    Asked, CarryText, CommonFault, Counted, Device, Input, Lent, RunError, WriteFault, airport_of,
+    read_whole, run_asked, write_text,
 };
 use cdm_kinds::{Format, kinds_text};
 pub use cdm_live::{LiveCounts, LiveError, run_live};
@@ -201,12 +200,7 @@ where
             feed1,
             feed2,
         } => live(rt, [airport, feed1, feed2], out, console),
-        Command::Carry {
-            airport,
-            feed,
-            next,
-            tell,
-        } => carry(rt, [airport, feed, next], *tell, out, console),
+        Command::Carry { files, text } => carry(rt, *files, *text, out, console),
         Command::Serve {
             airport,
             journal,
@@ -225,8 +219,8 @@ fn print<W: Write>(text: &[u8], out: &mut Device<W>) -> Result<u8, Fault>
     Ok(0)
 }
 
-// Writes what is asked of a day and its scenarios, and answers what it counts. A person is told of a feed whose last line has no end,
-// where a check doesn't tell it, and how many records a plan has refused.
+// Writes what is asked of these files, and answers what it counts. A person is told of a feed whose last line has no end, where a check
+// doesn't tell it, and how many records a plan has refused.
 fn make<R: AllocGlobal + Files + io::Input + Threads + Sync, W: Write, E: Write>(
     rt: &R,
     files: DayFiles<'_>,
@@ -240,7 +234,7 @@ fn make<R: AllocGlobal + Files + io::Input + Threads + Sync, W: Write, E: Write>
 {
     let airport = &mut Device::new(open(rt, files.airport, Input::Airport)?);
     let mut ending = Ending::new(open(rt, files.feed, Input::Feed)?);
-    let scenarios = &mut Device::new(open_named(rt, files.scenarios, Input::Scenarios)?);
+    let third = &mut Device::new(open_named(rt, files.third, asked.third_input())?);
     let lent = Lent {
         rt,
         alloc: rt.alloc(),
@@ -248,19 +242,20 @@ fn make<R: AllocGlobal + Files + io::Input + Threads + Sync, W: Write, E: Write>
         gate: &OpenGate,
     };
     let feed = &mut Device::new(&mut ending);
-    let counted = run_asked(&lent, asked, airport, feed, scenarios, out);
+    let counted = run_asked(&lent, asked, airport, feed, third, out);
     tell_unended_feed(asked, &ending, console);
     let counted = counted?;
     tell_refused(files, asked, &counted, console);
     Ok(counted)
 }
 
-// Tells a person that the last line of the feed of a day has no end. A check tells it itself.
+// Tells a person that the last line of the feed has no end. A check tells it itself.
 fn tell_unended_feed<F, E: Write>(asked: &Asked<'_>, feed: &Ending<F>, console: &mut Console<'_, E>)
     ensures silent { console.old.is_terminal ≡ false → console.new ≡ console.old }
 {
-    if let Asked::Day(_) = asked {
-        tell_unended(feed, Input::Feed, console);
+    match asked {
+        Asked::Day(_) | Asked::Carry(_) => tell_unended(feed, Input::Feed, console),
+        Asked::Check(..) => {}
     }
 }
 
@@ -288,8 +283,8 @@ fn check<R: AllocGlobal + Files + io::Input + Threads + Sync, W: Write, E: Write
     let one = Workers::new(1).unwrap();
     let airport = shown_path(alloc, files.airport)?;
     let feed = shown_path(alloc, files.feed)?;
-    let scenarios = shown_path(alloc, files.scenarios.unwrap_or_default())?;
-    let scenarios = files.scenarios.map(|_| scenarios.as_str());
+    let scenarios = shown_path(alloc, files.third.unwrap_or_default())?;
+    let scenarios = files.third.map(|_| scenarios.as_str());
     let paths = FilePaths {
         airport: &airport,
         feed: &feed,
@@ -297,6 +292,23 @@ fn check<R: AllocGlobal + Files + io::Input + Threads + Sync, W: Write, E: Write
     };
     let asked = Asked::Check(paths, format);
     let counted = make(rt, files, &asked, one, out, console)?;
+    Ok(run_status(&counted, false))
+}
+
+// Writes what the next day has of a day, as a feed, or what a person must know before. Answers the exit status: 4 where a person
+// has to see to something.
+fn carry<R: AllocGlobal + Files + io::Input + Threads + Sync, W: Write, E: Write>(
+    rt: &R,
+    files: DayFiles<'_>,
+    text: CarryText,
+    out: &mut Device<W>,
+    console: &mut Console<'_, E>,
+) -> Result<u8, Fault>
+    requires { out.old.failed ≡ false }
+    ensures silent { console.old.is_terminal ≡ false → console.new ≡ console.old }
+{
+    let one = Workers::new(1).unwrap();
+    let counted = make(rt, files, &Asked::Carry(text), one, out, console)?;
     Ok(run_status(&counted, false))
 }
 
@@ -389,36 +401,4 @@ fn live<R: AllocGlobal + Files + io::Input + Threads + Wait + Sync, W: Write, E:
     tell_unended(&feed2, Input::Feed2, console);
     done?;
     Ok(0)
-}
-
-// Writes what the next day has of a day, as a feed, or what a person must know before. Answers the exit status: 4 where a person
-// has to see to something.
-fn carry<R: AllocGlobal + Files + io::Input, W: Write, E: Write>(
-    rt: &R,
-    paths: [&str; 3],
-    tell: Option<Format>,
-    out: &mut Device<W>,
-    console: &mut Console<'_, E>,
-) -> Result<u8, Fault>
-    requires { out.old.failed ≡ false }
-    ensures silent { console.old.is_terminal ≡ false → console.new ≡ console.old }
-{
-    let [airport, feed, next] = paths;
-    let airport = open(rt, airport, Input::Airport)?;
-    let mut feed = Ending::new(open(rt, feed, Input::Feed)?);
-    let next = open_next(rt, next)?;
-    let asked = match tell {
-        Some(format) => CarryText::Notices(format),
-        None => CarryText::Feed,
-    };
-    let done = run_carry(
-        rt.alloc(),
-        asked,
-        &mut Device::new(airport),
-        &mut Device::new(&mut feed),
-        &mut Device::new(next),
-        out,
-    );
-    tell_unended(&feed, Input::Feed, console);
-    Ok(if done? { 4 } else { 0 })
 }

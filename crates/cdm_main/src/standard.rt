@@ -1,7 +1,6 @@
 //! The standard streams that were closed when the program began.
 
-use cdm_carry::CarryError;
-use cdm_command::{Command, STANDARD_INPUT};
+use cdm_command::Command;
 use cdm_fault::Fault;
 use cdm_feed::{CommonFault, RunError};
 use cdm_port::{PortFault, Reason};
@@ -71,11 +70,6 @@ pub(crate) fn unread(command: &Command<'_>) -> Option<Fault> {
     if let Command::Serve { .. } = command {
         let fault = PortFault::CannotReadInput(Reason::Untold);
         return Some(Fault::Serve(ServeError::Port(fault)));
-    }
-    if let Command::Carry { next, .. } = command {
-        if *next == STANDARD_INPUT {
-            return Some(Fault::Carry(CarryError::NextRead));
-        }
     }
     let input = command.standard_input()?;
     Some(Fault::Run(RunError::Common(CommonFault::Read(input))))

@@ -35,7 +35,7 @@ fn is_told(
     let files = DayFiles {
         airport: "a.csv",
         feed: "f.csv",
-        scenarios,
+        third: scenarios,
     };
     let wanted = Command::Tell {
         files,
@@ -247,7 +247,7 @@ fn is_checked(alloc: Global, word: &str, format: Format) -> bool {
     let files = DayFiles {
         airport: "a.csv",
         feed: "f.csv",
-        scenarios: None,
+        third: None,
     };
     let words = ["check", "--format", word, "a.csv", "f.csv"];
     is_command(alloc, &words, &Command::Check { files, format })

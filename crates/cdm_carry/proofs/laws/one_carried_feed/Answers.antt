@@ -1,4 +1,4 @@
-use Rattle.cdm_carry.proofs.RunLemmas.{one_feed}
+use Rattle.cdm_carry.proofs.MadeLemmas.{one_feed}
 use Rattle.cdm_carry.proofs.laws.one_carried_feed.Goals as goal
 
 pub returns : goal.returns

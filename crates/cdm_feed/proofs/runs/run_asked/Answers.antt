@@ -6,21 +6,27 @@ use Rattle.cdm_feed.proofs.runs.run_asked.Goals as goal
 pub returns-in_err-inputs-clause-fault : goal.returns-in_err-inputs-clause-fault
 returns-in_err-inputs-clause-fault g c =
     let p = err_from_is_err_and c.from_residual.result c.from_residual.ensures.1 in
-    rw (p.1, p.2) (input-first c.args.asked.now _ _ _ c.in_err-inputs.field-0.0 c.in_err-inputs.ensures.fault)
+    rw (p.1, p.2) (input-first c.args.asked.now _ _ _ c.in_err-inputs.field-0.0 (rw c.third_input.ensures at c.in_err-inputs.ensures.fault))
 
 pub returns-in_err-made-clause-fault : goal.returns-in_err-made-clause-fault
 returns-in_err-made-clause-fault g c =
     let inputs = c.in_ok-inputs.ensures in
     let p = err_from_is_err_and c.from_residual-in_err-made.result c.from_residual-in_err-made.ensures.1 in
-    rw (p.1, p.2) (unmade-first c.args.asked.now _ _ _ _ _ _ c.in_err-made.field-0.0 inputs.read inputs.airport inputs.second inputs.third c.in_err-made.ensures.fault)
+    rw (p.1, p.2)
+    (unmade-first c.args.asked.now _ _ _ _ _ _ (rw c.third_input.ensures at inputs.read) inputs.airport_passed inputs.second_passed inputs.third_passed
+    inputs.airport inputs.second inputs.third c.in_err-made.field-0.0 c.in_err-made.ensures.fault)
 
 pub returns-in_err-write_text-clause-fault : goal.returns-in_err-write_text-clause-fault
 returns-in_err-write_text-clause-fault g c =
     let inputs = c.in_ok-inputs.ensures in
     let made = c.in_ok-made.made in
     let p = err_from_is_err_and c.from_residual-in_err-write_text.result c.from_residual-in_err-write_text.ensures.1 in
-    rw (p.1, p.2) (write-first c.args.asked.now _ _ _ inputs.read
-    (of-read _ _ _ inputs.airport inputs.second inputs.third (made.text.items, made.counted, c.in_ok-made.ensures.made)))
+    rw (p.1, p.2)
+    (write-first c.args.asked.now _ _ _ _ _ _ (rw c.third_input.ensures at inputs.read) inputs.airport_passed inputs.second_passed inputs.third_passed
+    inputs.airport inputs.second inputs.third (made.text.items, made.counted, c.in_ok-made.ensures.made))
+
+pub returns-clause-read : goal.returns-clause-read
+returns-clause-read g c = rw c.third_input.ensures at c.in_ok-inputs.ensures.read
 
 pub returns-in_err-write_text-clause-prefix : goal.returns-in_err-write_text-clause-prefix
 returns-in_err-write_text-clause-prefix g c = λ _.
@@ -42,7 +48,7 @@ returns-clause-written g c =
 pub returns-clause-one : goal.returns-clause-one
 returns-clause-one g c =
     of_known (HaveOne c.args.asked.now) (g.A.Read.remaining c.args.airport.now.inner) (g.F.Read.remaining c.args.feed.now.inner)
-    (g.S.Read.remaining c.args.scenarios.now.inner) (one-each c.args.asked.now)
+    (g.T.Read.remaining c.args.third.now.inner) (one-each c.args.asked.now)
 
 pub returns-clause-passed : goal.returns-clause-passed
 returns-clause-passed g c =

@@ -9,7 +9,7 @@ fn text_in<'a>(answer: &'a Result<Command<'_>, CommandFault>) -> &'a str {
     match answer {
         Ok(Command::Tell { files, .. } | Command::Check { files, .. }) => files.feed,
         Ok(Command::Live { feed2, .. }) => feed2,
-        Ok(Command::Carry { next, .. }) => next,
+        Ok(Command::Carry { files, .. }) => files.third.unwrap_or_default(),
         Ok(Command::Serve { journal, .. }) => journal,
         Ok(Command::Kinds(_)) => "kinds",
         Ok(Command::Print(text)) | Err(CommandFault::Usage(text)) => text.as_str(),

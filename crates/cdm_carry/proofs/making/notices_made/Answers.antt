@@ -1,7 +1,7 @@
 use Rattle.std.proofs.Common.{◌∙◌, ap}
 use Rattle.std.specs.List.{list_any}
 use Rattle.cdm_carry.specs.{NoticeTexts.notices_text, Notices.needs_care}
-use Rattle.cdm_carry.proofs.carry_run.notices_made.Goals as goal
+use Rattle.cdm_carry.proofs.making.notices_made.Goals as goal
 
 pub returns : goal.returns
 returns c = record {

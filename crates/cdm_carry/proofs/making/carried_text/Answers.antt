@@ -1,9 +1,9 @@
 use Rattle.std.proofs.{Common.{◌≡◌, ◌∙◌, Ok, ap, map, refl, sym}, lemmas.Result.err_from_is_err_and}
 use Rattle.cdm_files.specs.{AirportFile.airport_in, FeedDay.spelled_in, Parsing.parse_of, Records.records_of, Refused.updates_in}
 use Rattle.cdm_carry.specs.Carry.{carry}
-use Rattle.cdm_carry.proofs.{NoticedLemmas.{feed_asked, noticed_text, notices_asked}, RunLemmas.{carried_feed, next_fault, other_days}}
-use Rattle.cdm_carry.proofs.carry_run.made_of.Goals as goal
-use Rattle.cdm_carry.proofs.carry_run.made_of.Goals.{in-Feed+in_ok-made-in-Feed, in-Notices+in_ok-made-in-Notices}
+use Rattle.cdm_carry.proofs.{NoticedLemmas.{feed_asked, noticed_text, notices_asked}, MadeLemmas.{carried_feed, days_apart, next_fault}}
+use Rattle.cdm_carry.proofs.making.carried_text.Goals as goal
+use Rattle.cdm_carry.proofs.making.carried_text.Goals.{in-Feed+in_ok-made-in-Feed, in-Notices+in_ok-made-in-Notices}
 
 pub returns-in_err-next-clause-fault : goal.returns-in_err-next-clause-fault
 returns-in_err-next-clause-fault c =
@@ -14,8 +14,8 @@ returns-in_err-next-clause-fault c =
 
 pub returns-in-Err-clause-fault : goal.returns-in-Err-clause-fault
 returns-in-Err-clause-fault c =
-    other_days c.args.inputs.now.airport.items c.args.inputs.now.third.items c.deref.result.now c.deref-2.result.now c.in_ok-airport.airport c.in_ok-next.next
-    c.day.result.now c.day-2.result.now c.in-Err.other c.deref.ensures.value c.in_ok-airport.ensures.said c.deref-2.ensures.value c.in_ok-next.ensures.said
+    days_apart c.args.inputs.now.airport.items c.args.inputs.now.third.items c.deref.result.now c.deref-2.result.now c.in_ok-airport.airport c.in_ok-next.next
+    c.day.result.now c.day-2.result.now c.in-Err.days c.deref.ensures.value c.in_ok-airport.ensures.said c.deref-2.ensures.value c.in_ok-next.ensures.said
     c.day.ensures c.day-2.ensures c.in-Err.ensures.fault c.in-Err.ensures.other
 
 pub returns-clause-made : goal.returns-clause-made

@@ -2,7 +2,7 @@ use Rattle.std.proofs.{Common.{◌≡◌, ◌∙◌, true, sym, ap}, lemmas.Slic
 use Rattle.std.specs.Prelude.{bytes_eq}
 use Rattle.cdm_time.specs.Times.{time_text}
 use Rattle.cdm_carry.proofs.DayLemmas.{next_by_text, text_of_next}
-use Rattle.cdm_carry.proofs.carry_run.day_after.Goals as goal
+use Rattle.cdm_carry.proofs.making.day_after.Goals as goal
 
 pub returns-then-eq-clause-after : goal.returns-then-eq-clause-after
 returns-then-eq-clause-after c =
