@@ -60,7 +60,7 @@ export class FlightPanel {
       inWords('priority', row.priority), inWords('group', row.group)].filter(Boolean).join(', '));
     write(this.facts, row, date);
     this.warned();
-    if (this.answered && this.answered !== JSON.stringify([row.tobt, row.status])) this.makeForm();
+    if (this.answered !== JSON.stringify([row.tobt, row.status])) this.makeForm();
   }
 
   /** What its warnings mean, what to do, and a button for each record that answers them and that the desk may send. */

@@ -51,9 +51,9 @@ FAULTS = [
         ("views.js", "      if (stream.lacks < MOST_AHEAD) return false;\n", "      if (stream.lacks) return false;\n")]),
     ("a CLOCK in the place of a record that was lost isn't counted", "Arrives", 4410, [
         ("reading.js", "Math.max(0, this.rows.position - RECENT) : null;", "this.rows.position : null;")]),
-    ("totals that are newer than the rows are shown", "Shown", 1, [
+    ("totals that are newer than the rows are shown", "Shown", 21, [
         ("answers.js", "    if (ask.name === 'totals') this.holdTotals(", "    if (ask.name === 'totals') this.takeTotals(")]),
-    ("old totals aren't said to be old", "Shown", 1, [
+    ("old totals aren't said to be old", "Shown", 4, [
         ("views.js", "const isOld = this.totals.position < this.rows.position;", "const isOld = false;")]),
     ("a change of day keeps the old date", "Shown", 2, [
         ("day.js", "date: plan.day, now: plan.now", "date: this.date || plan.day, now: plan.now")]),
@@ -71,18 +71,16 @@ FAULTS = [
         ("answers.js", "ask.name === 'log' ? ask.path.endsWith(this.day.date) :", "ask.name === 'log' ||")]),
     ("the operators are those of the day before", "Arrives", 2, [
         ("reading.js", "    this.forgetOperators();\n    this.order(", "    this.order(")]),
-    ("the operators that a server of the day before tells are the last word", "Arrives", 1, [
-        ("views.js", "{ operators: isNow, operatorsAt:", "{ operators: true, operatorsAt:")]),
+    ("views.js", "{ operators: isNow, operatorsAt:", "{ operators: true, operatorsAt:")]),
     ("the operators of records that are lost stay", "Arrives", 700848, [
         ("views.js", "position > this.rows.position ? position : Infinity", "Infinity")]),
     ("the operators that came while the plan was read are dropped", "Arrives", 63, [
         ("reading.js", "    if (!this.operators || this.operatorsAt < Infinity) this.forgetOperators();", "    if (this.operators && this.operatorsAt < Infinity) this.forgetOperators();")]),
-    ("the operators that a box failed to show are never shown", "Arrives", 1, [
+    ("the operators that a box failed to show are never shown", "Arrives", 2977, [
         ("machine.js", "      if (part === 'operators') this.operators = false;\n", "")]),
     ("how many records are left is of the day before", "Arrives", 2, [
         ("reading.js", "    if (this.who?.kinds.length) this.questions.want('who', this.at + this.chance() * SOON);\n", "")]),
-    ("how many records are left is told by a server of the day before", "Arrives", 1, [
-        ("machine.js", ", after: () => (this.who ? this.rows?.position ?? 0 : 0) },", " },")]),
+    ("machine.js", ", after: () => (this.who ? this.rows?.position ?? 0 : 0) },", " },")]),
     ("a question of who spoke before signs out who speaks now", "Alive", 6982, [
         ("machine.js", "    if (status === 401 && this.who) this.questions.wantNow('who', this.at);\n",
          "    if (status === 401) this.signedOut('a token of a desk is needed');\n")]),
