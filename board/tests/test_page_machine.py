@@ -71,7 +71,6 @@ FAULTS = [
         ("answers.js", "ask.name === 'log' ? ask.path.endsWith(this.day.date) :", "ask.name === 'log' ||")]),
     ("the operators are those of the day before", "Arrives", 2, [
         ("reading.js", "    this.forgetOperators();\n    this.order(", "    this.order(")]),
-    ("views.js", "{ operators: isNow, operatorsAt:", "{ operators: true, operatorsAt:")]),
     ("the operators of records that are lost stay", "Arrives", 700848, [
         ("views.js", "position > this.rows.position ? position : Infinity", "Infinity")]),
     ("the operators that came while the plan was read are dropped", "Arrives", 63, [
@@ -80,7 +79,6 @@ FAULTS = [
         ("machine.js", "      if (part === 'operators') this.operators = false;\n", "")]),
     ("how many records are left is of the day before", "Arrives", 2, [
         ("reading.js", "    if (this.who?.kinds.length) this.questions.want('who', this.at + this.chance() * SOON);\n", "")]),
-    ("machine.js", ", after: () => (this.who ? this.rows?.position ?? 0 : 0) },", " },")]),
     ("a question of who spoke before signs out who speaks now", "Alive", 6982, [
         ("machine.js", "    if (status === 401 && this.who) this.questions.wantNow('who', this.at);\n",
          "    if (status === 401) this.signedOut('a token of a desk is needed');\n")]),
