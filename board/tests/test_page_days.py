@@ -37,11 +37,12 @@ def test_the_page_over_a_change_of_day(page):
     assert shown.row("next", "AB1")[0] == "03:20 in 20" and "NOW UTC 03:00" == shown.text(".now")
     # What a form and a runway's band say is of the new date too; a flight of a name that flew before is another one.
     shown.until("return document.querySelector('#runways th.hour').textContent === '03:00'")
-    fill(shown.server, {"AP": ["FLT,CD3,5"], "ATC": ["RWY,CD3,27L", f"CLOCK,{AT('03:01')}"], "AO": [f"TOBT,CD3,{AT('03:40')}"]})
+    fill(shown.server, {"ATC": [f"CLOCK,{AT('03:01')}"]})
     shown.says(".now", "NOW UTC 03:01")
+    assert shown.js("return [window.lost, window.moved]") == [0, 0]
+    fill(shown.server, {"AP": ["FLT,CD3,5"], "ATC": ["RWY,CD3,27L"], "AO": [f"TOBT,CD3,{AT('03:40')}"]})
     shown.until("return document.querySelector('#next tr[data-flight=CD3]') !== null")
     assert "new" in shown.row("next", "CD3")[9] and "was" not in shown.row("next", "CD3")[9]
-    assert shown.js("return [window.lost, window.moved]") == [0, 0]
     shown.click("#date")
     shown.says("#day", "Before Wed 12 Mar 2025")
     shown.until("return document.querySelector('#day a') !== null")
@@ -172,4 +173,4 @@ def test_what_is_typed_over_a_change_of_day(page):
     assert shown.js("return document.querySelector('#p-flight form input[name=time]').value") == "23:50"
     shown.click("#p-flight form button:not([type])")
     shown.says("#p-flight .reply", "Refused, RANGE.")
-    assert "2025-03-10T23:50Z" in shown.server.get("/v1/records?desk=AO&day=2025-03-11").body
+    assert b"TOBT,AB1,2025-03-10T23:50Z" in shown.server.get("/v1/records?desk=AO&day=2025-03-11").body

@@ -16,7 +16,7 @@ SCHEDULES = 50_000
 FAULTS = [
     ("a reset asks for the old position, of whichever log", "Arrives", 119, [
         ("answers.js", "this.need ? this.need.position :", "this.need ? Math.max(this.need.position, this.rows?.position ?? 0) :")]),
-    ("a reset during a read is dropped", "Arrives", 207, [
+    ("a reset during a read is dropped", "Arrives", 553, [
         ("reading.js", "  readAnew(isOther = false) {", "  readAnew(isOther = false) {\n    if (this.need) return;")]),
     ("a sign-in during a read ends the page", "Alive", 37, [
         ("session.js", "  begin() {\n", "  begin() {\n    if (this.questions.isAsked('plan')) {\n      for (const ask of [...this.asks.values()]) this.abandon(ask);\n"
@@ -24,7 +24,7 @@ FAULTS = [
     ("a record without a reply gets a second key", "Said", 22, [
         ("sending.js", "    if (!isAgain && isNothingTaken(answer)) return", "    if (isNothingTaken(answer)) this.unknown.delete(line);\n"
          "    if (isNothingTaken(answer)) return")]),
-    ("a CLOCK that came as a reset isn't counted", "Arrives", 13, [
+    ("a CLOCK that came as a reset isn't counted", "Arrives", 9, [
         ("reading.js", "    if (this.history.since >= position) this.endHistory();", "    if (since !== null || this.history.since >= position) this.endHistory();")]),
     ("one answer that isn't understood ends all questions", "Alive", 40, [
         ("answers.js", "      isTaken = false;\n      fault =", "      if (ask.name !== 'who') throw new Error('not JSON');\n      isTaken = false;\n      fault =")]),
@@ -37,7 +37,7 @@ FAULTS = [
     ("a server that is behind leaves a gap after a reset", "Arrives", 518, [
         ("reading.js", "    if (moment.position < need.position) return false;\n", ""),
         ("answers.js", "this.need ? this.need.position :", "this.need ? 0 :")]),
-    ("a panel shows records of a day that is gone", "Shown", 95, [
+    ("a panel shows records of a day that is gone", "Shown", 117, [
         ("reading.js", "    this.order({ do: 'show', what: 'empty' });\n", "")]),
     ("Retry-After isn't heeded", "Heeded", 5, [
         ("questions.js", "retry * 1000 * (1 + chance / 4)", "0")]),
@@ -47,13 +47,13 @@ FAULTS = [
         ("reading.js", " || moment.position === need.position && !isSameMoment(moment, need)", "")]),
     ("a plan of another past than the events'", "Shown", 1884, [
         ("reading.js", " || moment.position === need.position && !isSameMoment(moment, need)", "")]),
-    ("what a log has lost since it was shown stays", "Arrives", 10632, [
+    ("what a log has lost since it was shown stays", "Arrives", 27473, [
         ("views.js", "      if (stream.lacks < MOST_AHEAD) return false;\n", "      if (stream.lacks) return false;\n")]),
-    ("a CLOCK in the place of a record that was lost isn't counted", "Arrives", 4410, [
+    ("a CLOCK in the place of a record that was lost isn't counted", "Arrives", 28174, [
         ("reading.js", "Math.max(0, this.rows.position - RECENT) : null;", "this.rows.position : null;")]),
-    ("totals that are newer than the rows are shown", "Shown", 1, [
+    ("totals that are newer than the rows are shown", "Shown", 21, [
         ("answers.js", "    if (ask.name === 'totals') this.holdTotals(", "    if (ask.name === 'totals') this.takeTotals(")]),
-    ("old totals aren't said to be old", "Shown", 1, [
+    ("old totals aren't said to be old", "Shown", 4, [
         ("views.js", "const isOld = this.totals.position < this.rows.position;", "const isOld = false;")]),
     ("a change of day keeps the old date", "Shown", 2, [
         ("day.js", "date: plan.day, now: plan.now", "date: this.date || plan.day, now: plan.now")]),
@@ -71,18 +71,14 @@ FAULTS = [
         ("answers.js", "ask.name === 'log' ? ask.path.endsWith(this.day.date) :", "ask.name === 'log' ||")]),
     ("the operators are those of the day before", "Arrives", 2, [
         ("reading.js", "    this.forgetOperators();\n    this.order(", "    this.order(")]),
-    ("the operators that a server of the day before tells are the last word", "Arrives", 1, [
-        ("views.js", "{ operators: isNow, operatorsAt:", "{ operators: true, operatorsAt:")]),
     ("the operators of records that are lost stay", "Arrives", 700848, [
         ("views.js", "position > this.rows.position ? position : Infinity", "Infinity")]),
     ("the operators that came while the plan was read are dropped", "Arrives", 63, [
         ("reading.js", "    if (!this.operators || this.operatorsAt < Infinity) this.forgetOperators();", "    if (this.operators && this.operatorsAt < Infinity) this.forgetOperators();")]),
-    ("the operators that a box failed to show are never shown", "Arrives", 1, [
+    ("the operators that a box failed to show are never shown", "Arrives", 2977, [
         ("machine.js", "      if (part === 'operators') this.operators = false;\n", "")]),
     ("how many records are left is of the day before", "Arrives", 2, [
         ("reading.js", "    if (this.who?.kinds.length) this.questions.want('who', this.at + this.chance() * SOON);\n", "")]),
-    ("how many records are left is told by a server of the day before", "Arrives", 1, [
-        ("machine.js", ", after: () => (this.who ? this.rows?.position ?? 0 : 0) },", " },")]),
     ("a question of who spoke before signs out who speaks now", "Alive", 6982, [
         ("machine.js", "    if (status === 401 && this.who) this.questions.wantNow('who', this.at);\n",
          "    if (status === 401) this.signedOut('a token of a desk is needed');\n")]),
