@@ -107,14 +107,14 @@ says : (fields : List (List ℕ)) (said : AirportRecord) → airport_record_of f
 unfolding airport_record_of
 says fields =
     choice Fits (bytes_eq (field fields 0) (codes "DAY")) _ _
-      (choice Fits (length fields == 2) _ _ (day_fits _) (refused_fits word.Fields))
-      (choice Fits (bytes_eq (field fields 0) (codes "RUNWAY")) _ _
-        (choice Fits (length fields == 4) _ _ (runway_fits _ (field fields 2) _) (refused_fits word.Fields))
-        (choice Fits (bytes_eq (field fields 0) (codes "TAXI")) _ _
-          (choice Fits (length fields == 4) _ _ (taxi_fits _ _ _) (refused_fits word.Fields))
-          (choice Fits (bytes_eq (field fields 0) (codes "SPACE")) _ _
-            (choice Fits (length fields == 4) _ _ (space_fits _ _ (field fields 3)) (refused_fits word.Fields))
-            (refused_fits word.Kind))))
+    (choice Fits (length fields == 2) _ _ (day_fits _) (refused_fits word.Fields))
+    (choice Fits (bytes_eq (field fields 0) (codes "RUNWAY")) _ _
+    (choice Fits (length fields == 4) _ _ (runway_fits _ (field fields 2) _) (refused_fits word.Fields))
+    (choice Fits (bytes_eq (field fields 0) (codes "TAXI")) _ _
+    (choice Fits (length fields == 4) _ _ (taxi_fits _ _ _) (refused_fits word.Fields))
+    (choice Fits (bytes_eq (field fields 0) (codes "SPACE")) _ _
+    (choice Fits (length fields == 4) _ _ (space_fits _ _ (field fields 3)) (refused_fits word.Fields))
+    (refused_fits word.Kind))))
 
 -- What a record makes.
 
@@ -165,13 +165,13 @@ record_kept None (Space r group minutes) keeps fits = tt
 record_kept (Some g) (Day day) keeps fits = tt
 record_kept (Some g) (Runway r cell cap) keeps fits =
     unless_two (has_runway g r) (nat_le 8 (length g.runways)) word.Exists word.Full _
-      (All-append KeepsHours g.runways _ keeps (All-cons KeepsHours _ [] (new_row r cell cap fits) (All-nil KeepsHours)))
+    (All-append KeepsHours g.runways _ keeps (All-cons KeepsHours _ [] (new_row r cell cap fits) (All-nil KeepsHours)))
 record_kept (Some g) (Taxi place r minutes) keeps fits =
     unless_two (not (has_runway g r)) (is_one_stand_too_many (stands_in g.taxi) place) word.Unknown word.Full _ keeps
 record_kept (Some g) (Space r group minutes) keeps fits =
     unless (not (has_runway g r)) word.Unknown _
-      (All-map KeepsHours (spaced r group minutes) g.runways
-        (All-weaker KeepsHours (λ row. KeepsHours (spaced r group minutes row)) (λ row k. row_spaced (same_name row.name r) group minutes fits row k) g.runways keeps))
+    (All-map KeepsHours (spaced r group minutes) g.runways
+    (All-weaker KeepsHours (λ row. KeepsHours (spaced r group minutes row)) (λ row k. row_spaced (same_name row.name r) group minutes fits row k) g.runways keeps))
 
 -- What a file says.
 
