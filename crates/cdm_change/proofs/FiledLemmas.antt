@@ -6,6 +6,7 @@ use Rattle.std.specs.Option.{ok_or}
 use Rattle.std.specs.Prelude.{⊤, IfOk, IsTrue, bytes_eq, codes, nat_le}
 use Rattle.std.specs.Result.{result_map_both}
 use Rattle.cdm_time.specs.Digits.{are_digits, number_in}
+use Rattle.cdm_time.specs.Times.{day_of}
 use Rattle.cdm_flight.specs.Accepted.{has_runway}
 use Rattle.cdm_flight.specs.Cells.{is_cell_length}
 use Rattle.cdm_flight.specs.Journal.{AirportRows}
@@ -21,7 +22,7 @@ use Rattle.cdm_flight.specs.declared.word.RefusalWord.{RefusalWord}
 use Rattle.cdm_flight.specs.declared.word.RefusalWord.TheVariants as word
 use Rattle.cdm_day.specs.Airport.{spaced, with_runway, with_space, with_taxi}
 use Rattle.cdm_files.specs.AirportFile.{airport_in, airport_record_of, with_record}
-use Rattle.cdm_files.specs.Fields.{and_then, both, field, from_to, number_field, of_one, of_three}
+use Rattle.cdm_files.specs.Fields.{and_then, both, field, from_to, number_field, of_one, of_three, refused_by_word}
 use Rattle.cdm_files.specs.Files.{after_records}
 use Rattle.cdm_files.specs.Records.{records_of}
 
@@ -58,10 +59,10 @@ choice : {X Y : Type 0} (P : Y → Type 0) (k : X → Result Y RefusalWord) (b :
 choice P k true r s of_r of_s = of_r
 choice P k false r s of_r of_s = of_s
 
-one_then : {A X Y : Type 0} (P : Y → Type 0) (k : X → Result Y RefusalWord) (f : A → X) (r : Result A RefusalWord)
-    → ((a : A) → IfOk (k (f a)) P) → IfOk (and_then (of_one f r) k) P
-one_then P k f (Ok a) each = each a
-one_then P k f (Err w) each = tt
+then_then : {A X Y : Type 0} (P : Y → Type 0) (k : X → Result Y RefusalWord) (r : Result A RefusalWord) (g : A → Result X RefusalWord)
+    → ((a : A) → IfOk (and_then (g a) k) P) → IfOk (and_then (and_then r g) k) P
+then_then P k (Ok a) g each = each a
+then_then P k (Err w) g each = tt
 
 three_then : {A B C X Y : Type 0} (P : Y → Type 0) (k : X → Result Y RefusalWord) (f : A → B → C → X)
     (a : Result A RefusalWord) (b : Result B RefusalWord) (c : Result C RefusalWord)
@@ -120,7 +121,7 @@ none_kept : (fields : List (List ℕ)) → IfOk (and_then (airport_record_of fie
 unfolding airport_record_of with_record
 none_kept fields =
     choice Keeps (with_record None) (bytes_eq (field fields 0) (codes "DAY")) _ _
-    (choice Keeps (with_record None) (length fields == 2) _ _ (one_then Keeps (with_record None) _ _ (λ day. All-nil KeepsHours)) tt)
+    (choice Keeps (with_record None) (length fields == 2) _ _ (then_then Keeps (with_record None) (refused_by_word (day_of (field fields 1))) _ (λ day. All-nil KeepsHours)) tt)
     (choice Keeps (with_record None) (bytes_eq (field fields 0) (codes "RUNWAY")) _ _
     (choice Keeps (with_record None) (length fields == 4) _ _ (three_then Keeps (with_record None) _ _ _ _ (λ x y z p q. tt)) tt)
     (choice Keeps (with_record None) (bytes_eq (field fields 0) (codes "TAXI")) _ _
@@ -150,7 +151,7 @@ some_kept : (g : AirportRows) (fields : List (List ℕ)) → All KeepsHours g.ru
 unfolding airport_record_of with_record
 some_kept g fields keeps =
     choice Keeps (with_record (Some g)) (bytes_eq (field fields 0) (codes "DAY")) _ _
-    (choice Keeps (with_record (Some g)) (length fields == 2) _ _ (one_then Keeps (with_record (Some g)) _ _ (λ day. tt)) tt)
+    (choice Keeps (with_record (Some g)) (length fields == 2) _ _ (then_then Keeps (with_record (Some g)) (refused_by_word (day_of (field fields 1))) _ (λ day. tt)) tt)
     (choice Keeps (with_record (Some g)) (bytes_eq (field fields 0) (codes "RUNWAY")) _ _
     (choice Keeps (with_record (Some g)) (length fields == 4) _ _
     (three_then Keeps (with_record (Some g)) _ _ _ _ (λ r cell cap p q. runway_kept g r cell cap keeps (number_made is_cell_length (field fields 2) cell p))) tt)
