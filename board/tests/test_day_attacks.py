@@ -260,7 +260,7 @@ def test_a_change_of_which_nothing_is_known():
         records = mock.Mock(is_closing=False, sequencer=mock.Mock(carry=carry))
         making = changing.Changing(mock.Mock(append=fails), day, None, records)
         with pytest.raises(Problem) as raised:
-            asyncio.run(making.make(changing.DESK, "2025-03-11", None))
+            asyncio.run(making.make(changing.DAY_AT_DESK, "2025-03-11", None))
         return raised.value.status, str(raised.value)
     assert made(504) == (504, "it isn't known whether 2025-03-11 has begun; ask again, with ?day=2025-03-11")
     assert made(503) == (503, "send again with the same key")
