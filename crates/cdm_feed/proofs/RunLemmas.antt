@@ -1,6 +1,6 @@
 -- The first fault of a run, by why its whole inputs make no text.
-use Rattle.std.proofs.{Common.{◌≡◌, ◌∙◌, ⊤, ℕ, List, Option, IfSome, Result, Ok, Err, ap, refl, sym, subst}, lemmas.Option.IfSome_then}
-use Rattle.std.specs.{Prelude.IsOk, Result.{IsErrOf, IsOkAnd}}
+use Rattle.std.proofs.{Common.{◌≡◌, ◌∙◌, ℕ, List, Option, IfSome, Result, Ok, Err, ap, refl, sym, subst}, lemmas.Option.IfSome_then}
+use Rattle.std.specs.{Prelude.{⊤, IsOk}, Result.{IsErrOf, IsOkAnd}}
 use Rattle.cdm_files.specs.{AirportFile.airport_in, CommonFaults.{IsAirportFault, IsFirstInputFault}, Readings.{AreRead, OfBytes, OfRead, Reading}}
 use Rattle.cdm_files.specs.{RunFaults.{Asks, IsFirstFault, IsRecordFault}, ScenarioFile.scenarios_in}
 use Rattle.cdm_files.specs.declared.{common_fault.CommonFault.CommonFault, run_error.RunError.RunError}
