@@ -23,14 +23,15 @@ from types import ModuleType
 
 from aiohttp import web
 
-from board import clock, postgres, sqlite
+from board import clock, hosts, postgres, sqlite
 from board.answers import LIMITED, Answers, asked, day_of
 from board.callers import Callers
 from board.connections import is_loopback
 from board.desks import digest, read_desks
 from board.events import Events
-from board.guard import HEADERS, Door, Guard
+from board.guard import HEADERS, Door, Guard, check_library
 from board.carrying import carried_over
+from board.chain import begun, first_of, why_none
 from board.changing import time_of
 from board.log import MOST_RECORDS, Batch, Change, Log, Record, rules_of
 from board.notify import Notifier
@@ -124,14 +125,14 @@ def folder_of(name: str, airport: bytes) -> Iterator[str]:
 
 def log_at(place: str, board: str) -> Log:
     """A log, which isn't open yet."""
-    if postgres.is_url(place):
+    if hosts.is_url(place):
         return postgres.PostgresLog(place, board)
     return sqlite.FileLog(place, board)
 
 
 def engine_of(place: str) -> ModuleType:
     """The module that reads and copies logs of a place."""
-    return postgres if postgres.is_url(place) else sqlite
+    return postgres if hosts.is_url(place) else sqlite
 
 
 @contextlib.asynccontextmanager
@@ -175,8 +176,8 @@ async def take_in(options: argparse.Namespace) -> None:
 async def give_out(options: argparse.Namespace) -> None:
     """`export`: the accepted records of a day, or all, or its airport file. Raises Fault."""
     changes, _, records = await engine_of(options.log).read_log(options.log, options.board)
-    parts = parts_of(changes, records)
     with folder_of("export", changes[0].airport) as folder:
+        parts = await parts_of(folder, changes, records, options.raw)
         if options.day is not None:
             first = (await day_of(folder, PROGRAM, [])).date
             dates = [span.date for span in spans_of(first, [some[0] for _, some in parts[1:]])]
@@ -199,10 +200,21 @@ async def give_part(options: argparse.Namespace, folder: str, change: Change, re
         print(day.texts(day.records).decode() if options.all else day.feed(), end="")
 
 
-def parts_of(changes: list[Change], records: list[Record]) -> list[tuple[Change, list[Record]]]:
-    """The days of a log: what begins each, and its records."""
-    ends = [change.position for change in changes[1:]] + [len(records) + 1]
-    return [(change, records[max(1, change.position) - 1:end - 1]) for change, end in zip(changes, ends, strict=True)]
+async def parts_of(folder: str, changes: list[Change], records: list[Record], is_raw: bool = False) -> list[tuple[Change, list[Record]]]:
+    """The days of a log: what begins each, and its records; `is_raw`: as they stand, without asking the program. Raises Fault, OSError."""
+    made = {change.position: change for change in changes}
+
+    async def why(record: Record) -> str:
+        return await why_none(folder, PROGRAM, record, made.get(record.position))
+    days = [record for record in records if record.is_change]
+    if not is_raw:
+        days = await begun(first_of(changes[0].airport), days, why)
+        while days and await why(days[-1]):
+            days.pop()
+    firsts = [0, *(record.position for record in days)]
+    began = set(firsts)
+    records = [record._replace(is_change=record.position in began) for record in records]
+    return [(made[first], records[max(1, first) - 1:end - 1]) for first, end in zip(firsts, [*firsts[1:], len(records) + 1], strict=True)]
 
 
 async def give_audit(options: argparse.Namespace) -> None:
@@ -234,17 +246,17 @@ async def verify(options: argparse.Namespace) -> None:
     version = (await asked("/", PROGRAM, "--version")).decode("ascii", "replace").strip()
     if rules_of(made_by) != rules_of(version):
         raise Fault(f"{options.log} was made by another program: {made_by}, and this is {version}")
-    parts = parts_of(changes, records)
     accepted = 0
     day = None
     with folder_of("verify", changes[0].airport) as folder:
+        parts = await parts_of(folder, changes, records)
         for change, some in parts:
             if day is not None and await carried_over(folder, PROGRAM, day, change.airport) != change.feed:
                 raise Fault(f"{options.log}: the change of day at position {change.position} carried over otherwise than this program does")
             day = await day_of(folder, PROGRAM, some, change=change)
             await reply_again(folder, PROGRAM, day)
             accepted += len(day.lines) - len(change.lines)
-            if change is changes[-1]:
+            if change is parts[-1][0]:
                 check_length(day, digests, options.log)
             day.digests.compare(digests, options.log)
     more = f", {len(parts)} days" if len(parts) > 1 else ""
@@ -302,6 +314,7 @@ async def serve(options: argparse.Namespace) -> None:
         door = Door(host, port, options.behind_proxy, desks.limits)
         await runner.setup()
         assert (manager := runner.server) is not None
+        check_library(manager, door)
         server = await loop.create_server(
             lambda: Guard(manager, door, options.behind_proxy), sock=door, ssl=sealed, ssl_handshake_timeout=HEADERS if sealed else None)
         loop.add_signal_handler(signal.SIGHUP, notifier.reload, functools.partial(again, options, board, door, sealed))

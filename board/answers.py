@@ -178,7 +178,7 @@ class Answers:
     def _is_now(self, answer: Answer) -> bool:
         """Whether an answer is of the day as it is now, and would be the same again."""
         is_same = (answer.starts, answer.accepted) == (self._day.starts, len(self._day.lines)) and not answer.is_earlier
-        return is_same and answer.status in (0, 2, 3)
+        return is_same and answer.status in (0, 2, 3, 4)
 
     async def together(self, questions: Sequence[Question]) -> tuple[tuple[int, int], list[Answer]]:
         """Answers of one moment, which is the day's `starts` and a position; no more than up to the first that took too long. They are
@@ -326,4 +326,5 @@ async def day_of(folder: str, program: str, records: list[Record], kinds: bytes 
         if refused["record"] <= len(carried):
             raise Fault(f"record {refused['record']} of what was carried over to {plan['day']} is refused: {refused['word']}")
         words[sent[refused["record"] - len(carried) - 1].position] = refused["word"]
-    return Day(Kinds(kinds), records, words, change, plan["day"])
+    # Beside the server's own thread: a whole day takes it for longer than a desk should wait.
+    return await asyncio.to_thread(Day, Kinds(kinds), records, words, change, plan["day"])

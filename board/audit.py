@@ -8,7 +8,7 @@ from board.words import Fault, now_text, tell
 
 # Events that wait for the log, and seconds until it is tried again.
 MOST_EVENTS_WAITING = 1000
-AGAIN_SECONDS = 1.0
+AUDIT_AGAIN_SECONDS = 1.0
 MOST_DETAIL = 1000
 
 
@@ -38,7 +38,7 @@ class Audit:
             # What is being written when this ends is written once.
             self._writing = asyncio.create_task(self._write())
             while not await asyncio.shield(self._writing):
-                await asyncio.sleep(AGAIN_SECONDS)
+                await asyncio.sleep(AUDIT_AGAIN_SECONDS)
                 self._writing = asyncio.create_task(self._write())
 
     async def _write(self) -> bool:

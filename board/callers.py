@@ -1,6 +1,8 @@
 """Who asks: by which address, as which desk, and how often with a wrong token."""
 import time
 from collections import defaultdict
+from collections.abc import Callable
+from typing import Any
 
 from aiohttp import web
 
@@ -8,15 +10,21 @@ from board.connections import group_of, is_loopback
 from board.desks import READER, Desk, Desks
 from board.log import Log
 from board.sessions import Sessions
-from board.windows import Windows
+from board.windows import OTHERS, Windows
 from board.words import Problem, refuse
 
 # In each minute: wrong tokens of an address, lines on standard error about an address that is refused, sign-ins of a desk at an address.
 # How many streams of events are opened is a setting.
 MINUTE = 60.0
+# Seconds in which the streams of all who have no desk are counted together.
+TOGETHER_SECONDS = 10.0
 MOST_WRONG = 20
-MOST_TOLD = 20
+MOST_REFUSALS_TOLD = 20
 MOST_SIGN_INS = 20
+# What a request keeps: the desk that asks, and when its cookie ends. A later aiohttp warns of keys that are texts, which an earlier one needs.
+REQUEST_KEY: Callable[[str, type], Any] = getattr(web, "RequestKey", lambda name, _: name)
+DESK = REQUEST_KEY("desk", Desk)
+ENDS = REQUEST_KEY("ends", float)
 
 
 class Callers:
@@ -33,6 +41,7 @@ class Callers:
         self.refused = Windows(MINUTE)
         self._sign_ins = defaultdict[str, Windows](lambda: Windows(MINUTE))
         self._opened = defaultdict[str, Windows](lambda: Windows(MINUTE))
+        self._together = Windows(TOGETHER_SECONDS)
         self._behind_proxy = behind_proxy
 
     def address(self, request: web.Request) -> str:
@@ -45,7 +54,7 @@ class Callers:
 
     def asker(self, request: web.Request) -> str:
         """Who asks, for what each may have: a desk, or @ and an address or network."""
-        return request.get("desk", READER).name or f"@{group_of(self.address(request))}"
+        return request.get(DESK, READER).name or f"@{group_of(self.address(request))}"
 
     def desk_of(self, request: web.Request) -> Desk:
         """The desk that asks; who may read without a token is a display without a name. Raises Problem."""
@@ -61,7 +70,7 @@ class Callers:
         elif cookie is not None:
             session = self.sessions.of(cookie, self.desks)
             desk = session.desk if session else None
-            request["ends"] = session.ends if session else 0.0
+            request[ENDS] = session.ends if session else 0.0
         else:
             desk = READER if self.desks.anyone_reads else None
         if desk is None:
@@ -83,7 +92,7 @@ class Callers:
 
     def count_refused(self, request: web.Request) -> bool:
         """Counts a request that was refused. Whether standard error has a line for it; of the others the end of the minute tells."""
-        return self.refused.add(group_of(self.address(request)), time.monotonic()).count <= MOST_TOLD
+        return self.refused.add(group_of(self.address(request)), time.monotonic()).count <= MOST_REFUSALS_TOLD
 
     def check_sign_ins(self, desk: Desk, address: str) -> None:
         """Raises Problem if a desk signs in too often at an address, or out (at no address)."""
@@ -92,10 +101,16 @@ class Callers:
         refuse(window.count > MOST_SIGN_INS, 429, "this desk signs in and out too often", Retry_After=str(1 + int(window.ends - now)))
 
     def check_opened(self, request: web.Request) -> None:
-        """Counts a stream of events that is opened. Raises Problem if one desk, or who has none, opens too many at an address."""
-        desk: Desk = request["desk"]
+        """Counts a stream of events that is opened. Raises Problem if one desk, or who has none, opens too many at an address, or all who have
+        none do together: they come back in turns then."""
+        desk: Desk = request[DESK]
         now = time.monotonic()
         limits = self.desks.limits
         window = self._opened[desk.name].add(group_of(self.address(request)), now)
         most = limits.opened_by_desk if desk.name else limits.opened_without_desk
         refuse(window.count > most, 429, "too many streams of events are opened here", Retry_After=str(1 + int(window.ends - now)))
+        if not desk.name:
+            together = self._together.add(OTHERS, now)
+            turn = together.count // limits.opened_together
+            seconds = min(MINUTE, together.ends - now + TOGETHER_SECONDS * max(0, turn - 1))
+            refuse(together.count > limits.opened_together, 429, "too many streams of events are opened without a token", Retry_After=str(1 + int(seconds)))

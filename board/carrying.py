@@ -1,23 +1,23 @@
 """What a new day begins with: the airport file of the next day, and what the program carries over to it."""
 import os
 import tempfile
-from datetime import date, timedelta
 from pathlib import Path
 
 from board.answers import run
+from board.chain import BOUND, after
 from board.day import Day
 from board.log import DATED, dated
 from board.program import same
 from board.words import refuse
 
 CARRY_LIMIT = 6.0
-# It mustn't outlive a server that is killed; records may wait for it, so nothing else is limited.
-BOUND = ("/usr/bin/setpriv", "--pdeathsig", "KILL", "--")
+# Release 1.0.0 has no such command.
+NO_CARRY = "this server's program can't carry a day over; install a newer one and restart the server"
 
 
 def next_date(day: Day) -> str:
     """The date of the day after a day."""
-    return str(date.fromisoformat(day.date) + timedelta(days=1))
+    return after(day.date)
 
 
 def next_airport(day: Day) -> bytes:
@@ -34,6 +34,7 @@ async def carried_over(folder: str, program: str, day: Day, airport: bytes) -> b
         Path(inside, "feed.csv").write_text(feed, "ascii")
         Path(inside, "next.csv").write_bytes(airport)
         ran = await run(inside, CARRY_LIMIT, *BOUND, same(program), "carry", os.path.join("..", file), "feed.csv", "next.csv")
+    refuse(ran.status == 2, 503, NO_CARRY)
     refuse(ran.status == 3, 422, ran.told)
     refuse(ran.status != 0, 503, f"the day can't be carried over: {ran.told or f'the program ended with {ran.status}'}", Retry_After="5")
     return ran.output

@@ -1,9 +1,11 @@
 """Changes of day: what is told before one, and how it is made, by a desk or by `--day-at`."""
 import asyncio
+from collections.abc import Awaitable, Callable
 from datetime import date, datetime, time, timedelta, timezone
 
 from board.answers import Answers, Question
-from board.carrying import next_airport, next_date
+from board.carrying import NO_CARRY, next_airport, next_date
+from board.clock import JUMP
 from board.day import Day
 from board.desks import Desk
 from board.log import Batch, Change, Log
@@ -17,8 +19,11 @@ EARLIEST = time(1)
 LATEST = time(21, 59)
 REPLY_SECONDS = 20.0
 MOST_TOLD = 200
-DESK = Desk("day-at", "ATC")
+DAY_AT_DESK = Desk("day-at", "ATC")
 MADE = "another day began meanwhile"
+
+
+Check = Callable[[], Awaitable[None]]
 
 
 class Changing:
@@ -35,13 +40,14 @@ class Changing:
         """The position of which it is, and what a person must know before the day changes to an airport file, line by line. Raises Problem."""
         wanted = next_airport(self._day) if airport is None else airport
         position, ran = await self._answers.ask(asker, Question("carry", ("scenarios.csv", "--tell"), wanted), is_tower)
+        refuse(ran.status == 2, 503, NO_CARRY)
         refuse(ran.status == 3, 422, ran.told)
         refuse(ran.status not in (0, 4), 503, ran.told or "the program ended", Retry_After="5")
         return position, ran.output.decode("ascii", "replace").splitlines()
 
-    async def make(self, desk: Desk, day: str, airport: bytes | None, address: str | None = None) -> None:
-        """Has the day of a date, which is the next one, begin, with the same airport file or with another one. Raises Problem; 504: not
-        known."""
+    async def make(self, desk: Desk, day: str, airport: bytes | None, address: str | None = None, check: Check | None = None) -> None:
+        """Has the day of a date, which is the next one, begin, with the same airport file or with another one. `check`: raises Problem where
+        something speaks against it, also if that came last. Raises Problem; 504: not known."""
         async with self._making:
             refuse(self._records.is_closing, 503, "the server is ending; nothing was taken", Retry_After="5")
             refuse(next_date(self._day) != day, 409, MADE)
@@ -51,6 +57,8 @@ class Changing:
             async def carry(last: int) -> Change:
                 await self._day.reached(last)
                 refuse(self._day.change.position != began, 409, MADE)
+                if check is not None:
+                    await check()
                 sequencer = self._records.sequencer
                 try:
                     change = Change(last + 1, wanted, await sequencer.carry(wanted))
@@ -64,14 +72,22 @@ class Changing:
                     batch.change = await carry(self._day.position)
                     positions = await self._log.append(batch)
                     await self._day.reached(positions[-1])
-            except TimeoutError:
+            except (TimeoutError, Problem) as why:
+                if isinstance(why, Problem) and why.status != 504:
+                    raise
                 raise Problem(504, f"it isn't known whether {day} has begun; ask again, with ?day={day}") from None
 
     async def run(self, at: time) -> None:
         """Makes each change at a time of the next day, UTC. Returns never."""
         said = ""
+        limit: datetime | None = None
         while True:
-            why = await self._look(at)
+            now = datetime.now(timezone.utc)
+            if limit is not None and now > limit:
+                why = f"no day begins by itself: {now:%Y-%m-%dT%H:%MZ} is more than 5 minutes after the last look at the clock; a new start goes by it"
+            else:
+                limit = now + JUMP
+                why = await self._look(at)
             if why and why != said:
                 tell(f"cdmboard: {why}")
             said = why
@@ -85,14 +101,18 @@ class Changing:
             return ""
         day = next_date(self._day)
         try:
-            _, lines = await self.told(DESK.name)
-            left = [line for line in lines if line.startswith("LEFT ")]
+            left = await self._left()
             if left and now < due + WAIT:
-                return f"{day} waits for flights that are off-block since before midnight: {'; '.join(left[:MOST_TOLD])}"
-            await self.make(DESK, day, None)
+                return f"{day} waits for flights that are off-block since before midnight: {'; '.join(left)}"
+            await self.make(DAY_AT_DESK, day, None)
         except Problem as problem:
             return f"{day} doesn't begin yet: {problem}"
-        return f"{day} has begun" + (f"; LEFT behind: {'; '.join(left[:MOST_TOLD])}" if left else "")
+        return f"{day} has begun" + (f"; LEFT behind: {'; '.join(left)}" if left else "")
+
+    async def _left(self) -> list[str]:
+        """What is told of flights that would be LEFT. Raises Problem."""
+        _, lines = await self.told(DAY_AT_DESK.name)
+        return [line for line in lines if line.startswith("LEFT ")][:MOST_TOLD]
 
 
 def time_of(said: str) -> time:

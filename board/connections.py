@@ -15,13 +15,15 @@ PROXY = "proxy"
 @dataclass(frozen=True)
 class Limits:
     """How many connections there may be: in all, at an address that has shown no token, at one that has, and how many of all are kept
-    for the latter. `opened_..`: how many streams of events are opened at an address within a minute by one desk, and without one."""
+    for the latter. `opened_..`: how many streams of events are opened at an address within a minute by one desk, and without one; and
+    within ten seconds by all together who have none."""
     connections: int = 10_000
     of_address: int = 100
     of_known_address: int = 1000
     kept_for_desks: int = 2000
     opened_without_desk: int = 600
     opened_by_desk: int = 2000
+    opened_together: int = 1000
 
 
 class Entry(NamedTuple):

@@ -3,6 +3,7 @@ import asyncio
 import copy
 import json
 import re
+import time
 from bisect import bisect
 from collections import OrderedDict, defaultdict
 from collections.abc import Iterable, Mapping
@@ -20,13 +21,15 @@ CLOCK = "ATC,CLOCK,"
 
 class Day:
     """All records by position, from the change of day, or the log's first, to the moment that is now; `lines` are those that were carried
-    over, and the accepted ones. `starts`: how often it began, or began anew; up to `doubtful` it may have had other records before.
-    `changed` is set at each reply, and when it begins; `digested` when there is a digest that the log may lack."""
+    over, and the accepted ones. `began`: when, by the monotonic clock, if this server saw it; `starts`: how often it began, or began anew; up
+    to `doubtful` it may have had other records before. `changed` is set at each reply, and when it begins; `digested` when there is a digest
+    that the log may lack."""
 
     def __init__(self, kinds: Kinds, records: Iterable[Record], refused: Mapping[int, str], change: Change = Change(0, b""), date: str = "") -> None:
         self.kinds = kinds
         self.change = change
         self.date = date
+        self.began = float("-inf")
         self.starts = 0
         self.doubtful = -1
         self.changed = asyncio.Event()
@@ -62,6 +65,7 @@ class Day:
         before = copy.copy(self)
         self.change = change
         self.date = date
+        self.began = time.monotonic()
         self.records = []
         self.lines = change.lines
         self._of = defaultdict(list)

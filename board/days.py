@@ -1,9 +1,11 @@
 """Changes of day over HTTP: what is told before one, and one that a desk makes."""
+import functools
 import json
+import time
 
 from aiohttp import web
 
-from board.callers import Callers
+from board.callers import DESK, Callers
 from board.carrying import next_date
 from board.changing import MOST_TOLD, Changing
 from board.day import Day
@@ -14,6 +16,8 @@ from board.words import Problem, refuse
 
 # Of what is told before a change, what it doesn't begin with, unless a desk wants it even so.
 STOPS = ("LEFT ", "REFUSED ")
+# Seconds in which a request that names no day may be the one that began the present day.
+SOON = 60.0
 
 
 class Days:
@@ -32,7 +36,7 @@ class Days:
 
     async def get(self, request: web.Request) -> web.Response:
         """The day, the next one and the one before, and what a person must know before the day changes."""
-        desk: Desk = request["desk"]
+        desk: Desk = request[DESK]
         position, lines = await self._changing.told(self._callers.asker(request), is_tower=desk.role == "ATC")
         state = await self._state()
         form = request.match_info["form"][1:]
@@ -47,6 +51,7 @@ class Days:
 
     async def post(self, request: web.Request) -> web.Response:
         """Has the next day begin: with the airport file of the body, or with the same one."""
+        refuse("Idempotency-Key" in request.headers, 400, "a change of day has no key: ?day= and its date is what makes it once")
         airport = await body_of(request) or None
         is_even = request.query.get("even") == "yes"
         wanted = request.query.get("day")
@@ -54,17 +59,27 @@ class Days:
         desk = self._callers.desk_of(request)
         day = self._day
         refuse(desk.role != "ATC" or desk.clock is None, 403, "a desk of the tower that sends CLOCK changes the day")
-        has_begun = wanted == day.date if airport is None else airport == day.change.airport
-        if not has_begun:
+        if not self._has_begun(airport, wanted):
             following = next_date(day)
             refuse(wanted not in (None, following), 409, f"the next day is {following}")
-            if not is_even:
-                await self._check(self._callers.asker(request), airport)
-            await self._changing.make(desk, following, airport, self._callers.address(request))
+            # Nothing in such a request says that it isn't the one before, which came twice.
+            is_again = airport is None and wanted is None and time.monotonic() - day.began < SOON
+            refuse(is_again, 409, f"{day.date} has just begun; ?day={following} begins the next day")
+            check = None if is_even else functools.partial(self._check, self._callers.asker(request), airport)
+            if check is not None:
+                await check()
+            await self._changing.make(desk, following, airport, self._callers.address(request), check)
         try:
             return web.json_response(await self._state())
         except Problem as problem:
             raise Problem(504, f"{self._day.date} has begun: {problem}") from None
+
+    def _has_begun(self, airport: bytes | None, wanted: str | None) -> bool:
+        """Whether what is asked for has begun already: the day of a date, or, if none is said, a day with this airport file."""
+        change = self._day.change
+        if wanted is None:
+            return change.position > 0 and airport == change.airport
+        return wanted == self._day.date and airport in (None, change.airport)
 
     async def _check(self, asker: str, airport: bytes | None) -> None:
         """Raises Problem if the day isn't over, or something would be lost with it."""

@@ -14,7 +14,7 @@ from typing import Any
 from board.connections import Limits
 from board.words import ROLES, Fault, Kinds, now_text, refuse
 
-DESK = re.compile(r"[A-Za-z0-9-]{1,32}")
+DESK_NAME = re.compile(r"[A-Za-z0-9-]{1,32}")
 TOKEN = re.compile(r"sha256:[0-9a-f]{64}")
 TIME = re.compile(r"[0-9]{4}-[0-9]{2}-[0-9]{2}T[0-9]{2}:[0-9]{2}Z")
 AHEAD = timedelta(minutes=5)
@@ -156,7 +156,7 @@ def _desk(name: str, told: Any) -> Desk:
     right = {"role": role in (*ROLES, "READ"), "records": type(records) is int and 0 <= records <= MOST_QUOTA, "clock": isinstance(clock, bool),
              "token": tokens and _are(tokens, TOKEN), "flights": flights is None or _are(flights, re.compile(".+"))}
     wrong = [word for word in table if not right.get(word)]
-    if not DESK.fullmatch(name) or name in ("clock", "import", "day-at") or wrong:
+    if not DESK_NAME.fullmatch(name) or name in ("clock", "import", "day-at") or wrong:
         raise ValueError(f"desk {name!a}: {', '.join(wrong) or 'its name'}: missing, unknown or malformed")
     digests = tuple(bytes.fromhex(token.removeprefix("sha256:")) for token in tokens)
     return Desk(name, role, digests, records, None if flights is None else tuple(flights), AHEAD if clock else None)

@@ -9,6 +9,7 @@ from aiohttp import web
 
 from board.day import Day
 from board.desks import Desk
+from board.sending import LEVEL
 from board.words import POSITION, refuse
 
 PAUSE = 0.1
@@ -20,9 +21,8 @@ MOST_STREAMS = 20
 MOST_DISPLAYS = 5000
 # Of what a display missed; beyond that the plan is less for both.
 MOST_FIRST = 64 << 10
-# How a stream by gzip begins, and how hard its texts are packed.
+# How a stream by gzip begins.
 GZIP = b"\x1f\x8b\x08\0\0\0\0\0\0\x03"
-LEVEL = 4
 # After so many displays others have their turn, such as the desk whose record this is.
 IN_A_TURN = 25
 
@@ -127,11 +127,10 @@ class Events:
         return bool(self.streams) and self._view[:2] != self._moment()
 
     def show(self, view: View) -> None:
-        """Takes the last view, which is written to all displays with the next events; one of a day that is gone is dropped."""
-        if view.starts == self._day.starts:
-            self._view = view
-            self._view_chunks.clear()
-            self._day.changed.set()
+        """Takes the last view, which is written to all displays with the next events; one of a day that is gone is written to none."""
+        self._view = view
+        self._view_chunks.clear()
+        self._day.changed.set()
 
     def _text(self, desk: str, since: int, is_first: bool = False) -> bytes:
         """What a desk gets of the records behind a position: `reset` if they aren't kept, or are too much. is_first: nothing went before,

@@ -9,7 +9,7 @@ from board.words import Problem
 
 PAGE = Path(__file__).parent / "page"
 INDEX = "index.html"
-TYPES = {".html": "text/html", ".css": "text/css", ".js": "text/javascript", ".svg": "image/svg+xml"}
+FILE_TYPES = {".html": "text/html", ".css": "text/css", ".js": "text/javascript", ".svg": "image/svg+xml"}
 # Hexadecimal digits of the digest that name the folder.
 DIGITS = 16
 # What is under such a name never changes, so a browser asks for it once.
@@ -31,7 +31,7 @@ class Files:
     `/`, names the folder of the others, so a browser never mixes the files of two versions."""
 
     def __init__(self, folder: Path = PAGE) -> None:
-        bodies = {path.name: path.read_bytes() for path in sorted(folder.glob("*")) if path.suffix in TYPES}
+        bodies = {path.name: path.read_bytes() for path in sorted(folder.glob("*")) if path.suffix in FILE_TYPES}
         digest = hashlib.sha256(b"".join(b"%s %d\n%s" % (name.encode(), len(body), body) for name, body in bodies.items()))
         self.digest = digest.hexdigest()[:DIGITS]
         index = LINKS.sub(lambda found: self._named(found, bodies), bodies.pop(INDEX, b""))
@@ -59,6 +59,6 @@ class Files:
 
 
 def _file(name: str, body: bytes, headers: dict[str, str]) -> File:
-    kind = f"{TYPES[Path(name).suffix]}; charset=utf-8"
+    kind = f"{FILE_TYPES[Path(name).suffix]}; charset=utf-8"
     own = {"Vary": "Accept-Encoding", "Content-Type": kind}
     return File(body, gzip.compress(body, mtime=0), own | headers)

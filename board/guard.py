@@ -5,11 +5,12 @@ import socket
 import time
 from typing import Any
 
+import aiohttp
 from aiohttp import web
 
 from board.connections import Limits, Places, group_of, is_loopback
 from board.windows import Windows
-from board.words import tell
+from board.words import Fault, tell
 
 KEPT_FREE = 200
 TCP_USER_TIMEOUT = 18  # Linux' number of it, which mypy doesn't know.
@@ -82,8 +83,9 @@ class Guard(web.RequestHandler):
     """A connection that is cut off if it takes more than its share. Between two requests aiohttp keeps the time itself."""
 
     def __init__(self, server: web.Server, door: Door, is_for_proxy: bool) -> None:
-        super().__init__(server, loop=asyncio.get_running_loop(), lingering_time=5.0, auto_decompress=False,
-                         keepalive_timeout=OF_A_PROXY if is_for_proxy else HEADERS)
+        # A proxy keeps the time of headers itself, and connections for requests that come.
+        self._patience = OF_A_PROXY if is_for_proxy else HEADERS
+        super().__init__(server, loop=asyncio.get_running_loop(), lingering_time=5.0, auto_decompress=False, keepalive_timeout=self._patience)
         self.access_logger = None
         self.lost = asyncio.Event()
         self._door = door
@@ -94,7 +96,7 @@ class Guard(web.RequestHandler):
     def connection_made(self, transport: asyncio.BaseTransport) -> None:
         assert isinstance(transport, asyncio.Transport)
         self._number: int = transport.get_extra_info("socket").fileno()
-        self._late = asyncio.get_running_loop().call_later(HEADERS, transport.abort)
+        self._late = asyncio.get_running_loop().call_later(self._patience, transport.abort)
         super().connection_made(transport)
 
     async def start(self) -> None:
@@ -138,3 +140,11 @@ class Guard(web.RequestHandler):
         """What is wrong before a request reaches the server's own code is the request's fault."""
         self.take()
         return super().handle_error(request, 400, None, "the request is malformed")
+
+
+def check_library(server: web.Server, door: Door) -> None:
+    """Raises Fault if this aiohttp doesn't count requests where a guard reads the count: nothing would bound a connection then."""
+    tried = Guard(server, door, is_for_proxy=False)
+    web.RequestHandler.data_received(tried, b"GET / HTTP/1.1\r\nHost: localhost\r\n\r\n" * 2)
+    if getattr(tried, "_request_count", 0) != 2:
+        raise Fault(f"aiohttp {aiohttp.__version__} doesn't count the requests of a connection; docs/RUN.md names versions that do")

@@ -50,7 +50,7 @@ class Health:
         """What to watch, for Prometheus."""
         metrics.DISPLAYS.set(len(self._events.streams))
         metrics.ACCEPTED.set(len(self._day.lines))
-        metrics.POSITION.set(self._day.position)
+        metrics.LAST_POSITION.set(self._day.position)
         metrics.OF_DAY.set(len(self._day.records))
         metrics.RESTARTS.set(self._sequencer.starts - 1)
         metrics.NOW.set(self._clock())

@@ -128,7 +128,8 @@ class Changed(Exception):
 class Log(Protocol):
     """A log in any engine, for one server. `name` is for messages. `grown` is set when there may be more records than before,
     `signed_out` when another server may have ended sessions;
-    `secret`: the key of the board's cookies, made with the log; `read_at`: when it was last read, by the monotonic clock."""
+    `secret`: the key of the board's cookies, made with the log; `read_at`: when it was last read, by the monotonic clock; `void`: the
+    positions of changes of day that began none, which are read as records."""
     id: str
     secret: str
     airport: bytes
@@ -136,6 +137,7 @@ class Log(Protocol):
     grown: asyncio.Event
     signed_out: asyncio.Event
     read_at: float
+    void: set[int]
 
     @property
     def stale_since(self) -> str | None:
@@ -162,9 +164,9 @@ class Log(Protocol):
     async def between(self, first: int, last: int) -> list[Record]:
         """The records from one position to another. Raises Away, Fault."""
 
-    async def sought(self, after: int, last: int, flight: str | None, desk: str | None) -> int | None:
-        """The first position behind another, up to a last one, that may be of a flight and of a desk, if these are asked for. Raises Away,
-        Fault."""
+    async def sought(self, after: int, last: int, flight: str | None, desk: str | None, kinds: Sequence[str]) -> int | None:
+        """The first position behind another, up to a last one, of a flight and of a desk, if these are asked for; `kinds`: those of a flight.
+        Raises Away, Fault."""
 
     async def digests(self) -> dict[int, str]:
         """The digests of the replies, each by the position up to which it goes. Raises Fault."""
@@ -202,10 +204,15 @@ class Kept:
         # Set when another server may have ended sessions.
         self.signed_out = asyncio.Event()
         self.read_at = time.monotonic()
+        self.void = set[int]()
+
+    def seen(self, records: Sequence[Record]) -> list[Record]:
+        """Records as they are read: a change of day that began none is none."""
+        return [record._replace(is_change=False) if record.position in self.void else record for record in records]
 
     def check(self, airport: bytes, made_by: str, version: str, present: bytes | None = None) -> None:
         """Raises Fault if the log is another airport's or program's, or has an id that can't be part of a folder's name. `present`: the airport
-        file of its last change of day."""
+        file of a change of day that may be the same but for its DAY."""
         if not ID.fullmatch(self.id):
             raise Fault(f"{self.name}: its id isn't one that cdmboard gives")
         is_own = airport == self.airport or present is not None and undated(airport) == undated(present)
@@ -231,6 +238,12 @@ def dated(airport: bytes, day: str) -> bytes:
 def undated(airport: bytes) -> bytes:
     """What airport files of several days have in common."""
     return DATED.sub(rb"\g<1>", airport, count=1)
+
+
+def halves(airport: bytes) -> tuple[bytes, bytes]:
+    """An airport file before its day and behind it."""
+    found = DATED.search(airport)
+    return (airport[:found.end(1)], airport[found.end():]) if found else (airport, b"")
 
 
 def audit_of(rows: Sequence[Sequence[Any]]) -> bytes:

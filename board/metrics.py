@@ -13,10 +13,10 @@ OUTCOMES = ("made", "kept", "too_many", "no_place", "too_slow", "too_large", "re
 
 RECORDS = prometheus.Counter("cdm_records", "Records with a reply", ["role", "reply"])
 QUESTIONS = prometheus.Counter("cdm_questions", "Questions, by how they ended", ["outcome"])
-REPLY_SECONDS = prometheus.Histogram("cdm_reply_seconds", "Seconds of a reply")
+REPLY_TIMES = prometheus.Histogram("cdm_reply_seconds", "Seconds of a reply")
 DISPLAYS = prometheus.Gauge("cdm_displays", "Displays")
 ACCEPTED = prometheus.Gauge("cdm_accepted_updates", "Accepted updates")
-POSITION = prometheus.Gauge("cdm_position", "The last record with a reply")
+LAST_POSITION = prometheus.Gauge("cdm_position", "The last record with a reply")
 OF_DAY = prometheus.Gauge("cdm_day_records", "Records of the present day with a reply")
 RESTARTS = prometheus.Gauge("cdm_restarts", "Restarts of the sequencer")
 NOW = prometheus.Gauge("cdm_now_seconds", "The last CLOCK that was accepted, in seconds since 1970; 0 before the first")

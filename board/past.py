@@ -7,6 +7,7 @@ from datetime import date, timedelta
 from typing import NamedTuple
 
 from board.answers import LIMITED, PLACE_SECONDS, day_of
+from board.chain import begun_of
 from board.day import Day
 from board.log import Away, Change, Log, Record
 from board.words import Fault, Problem, refuse
@@ -14,7 +15,7 @@ from board.words import Fault, Problem, refuse
 # Earlier days that are kept; records among which a flight or a desk is sought at once.
 MOST_DAYS = 2
 MOST_SOUGHT = 20_000
-AWAY = "the log can't be asked for an earlier day at present"
+PAST_AWAY = "the log can't be asked for an earlier day at present"
 
 
 class Span(NamedTuple):
@@ -56,9 +57,9 @@ class Past:
             return self._spans
         starts = self._day.starts
         try:
-            changes = await self._log.changes()
-        except (Away, Fault):
-            raise Problem(503, AWAY, Retry_After="1") from None
+            changes = await begun_of(self._folder, self._program, self._log)
+        except (Away, Fault, OSError):
+            raise Problem(503, PAST_AWAY, Retry_After="1") from None
         self._spans = spans_of(self._day.date, changes)
         self._read = starts
         return self._spans
@@ -93,7 +94,7 @@ class Past:
             try:
                 day = await self._read_day(span)
             except (Away, Fault, OSError):
-                raise Problem(503, AWAY, Retry_After="1") from None
+                raise Problem(503, PAST_AWAY, Retry_After="1") from None
             refuse(starts != self._day.starts, 503, "the day began anew; ask again", Retry_After="1")
             self.keep(day)
             return day
@@ -105,7 +106,7 @@ class Past:
             async with asyncio.timeout(PLACE_SECONDS):
                 await self._reading.acquire()
         except TimeoutError:
-            raise Problem(503, AWAY, Retry_After="5") from None
+            raise Problem(503, PAST_AWAY, Retry_After="5") from None
         try:
             yield
         finally:
@@ -125,9 +126,9 @@ class Past:
             next_one: int | None = since + 1
             if flight is not None or desk is not None:
                 try:
-                    next_one = await self._log.sought(since, since + MOST_SOUGHT, flight, desk)
+                    next_one = await self._log.sought(since, since + MOST_SOUGHT, flight, desk, self._day.kinds.of_flight)
                 except (Away, Fault):
-                    raise Problem(503, AWAY, Retry_After="1") from None
+                    raise Problem(503, PAST_AWAY, Retry_After="1") from None
             if next_one is None:
                 since += MOST_SOUGHT
                 continue

@@ -1,255 +1,57 @@
-"""The log in PostgreSQL, which any number of servers may share.
+"""The log in PostgreSQL, which any number of servers may share: what is read and written, and the link by which it is.
 
-A server has a pair of connections, its link, to the database that takes commits at present: one reads, one
-commits. A link is used only after its check, and once a call on it fails it isn't used again: a new one is made,
-which may lead to another host. No call is ever cancelled. asyncpg would pass that on to the database, and there a
-commit that waits for its standby and is cancelled counts as done. A connection that hangs is closed, which the
-database's process sees only after its commit."""
+Where a link breaks a new one is made. Rows are handed on, and records taken, only over one that passed its check."""
 import asyncio
 import base64
 import contextlib
 import json
 import secrets
-import socket
 import time
 from argparse import Namespace
-from collections.abc import AsyncIterator, Awaitable, Callable, Iterable, Sequence
+from collections.abc import Sequence
 from itertools import chain, repeat
 from pathlib import Path
-from typing import Any, TypeVar
-from urllib.parse import parse_qsl, urlencode, urlsplit
+from typing import Any
 
 from board import sqlite
 from board.commits import Commit, Commits
 from board.following import AWAY, Following, Seen
+from board.hosts import is_url, name_of
+from board.link import CHANNELS, READ_SECONDS, TIMELINE, Link, Refused, connect, database_of, finished, first, newest
 from board.log import (BEFORE, CARRY_SECONDS, MOST_RECORDS, Accept, Away, Batch, Change, Changed, Event, Kept, Record, accepted, audit_of, change_of,
-                       digests_as_json, records_of)
+                       digests_as_json, halves, records_of)
 from board.notices import Notices
 from board.words import Fault, Problem, now_text, tell
 from board.writer import COMMIT_SECONDS, Outcome, nothing
 
-try:
-    import asyncpg  # type: ignore[import]
-except ImportError:
-    asyncpg = None
-
-T = TypeVar("T")
 SCHEMA = Path(__file__).with_name("schema.sql")
-CONNECT_SECONDS = 3.0
-READ_SECONDS = 5.0
-LOOK_SECONDS = 1.0
+LINK_LOOK_SECONDS = 1.0
 STALE_SECONDS = 3.0
 # Seconds after which a connection that has nothing to commit is asked whether it is still there.
 IDLE_SECONDS = 10.0
+# Seconds for which a start waits for a database.
+AT_START_SECONDS = 60.0
 # Seconds for which a server that says nothing more may hold the lock of a board.
 HOLD_SECONDS = CARRY_SECONDS + 2
 APPEND = "SELECT public.cdm_append($1, $2)"
-# What a role or a database may have set otherwise, and would end a commit, or let it see too little.
-SETTINGS = {"statement_timeout": "0", "lock_timeout": "0", "idle_in_transaction_session_timeout": "0",
-            "idle_session_timeout": "0", "client_connection_check_interval": "0",
-            "default_transaction_isolation": "read committed", "jit": "off",
-            "tcp_keepalives_idle": "15", "tcp_keepalives_interval": "5", "tcp_keepalives_count": "3"}
 # A record is a change of day if something stands beside it.
 COLUMNS = """SELECT position, desk, role, line, at, cdm_day.position IS NOT NULL FROM public.cdm_record
     LEFT JOIN public.cdm_day USING (board, position) WHERE board = $1"""
 CHANGES = f"{COLUMNS} AND cdm_day.position IS NOT NULL ORDER BY position"
 CHANGE = "SELECT airport, feed, digest FROM public.cdm_day WHERE board = $1 AND position = $2"
 SOUGHT = """SELECT min(position) FROM public.cdm_record WHERE board = $1 AND position > $2 AND position <= $3
-    AND ($4::text IS NULL OR desk = $4) AND ($5::text IS NULL OR strpos(line || ',', ',' || $5 || ',') > 0)"""
-PRESENT = "SELECT airport FROM public.cdm_day WHERE board = $1 ORDER BY position DESC LIMIT 1"
-TIMELINE = "SELECT ('x' || left(pg_walfile_name(pg_current_wal_lsn()), 8))::bit(32)::integer"
-COMMITTING = """SELECT count(*) FROM pg_stat_activity
-                WHERE application_name = $1 AND state = 'active' AND pid <> $2"""
+    AND ($4::text IS NULL OR desk = $4) AND ($5::text IS NULL OR split_part(line, ',', 2) = $5 AND split_part(line, ',', 1) = ANY($6::text[]))"""
+# Of the last change of day whose airport file is the same before the ten bytes of its day, and behind them.
+PRESENT = """SELECT airport FROM public.cdm_day WHERE board = $1 AND substring(airport FROM 1 FOR octet_length($2::bytea)) = $2
+    AND substring(airport FROM octet_length($2) + 11) = $3 ORDER BY position DESC LIMIT 1"""
 LAST = "SELECT coalesce(max(position), 0) FROM public.cdm_record WHERE board = $1"
 # Tables of an older version have no sessions, no digests, or no days.
 TABLES = """SELECT num_nulls(to_regclass('public.cdm_record'), to_regclass('public.cdm_session'), to_regclass('public.cdm_digest'),
     to_regclass('public.cdm_day')) = 0"""
-# Notices that another server took records, and ended sessions.
-CHANNELS = ("cdm_record", "cdm_session")
 DIGESTS = "SELECT position, digest FROM public.cdm_digest WHERE board = $1"
 SESSIONS = "SELECT desk, not_before FROM public.cdm_session WHERE board = $1"
 AUDIT = "SELECT at, event, desk, address, position, count, detail FROM public.cdm_audit WHERE board = $1 ORDER BY number"
 WRONG = {422: "this key came with another body before", 503: BEFORE}
-LOST: tuple[Any, ...] = (OSError,) if asyncpg is None else (
-    OSError, asyncpg.InterfaceError, asyncpg.InternalClientError, asyncpg.PostgresConnectionError,
-    asyncpg.OperatorInterventionError)
-# Classes of SQLSTATE: data exceptions, and violated constraints.
-OF_DATA = ("22", "23")
-FAULTS = LOST if asyncpg is None else (*LOST, asyncpg.PostgresError)
-
-
-class Refused(Exception):
-    """The database refused a statement, and took nothing of it. `is_of_data`: since it can't be what was sent, whatever else is so."""
-
-    def __init__(self, why: object, is_of_data: bool = False) -> None:
-        super().__init__(why)
-        self.is_of_data = is_of_data
-
-
-def is_url(log: str) -> bool:
-    """Whether a log is in PostgreSQL."""
-    return log.startswith(("postgresql:", "postgres:"))
-
-
-def hosts_of(url: str) -> list[str]:
-    """A URL with several hosts as URLs with one. Raises Fault."""
-    try:
-        parts = urlsplit(url)
-        who, at, hosts = parts.netloc.rpartition("@")
-        query = urlencode([pair for pair in parse_qsl(parts.query) if pair[0] != "target_session_attrs"])
-        return [parts._replace(netloc=f"{who}{at}{host}", query=query).geturl() for host in hosts.split(",")]
-    except ValueError as fault:
-        raise Fault(f"LOG is postgresql://USER@HOST:PORT/DATABASE ({fault})", 2) from None
-
-
-def name_of(url: str) -> str:
-    """A URL without its password, for messages."""
-    parts = urlsplit(url)
-    who, at, hosts = parts.netloc.rpartition("@")
-    query = urlencode([(name, said) for name, said in parse_qsl(parts.query) if name != "password"])
-    return parts._replace(netloc=f"{who.partition(':')[0]}{at}{hosts}", query=query).geturl()
-
-
-async def first(url: str, make: Callable[[str], Awaitable[T]]) -> T:
-    """What is made of the first host that takes commits. Raises Away, Fault."""
-    whys = []
-    hosts = hosts_of(url)
-    for host in [*hosts, *await other_addresses(hosts)]:
-        try:
-            return await make(host)
-        except Away as why:
-            whys.append(f"{urlsplit(host).netloc.rpartition('@')[2] or 'the database'}: {why}")
-    raise Away("; ".join(whys))
-
-
-async def other_addresses(urls: Iterable[str]) -> list[str]:
-    """The same URLs with each further address of their hosts. The first one that doesn't answer takes all the time of a connection."""
-    found = []
-    for url in urls:
-        parts = urlsplit(url)
-        if parts.hostname is None:
-            continue
-        with contextlib.suppress(OSError):
-            told = await asyncio.get_running_loop().getaddrinfo(parts.hostname, parts.port or 5432, type=socket.SOCK_STREAM)
-            addresses = list(dict.fromkeys(str(address[0]) for *_, address in told))
-            who, at, _ = parts.netloc.rpartition("@")
-            port = f":{parts.port}" if parts.port else ""
-            found += [parts._replace(netloc=f"{who}{at}{f'[{one}]' if ':' in one else one}{port}").geturl() for one in addresses[1:]]
-    return found
-
-
-async def connect(url: str, name: str = "cdmboard") -> Any:
-    """A connection to a host that takes commits. Raises Away, Fault."""
-    if asyncpg is None:
-        raise Fault("python3-asyncpg missing: sudo apt-get install python3-asyncpg", 1)
-    try:
-        settings = SETTINGS | {"application_name": name}
-        connection = await asyncpg.connect(url, timeout=CONNECT_SECONDS, server_settings=settings)
-        is_standby = True
-        try:
-            is_standby = await connection.fetchval("SELECT pg_is_in_recovery()", timeout=READ_SECONDS)
-        finally:
-            if is_standby:
-                connection.terminate()
-    except FAULTS as why:
-        raise Away(str(why) or type(why).__name__) from None
-    except ValueError as why:
-        raise Fault(f"{name_of(url)}: {why}", 2) from None
-    if is_standby:
-        raise Away("a standby")
-    return connection
-
-
-async def finished(connection: Any, seconds: float, call: Awaitable[T]) -> T:
-    """What a call on a connection returns. It isn't cancelled: the connection of a call that hangs is closed.
-    Raises Away, Refused."""
-    task = asyncio.ensure_future(call)
-    task.add_done_callback(lambda done: done.cancelled() or done.exception())
-    try:
-        async with asyncio.timeout(seconds):
-            return await asyncio.shield(task)
-    except TimeoutError:
-        raise Away(f"no answer within {seconds:.0f} seconds") from None
-    # A query that was cancelled before its commit changed nothing, and its connection is still there.
-    except asyncpg.QueryCanceledError as why:
-        raise Refused(why) from None
-    except LOST as why:
-        raise Away(str(why) or type(why).__name__) from None
-    except asyncpg.PostgresError as why:
-        raise Refused(why, (why.sqlstate or "")[:2] in OF_DATA) from None
-    finally:
-        if not task.done():
-            connection.terminate()
-
-
-async def newest(url: str) -> int:
-    """The highest timeline of several hosts that take commits at present; 0 where there is no choice. Raises Fault."""
-    hosts = hosts_of(url)
-    timelines = [0]
-    for host in hosts if len(hosts) > 1 else ():
-        with contextlib.suppress(Away, Refused):
-            connection = await connect(host)
-            try:
-                timelines.append(await finished(connection, READ_SECONDS, connection.fetchval(TIMELINE)))
-            finally:
-                connection.terminate()
-    return max(timelines)
-
-
-class Link:
-    """Two connections to one database."""
-
-    def __init__(self, reader: Any, writer: Any) -> None:
-        self._reader = reader
-        self._writer = writer
-        self._reads = asyncio.Lock()
-        self.broken = asyncio.Event()
-        self.why = "a connection was lost"
-        self._warned = ""
-        for connection in (reader, writer):
-            connection.add_termination_listener(lambda _: self.broken.set())
-        writer.add_log_listener(self._warn)
-
-    def _warn(self, _: Any, message: Any) -> None:
-        """The database warns of a commit that somebody cancelled: the standby may not have it."""
-        self._warned = str(message)
-
-    async def read(self, query: str, *words: object, seconds: float = READ_SECONDS) -> Any:
-        """The rows of a query. Raises Away."""
-        async with self._reads:
-            try:
-                return await finished(self._reader, seconds, self._reader.fetch(query, *words))
-            except (Away, Refused) as why:
-                self.why = str(why)
-                self._reader.terminate()
-                raise Away(why) from None
-
-    async def write(self, query: str, *words: object) -> Any:
-        """The value of a statement that commits. Raises Refused: nothing was taken; Away: it isn't known."""
-        self._warned = ""
-        value = await finished(self._writer, COMMIT_SECONDS, self._writer.fetchval(query, *words))
-        if self._warned:
-            raise Away(self._warned)
-        return value
-
-    async def greet(self) -> None:
-        """Whether the connection that commits is still there. Raises Away, Refused."""
-        await finished(self._writer, READ_SECONDS, self._writer.fetchval("SELECT 1"))
-
-    async def listen(self, heard: Any) -> None:
-        """Has a call made for each notice that another server took records. Raises Away, Refused."""
-        for channel in CHANNELS:
-            await finished(self._reader, READ_SECONDS, self._reader.add_listener(channel, heard))
-
-    async def is_committing(self, name: str) -> bool:
-        """Whether an earlier connection of this name still commits. Raises Away."""
-        rows = await self.read(COMMITTING, name, self._writer.get_server_pid())
-        return bool(rows[0][0])
-
-    def end(self) -> None:
-        """Closes both connections, without a word to what runs there."""
-        self._reader.terminate()
-        self._writer.terminate()
 
 
 class PostgresLog(Kept):
@@ -283,12 +85,25 @@ class PostgresLog(Kept):
         self._given = airport
         self._version = version
         self._accept = accept
-        self._following.timeline = await newest(self._url)
-        try:
-            self._use(await first(self._url, self._to))
-        except Away as why:
-            raise Fault(f"{self.name}: {why}", 1) from None
+        self._use(await self._first_link())
         self._keeping = asyncio.create_task(self._keep())
+
+    async def _first_link(self) -> Link:
+        """A link to the database of the highest timeline, as soon as there is one: it may start later than the server. Raises Fault."""
+        end = time.monotonic() + AT_START_SECONDS
+        said = ""
+        while True:
+            try:
+                self._following.timeline = await newest(self._url)
+                return await first(self._url, self._to)
+            except Away as away:
+                why = str(away)
+            if time.monotonic() > end:
+                raise Fault(f"{self.name}: {why}", 1)
+            if why != said:
+                tell(f"cdmboard: {self.name}: {why}; it is waited for")
+            said = why
+            await asyncio.sleep(LINK_LOOK_SECONDS)
 
     async def ended(self) -> None:
         assert self._keeping is not None
@@ -324,17 +139,18 @@ class PostgresLog(Kept):
             await asyncio.sleep(0.05)
 
     async def changes(self) -> list[Record]:
-        return [Record(*row) for row in await self._linked_read(CHANGES)]
+        return [record for record in (Record(*row) for row in await self._linked_read(CHANGES)) if record.position not in self.void]
 
     async def change(self, position: int) -> Change | None:
         return change_of(self.name, position, await self._linked_read(CHANGE, position))
 
     async def between(self, first: int, last: int) -> list[Record]:
         query = f"{COLUMNS} AND position BETWEEN $2 AND $3 ORDER BY position"
-        return records_of(self.name, first - 1, await self._linked_read(query, first, last))
+        rows = await self._linked_read(query, first, last)
+        return self.seen(await asyncio.to_thread(records_of, self.name, first - 1, rows))
 
-    async def sought(self, after: int, last: int, flight: str | None, desk: str | None) -> int | None:
-        (found,), = await self._linked_read(SOUGHT, after, last, desk, flight)
+    async def sought(self, after: int, last: int, flight: str | None, desk: str | None, kinds: Sequence[str]) -> int | None:
+        (found,), = await self._linked_read(SOUGHT, after, last, desk, flight, kinds)
         position: int | None = found
         return position
 
@@ -368,7 +184,7 @@ class PostgresLog(Kept):
             return None
         records = records_of(self.name, after, found)
         self._following.handed_on(records)
-        return records
+        return self.seen(records)
 
     async def sessions(self) -> dict[str, int]:
         """As of a file. Raises Away too."""
@@ -507,7 +323,7 @@ class PostgresLog(Kept):
             if self._following.is_committing:
                 self._following.committed_before(await link.is_committing(self._writer_name))
             with contextlib.suppress(TimeoutError):
-                async with asyncio.timeout(LOOK_SECONDS):
+                async with asyncio.timeout(LINK_LOOK_SECONDS):
                     await link.broken.wait()
                 raise Away(link.why)
 
@@ -564,7 +380,7 @@ class PostgresLog(Kept):
         self.id = found[0]
         self.airport = found[1]
         self.secret = found[3]
-        present = await link.read(PRESENT, self._board)
+        present = await link.read(PRESENT, self._board, *halves(self._given))
         self.check(self._given, found[2], self._version, present[0][0] if present else None)
         last = self._following.last
         kept = await link.read(f"{COLUMNS} AND position = $2", self._board, last.position if last else 0)
@@ -591,19 +407,6 @@ def _said(batch: Batch, answer: dict[str, Any]) -> range | Problem:
     if answer["status"] == 403:
         return Problem(403, batch.closed or "") if answer["closed"] else batch.full()
     return Problem(answer["status"], WRONG[answer["status"]])
-
-
-@contextlib.asynccontextmanager
-async def database_of(url: str) -> AsyncIterator[Any]:
-    """A connection of one's own to the host that takes commits. Raises Fault."""
-    try:
-        connection = await first(url, connect)
-        try:
-            yield connection
-        finally:
-            connection.terminate()
-    except (Away, Refused, *FAULTS) as why:
-        raise Fault(f"{name_of(url)}: {why}", 1) from None
 
 
 async def init(options: Namespace) -> None:

@@ -1,21 +1,26 @@
 """Questions over HTTP: the program's commands as paths, the log, and the day's files. Each answer is of one moment."""
 import asyncio
+import contextlib
 import json
 import re
 from collections.abc import Callable
 
 from aiohttp import web
 
-from board.answers import Answers, Question
+from board.answers import Answer, Answers, Question
+from board.callers import DESK
 from board.day import Day
 from board.desks import READER, Desk
 from board.log import Log
 from board.past import Past
+from board.places import NAMELESS
 from board.sending import pack
 from board.unsent import Unsent
 from board.words import POSITION, Problem, refuse
 
 MOST_FOUND_BYTES = 1 << 20
+MOST_BODY = 64 << 10
+TOO_LARGE = f"a body has at most {MOST_BODY >> 10} KiB"
 BODY_LIMIT = 20.0
 TYPES = {"": "text/plain", "csv": "text/csv", "json": "application/x-ndjson", "svg": "image/svg+xml"}
 # The program's commands as paths. Those that want a scenario are asked by POST alone, in a format by Accept.
@@ -36,9 +41,14 @@ async def body_of(request: web.Request) -> bytes:
     refuse(is_coded, 400, "a body is sent as it is, without Content-Encoding or Upgrade")
     try:
         async with asyncio.timeout(BODY_LIMIT):
-            return await request.read()
+            body = await request.read()
     except TimeoutError:
         raise Problem(408, "the body took too long") from None
+    except web.HTTPRequestEntityTooLarge:
+        raise Problem(413, TOO_LARGE) from None
+    # A later aiohttp takes one byte more than an earlier one.
+    refuse(len(body) > MOST_BODY, 413, TOO_LARGE)
+    return body
 
 
 class Questions:
@@ -66,23 +76,28 @@ class Questions:
         refuse(not POSITION.fullmatch(since), 400, "since is a position")
         async with self._answers.turn(("log", self._asker(request))):
             if "day" in request.query:
-                day = await self._past.of_date(request.query["day"])
+                day = await self._of_date(request, request.query["day"])
                 found = day.found(int(since), *which)
             else:
-                day, found = await self._past.found(int(since), *which)
+                async with self._turn(request, int(since) + 1):
+                    day, found = await self._past.found(int(since), *which)
             return await self.of_moment(request, self._day.position, "json", day.texts(found, MOST_FOUND_BYTES))
 
     async def sentence(self, request: web.Request) -> web.Response:
         """Why a record is refused, in words: what `check` says of it behind the records accepted before."""
         position = int(request.match_info["position"])
         now = self._day.position
-        day = await self._past.of_position(position)
+        async with self._turn(request, position):
+            day = await self._past.of_position(position)
         record = next(iter(day.of(position, position)), None)
         if record is None or record.word is None:
             raise Problem(404, "no refused record stands there")
         base = None if day is self._day else day.change.position
         question = Question("check", ("--format", "json"), None, record.accepted, f"{record.role},{record.line}\n", base)
         _, ran = await self._answers.ask(self._asker(request), question, _is_tower(request))
+        if base is None and position < self._day.first:
+            # Its day has ended meanwhile.
+            return await self.sentence(request)
         found = [json.loads(line) for line in ran.output.splitlines() if ran.status in (0, 4)]
         sentence = next((one["sentence"] for one in found if one.get("record") == record.accepted + 1), None)
         refuse(sentence is None, 504 if ran.status == 504 else 503, ran.told or "the program says nothing of it")
@@ -105,13 +120,34 @@ class Questions:
             words += [*option, said] if name in request.query else []
         words += ["--format", form] if form in ("csv", "json") else []
         scenarios = await body_of(request) if is_post else None
-        day = await self._past.of_date(request.query["day"]) if "day" in request.query else self._day
-        asked = Question(command, tuple(words), scenarios, base=None if day is self._day else day.change.position)
-        now, ran = await self._answers.ask(self._asker(request), asked, _is_tower(request))
+        day, now, ran = await self._answered(request, Question(command, tuple(words), scenarios))
         status = 404 if ran.told.startswith(UNKNOWN) else STATUSES.get(ran.status, 503)
         again = {"Retry_After": "5"} if status == 503 else {}
         refuse(ran.status != 0, status, ran.told or "the program ended", None, **again)
         return await self.of_moment(request, now, form, ran.output, day)
+
+    async def _answered(self, request: web.Request, question: Question) -> tuple[Day, int, Answer]:
+        """The answer to a question about the day that is said, or about the present one. Raises Problem."""
+        said = request.query.get("day")
+        while True:
+            day = self._day if said is None else await self._of_date(request, said)
+            asked = question._replace(base=None if day is self._day else day.change.position)
+            now, ran = await self._answers.ask(self._asker(request), asked, _is_tower(request))
+            # The present day may have ended meanwhile.
+            if said in (None, day.date):
+                return day, now, ran
+
+    async def _of_date(self, request: web.Request, said: str) -> Day:
+        """The day of a date. Raises Problem."""
+        async with self._turn(request, self._day.first if said == self._day.date else 0):
+            return await self._past.of_date(said)
+
+    def _turn(self, request: web.Request, first: int) -> contextlib.AbstractAsyncContextManager[None]:
+        """The turn of a desk to have an earlier day read, if the first position that is asked for is of one. All who have no desk take turns
+        as one, so that they keep no desk waiting."""
+        asker = self._asker(request)
+        is_earlier = first < self._day.first
+        return self._answers.turn(("day", NAMELESS if asker.startswith(NAMELESS) else asker)) if is_earlier else contextlib.nullcontext()
 
     async def file(self, request: web.Request) -> web.Response:
         """The table of kinds, or the airport file."""
@@ -121,7 +157,7 @@ class Questions:
     async def journal(self, request: web.Request) -> web.Response:
         """The accepted records of a day as a feed."""
         async with self._answers.turn(("log", self._asker(request))):
-            day = await self._past.of_date(request.query.get("day", self._day.date))
+            day = await self._of_date(request, request.query.get("day", self._day.date))
             return await self.of_moment(request, day.position, "csv", day.feed().encode(), day)
 
     def tags(self, position: int, day: Day | None = None) -> dict[str, str]:
@@ -140,5 +176,5 @@ class Questions:
 
 
 def _is_tower(request: web.Request) -> bool:
-    desk: Desk = request.get("desk", READER)
+    desk: Desk = request.get(DESK, READER)
     return desk.role == "ATC"

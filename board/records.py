@@ -8,7 +8,7 @@ from collections.abc import Iterator
 from board.day import Day
 from board.desks import Desk, Pace
 from board.log import MOST_RECORDS, NOT_KNOWN, Batch, Log
-from board.metrics import REPLY_SECONDS
+from board.metrics import REPLY_TIMES
 from board.sequencer import Sequencer
 from board.words import Problem, refuse
 
@@ -60,7 +60,7 @@ class Records:
         batch = Batch(desk.name, [(desk.role, line) for line in lines], key, desk.records, address=address)
         if is_full and desk.role != "ATC":
             batch.closed = f"from {TOWERS} accepted updates, or {MOST_RECORDS - RESERVED} records, on ATC alone sends"
-        with self.paces[desk.name].of(len(lines)), REPLY_SECONDS.time(), self._counted():
+        with self.paces[desk.name].of(len(lines)), REPLY_TIMES.time(), self._counted():
             try:
                 async with asyncio.timeout(REPLY_LIMIT):
                     positions = await self._log.append(batch)

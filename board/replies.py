@@ -9,6 +9,7 @@ from collections.abc import Sequence
 from pathlib import Path
 
 from board.answers import LIMITED, day_of, ended
+from board.chain import begun_of
 from board.day import Day, text_of
 from board.digests import Digests
 from board.log import Away, Change, Log, Record
@@ -16,18 +17,20 @@ from board.program import MOST_REPLY, same
 from board.words import Fault, tell
 
 # Seconds until a log that takes no digest is tried again, and for the replies of a whole day.
-AGAIN_SECONDS = 1.0
+DIGEST_AGAIN_SECONDS = 1.0
 TRACE_SECONDS = 900.0
 TRACE = ("trace", "airport.csv", "replies.csv", "--format", "json")
 
 
 async def day_of_log(folder: str, program: str, log: Log, kinds: bytes) -> Day:
     """The last day of a log: nothing before it is read. Raises Fault, also if the log has digests of records that it hasn't."""
+    # What a log of another past had.
+    log.void.clear()
     while True:
         # Its digests are read first: so each is of records that are read too.
         digests = await log.digests()
         try:
-            changes = await log.changes()
+            changes = await begun_of(folder, program, log, True)
             change = await log.change(changes[-1].position) if changes else Change(0, log.airport)
         except Away:
             change = None
@@ -35,9 +38,9 @@ async def day_of_log(folder: str, program: str, log: Log, kinds: bytes) -> Day:
             records = await log.whole(max(0, change.position - 1))
             if not change.position or records and records[0].is_change:
                 break
-        await asyncio.sleep(AGAIN_SECONDS / 10)
+        await asyncio.sleep(DIGEST_AGAIN_SECONDS / 10)
     # Another day may have begun meanwhile; the sequencer comes to it.
-    end = next((number for number, record in enumerate(records) if number and record.is_change), len(records))
+    end = next((number for number, record in enumerate(records) if record.is_change and record.position != change.position), len(records))
     day = await day_of(folder, program, records[:end], kinds, change)
     check_length(day, digests, log.name)
     return day
@@ -131,11 +134,11 @@ class Keeper:
         while True:
             self._day.digested.clear()
             if not await self._catch_up():
-                await asyncio.sleep(AGAIN_SECONDS)
+                await asyncio.sleep(DIGEST_AGAIN_SECONDS)
                 continue
             while said := self._day.unkept():
                 if not await self._keep(said):
-                    await asyncio.sleep(AGAIN_SECONDS)
+                    await asyncio.sleep(DIGEST_AGAIN_SECONDS)
             await self._day.digested.wait()
 
     async def _catch_up(self) -> bool:

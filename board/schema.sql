@@ -7,8 +7,9 @@ DO $$ BEGIN
     END IF;
     IF NOT EXISTS (SELECT FROM pg_roles WHERE rolname = 'cdm_owner') THEN CREATE ROLE cdm_owner NOLOGIN; END IF;
     IF NOT EXISTS (SELECT FROM pg_roles WHERE rolname = 'cdm_server') THEN CREATE ROLE cdm_server NOLOGIN; END IF;
-    -- Who is no superuser may give a table to a role of which it is a member, and which may create in the schema; both until the end.
-    IF NOT pg_has_role(current_user, 'cdm_owner', 'MEMBER') THEN
+    -- Who is no superuser may give a table to a role that it may become, and which may create in the schema; both until the end. From 16 on a
+    -- member, as whoever made the role is, may not become it by that alone.
+    IF NOT pg_has_role(current_user, 'cdm_owner', CASE WHEN current_setting('server_version_num')::integer < 160000 THEN 'MEMBER' ELSE 'SET' END) THEN
         EXECUTE format('GRANT cdm_owner TO %I', current_user);
         PERFORM set_config('cdmboard.was_member', 'no', true);
     END IF;
@@ -47,6 +48,13 @@ END $$;
 CREATE TABLE IF NOT EXISTS public.cdm_day (
     board text NOT NULL, position integer NOT NULL, airport bytea NOT NULL, feed bytea NOT NULL,
     digest text NOT NULL CHECK (digest = encode(sha256(airport || feed), 'hex')), PRIMARY KEY (board, position));
+-- What no server reads within its time, or at all, would stand before all that comes behind it.
+DO $$ BEGIN
+    IF NOT EXISTS (SELECT FROM pg_constraint WHERE conname = 'cdm_day_readable') THEN
+        ALTER TABLE public.cdm_day ADD CONSTRAINT cdm_day_readable
+            CHECK (octet_length(airport) <= 8388608 AND octet_length(feed) <= 8388608) NOT VALID;
+    END IF;
+END $$;
 -- Sessions of a desk are numbered from 0; those before `not_before` have ended.
 CREATE TABLE IF NOT EXISTS public.cdm_session (
     board text NOT NULL, desk text NOT NULL, not_before integer NOT NULL, PRIMARY KEY (board, desk));
@@ -113,6 +121,8 @@ BEGIN
             END IF;
             INSERT INTO public.cdm_day VALUES (of_board, last + 1, decode(batch #>> '{change,airport}', 'base64'),
                 decode(batch #>> '{change,feed}', 'base64'), batch #>> '{change,digest}');
+            -- A server of release 1.0.0 takes all days for one: it refuses a log of another version than its own.
+            UPDATE public.cdm_log SET version = version || ' (rules 1)' WHERE board = of_board AND version = 'cdmseq 1.0.0';
         ELSIF last + 1 - first_of_day + count_new > (batch ->> 'end')::integer OR mine + count_new > (batch ->> 'most')::integer THEN
             answers := answers || '{"status": 403, "closed": false}'::jsonb;
             CONTINUE;

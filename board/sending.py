@@ -14,6 +14,7 @@ WORTH_WHILE = 1024
 MOST_SHARED = 1 << 20
 PIECE = 64 << 10
 MOST_PACKED = 16
+# How hard answers and events are packed.
 LEVEL = 4
 
 
@@ -93,6 +94,8 @@ async def pack(request: web.Request, body: bytes, headers: dict[str, str], is_ce
     if is_packed:
         headers["Content-Encoding"] = "gzip"
         body = await PACKED.of(body)
+    # Who counts what is unread asks for this length; a later aiohttp tells that of a body in pieces only once it is sent.
+    headers["Content-Length"] = str(len(body))
     return web.Response(body=Pieces(body) if len(body) > PIECE else body, headers=headers)
 
 

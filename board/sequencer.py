@@ -11,6 +11,7 @@ from pathlib import Path
 
 from board.answers import START_SECONDS, put_airport
 from board.carrying import carried_over
+from board.chain import after, date_of, none_told, why_none
 from board.day import Day
 from board.life import End, Keep, Life, Ready
 from board.log import Away, Change, Changed, Log, Record
@@ -25,7 +26,7 @@ MOST_AHEAD = 256
 # Seconds for a reply, and until a process that found no room is started again.
 PATIENCE_SECONDS = 10.0
 ROOM_SECONDS = 1.0
-AGAIN_SECONDS = 0.2
+CHANGE_AGAIN_SECONDS = 0.2
 # Bytes that the journal of a process may need beyond the day that it begins with.
 MOST_JOURNAL = 4 << 20
 
@@ -96,18 +97,37 @@ class Sequencer:
         try:
             change = await self._log.change(record.position)
         except Away:
-            await asyncio.sleep(AGAIN_SECONDS)
+            await asyncio.sleep(CHANGE_AGAIN_SECONDS)
             return
         if change is not None:
-            await self._check(change)
             put_airport(self._folder, change)
             self.past.keep(self._day.begin(record, change, record.line.removeprefix("DAY,")))
             # The day's first process isn't one that was started again.
             self._is_first = True
 
-    async def _check(self, change: Change) -> None:
-        """Raises Fault if another server carried over otherwise than this one would."""
-        if change.digest == self.carried:
+    async def _come_to(self, record: Record) -> None:
+        """All records before a change of day have their replies. Raises NextDay, unless no day begins with it: from then on it is read as a
+        record. Raises Fault, OSError."""
+        try:
+            change = await self._log.change(record.position)
+            is_own = change is not None and change.digest == self.carried and date_of(record) == after(self._day.date)
+            if not is_own:
+                await self._check(record, change)
+        except Away:
+            await asyncio.sleep(CHANGE_AGAIN_SECONDS)
+            return
+        if record.position not in self._log.void:
+            raise NextDay(record)
+
+    async def _check(self, record: Record, change: Change | None) -> None:
+        """Looks at a change that another one made. Raises Fault if that carried over otherwise than this server would, OSError."""
+        wanted = after(self._day.date)
+        why = f"its day is {date_of(record)}, and the next day is {wanted}"
+        if date_of(record) == wanted:
+            why = await why_none(self._folder, self._program, record, change)
+        if why or change is None:
+            self._log.void.add(record.position)
+            tell(none_told(self._log.name, record.position, why))
             return
         try:
             feed = await self.carry(change.airport)
@@ -115,7 +135,8 @@ class Sequencer:
             tell(f"cdmboard: what was carried over at position {change.position} isn't compared: {problem}")
             return
         if feed != change.feed:
-            raise Fault(f"{self._log.name}: the change of day at position {change.position} carried over otherwise than this program does")
+            raise Fault(f"{self._log.name}: the change of day at position {change.position} carried over otherwise than this program does: another"
+                        " program made it, or somebody who has a server's login; cdmboard verify tells which (docs/POSTGRES.md#a-login-that-others-have)")
 
     async def _serve_somewhere(self) -> None:
         """One process, in a folder of its own where there is room for its journal: in memory, if there is."""
@@ -165,18 +186,19 @@ class Sequencer:
                 await self._log.grown.wait()
                 self._log.grown.clear()
             change = next((record for record in records if record.is_change), None)
+            # A day that found no room hasn't begun, though the process of the day before was started.
+            self._is_without_room = self._is_without_room and change is not None
             before = records[:records.index(change)] if change else records
             lines.write(self._life.given(before).encode("ascii"))
             while self._life.due:
                 self._do(self._life.heard(await _reply(replies, PATIENCE_SECONDS)))
             if change is not None:
-                raise NextDay(change)
+                await self._come_to(change)
 
     def _do(self, order: Ready | Keep | End) -> None:
         """Carries out what the life orders. Raises Ended."""
         match order:
             case Ready():
-                self._is_without_room = False
                 self.is_ready.set()
             case Keep(record, word, changes):
                 self._day.add(record, word, changes)

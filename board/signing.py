@@ -7,7 +7,7 @@ import time
 from aiohttp import web
 
 from board.audit import Audit
-from board.callers import MOST_TOLD, MOST_WRONG, Callers
+from board.callers import MOST_REFUSALS_TOLD, MOST_WRONG, Callers
 from board.desks import READER
 from board.events import Events
 from board.guard import Guard
@@ -19,7 +19,7 @@ from board.words import Fault, Problem, now_text, tell
 
 SIGN_OUT_LIMIT = 10.0
 # Seconds between two looks at which sessions have ended, where nothing says that any did.
-LOOK_SECONDS = 1.0
+SESSION_LOOK_SECONDS = 1.0
 SIGNED_OUT_HERE = "signed out here; the other servers are told as soon as the log takes it"
 
 
@@ -90,7 +90,7 @@ class Signing:
             now = time.monotonic()
             self.tell_refused(self._callers.refused.ended(now), self._callers.wrong.ended(now))
             with contextlib.suppress(TimeoutError):
-                async with asyncio.timeout(LOOK_SECONDS):
+                async with asyncio.timeout(SESSION_LOOK_SECONDS):
                     await self._log.signed_out.wait()
             self._log.signed_out.clear()
 
@@ -102,8 +102,8 @@ class Signing:
     def tell_refused(self, refused: dict[str, int], wrong: dict[str, int]) -> None:
         """One line for all that was refused in a minute beyond what was told, and one event for all wrong tokens."""
         for address, count in refused.items():
-            if count > MOST_TOLD:
-                tell(f"{now_text()} {ascii(address)[1:-1]} {count - MOST_TOLD} more were refused within a minute")
+            if count > MOST_REFUSALS_TOLD:
+                tell(f"{now_text()} {ascii(address)[1:-1]} {count - MOST_REFUSALS_TOLD} more were refused within a minute")
         if wrong:
             most = max(wrong, key=lambda address: wrong[address])
             detail = f"{sum(wrong.values())} wrong tokens within a minute, {wrong[most]} of them from here; addresses: {len(wrong)}"

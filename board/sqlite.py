@@ -6,6 +6,7 @@ import asyncio
 import contextlib
 import errno
 import fcntl
+import json
 import os
 import secrets
 import sqlite3
@@ -17,13 +18,14 @@ from urllib.parse import quote
 
 from board.commits import Commit, Commits
 from board.log import (BEFORE, MOST_EVENTS, MOST_RECORDS, Accept, Away, Batch, Change, Event, Kept, Record, accepted, audit_of, change_of,
-                       digests_as_json, records_of)
+                       digests_as_json, halves, records_of)
 from board.words import Fault, Problem, now_text, tell
 from board.writer import COMMIT_SECONDS, Outcome
 
-# Seconds that a foreign lock is waited for, and between two tries of a log that failed.
+# Seconds that a foreign lock is waited for, between two tries of a log that failed, and that a read waits behind a commit that hangs.
 BUSY_SECONDS = 5.0
 RETRY_SECONDS = 1.0
+BEHIND_SECONDS = 10.0
 # Bytes that a disk has to take, more than a large batch needs; bytes of the index, for a write-ahead log of 16,000 pages.
 ROOM_BYTES = 1 << 18
 INDEX_BYTES = 4 << 15
@@ -58,7 +60,7 @@ FROM json_each(?) JOIN cdm_record ON position = json_extract(value, '$[0]') AND 
     AND role = json_extract(value, '$[2]') AND line = json_extract(value, '$[3]') AND at = json_extract(value, '$[4]')
 WHERE board = ?"""
 KEEP = f"INSERT INTO cdm_digest SELECT board, position, json_extract(value, '$[5]') {SAID} ON CONFLICT DO NOTHING"
-KEPT = f"SELECT position, digest FROM cdm_digest WHERE position IN (SELECT position {SAID}) AND board = ?"
+KEPT_DIGESTS = f"SELECT position, digest FROM cdm_digest WHERE position IN (SELECT position {SAID}) AND board = ?"
 LOG = "SELECT id, airport, version, secret FROM cdm_log WHERE board = ?"
 # A record is a change of day if something stands beside it.
 COLUMNS = """SELECT position, desk, role, line, at, cdm_day.position IS NOT NULL FROM cdm_record LEFT JOIN cdm_day USING (board, position)
@@ -68,8 +70,11 @@ OLD_ROWS = "SELECT position, desk, role, line, at, 0 FROM cdm_record WHERE board
 CHANGES = f"{COLUMNS} AND cdm_day.position IS NOT NULL ORDER BY position"
 CHANGE = "SELECT airport, feed, digest FROM cdm_day WHERE board = ? AND position = ?"
 SOUGHT = """SELECT min(position) FROM cdm_record WHERE board = ? AND position > ? AND position <= ? AND (? IS NULL OR desk = ?)
-AND (? IS NULL OR instr(line || ',', ',' || ? || ',') > 0)"""
-PRESENT = "SELECT airport FROM cdm_day WHERE board = ? ORDER BY position DESC LIMIT 1"
+AND (? IS NULL OR instr(substr(line, instr(line, ',') + 1) || ',', ? || ',') = 1
+    AND substr(line, 1, instr(line, ',') - 1) IN (SELECT value FROM json_each(?)))"""
+# Of the last change of day whose airport file is the same before the ten bytes of its day, and behind them.
+PRESENT = """SELECT airport FROM cdm_day WHERE board = ?1 AND substr(airport, 1, length(?2)) = ?2 AND substr(airport, length(?2) + 11) = ?3
+ORDER BY position DESC LIMIT 1"""
 LOCKED = (sqlite3.SQLITE_BUSY, sqlite3.SQLITE_LOCKED)
 # What may be otherwise at the next try, without anybody's change of a file.
 PASSING = (*LOCKED, sqlite3.SQLITE_FULL, sqlite3.SQLITE_IOERR, sqlite3.SQLITE_NOMEM)
@@ -118,7 +123,7 @@ class FileLog(Kept):
         except (OSError, sqlite3.Error) as fault:
             raise Fault(f"{self.name}: {fault}", status_of(fault)) from None
         self.id, self.airport, made_by, self.secret = row
-        present = database.execute(PRESENT, log[:1]).fetchone()
+        present = database.execute(PRESENT, (log[0], *halves(airport))).fetchone()
         self.check(airport, made_by, version, present and present[0])
 
     def _update(self, database: sqlite3.Connection, secret: str) -> None:
@@ -283,6 +288,8 @@ class FileLog(Kept):
             if change.position != last + 1:
                 return Problem(503, BEFORE)
             query("INSERT INTO cdm_day VALUES (?, ?, ?, ?, ?)", (self._board, last + 1, change.airport, change.feed, change.digest))
+            # A server of release 1.0.0 takes all days for one: it refuses a log of another version than its own.
+            query("UPDATE cdm_log SET version = version || ' (rules 1)' WHERE board = ? AND version = 'cdmseq 1.0.0'", desk[:1])
         database.executemany(
             "INSERT INTO cdm_record VALUES (?, ?, ?, ?, ?, ?, ?, ?, ?)",
             [(self._board, last + 1 + n, batch.desk, batch.key, n, count, *record, batch.at) for n, record in enumerate(batch.records)])
@@ -296,7 +303,7 @@ class FileLog(Kept):
         try:
             found = await self._loop.run_in_executor(self._thread, self._rows, after, most)
             self.read_at = time.monotonic()
-            return found
+            return self.seen(found)
         except sqlite3.Error as fault:
             if code_of(fault) not in LOCKED and not self.stale_since:
                 raise Fault(f"{self.name}: {fault}", 1) from None
@@ -311,25 +318,27 @@ class FileLog(Kept):
     async def whole(self, after: int = 0) -> list[Record]:
         """All records behind a position. Raises Fault."""
         try:
-            return await self._loop.run_in_executor(self._thread, self._rows, after, -1)
+            return self.seen(await self._loop.run_in_executor(self._thread, self._rows, after, -1))
         except sqlite3.Error as fault:
             raise Fault(f"{self.name}: {fault}", status_of(fault)) from None
 
     async def changes(self) -> list[Record]:
         """All changes of day. Raises Away, Fault."""
-        return [Record(*row[:5])._replace(is_change=True) for row in await self._call(CHANGES, self._board, 0)]
+        found = [Record(*row[:5])._replace(is_change=True) for row in await self._read(CHANGES, self._board, 0)]
+        return [record for record in found if record.position not in self.void]
 
     async def change(self, position: int) -> Change | None:
         """What stands beside the change of day at a position. Raises Away, Fault."""
-        return change_of(self.name, position, await self._call(CHANGE, self._board, position))
+        return change_of(self.name, position, await self._read(CHANGE, self._board, position))
 
     async def between(self, first: int, last: int) -> list[Record]:
         """The records from one position to another. Raises Away, Fault."""
-        return records_of(self.name, first - 1, await self._call(ROWS, self._board, first - 1, last - first + 1))
+        rows = await self._read(ROWS, self._board, first - 1, last - first + 1)
+        return self.seen(await asyncio.to_thread(records_of, self.name, first - 1, rows))
 
-    async def sought(self, after: int, last: int, flight: str | None, desk: str | None) -> int | None:
-        """The first position behind another, up to a last one, that may be of a flight and of a desk. Raises Away, Fault."""
-        (found,), = await self._call(SOUGHT, self._board, after, last, desk, desk, flight, flight)
+    async def sought(self, after: int, last: int, flight: str | None, desk: str | None, kinds: Sequence[str]) -> int | None:
+        """The first position behind another, up to a last one, of a flight, which such kinds have, and of a desk. Raises Away, Fault."""
+        (found,), = await self._read(SOUGHT, self._board, after, last, desk, desk, flight, flight, json.dumps(kinds))
         position: int | None = found
         return position
 
@@ -342,11 +351,11 @@ class FileLog(Kept):
         the log hasn't. Raises Away, Fault."""
         told = digests_as_json(said)
         await self._call(KEEP, told, self._board)
-        return dict(await self._call(KEPT, told, self._board, self._board))
+        return dict(await self._call(KEPT_DIGESTS, told, self._board, self._board))
 
     async def sessions(self) -> dict[str, int]:
-        """The number of each desk's first session that hasn't ended, where it isn't 0. Raises Fault."""
-        return dict(await self._call("SELECT desk, not_before FROM cdm_session WHERE board = ?", self._board))
+        """The number of each desk's first session that hasn't ended, where it isn't 0. Raises Away, Fault."""
+        return dict(await self._read("SELECT desk, not_before FROM cdm_session WHERE board = ?", self._board))
 
     async def sign_out(self, desk: str, least: int = 1) -> None:
         """Ends all sessions of a desk, also those before number `least`. Raises Fault."""
@@ -362,6 +371,14 @@ class FileLog(Kept):
             words = [word for event in kept for word in (self._board, *event)]
             await self._call(f"INSERT INTO cdm_audit (board, event, desk, address, detail, at) VALUES {rows}", *words)
         return len(kept)
+
+    async def _read(self, query: str, *words: object) -> list[Any]:
+        """The rows of a query, if the thread comes to it in time: a commit that hangs keeps it. Raises Away, Fault."""
+        try:
+            async with asyncio.timeout(BEHIND_SECONDS):
+                return await self._call(query, *words)
+        except TimeoutError:
+            raise Away(f"a commit takes longer than {BEHIND_SECONDS:.0f} seconds") from None
 
     async def _call(self, query: str, *words: object) -> list[Any]:
         try:

@@ -11,7 +11,7 @@ from aiohttp import HttpVersion11, web
 
 from board.answers import Answers
 from board.audit import Audit
-from board.callers import Callers
+from board.callers import DESK, ENDS, Callers
 from board.changing import Changing
 from board.day import Day
 from board.days import Days
@@ -21,7 +21,7 @@ from board.files import Files
 from board.guard import Guard
 from board.health import Health
 from board.log import Log
-from board.questions import TYPES, Questions, body_of
+from board.questions import MOST_BODY, TYPES, Questions, body_of
 from board.records import Records
 from board.sending import has, problem_as_answer, tagged
 from board.sequencer import Sequencer
@@ -30,7 +30,6 @@ from board.signing import Signing
 from board.unsent import Unsent
 from board.words import KEY, POSITION, Problem, lines_of, now_text, refuse, tell
 
-MOST_BODY = 64 << 10
 AFTER_LIMIT = 2.0
 SEND_LIMIT = 60.0
 # What may be said once alone: of two, the next program on the way might read the other one.
@@ -78,8 +77,8 @@ class Board:
         origin = f"{self.callers.scheme}://{host}"
         refuse(headers.get("Origin", origin) != origin, 403, "a page of another site speaks")
         if request.path.startswith("/v1/") and request.path != "/v1/session" or request.path == "/metrics":
-            request["desk"] = self.callers.desk_of(request)
-            if request["desk"].name and not self.callers.desks.is_open and isinstance(request.protocol, Guard):
+            request[DESK] = self.callers.desk_of(request)
+            if request[DESK].name and not self.callers.desks.is_open and isinstance(request.protocol, Guard):
                 request.protocol.show()
         self._unsent.check_own(self.callers.asker(request))
         refuse(not POSITION.fullmatch(after), 400, "Cdm-After is a position")
@@ -144,7 +143,7 @@ class Board:
         else:
             tell(f"cdmboard: {type(fault).__name__}: {fault}")
         if problem.status in (401, 403) and self.callers.count_refused(request):
-            desk = request.get("desk", READER).name
+            desk = request.get(DESK, READER).name
             address = ascii(self.callers.address(request))[1:-1]
             tell(f"{now_text()} {address} {desk or '-'} {request.path[:100]!a} {problem.status}", address=address,
                  desk=desk or None, path=request.path[:100], status=problem.status)
@@ -152,7 +151,7 @@ class Board:
 
     async def who(self, request: web.Request) -> web.Response:
         """Who asks, and what it may send."""
-        desk: Desk = request["desk"]
+        desk: Desk = request[DESK]
         kinds = [kind for kind, roles in self.day.kinds.roles.items() if desk.role in roles]
         return web.json_response({
             "desk": desk.name or None, "role": desk.role, "kinds": kinds, "flights": desk.flights, "clock": desk.clock is not None,
@@ -172,7 +171,7 @@ class Board:
     async def get_events(self, request: web.Request) -> web.StreamResponse:
         """Server-sent events."""
         refuse(request.version < HttpVersion11, 505, "events come in chunks")
-        self.events.check(request["desk"])
+        self.events.check(request[DESK])
         self.callers.check_opened(request)
         guard = request.protocol
         transport = request.transport
@@ -183,11 +182,11 @@ class Board:
         is_packed = "gzip" in request.headers.get("Accept-Encoding", "")
         response = web.StreamResponse(headers=STREAM | ({"Content-Encoding": "gzip"} if is_packed else {}))
         await response.prepare(request)
-        stream = Stream(request, request["desk"], transport, guard.lost, is_packed)
+        stream = Stream(request, request[DESK], transport, guard.lost, is_packed)
         # A browser that comes back sends both, of which the header is the newer one.
         self.events.open(stream, request.headers.get("Last-Event-ID") or request.query.get("since") or "")
         # Not longer than its cookie, nor than any; a display comes back by itself.
-        seconds = min(SESSION, request.get("ends", float("inf")) - time.time())
+        seconds = min(SESSION, request.get(ENDS, float("inf")) - time.time())
         too_long = asyncio.get_running_loop().call_later(seconds, transport.abort)
         try:
             await stream.ended.wait()

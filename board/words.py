@@ -64,9 +64,9 @@ class Kinds:
         self.text = text
         rows = [json.loads(line) for line in text.splitlines()]
         self.roles: dict[str, list[str]] = {row["kind"]: row["roles"] for row in rows}
-        self._of_flight = {row["kind"] for row in rows if row["of"] == "flight"}
+        self.of_flight = [row["kind"] for row in rows if row["of"] == "flight"]
 
     def flight_of(self, line: str) -> str | None:
         """The flight of a record, which is the first field behind its kind; None if its kind has none."""
         kind, _, fields = line.partition(",")
-        return fields.partition(",")[0] if kind in self._of_flight else None
+        return fields.partition(",")[0] if kind in self.of_flight else None

@@ -1,7 +1,7 @@
 // The one table of columns: what each member of a flight's Row is called, how it is printed, and in which tables it is, in what order.
 // Heads, rows and the flight's facts are made from it, so that a word of the page is written once.
 import { isLate } from './day.js';
-import { $, el, named, say } from './dom.js';
+import { $, el, named } from './dom.js';
 import { hm } from './times.js';
 
 /** A flight's statuses in the order of the groups: the page's word, and the kinds of records that are still taken of it (null: all but AIR). */

@@ -53,7 +53,7 @@ export class Desk {
       $('#role').value = role;
     }
     say($('#desk'), who?.desk && !isOpen ? who.desk : '');
-    say($('#desk-left'), !who ? 'signed out' : who.role === 'READ' ? (isOpen ? '' : 'reads only') : `${isOpen ? '' : `${who.role}, `}${who.left.toLocaleString('en')} records left`);
+    say($('#desk-left'), !who ? '' : who.role === 'READ' ? (isOpen ? '' : 'reads only') : `${isOpen ? '' : `${who.role}, `}${who.left.toLocaleString('en')} records left`);
     $('#b-sign-in').hidden = isOpen || Boolean(who?.desk);
     $('#b-sign-out').hidden = isOpen || !who?.desk;
     $('#b-send').hidden = !who?.kinds.length || Boolean(who.flights);

@@ -35,7 +35,6 @@ export class FlightPanel {
     $('#wait').replaceChildren();
     say($('#wait-ends'), '');
     this.changed();
-    this.makeForm();
   }
 
   close() {
@@ -88,6 +87,7 @@ export class FlightPanel {
   makeForm() {
     const { row } = this;
     const kinds = this.kinds();
+    this.answered = row && JSON.stringify([row.tobt, row.status]);
     $('#f-send').hidden = !kinds.length;
     this.warned();
     if (!kinds.length) {
@@ -95,7 +95,6 @@ export class FlightPanel {
       $('#f-form').replaceChildren();
       return;
     }
-    this.answered = JSON.stringify([row.tobt, row.status]);
     say($('#f-send small'), `as ${this.desk.words}`);
     if (this.form?.isUsed) {
       this.form.offer(kinds, row);

@@ -167,7 +167,7 @@ function rowOf(record, flight) {
     what.append(' ', el('b', { class: 'refused' }, `refused ${record.word}`), ' ', button, words);
   }
   return el('tr', { 'data-position': record.position }, el('td', { class: 'n' }, String(record.position)), el('td', {}, hms(record.at)),
-    el('th', { scope: 'row' }, record.desk, ' ', el('small', {}, record.role)), what);
+    el('th', { scope: 'row' }, record.desk, record.role !== record.desk && el('small', {}, ` ${record.role}`)), what);
 }
 
 /** Why a record was refused, in the program's words. */

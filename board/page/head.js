@@ -1,4 +1,4 @@
-// NOW, the totals, and how the connection is; light or dark.
+// NOW, the totals, and how the connection is, in words; light or dark.
 import { $, el, say } from './dom.js';
 import { clock, objects, Problem } from './net.js';
 import { recordText } from './moves.js';
@@ -7,7 +7,9 @@ import { dayText, hm, hms } from './times.js';
 const NO_CLOCK = 120000;
 const PAUSE = 10000;
 const THEME = 'cdm-theme';
+const SHORT = /(?<=[BO]T )(\d\d)(\d\d)(\d\d)/g; // a time of the program's text: its date, hour and minute
 const root = document.documentElement;
+const SENT = { taken: 'Accepted', refused: 'Refused', 'not taken': 'Not taken', 'not known': 'It isn’t known whether this was taken', 'not sent': 'Not sent' };
 
 export class Head {
   constructor(day) {
@@ -35,15 +37,17 @@ export class Head {
     box.showPopover();
     try {
       const [{ told, before, next }] = (await objects('/v1/day.json')).list;
-      box.replaceChildren(`Before ${dayText(next)}`, el('pre', {}, told.join('\n')), before ? el('a', { href: `/v1/plan?day=${before}` }, `Plan of ${dayText(before)}`) : '');
+      box.replaceChildren(`Before ${dayText(next)}`, el('pre', {}, told.join('\n').replace(SHORT, '$1 $2:$3')), before ? el('a', { href: `/v1/plan?day=${before}` }, `Plan of ${dayText(before)}`) : '');
     } catch (problem) {
       if (!(problem instanceof Problem)) throw problem;
       box.replaceChildren(`No answer: ${problem.message}.`);
     }
+    box.focus();
   }
 
   now() {
     const { date, now } = this.day;
+    if ($('#date').textContent !== dayText(date)) $('#day').hidePopover(); // it was of the day before
     say($('#date'), dayText(date));
     say($('.now time'), hm(now, date));
     $('.now time').setAttribute('datetime', now);
@@ -53,7 +57,9 @@ export class Head {
 
   /** The window's name, with NOW while something of the day may be seen. */
   title() {
-    document.title = `${this.day.date && !root.classList.contains('is-out') ? `${hm(this.day.now, this.day.date)} ` : ''}Start-up board`;
+    const isOut = root.classList.contains('is-out');
+    if (isOut) $('#day').hidePopover();
+    document.title = `${this.day.date && !isOut ? `${hm(this.day.now, this.day.date)} ` : ''}Start-up board`;
   }
 
   /** A CLOCK was taken at this moment of the server's clock; null: none is known, since the page was opened. */
@@ -72,7 +78,11 @@ export class Head {
   }
 
   totals({ placed, late, blocked, delay, max }) {
-    for (const [name, value] of Object.entries({ placed, late, blocked, delay, max })) say($(`#n-${name}`), value ?? '–');
+    for (const [name, value] of Object.entries({ placed, late, blocked, delay, max })) {
+      const node = $(`#n-${name}`);
+      say(node, value ?? '–');
+      node.parentNode.classList.toggle('some', value > 0);
+    }
   }
 
   /** What is said of the connection: at once, or at most every ten seconds. */
@@ -138,7 +148,57 @@ export class Head {
 
   stale(since) {
     $('#stale').hidden = !since;
-    say($('#stale'), since ? `The log isn’t reached since ${hms(since)} UTC: what is shown may be old, and nothing can be sent.` : '');
+    $('#stale').replaceChildren(since ? el('span', { role: 'alert' }, `The log isn’t reached since ${hms(since)} UTC: what is shown may be old, and nothing can be sent.`) : '');
+  }
+}
+
+/** How the page stands to its server, in words: each state of the machine, and what was sent from a form that is gone. */
+export class Connection {
+  constructor(head) {
+    this.head = head;
+  }
+
+  /** Another state, and since when what is shown is old. */
+  state(order) {
+    root.classList.toggle('is-out', order.state === 'out');
+    root.classList.toggle('is-lost', order.state === 'lost');
+    this.head.title();
+    if (order.state === 'lost') this.head.lost(order.since, order.detail);
+    else if (order.state === 'out') this.out(order);
+    else if (order.state === 'reading') this.reading(order);
+    else if (order.state !== 'new') this.live(order);
+  }
+
+  /** Nobody is signed in, and what was sent last isn't there any more. */
+  out({ was, unsent }) {
+    const why = was ? ` ${was.desk}’s sign-in has ended, or its token isn’t taken any more.${unsent ? ` ${SENT[unsent.word]}: ${recordText(unsent.line)}.` : ''}` : '';
+    this.tell('Signed out.', `${why} Sign in with a desk and its token.`);
+  }
+
+  reading({ since, position }) {
+    if (since !== null) this.tell('Reading the day anew:', ` what is shown is of record ${position}, and old since ${hms(since)} UTC.`);
+  }
+
+  /** Which record is the last isn't known while the server doesn't reach its log. */
+  live({ state, was, lostSince, position, at }) {
+    const last = position ? `Record ${position}${at ? ` at ${hms(at)}` : ''} is the last.` : 'There is no record yet.';
+    if (was) this.tell('Signed out', ` as ${was.desk}: ${was.detail}. This page reads only.`);
+    else this.head.connected(lostSince !== null ? `again at ${hms(clock.now())} UTC, lost since ${hms(lostSince)}.` : state === 'live' ? last : '');
+  }
+
+  tell(word, words) {
+    this.head.tell([el('b', {}, word), words], true);
+  }
+
+  /** A fault of the page itself: what it was to show is asked for again. */
+  fault({ part, detail }) {
+    this.tell('A fault of this page', ` (${part}: ${detail}). It goes on; if this stays, load the page again.`);
+  }
+
+  /** What became of a record whose form isn't there any more. */
+  sent({ word, line, reply, detail }) {
+    const why = reply ? `, record ${reply.position}` : detail && `: ${detail}`;
+    this.tell(`${SENT[word]}:`, ` ${recordText(line)}${why}.`);
   }
 }
 

@@ -1,14 +1,13 @@
 // The page: what people and the server do becomes an event for the machine, and what it orders is done here.
-import { $, $$, el, say } from './dom.js';
+import { $, $$, say } from './dom.js';
 import { All, SLICE, breath } from './all.js';
 import { Bands } from './bands.js';
 import { Blocked, Causes } from './blocked.js';
-import { Connection } from './connection.js';
 import { Desk } from './desk.js';
 import { Filter } from './filter.js';
 import { FlightPanel, enableForms } from './flight.js';
 import { RecordForm, showRecords } from './form.js';
-import { Head, startTheme } from './head.js';
+import { Connection, Head, startTheme } from './head.js';
 import { anchored, turn } from './hold.js';
 import { Machine } from './machine.js';
 import { Moves } from './moves.js';
@@ -51,6 +50,7 @@ let isTaking = false;
 let taken = null; // when the last event is
 let began = 0; // this task
 let making = null; // while rows are made that aren't shown yet
+let unsent = null; // what was sent last, if it isn't known to be taken
 
 const sendPanel = {
   open() {
@@ -231,7 +231,7 @@ const SHOWN = {
 /** What it says. */
 const SAID = {
   state(order) {
-    connection.state({ ...order, at: lastRecord?.position === order.position ? lastRecord?.at : null });
+    connection.state({ ...order, unsent, at: lastRecord?.position === order.position ? lastRecord?.at : null });
     if (order.state === 'out') panels.go('sign-in');
   },
   stale: ({ since }) => head.stale(since),
@@ -244,6 +244,7 @@ const SAID = {
     if (isIn && panels.open === 'sign-in') panels.close();
   },
   sent(order) {
+    unsent = order.reply ? null : order;
     const form = forms.get(order.form);
     forms.delete(order.form);
     form?.told(order).catch((fault_) => failed(fault_, 'form'));
@@ -356,7 +357,7 @@ function showHistory({ list, isFirst }) {
   next.again();
   const end = list.at(-1);
   if (end && isFirst) lastRecord = end;
-  if (end && isFirst && machine.state === 'live') head.tell([el('b', {}, 'Connected'), ` Record ${end.position} at ${hms(end.at)} is the last.`], true);
+  if (end && isFirst && machine.state === 'live') connection.live({ ...end, state: 'live', was: null, lostSince: null });
 }
 
 /** What was shown of a day that is gone. */

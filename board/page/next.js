@@ -144,6 +144,7 @@ export class Next {
     say($('#next h2 b'), this.isKnown ? shown : '…');
     $('#seen').hidden = !this.moves.seen;
     $('#next .empty').hidden = !this.isKnown || shown > 0;
+    say($('#next .empty'), `No start-up${this.filter.isOn ? ' that the filter shows' : ''} in the next 60 minutes.`);
     if (this.moves.seen) this.since(this.moves.seen.at);
   }
 

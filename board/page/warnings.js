@@ -104,6 +104,10 @@ export class Warnings {
         ?.querySelector(`a[href="${CSS.escape(href ?? '')}"]`).focus({ preventScroll: true });
     }
     $('#warnings h2 b').textContent = String(this.list.length);
+    // A flight may have several.
+    const named = this.list.map((one) => one.flight).filter(Boolean);
+    const { size } = new Set(named);
+    $('#warnings h2 small').textContent = size < named.length ? `${size} flight${size > 1 ? 's' : ''}` : '';
     if (this.list.some((one) => this.isNew(one))) this.aging = setTimeout(() => turn.take(() => whenFree(this.draw)), AGING);
   }
 

@@ -40,8 +40,14 @@ def has(command):
     return subprocess.run([PROGRAM, command], capture_output=True, text=True).stderr.find("unrecognized subcommand") < 0
 
 
+# The last release's program, where there is one to try; otherwise this one has its version, and lacks the commands that it lacked.
+BEFORE = os.environ.get("CDMSEQ_BEFORE", "")
+LIKE_BEFORE = """[ "$1" = --version ] && echo "cdmseq 1.0.0" && exit
+[ "$1" = carry ] && echo "error: unrecognized subcommand 'carry'" >&2 && exit 2"""
+
+
 def pytest_report_header():
-    return f"program: {PROGRAM}"
+    return f"program: {PROGRAM}; the last release's: {BEFORE or 'none, CDMSEQ_BEFORE names it'}"
 
 
 AIRPORT = "DAY,2025-03-10\nRUNWAY,27L,10,20\nRUNWAY,09,15,20\nTAXI,*,27L,15\nTAXI,*,09,12\n"
@@ -281,7 +287,18 @@ def board(tmp_path, log_engine):
             server.kill()
         if server.process is not None:
             server.clean()
-            assert "Traceback" not in server.told()
+            told = server.told()
+            assert "Traceback" not in told and "Warning: " not in told
+
+
+@pytest.fixture(params=["a wrapper", "the last release"])
+def before(request):
+    """Words of the shell by which a server asks the last release's program: the very one, or this one in its place."""
+    if request.param == "a wrapper":
+        return LIKE_BEFORE
+    if not BEFORE:
+        pytest.skip("CDMSEQ_BEFORE, the path of the last release's program, isn't set")
+    return f"PROGRAM={os.path.realpath(BEFORE)}"
 
 
 @pytest.fixture(scope="session")

@@ -47,7 +47,7 @@ def out(value):
 
 class Day:
     def __init__(self, airport):
-        records = [line.split(",") for line in open(airport).read().splitlines() if line]
+        records = [line.split(",") for line in open(airport, errors="replace").read().splitlines() if line]
         if not records or records[0][0] != "DAY" or not re.fullmatch(r"\d{4}-\d\d-\d\d", records[0][-1]):
             raise Fault("cdmseq: AIRPORT record 1: ORDER", 3)
         self.day, self.runways = records[0][1], {record[1] for record in records if record[0] == "RUNWAY"}

@@ -14,7 +14,7 @@ import time
 
 import clusters
 import pytest
-from conftest import AIRPORT, certificates, objects, until
+from conftest import AIRPORT, FACTOR, certificates, objects, until
 from itsdangerous import TimestampSigner
 from test_nobody_else import hang_up, login
 from test_start import cdmboard
@@ -92,6 +92,21 @@ def test_a_session_is_at_most_twelve_hours(board):
         assert server.get("/v1/who", Cookie=made(server, seconds)).status == 401, seconds
     for seconds in (-HALF_A_DAY + 120, -3600, 0, 30):
         assert server.get("/v1/who", Cookie=made(server, seconds)).status == 200, seconds
+
+
+def test_a_token_that_is_being_replaced(board):
+    """Both are taken while both are listed; then the old one, and the sessions that it began, have ended."""
+    server = board(DESKS)
+    path = server.folder / "desks.toml"
+    old, new = (hashlib.sha256(token).hexdigest() for token in (b"token-gh", b"token-gh-2"))
+    cookie = login(server, "gh")
+    for tokens, statuses in (([old, new], (200, 200, 200)), ([new], (401, 200, 401))):
+        text = path.read_text()
+        line = next(line for line in text.splitlines() if old in line)
+        path.write_text(text.replace(line, f"token = {json.dumps([f'sha256:{one}' for one in tokens])}"))
+        hang_up(server)
+        asked = ({"Authorization": "Bearer token-gh"}, {"Authorization": "Bearer token-gh-2"}, {"Cookie": cookie})
+        assert tuple(server.get("/v1/who", **headers).status for headers in asked) == statuses
 
 
 def test_a_stream_ends_with_its_cookie(board):
@@ -334,6 +349,22 @@ def test_one_line_for_many(monkeypatch):
     assert (event, desk, address) == ("wrong-token", None, "192.0.2.2") and "addresses: 2" in detail
 
 
+def test_the_end_of_a_minute_is_told(board):
+    """By one line and one event, while the server goes on."""
+    server = board(DESKS, start=False)
+    server.collect("from board import callers; callers.MINUTE = 3.0 * " + str(FACTOR))
+    server.start()
+    for _ in range(30):
+        server.get("/v1/plan", "nobody")
+    for _ in range(25):
+        server.get("/v1/plan")
+    until(lambda: "more were refused within a minute" in server.told() and "wrong tokens within a minute" in server.told(), 12)
+    assert "127.0.0.1 25 more were refused" in server.told()
+    until(lambda: any(event["event"] == "wrong-token" for event in audit_of(server.log)))
+    found, = [event for event in audit_of(server.log) if event["event"] == "wrong-token"]
+    assert found["address"] == "127.0.0.1" and found["detail"].startswith("30 wrong tokens within a minute, 30 of them from here")
+
+
 # The audit
 
 
@@ -357,7 +388,9 @@ def test_who_from_where_in_postgresql(board, cluster):
 def check_audit(server, *words):
     connection = http.client.HTTPConnection("127.0.0.1", server.port, source_address=("127.0.0.8", 0))
     for key in ("k", "k"):
-        connection.request("POST", "/v1/records", b"FLT,AB1,5\nFOO", {"Authorization": "Bearer token-ap", "Idempotency-Key": key})
+        # What says another address counts from a proxy alone.
+        headers = {"Authorization": "Bearer token-ap", "Idempotency-Key": key, "X-Forwarded-For": "192.0.2.1"}
+        connection.request("POST", "/v1/records", b"FLT,AB1,5\nFOO", headers)
         assert connection.getresponse().read().count(b"\n") == 2
     server.post(["FLT,AB2,5"], "ap")
     cookie = login(server, "gh")
@@ -416,6 +449,45 @@ def test_streams_that_are_opened_and_dropped_have_a_limit(board):
     assert [status for status, _ in opened(server, 85, "127.0.0.5", "screen")] == [200] * 80 + [429] * 5
     assert opened(server, 1, "127.0.0.6") == opened(server, 1, "127.0.0.6", "screen") == opened(server, 1, "127.0.0.5", "ap") == [(200, None)]
     assert server.get("/v1/plan").status == 200 and server.post(["FLT,AB1,5"], "ap")[0]["position"] == 1
+
+
+def test_streams_of_many_addresses_have_one_limit(board):
+    """Without a token, from however many addresses: who comes later waits longer. Desks and all other questions aren't counted with them."""
+    server = board(DESKS, start=False)
+    server.write_desks(DESKS, "anyone")
+    write_limits(server, opened_without_desk=30, opened_together=100)
+    # On a busy machine it takes long to open so many.
+    server.collect("from board import callers; callers.TOGETHER_SECONDS = callers.MINUTE = 600.0")
+    server.start()
+    # What one address opens beyond its own limit isn't counted for all.
+    answers = [answer for number in range(5) for answer in opened(server, 32, f"127.0.7.{number + 1}")]
+    assert [status for status, _ in answers] == ([200] * 30 + [429] * 2) * 3 + [200] * 10 + [429] * 22 + [429] * 32
+    first = [int(seconds) for status, seconds in answers[106:126] if status == 429]
+    assert len(first) == 20 and all(1 <= seconds <= 601 for seconds in first)
+    assert [status for status, _ in opened(server, 30, "127.0.7.1", "screen")] == [200] * 30
+    assert server.get("/v1/plan").status == 200 and server.post(["FLT,AB1,5"], "ap")[0]["position"] == 1
+
+
+def test_who_comes_later_waits_longer(monkeypatch):
+    """All displays of a server that is started again, whose connections come at once: in turns of so many as may come."""
+    from unittest import mock
+    from board.callers import Callers
+    from board.connections import Limits
+    from board.desks import READER, Desks
+    from board.words import Problem
+    monkeypatch.setattr("board.callers.time", mock.Mock(monotonic=lambda: 100.0))
+    callers, told = Callers(Desks([], True, limits=Limits(opened_together=10)), mock.Mock(id="0", secret="s"), {"localhost"}, "http", False), []
+    for number in range(100):
+        request = mock.MagicMock(remote=f"192.0.2.{number}")
+        request.__getitem__.return_value = READER
+        try:
+            callers.check_opened(request)
+            told.append(0)
+        except Problem as problem:
+            assert problem.status == 429
+            told.append(int(problem.headers["Retry-After"]))
+    # Until these ten seconds are over, and then ten more for each ten that came; never more than a minute.
+    assert told == [0] * 10 + [11] * 9 + [21] * 10 + [31] * 10 + [41] * 10 + [51] * 10 + [61] * 41
 
 
 def test_browsers_behind_one_address_come_back(board):
@@ -497,6 +569,35 @@ def test_limits_that_are_wrong_are_told(board):
         write_limits(server, **limits)
         refused = cdmboard(server.airport, server.log, *server.options)
         assert refused.returncode == 3 and "[limits]" in refused.stderr, limits
+
+
+def test_a_proxy_keeps_the_time_of_headers(board):
+    """So a connection that it keeps for later isn't cut meanwhile; one that comes without a proxy is."""
+    for options, host in (["--behind-proxy", "--name", "cdm.example"], b"cdm.example"), ([], b"localhost"):
+        server = board(DESKS, start=False, options=options)
+        server.collect("from board import guard; guard.HEADERS = 0.5")
+        server.start()
+        with socket.create_connection(("127.0.0.1", server.port)) as own:
+            own.settimeout(20)
+            time.sleep(1.5)
+            if not options:
+                assert ended(own)
+                continue
+            own.sendall(b"GET /health HTTP/1.1\r\nHost: " + host + b"\r\nConnection: close\r\n\r\n")
+            assert own.recv(65536).startswith(b"HTTP/1.1 200")
+
+
+def test_limits_are_read_again(board):
+    """HUP: those of connections count for who comes from then on."""
+    server = board(DESKS)
+    first = held(server, 5, "127.0.0.9")
+    assert len(open_of(first)) == 5
+    write_limits(server, of_address=7)
+    hang_up(server)
+    more = held(server, 5, "127.0.0.9")
+    assert len(open_of(more)) == 2 and len(open_of(first)) == 5
+    for own in (*first, *more):
+        own.close()
 
 
 def own_address():

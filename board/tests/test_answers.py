@@ -199,3 +199,78 @@ def test_questions_are_answered_though_clients_go_away(open_to_read):
     for desk in ("gh", "ap", "atc", None):
         assert server.get(f"/v1/why/{str(desk).upper()}", desk).status == 200
     until(lambda: server.metric("cdm_unsent_bytes", "atc") == 0, 30)
+
+
+@pytest.mark.parametrize("part", ["request", "run"])
+def test_what_waits_is_kept(part, tmp_path):
+    """A request whose client is gone, and a run of a question: only what refers to itself refers to it, and Python may collect such."""
+    import gc
+    import weakref
+    from unittest import mock
+    from board.web import Board
+    ended = []
+
+    async def wait(*_):
+        try:
+            await asyncio.get_running_loop().create_future()
+        finally:
+            ended.append(part)
+
+    async def talk():
+        board = Board.__new__(Board)
+        board._requests = set()
+        pool = answers.Answers("", str(tmp_path), mock.Mock(starts=0))
+        pool._made = wait
+        if part == "request":
+            asyncio.create_task(board.answered(mock.Mock(), wait))
+        else:
+            pool._places.come(answers.Ticket("gh", answers.Question("why")))
+            pool._begin()
+        await asyncio.sleep(0)
+        await asyncio.sleep(0)
+        tasks = weakref.WeakSet(asyncio.all_tasks())
+        gc.collect()
+        assert len(tasks) == 2 and ended == []
+        for task in tasks - {asyncio.current_task()}:
+            task.cancel()
+    asyncio.run(talk())
+
+
+def test_a_turn_comes_within_ten_seconds(monkeypatch):
+    """Or 503, as for a place: who keeps his turn for long doesn't keep the next one waiting for ever."""
+    monkeypatch.setattr(answers, "PLACE_SECONDS", 0.05)
+
+    async def talk():
+        pool = answers.Answers("", "", None)
+        async with pool.turn("log"):
+            async with asyncio.timeout(5):
+                with pytest.raises(answers.Problem) as why:
+                    async with pool.turn("log"):
+                        pass
+        return why.value
+    found = asyncio.run(talk())
+    assert found.status == 503 and found.headers["Retry-After"]
+
+
+def test_an_answer_is_taken_in_time(open_to_read):
+    """Who reads nothing of it is cut off, and its bytes are free again."""
+    server = open_to_read(LARGE.format(28_000_000), "from board import web; web.SEND_LIMIT = 2.0")
+    own = asks_without_reading(server, "127.0.5.1", scenarios(0))
+    until(lambda: server.metric("cdm_unsent_bytes", "atc") > 20 * MIB)
+    until(lambda: server.metric("cdm_unsent_bytes", "atc") == 0, 6)
+    own.settimeout(5)
+    with contextlib.suppress(ConnectionError):
+        while own.recv(1 << 20):
+            pass
+    own.close()
+
+
+def test_a_body_comes_in_time(open_to_read):
+    """One of a record or of a question that stops in its middle: 408, and nothing of it is taken."""
+    server = open_to_read("", "from board import questions; questions.BODY_LIMIT = 1.0")
+    for path in ("records", "what-if"):
+        with socket.create_connection(("127.0.0.1", server.port)) as own:
+            own.settimeout(10)
+            own.sendall(f"POST /v1/{path} HTTP/1.1\r\nHost: localhost\r\nAuthorization: Bearer token-ap\r\nContent-Length: 9\r\n\r\nFLT,AB1".encode())
+            assert own.recv(65536).startswith(b"HTTP/1.1 408")
+    assert server.records("ap") == []

@@ -111,6 +111,19 @@ def test_a_question_does_not_outlive_the_server(board):
         until(lambda: not os.path.exists(f"/proc/{asked}"), 3)
 
 
+def test_what_a_killed_server_leaves(board):
+    """Its sequencer ends with it, and the next start removes its folder in memory."""
+    server = board()
+    log = json.loads(server.get("/v1/who").body)["log"]
+    folders = lambda: {name for name in os.listdir("/dev/shm") if name.startswith(f"cdmboard-{log}-")}
+    (first,), (sequencer,) = folders(), server.sequencers()
+    server.kill()
+    until(lambda: not os.path.exists(f"/proc/{sequencer}"), 3)
+    assert folders() == {first}
+    server.start()
+    assert len(folders()) == 1 and first not in folders()
+
+
 def test_a_question_that_is_killed_is_503(board):
     """As where memory runs out; the next one is answered."""
     server = board(faulty="slow:2")
@@ -137,6 +150,14 @@ def test_no_room_for_a_question_is_503(board):
 
 
 # Memory
+
+
+def test_a_body_has_so_many_bytes(board):
+    """64 KiB and none more: versions of aiohttp differ by one, and in what they say of it."""
+    server = board(DESKS)
+    answers = [server.request("POST", "/v1/records", b"A" * size, "ap") for size in (65_536, 65_537, 65_538)]
+    assert [answer.status for answer in answers] == [400, 413, 413]
+    assert [json.loads(answer.body)["detail"] for answer in answers[1:]] == ["a body has at most 64 KiB"] * 2
 
 
 @pytest.fixture
@@ -215,6 +236,50 @@ def test_displays_share_what_may_be_unsent():
         assert not are_cut or sum(transport.unsent for transport in transports if not transport.is_cut) < MOST_UNSENT_OF_ALL
 
 
+def test_displays_are_written_to_in_turns(monkeypatch):
+    """So that what a desk waits for comes in between, however many displays there are."""
+    from board import events as module
+    from board.day import Day
+    from board.desks import Desk
+    from board.words import Kinds
+    order = []
+
+    class Transport:
+        def get_write_buffer_size(self):
+            return 0
+
+        def is_closing(self):
+            return False
+
+        def write(self, data):
+            order.append("display")
+
+    async def talk():
+        events = module.Events("0", Day(Kinds(b""), [], {}))
+        events.streams |= {module.Stream(None, Desk("screen", "READ"), Transport(), asyncio.Event()) for _ in range(200)}
+        writing = asyncio.create_task(events._write())
+        while not writing.done():
+            order.append("desk")
+            await asyncio.sleep(0)
+    asyncio.run(talk())
+    turns = [len(turn.split()) for turn in " ".join(order).split("desk")]
+    assert sum(turns) == 200 and max(turns) == module.IN_A_TURN == 25
+
+
+def test_a_silent_day_is_no_silent_stream(board):
+    """A comment comes where nothing else does, so that a display knows a dead connection."""
+    server = board(DESKS, start=False)
+    server.collect("from board import events; events.COMMENT = 0.5")
+    server.start()
+    with socket.create_connection(("127.0.0.1", server.port)) as own:
+        own.settimeout(10)
+        own.sendall(b"GET /v1/events HTTP/1.1\r\nHost: localhost\r\nAuthorization: Bearer token-ap\r\n\r\n")
+        told = b""
+        while told.count(b"\r\n:\n") < 4:
+            told += own.recv(65536)
+    assert b"event: reply" not in told
+
+
 def test_an_end_at_the_moment_of_a_reply():
     """What writes events ends when it is told to, however close a reply comes."""
     from board.events import Events
@@ -277,6 +342,19 @@ def test_no_request_hides_in_another(board):
         found = statuses(raw(server, text))
         assert found in ([400], []) and server.records("ap") == [], text
     assert statuses(raw(server, SMUGGLED.replace(b"Host", b"Connection: close\r\nHost"))) == [200]
+
+
+MALFORMED = [b"<b> / HTTP/1.1\r\nHost: localhost\r\n\r\n", b"GET / HTTP/1.1\r\nHost: localhost\r\n<b>\r\n\r\n", b"<b>\r\n\r\n",
+             b"\x16\x03\x01\x02\0\x01\0\x01\xfc\x03\x03<b>\r\n\r\n", b"GET / HTTP/1.1\r\nHost: localhost\r\n<b>: \0\r\n\r\n"]
+
+
+def test_what_is_malformed_is_not_said_again(board):
+    """In the answer or on standard error: aiohttp's own words repeat what came, and tell a traceback of each."""
+    server = board(DESKS)
+    for text in MALFORMED:
+        answer = raw(server, text)
+        assert statuses(answer) == [400] and answer.endswith(b"\r\n\r\nthe request is malformed"), (text, answer)
+    assert server.told() == "" and server.get("/health").status == 200
 
 
 def test_a_body_stands_as_it_is(board):

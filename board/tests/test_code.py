@@ -20,6 +20,21 @@ def test_the_code_is_clean(words):
     assert ended.returncode == 0, ended.stdout
 
 
+def constants_of(path):
+    """The names of a module that are written in capitals."""
+    found = [target for node in ast.parse(pathlib.Path(path).read_text()).body for target in
+             (node.targets if isinstance(node, ast.Assign) else [node.target] if isinstance(node, ast.AnnAssign) else [])]
+    return {target.id for target in found if isinstance(target, ast.Name) and target.id.isupper()}
+
+
+def test_a_name_is_of_one_constant():
+    """In all modules but the two engines of the log, which have the same statements, each in its own words."""
+    modules = {pathlib.Path(path).name: constants_of(path) for path in CODE}
+    modules["engines"] = modules.pop("sqlite.py") | modules.pop("postgres.py")
+    names = sorted(name for constants in modules.values() for name in constants)
+    assert len(names) > 150 and [name for name in set(names) if names.count(name) > 1] == []
+
+
 def test_an_assignment_has_one_value():
     """`a, b = b, a + b` is two steps in one line; only what a call gives is unpacked."""
     several = [f"{path}:{node.lineno}" for path in CODE for node in ast.walk(ast.parse(pathlib.Path(path).read_text()))

@@ -1,8 +1,12 @@
 """Which connections are let in: random comings and goings, by the real code of it, held to its laws."""
+import asyncio
 import random
+from unittest import mock
 
 import pytest
+from aiohttp import web
 from board.connections import Limits, Places, group_of, is_loopback
+from board.guard import Guard
 from conftest import count
 
 
@@ -93,6 +97,20 @@ def test_places_keep_their_laws(chance):
             lives(random.Random(seed))
         except AssertionError as fault:
             pytest.fail(f"seed {seed}: {fault}")
+
+
+def test_a_connection_whose_task_fails_is_ended(monkeypatch):
+    """aiohttp reads the requests of a connection in a task. Where that ends by a fault nobody would read on."""
+    async def start(_):
+        raise ValueError("an address that can't be read")
+
+    async def is_cut():
+        transport = mock.Mock(spec=asyncio.Transport)
+        Guard(web.Server(None), mock.Mock(), is_for_proxy=False).connection_made(transport)
+        await asyncio.sleep(0.1)
+        return transport.abort.called
+    monkeypatch.setattr(web.RequestHandler, "start", start)
+    assert asyncio.run(is_cut())
 
 
 def test_connections_of_a_proxy_count_in_all_alone():

@@ -18,6 +18,8 @@ from unittest import mock
 import clusters
 import pytest
 from conftest import AIRPORT, FACTOR, PROGRAM, ROLES, ROOT, count, figure, objects, of_role, until
+from displays import DESK, Watched
+from test_start import mounted
 
 sys.path.insert(0, str(ROOT))
 from board import changing  # noqa: E402
@@ -166,13 +168,35 @@ def test_a_flight_that_is_left_stops_a_change(board):
     assert change(server, EVEN)["day"] == "2025-03-11"
 
 
+def test_flights_go_on_over_changes(board, chance):
+    """The plan before a change and the one after it have the same flights with the same times, but for those that the day's question names."""
+    server = board(DESKS | {"gh": 'role = "GH"', "nm": 'role = "NM"'})
+    names = {"ap": "AP", "ops": "AO", "tower": "ATC", "gh": "GH", "nm": "NM"}
+    talk, same = Talk([server], chance, names), 0
+    for number in range(1, 11):
+        for desk in [*names] * 4:
+            assert isinstance(server.post([line for _ in range(4) for line in talk.lines(chance, desk)], desk), list)
+        before, told = flights(server), [line.split() for line in json.loads(server.get("/v1/day.json", "ap").body)["told"]]
+        change(server, f"{EVEN}&day={day_of(number)}")
+        after, talk.day = flights(server), talk.day + 1
+        assert set(after) == {name for name, row in before.items() if row["status"] != "CANCELLED"}
+        assert [words for words in told if words[0] in ("GONE", "STAY")] == [["GONE", str(len(before) - len(after))], ["STAY", str(len(after))]]
+        assert {words[0] for words in told} <= {"EARLIER", "GONE", "STAY"}
+        known = [name for name in after if name not in {words[1] for words in told}]
+        assert [after[name] for name in known] == [before[name] for name in known]
+        same += sum(after[name]["status"] == "PLANNED" for name in known)
+    assert same > 20
+
+
 class Talk:
-    """Desks that post for as long as days go on. Each sends the same body with the same key until it has its answer."""
+    """Desks that post for as long as days go on, with an end of each day. Each sends the same body with the same key until it has its answer."""
+    MOST = 100
 
     def __init__(self, servers, chance, desks):
         self.servers, self.chance, self.desks = servers, chance, desks
         self.day, self.is_over, self.got = 10, False, {name: [] for name in desks}
-        self.longest = 0.0
+        self.longest, self.is_quiet, self.idle, self.of_day = 0.0, False, set(), dict.fromkeys(desks, (10, 0))
+        self.is_given_up = False
 
     def run(self):
         with concurrent.futures.ThreadPoolExecutor(len(self.desks)) as pool:
@@ -188,14 +212,29 @@ class Talk:
     def speak(self, name):
         chance, number = type(self.chance)(self.chance.random()), 0
         while not self.is_over:
+            self.idle.discard(name)
+            day, count_of_day = self.of_day[name]
+            if self.is_quiet or day == self.day and count_of_day == self.MOST:
+                self.idle.add(name)
+                time.sleep(0.05)
+                continue
+            self.of_day[name] = self.day, count_of_day + 1 if day == self.day else 1
             number, lines, began = number + 1, self.lines(chance, name), time.monotonic()
             self.got[name].append((lines, self.told(chance, name, lines, f"k{number}")))
             self.longest = max(self.longest, time.monotonic() - began)
             time.sleep(chance.uniform(0, 0.15))
 
+    @contextlib.contextmanager
+    def quiet(self):
+        """While nobody sends, and each desk has its answer: the last position that was accepted."""
+        self.is_quiet = True
+        until(lambda: self.idle >= self.desks.keys(), 120)
+        yield max((reply["position"] for sent in self.got.values() for _, replies in sent for reply in replies if reply["reply"] == "ACCEPTED"), default=0)
+        self.is_quiet = False
+
     def told(self, chance, name, lines, key):
         end = time.monotonic() + 90 * FACTOR
-        while time.monotonic() < end:
+        while time.monotonic() < end and not self.is_given_up:
             with contextlib.suppress(OSError, http.client.HTTPException):
                 answer = chance.choice(self.servers).post(lines, name, key)
                 if isinstance(answer, list):
@@ -264,38 +303,60 @@ def checked(talk, servers, folder, days):
 
 
 def talked(servers, chance, tmp_path, days, kills):
-    """Days in a row, while 16 desks post and servers are killed."""
+    """Days in a row, while 16 desks post and servers are killed. A display that stays shows at each change, and at the end, what a new one
+    shows."""
     desks = {f"desk-{number}": ROLES[number % 5] for number in range(16)}
-    talk = Talk(servers, chance, desks)
+    talk, watched = Talk(servers, chance, desks), Watched(servers, chance)
+    watched.shows_the_same(0)
     talking = threading.Thread(target=talk.run, daemon=True)
     talking.start()
     try:
         killed = sorted(chance.choices(range(days), k=kills))
         for number in range(1, days + 1):
             time.sleep(chance.uniform(0.1, 0.6))
-            before = None if number - 1 in killed else servers[0].get("/v1/plan.json", "tower")
-            day = str(datetime.date(2025, 3, 10) + datetime.timedelta(days=number))
-            with concurrent.futures.ThreadPoolExecutor(1) as pool:
-                changing_day = pool.submit(change_somehow, servers, chance, day)
-                for _ in range(killed.count(number - 1)):
-                    time.sleep(chance.uniform(0, 0.3))
-                    server = chance.choice(servers)
-                    server.kill()
-                    server.start()
-                position = changing_day.result()
-            assert before is None or int(before.headers["Cdm-Position"]) < position
+            before = reached(servers[0])
+            position = change_while_killed(servers, chance, day_of(number), killed.count(number - 1))
+            assert before < position
             talk.day += 1
+            with talk.quiet() as last:
+                watched.shows_the_same(max(last, position))
         talk.is_over = True
         talking.join(120 * FACTOR)
         assert not talking.is_alive()
     finally:
-        talk.is_over = True
+        talk.is_over = talk.is_given_up = True
     checked(talk, servers, tmp_path, days)
+    watched.ends(reached(servers[0]))
+    # Behind a server that has just started it may show an earlier day once more, but none is missing.
+    assert set(watched.staying.dates) == {day_of(number) for number in range(days + 1)} and watched.staying.dates[-1] == day_of(days)
     said = sum(len(replies) for sent in talk.got.values() for _, replies in sent)
-    figure(f"Days: {days} in a row, {said} records of 16 desks, {kills} kills, {len(servers)} servers, longest wait of a desk {talk.longest:.1f} s")
+    figure(f"Days: {days} in a row, {said} records of 16 desks, {kills} kills, {len(servers)} servers, longest wait of a desk {talk.longest:.1f} s, "
+           f"a display that stayed had {watched.staying.connections} connections and showed {watched.staying.shows} plans")
 
 
-TALKERS = {f"desk-{number}": f'role = "{ROLES[number % 5]}"\nrecords = 20000' for number in range(16)} | {"tower": 'role = "ATC"\nclock = true'}
+def reached(server):
+    """The last position of which a server has the reply."""
+    return json.loads(server.get("/health").body)["position"]
+
+
+def day_of(number):
+    return str(datetime.date(2025, 3, 10) + datetime.timedelta(days=number))
+
+
+def change_while_killed(servers, chance, day, kills):
+    """The position at which a day has begun, while servers are killed and started."""
+    with concurrent.futures.ThreadPoolExecutor(1) as pool:
+        changing_day = pool.submit(change_somehow, servers, chance, day)
+        for _ in range(kills):
+            time.sleep(chance.uniform(0, 0.3))
+            server = chance.choice(servers)
+            server.kill()
+            server.start()
+        return changing_day.result()
+
+
+TALKERS = {f"desk-{number}": f'role = "{ROLES[number % 5]}"\nrecords = 20000' for number in range(16)} | {
+    "tower": 'role = "ATC"\nclock = true', DESK: 'role = "READ"'}
 
 
 def test_ten_days_in_a_row(board, chance, tmp_path):
@@ -511,6 +572,57 @@ def test_a_change_while_the_log_is_away(board):
     assert set(flights(server)) == {"AB1", "EF3", "GH4"}
 
 
+def test_a_change_on_a_full_disk(board):
+    """Where the log's disk is full the day doesn't begin, and nothing else ends; with room again it begins, once."""
+    server = board(DESKS, start=False)
+    (server.folder / "full").mkdir()
+    server.log = server.folder / "full" / "day.db"
+    begun(server.start(mounted("2M", server.log.parent)))
+    plan = server.get("/v1/plan.json", "ap")
+    filling(server, "dd", "if=/dev/zero", f"of={server.log.parent}/more", "bs=4k", is_full=True)
+    # More than fits into what SQLite has left of its last page.
+    answer = change(server, body=NEXT + "".join(f"TAXI,S{number},27L,9\n" for number in range(900)))
+    assert answer.status in (503, 504), answer
+    assert server.get("/v1/plan.json", "ap").body == plan.body
+    until(lambda: "takes no records" in server.told() and server.get("/ready").status == 503)
+    filling(server, "rm", f"{server.log.parent}/more")
+    until(lambda: server.get("/ready").status == 200)
+    assert change(server, "/v1/day") == {"day": "2025-03-11", "position": 10, "before": "2025-03-10", "next": "2025-03-12"}
+    assert set(flights(server)) == {"AB1", "EF3"} and server.post(["PRIO,AB1,1"], "tower")[0]["position"] == 11
+
+
+def filling(server, *words, is_full=False):
+    """Runs a command among the files of a server, which fails if the disk is to be full."""
+    ended = subprocess.run(["nsenter", "-m", "-t", str(server.process.pid), *words], capture_output=True)
+    assert (b"No space left" in ended.stderr) == is_full, ended
+
+
+@needs_postgres
+def test_a_change_without_room_for_its_files(board, chance, cluster):
+    """Neither a server that makes a change nor one that comes to it has room for the day's files: the first begins no day, the second takes
+    no records and tells no other day until there is room."""
+    words = {"log": cluster.url(), "options": ["--board", f"{chance.randrange(1 << 62):x}"]}
+    one, other = board(DESKS, **words), board(DESKS, start=False, **words)
+    other.start(mounted("64M", "/dev/shm"))
+    begun(one)
+    until(lambda: other.metric("cdm_position", "ap") == 9)
+    filling(other, "dd", "if=/dev/zero", "of=/dev/shm/more", "bs=4k", is_full=True)
+    answer = change(other)
+    assert answer.status == 503 and "No space left" in json.loads(answer.body)["detail"], answer
+    assert change(one)["position"] == 10
+    until(lambda: "No space left on device" in other.told())
+    time.sleep(3)
+    assert other.told().count("it is tried again") == 1, other.told()
+    assert json.loads(other.get("/health").body)["position"] == 9 and other.get("/ready").status == 503
+    with concurrent.futures.ThreadPoolExecutor(1) as pool:
+        late = pool.submit(other.post, ["PRIO,AB1,1"], "tower")
+        until(lambda: one.metric("cdm_position", "ap") == 11)
+        assert not late.done()
+        filling(other, "rm", "/dev/shm/more")
+        assert late.result()[0]["position"] == 11
+    assert one.get("/v1/plan.json", "ap").body == other.get("/v1/plan.json", "ap").body
+
+
 @needs_postgres
 def test_a_change_while_the_database_is_away(board, tmp_path):
     """It isn't made; after the database is back, it is."""
@@ -531,12 +643,18 @@ def test_a_log_of_before_goes_on(board):
     assert server.end() == 0
     with contextlib.closing(sqlite3.connect(server.log, isolation_level=None)) as database:
         database.execute("DROP TABLE cdm_day")
+        database.execute("UPDATE cdm_log SET version = 'cdmseq 1.0.0'")
     assert cdmboard("verify", server.log).stdout == "9 records, 8 accepted, 0 digests of replies\n"
     assert cdmboard("export", server.log).stdout.encode() == cdmboard("export", server.log, "--day", "2025-03-10").stdout.encode() != b""
     assert server.start().get("/v1/plan.json", "ap").body == plan.body
     # A line of before that the program refused is no change of day.
     assert server.post(["DAY,2025-03-11"], "tower")[0]["word"] == "KIND"
+    assert in_file(server, "SELECT version FROM cdm_log") == [("cdmseq 1.0.0",)]
     assert change(server)["position"] == 11 and set(flights(server)) == {"AB1", "EF3"}
+    # That release would take both days for one. It serves a log of its own version alone.
+    assert in_file(server, "SELECT version FROM cdm_log") == [("cdmseq 1.0.0 (rules 1)",)]
+    assert server.end() == 0
+    assert set(flights(server.start())) == {"AB1", "EF3"}
 
 
 def in_file(server, query):

@@ -1,5 +1,6 @@
 """The log's promises, over each engine by the same calls."""
 import asyncio
+import contextlib
 import sqlite3
 
 import clusters
@@ -28,10 +29,9 @@ def log_at(request, tmp_path):
         path = str(tmp_path / "day.db")
 
         def force(text):
-            database = sqlite3.connect(path)
-            database.execute(text)
-            database.commit()
-            database.close()
+            with contextlib.closing(sqlite3.connect(path)) as database:
+                database.execute(text)
+                database.commit()
         return (lambda board="": sqlite.FileLog(path, board)), force
     cluster = request.getfixturevalue("primary")
     cluster.sql("TRUNCATE cdm_log, cdm_record, cdm_digest, cdm_day")
@@ -280,6 +280,123 @@ def test_a_commit_that_failed_is_not_known(tmp_path):
     def problem_of(answers):
         return answers[0].status
     talk(lambda _="": sqlite.FileLog(str(tmp_path / "day.db"), ""), what)
+
+
+def test_a_commit_that_hangs_keeps_nobody_waiting(tmp_path, monkeypatch):
+    """A disk that is frozen: the desk is told that it isn't known, those that come meanwhile that nothing was taken; once the commit ends
+    records are taken again, and with the same key the first is there once."""
+    import threading
+    from board import sqlite
+    from board.log import Away
+    from board.words import Problem
+    monkeypatch.setattr(sqlite, "COMMIT_SECONDS", 0.3)
+    monkeypatch.setattr(sqlite, "BEHIND_SECONDS", 0.3)
+    thaws = threading.Event()
+
+    class Frozen:
+        """A connection whose commit hangs."""
+
+        def __init__(self, database):
+            self.database = database
+
+        def __getattr__(self, name):
+            return getattr(self.database, name)
+
+        def execute(self, text, *words):
+            if text == "COMMIT":
+                thaws.wait()
+            return self.database.execute(text, *words)
+
+    async def what(log):
+        keeping = asyncio.create_task(log.ended())
+        log._database = Frozen(log._database)
+        told = []
+        try:
+            for line, key in (("A", "k"), ("B", "l")):
+                with pytest.raises(Problem) as why:
+                    await asyncio.wait_for(log.append(batch(line, key=key)), 5)
+                told.append(why.value.status)
+            assert told == [504, 503] and log.stale_since
+            # Nor does who asks for an earlier day wait for its end.
+            for read in (log.changes(), log.change(1), log.between(1, 2), log.sought(0, 2, "AB1", None), log.sessions()):
+                with pytest.raises(Away):
+                    await asyncio.wait_for(read, 5)
+        finally:
+            thaws.set()
+        for _ in range(100):
+            if log.stale_since is None:
+                break
+            await asyncio.sleep(0.05)
+        positions = [await log.append(batch("A", key="k")), await log.append(batch("B", key="l"))]
+        keeping.cancel()
+        await asyncio.gather(keeping, return_exceptions=True)
+        return positions
+    assert talk(lambda _="": sqlite.FileLog(str(tmp_path / "day.db"), ""), what) == [range(1, 2), range(2, 3)]
+
+
+@pytest.mark.parametrize("when", ["BEGIN IMMEDIATE", "COMMIT"])
+def test_a_log_that_is_moved_in_a_transaction_answers_nothing(tmp_path, when):
+    """Before its commit, or right after it: the desk is told that it isn't known, and the server ends."""
+    from board import sqlite
+    from board.words import Fault, Problem
+    path = tmp_path / "day.db"
+
+    class Moving:
+        """A connection during one of whose statements the file is moved."""
+
+        def __init__(self, database):
+            self.database = database
+
+        def __getattr__(self, name):
+            return getattr(self.database, name)
+
+        def execute(self, text, *words):
+            done = self.database.execute(text, *words)
+            if text == when:
+                path.rename(tmp_path / "moved.db")
+            return done
+
+    async def what(log):
+        log._database = Moving(log._database)
+        with pytest.raises(Problem) as why:
+            await log.append(batch("A", key="k"))
+        assert why.value.status == 504
+        with pytest.raises(Fault, match="no longer there"):
+            await asyncio.wait_for(log.ended(), 5)
+        log._database = log._database.database
+    talk(lambda _="": sqlite.FileLog(str(path), ""), what)
+
+
+def test_the_log_itself_has_a_key_once(log_at):
+    """Whoever writes, and whatever was looked up before: the same key of the same desk isn't there twice, nor is a position."""
+    open_log, force = log_at
+    talk(open_log, lambda log: log.append(batch("A", key="k")))
+    for position, key, is_there in ((2, "k", True), (1, "other", True), (2, "other", False)):
+        text = f"INSERT INTO cdm_record VALUES ('', {position}, 'ap', '{key}', 0, 1, 'AP', 'B', 't')"
+        if is_there:
+            with pytest.raises((sqlite3.IntegrityError, RuntimeError), match="UNIQUE|unique"):
+                force(text)
+        else:
+            force(text)
+
+
+def test_another_program_is_told_with_the_board(log_at):
+    """What to do with a log that is another program's names the board, where it has a name."""
+    from board.words import Fault
+    open_log, _ = log_at
+
+    async def opened(name):
+        for version in ("v1", "v2"):
+            log = open_log(name)
+            try:
+                await log.open(AIRPORT, version)
+            finally:
+                await log.close()
+    for name in ("EDDF", ""):
+        with pytest.raises(Fault, match="belongs to another program") as why:
+            asyncio.run(opened(name))
+        said = str(why.value)
+        assert ("--board EDDF > day.csv" in said and said.endswith("day.csv --board EDDF")) if name else "--board" not in said
 
 
 def test_want_of_memory_in_a_transaction_ends_nothing(tmp_path, monkeypatch):

@@ -40,6 +40,8 @@ FAULTS = [
     ("a batch that was never given to the log is told as not known", "writer.py",
      "        return self._told(waiting, nothing(why))", "        return self._told(waiting, Problem(504, NOT_KNOWN))", 0, "504 only"),
     ("a change of day goes with others", "writer.py", "(self._waiting if batch.change is None else self._alone)", "self._waiting", 26, "goes alone"),
+    ("a batch that waited for as long as it may waits on", "writer.py",
+     "        if self._waiting.pop(ticket, None) or self._alone.pop(ticket, None):\n            return [Answer(ticket, nothing(LATE))]\n", "", 84, "in time"),
     ("a transaction without bound", "writer.py", "(self._waiting, MOST_TOGETHER)", "(self._waiting, 10 ** 9)", 61, "no bound"),
 ]
 

@@ -1,6 +1,7 @@
 """Nobody else: who hasn't the right is refused before the log, and says nothing for anybody."""
 import collections
 import concurrent.futures
+import contextlib
 import json
 import socket
 import time
@@ -121,14 +122,14 @@ def test_a_path_leads_nowhere_else(server):
 
 
 def test_an_address_that_cannot_be_read_ends_the_connection(server):
-    """Nothing is told of it, and nothing waits for its next request."""
+    """Nothing is told of it, and nothing waits for its next request. A later aiohttp answers before the end."""
+    answer = b""
     with socket.create_connection(("127.0.0.1", server.port)) as own:
-        own.settimeout(5)
+        own.settimeout(5 * FACTOR)
         own.sendall(b"CONNECT /\xff HTTP/1.1\r\nHost: localhost\r\n\r\n")
-        try:
-            assert own.recv(65536) == b""
-        except ConnectionError:
-            pass
+        with contextlib.suppress(ConnectionError):
+            answer = b"".join(iter(lambda: own.recv(65536), b""))
+    assert answer == b"" or answer.split()[1] == b"400" and answer.endswith(b"the request is malformed")
     assert server.get("/health").status == 200 and "CONNECT" not in server.told()
 
 

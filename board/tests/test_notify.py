@@ -229,10 +229,12 @@ def test_systemd_accepts_the_unit(tmp_path):
 
 
 def test_the_unit_says_what_the_server_keeps():
-    """It is told by the server, has a bound of memory, and doesn't end with a question that is killed for it."""
+    """It is told by the server, has a bound of memory, doesn't end with a question that is killed for it, and is tried again for ever, but
+    not where the next start would end the same way."""
     found = dict(line.split("=", 1) for line in UNIT.read_text().splitlines() if re.match(r"[A-Za-z]+=", line))
-    assert {name: found.get(name) for name in ("Type", "WatchdogSec", "OOMPolicy", "MemoryMax", "Restart")} == {
-        "Type": "notify", "WatchdogSec": "30", "OOMPolicy": "continue", "MemoryMax": "4G", "Restart": "on-failure"}
+    wanted = {"Type": "notify", "WatchdogSec": "30", "OOMPolicy": "continue", "MemoryMax": "4G", "Restart": "on-failure", "RestartSec": "2",
+              "RestartPreventExitStatus": "2 3", "StartLimitIntervalSec": "0"}
+    assert {name: found.get(name) for name in wanted} == wanted
     assert "NotifyAccess" not in found  # The main process alone speaks, as systemd has it by itself.
 
 
@@ -241,3 +243,11 @@ def test_the_unit_lets_questions_run():
     from board.answers import LIMITED
     filters = re.findall("^SystemCallFilter=(.*)", UNIT.read_text(), re.M)
     assert LIMITED[0] == "/usr/bin/setpriv" and filters == ["@system-service", "~@privileged", "capset"]
+
+
+def test_the_unit_changes_the_day():
+    """At 03:00, unless a board's options, which come behind it, name another time, or none."""
+    text = UNIT.read_text()
+    assert text.index('\nEnvironment="DAY=--day-at 03:00"\n') < text.index("\nEnvironmentFile=-/etc/cdmseq/%i/options\n")
+    start, = re.findall("^ExecStart=(.*)$", text, re.M)
+    assert start.split()[-2:] == ["$DAY", "$OPTIONS"]

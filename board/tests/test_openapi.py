@@ -57,12 +57,12 @@ def strict():
     return made
 
 
-RESOLVER = jsonschema.RefResolver.from_schema(strict())
+COMPONENTS = strict()["components"]
 
 
 def hold(value, schema):
-    """Holds a value to a schema of the file."""
-    jsonschema.Draft202012Validator(schema, resolver=RESOLVER).validate(value)
+    """Holds a value to a schema of the file, which refers to the file's components."""
+    jsonschema.Draft202012Validator({**schema, "components": COMPONENTS}).validate(value)
 
 
 def events_of(text):

@@ -47,7 +47,7 @@ def test_the_warnings(page):
     fill(shown.server, {"ATC": [f"OFF,A2,{at('06:05')}", f"OFF,A3,{at('07:30')}", f"OFF,A4,{at('06:50')}", f"OFF,A6,{at('06:51')}",
                                 f"OFF,A7,{at('06:52')}", f"CLOSE,27L,{at('07:00')},{at('07:06')}", f"CLOCK,{at('06:40')}"]})
     shown.open()
-    assert shown.text("#h-w") == "Warnings 10" and shown.texts("#warnings li") == [
+    assert shown.text("#h-w") == "Warnings 10 7 flights" and shown.texts("#warnings li") == [
         "OVERDUE A2 TTOT 06:20", "MISSED A2 CTOT 06:20", "EDGE A5 CTOT 07:06 TTOT 07:15", "PAST A1 TSAT 06:40", "AHEAD 4 A3 A4 A6 A7",
         "FULL 27L 07:00 3/2", "SHUT A4 27L TTOT 07:05", "BLOCKED: none"]
     # A new one says so for a minute, and is said in the live region at once.
@@ -141,7 +141,7 @@ def test_a_flight_why_it_waits_and_its_records(page):
     assert [record["line"] for record in records] == ["FLT,RYR6,5", "RWY,RYR6,09", "TOBT,RYR6,2025-03-10T06:10Z"]
     shown.until("return document.querySelectorAll('#f-records tr').length === 3")
     assert shown.texts("#f-records tr") == [
-        f"{record['position']} {record['at'][11:19]} {record['role']} {record['role']} {words}"
+        f"{record['position']} {record['at'][11:19]} {record['role']} {words}"
         for record, words in zip(reversed(records), ("TOBT 06:10", "RWY 09", "FLT 5"))]
     # A link that can be sent.
     first = shown.tab("#DLH2")

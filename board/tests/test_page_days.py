@@ -1,5 +1,11 @@
 """The page over a change of day: the new date, without a lost connection, and no row that jumps."""
-from browser import fill
+import re
+import signal
+
+import browser
+import pytest
+from browser import Page, fill, size, until
+from test_page_desks import sign_in
 
 AT = "2025-03-11T{}Z".format
 DAY = {"AP": ["FLT,AB1,5", "FLT,AB2,5", "FLT,CD3,5"],
@@ -46,6 +52,106 @@ def test_the_page_over_a_change_of_day(page):
     shown.open("#AB1")
     shown.says("#f-records", "PRIO")
     assert "TOBT" not in shown.text("#f-records")
+
+
+# Ten flights that stay, on two runways, one of which de-ices and one of which has a slot; GO1 took off, GO2 is cancelled, and LE1 left its
+# stand at 23:50 and isn't airborne.
+STAY = [f"ST{number}" for number in range(10)]
+DESKS = {"ap": 'role = "AP"', "atc": 'role = "ATC"\nclock = true', "ao": 'role = "AO"', "nm": 'role = "NM"', "gh": 'role = "GH"'}
+TWO = {"AP": [f"FLT,{name},5" for name in (*STAY, "GO1", "GO2", "LE1")],
+       "ATC": [f"RWY,{name},{'27L' if number % 2 else '09'}" for number, name in enumerate((*STAY, "GO1", "GO2", "LE1"))],
+       "AO": [f"TOBT,{name},{AT(f'03:{10 + 5 * number}')}" for number, name in enumerate(STAY)] + [
+           "TOBT,GO1,2025-03-10T23:00Z", "CNL,GO2", "TOBT,LE1,2025-03-10T23:40Z"],
+       "GH": ["ICE,ST3,STAND,12"], "NM": [f"CTOT,ST5,{AT('04:20')}"]}
+LATER = {"ATC": ["OFF,GO1,2025-03-10T23:00Z", "AIR,GO1,2025-03-10T23:15Z", "OFF,LE1,2025-03-10T23:50Z", f"CLOCK,{AT('03:00')}"]}
+# What a person sees whenever anything of the page changes: whether the connection is lost, and the rows of each list that stay, in their order,
+# with the words of each cell, without the date before a time of the other day. What holds a flight is asked anew on each day: it may be `…`.
+SEEN = """window.seen = {lost: 0, hidden: 0, lists: new Set(), dates: []};
+window.rows = (list) => [...document.querySelectorAll(`#${list} tr[data-flight^=ST]`)].filter((row) => row.checkVisibility())
+  .map((row) => [...row.children].map((cell) => cell.innerText.replace(/\\b1[01] (?=\\d\\d:)/g, '').replace(/\\s+/g, ' ').trim()));
+const look = () => {
+  const { seen } = window;
+  seen.lost += /CONNECTION LOST|Signed out/.test(document.querySelector('#conn').innerText) || document.documentElement.classList.contains('is-lost');
+  seen.hidden += getComputedStyle(document.querySelector('#next')).visibility !== 'visible';
+  const date = document.querySelector('#date').innerText;
+  if (seen.dates.at(-1) !== date) seen.dates.push(date);
+  seen.lists.add(JSON.stringify(['next', window.rows('next').map((row) => row.slice(0, -1))]));
+  seen.lists.add(JSON.stringify(['all', window.rows('all')]));
+};
+look();
+new MutationObserver(look).observe(document.documentElement, {attributes: true, childList: true, subtree: true, characterData: true});"""
+
+
+@pytest.fixture
+def second():
+    """Another person's browser."""
+    opened = browser.driven()
+    driver = next(opened)
+    try:
+        yield driver
+    finally:
+        opened.close()
+        driver.quit()
+
+
+def signed_and_not(page, second):
+    """Two pages over one day, on which nobody needs a token to read: one of the tower's desk, and one that isn't signed in."""
+    signed = page(DESKS, day=TWO)
+    fill(signed.server, LATER, True)
+    signed.server.write_desks(DESKS, "anyone")
+    signed.server.process.send_signal(signal.SIGHUP)
+    until(lambda: signed.server.get("/v1/plan").status == 200)
+    size(second, 1280, 900)
+    other = Page(second, signed.server).open()
+    signed.open("#sign-in")
+    sign_in(signed, "atc")
+    signed.is_ready()
+    assert signed.text("#desk") == "atc" and other.text("#desk") == ""
+    return signed, other
+
+
+def test_two_people_over_a_change(page, second):
+    """One is signed in, with a form begun; one isn't. Neither loses the connection, no row moves or has other words but for its date, and
+    both see what to know before, with the flight that is LEFT by name, and yesterday's plan as it ended."""
+    both = signed, other = signed_and_not(page, second)
+    server = signed.server
+    signed.click('#all tr[data-flight="ST4"] a')
+    signed.says("#p-flight form", "Kind")
+    signed.choose("#p-flight form [name=kind]", "PRIO")
+    signed.type("#p-flight form [name=priority]", "7")
+    old = server.get("/v1/plan").body.decode()
+    assert re.search(r"^LE1 .* 110002 ", old, re.M), old
+    for shown in both:
+        shown.js(SEEN)
+        shown.click("#date")
+        shown.says("#day", "Before Tue 11 Mar 2025 LEFT LE1 09 AOBT 102350 TTOT 110002 GONE 2 STAY 10")
+        shown.js("document.querySelector('#day').hidePopover()")
+    before = [(shown.js("return window.rows('next')"), shown.js("return window.rows('all')")) for shown in both]
+    assert before[0] == before[1] and len(before[0][0]) >= 5 and len(before[0][1]) == 10
+    wait = server.request("POST", "/v1/day", "", "atc")
+    assert wait.status == 409 and b"LEFT    LE1 09 AOBT 102350 TTOT 110002" in wait.body
+    assert server.request("POST", "/v1/day?even=yes", "", "atc").status == 200
+    for shown, (ahead, every) in zip(both, before, strict=True):
+        shown.says("h1", "Tue 11 Mar 2025")
+        for name in ("LE1", "GO1", "GO2"):
+            shown.until("return document.querySelector(`#all tr[data-flight=${arguments[0]}]`) === null", name)
+        shown.until("return JSON.stringify(window.rows('next')) === arguments[0]", shown.js("return JSON.stringify(arguments[0])", ahead))
+        seen = shown.js("return {...window.seen, lists: [...window.seen.lists].map((list) => JSON.parse(list))}")
+        assert (seen["lost"], seen["hidden"], seen["dates"]) == (0, 0, ["Mon 10 Mar 2025", "Tue 11 Mar 2025"])
+        lists = [["next", [row[:-1] for row in ahead]], ["all", every]]
+        assert sorted(seen["lists"]) == sorted(lists)
+    assert signed.js("return document.querySelector('#p-flight form [name=priority]').value") == "7"
+    signed.click("#p-flight form button")
+    signed.says("#p-flight .reply", "Accepted.")
+    fill(server, {"AO": ["TOBT,ST9,2025-03-11T09:00Z"]}, True)
+    for shown in both:
+        shown.until("return document.querySelector('#all tr[data-flight=ST9]').innerText.includes('09:00')")
+        shown.click("#date")
+        shown.says("#day", "Plan of Mon 10 Mar 2025")
+        shown.click("#day a")
+        shown.until("return document.querySelector('pre') !== null")
+        assert shown.js("return document.querySelector('pre').textContent") == old
+    assert other.told() == []
 
 
 def test_what_is_typed_over_a_change_of_day(page):

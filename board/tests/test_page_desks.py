@@ -89,10 +89,13 @@ def test_a_token_that_is_taken_away(page):
     sign_in(shown, "ground-2")
     shown.is_ready()
     left = {name: table for name, table in DESKS.items() if name != "ground-2"}
+    shown.click("#date")
+    shown.says("#day", "Before Tue 11 Mar 2025 ")
     shown.server.write_desks(left)
     shown.server.process.send_signal(signal.SIGHUP)
-    shown.says("#conn", "Signed out. ground-2’s token isn’t taken any more.", seconds=3 * FACTOR)
+    shown.says("#conn", "Signed out. ground-2’s sign-in has ended, or its token isn’t taken any more.", seconds=3 * FACTOR)
     shown.until("return location.hash === '#sign-in'")
+    assert not shown.find("#day").is_displayed() and shown.text("#desk-left") == ""
     sign_in(shown, "wall")
     shown.is_ready()
     shown.says("#desk-left", "reads only")
@@ -113,7 +116,7 @@ def test_who_is_signed_out_sees_why_and_nothing_of_the_day(page, width):
     assert date == "Mon 10 Mar 2025" and title == "00:00 Start-up board"
     shown.server.write_desks({name: table for name, table in DESKS.items() if name != "ground-2"})
     shown.server.process.send_signal(signal.SIGHUP)
-    shown.says("#conn", "Signed out. ground-2’s token isn’t taken any more.", seconds=3 * FACTOR)
+    shown.says("#conn", "Signed out. ground-2’s sign-in has ended, or its token isn’t taken any more.", seconds=3 * FACTOR)
     shown.until("return document.activeElement.name === 'desk'")
     assert shown.js("""const range = document.createRange();
         range.selectNodeContents(document.querySelector('#conn [role=status]'));
@@ -136,7 +139,7 @@ def test_a_new_token_ends_a_session_at_once(page):
     digest = lambda token: hashlib.sha256(token.encode()).hexdigest()
     (shown.server.folder / "desks.toml").write_text(text.replace(digest("token-ground-2"), digest("another")))
     shown.server.process.send_signal(signal.SIGHUP)
-    shown.says("#conn", "Signed out. ground-2’s token isn’t taken any more.", seconds=3 * FACTOR)
+    shown.says("#conn", "Signed out. ground-2’s sign-in has ended, or its token isn’t taken any more.", seconds=3 * FACTOR)
     assert not shown.find("#all").is_displayed() and not shown.find("#p-flight").is_displayed()
     sign_in(shown, "ground-2", "another")
     shown.until("return document.querySelector('#desk').textContent === 'ground-2'")
@@ -158,8 +161,21 @@ def test_a_session_that_ended_is_told_at_its_next_record(page):
     shown.type("#p-flight form [name=time]", "06:30")
     shown.driver.execute_cdp_cmd("Network.clearBrowserCookies", {})
     shown.click("#p-flight form button")
-    shown.says("#conn", "Signed out. ground-2’s token isn’t taken any more.")
+    shown.says("#conn", "Signed out. ground-2’s sign-in has ended, or its token isn’t taken any more.")
+    shown.says("#conn", "Not taken: TOBT DLH2 06:30. Sign in with a desk and its token.")
     assert len(shown.server.records("wall")) == before and not shown.find("#all").is_displayed()
+
+
+def test_a_link_to_a_flight_is_followed_after_the_sign_in(page):
+    shown = page(DESKS, day=QUIET)
+    shown.allowed += DENIED
+    shown.open("#DLH2", ready=False)
+    shown.says("#conn", "Signed out.")
+    sign_in(shown, "ground-2")
+    shown.is_ready()
+    shown.says("#h-f", "DLH2 planned, runway 27L, stand A12")
+    shown.says("#p-flight form", "Kind")
+    assert shown.js("return location.hash") == "#DLH2"
 
 
 def test_who_may_read_without_a_token(page):

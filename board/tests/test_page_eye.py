@@ -603,3 +603,157 @@ def test_a_blocked_flight_is_told_what_frees_it(page):
                         ("KLM5", "PRIO puts it ahead of those that have its minutes. Or ask the Network Manager for a later CTOT than 06:09.")):
         shown.js("location.hash = arguments[0]", f"#{name}")
         shown.says("#f-warnings", words)
+
+
+def test_a_link_to_a_flight_has_its_form(page):
+    """The kinds of records are there before the plan is: the form is made when the flight is."""
+    shown = page().open()
+    shown.choose("#role", "ATC")
+    shown.until("return document.querySelector('#b-send').hidden === false")
+    script = shown.driver.execute_cdp_cmd("Page.addScriptToEvaluateOnNewDocument", {"source": """const real = window.fetch;
+        const came = new Promise((go) => { window.came = go; });
+        window.fetch = async (path, ...words) => {
+          if (path === '/v1/plan.json') await came;
+          const got = await real(path, ...words);
+          if (path === '/v1/kinds') setTimeout(window.came, 500);
+          return got;
+        };"""})
+    try:
+        shown.open("#EZY7")
+        shown.says("#p-flight form", "Kind")
+        shown.click("#f-warnings button")
+        shown.says("#p-flight form code", "RWY,EZY7,")
+    finally:
+        shown.driver.execute_cdp_cmd("Page.removeScriptToEvaluateOnNewDocument", {"identifier": script["identifier"]})
+
+
+COLOUR = """const [node, name] = [document.querySelector(arguments[0]), arguments[1]], probe = document.createElement('i');
+probe.style.color = `var(--${name})`;
+document.body.append(probe);
+const colour = getComputedStyle(probe).color;
+probe.remove();
+return [getComputedStyle(node).color === colour, getComputedStyle(node.parentNode).borderLeftColor === colour];"""
+
+
+def test_a_day_without_records(page):
+    """Nothing is late and nothing blocked, so nothing has their colours; and no record is the last."""
+    shown = page(day={}).open()
+    shown.says("#conn", "Connected There is no record yet.")
+    assert shown.texts("header dd") == ["0"] * 5
+    for node, name in (("#n-late", "warn"), ("#n-blocked", "alarm")):
+        assert shown.js(COLOUR, node, name) == [False, False], name
+    fill(shown.server, {"AP": ["FLT,A1,5"]})
+    shown.until("return document.querySelector('#n-blocked').textContent === '1'")
+    assert shown.js(COLOUR, "#n-blocked", "alarm") == [True, True] and shown.js(COLOUR, "#n-late", "warn") == [False, False]
+
+
+def test_a_total_that_is_not_known_has_no_colour(page):
+    shown = page()
+    script = shown.driver.execute_cdp_cmd("Page.addScriptToEvaluateOnNewDocument", {"source": """const real = window.fetch;
+        window.fetch = (path, ...words) => (path === '/v1/plan.json' ? new Promise(() => {}) : real(path, ...words));"""})
+    try:
+        shown.open(ready=False)
+        shown.until("return document.querySelector('#role').options.length > 1")
+        assert shown.text("#n-blocked") == "–" and shown.js(COLOUR, "#n-blocked", "alarm") == [False, False]
+    finally:
+        shown.driver.execute_cdp_cmd("Page.removeScriptToEvaluateOnNewDocument", {"identifier": script["identifier"]})
+
+
+# At 00:03 of the second day two flights have left before midnight, and aren't airborne.
+NIGHT = {"AP": ["FLT,LX1,5", "FLT,SWR88AC,5", "FLT,AB1,5"], "ATC": ["RWY,LX1,09", "RWY,SWR88AC,27L", "RWY,AB1,27L", f"CLOCK,{at('23:30')}"],
+         "AO": [f"TOBT,LX1,{at('23:35')}", f"TOBT,SWR88AC,{at('23:40')}", "TOBT,AB1,2025-03-11T03:20Z"]}
+LEFT = [f"OFF,LX1,{at('23:35')}", f"OFF,SWR88AC,{at('23:52')}", "CLOCK,2025-03-11T00:03Z"]
+
+
+@pytest.mark.parametrize("width", [320, 1280, 3840])
+def test_what_is_known_before_a_change_of_day(page, width):
+    """It is read whole, says times as the rest of the page does, has the focus, and doesn't stay when the day has changed."""
+    shown = page(day=NIGHT)
+    fill(shown.server, {"ATC": LEFT})
+    size(shown.driver, width, 640)
+    shown.open()
+    shown.click("#date")
+    shown.says("#day", "LEFT LX1 09 AOBT 10 23:35 TTOT 10 23:47 LEFT SWR88AC 27L AOBT 10 23:52 TTOT 11 00:07")
+    assert shown.js("const box = document.querySelector('#day'); return [box.scrollWidth <= box.clientWidth, document.activeElement === box]") == [True, True]
+    answer = shown.server.request("POST", "/v1/day", "", Cdm_Role="ATC")
+    assert answer.status == 409 and shown.find("#day").is_displayed()
+    answer = shown.server.request("POST", "/v1/day?even=yes", "", Cdm_Role="ATC")
+    assert answer.status == 200, answer
+    shown.says("h1", "Tue 11 Mar 2025")
+    assert not shown.find("#day").is_displayed()
+
+
+# Texts of the header that the link to the next start-ups covers.
+COVERED = r"""
+const link = document.querySelector('.skip').getBoundingClientRect(), bad = [];
+const walker = document.createTreeWalker(document.querySelector('header'), NodeFilter.SHOW_TEXT);
+while (walker.nextNode()) {
+  if (!walker.currentNode.data.trim() || !walker.currentNode.parentElement.checkVisibility()) continue;
+  const range = document.createRange();
+  range.selectNodeContents(walker.currentNode);
+  for (const one of range.getClientRects())
+    if (one.width > 0 && one.left < link.right && one.right > link.left && one.top + 4 < link.bottom && one.bottom - 4 > link.top) bad.push(walker.currentNode.data);
+}
+return bad;
+"""
+
+
+@pytest.mark.parametrize("how", ["", SPACED, LARGE, BOTH], ids=["plain", "spacing", "size", "both"])
+def test_the_link_to_the_next_start_ups_covers_nothing(page, how):
+    """On a phone it is always there; NOW may have a date, and the page's date can be pressed."""
+    shown = page(day=NIGHT)
+    fill(shown.server, {"ATC": LEFT})
+    for width in (320, 360, 700):
+        size(shown.driver, width, 900)
+        shown.open()
+        shown.js(how)
+        shown.until("return document.documentElement.classList.contains('l-spaced') || arguments[0]", how in ("", LARGE))
+        assert shown.text(".now time") == "11 00:03" and shown.js(COVERED) == [], width
+        shown.click("#date")
+        shown.says("#day", "LEFT")
+        shown.js("document.querySelector('#day').hidePopover()")
+
+
+def test_the_totals_stay_in_one_line_with_a_date(page):
+    """The page doesn't move down when NOW has a date."""
+    shown = page(day=NIGHT)
+    fill(shown.server, {"ATC": LEFT})
+    for width in (1220, 1280, 1920, 3840):
+        size(shown.driver, width, 900)
+        shown.open()
+        assert shown.text(".now time") == "11 00:03"
+        assert shown.js("return new Set([...document.querySelectorAll('header dd')].map((one) => one.getBoundingClientRect().top)).size") == 1, width
+        assert shown.js("return document.documentElement.scrollWidth") <= width
+
+
+def test_a_log_that_is_away_is_an_alert(page):
+    """It is said at once, and no record is said to be the last one."""
+    shown = page().open()
+    shown.js("""const real = fetch; window.fetch = async (...words) => {
+        const got = await real(...words); const headers = new Headers(got.headers); headers.set('Cdm-Stale-Since', '2025-03-10T05:49:12.000Z');
+        const body = words[0] === '/health' ? JSON.stringify({...await got.json(), stale_since: '2025-03-10T05:49:12.000Z'}) : got.body;
+        return new Response(body, {status: got.status, headers}); };""")
+    shown.says("#stale", "The log isn’t reached since 05:49:12 UTC", seconds=20 + WAIT)
+    alerts = shown.js("return [...document.querySelectorAll('[role=alert]')].filter((one) => one.textContent && one.checkVisibility()).map((one) => one.textContent)")
+    assert len(alerts) == 1 and alerts[0].startswith("The log isn’t reached since 05:49:12 UTC")
+    shown.until("return !document.querySelector('#conn').innerText.includes('is the last')")
+
+
+def test_a_filter_that_shows_nothing_says_so(page):
+    """There are start-ups in the next 60 minutes, but not those of the filter."""
+    shown = page().open("?op=XYZ")
+    assert shown.text("#next .empty") == "No start-up that the filter shows in the next 60 minutes."
+    shown.click("#show-all")
+    shown.until("return document.querySelector('#next .empty').hidden")
+    fill(shown.server, {"AO": [f"CNL,{name}" for name in ("BAW3", "DLH1", "DLH2", "RYR6")]})
+    shown.says("#next .empty", "No start-up in the next 60 minutes.")
+
+
+def test_warnings_of_one_flight(page):
+    """A2 is overdue and missed its window: two warnings, and one flight."""
+    shown = page(day={"AP": ["FLT,A2,5"], "ATC": ["RWY,A2,27L"], "NM": [f"CTOT,A2,{at('06:20')}"]})
+    fill(shown.server, {"ATC": [f"OFF,A2,{at('06:05')}", f"CLOCK,{at('06:40')}"]})
+    shown.open()
+    assert shown.texts("#warnings li")[:2] == ["OVERDUE A2 TTOT 06:20", "MISSED A2 CTOT 06:20"] and shown.text("#h-w") == "Warnings 2 1 flight"
+    shown.server.post(f"AIR,A2,{at('06:21')}", Cdm_Role="ATC")
+    shown.until("return document.querySelector('#h-w').innerText.trim() === 'Warnings 0'")

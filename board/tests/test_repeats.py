@@ -14,6 +14,7 @@ from conftest import ROOT
 
 MIB = 1 << 20
 OF = Limits()
+NUMBERS = {8: "eight", 10: "ten", 12: "twelve", 24: "twenty-four"}
 # What docs/HTTP.md says, by the server's own numbers.
 LIMITS = [
     f"{words.MOST_LINES} records a body, {words.MOST_BYTES} bytes a line, {web.MOST_BODY >> 10} KiB a body",
@@ -30,6 +31,8 @@ LIMITS = [
     f"{unsent.MOST_NAMELESS // MIB} MiB of all without a desk; {unsent.MOST_OF_ALL // MIB} MiB of all, the last {unsent.OF_THE_TOWER // MIB} MiB",
     f"{events.MOST_STREAMS} streams of events a desk; {events.MOST_DISPLAYS:,} of all READ desks",
     f"{events.MOST_UNSENT // MIB} MiB of a stream, {events.MOST_UNSENT_OF_ALL // MIB} MiB of all streams",
+    f"{OF.opened_without_desk} streams that an address opens in a minute without a token, {OF.opened_by_desk:,} that one desk opens",
+    f"{OF.opened_together:,} streams that all addresses open together in {NUMBERS[callers.TOGETHER_SECONDS]} seconds without a token",
     f"{views.MOST_VIEW >> 10} KiB for the view",
     f"{OF.of_address} connections of an address at which no token was shown, {OF.of_known_address:,} of another, {OF.connections:,} in all",
     f"{guard.HEADERS:.0f} s for headers, {questions.BODY_LIMIT:.0f} s for a body",
@@ -43,7 +46,6 @@ LIMITS = [
     f"that changed more than {events.MOST_ROWS} rows",
     f"within {1000 * views.BURST:.0f} ms have one view, and a new view is begun {views.APART} s after",
 ]
-NUMBERS = {8: "eight", 12: "twelve", 24: "twenty-four"}
 
 
 def told(*words):
@@ -57,7 +59,7 @@ def told(*words):
 def test_the_scripts_are_clean(words):
     if not pathlib.Path("/usr/bin", words[0]).exists():
         pytest.skip(f"test_the_scripts_are_clean: {words[0]} is missing")
-    ended = subprocess.run([*words, ROOT / "tools/figures", ROOT / "tools/repeats"], capture_output=True, text=True)
+    ended = subprocess.run([*words, *(ROOT / "tools" / name for name in ("figures", "repeats", "contracts", "cases"))], capture_output=True, text=True)
     assert ended.returncode == 0, ended.stdout
 
 
@@ -93,9 +95,6 @@ def test_pages_repeat_what_is_there():
 
 
 @pytest.mark.parametrize("page, old, new, difference", [
-    ("docs/CONTRACTS.md", "## `cdm_taxi`", "## Taxi", "docs/CONTRACTS.md: cdm_taxi has no section, or isn't a library, or has two"),
-    ("docs/CONTRACTS.md", "- `exot` is the stand's", "- `taxi_time` is the stand's",
-     "docs/CONTRACTS.md: cdm_taxi: `taxi_time`: no taxi_time in its code"),
     ("docs/MAP.md", "| the table of taxi times | `cdm_flight` |", "| the table of taxi times | `cdm_time` |",
      "docs/MAP.md: cdm_taxi depends on cdm_flight, not on cdm_time"),
     ("docs/PROVED.md", "IfOk result (λ counts. Passed", "IfOk result (λ counts. Written",
@@ -103,23 +102,160 @@ def test_pages_repeat_what_is_there():
     ("docs/PROVED.md", "| `may_make` |", "| `may_send` |", "docs/PROVED.md: may_send isn't defined in `cdm_flight/specs/Authority.antt`"),
     ("docs/DEFINITIONS.md", "`cdm_row/specs/Json.antt`", "`cdm_row/specs/Text.antt`",
      "docs/DEFINITIONS.md: no file of a crate is cdm_row/specs/Text.antt"),
-    ("cases/README.md", "| `one_flight` |", "| `two_flights` |", "cases/README.md: two_flights is named 1 times, and is not there"),
+    ("README.md", "`cdm_feed::run_asked`, the call", "`cdm_feed::run`, the call",
+     "README.md: the call behind `plan` isn't one that crates/cdm_main/src/main.rt makes"),
+    ("docs/PROVED.md", "the clause `passed` says", "the clause `passed_on` says", "docs/PROVED.md: `passed_on`: no passed_on in the code"),
 ])
 def test_what_is_otherwise_is_found(tmp_path, page, old, new, difference):
     """In a copy of the pages with one of these edits; the code is the repository's own."""
     for name in ("crates", "crates.txt"):
         (tmp_path / name).symlink_to(ROOT / name)
-    for name in ("README.md", "CONTRIBUTING.md", "docs", "cases/README.md"):
-        (tmp_path / name).parent.mkdir(exist_ok=True)
+    for name in ("README.md", "CONTRIBUTING.md", "docs"):
         (shutil.copytree if (ROOT / name).is_dir() else shutil.copy)(ROOT / name, tmp_path / name)
-    for folder in (ROOT / "cases").iterdir():
-        if folder.is_dir():
-            (tmp_path / "cases" / folder.name).mkdir()
     text = (tmp_path / page).read_text()
     assert text.count(old) == 1
     (tmp_path / page).write_text(text.replace(old, new))
     listed, status = told(ROOT / "tools/repeats", tmp_path)
     assert status == 1 and difference in listed.splitlines()
+
+
+def test_the_page_of_contracts_is_made_of_the_code():
+    assert told(ROOT / "tools/contracts") == ((ROOT / "docs/CONTRACTS.md").read_text(), 0)
+
+
+SMALL = """//! A thing.
+/// A thing.
+pub struct Thing(u8);
+
+/// A way.
+pub trait Way {
+    /// Goes. And more.
+    fn go(&mut self) -> bool
+        requires { true }
+        ensures ok { yes }
+        ensures err { no };
+}
+
+impl Way for Thing {
+    fn go(&mut self) -> bool
+        ensures ok { yes }
+
+        // It is kept.
+        ensures kept { same }
+    {
+        true
+    }
+}
+
+impl Thing {
+    /// How large it is.
+    pub fn size(&self) -> u8
+        ensures value { result }
+    {
+        self.0
+    }
+
+    /// Nobody sees it.
+    fn own(&self)
+        ensures one { yes }
+        ensures two { yes }
+    {
+    }
+}
+
+/// There is one. It is the same everywhere.
+///
+/// For whoever asks.
+#[tactic(auto)]
+pub fn law()
+    ensures one { yes }
+{}
+
+/// Nobody sees it.
+pub fn hidden()
+    ensures one { yes }
+{}
+"""
+
+
+def test_what_is_made_of_the_code(tmp_path):
+    """Of a small crate: a theorem, a call with two clauses, one that keeps a trait and more, and what isn't public."""
+    (tmp_path / "tools").mkdir()
+    shutil.copy(ROOT / "tools/contracts", tmp_path / "tools")
+    (tmp_path / "crates.txt").write_text("# From the bottom up.\ncdm_one:\n")
+    (source := tmp_path / "crates/cdm_one/src").mkdir(parents=True)
+    (source / "lib.rt").write_text("//! One thing.\n//!\n//! More.\nmod a;\n\npub use a::{Thing, Way, law};\n")
+    (source / "a.rt").write_text(SMALL)
+    assert told(tmp_path / "tools/contracts")[0].partition("\n## ")[2] == """`cdm_one`
+
+One thing.
+
+- `Way::go` (`ok`, `err`): Goes.
+- `Thing::go` (`kept`): It is kept.
+- Theorem `law` (`one`): There is one. It is the same everywhere.
+"""
+    assert "- `Thing::size` (`value`): How large it is.\n" in told(tmp_path / "tools/contracts", "cdm_one")[0]
+
+
+def test_each_folder_of_cases_has_a_line():
+    listed, status = told(ROOT / "tools/cases")
+    assert status == 0 and "\none_flight  0  plan airport.csv feed.csv\n    one flight takes off at TOBT plus EXOT\n" in listed
+    assert told(ROOT / "tools/cases", "carry", "the day after the last one of a year")[0].splitlines()[0] == "carry: 1"
+
+
+def test_a_folder_without_a_line_is_found(tmp_path):
+    """And one with two, and a line without a folder."""
+    for name in ("one", "two", "three"):
+        (tmp_path / "cases" / name).mkdir(parents=True)
+        (tmp_path / "cases" / name / "args").write_text("plan\nairport.csv\n")
+        (tmp_path / "cases" / name / "status").write_text("0\n")
+    (tmp_path / "cases/shows").write_text("# A remark.\none, two: the first two\ntwo: twice\nfour: gone\n")
+    (tmp_path / "tools").mkdir()
+    shutil.copy(ROOT / "tools/cases", tmp_path / "tools")
+    listed, status = told(tmp_path / "tools/cases", "first two")
+    assert (listed.splitlines(), status) == ([
+        "plan: 2", "one  0  plan airport.csv", "    the first two", "two  0  plan airport.csv", "    the first two", "",
+        "cases/shows: four is named 1 times, and is not there", "cases/shows: three is named 0 times, and is there",
+        "cases/shows: two is named 2 times, and is there"], 1)
+
+
+def test_the_readme_is_short_and_the_index_has_its_order():
+    """What it is, the board, three doors, the commands, a first day, the guarantee last; then each door's pages, in the order of reading."""
+    text = (ROOT / "README.md").read_text()
+    assert len(text.splitlines()) <= 170
+    parts = ["board.png", "## Three doors", "    ./cdmseq plan ", "    ./cdmseq prove", "## A first day", "## Commands", "## The guarantee"]
+    assert [text.index(part) for part in parts] == sorted(text.index(part) for part in parts)
+    assert re.findall(r"^## (.*)", text, re.M)[-1] == "The guarantee"
+    table = (ROOT / "docs/README.md").read_text().partition("\n[examples]")[0]
+    assert [name for name in re.findall(r"\]\((?:\.\./)?([A-Z]+)\.md\)", table.partition("|---|")[2])] == [
+        "BOARD", "QUESTIONS", "TUTORIAL", "DEFINITIONS", "HTTP", "FORMATS", "RUN", "POSTGRES", "FIGURES", "PROVED", "CONTRACTS", "MAP",
+        "CONTRIBUTING", "DECISIONS"]
+
+
+def test_each_warning_has_its_line_on_the_board_s_page():
+    """The kinds of FORMATS, in its order; none is about late flights."""
+    specified = re.findall(r"^\| `([A-Z]+) [a-z]", (ROOT / "docs/FORMATS.md").read_text().partition("\n## `warnings`\n")[2].partition("\n## ")[0], re.M)
+    explained = re.findall(r"^\| ([A-Z]+) \|", (ROOT / "docs/BOARD.md").read_text().partition("\n## Warnings\n")[2].partition("\n## ")[0], re.M)
+    assert len(specified) > 5 and explained == specified
+
+
+def test_the_service_s_options_are_those_of_the_package():
+    """With the name by which the proxy is reached; a service without it answers each request with 421."""
+    page, note = ((ROOT / name).read_text() for name in ("docs/RUN.md", "packaging/README.Debian"))
+    found = re.search(r"echo '(OPTIONS=.*? --name (\S+) .*?)' \| sudo tee", page)
+    assert found is not None and f"echo '{found[1]}' |" in note and f"server_name {found[2]};" in page
+
+
+def test_what_is_installed_is_named_as_it_is():
+    """The server's messages and what the package alone has: there is no ./cdmboard where it is installed."""
+    files = [*(ROOT / "board").glob("*.py"), *(file for file in (ROOT / "packaging").iterdir() if file.is_file())]
+    assert [file.name for file in files if re.search(r"(?<![.\w])\./cdm(?:board|seq)\b", file.read_text())] == []
+
+
+def test_no_page_teaches_columns_by_their_numbers():
+    """They are found by their names: a release may add one."""
+    for name in ("README.md", "docs/QUESTIONS.md", "docs/TUTORIAL.md", "docs/HTTP.md", "docs/FORMATS.md"):
+        assert not re.search(r"\bawk\b|\bcut -d,", (ROOT / name).read_text()), name
 
 
 def test_the_version_has_a_section():

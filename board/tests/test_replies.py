@@ -1,4 +1,5 @@
 """Replies of before: a program that gives others is told, with the position, whatever its version says."""
+import argparse
 import asyncio
 import contextlib
 import os
@@ -123,6 +124,7 @@ def test_of_two_servers_that_reply_otherwise_one_ends(board, cluster):
     assert one.process.poll() is None and one.metric("cdm_position") == 1000
     copy = one.folder / "copy.db"
     assert cdmboard("backup", cluster.url(), copy).returncode == 0
+    assert in_file(argparse.Namespace(log=copy), "SELECT id FROM cdm_log") != [(cluster.sql("SELECT id FROM cdm_log"),)]
     for log in (copy, cluster.url()):
         assert cdmboard("verify", log).stdout == "1000 records, 988 accepted, 1 digests of replies\n"
 

@@ -89,15 +89,29 @@ def test_a_log_goes_on_with_another_program_of_the_same_rules(board):
         assert ended.returncode == 3 and "another program" in ended.stderr
 
 
-def test_a_log_of_the_first_release_goes_on(board):
-    """It has the first rules, and its program says no number."""
-    server = board()
-    server.post(["FLT,AB1,5"], Cdm_Role="AP")
-    assert server.end() == 0
+def in_file(server, query):
     with contextlib.closing(sqlite3.connect(server.log)) as database:
-        database.execute("UPDATE cdm_log SET version = 'cdmseq 1.0.0'")
-        database.commit()
-    assert server.start().post(["FLT,AB2,5"], Cdm_Role="AP")[0]["position"] == 2
+        return database.execute(query).fetchall()
+
+
+def test_a_log_of_the_last_release_goes_on(board, before):
+    """Under this program, back, and again: each tells the same plan, and gives the replies whose digest the log has."""
+    server = board(start=False)
+    server.program(before)
+    server.start()
+    for number, role in enumerate(("AP", "ATC", "AO", "GH", "NM")):
+        line = ("FLT,AB{0},5", "RWY,AB{0},27L", "TOBT,AB{0},2025-03-10T06:00Z", "ICE,AB{0},STAND,9", "CTOT,AB{0},-")[number]
+        assert len(server.post([line.format(flight) for flight in range(200)], Cdm_Role=role)) == 200
+    until(lambda: in_file(server, "SELECT position FROM cdm_digest") == [(1000,)], 30)
+    for position, program in enumerate(("", before, ""), 1001):
+        plan = server.get("/v1/plan.json").body
+        assert server.end() == 0
+        server.program(program)
+        told = cdmboard("verify", server.log, environment=server.environment)
+        assert told.stdout.endswith(" 1 digests of replies\n"), told.stderr
+        assert server.start().get("/v1/plan.json").body == plan
+        assert server.post([f"FLT,E{position},5"], Cdm_Role="AP")[0]["position"] == position
+    assert in_file(server, "SELECT version FROM cdm_log") == [("cdmseq 1.0.0",)]
 
 
 def test_a_log_is_bound_to_no_airport_file_that_is_refused(files, board, log_engine):
@@ -215,6 +229,16 @@ def test_a_missing_package_is_named(files):
     assert ended.returncode == 1 and ended.stderr == "cdmboard: python3-aiohttp missing: sudo apt-get install python3-aiohttp\n"
 
 
+def test_an_aiohttp_that_counts_no_requests_is_refused(files):
+    """The count is no public part of it, and without it nothing bounds a connection: a later one may count elsewhere."""
+    code = "import runpy, aiohttp.web as web; web.RequestHandler._request_count = property(lambda self: 0, lambda self, count: None)\n" \
+           "runpy.run_module('board', run_name='__main__')"
+    words = ["timeout", str(30 * FACTOR), "/usr/bin/python3", "-B", "-c", code, str(files / "airport.csv"), str(files / "day.db")]
+    ended = subprocess.run([*words, "--listen", "127.0.0.1:0"], cwd=ROOT, env=ENVIRONMENT, capture_output=True, text=True)
+    assert ended.returncode == 3 and ended.stderr.count("\n") == 1, ended.stderr
+    assert "doesn't count the requests of a connection; docs/RUN.md names versions that do" in ended.stderr
+
+
 def test_an_end_answers_what_waits(board):
     """TERM: what is in the log gets its reply, displays are told, status 0, and nothing is left in memory."""
     server = board()
@@ -319,6 +343,7 @@ def test_import_and_export(files, board):
     server = board(start=False)
     assert cdmboard("import", server.airport, server.log, feed).returncode == 0
     assert cdmboard("import", server.airport, server.log, feed).returncode == 3
+    assert cdmboard("audit", server.log).stdout == ""
     server.start()
     assert server.post(["FOO", "FLT,AB2,5"], Cdm_Role="AP")[1]["accepted"] == 3
     assert cdmboard("export", server.log).stdout == feed.read_text() + "AP,FLT,AB2,5\n" == server.get("/v1/journal.csv").body.decode()
@@ -348,6 +373,12 @@ def test_a_backup_is_a_log(board):
     assert server.end() == copy.end() == 0
 
 
+def secrets_of(log):
+    """The keys of the cookies of its boards."""
+    with contextlib.closing(sqlite3.connect(log)) as database:
+        return [secret for secret, in database.execute("SELECT secret FROM cdm_log")]
+
+
 def test_a_backup_while_it_is_served(files, board):
     """`backup` makes a new file, 0600, with an id of its own; `verify` reads it; a start has the same day."""
     server, copy = board(), board(start=False)
@@ -362,6 +393,7 @@ def test_a_backup_while_it_is_served(files, board):
     copy.start()
     assert copy.records() == [record | ({"changes": None} if "changes" in record else {}) for record in server.records()]
     assert json.loads(copy.get("/v1/who").body)["log"] != json.loads(server.get("/v1/who").body)["log"]
+    assert len(set(secrets_of(copy.log) + secrets_of(server.log))) == 2
     assert copy.post(["FLT,AB1,5", "FOO"], Cdm_Role="AP", key="k")[0]["position"] == 1
     # A mistyped name makes no file; nor does a board that isn't there.
     for words in (("backup", files / "none.db", files / "copy.db"), ("backup", server.log, files / "copy.db", "--board", "x")):
@@ -419,6 +451,8 @@ def test_the_clock_is_taken(board):
     until(lambda: len(server.records()) >= 1)
     record = server.records()[0]
     assert (record["desk"], record["role"], record["reply"]) == ("clock", "ATC", "ACCEPTED") and record["line"].startswith(f"CLOCK,{today}T")
+    board_of = server.options[server.options.index("--board"):][:2] if "--board" in server.options else []
+    assert cdmboard("audit", server.log, *board_of).stdout == ""
     server.kill()
     server.start()
     time.sleep(0.5)

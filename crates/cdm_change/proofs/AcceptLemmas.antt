@@ -35,11 +35,12 @@ use Rattle.cdm_day.proofs.BatchLemmas.{good_from}
 use Rattle.cdm_carry.specs.Carry.{carried, carried_all, carry, goes_on, moved, stays, taken}
 use Rattle.cdm_carry.proofs.LawLemmas.{goes_on-flight, reach_of-moved}
 use Rattle.cdm_carry.proofs.StayLemmas.{state_allows}
-use Rattle.cdm_change.specs.AllAccepted.{AllAccepted}
+use Rattle.cdm_change.specs.AllAccepted.{AreAllAccepted}
 use Rattle.cdm_change.specs.NextDay.{next_flight, next_status}
-use Rattle.cdm_change.specs.Unnoticed.{IsSameAirport, KeepsHours}
+use Rattle.cdm_change.specs.Unnoticed.{IsSameAirport}
 use Rattle.cdm_change.proofs.CarriedLemmas.{of_flight-carried}
 use Rattle.cdm_change.proofs.DayLemmas.{ClockRises, values_of-carried}
+use Rattle.cdm_change.proofs.FiledLemmas.{KeepsHours}
 use Rattle.cdm_change.proofs.FlightLemmas.{exot_of-carried, flight_of-carried, fresh_moved}
 use Rattle.cdm_change.proofs.JournalLemmas.{one_clock}
 use Rattle.cdm_change.proofs.ListLemmas.{list_any-moved}
@@ -391,7 +392,7 @@ module _ (g h : AirportRows) (same : IsSameAirport g h) (hours : All KeepsHours 
   all_taken (r ∷ later) p rises = all_by p r later rises (refusal g p r.0 r.1) refl (λ q up. all_taken later q up)
 
 -- The next airport accepts all that is carried.
-pub all_accepted : AllAccepted
+pub all_accepted : (g h : AirportRows) (records : List (Role × Update)) → All KeepsHours g.runways → IsSameAirport g h → AreAllAccepted g records h
 unfolding carry
 all_accepted g h records hours same =
     let a = accepted g [] records in

@@ -12,5 +12,6 @@ pub mod FixedLemmas
 pub mod PlacingLemmas
 pub mod StandLemmas
 pub mod JournalLemmas
+pub mod FiledLemmas
 pub mod AcceptLemmas
 pub mod UnnoticedLemmas

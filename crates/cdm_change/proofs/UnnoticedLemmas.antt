@@ -40,10 +40,12 @@ use Rattle.cdm_change.specs.NextDay.{next_flight, next_journal, next_status}
 use Rattle.cdm_flight.specs.declared.flight.Status.{Status}
 use Rattle.cdm_flight.specs.declared.flight.Status.TheVariants as status
 use Rattle.cdm_sequence.specs.declared.rule.Rule.{Rule}
-use Rattle.cdm_change.specs.Unnoticed.{EndsInTime, HasSlot, IsBlocked, IsSameAirport, KeepsHours, NobodyNotices, day_after, next_slot}
+use Rattle.cdm_change.specs.Unnoticed.{EndsInTime, HasSlot, IsBlocked, IsSameAirport, NobodyNotices, day_after, next_slot}
+use Rattle.cdm_files.proofs.FeedDayLemmas.{own_airport}
 use Rattle.cdm_change.proofs.AcceptLemmas.{all_accepted}
 use Rattle.cdm_change.proofs.AimLemmas.{FitsNext, aims_fit, key_parts}
 use Rattle.cdm_change.proofs.DayLemmas.{ClockRises, taxi_of-carried, values_of-next}
+use Rattle.cdm_change.proofs.FiledLemmas.{KeepsHours, keeps_hours}
 use Rattle.cdm_change.proofs.FixedLemmas.{StandsBy}
 use Rattle.cdm_change.proofs.JournalLemmas.{clock_rises, has_its_runway, sound_day, stands}
 use Rattle.cdm_change.proofs.ListLemmas.{contains_flat, contains_given, contains_in_flat}
@@ -314,7 +316,9 @@ rules_name g a row = refl
 
 -- Each flight that stays has in the next day's plan the slot that it had, or is blocked there as it was.
 pub nobody_notices : NobodyNotices
-nobody_notices g h records plan next airport hours same may of_day of_carried in_time =
+nobody_notices text g h records plan next filed same may of_day of_carried in_time =
+    let airport = own_airport text g filed in
+    let hours = keeps_hours text g filed in
     let of_next : IsDayPlan (record { airport = h; journal = next_journal (accepted g [] records) }) next =
     subst (λ (us : List Update). IsDayPlan (record { airport = h; journal = us }) next) (all_accepted g h records hours same).journal of_carried in
     let a = accepted g [] records in

@@ -1,25 +1,21 @@
 -- Nobody notices a change of day: the flights that stay stand in the next day's plan as they stood.
-use Rattle.std.specs.Prelude.{◌≡◌, ℕ, ◌+◌, ◌<◌, ◌≤◌, Bool, true, false, ◌&&◌, ◌||◌, nat_lt, List, [], All, Contains, IsTrue}
+use Rattle.std.specs.Prelude.{◌≡◌, ℕ, ◌+◌, ◌<◌, ◌≤◌, Bool, true, false, ◌&&◌, ◌||◌, nat_lt, List, [], All, Contains, Ok}
 use Rattle.std.specs.Option.{option_map, option_map_or}
-use Rattle.cdm_flight.specs.declared.airport.RunwayRow.{RunwayRow}
 use Rattle.cdm_flight.specs.declared.flight.Flight.{Flight}
 use Rattle.cdm_flight.specs.declared.flight.Status.{Status}
 use Rattle.cdm_flight.specs.declared.flight.Status.TheVariants.{OffBlock, Airborne}
-use Rattle.cdm_flight.specs.declared.group.Group.{Group}
 use Rattle.cdm_flight.specs.declared.role.Role.{Role}
 use Rattle.cdm_flight.specs.declared.update.Update.{Update}
 use Rattle.cdm_flight.specs.Accepted.{accepted}
-use Rattle.cdm_flight.specs.Cells.{is_cell_length}
 use Rattle.cdm_flight.specs.Journal.{AirportRows, values_of}
 use Rattle.cdm_flight.specs.Record.{is_planned}
-use Rattle.cdm_flight.specs.Spacing.{occupancy_of}
 use Rattle.cdm_sequence.specs.declared.plan.Plan.{Plan}
 use Rattle.cdm_sequence.specs.declared.plan.RunwayPlan.{RunwayPlan}
 use Rattle.cdm_sequence.specs.declared.slot.BlockedFlight.{BlockedFlight}
 use Rattle.cdm_sequence.specs.declared.slot.Slot.{Slot}
-use Rattle.cdm_plan.specs.Airport.{IsAirport}
 use Rattle.cdm_plan.specs.Day.{DayRecord}
 use Rattle.cdm_plan.specs.DayPlan.{IsDayPlan, records_in}
+use Rattle.cdm_files.specs.AirportFile.{airport_in}
 use Rattle.cdm_carry.specs.Carry.{carry, stays}
 use Rattle.cdm_carry.specs.Laws.{next_minute}
 
@@ -50,11 +46,6 @@ pub record AreUnnoticed (a : List Update) (plan next : Plan) : Type 0 where
   pub blocked : (f : List ℕ) → stays a f ≡ true → IsBlocked plan f → IsBlocked next f
 
 -- Airports.
-
--- what an airport file keeps of a runway: whole cells fill an hour, and no flight occupies it for more than one
-pub record KeepsHours (row : RunwayRow) : Type 0 where
-  pub cells : IsTrue (is_cell_length row.cell)
-  pub spacing : (group : Group) → occupancy_of row.spacing group ≤ 60
 
 -- the next airport has the runways, with their cells, capacities and spacing times, and the taxi times of the airport
 pub record IsSameAirport (g h : AirportRows) : Type 0 where
@@ -90,9 +81,10 @@ pub record MayChange (d : DayRecord) : Type 0 where
 abbrev pub day_after : AirportRows → List (Role × Update) → DayRecord
 day_after g records = record { airport = g; journal = accepted g [] records }
 
--- Let the next airport be the same, let the day change when it may, and let the next plan end in time: then nobody notices.
+-- Let a file say the airport, let the next one be the same, let the day change when it may, and let the next plan end in time:
+-- then nobody notices.
 abbrev pub NobodyNotices : Type 0
-NobodyNotices = (g h : AirportRows) (records : List (Role × Update)) (plan next : Plan)
-    → IsAirport g → All KeepsHours g.runways → IsSameAirport g h → MayChange (day_after g records)
+NobodyNotices = (text : List ℕ) (g h : AirportRows) (records : List (Role × Update)) (plan next : Plan)
+    → airport_in text ≡ Ok g → IsSameAirport g h → MayChange (day_after g records)
     → IsDayPlan (day_after g records) plan → IsDayPlan (day_after h (carry g records h)) next → EndsInTime next
     → AreUnnoticed (accepted g [] records) plan next
