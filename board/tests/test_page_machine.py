@@ -43,8 +43,10 @@ FAULTS = [
         ("questions.js", "retry * 1000 * (1 + chance / 4)", "0")]),
     ("a server with another past under the same name isn't seen", "Shown", 4095, [
         ("following.js", "else if (isSameMoment(rows, stream.moment) && !this.isBroken)", "else if (!this.isBroken)"),
-        ("following.js", "if (reply.position === this.rows.position && reply.at !== this.rows.lastAt) {", "if (false) {"),
+        ("following.js", "if (this.isOfOtherPast(reply)) {", "if (false) {"),
         ("reading.js", " || moment.position === need.position && !isSameMoment(moment, need)", "")]),
+    ("events of another past than the plan's", "Shown", 1018863, [
+        ("following.js", "return this.isUntold && position > rows.position && at < rows.lastAt;", "return false;")]),
     ("a plan of another past than the events'", "Shown", 4095, [
         ("reading.js", " || moment.position === need.position && !isSameMoment(moment, need)", "")]),
     ("what a log has lost since it was shown stays", "Arrives", 27473, [
