@@ -19,6 +19,7 @@ class Knowing {
     /** @type {Moment | null} of which moment the rows are; @type {(Moment & {isOther: boolean}) | null} which one is to be read */
     this.rows = null;
     this.need = null;
+    this.isUntold = false; // whether the rows' moment is one of which the events have told no record
     this.queue = [];
     this.stream = null;
     Object.assign(this, { reopenAt: 0, eventsAsTold: 0, failures: 0, lost: null, oldSince: null, staleSince: null, isStaleRead: false });

@@ -167,6 +167,7 @@ export class Following extends Reading {
   takeFrom() {
     const { rows, stream } = this;
     stream.isTold = true;
+    this.isUntold = false;
     if (!rows) this.readFirst();
     else if (isSameMoment(rows, stream.moment) && !this.isBroken) this.oldSince = null;
     else this.readAnew(!isSameMoment(rows, stream.moment));
@@ -181,6 +182,16 @@ export class Following extends Reading {
     }
   }
 
+  /**
+   * Whether a reply is of another past than the rows: another record stands in the place of their last one, or, where the events told none
+   * there, what they tell next was taken before that one.
+   */
+  isOfOtherPast({ position, at }) {
+    const { rows } = this;
+    if (position === rows.position) return at !== rows.lastAt;
+    return this.isUntold && position > rows.position && at < rows.lastAt;
+  }
+
   /** Puts replies over the rows, in their order. */
   apply(replies) {
     if (!this.rows) return;
@@ -190,10 +201,11 @@ export class Following extends Reading {
         this.readAnew();
         break;
       }
-      if (reply.position === this.rows.position && reply.at !== this.rows.lastAt) { // of another past
+      if (this.isOfOtherPast(reply)) {
         this.readAnew(true);
         break;
       }
+      if (reply.position >= this.rows.position) this.isUntold = false;
       const changed = this.day.apply(reply);
       if (!changed) continue;
       Object.assign(this.rows, { position: this.day.position, lastAt: reply.at });

@@ -60,7 +60,8 @@ export class Reading extends Views {
     const isWhole = this.isBroken || isNext; // on another date each time has other words
     const changed = this.day.take(plan, moment.position, `${moment.log}-${moment.position}`);
     if (isWhole) for (const [name, row] of this.day.rows) if (!changed.has(name)) changed.set(name, [row, row]);
-    const { queue, isFirst } = this;
+    const { queue, isFirst, need } = this;
+    this.isUntold = need !== null && (moment.position > need.position || need.lastAt === undefined);
     Object.assign(this, { rows: moment, need: null, queue: [], oldSince: null, isFirst: false, held: null, isBroken: false });
     if (this.stream?.moment === null) this.reopen();
     if (isOther) this.empty();

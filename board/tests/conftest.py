@@ -6,6 +6,7 @@ import json
 import os
 import pathlib
 import random
+import re
 import shutil
 import signal
 import subprocess
@@ -288,7 +289,8 @@ def board(tmp_path, log_engine):
         if server.process is not None:
             server.clean()
             told = server.told()
-            assert "Traceback" not in told and "Warning: " not in told
+            # PostgreSQL's own warnings may be told; those of a library are of a release that isn't known yet.
+            assert "Traceback" not in told and not re.search(r"(?<!Postgres)Warning: ", told), told
 
 
 @pytest.fixture(params=["a wrapper", "the last release"])

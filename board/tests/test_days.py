@@ -7,6 +7,7 @@ import http.client
 import json
 import os
 import resource
+import signal
 import socket
 import sqlite3
 import subprocess
@@ -581,7 +582,7 @@ def test_a_change_on_a_full_disk(board):
     plan = server.get("/v1/plan.json", "ap")
     filling(server, "dd", "if=/dev/zero", f"of={server.log.parent}/more", "bs=4k", is_full=True)
     # More than fits into what SQLite has left of its last page.
-    answer = change(server, body=NEXT + "".join(f"TAXI,S{number},27L,9\n" for number in range(900)))
+    answer = change(server, body=NEXT + "".join(f"TAXI,S{number % 400},27L,9\n" for number in range(900)))
     assert answer.status in (503, 504), answer
     assert server.get("/v1/plan.json", "ap").body == plan.body
     until(lambda: "takes no records" in server.told() and server.get("/ready").status == 503)
@@ -591,10 +592,14 @@ def test_a_change_on_a_full_disk(board):
     assert set(flights(server)) == {"AB1", "EF3"} and server.post(["PRIO,AB1,1"], "tower")[0]["position"] == 11
 
 
+FILLS = "while :; do dd if=/dev/zero of=/dev/shm/more bs=4k oflag=append conv=notrunc; sleep 0.02; done 2> /dev/null"
+
+
 def filling(server, *words, is_full=False):
-    """Runs a command among the files of a server, which fails if the disk is to be full."""
+    """What a command prints that is run among the files of a server, and fails if the disk is to be full."""
     ended = subprocess.run(["nsenter", "-m", "-t", str(server.process.pid), *words], capture_output=True)
     assert (b"No space left" in ended.stderr) == is_full, ended
+    return ended.stdout
 
 
 @needs_postgres
@@ -606,7 +611,9 @@ def test_a_change_without_room_for_its_files(board, chance, cluster):
     other.start(mounted("64M", "/dev/shm"))
     begun(one)
     until(lambda: other.metric("cdm_position", "ap") == 9)
-    filling(other, "dd", "if=/dev/zero", "of=/dev/shm/more", "bs=4k", is_full=True)
+    # What the server gives back is taken too.
+    filler = subprocess.Popen(["nsenter", "-m", "-t", str(other.process.pid), "sh", "-c", FILLS], start_new_session=True)
+    until(lambda: filling(other, "df", "--output=avail", "/dev/shm").split()[-1] == b"0")
     answer = change(other)
     assert answer.status == 503 and "No space left" in json.loads(answer.body)["detail"], answer
     assert change(one)["position"] == 10
@@ -618,6 +625,8 @@ def test_a_change_without_room_for_its_files(board, chance, cluster):
         late = pool.submit(other.post, ["PRIO,AB1,1"], "tower")
         until(lambda: one.metric("cdm_position", "ap") == 11)
         assert not late.done()
+        os.killpg(filler.pid, signal.SIGKILL)
+        filler.wait()
         filling(other, "rm", "/dev/shm/more")
         assert late.result()[0]["position"] == 11
     assert one.get("/v1/plan.json", "ap").body == other.get("/v1/plan.json", "ap").body

@@ -318,7 +318,7 @@ def test_a_commit_that_hangs_keeps_nobody_waiting(tmp_path, monkeypatch):
                 told.append(why.value.status)
             assert told == [504, 503] and log.stale_since
             # Nor does who asks for an earlier day wait for its end.
-            for read in (log.changes(), log.change(1), log.between(1, 2), log.sought(0, 2, "AB1", None), log.sessions()):
+            for read in (log.changes(), log.change(1), log.between(1, 2), log.sought(0, 2, "AB1", None, ["FLT"]), log.sessions()):
                 with pytest.raises(Away):
                     await asyncio.wait_for(read, 5)
         finally:

@@ -14,7 +14,7 @@ SCHEDULES = 50_000
 # The fault, the law that it breaks, a seed whose schedule shows it, and the edits: a file of the page, its words, and what stands there
 # instead.
 FAULTS = [
-    ("a reset asks for the old position, of whichever log", "Arrives", 119, [
+    ("a reset asks for the old position, of whichever log", "Arrives", 211, [
         ("answers.js", "this.need ? this.need.position :", "this.need ? Math.max(this.need.position, this.rows?.position ?? 0) :")]),
     ("a reset during a read is dropped", "Arrives", 553, [
         ("reading.js", "  readAnew(isOther = false) {", "  readAnew(isOther = false) {\n    if (this.need) return;")]),
@@ -32,7 +32,7 @@ FAULTS = [
         ("machine.js", "    this.isBroken = true;\n", "    if (part) return;\n")]),
     ("a log that is away isn't shown", "Arrives", 29, [
         ("answers.js", "      if (event.status === 200) this.takeStale(told.stale_since ?? null);", "      void told;")]),
-    ("a silent break is told late", "Shown", 155, [
+    ("a silent break is told late", "Shown", 233, [
         ("limits.js", "export const QUIET = 17000;", "export const QUIET = 25000;")]),
     ("a server that is behind leaves a gap after a reset", "Arrives", 518, [
         ("reading.js", "    if (moment.position < need.position) return false;\n", ""),
@@ -41,11 +41,13 @@ FAULTS = [
         ("reading.js", "    this.order({ do: 'show', what: 'empty' });\n", "")]),
     ("Retry-After isn't heeded", "Heeded", 5, [
         ("questions.js", "retry * 1000 * (1 + chance / 4)", "0")]),
-    ("a server with another past under the same name isn't seen", "Shown", 1884, [
+    ("a server with another past under the same name isn't seen", "Shown", 4095, [
         ("following.js", "else if (isSameMoment(rows, stream.moment) && !this.isBroken)", "else if (!this.isBroken)"),
-        ("following.js", "if (reply.position === this.rows.position && reply.at !== this.rows.lastAt) {", "if (false) {"),
+        ("following.js", "if (this.isOfOtherPast(reply)) {", "if (false) {"),
         ("reading.js", " || moment.position === need.position && !isSameMoment(moment, need)", "")]),
-    ("a plan of another past than the events'", "Shown", 1884, [
+    ("events of another past than the plan's", "Shown", 1018863, [
+        ("following.js", "return this.isUntold && position > rows.position && at < rows.lastAt;", "return false;")]),
+    ("a plan of another past than the events'", "Shown", 4095, [
         ("reading.js", " || moment.position === need.position && !isSameMoment(moment, need)", "")]),
     ("what a log has lost since it was shown stays", "Arrives", 27473, [
         ("views.js", "      if (stream.lacks < MOST_AHEAD) return false;\n", "      if (stream.lacks) return false;\n")]),
@@ -62,18 +64,18 @@ FAULTS = [
          "const rows = new Map([...this.rows.values(), ...plan.flights].map((row) => [row.flight, row]));")]),
     ("what was sent in the day before is sent as another record", "Said", 1472, [
         ("reading.js", "    this.forgetOperators();\n    this.order(", "    this.forgetOperators();\n    this.sending.unknown.clear();\n    this.order(")]),
-    ("a panel lists records of the day before", "Shown", 11, [
+    ("a panel lists records of the day before", "Shown", 29, [
         ("reading.js", "    this.order({ do: 'show', what: 'past' });\n", "")]),
     ("a panel lists records of the day before again, as they were asked for", "Shown", 52, [
         ("answers.js", "ask.name === 'log' ? ask.path.endsWith(this.day.date) :", "ask.name === 'log' ||")]),
-    ("the list of the log lacks the new day", "Shown", 11, [
+    ("the list of the log lacks the new day", "Shown", 29, [
         ("machine.js", " * LOG}&day=${this.day.date}` },", " * LOG}` },"),
         ("answers.js", "ask.name === 'log' ? ask.path.endsWith(this.day.date) :", "ask.name === 'log' ||")]),
     ("the operators are those of the day before", "Arrives", 2, [
         ("reading.js", "    this.forgetOperators();\n    this.order(", "    this.order(")]),
     ("the operators of records that are lost stay", "Arrives", 700848, [
         ("views.js", "position > this.rows.position ? position : Infinity", "Infinity")]),
-    ("the operators that came while the plan was read are dropped", "Arrives", 63, [
+    ("the operators that came while the plan was read are dropped", "Arrives", 81, [
         ("reading.js", "    if (!this.operators || this.operatorsAt < Infinity) this.forgetOperators();", "    if (this.operators && this.operatorsAt < Infinity) this.forgetOperators();")]),
     ("the operators that a box failed to show are never shown", "Arrives", 2977, [
         ("machine.js", "      if (part === 'operators') this.operators = false;\n", "")]),

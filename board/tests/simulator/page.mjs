@@ -11,6 +11,7 @@ import { World } from './world.mjs';
 const CHAOS = [2000, 9000]; // ms in which anything happens
 const GIVEN_UP = 42000; // ms until whatever was lost before is given up
 const ARRIVES = 10000; // ms of quiet after which the day is shown
+const LOSSY = 4; // of so many schedules one has a log that loses records
 const LINES = ['TOBT,A', 'TOBT,A', 'TOBT,B'];
 const HERE = fileURLToPath(new URL('.', import.meta.url));
 
@@ -19,7 +20,7 @@ class Schedule {
   constructor(Machine, seed, isTold) {
     this.chance = new Chance(seed);
     this.isTold = isTold;
-    this.world = new World(this.chance, (event) => this.give(event));
+    this.world = new World(this.chance, (event) => this.give(event), seed % LOSSY === LOSSY - 1);
     this.machine = new Machine(() => this.chance.draw(), '');
     this.judge = new Judge(this.world, this.machine);
     this.keys = 0;
@@ -104,7 +105,8 @@ class Schedule {
   happens() {
     const { chance, world } = this;
     const kind = chance.draw();
-    if (kind < 0.46) world.post();
+    if (world.isLossy && kind < 0.12) world.away();
+    else if (kind < 0.46) world.post();
     else if (kind < 0.5) world.restart(chance.of(world.servers));
     else if (kind < 0.52) world.change();
     else if (kind < 0.56) world.away();

@@ -175,7 +175,7 @@ export class Server {
     if (first < -1) return null;
     const list = records.slice(Math.max(first, since), Math.max(first, since) + most);
     const end = list.findIndex((record, at) => at > 0 && record.isChange);
-    const found = end < 0 ? list : list.slice(0, end);
+    const found = date !== undefined ? list.filter((record) => states[record.position].date === date) : end < 0 ? list : list.slice(0, end);
     return found.map((record) => ({ ...this.reply(record), date: states[record.position].date }));
   }
 

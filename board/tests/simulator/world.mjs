@@ -10,10 +10,13 @@ const TURNS = { plan: 0.03, record: 0.1 }; // the share of such requests meanwhi
 const BY_HAND = ['record', 'sign-in', 'forget']; // who presses a button asks when it pleases
 const OWN = 'application/problem+json';
 
-/** The world around one page. `give(event)` hands an event to the page. */
+/**
+ * The world around one page. `give(event)` hands an event to the page. Where it is lossy, its log loses records again and again while answers
+ * are under way, and no day changes: a change has all read anew, also what is wrong.
+ */
 export class World {
-  constructor(chance, give) {
-    Object.assign(this, { chance, give, agenda: new Agenda(), asks: new Map(), notBefore: new Map(), at: 0, isQuiet: false, streams: new Map(), isOpen: chance.is(0.4), records: 0, logs: [] });
+  constructor(chance, give, isLossy = false) {
+    Object.assign(this, { chance, give, isLossy, agenda: new Agenda(), asks: new Map(), notBefore: new Map(), at: 0, isQuiet: false, streams: new Map(), isOpen: chance.is(0.4), records: 0, logs: [] });
     this.hasViews = chance.is(0.6);
     this.anyone = chance.is(0.3);
     this.cookie = this.isOpen || chance.is(0.3) ? null : { desk: 'AO', isTaken: true };
@@ -30,13 +33,13 @@ export class World {
     const log = new Log(`L${this.logs.length}`, `2025-03-${10 + this.logs.length}`);
     this.logs.push(log);
     const change = this.chance.below(12);
-    for (let number = 0; number < count; number += 1) log.add(number === change ? this.drawChange(log) : this.draw(log));
+    for (let number = 0; number < count; number += 1) log.add(number === change && !this.isLossy ? this.drawChange(log) : this.draw(log));
     return log;
   }
 
   draw(log, desk) {
     const record = recordOf(this.chance, this.records += 1, this.now, desk);
-    return Object.assign(record, { isSure: this.chance.is(0.7), log });
+    return Object.assign(record, { isSure: this.chance.is(this.isLossy ? 0.3 : 0.7), log });
   }
 
   drawChange(log) {
@@ -55,7 +58,7 @@ export class World {
   way() {
     const { chance } = this;
     if (this.isQuiet) return chance.between(1, 80);
-    return chance.is(0.12) ? chance.between(500, 6000) : chance.between(1, 200);
+    return chance.is(this.isLossy ? 0.3 : 0.12) ? chance.between(500, 6000) : chance.between(1, 200);
   }
 
   // Records and servers.
@@ -72,7 +75,7 @@ export class World {
 
   /** The next day begins, by the clock or as a desk of the tower wants it: at one of the servers first. */
   nextDay() {
-    if (this.isTaken) this.commit(this.drawChange(this.log));
+    if (this.isTaken && !this.isLossy) this.commit(this.drawChange(this.log));
   }
 
   commit(record) {
@@ -140,7 +143,7 @@ export class World {
   }
 
   /** The database is away for a while; what wasn't answered may be lost. */
-  away(pause = this.chance.between(300, 8000)) {
+  away(pause = this.chance.between(300, this.isLossy ? 1000 : 8000)) {
     if (this.isAway || this.servers.some((server) => server.staleSince !== null)) return;
     this.isAway = true;
     for (const server of this.servers) server.staleSince = new Date(this.now).toISOString();
@@ -148,7 +151,7 @@ export class World {
       this.isAway = false;
       let sure = this.log.records.length;
       while (sure > 0 && !this.log.records[sure - 1].isSure) sure -= 1;
-      const lost = this.chance.is(0.5) ? this.log.records.length - sure : 0;
+      const lost = this.chance.is(this.isLossy ? 0.9 : 0.5) ? this.log.records.length - sure : 0;
       if (lost > 0) this.log.lose(lost);
       for (const server of this.servers) this.later(this.chance.between(0, this.isQuiet ? 500 : 3000), () => this.comeBack(server));
     });
