@@ -124,7 +124,7 @@ def test_two_people_over_a_change(page, second):
     for shown in both:
         shown.js(SEEN)
         shown.click("#date")
-        shown.says("#day", "Before Tue 11 Mar 2025 LEFT LE1 09 AOBT 102350 TTOT 110002 GONE 2 STAY 10")
+        shown.says("#day", "Before Tue 11 Mar 2025 LEFT LE1 09 AOBT 10 23:50 TTOT 11 00:02 GONE 2 STAY 10")
         shown.js("document.querySelector('#day').hidePopover()")
     before = [(shown.js("return window.rows('next')"), shown.js("return window.rows('all')")) for shown in both]
     assert before[0] == before[1] and len(before[0][0]) >= 5 and len(before[0][1]) == 10
