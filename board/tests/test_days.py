@@ -442,7 +442,8 @@ def test_a_large_day_changes(board):
     def post():
         while not stop.is_set():
             began = time.monotonic()
-            assert server.post([f"STAND,{names[len(waits) % len(names)]},X{len(waits) % 90}"], "ap")[0]["reply"] == "ACCEPTED"
+            # The last records of a day are the tower's.
+            assert server.post([f"PRIO,{names[len(waits) % len(names)]},{len(waits) % 10}"], "tower")[0]["reply"] == "ACCEPTED"
             waits.append(time.monotonic() - began)
             time.sleep(0.03)
     with concurrent.futures.ThreadPoolExecutor(1) as pool:
