@@ -303,9 +303,9 @@ def checked(talk, servers, folder, days):
         feed = subprocess.run([PROGRAM, "carry", "airport.csv", "lines.csv", "next.csv"], cwd=folder, capture_output=True, text=True, check=True).stdout
 
 
-def talked(servers, chance, tmp_path, days, kills):
-    """Days in a row, while 16 desks post and servers are killed. A display that stays shows at each change, and at the end, what a new one
-    shows."""
+def talked(servers, chance, tmp_path, days, kills, fails=None):
+    """Days in a row, while 16 desks post and servers are killed, and in the middle of one change also what `fails` kills. A display that stays
+    shows at each change, and at the end, what a new one shows."""
     desks = {f"desk-{number}": ROLES[number % 5] for number in range(16)}
     talk, watched = Talk(servers, chance, desks), Watched(servers, chance)
     watched.shows_the_same(0)
@@ -316,7 +316,8 @@ def talked(servers, chance, tmp_path, days, kills):
         for number in range(1, days + 1):
             time.sleep(chance.uniform(0.1, 0.6))
             before = reached(servers[0])
-            position = change_while_killed(servers, chance, day_of(number), killed.count(number - 1))
+            is_middle = number == days // 2 + 1
+            position = change_while_killed(servers, chance, day_of(number), killed.count(number - 1), fails if is_middle else None)
             assert before < position
             talk.day += 1
             with talk.quiet() as last:
@@ -344,10 +345,13 @@ def day_of(number):
     return str(datetime.date(2025, 3, 10) + datetime.timedelta(days=number))
 
 
-def change_while_killed(servers, chance, day, kills):
+def change_while_killed(servers, chance, day, kills, fails=None):
     """The position at which a day has begun, while servers are killed and started."""
     with concurrent.futures.ThreadPoolExecutor(1) as pool:
         changing_day = pool.submit(change_somehow, servers, chance, day)
+        if fails is not None:
+            time.sleep(chance.uniform(0, 0.3))
+            fails()
         for _ in range(kills):
             time.sleep(chance.uniform(0, 0.3))
             server = chance.choice(servers)
@@ -375,6 +379,23 @@ def test_ten_days_of_two_servers(board, chance, tmp_path, cluster):
     third = board(TALKERS, **words)
     last = servers[0].get("/v1/plan.json", "tower")
     assert third.get("/v1/plan.json", "tower", Cdm_After=last.headers["Cdm-Position"]).body == last.body
+
+
+@needs_postgres
+def test_days_over_a_fail_over(board, chance, tmp_path):
+    """Also where the primary is killed in the middle of a change of day, and its standby is promoted."""
+    with clusters.clusters(has_standby=True) as (primary, standby):
+        words = {"log": clusters.url_of(primary, standby), "options": ["--board", f"{chance.randrange(1 << 62):x}"]}
+
+        def fails():
+            primary.kill()
+            standby.promote()
+            until(lambda: standby.sql("SELECT pg_is_in_recovery()") == "f", 60)
+        days, kills = count("BOARD_CHANGES", 4), count("BOARD_CHANGE_KILLS", 2)
+        servers = [board(TALKERS, **words), board(TALKERS, **words)]
+        talked(servers, chance, tmp_path, days, kills, fails)
+        for server in servers:
+            server.kill()
 
 
 @needs_postgres
@@ -442,7 +463,8 @@ def test_a_large_day_changes(board):
     def post():
         while not stop.is_set():
             began = time.monotonic()
-            assert server.post([f"STAND,{names[len(waits) % len(names)]},X{len(waits) % 90}"], "ap")[0]["reply"] == "ACCEPTED"
+            # The last records of a day are the tower's.
+            assert server.post([f"PRIO,{names[len(waits) % len(names)]},{len(waits) % 10}"], "tower")[0]["reply"] == "ACCEPTED"
             waits.append(time.monotonic() - began)
             time.sleep(0.03)
     with concurrent.futures.ThreadPoolExecutor(1) as pool:
