@@ -14,6 +14,8 @@ FILE_TYPES = {".html": "text/html", ".css": "text/css", ".js": "text/javascript"
 DIGITS = 16
 # What is under such a name never changes, so a browser asks for it once.
 FOR_EVER = "public, max-age=31536000, immutable"
+# A line of a module that is a comment alone, which no browser needs.
+COMMENTS = re.compile(rb"^ *//.*\n", re.M)
 # A reference of the first file to a file beside it.
 LINKS = re.compile(rb'\b(href|src)="([A-Za-z0-9_-]+(?:\.[A-Za-z0-9_-]+)+)"')
 
@@ -59,6 +61,7 @@ class Files:
 
 
 def _file(name: str, body: bytes, headers: dict[str, str]) -> File:
+    body = COMMENTS.sub(b"", body) if name.endswith(".js") else body
     kind = f"{FILE_TYPES[Path(name).suffix]}; charset=utf-8"
     own = {"Vary": "Accept-Encoding", "Content-Type": kind}
     return File(body, gzip.compress(body, mtime=0), own | headers)

@@ -326,7 +326,7 @@ def test_a_crowd_of_readers_keeps_no_desk_waiting(board):
     """Who has no desk has earlier days read one after the other with all others, however many addresses there are."""
     server = board(DESKS, ["--behind-proxy"], start=False)
     server.write_desks(DESKS, "anyone")
-    server.program('[ "$1" = plan -a -e "$0.slow" ] && sleep 4')
+    server.program('[ "$1" = plan -a -e "$0.slow" ] && sleep 3')
     begun(server.start())
     for day in range(11, 15):
         assert server.request("POST", f"/v1/day?even=yes&day=2025-03-{day}", "", "tower").status == 200

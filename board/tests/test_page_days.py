@@ -171,6 +171,6 @@ def test_what_is_typed_over_a_change_of_day(page):
     shown.until("return document.querySelector('#f-records tr') === null")
     shown.until("return document.querySelector('#desk-left').innerText !== arguments[0]", left)
     assert shown.js("return document.querySelector('#p-flight form input[name=time]').value") == "23:50"
-    shown.click("#p-flight form button:not([type])")
+    shown.js("document.querySelector('#p-flight form button:not([type])').click()")
     shown.says("#p-flight .reply", "Refused, RANGE.")
     assert b"TOBT,AB1,2025-03-10T23:50Z" in shown.server.get("/v1/records?desk=AO&day=2025-03-11").body
