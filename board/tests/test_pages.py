@@ -11,6 +11,12 @@ from conftest import ROOT
 REFERENCE = re.compile(r'(?:href|src)="(/page-([0-9a-f]{16})/[^"]+)"')
 
 
+def sent(path):
+    """A file as a browser gets it: a module without the lines that are comments alone."""
+    lines = path.read_bytes().splitlines(keepends=True)
+    return b"".join(line for line in lines if path.suffix != ".js" or not line.lstrip(b" ").startswith(b"//"))
+
+
 def test_the_page_s_files_are_those_of_one_version(board, tmp_path):
     """`/` names the folder of its files by their digest. They are kept for ever; another version's folder is 404; and a server serves what
     was there at its start, so that a page never mixes the files of two."""
@@ -34,7 +40,7 @@ def test_the_page_s_files_are_those_of_one_version(board, tmp_path):
     assert {path.rpartition("/")[2] for path in paths} >= {"board.css", "main.js", "icon.svg"}
     for path in paths:
         answer, name = server.get(path), path.rpartition("/")[2]
-        assert answer.body == (page / name).read_bytes() and answer.status == 200, path
+        assert answer.body == sent(page / name) and answer.status == 200, path
         assert answer.headers["Cache-Control"] == "public, max-age=31536000, immutable"
         assert ("Content-Security-Policy" in answer.headers) == name.endswith(".svg") and "ETag" not in answer.headers
         assert gzip.decompress(server.get(path, Accept_Encoding="gzip").body) == answer.body
@@ -49,9 +55,9 @@ def test_the_page_s_files_are_those_of_one_version(board, tmp_path):
         assert answer.status == 404 and answer.headers["Cache-Control"] == "no-cache" and why in json.loads(answer.body)["detail"], path
     assert server.get("/main.js").status == 404
     # A file that is changed beneath the server is the next start's.
-    (page / "times.js").write_text((page / "times.js").read_text() + "// changed\n")
-    assert server.get(f"/page-{digest}/times.js").body + b"// changed\n" == (page / "times.js").read_bytes()
+    (page / "times.js").write_text((page / "times.js").read_text() + "export {};\n")
+    assert server.get(f"/page-{digest}/times.js").body + b"export {};\n" == sent(page / "times.js")
     assert server.end() == 0
     _, _, later = start()
     assert later != digest and server.get(f"/page-{digest}/main.js").status == 404
-    assert server.get(f"/page-{later}/times.js").body == (page / "times.js").read_bytes()
+    assert server.get(f"/page-{later}/times.js").body == sent(page / "times.js")
