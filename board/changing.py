@@ -5,7 +5,7 @@ from datetime import date, datetime, time, timedelta, timezone
 
 from board.answers import Answers, Question
 from board.carrying import NO_CARRY, next_airport, next_date
-from board.clock import JUMP
+from board.clock import Trust
 from board.day import Day
 from board.desks import Desk
 from board.log import Batch, Change, Log
@@ -80,18 +80,29 @@ class Changing:
     async def run(self, at: time) -> None:
         """Makes each change at a time of the next day, UTC. Returns never."""
         said = ""
-        limit: datetime | None = None
+        trust = Trust(self._known())
+        began = self._day.change.position
         while True:
-            now = datetime.now(timezone.utc)
-            if limit is not None and now > limit:
-                why = f"no day begins by itself: {now:%Y-%m-%dT%H:%MZ} is more than 5 minutes after the last look at the clock; a new start goes by it"
-            else:
-                limit = now + JUMP
-                why = await self._look(at)
+            if self._day.change.position > began and self._day.records[0].desk != DAY_AT_DESK.name:
+                began = self._day.change.position
+                trust.begun(self._day.date)
+            wrong = trust.why_not(datetime.now(timezone.utc), self._log.clock_ahead)
+            why = f"no day begins by itself: {wrong}" if wrong else await self._look(at)
             if why and why != said:
                 tell(f"cdmboard: {why}")
             said = why
             await asyncio.sleep(LOOK_SECONDS)
+
+    def _known(self) -> datetime:
+        """The last that the log knows of the time: NOW, or when its last record was taken, which a wrong clock may have said, so not beyond the
+        day's two days; without records their end."""
+        end = datetime.fromisoformat(f"{self._day.date}T00:00Z") + timedelta(days=2)
+        known = list[datetime]()
+        if (taken := moment_of(self._day.at(self._day.position))) is not None:
+            known.append(min(taken, end))
+        if (now := moment_of(self._day.clock)) is not None:
+            known.append(now)
+        return max(known, default=end)
 
     async def _look(self, at: time) -> str:
         """Makes the change, if it is due. What is to be said of it."""
@@ -113,6 +124,15 @@ class Changing:
         """What is told of flights that would be LEFT. Raises Problem."""
         _, lines = await self.told(DAY_AT_DESK.name)
         return [line for line in lines if line.startswith("LEFT ")][:MOST_TOLD]
+
+
+def moment_of(said: str) -> datetime | None:
+    """The moment that a text says, if it says one."""
+    try:
+        moment = datetime.fromisoformat(said)
+    except ValueError:
+        return None
+    return moment if moment.tzinfo else None
 
 
 def time_of(said: str) -> time:

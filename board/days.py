@@ -52,9 +52,11 @@ class Days:
     async def post(self, request: web.Request) -> web.Response:
         """Has the next day begin: with the airport file of the body, or with the same one."""
         refuse("Idempotency-Key" in request.headers, 400, "a change of day has no key: ?day= and its date is what makes it once")
-        airport = await body_of(request) or None
         is_even = request.query.get("even") == "yes"
         wanted = request.query.get("day")
+        # Sent twice, such a request would begin two days, whatever is lost with the second one.
+        refuse(is_even and wanted is None, 400, f"?even=yes needs the date of the day that is to begin: ?even=yes&day={next_date(self._day)}")
+        airport = await body_of(request) or None
         # Who lost the right while the body came changes nothing.
         desk = self._callers.desk_of(request)
         day = self._day
@@ -86,6 +88,6 @@ class Days:
         following = next_date(self._day)
         now = self._day.clock
         _, lines = await self._changing.told(asker, airport)
-        refuse(now[:10] < following, 409, f"NOW is {now or 'not known'}, and {following} hasn't begun; ?even=yes changes the day even so")
+        refuse(now[:10] < following, 409, f"NOW is {now or 'not known'}, and {following} hasn't begun; ?even=yes&day={following} begins it even so")
         stops = [line for line in lines if line.startswith(STOPS)]
         refuse(stops, 409, "\n".join(lines[:MOST_TOLD]))

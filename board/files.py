@@ -9,13 +9,17 @@ from board.words import Problem
 
 PAGE = Path(__file__).parent / "page"
 INDEX = "index.html"
-FILE_TYPES = {".html": "text/html", ".css": "text/css", ".js": "text/javascript", ".svg": "image/svg+xml"}
+FILE_TYPES = {".html": "text/html", ".css": "text/css", ".js": "text/javascript", ".svg": "image/svg+xml", ".otf": "font/otf"}
+# A face that was made for cockpits, where Debian's fonts-b612 is installed, and the file that names it; else the page has the system's.
+FACE = Path("/usr/share/fonts/opentype/b612")
+FACES = {"face.otf": "B612-Regular.otf", "face-bold.otf": "B612-Bold.otf"}
+FACE_SHEET = "face.css"
 # Hexadecimal digits of the digest that name the folder.
 DIGITS = 16
 # What is under such a name never changes, so a browser asks for it once.
 FOR_EVER = "public, max-age=31536000, immutable"
-# A line of a module that is a comment alone, which no browser needs.
-COMMENTS = re.compile(rb"^ *//.*\n", re.M)
+# Lines of a module that are a comment alone, which no browser needs.
+COMMENTS = re.compile(rb"^ *(?://.*|/\*\*(?:[^*]|\*(?!/))*\*/ *)\n", re.M)
 # A reference of the first file to a file beside it.
 LINKS = re.compile(rb'\b(href|src)="([A-Za-z0-9_-]+(?:\.[A-Za-z0-9_-]+)+)"')
 
@@ -32,8 +36,12 @@ class Files:
     """All files of a page, read once: what is changed on the disk afterwards is another version, for the next start. The first file,
     `/`, names the folder of the others, so a browser never mixes the files of two versions."""
 
-    def __init__(self, folder: Path = PAGE) -> None:
+    def __init__(self, folder: Path = PAGE, face: Path = FACE) -> None:
         bodies = {path.name: path.read_bytes() for path in sorted(folder.glob("*")) if path.suffix in FILE_TYPES}
+        if all((face / name).is_file() for name in FACES.values()):
+            bodies |= {own: (face / name).read_bytes() for own, name in FACES.items()}
+        else:
+            bodies.pop(FACE_SHEET, None)
         digest = hashlib.sha256(b"".join(b"%s %d\n%s" % (name.encode(), len(body), body) for name, body in bodies.items()))
         self.digest = digest.hexdigest()[:DIGITS]
         index = LINKS.sub(lambda found: self._named(found, bodies), bodies.pop(INDEX, b""))

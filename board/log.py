@@ -128,8 +128,9 @@ class Changed(Exception):
 class Log(Protocol):
     """A log in any engine, for one server. `name` is for messages. `grown` is set when there may be more records than before,
     `signed_out` when another server may have ended sessions;
-    `secret`: the key of the board's cookies, made with the log; `read_at`: when it was last read, by the monotonic clock; `void`: the
-    positions of changes of day that began none, which are read as records."""
+    `secret`: the key of the board's cookies, made with the log; `read_at`: when it was last read, by the monotonic clock;
+    `clock_ahead`: how many seconds this machine's clock is ahead of its own, if it has one; `void`: the positions of changes of day that began
+    none, which are read as records."""
     id: str
     secret: str
     airport: bytes
@@ -137,6 +138,7 @@ class Log(Protocol):
     grown: asyncio.Event
     signed_out: asyncio.Event
     read_at: float
+    clock_ahead: float
     void: set[int]
 
     @property
@@ -204,6 +206,7 @@ class Kept:
         # Set when another server may have ended sessions.
         self.signed_out = asyncio.Event()
         self.read_at = time.monotonic()
+        self.clock_ahead = 0.0
         self.void = set[int]()
 
     def seen(self, records: Sequence[Record]) -> list[Record]:

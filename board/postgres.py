@@ -44,7 +44,7 @@ SOUGHT = """SELECT min(position) FROM public.cdm_record WHERE board = $1 AND pos
 # Of the last change of day whose airport file is the same before the ten bytes of its day, and behind them.
 PRESENT = """SELECT airport FROM public.cdm_day WHERE board = $1 AND substring(airport FROM 1 FOR octet_length($2::bytea)) = $2
     AND substring(airport FROM octet_length($2) + 11) = $3 ORDER BY position DESC LIMIT 1"""
-LAST = "SELECT coalesce(max(position), 0) FROM public.cdm_record WHERE board = $1"
+LAST = "SELECT coalesce(max(position), 0), extract(epoch FROM clock_timestamp())::double precision FROM public.cdm_record WHERE board = $1"
 # Tables of an older version have no sessions, no digests, or no days.
 TABLES = """SELECT num_nulls(to_regclass('public.cdm_record'), to_regclass('public.cdm_session'), to_regclass('public.cdm_digest'),
     to_regclass('public.cdm_day')) = 0"""
@@ -314,7 +314,7 @@ class PostgresLog(Kept):
         while True:
             began = time.monotonic()
             at = now_text()
-            (last,), = await link.read(LAST, self._board)
+            last = await self._last(link)
             self._looked = began
             self._looked_at = at
             self.read_at = began
@@ -326,6 +326,14 @@ class PostgresLog(Kept):
                 async with asyncio.timeout(LINK_LOOK_SECONDS):
                     await link.broken.wait()
                 raise Away(link.why)
+
+    async def _last(self, link: Link) -> int:
+        """The last position. By the way the clocks are compared. Raises Away."""
+        now = time.time()
+        (last, clock), = await link.read(LAST, self._board)
+        self.clock_ahead = now - clock
+        position: int = last
+        return position
 
     def _unlink(self) -> None:
         """No transaction runs any more; one that didn't begin took nothing."""
@@ -382,6 +390,7 @@ class PostgresLog(Kept):
         self.secret = found[3]
         present = await link.read(PRESENT, self._board, *halves(self._given))
         self.check(self._given, found[2], self._version, present[0][0] if present else None)
+        await self._last(link)
         last = self._following.last
         kept = await link.read(f"{COLUMNS} AND position = $2", self._board, last.position if last else 0)
         self._following.linked(Seen(timeline, Record(*kept[0]) if kept else None, await link.is_committing(self._writer_name)))
@@ -416,7 +425,7 @@ async def init(options: Namespace) -> None:
     async with database_of(options.log) as database:
         await database.execute(SCHEMA.read_text())
         name = await database.fetchval("SELECT current_database()")
-    print(f"database {name}: CONNECT is taken from PUBLIC; for a server's user: GRANT cdm_server TO user")
+    print(f"database {name}: CONNECT is taken from PUBLIC; GRANT cdm_server TO a server's user, and cdm_reader to one that only reads")
 
 
 async def read_log(url: str, board: str) -> tuple[list[Change], str, list[Record]]:

@@ -27,12 +27,14 @@ TYPES = {"": "text/plain", "csv": "text/csv", "json": "application/x-ndjson", "s
 JSON = r"{form:(\.json)?}"
 PATHS = (r"{command:plan}{form:(\.csv|\.json)?}", r"{command:picture}{form:\.svg}", "{command:(load|next|warnings|causes)}" + JSON,
          "{command:load}/{name:[A-Z0-9]{1,3}}" + JSON, "{command:why}/{name:[A-Z0-9]{1,7}}" + JSON)
-BY_POST = ("{command:what-if}", "{command:compare}", "{command:compare}/{name:[A-Z0-9][A-Z0-9-]{0,15}}")
+BY_POST = ("{command:what-if}", "{command:check}", "{command:compare}", "{command:compare}/{name:[A-Z0-9][A-Z0-9-]{0,15}}")
 OPTIONS: dict[str, tuple[str, ...]] = {"minutes": (), "by": ("--by",), "scenario": ("--scenario",)}
 ARGUMENT = re.compile("[A-Za-z0-9][A-Za-z0-9-]{0,15}")
 UNKNOWN = ("cdmseq: no flight ", "cdmseq: no runway ", "cdmseq: no scenario ")
 # What a run's status is over HTTP; 503 for any other.
 STATUSES = {2: 400, 3: 422, 422: 422, 500: 500, 504: 504}
+# Statuses of a run that is an answer. To `check` a refused record is one.
+ANSWERED = {"check": (0, 4)}
 
 
 async def body_of(request: web.Request) -> bytes:
@@ -123,7 +125,7 @@ class Questions:
         day, now, ran = await self._answered(request, Question(command, tuple(words), scenarios))
         status = 404 if ran.told.startswith(UNKNOWN) else STATUSES.get(ran.status, 503)
         again = {"Retry_After": "5"} if status == 503 else {}
-        refuse(ran.status != 0, status, ran.told or "the program ended", None, **again)
+        refuse(ran.status not in ANSWERED.get(command, (0,)), status, ran.told or "the program ended", None, **again)
         return await self.of_moment(request, now, form, ran.output, day)
 
     async def _answered(self, request: web.Request, question: Question) -> tuple[Day, int, Answer]:

@@ -1,12 +1,13 @@
 -- The log of boards in PostgreSQL (14 or newer). `cdmboard log init URL` runs this file, in one transaction, as a superuser or as the
 -- database's owner with CREATEROLE; run again, it changes nothing but brings older tables up to date. A server's own user gets all that
--- it needs by `GRANT cdm_server TO user`.
+-- it needs by `GRANT cdm_server TO user`, and whoever only reads by `GRANT cdm_reader TO user`.
 DO $$ BEGIN
     IF NOT has_database_privilege(current_database(), 'CREATE') THEN
         RAISE EXCEPTION 'permission denied: log init needs a superuser, or the owner of the database with CREATEROLE';
     END IF;
     IF NOT EXISTS (SELECT FROM pg_roles WHERE rolname = 'cdm_owner') THEN CREATE ROLE cdm_owner NOLOGIN; END IF;
     IF NOT EXISTS (SELECT FROM pg_roles WHERE rolname = 'cdm_server') THEN CREATE ROLE cdm_server NOLOGIN; END IF;
+    IF NOT EXISTS (SELECT FROM pg_roles WHERE rolname = 'cdm_reader') THEN CREATE ROLE cdm_reader NOLOGIN; END IF;
     -- Who is no superuser may give a table to a role that it may become, and which may create in the schema; both until the end. From 16 on a
     -- member, as whoever made the role is, may not become it by that alone.
     IF NOT pg_has_role(current_user, 'cdm_owner', CASE WHEN current_setting('server_version_num')::integer < 160000 THEN 'MEMBER' ELSE 'SET' END) THEN
@@ -61,6 +62,12 @@ CREATE TABLE IF NOT EXISTS public.cdm_session (
 -- Digests of all replies up to a position, by which a program that replies otherwise is found.
 CREATE TABLE IF NOT EXISTS public.cdm_digest (
     board text NOT NULL, position integer NOT NULL, digest text NOT NULL CHECK (digest ~ '^[0-9a-f]{64}$'), PRIMARY KEY (board, position));
+-- No server makes one of another position, and none could be compared with it.
+DO $$ BEGIN
+    IF NOT EXISTS (SELECT FROM pg_constraint WHERE conname = 'cdm_digest_made') THEN
+        ALTER TABLE public.cdm_digest ADD CONSTRAINT cdm_digest_made CHECK (position % 1000 = 0) NOT VALID;
+    END IF;
+END $$;
 -- Who did what, and from where; for records the first position and how many there are.
 CREATE TABLE IF NOT EXISTS public.cdm_audit (
     board text NOT NULL, number bigint GENERATED ALWAYS AS IDENTITY PRIMARY KEY, at text NOT NULL, event text NOT NULL, desk text,
@@ -203,17 +210,21 @@ ALTER FUNCTION public.cdm_note(text, jsonb) OWNER TO cdm_owner;
 ALTER FUNCTION public.cdm_keep(text, jsonb) OWNER TO cdm_owner;
 ALTER FUNCTION public.cdm_sign_out(text, text, integer) OWNER TO cdm_owner;
 REVOKE ALL ON public.cdm_log, public.cdm_record, public.cdm_session, public.cdm_audit, public.cdm_digest, public.cdm_day
-    FROM PUBLIC, cdm_server;
+    FROM PUBLIC, cdm_server, cdm_reader;
 REVOKE ALL ON FUNCTION public.cdm_append(text, jsonb, text, bytea, text), public.cdm_note(text, jsonb), public.cdm_keep(text, jsonb),
     public.cdm_sign_out(text, text, integer), public.cdm_hold(text, text) FROM PUBLIC;
 GRANT SELECT ON public.cdm_log, public.cdm_record, public.cdm_session, public.cdm_audit, public.cdm_digest, public.cdm_day TO cdm_server;
 GRANT EXECUTE ON FUNCTION public.cdm_append(text, jsonb, text, bytea, text), public.cdm_note(text, jsonb), public.cdm_keep(text, jsonb),
     public.cdm_sign_out(text, text, integer), public.cdm_hold(text, text) TO cdm_server;
 GRANT USAGE ON SCHEMA public TO cdm_server;
+-- Whoever only reads gets neither the secrets nor a function.
+GRANT SELECT (board, id, airport, version) ON public.cdm_log TO cdm_reader;
+GRANT SELECT ON public.cdm_record, public.cdm_audit, public.cdm_digest, public.cdm_day TO cdm_reader;
+GRANT USAGE ON SCHEMA public TO cdm_reader;
 -- Nobody else has anything to do in this database.
 DO $$ BEGIN
     EXECUTE format('REVOKE CONNECT ON DATABASE %I FROM PUBLIC', current_database());
-    EXECUTE format('GRANT CONNECT ON DATABASE %I TO cdm_server', current_database());
+    EXECUTE format('GRANT CONNECT ON DATABASE %I TO cdm_server, cdm_reader', current_database());
     REVOKE CREATE ON SCHEMA public FROM cdm_owner;
     IF current_setting('cdmboard.was_member', true) = 'no' THEN
         EXECUTE format('REVOKE cdm_owner FROM %I', current_user);

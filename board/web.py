@@ -156,7 +156,7 @@ class Board:
         return web.json_response({
             "desk": desk.name or None, "role": desk.role, "kinds": kinds, "flights": desk.flights, "clock": desk.clock is not None,
             "left": max(0, desk.records - self.day.count_of(desk.name)) if kinds else 0, "log": self.log.id,
-            "roles": sorted(self.callers.desks.by_name) if self.callers.desks.is_open else []})
+            "day": self.day.date, "roles": sorted(self.callers.desks.by_name) if self.callers.desks.is_open else []})
 
     async def post_records(self, request: web.Request) -> web.Response:
         """The lines of the body are records of this desk."""

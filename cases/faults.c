@@ -1,7 +1,7 @@
 // Loaded before a program (LD_PRELOAD): logs its calls on files in the file FAULTS_LOG, one per line, and lets call number
 // FAULTS_AT end as FAULTS_KIND says: as a short read or write, interrupted by a signal, with an error of the device, or without
-// space left. Or another appends a record to journal.csv just before that call. It needs no header, and at run time only the C
-// library.
+// space left. Or another appends a record to journal.csv just before that call, or puts a copy of it in its place. It needs no header,
+// and at run time only the C library.
 typedef unsigned long size;
 extern long syscall(long, ...), atol(const char *);
 extern char *getenv(const char *);
@@ -52,6 +52,9 @@ static size put_file(char *line, size at, long file) {
     link[end] = 0;
     long length = syscall(sys_readlink, link, path, sizeof path - 1);
     path[length < 0 ? 0 : length] = 0;
+    // Behind the path of a file without a name stands a remark.
+    for (char *end = path; *end; end++)
+        if (*end == ' ') *end = 0;
     return put_word(line, at, last_part(path));
 }
 
@@ -81,12 +84,27 @@ static void append_other(void) {
     syscall(sys_close, file);
 }
 
+// Puts a copy of the journal in its place, as another process could.
+static void put_other(void) {
+    static char bytes[9000];
+    long file = syscall(sys_open, "journal.csv", 0, 0);
+    if (file < 0) return;
+    long length = syscall(sys_read, file, bytes, sizeof bytes);
+    syscall(sys_close, file);
+    file = syscall(sys_open, "journal.other", append_made, all_may);
+    if (file < 0) return;
+    syscall(sys_write, file, bytes, length);
+    syscall(sys_close, file);
+    syscall(sys_rename, "journal.other", "journal.csv");
+}
+
 // How this call ends: 0 as usual, -1 short, otherwise with this error.
 static long fault(void) {
     const char *at = getenv("FAULTS_AT"), *kind = getenv("FAULTS_KIND");
     calls++;
     if (!at || !kind || calls != atol(at)) return 0;
     if (kind[0] == 'a') return append_other(), 0;
+    if (kind[0] == 'r') return put_other(), 0;
     return kind[0] == 's' ? -1 : atol(kind);
 }
 

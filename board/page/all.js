@@ -6,6 +6,7 @@ import { Sorted, arrange, whenFree } from './hold.js';
 export const SLICE = 8; // ms of a task, after which others have their turn
 const CHUNK = 100;
 const MANY = 300;
+const LONGEST_DELAY = 9999;
 const LONG = 100; // ms after which a pause ends anyway
 /** Others have their turn. */
 export const breath = () => new Promise((go) => {
@@ -17,6 +18,8 @@ export class All {
   constructor(day, moves, filter) {
     Object.assign(this, { day, moves, filter, items: new Map() });
     this.isKnown = false; // until the first plan has come
+    this.sort = filter.values.sort;
+    $('#b-csv').addEventListener('click', async () => (await import('./csv.js')).save(day, this.shown()));
     this.groups = new Map(Object.entries(STATUSES).map(([status, { word }]) => [status, groupOf(status, word)]));
   }
 
@@ -27,12 +30,12 @@ export class All {
 
   /** Makes their rows in slices that leave time for others. Nothing of them is shown yet: those of a first plan are in tables that aren't either. */
   async make(names) {
-    const rows = names.map((name) => this.day.rows.get(name)).sort((one, other) => (keyOf(one) < keyOf(other) ? -1 : 1));
+    const rows = names.map((name) => this.day.rows.get(name)).sort((one, other) => (this.keyOf(one) < this.keyOf(other) ? -1 : 1));
     let began = performance.now();
     for (const { flight } of rows) {
       const row = this.day.rows.get(flight);
       if (row) this.write(this.itemOf(flight), row);
-      if (row && !this.isKnown) this.listOf(row).set(this.itemOf(flight), keyOf(row));
+      if (row && !this.isKnown) this.listOf(row).set(this.itemOf(flight), this.keyOf(row));
       if (document.hidden || performance.now() - began < SLICE) continue;
       await breath();
       began = performance.now();
@@ -61,14 +64,14 @@ export class All {
         continue;
       }
       this.write(item, row);
-      if (item.list !== this.listOf(row) || item.key !== keyOf(row)) moving.push(item);
+      if (item.list !== this.listOf(row) || item.key !== this.keyOf(row)) moving.push(item);
     }
     whenFree(() => this.place(moving));
   }
 
   place(moving) {
     const rows = moving.filter((item) => this.items.get(item.name) === item).map((item) => this.day.rows.get(item.name)).filter(Boolean);
-    arrange(rows.map((row) => [this.items.get(row.flight), this.listOf(row), keyOf(row)]));
+    arrange(rows.map((row) => [this.items.get(row.flight), this.listOf(row), this.keyOf(row)]));
     if (!this.isKnown) this.begin();
     this.counts();
   }
@@ -100,7 +103,25 @@ export class All {
       const row = this.day.rows.get(item.name);
       if (row) item.row.hidden = !this.filter.takes(row);
     }
-    this.counts();
+    if (this.sort === this.filter.values.sort) this.counts();
+    else this.ordered();
+  }
+
+  /** All rows in another order. */
+  ordered() {
+    this.sort = this.filter.values.sort;
+    whenFree(() => this.place([...this.items.values()]));
+  }
+
+  /** The Rows that are shown, in their order. */
+  shown() {
+    return [...this.groups.values()].flatMap(({ list }) => list.items).map((item) => this.day.rows.get(item.name)).filter((row) => row && this.filter.takes(row));
+  }
+
+  /** By TSAT; or the greatest delay first. */
+  keyOf(row) {
+    const key = `${row.tsat ?? '~'} ${row.flight}`;
+    return this.sort === 'delay' ? `${String(LONGEST_DELAY - (row.delay ?? -1)).padStart(5, '0')} ${key}` : key;
   }
 
   counts() {
@@ -117,7 +138,7 @@ export class All {
     }
     say($('#all h2 b'), all);
     say($('#count'), `${shown} of ${all} flights`);
-    this.filter.head(shown, all);
+    this.filter.head(shown, all, this.day.rows);
   }
 }
 
@@ -130,5 +151,3 @@ function groupOf(status, word) {
     el('div', { class: 'chunk' }, table.root));
   return { group, table, count, list: new Sorted(table.body, CHUNK) };
 }
-
-const keyOf = (row) => `${row.tsat ?? '~'} ${row.flight}`;

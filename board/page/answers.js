@@ -1,5 +1,5 @@
 // Part of the page's machine: what it knows, on which its other parts build; requests go out, and each answer is taken by its name.
-import { Day } from './day.js';
+import { Day, isSameMoment } from './day.js';
 import { DEADLINE, HEALTH, HEALTH_OLD, VIEWS } from './limits.js';
 import { Questions, spread } from './questions.js';
 import { Sending } from './sending.js';
@@ -16,15 +16,16 @@ class Knowing {
     /** @type {Map<number, object>} what is asked for and not yet answered */
     this.asks = new Map();
     Object.assign(this, { at: 0, now: 0, number: 0, role, who: null, kinds: null, was: null, isForgotten: false, isOut: false, isNew: true });
-    /** @type {Moment | null} of which moment the rows are; @type {(Moment & {isOther: boolean}) | null} which one is to be read */
+    /** @type {Moment | null} of which moment the rows are; @type {Moment | null} which one is to be read */
     this.rows = null;
     this.need = null;
+    this.isGone = false; // whether the rows' past is known to be gone: what is read is of another day, or of another past of this one
     this.isUntold = false; // whether the rows' moment is one of which the events have told no record
     this.queue = [];
     this.stream = null;
     Object.assign(this, { reopenAt: 0, eventsAsTold: 0, failures: 0, lost: null, oldSince: null, staleSince: null, isStaleRead: false });
-    Object.assign(this, { strangers: 0, staleReads: 0, isFirst: true, told: '', isEnabled: null, wakeAt: null });
-    /** @type {Map<string, number>} of which position the answer to a question is that is shown */
+    Object.assign(this, { strangers: 0, staleReads: 0, isFirst: true, told: null, toldWhyNot: null, wakeAt: null });
+    /** @type {Map<string, Moment>} of which moment the answer to a question is that is shown */
     this.had = new Map();
     Object.assign(this, { totals: null, held: null, view: null, operators: false, operatorsAt: Infinity, history: null, seen: Infinity });
     Object.assign(this, { isBroken: false, faults: 0, lostSince: null, hasStale: false }); // isBroken: a box has failed to show rows
@@ -49,17 +50,21 @@ export class Answers extends Knowing {
 
   /** Sends a request; its answer is taken by its name. */
   send_(ask, most) {
-    const id = this.number += 1;
-    this.asks.set(id, { ...ask, id, until: this.at + most });
-    const { name, path, method, body, accept, after, key } = ask;
+    ask.id = this.number += 1;
+    ask.until = this.at + most;
+    this.asks.set(ask.id, ask);
+    const { id, name, path, method, body, accept, after, key } = ask;
     this.order({ do: 'ask', id, name, path, method, body, accept, after: after || 0, key, role: this.role });
-    return id;
   }
 
   abandon(ask) {
     this.asks.delete(ask.id);
     if (ask.isQuestion) this.questions.forget(ask.name);
     this.order({ do: 'abandon', id: ask.id });
+  }
+
+  abandonAll(name) {
+    for (const ask of [...this.asks.values()]) if (ask.name === name) this.abandon(ask);
   }
 
   /** No answer came in time. */
@@ -127,10 +132,12 @@ export class Answers extends Knowing {
     else if (isTaken) this.order({ do: 'say', what: 'answered', name: ask.name });
   }
 
-  /** Whether an answer is of the log of which the rows are, and not older than what is shown. */
-  isOfRows({ log, position }) {
+  /** Whether an answer is of the log of which the rows are, and, where it is of their position, of their past. */
+  isOfRows({ log, position, lastAt, stale }) {
+    const { rows } = this;
     if (!Number.isInteger(position) || !log) throw new Error('of no moment');
-    if (log !== this.rows.log) return this.isStranger();
+    if (log !== rows.log) return this.isStranger();
+    if (position === rows.position && !isSameMoment({ log, position, lastAt }, rows)) return !stale && this.isStranger();
     this.strangers = 0;
     return true;
   }
@@ -148,11 +155,12 @@ export class Answers extends Knowing {
       this.questions.wantNow(ask.name, this.at);
       return true;
     }
-    if (event.position < (this.had.get(ask.name) ?? -1) && VIEWS.includes(ask.name)) return false;
+    if (event.position < (this.had.get(ask.name)?.position ?? -1) && VIEWS.includes(ask.name)) return false;
     if (ask.name === 'totals' && event.stale && !this.isStaleRead) return false;
     this.hasStale ||= Boolean(event.stale);
-    if (ask.name === 'totals') this.holdTotals(list[0], event.position);
-    else this.showAnswer(ask.name, list, event.position);
+    const of = { log: event.log, position: event.position, lastAt: event.lastAt };
+    if (ask.name === 'totals') this.holdTotals(list[0], of);
+    else this.showAnswer(ask.name, list, of);
     const isNow = event.position >= this.rows.position;
     if (ask.name === 'operators') this.takeOperators(isNow, event.position);
     return isNow;

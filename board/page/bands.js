@@ -1,5 +1,6 @@
 // Each runway's hours from NOW on, drawn from the program's `load`: a column a cell, a block a place.
-import { $, el } from './dom.js';
+import { $, el, say } from './dom.js';
+import { showRunways } from './state.js';
 import { hm, later, minutesFrom, nextDay } from './times.js';
 
 const MOST_CELLS = 15;
@@ -9,7 +10,7 @@ const CELL = 4; // rem: the widest name fits
 
 export class Bands {
   constructor(day) {
-    Object.assign(this, { day, runways: [], other: null, bands: new Map() });
+    Object.assign(this, { day, runways: [], other: null, bands: new Map(), buttonOf: null });
   }
 
   take(runways) {
@@ -26,10 +27,12 @@ export class Bands {
   show() {
     const root = $('#runways');
     const withFlights = this.runways.length <= 4;
+    const drawn = [];
     for (const runway of this.runways) {
       const now = runway.now ?? this.day.now; // a load without NOW of its own is drawn from the day's
       if (!now) continue;
       const cells = cellsOf(runway, now, this.day.date);
+      drawn.push({ runway, cells });
       const other = this.other && likeOf(this.other.find((one) => one.runway === runway.runway), cells);
       const text = JSON.stringify([this.day.date, cells, now, other, withFlights]);
       const band = this.bands.get(runway.runway) ?? this.make(runway.runway);
@@ -44,22 +47,39 @@ export class Bands {
       }
     }
     $('.empty', root).hidden = this.runways.length > 0;
+    showRunways(drawn, this.day.date);
   }
 
   make(name) {
-    const head = el('h3', { id: `rw-${name}` });
+    const [state, cells] = [el('b'), el('small')];
+    const head = el('h3', { id: `rw-${name}` }, name, ' ', state, ' ', cells);
     const table = el('table', { 'aria-label': `Runway ${name}, load of each cell` });
     const scroll = el('div', { class: 'scroll', tabindex: 0, role: 'region', 'aria-label': `Runway ${name}, hours from NOW` }, table);
-    const band = { root: el('section', { class: 'band', 'aria-labelledby': `rw-${name}` }, head, scroll), head, table, text: '' };
+    const band = { root: el('section', { class: 'band', 'aria-labelledby': `rw-${name}` }, head, scroll), head, state, cells, table, text: '', button: null };
     this.bands.set(name, band);
+    this.offer(name, band);
     $('#runways').append(band.root);
     return band;
   }
 
+  /** A button in each head: buttonOf(runway, root) makes it, or null where there is none. */
+  offerAll(buttonOf) {
+    this.buttonOf = buttonOf;
+    for (const [name, band] of this.bands) this.offer(name, band);
+  }
+
+  offer(name, band) {
+    const button = this.buttonOf?.(name, band.root) ?? null;
+    if (Boolean(button) === Boolean(band.button)) return;
+    if (button) band.head.append(' ', button);
+    else band.button.remove();
+    band.button = button;
+  }
+
   draw(band, runway, cells, other, withFlights) {
     const { date } = this.day;
-    band.head.replaceChildren(runway.runway, ' ', el('b', {}, stateOf(cells, runway, date)), ' ',
-      el('small', {}, `cells of ${runway.cell} min`));
+    say(band.state, stateOf(cells, runway, date));
+    say(band.cells, `cells of ${runway.cell} min`);
     band.table.style.minWidth = `calc(${3.25 + cells.length * CELL}rem * var(--wide, 1))`;
     const heads = cells.map((cell) => el('th', { scope: 'col', class: cell.from.slice(14, 16) === '00' && 'hour' }, hm(cell.from, date)));
     const bodies = [el('tbody', {}, ...rowsOf('load', cells, runway, withFlights))];

@@ -62,6 +62,10 @@ export const TABLES = {
 /** The columns whose change is marked. */
 export const MARKED = Object.keys(COLUMNS).filter((name) => COLUMNS[name].isMarked);
 
+/** Why a flight waits: the page's word for each reason of the program, and the letter of its colour. */
+export const REASONS = { ICE: 'de-icing', CTOT: 'CTOT', CLOSURE: 'closure', SPACING: 'spacing', RATE: 'rate', NOW: 'now' };
+export const LETTERS = { ICE: 'I', NOW: 'N', CTOT: 'C', CLOSURE: 'X', SPACING: 'S', RATE: 'R' };
+
 /** A member in words, as `priority 5`, `no stand`. */
 export function inWords(name, value, label = COLUMNS[name].label.toLowerCase()) {
   return value == null || value === '' ? `no ${label}` : `${label} ${value}`;
@@ -121,6 +125,7 @@ export function write(item, row, date, marked = []) {
     if (COLUMNS[name].print) tell(item, name, COLUMNS[name].print(row[name], date));
     if (areOthers) item.cells[name].classList.toggle('mv', marked.includes(name));
   }
+  if (item.cells.ctot) flag(item, 'held', row.ctot !== null, item.cells.ctot);
   if (item.late && item.late.hidden === isLate(row)) item.late.hidden = !isLate(row);
 }
 

@@ -4,6 +4,12 @@
 export const LATE = 15;
 export const isLate = (row) => row.delay != null && row.delay > LATE;
 
+/** Whether two moments are of one past of a log: the same record stands at the same position. One that doesn't say when it was taken is. */
+export const isSameMoment = (one, other) => one.log === other.log && one.position === other.position && (one.lastAt ?? other.lastAt) === (other.lastAt ?? one.lastAt);
+
+/** Whether what is of a moment is older than what is of another one, or, at the same position, of another past. */
+export const isOlder = (one, other) => one.position < other.position || one.position === other.position && !isSameMoment(one, other);
+
 /** Whether two Rows are the same: in all their members, also in those that no table shows. */
 export function isSame(one, other) {
   const names = Object.keys(one);

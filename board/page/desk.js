@@ -16,7 +16,7 @@ function keptRole() {
 export class Desk {
   /** @param {(event: object) => void} give takes signIn, signOut, role and tab */
   constructor(give) {
-    Object.assign(this, { give, who: null, table: null });
+    Object.assign(this, { give, who: null, table: null, Form: null, movedOn: null, toScenario: null }); // Form, movedOn: with the table of kinds
     said.role = keptRole();
     this.channel = new BroadcastChannel('cdm-desk');
     this.channel.addEventListener('message', () => give({ type: 'tab' }));
@@ -79,6 +79,13 @@ export class Desk {
   kindsOf(flight) {
     if (!this.mayAll || this.who.flights && !this.who.flights.some((name) => flight.startsWith(name))) return [];
     return this.mayAll.filter((kind) => kind.of === 'flight' && kind.kind !== 'FLT');
+  }
+
+  /** Whether it may send a record. */
+  maySend(line) {
+    const [word, name = ''] = line.split(',');
+    const kind = this.mayAll?.find((one) => one.kind === word);
+    return Boolean(kind) && (kind.of !== 'flight' || !this.who.flights || this.who.flights.some((one) => name.startsWith(one)));
   }
 
   /** All kinds that it may send. */

@@ -14,6 +14,11 @@ export function el(tag, attributes = {}, ...children) {
   return node;
 }
 
+/** Takes in a style sheet of the page that isn't needed at first. */
+export function styled(address) {
+  if (!$(`link[href="${address}"]`)) document.head.append(el('link', { rel: 'stylesheet', href: address }));
+}
+
 /** Puts a text in, if it isn't there already. */
 export function say(node, text) {
   const now = String(text);

@@ -1,12 +1,11 @@
 // One flight: what it is, why it waits, what to send, and its records.
-import { facts, inWords, statusWord, takesKind, write } from './columns.js';
+import { LETTERS, facts, inWords, statusWord, takesKind, write } from './columns.js';
 import { $, $$, el, say } from './dom.js';
-import { RecordForm, showRecords } from './form.js';
 import { Problem, objects } from './net.js';
+import { showRecords } from './records.js';
 import { hm, later, minutesFrom } from './times.js';
 import { current, explained } from './warnings.js';
 
-const LETTERS = { ICE: 'I', NOW: 'N', CTOT: 'C', CLOSURE: 'X', SPACING: 'S', RATE: 'R' };
 const LATER = 10;
 const DRAWN = 180;
 const BEHIND = 30; // minutes that are drawn behind a window that has ended
@@ -24,14 +23,20 @@ export class FlightPanel {
     this.root = $('#p-flight');
     this.facts = facts($('.facts', this.root));
     current.addEventListener('told', () => this.warned());
+    $('#f-link').addEventListener('click', () => this.copyLink());
   }
 
+  /** Shows a flight, or the same one of another day: then a form that is used stays. */
   open(name) {
-    Object.assign(this, { name, form: null, answered: '', why: '', isWhole: false });
+    const form = name === this.name && this.form?.isUsed ? this.form : null;
+    Object.assign(this, { name, form, answered: '', why: '', isWhole: false });
     say($('h2 span', this.root), name);
     $('.x-close', this.root).setAttribute('aria-label', `Close ${name}`);
-    for (const id of ['waits', 'f-later', 'f-form', 'f-records']) $(`#${id}`).replaceChildren();
+    for (const id of ['waits', 'f-later', 'f-records']) $(`#${id}`).replaceChildren();
+    if (!form) $('#f-form').replaceChildren();
     say($('#why-note'), '…');
+    say($('#f-link'), 'Copy link');
+    $('#f-address').hidden = true;
     $('#wait').replaceChildren();
     say($('#wait-ends'), '');
     this.changed();
@@ -39,6 +44,20 @@ export class FlightPanel {
 
   close() {
     this.name = null;
+  }
+
+  /** Its address goes to the clipboard; where the browser has none, it stands there to be taken. */
+  async copyLink() {
+    const address = `${location.origin}${location.pathname}#${this.name}`;
+    const field = $('#f-address');
+    try {
+      await navigator.clipboard.writeText(address);
+      say($('#f-link'), 'Copied');
+    } catch {
+      field.value = address;
+      field.hidden = false;
+      field.select();
+    }
   }
 
   get row() {
@@ -60,19 +79,21 @@ export class FlightPanel {
     write(this.facts, row, date);
     this.warned();
     if (this.answered !== JSON.stringify([row.tobt, row.status])) this.makeForm();
+    else if (this.form && this.laterOf !== date) this.askLater();
   }
 
   /** What its warnings mean, what to do, and a button for each record that answers them and that the desk may send. */
   warned() {
-    const list = this.name && this.row ? explained(this.name, this.day.date) : [];
+    const list = this.name && this.row ? explained(current.list.filter((one) => one.flight === this.name), this.day.date) : [];
     const text = JSON.stringify([this.name, list, this.kinds().map((kind) => kind.kind)]);
     if (text === this.told) return;
     this.told = text;
     $('#f-warnings').hidden = !list.length;
     $('#f-warnings').replaceChildren(...list.map(({ kind, means, act, answers }) => el('li', {}, el('b', {}, kind), ` ${means} ${act} `,
-      ...this.kinds().filter((one) => answers.includes(one.kind)).map(({ kind: record }) => {
-        const button = el('button', { type: 'button', class: 'quiet' }, `Put ${record} into the form`);
-        button.addEventListener('click', () => this.form?.propose(record));
+      ...answers.filter((one) => this.kinds().some((other) => other.kind === one.kind)).map(({ kind: record, time }) => {
+        const at = time ? [hm(time, this.day.date)] : [];
+        const button = el('button', { type: 'button', class: 'quiet' }, `Put ${[record, ...at].join(' ')} into the form`);
+        button.addEventListener('click', () => this.form?.propose(record, ...at));
         return button;
       }))));
   }
@@ -99,9 +120,8 @@ export class FlightPanel {
     if (this.form?.isUsed) {
       this.form.offer(kinds, row);
     } else {
-      this.form = new RecordForm(kinds, { flight: this.name, row, day: this.day, runways: this.runways, onSend: this.onSend,
-        label: `One record for ${this.name}` });
-      this.form.enable(!document.documentElement.classList.contains('is-lost'));
+      this.form = new this.desk.Form(kinds, { flight: this.name, row, day: this.day, runways: this.runways, onSend: this.onSend,
+        toScenario: this.desk.toScenario, label: `One record for ${this.name}` });
       $('#f-form').replaceChildren(this.form.root);
     }
     this.askLater();
@@ -111,6 +131,7 @@ export class FlightPanel {
   async askLater() {
     const { name, row } = this;
     const root = $('#f-later');
+    this.laterOf = this.day.date;
     root.replaceChildren();
     if (!row.tobt || !['PLANNED', 'BLOCKED'].includes(row.status) || !this.kinds().some((kind) => kind.kind === 'TOBT')) return;
     const time = later(row.tobt, LATER);
@@ -203,8 +224,4 @@ function blockedWords(row, waits, date) {
   if (last.reason !== 'CTOT') return `Blocked by ${row.rule}: no minute from ${from} to ${hm(last.to, date)} is free.`;
   if (waits.length === 1) return `Blocked by ${row.rule}: it can take off from ${from} on, and then its CTOT window has ended.`;
   return `Blocked by ${row.rule}: no minute from ${from} to ${hm(later(last.from, -1), date)}, the end of its CTOT window, is free.`;
-}
-
-export function enableForms(isOn) {
-  for (const button of $$('.panel:not(#p-sign-in) form button:not([type=button])')) button.disabled = !isOn;
 }

@@ -1,7 +1,8 @@
 // Part of the page's machine: the events, lost and found again, and their text, wherever it is cut into chunks.
+import { isSameMoment } from './day.js';
 import { OPENING, REOPEN, START_WAIT, SOON, HEALTH, MOST_QUEUED, VIEWS } from './limits.js';
 import { pauseAfter, spread } from './questions.js';
-import { Reading, isSameMoment } from './reading.js';
+import { Reading } from './reading.js';
 
 const MOST_UNENDED = 4 << 20; // characters; the server writes at most half a MiB at once
 
@@ -33,11 +34,11 @@ function eventOf(block) {
 /**
  * A moment as the server writes it, `LOGID-POSITION`.
  * @param {string} id
- * @returns {{log: string, position: number} | null}
+ * @returns {Moment | null}
  */
 function momentOf(id) {
   const found = /^(.+)-(\d{1,15})$/.exec(id);
-  return found ? { log: found[1], position: Number(found[2]) } : null;
+  return found ? { log: found[1], position: Number(found[2]), lastAt: undefined } : null;
 }
 
 class Chunks {
@@ -147,7 +148,10 @@ export class Following extends Reading {
     const moment = momentOf(id);
     const was = this.stream.moment;
     const told = OF_MOMENT.includes(name) ? JSON.parse(data) : null;
-    if (moment) this.stream.moment = { ...moment, lastAt: told?.at ?? (moment.position === was?.position ? was.lastAt : undefined) };
+    if (moment) {
+      moment.lastAt = told?.at ?? (moment.position === was?.position ? was.lastAt : undefined);
+      this.stream.moment = moment;
+    }
     if (name === 'end') this.order({ do: 'say', what: 'end' });
     else if (name === 'from') this.takeFrom();
     else if (name === 'reset' || moment && was && moment.log !== was.log) {
@@ -169,7 +173,7 @@ export class Following extends Reading {
     stream.isTold = true;
     this.isUntold = false;
     if (!rows) this.readFirst();
-    else if (isSameMoment(rows, stream.moment) && !this.isBroken) this.oldSince = null;
+    else if (isSameMoment(rows, stream.moment) && !this.isBroken) Object.assign(this, { oldSince: null, isGone: false });
     else this.readAnew(!isSameMoment(rows, stream.moment));
   }
 

@@ -1,6 +1,6 @@
 // NOW, the totals, and how the connection is, in words; light or dark.
 import { $, el, say } from './dom.js';
-import { clock, objects, Problem } from './net.js';
+import { clock, needed, objects, Problem } from './net.js';
 import { recordText } from './moves.js';
 import { dayText, hm, hms } from './times.js';
 
@@ -9,6 +9,8 @@ const PAUSE = 10000;
 const THEME = 'cdm-theme';
 const SHORT = /(?<=[BO]T )(\d\d)(\d\d)(\d\d)/g; // a time of the program's text: its date, hour and minute
 const root = document.documentElement;
+/** What the window's name says first: what has just moved. */
+export const notice = { text: '' };
 const SENT = { taken: 'Accepted', refused: 'Refused', 'not taken': 'Not taken', 'not known': 'It isn’t known whether this was taken', 'not sent': 'Not sent' };
 
 export class Head {
@@ -37,12 +39,23 @@ export class Head {
     box.showPopover();
     try {
       const [{ told, before, next }] = (await objects('/v1/day.json')).list;
-      box.replaceChildren(`Before ${dayText(next)}`, el('pre', {}, told.join('\n').replace(SHORT, '$1 $2:$3')), before ? el('a', { href: `/v1/plan?day=${before}` }, `Plan of ${dayText(before)}`) : '');
+      box.replaceChildren(`Before ${dayText(next)}`, el('pre', {}, told.join('\n').replace(SHORT, '$1 $2:$3')), before ? this.past(box, before) : '');
     } catch (problem) {
       if (!(problem instanceof Problem)) throw problem;
       box.replaceChildren(`No answer: ${problem.message}.`);
     }
     box.focus();
+  }
+
+  /** A link to the plan of the day before, which is shown in the same box. */
+  past(box, before) {
+    const link = el('a', { href: `/v1/plan?day=${before}` }, `Plan of ${dayText(before)}`);
+    link.addEventListener('click', async (event) => {
+      if (event.ctrlKey || event.metaKey || event.shiftKey) return;
+      event.preventDefault();
+      (await needed('past')).showPast(box, before);
+    });
+    return link;
   }
 
   now() {
@@ -59,7 +72,7 @@ export class Head {
   title() {
     const isOut = root.classList.contains('is-out');
     if (isOut) $('#day').hidePopover();
-    document.title = `${this.day.date && !isOut ? `${hm(this.day.now, this.day.date)} ` : ''}Start-up board`;
+    document.title = `${isOut ? '' : notice.text}${this.day.date && !isOut ? `${hm(this.day.now, this.day.date)} ` : ''}Start-up board`;
   }
 
   /** A CLOCK was taken at this moment of the server's clock; null: none is known, since the page was opened. */

@@ -51,7 +51,7 @@ function rowsInSight() {
   const main = document.querySelector('main').getBoundingClientRect();
   const rows = new Map();
   for (let y = Math.max(60, main.top + 4); y < innerHeight; y += 24) {
-    const row = document.elementFromPoint(main.left + 40, y)?.closest('tbody tr');
+    const row = document.elementFromPoint(main.left + 40, y)?.closest('tr[data-flight]');
     if (row && !rows.has(row)) rows.set(row, row.getBoundingClientRect().top);
   }
   return [...rows];

@@ -9,13 +9,21 @@ import { QUIET, OPENING, RECORD_DEADLINE, SOON, LOG } from './limits.js';
  * stale, retry, detail, isOwn}; heard {status, stale}: of a question that a box asked by itself; send {form, line, key};
  * signIn {desk, token}; signOut; role {role}; tab; panel {open, flight}; causes {isOpen, by}; seen {position}; fault {part, detail}.
  * What goes out: ask {id, name, path, method, body, accept, after, key, role}, abandon {id}, open {stream, since, role}, close {stream},
- * wait {until}, show {what, ..}, say {what, ..}, enable {isOn}, tell {word} (to other tabs).
+ * wait {until}, show {what, ..}, say {what, ..}, enable {why}, tell {word} (to other tabs).
  * @typedef {{type: string, at: number, now: number} & Record<string, any>} Incoming
  * @typedef {{do: 'ask' | 'abandon' | 'open' | 'close' | 'wait' | 'show' | 'say' | 'enable' | 'tell'} & Record<string, any>} Order
  * @typedef {'new' | 'reading' | 'live' | 'behind' | 'lost' | 'out'} State
  * A moment of a log; `lastAt`: when its record was taken, as far as it is known. A log that has lost records has others in their places.
  * @typedef {{log: string, position: number, lastAt?: string}} Moment
  */
+
+/** The method that takes an event of a type. */
+const methods = new Map();
+
+function methodOf(type) {
+  if (!methods.has(type)) methods.set(type, `on${type[0].toUpperCase()}${type.slice(1)}`);
+  return methods.get(type);
+}
 
 export class Machine extends Following {
   /** @returns {State} */
@@ -61,7 +69,7 @@ export class Machine extends Following {
   take(event) {
     this.at = event.at;
     this.now = event.now;
-    this[`on${event.type[0].toUpperCase()}${event.type.slice(1)}`](event);
+    this[methodOf(event.type)](event);
     this.work();
     const { orders } = this;
     this.orders = [];
@@ -159,16 +167,23 @@ export class Machine extends Following {
     const { state } = this;
     const since = state === 'lost' ? this.lost.since : state === 'behind' ? this.staleSince : this.oldSince;
     const detail = this.lost?.detail ?? '';
-    const told = `${state} ${since} ${detail}`;
-    if (told !== this.told) {
-      this.told = told;
+    const { told } = this;
+    if (state !== told?.state || since !== told.since || detail !== told.detail) {
+      this.told = { state, since, detail };
       this.order({ do: 'say', what: 'state', state, since, detail, lostSince: this.lostSince, position: this.rows?.position ?? null, was: this.was });
       if (state === 'live' || state === 'behind') Object.assign(this, { lostSince: null, was: null });
       if (state === 'out') this.was = null;
     }
-    const isEnabled = ['live', 'behind'].includes(state) || state === 'reading' && this.stream?.isOpen === true;
-    if (isEnabled === this.isEnabled) return;
-    this.isEnabled = isEnabled;
-    this.order({ do: 'enable', isOn: isEnabled });
+    const why = this.whyNot(state);
+    if (why === this.toldWhyNot) return;
+    this.toldWhyNot = why;
+    this.order({ do: 'enable', why });
+  }
+
+  /** Why no record can be sent in a state: `opening`, `lost` or `away`, which is the log; '' where one can. */
+  whyNot(state) {
+    if (state === 'lost') return 'lost';
+    if (state === 'new' || !this.stream?.isOpen) return 'opening';
+    return this.staleSince ? 'away' : '';
   }
 }

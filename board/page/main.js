@@ -5,19 +5,20 @@ import { Bands } from './bands.js';
 import { Blocked, Causes } from './blocked.js';
 import { Desk } from './desk.js';
 import { Filter } from './filter.js';
-import { FlightPanel, enableForms } from './flight.js';
-import { RecordForm, showRecords } from './form.js';
+import { FlightPanel } from './flight.js';
 import { Connection, Head, startTheme } from './head.js';
 import { anchored, turn } from './hold.js';
 import { Machine } from './machine.js';
 import { Moves } from './moves.js';
-import { clock, heard, request, said, Streams } from './net.js';
+import { clock, heard, needed, request, said, Streams } from './net.js';
 import { Next } from './next.js';
 import { Panels } from './panels.js';
 import { Picture } from './picture.js';
+import { enableForms } from './press.js';
+import { showRecords } from './records.js';
+import { openKeys, showAct, startState } from './state.js';
 import { hms } from './times.js';
 import { Warnings } from './warnings.js';
-import { WhatIf } from './whatif.js';
 
 const FEW = 100; // so many rows are made at once
 const ASIDE = ['ask', 'abandon', 'open', 'close', 'wait']; // orders by which nothing is shown
@@ -28,12 +29,15 @@ const { day } = machine;
 const head = new Head(day);
 const connection = new Connection(head);
 const moves = new Moves(day, (names) => give(() => show(names)));
-const filter = new Filter(() => again(all, next, blocked));
+const filter = new Filter(() => {
+  again(all, next, blocked);
+  showCauses();
+});
 const [all, next, blocked] = [new All(day, moves, filter), new Next(day, moves, filter), new Blocked(day, moves, filter)];
 const warnings = new Warnings(day, filter);
 const bands = new Bands(day);
 const runways = () => bands.runways.map((one) => one.runway);
-const whatIf = new WhatIf(day, bands, new Picture());
+const picture = new Picture();
 const causes = new Causes(() => give({ type: 'causes', isOpen: causes.isWanted, by: causes.select.value }));
 const flight = new FlightPanel(day, desk, runways, send);
 const streams = new Streams(give);
@@ -43,6 +47,9 @@ const events = []; // what the machine hasn't taken yet, and what else is to be 
 const unwritten = new Set(); // flights whose rows are to be written
 let newest = null; // the record that changed them last, how many start-ups it moved, and how many records there were
 let operators = [];
+let causesList = [];
+let mine = null; // my flights, of a desk that sends for its own alone
+let closings = null; // the runways' own forms, with the table of kinds
 let shownNow = '';
 let lastRecord = null; // of those that came before the page was opened
 let timer = 0;
@@ -59,6 +66,42 @@ const sendPanel = {
   },
   close: closed,
 };
+/** The what-if, which is loaded as soon as it is needed. */
+function whatIf() {
+  whatIf.made ??= needed('whatif').then(({ WhatIf }) => new WhatIf({ day, bands, picture, desk, runways, send })).catch((fault) => {
+    whatIf.made = null;
+    throw fault;
+  });
+  return whatIf.made;
+}
+desk.toScenario = async (line) => (await whatIf()).add(line);
+const whatIfPanel = {
+  open: () => whatIf().then((one) => panels.open === 'what-if' && one.open()),
+  close: () => whatIf.made?.then((one) => one.close()),
+};
+$('#p-what-if form').addEventListener('submit', (event) => {
+  event.preventDefault();
+  whatIf().then((one) => one.compare());
+});
+/** What to do about each warning, likewise. */
+function toDo() {
+  toDo.made ??= needed('act').then(({ Act }) => new Act({ day, moves, desk, warnings, propose })).catch((fault) => {
+    toDo.made = null;
+    throw fault;
+  });
+  return toDo.made;
+}
+const toDoPanel = {
+  open: () => toDo().then((one) => panels.open === 'act' && one.open()),
+  close: () => toDo.made?.then((one) => one.close()),
+};
+
+/** Puts a record into a flight's form, as a proposal; its panel is opened. */
+function propose(name, kind, ...values) {
+  addEventListener('hashchange', () => give(() => flight.form?.propose(kind, ...values)), { once: true });
+  panels.go(name);
+}
+
 const panels = new Panels({
   flight: {
     open(name) {
@@ -69,7 +112,7 @@ const panels = new Panels({
       flight.close();
       closed();
     } },
-  'what-if': whatIf, send: sendPanel, 'sign-in': { open() {}, close() {} } });
+  'what-if': whatIfPanel, act: toDoPanel, send: sendPanel, 'sign-in': { open() {}, close() {} }, keys: { open: openKeys, close() {} } });
 
 function closed() {
   give({ type: 'openPanel', open: null, flight: null });
@@ -78,10 +121,15 @@ function closed() {
 /** The form of records that are of no flight. */
 function makeForm() {
   const kinds = desk.mayAll ?? [];
-  const form = kinds.length && new RecordForm(kinds, { flight: null, row: null, day, runways, onSend: send, label: 'One record' });
+  const form = kinds.length && new desk.Form(kinds, { flight: null, row: null, day, runways, onSend: send, toScenario: desk.toScenario, label: 'One record' });
   $('#s-form').replaceChildren(...(form ? [form.root] : []));
   say($('#p-send h2 small'), `as ${desk.words}`);
-  enableForms(!root.classList.contains('is-lost'));
+}
+
+/** What the desk that speaks may do beside its forms. */
+function offered() {
+  toDo.made?.then((one) => one.changed());
+  if (closings) bands.offerAll((runway, root) => closings.buttonOf(runway, root));
 }
 
 /** A record of a form. */
@@ -189,26 +237,35 @@ const DONE = {
   },
   show: (order) => SHOWN[order.what](order),
   say: (order) => SAID[order.what](order),
-  enable: ({ isOn }) => enableForms(isOn),
+  enable: ({ why }) => enableForms(why),
   tell: ({ word }) => desk.tell(word),
 };
 
-/** Who speaks and what it may send, but for how many. */
-const speaks = (who) => JSON.stringify({ ...who, left: 0 });
+/** Who speaks and what it may send, but for how many, and in which day. */
+const speaks = (who) => JSON.stringify({ ...who, left: 0, day: '', log: '' });
 
 /** What it shows. */
 const SHOWN = {
   who({ who, role = '' }) {
     const isSame = speaks(who) === speaks(desk.who);
     desk.show(who, role);
+    filter.owns(who?.flights ?? null);
+    startMine();
+    if (!isSame) offered();
     if (!who || isSame) return; // what is being typed stays
     flight.changed();
     if (flight.name) flight.makeForm();
     if (panels.open === 'send' && !$('#s-form form')) makeForm();
   },
-  kinds({ kinds }) {
-    desk.table = kinds;
-    if (flight.name) flight.makeForm();
+  async kinds({ kinds }) {
+    const [{ RecordForm, movedOn }, { Closings }] = await Promise.all([needed('form'), needed('closing')]);
+    give(() => {
+      Object.assign(desk, { table: kinds, Form: RecordForm, movedOn });
+      closings = new Closings({ day, desk, onSend: send });
+      offered();
+      if (flight.name) flight.makeForm();
+      if (panels.open === 'send') makeForm();
+    });
   },
   plan: showPlan,
   rows: write,
@@ -260,20 +317,30 @@ const ANSWERED = {
   records: (list) => flight.takeRecords(list),
   warnings(list, position) {
     head.warnings(warnings.take(list), position);
+    all.counts();
     next.tag(warnings.tags);
+    showAct(list);
   },
   load(list) {
     bands.take(list);
-    whatIf.hint();
+    whatIf.made?.then((one) => one.hint());
     filter.offer(runways(), operators);
   },
   log: (list) => showRecords($('#s-records'), list),
-  causes: (list) => causes.take(list),
+  causes(list) {
+    causesList = list;
+    showCauses();
+  },
   operators(list) {
     operators = list.map((one) => one.group).filter((name) => name !== 'TOTAL' && name !== '-');
     filter.offer(runways(), operators);
   },
 };
+
+/** The delay by cause, of what the filter shows. */
+function showCauses() {
+  if (causesList.length) causes.take(filter.causesOf(causesList, causes.select.value));
+}
 
 /** Where a box says why it has no answer. */
 const FAULTS = { next: '#next .fault', warnings: '#warnings .fault', load: '#runways .fault' };
@@ -303,8 +370,20 @@ function showPlan({ changed, isFirst, isOther, isNext, isWhole }) {
     moves.forget([...changed.keys()].filter((name) => !day.rows.has(name)));
   } else if (!isWhole) {
     moves.note(changed, null);
+    mine?.moved(changed);
   }
   show([...(isFirst ? day.rows.keys() : isWhole ? all.items.keys() : []), ...changed.keys()]);
+}
+
+/** What my flights are made of is loaded by who has some. */
+async function startMine() {
+  if (mine || !desk.who?.flights) {
+    mine?.show();
+    return;
+  }
+  const { Mine } = await import('./mine.js');
+  mine ??= new Mine({ day, moves, desk, causeOf: (name) => next.items.get(name)?.cause ?? null, send, title: () => head.title() });
+  give(() => mine.show());
 }
 
 /** Records that came together. */
@@ -313,6 +392,7 @@ function showReplies(replies) {
   for (const { reply, changed } of replies) {
     newest = [reply, moves.note(changed, reply), (newest?.[2] ?? 0) + 1];
     for (const name of changed.keys()) names.add(name);
+    mine?.moved(changed, reply);
     if (reply.line.startsWith('CLOCK,')) head.clockTaken(reply.at);
   }
   show(names);
@@ -338,7 +418,9 @@ function write() {
   if (now !== shownNow) head.now();
   shownNow = now;
   if (names.includes(flight.name) || !flight.row) flight.changed();
+  mine?.show();
   panels.mark();
+  desk.movedOn?.();
   root.classList.remove('is-new');
   if (newest) head.record(...newest);
   newest = null;
@@ -368,8 +450,8 @@ function empty() {
   $('#causes tbody').replaceChildren();
   give(() => { // the rows of the other day are shown first
     if (flight.name) flight.open(flight.name);
-    whatIf.close();
-    if (panels.open === 'what-if') whatIf.open();
+    whatIfPanel.close();
+    if (panels.open === 'what-if') whatIfPanel.open();
   });
 }
 
@@ -387,5 +469,6 @@ $('#seen').addEventListener('click', () => {
 });
 for (const name of ['error', 'unhandledrejection']) addEventListener(name, (event) => failed(event.error ?? event.reason ?? event.message, 'page'));
 startTheme();
+startState(day);
 panels.follow();
 give({ type: 'start' });

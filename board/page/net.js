@@ -85,6 +85,21 @@ export async function objects(path, options) {
   }
 }
 
+const AGAIN = 2000; // ms until a part of the page that didn't come is asked for again
+const MOST_AGAIN = 5;
+
+/** A module of the page that is loaded when it is first needed. */
+export async function needed(name) {
+  for (let again = 0; ; again += 1) {
+    try {
+      return await import(`./${name}.js${again ? `?${again}` : ''}`);
+    } catch (fault) {
+      if (again === MOST_AGAIN) throw fault;
+      await new Promise((go) => { setTimeout(go, AGAIN); });
+    }
+  }
+}
+
 /** A key that nobody has used. */
 export function newKey() {
   return [...crypto.getRandomValues(new Uint8Array(16))].map((byte) => byte.toString(16).padStart(2, '0')).join('');

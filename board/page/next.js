@@ -1,18 +1,18 @@
 // The start-ups ahead: which flights, in which order and what each waits for is the program's `next`.
 import { isLate } from './day.js';
-import { $, el, say } from './dom.js';
+import { $, el, named, say } from './dom.js';
 import { Sorted, arrange, whenFree } from './hold.js';
-import { Table, flag, tell, write } from './columns.js';
+import { LETTERS, REASONS, Table, flag, tell, write } from './columns.js';
 import { later, minutesFrom } from './times.js';
 
-const REASONS = { ICE: 'de-icing', CTOT: 'CTOT', CLOSURE: 'closure', SPACING: 'spacing', RATE: 'rate', NOW: 'now' };
 const AHEAD = 30;
 const MOST_OUT = 3;
 const TIMES = ['tobt', 'ctot', 'ttot']; // a date before them needs a wider column
 const CHUNK = 60;
 const PARTS = {
+  runway: () => [el('b', { class: 'rw text' })],
   tsat: () => [el('div', { class: 'big' }, el('b', { class: 'text' }), ' ', el('span', { class: 'in' }))],
-  why: () => [el('div', { class: 'why' }, el('span'), ' ', el('b', { class: 'tag' }), ' ', el('small'))],
+  why: () => [el('div', { class: 'why' }, el('span', {}, el('b', { class: 'cause' }), ' ', el('a')), ' ', el('b', { class: 'tag' }), ' ', el('small'))],
 };
 
 export class Next {
@@ -41,8 +41,8 @@ export class Next {
   make(name) {
     const item = this.table.make(name);
     const { tsat, why } = item.cells;
-    item.cause = null;
-    Object.assign(item.texts, { in: $('.in', tsat), waits: $('span', why), tag: $('.tag', why), since: $('small', why) });
+    Object.assign(item, { cause: null, by: $('a', why) });
+    Object.assign(item.texts, { in: $('.in', tsat), waits: $('.cause', why), tag: $('.tag', why), since: $('small', why) });
     this.items.set(name, item);
     return item;
   }
@@ -104,12 +104,24 @@ export class Next {
     flag(item, 'mv', Boolean(mark), item.texts.in);
     flag(item, 'moved', mark !== null);
     flag(item, 'late', isLate(row));
-    tell(item, 'waits', item.cause === null ? (row.delay ? '…' : '–') : REASONS[item.cause] ?? item.cause ?? '–');
+    this.because(item, row);
     const tag = tagOf(this.tags, item.name);
     if (tag !== item.has.tag) item.texts.tag.hidden = !tag;
     tell(item, 'tag', tag);
     tell(item, 'since', this.moves.sinceText(item.name));
     flag(item, 'since', item.has.since !== '');
+  }
+
+  /** The cause, in its colour, and the flight in whose way it is. */
+  because(item, row) {
+    const letter = LETTERS[item.cause] ?? '';
+    const by = item.cause === 'SPACING' ? inFront(this.day.rows, row) : '';
+    tell(item, 'waits', item.cause === null ? (row.delay ? '…' : '–') : REASONS[item.cause] ?? item.cause ?? '–');
+    if (item.has.by === `${letter}${by}`) return;
+    item.has.by = `${letter}${by}`;
+    item.texts.waits.className = letter ? `cause k${letter}` : 'cause';
+    item.by.hidden = !by;
+    named(item.by, by);
   }
 
   /** `in 13`, or `now` from the TSAT on. */
@@ -163,6 +175,16 @@ export class Next {
     $('#since').replaceChildren(`${count} of the next ${AHEAD} min moved since ${at}`, ...(out.length ? [`, ${out.length} moved out:`, ...names] : []),
       out.length > MOST_OUT ? ` +${out.length - MOST_OUT}` : '');
   }
+}
+
+/**
+ * The flight behind which a flight keeps its spacing: the one that takes off last before it on its runway. No other one can be in its way in the
+ * last minute for which it waits, and not in its own.
+ */
+function inFront(rows, { ttot, runway }) {
+  let last = null;
+  for (const row of rows.values()) if (row.runway === runway && row.ttot && row.ttot < ttot && !(last?.ttot > row.ttot)) last = row;
+  return last?.flight ?? '';
 }
 
 const tagOf = (tags, name) => (tags.get(name) ?? []).join(' ');

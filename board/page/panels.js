@@ -5,7 +5,7 @@ import { turn } from './hold.js';
 const FLIGHT = /^[A-Z0-9]{1,7}$/;
 /** Where a panel covers the page, what is below it has no focus; what the connection is stays in sight. */
 const covers = { get matches() { return document.documentElement.classList.contains('l-narrow'); } };
-const BELOW = ['.skip', 'h1', 'nav', '#warnings', '#runways', '#filtered', '#attention', '#next', '#all'];
+const BELOW = ['.skip', 'h1', 'nav', '#b-act', '#warnings', '#runways', '#filtered', '#attention', '#next', '#all'];
 
 export class Panels {
   /** panels: the name of each to {open(flight), close()}. */

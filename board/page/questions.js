@@ -48,13 +48,14 @@ export class Questions {
    */
   constructor(table, chance) {
     this.table = new Map(table.map((question) => [question.name, question]));
-    this.turns = new Map(table.map((question) => [question.name, new Turn(question)]));
+    this.list = table.map((question) => new Turn(question));
+    this.turns = new Map(this.list.map((turn) => [turn.question.name, turn]));
     this.chance = chance;
   }
 
   /** All as if nothing had been asked. */
   clear() {
-    for (const turn of this.turns.values()) turn.clear();
+    for (const turn of this.list) turn.clear();
   }
 
   /** A question is due at a moment, if it isn't sooner. */
@@ -81,27 +82,30 @@ export class Questions {
 
   /** Whether one is being asked that the others wait for. */
   get isTaken() {
-    for (const turn of this.turns.values()) if (turn.isAsked && !turn.question.isApart) return true;
-    return false;
+    return this.list.some((turn) => turn.isAsked && !turn.question.isApart);
   }
 
   /** The questions that are to be asked now. */
   due(at) {
     const names = [];
-    let { isTaken } = this;
-    for (const turn of this.turns.values()) {
-      const { question } = turn;
-      if (turn.due > at || !question.isApart && isTaken || turn.moment > at) continue;
-      if (!question.isApart) isTaken = true;
-      names.push(question.name);
+    let isTaken = null;
+    for (const turn of this.list) {
+      if (turn.due > at) continue;
+      const { isApart, name } = turn.question;
+      isTaken ??= this.isTaken;
+      if (!isApart && isTaken || turn.moment > at) continue;
+      isTaken ||= !isApart;
+      names.push(name);
     }
     return names;
   }
 
   /** It is being asked: what comes from now on makes it due anew. */
   ask(name, at) {
-    const notBefore = this.table.get(name).isApart ? -Infinity : at + PACE;
-    Object.assign(this.turns.get(name), { due: Infinity, notBefore, isAsked: true });
+    const turn = this.turns.get(name);
+    turn.due = Infinity;
+    turn.notBefore = turn.question.isApart ? -Infinity : at + PACE;
+    turn.isAsked = true;
   }
 
   /** It isn't asked any more; that has no answer. */
@@ -110,22 +114,26 @@ export class Questions {
   }
 
   answered(name) {
-    Object.assign(this.turns.get(name), { isAsked: false, failures: 0 });
+    const turn = this.turns.get(name);
+    turn.isAsked = false;
+    turn.failures = 0;
   }
 
   /** It has no answer and is asked again. */
   failed(name, at, retry) {
     const turn = this.turns.get(name);
-    const due = at + pauseAfter(PAUSES, turn.failures, retry, this.chance());
-    if (retry > 0) turn.asTold = due;
-    Object.assign(turn, { isAsked: false, due, notBefore: due, failures: turn.failures + 1 });
+    turn.due = at + pauseAfter(PAUSES, turn.failures, retry, this.chance());
+    turn.notBefore = turn.due;
+    if (retry > 0) turn.asTold = turn.due;
+    turn.isAsked = false;
+    turn.failures += 1;
   }
 
   /** The next moment at which one is due that waits for no answer. */
   next() {
     const { isTaken } = this;
     let next = Infinity;
-    for (const turn of this.turns.values()) {
+    for (const turn of this.list) {
       if (turn.due < next && (turn.question.isApart || !isTaken)) next = Math.min(next, turn.moment);
     }
     return next;

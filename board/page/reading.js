@@ -1,10 +1,8 @@
 // Part of the page's machine: the whole plan is read, of a moment that the events lead on from.
+import { isOlder, isSameMoment } from './day.js';
 import { REOPEN, SOON, MOST_STRANGERS, MOST_STALE, RECENT, MOST_RECENT } from './limits.js';
 import { pauseAfter } from './questions.js';
 import { Views } from './views.js';
-
-/** Whether two moments are of one past of a log: the same record stands at the same position. One that doesn't say when it was taken is. */
-export const isSameMoment = (one, other) => one.log === other.log && one.position === other.position && (one.lastAt ?? other.lastAt) === (other.lastAt ?? one.lastAt);
 
 export class Reading extends Views {
   /**
@@ -14,9 +12,9 @@ export class Reading extends Views {
    */
   readAnew(isOther = false) {
     const { moment } = this.stream;
-    const isBefore = this.rows !== null && (moment.log !== this.rows.log || moment.position < this.rows.position);
-    const isGone = isOther || isBefore || this.need?.isOther === true;
-    this.need = { ...moment, isOther: isGone };
+    const isBefore = this.rows !== null && (moment.log !== this.rows.log || isOlder(moment, this.rows));
+    this.isGone ||= isOther || isBefore;
+    this.need = { ...moment };
     Object.assign(this, { queue: [], view: null, held: null, staleReads: 0 });
     if (this.rows) this.oldSince ??= this.now;
     for (const ask of [...this.asks.values()]) if (this.questions.table.get(ask.name)?.isOfDay) this.askAgain(ask);
@@ -26,8 +24,8 @@ export class Reading extends Views {
 
   /** The first plan is to be of the moment at which the events begin, or of a later one. */
   readFirst() {
-    this.need = { ...this.stream.moment, isOther: false };
-    for (const ask of [...this.asks.values()]) if (ask.name === 'plan') this.abandon(ask);
+    this.need = { ...this.stream.moment };
+    this.abandonAll('plan');
     this.questions.wantNow('plan', this.at);
   }
 
@@ -45,7 +43,7 @@ export class Reading extends Views {
   dropNeed() {
     this.need = null;
     this.queue = [];
-    for (const ask of [...this.asks.values()]) if (ask.name === 'plan') this.abandon(ask);
+    this.abandonAll('plan');
     this.questions.drop('plan');
   }
 
@@ -54,24 +52,25 @@ export class Reading extends Views {
     if (!Array.isArray(plan?.flights)) throw new Error('no plan');
     const moment = { log: answer.log, position: answer.position, lastAt: answer.lastAt };
     if (!this.isWanted(moment, answer)) return false;
-    const isOther = this.rows !== null && (moment.log !== this.rows.log || this.need?.isOther === true);
-    const since = this.rows && !isOther ? Math.max(0, this.rows.position - RECENT) : null; // the last ones may be of another past
+    const isOther = this.rows !== null && (moment.log !== this.rows.log || this.isGone);
+    const was = isOther ? null : this.rows;
     const isNext = this.rows !== null && this.day.date !== plan.day;
     const isWhole = this.isBroken || isNext; // on another date each time has other words
     const changed = this.day.take(plan, moment.position, `${moment.log}-${moment.position}`);
     if (isWhole) for (const [name, row] of this.day.rows) if (!changed.has(name)) changed.set(name, [row, row]);
     const { queue, isFirst, need } = this;
     this.isUntold = need !== null && (moment.position > need.position || need.lastAt === undefined);
-    Object.assign(this, { rows: moment, need: null, queue: [], oldSince: null, isFirst: false, held: null, isBroken: false });
+    Object.assign(this, { rows: moment, need: null, queue: [], oldSince: null, isFirst: false, held: null, isBroken: false, isGone: false });
     if (this.stream?.moment === null) this.reopen();
     if (isOther) this.empty();
     if (isOther || isNext) this.beginDay();
+    else if (!this.isWhoOfDay) this.questions.want('who', this.at + this.chance() * SOON);
     if (!this.operators || this.operatorsAt < Infinity) this.forgetOperators(); // what came meanwhile wasn't shown
     this.had.clear();
     this.order({ do: 'show', what: 'plan', changed, isFirst, isOther, isNext, isWhole });
     this.wantAhead();
-    this.takeTotals(plan, moment.position);
-    this.remember(since);
+    this.takeTotals(plan, { ...moment });
+    this.remember(was);
     this.apply(queue);
     if (this.view) this.takeView(this.view);
     return true;
@@ -120,21 +119,34 @@ export class Reading extends Views {
     if (this.who?.kinds.length) this.questions.want('who', this.at + this.chance() * SOON);
   }
 
-  /** The records behind a position are asked for: when a CLOCK came, and what moved whom. Of a day that is new to it, the last ones. */
-  remember(since) {
-    const { position } = this.rows;
-    const first = this.history?.since ?? since ?? Math.max(0, Math.min(this.seen, position - RECENT));
-    if (this.history) {
-      this.history.until = position;
-      return;
-    }
-    this.history = { since: Math.max(first, position - MOST_RECENT, 0), until: position, isFirst: since === null, list: [] };
-    if (this.history.since >= position) this.endHistory();
+  /**
+   * The last records are asked for, from a little before the moment of which the rows were, since a box may have failed to show some of them: when
+   * a CLOCK came, what moved whom, and whether the record of that moment is still there. Of a day that is new to the page, from where it wants to
+   * know.
+   * @param {Moment | null} was
+   */
+  remember(was) {
+    const { history: had, rows: { position } } = this;
+    const first = was ? was.position - RECENT : Math.min(this.seen, position - RECENT);
+    const since = Math.max(0, position - MOST_RECENT, Math.min(first, had?.since ?? first));
+    const list = had?.list.filter((reply) => reply.position <= since) ?? [];
+    this.history = { since, until: position, isFirst: had?.isFirst ?? was === null, list, were: [...had?.were ?? [], ...was ? [was] : []] };
+    this.askHistory();
+  }
+
+  askHistory() {
+    this.abandonAll('history');
+    if (this.history.since >= this.history.until) this.endHistory();
     else this.questions.want('history', this.at);
   }
 
   takeHistory(list, answer) {
     if (!this.history) return true;
+    const isOther = ({ position, at }) => this.history.were.some((was) => position === was.position && at !== (was.lastAt ?? at));
+    if (list.some(isOther)) {
+      this.readAnew(true); // another record stands there: what was shown has been of a past that is lost
+      return true;
+    }
     const found = list.filter((reply) => reply.position <= this.history.until);
     this.history.list.push(...found);
     if (found.length && found.at(-1).position < this.history.until) {
@@ -157,7 +169,6 @@ export class Reading extends Views {
     this.seen = position;
     if (!this.history?.isFirst || this.history.list.length) return;
     this.history.since = Math.max(0, Math.min(this.history.since, position), this.history.until - MOST_RECENT);
-    for (const ask of [...this.asks.values()]) if (ask.name === 'history') this.abandon(ask);
-    this.questions.want('history', this.at);
+    this.askHistory();
   }
 }

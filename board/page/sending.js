@@ -53,11 +53,12 @@ export class Sending {
 /** Whether the server itself says that nothing was taken; a proxy on the way may say a status too, and knows nothing of it. */
 const isNothingTaken = ({ status, isOwn }) => isOwn && (status === 503 || status >= 400 && status < 500);
 
-/** The reply in an answer, if it is the one to this line. */
+/** The reply in an answer, if it is the one to this line; of several lines the first that is refused, or else the last. */
 function replyOf(text, line) {
   try {
-    const reply = JSON.parse(text.split('\n', 1)[0]);
-    return reply?.line === line && (reply.reply === 'ACCEPTED' || reply.reply === 'REFUSED') ? reply : null;
+    const replies = text.split('\n', line.split('\n').length).map((one) => JSON.parse(one));
+    const areOwn = replies.map((reply) => reply?.line).join('\n') === line && replies.every(({ reply }) => reply === 'ACCEPTED' || reply === 'REFUSED');
+    return areOwn ? replies.find(({ reply }) => reply === 'REFUSED') ?? replies.at(-1) : null;
   } catch {
     return null;
   }

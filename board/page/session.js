@@ -26,7 +26,7 @@ export class Session extends Answers {
   }
 
   onSignIn({ desk, token }) {
-    for (const ask of [...this.asks.values()]) if (ask.name === 'sign-in') this.abandon(ask);
+    this.abandonAll('sign-in');
     const body = JSON.stringify({ desk, token });
     this.send_({ name: 'sign-in', path: '/v1/session', method: 'POST', body }, DEADLINE);
   }
@@ -66,7 +66,10 @@ export class Session extends Answers {
     this.order({ do: 'show', what: 'who', who: null });
   }
 
-  /** The server knows who speaks. */
+  /**
+   * The server knows who speaks.
+   * @returns {boolean} whether what it counts is of the day that is shown
+   */
   takeWho(who) {
     this.who = who;
     if (!who.roles.length) this.role = '';
@@ -75,5 +78,12 @@ export class Session extends Answers {
     this.order({ do: 'show', what: 'who', who, role: this.role });
     if (who.desk && !who.roles.length) this.was = null;
     if (who.kinds.length && this.kinds === null) this.questions.want('kinds', this.at); // what it may send; who only reads needs no forms
+    return this.isWhoOfDay;
+  }
+
+  /** Whether how many records are left is counted in the day that is shown: another day may be lost again, or end. */
+  get isWhoOfDay() {
+    const { who, rows, day } = this;
+    return !rows || !who?.kinds.length || who.day === undefined || who.log === rows.log && who.day === day.date;
   }
 }

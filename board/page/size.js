@@ -11,7 +11,7 @@
   const TEXT = '00:00 ABC0000';
   const TEXT_EM = 7.15; // its width in the fonts that the widths of the columns are made for
   const LINE_EM = 1.45; // a line that is higher is spaced by its reader
-  const LAYOUTS = { wall: [1900, Infinity], roomy: [861, Infinity], narrow: [0, 1219], slim: [0, 860], phone: [0, 700], tiny: [0, 310] };
+  const LAYOUTS = { wall: [1900, Infinity], roomy: [861, Infinity], narrow: [0, 1219], slim: [0, 860], phone: [0, 700], hand: [0, 480], tiny: [0, 310] };
   let probe = null;
   let said = '';
 

@@ -1,4 +1,5 @@
 // Part of the page's machine: what is shown beside the rows, of which position it is, and whether the log is reached.
+import { isOlder, isSameMoment } from './day.js';
 import { AHEAD_WAIT, MOST_AHEAD, VIEW_WAIT, SOON, HELD_WAIT, HEALTH_OLD, VIEWS, PANELS } from './limits.js';
 import { spread } from './questions.js';
 import { Session } from './session.js';
@@ -7,7 +8,8 @@ export class Views extends Session {
   /** Asks for what all screens ask alike, if the server doesn't send it. */
   wantViews() {
     for (const name of VIEWS) {
-      if ((this.had.get(name) ?? -1) >= this.rows.position) this.questions.drop(name);
+      const had = this.had.get(name);
+      if (had && !isOlder(had, this.rows)) this.questions.drop(name);
       else this.questions.want(name, this.at + spread(VIEW_WAIT, this.chance()));
     }
   }
@@ -16,7 +18,10 @@ export class Views extends Session {
     for (const name of PANELS) this.questions.want(name, this.at + this.chance() * SOON);
   }
 
-  /** What all screens ask alike, of one position: it comes behind the events up to there. */
+  /**
+   * What all screens ask alike, of one position: it comes behind the events up to there. So where it is of a later position than the rows, it
+   * is of their moment too; and if other events lead on from there, what they tell is newer.
+   */
   takeView(view) {
     if (this.need || !this.rows) {
       this.view = view;
@@ -26,47 +31,52 @@ export class Views extends Session {
     if (!Number.isInteger(view.position)) throw new Error('a view of no position');
     if (view.position > this.stream.moment.position) Object.assign(this.stream.moment, { position: view.position, lastAt: undefined });
     const isBehind = view.position < this.rows.position;
+    const of = isBehind ? { log: this.rows.log, position: view.position } : { ...this.rows };
     for (const name of VIEWS) {
       this.questions.drop(name);
       if (isBehind) this.questions.want(name, this.at + spread(VIEW_WAIT, this.chance())); // the next one is on its way
-      if (!(view.position > (this.had.get(name) ?? -1))) continue;
+      const had = this.had.get(name);
+      if (had && view.position <= had.position && (isBehind || !isOlder(had, of))) continue;
       if (view[name] === undefined) this.questions.want(name, this.at + this.chance() * SOON);
       else {
-        if (name === 'totals') this.takeTotals(view.totals, view.position);
-        else this.showAnswer(name, view[name], view.position);
+        if (name === 'totals') this.takeTotals(view.totals, of, view.position);
+        else this.showAnswer(name, view[name], of, view.position);
       }
     }
   }
 
-  showAnswer(name, list, position) {
-    this.had.set(name, position);
+  /** Shows an answer of a moment, which is called by its position or a later one. */
+  showAnswer(name, list, of, position = of.position) {
+    this.had.set(name, of);
     this.wantAhead();
     this.order({ do: 'show', what: 'answer', name, list, position });
   }
 
-  takeTotals(values, position) {
-    this.had.set('totals', position);
+  takeTotals(values, of, position = of.position) {
+    this.had.set('totals', of);
     this.wantAhead();
-    this.totals = { values, position };
-    if (position >= this.rows.position) this.held = null;
+    this.totals = { values, of, position };
+    if (!isOlder(of, this.rows)) this.held = null;
     this.showTotals();
   }
 
   /** The totals, and whether the rows are newer. */
   showTotals() {
-    const isOld = this.totals.position < this.rows.position;
+    const { values, of, position } = this.totals;
+    const isOld = isOlder(of, this.rows);
     this.totals.isOld = isOld;
-    this.order({ do: 'show', what: 'totals', totals: this.totals.values, position: this.totals.position, isOld });
+    this.order({ do: 'show', what: 'totals', totals: values, position: isOld ? Math.min(position, this.rows.position - 1) : position, isOld });
   }
 
   /** What follows from that the rows are of a later position now. */
   settle() {
-    if (this.held && this.held.position <= this.rows.position) {
-      const { values, position } = this.held;
+    const { held, rows } = this;
+    if (held && held.of.position <= rows.position) {
       this.held = null;
-      this.takeTotals(values, position);
+      if (isSameMoment(held.of, rows)) this.takeTotals(held.values, held.of);
+      else this.questions.want('totals', this.at + this.chance() * SOON);
     }
-    if (this.totals && this.totals.isOld !== this.totals.position < this.rows.position) this.showTotals();
+    if (this.totals && this.totals.isOld !== isOlder(this.totals.of, rows)) this.showTotals();
     if (this.operatorsAt <= this.rows.position) this.forgetOperators();
   }
 
@@ -81,12 +91,12 @@ export class Views extends Session {
   }
 
   /** Totals of an answer may be newer than the rows; then they wait for the events, or for the word that nothing came between. */
-  holdTotals(values, position) {
-    if (position <= this.rows.position) {
-      this.takeTotals(values, position);
+  holdTotals(values, of) {
+    if (of.position <= this.rows.position) {
+      this.takeTotals(values, of);
       return;
     }
-    this.held = { values, position };
+    this.held = { values, of };
     this.questions.want('between', this.at + spread(HELD_WAIT, this.chance()));
   }
 
@@ -94,13 +104,13 @@ export class Views extends Session {
   takeBetween(list, answer) {
     if (!this.held) return true;
     if (answer.stale && !this.isStaleRead) return false;
-    const { rows } = this;
-    const last = list.find((reply) => reply.position === this.held.position);
+    const { rows, held: { of } } = this;
     const isPast = rows.position === 0 || list[0]?.at === rows.lastAt;
-    const isSame = last && isPast && !list.some((reply) => reply.reply === 'ACCEPTED' && reply.position <= this.held.position && reply.position > rows.position);
+    const last = list.find((reply) => reply.position === of.position);
+    const isSame = last && isPast && !list.some((reply) => reply.reply === 'ACCEPTED' && reply.position <= of.position && reply.position > rows.position);
     if (isSame) {
-      Object.assign(rows, { position: this.held.position, lastAt: last.at });
-      this.day.position = this.held.position;
+      Object.assign(rows, { position: of.position, lastAt: last.at });
+      this.day.position = of.position;
       this.settle();
       return true;
     }
@@ -113,14 +123,16 @@ export class Views extends Session {
     return false;
   }
 
-  /** The latest position of what is shown. */
+  /** The latest moment of what is shown. */
   get shownUpTo() {
-    return Math.max(this.rows.position, ...this.had.values());
+    let latest = this.rows;
+    for (const of of this.had.values()) if (of.position > latest.position) latest = of;
+    return latest;
   }
 
   /** Whether something is shown that is newer than what the events have told. */
   get isAhead() {
-    return this.shownUpTo > this.stream.moment.position;
+    return this.shownUpTo.position > this.stream.moment.position;
   }
 
   wantAhead() {
@@ -134,16 +146,16 @@ export class Views extends Session {
   takeAhead(list, answer) {
     if (answer.stale) return false;
     const { stream, shownUpTo } = this;
-    if (answer.position < shownUpTo) {
+    const last = list.find((reply) => reply.position === shownUpTo.position);
+    if (answer.position < shownUpTo.position || last && last.at !== (shownUpTo.lastAt ?? last.at)) {
       stream.lacks += 1;
       if (stream.lacks < MOST_AHEAD) return false;
       this.readAnew();
       return true;
     }
     stream.lacks = 0;
-    const isSame = list.some((reply) => reply.position >= shownUpTo)
-      && !list.some((reply) => reply.reply === 'ACCEPTED' && reply.position <= shownUpTo);
-    if (isSame) Object.assign(stream.moment, { position: shownUpTo, lastAt: undefined });
+    const isSame = last !== undefined && !list.some((reply) => reply.reply === 'ACCEPTED' && reply.position <= shownUpTo.position);
+    if (isSame) Object.assign(stream.moment, { position: shownUpTo.position, lastAt: last.at });
     return isSame;
   }
 

@@ -1,6 +1,7 @@
-// The program's warnings, in its order: filled ones are to be acted on, framed ones to be looked at.
+// The program's warnings, in its order: red ones are to be acted on now, the others to be looked at.
 import { $, el } from './dom.js';
 import { turn, whenFree } from './hold.js';
+import { clock } from './net.js';
 import { hm } from './times.js';
 
 const MOST = 8;
@@ -8,6 +9,14 @@ const FEW = 3; // so many are said one by one
 const NEW = 60000;
 const TIME = /^\d{4}-\d\d-\d\dT\d\d:\d\dZ$/;
 const AGING = NEW / 4; // how often it is looked which are still new
+/** Red, to be acted on now: flights that are at their stand, and have no minute though somebody expects one of them. */
+export const ACT = ['BLOCKED'];
+
+/** Of flights that have left their stand. */
+const LEFT = ['OVERDUE', 'MISSED', 'SHUT'];
+
+/** The order of what there is to do: what is to be acted on now, then flights that have left their stand, then the rest. */
+export const urgency = (kind) => (ACT.includes(kind) ? 0 : LEFT.includes(kind) ? 1 : 2);
 
 /** What a blocked flight lacks, by its rule. */
 const LACKS = { TOBT: 'Send its TOBT.', RUNWAY: 'Send its runway (RWY).', EXOT: 'Its stand has no taxi time to this runway: send TAXI, RWY or STAND.' };
@@ -16,10 +25,11 @@ const LACKS = { TOBT: 'Send its TOBT.', RUNWAY: 'Send its runway (RWY).', EXOT: 
 const FREES = { CTOT: 'Send an earlier TOBT.', CLOSURE: 'Open the runway (OPEN), or send another one (RWY).', RATE: 'PRIO puts it ahead of those that have its minutes.' };
 
 /**
- * Each kind: its facts in the strip, and for the flight's panel what it means, what to do, and the kinds of records that answer it.
+ * Each kind: its facts in the strip, and for the flight's panel what it means, what to do, the kinds of records that answer it, and the time
+ * that one of them begins with.
  */
 const KINDS = {
-  OVERDUE: { facts: (one, at) => `TTOT ${at(one.ttot)}`, answers: ['AIR'],
+  OVERDUE: { facts: (one, at) => `TTOT ${at(one.ttot)}`, answers: ['AIR'], time: (one) => one.ttot,
     means: (one, at) => `It left its stand, its TTOT ${at(one.ttot)} is more than 5 minutes ago, and no AIR has come.`,
     act: 'If it has taken off, send AIR with its take-off time; if it hasn’t, ask where it is.' },
   MISSED: { facts: (one, at) => `CTOT ${at(one.ctot)}`, answers: ['AIR'],
@@ -38,7 +48,9 @@ const KINDS = {
   AHEAD: { facts: (one, at) => at(one.time), answers: ['AIR'],
     means: (one, at) => `It is said to have left at ${at(one.time)}, more than 2 minutes after NOW.`,
     act: 'See whether CLOCK has stopped. A wrong OFF or AIR can’t be taken back.' },
-  FULL: { facts: (one, at) => `${one.runway} ${at(one.time)} ${one.placed}/${one.cap}`, answers: [] },
+  FULL: { facts: (one, at) => `${one.runway} ${at(one.time)} ${one.placed}/${one.cap}`, answers: [],
+    means: (one, at) => `In the cell of runway ${one.runway} from ${at(one.time)} on ${one.placed} take off, and its capacity is ${one.cap}.`,
+    act: 'Those have left already, or the capacity was lowered behind them. Nothing is to be done, or send RATE with the capacity that holds.' },
   SHUT: { facts: (one, at) => `${one.runway} TTOT ${at(one.ttot)}`, answers: ['AIR'],
     means: (one, at) => `It left its stand, and runway ${one.runway} is closed at its TTOT ${at(one.ttot)}, or now if that is past.`,
     act: 'Hold it, or open the runway (OPEN). If it has taken off, send AIR with its take-off time.' },
@@ -54,12 +66,12 @@ const keyOf = (one) => `${one.kind} ${one.flight ?? `${one.runway} ${one.time}`}
 /** The warnings that are shown, for the flight's panel; `told` says when they are others. */
 export const current = Object.assign(new EventTarget(), { list: [] });
 
-/** What a flight's warnings mean, what to do, and which kinds of records answer them. */
-export function explained(name, date) {
+/** What warnings mean, what to do, and which kinds of records answer them, with a time where it is known. */
+export function explained(list, date) {
   const at = (time) => hm(time, date);
-  return current.list.filter((one) => one.flight === name).map((one) => {
-    const { means, act, answers } = kindOf(one.kind);
-    return { kind: one.kind, means: means(one, at), act: typeof act === 'string' ? act : act(one, at), answers };
+  return list.map((one) => {
+    const { means, act, answers, time = () => null } = kindOf(one.kind);
+    return { kind: one.kind, means: means(one, at), act: typeof act === 'string' ? act : act(one, at), answers: answers.map((kind) => ({ kind, time: time(one) })) };
   });
 }
 
@@ -88,21 +100,28 @@ export class Warnings {
     return fresh.length < 2 ? fresh.join('') : `${fresh[0]} and ${fresh.length - 1} more`;
   }
 
+  /** Each flight's warnings together, the most urgent one first; one of a runway's cell stands by itself. */
+  get gathered() {
+    const groups = new Map();
+    for (const one of this.list) {
+      const key = one.flight ?? keyOf(one);
+      groups.set(key, [...(groups.get(key) ?? []), one]);
+    }
+    return [...groups.values()].map((all) => all.toSorted((one, other) => urgency(one.kind) - urgency(other.kind)));
+  }
+
   write() {
     clearTimeout(this.aging);
     const kinds = [...new Set([...Object.keys(KINDS), ...this.list.map((one) => one.kind)])];
-    const there = kinds.filter((kind) => this.list.some((one) => one.kind === kind));
-    const items = there.flatMap((kind) => this.itemsOf(kind));
-    const none = kinds.filter((kind) => !there.includes(kind));
+    const groups = this.gathered;
+    const items = kinds.flatMap((kind) => this.itemsOf(kind, groups.filter(([one]) => one.kind === kind)));
+    const none = kinds.filter((kind) => !this.list.some((one) => one.kind === kind));
     if (none.length) items.push(el('li', { class: 'w none' }, `${none.join(', ')}: none`));
     // What has the focus keeps it, by its flight.
     const focused = document.activeElement?.closest?.('#warnings li');
-    const [kind, href] = [focused?.className, document.activeElement?.getAttribute?.('href')];
+    const href = document.activeElement?.getAttribute?.('href');
     $('#warnings ul').replaceChildren(...items);
-    if (focused) {
-      items.find((item) => item.className === kind && $(`a[href="${CSS.escape(href ?? '')}"]`, item))
-        ?.querySelector(`a[href="${CSS.escape(href ?? '')}"]`).focus({ preventScroll: true });
-    }
+    if (focused) $(`#warnings ul a[href="${CSS.escape(href ?? '')}"]`)?.focus({ preventScroll: true });
     $('#warnings h2 b').textContent = String(this.list.length);
     // A flight may have several.
     const named = this.list.map((one) => one.flight).filter(Boolean);
@@ -111,25 +130,32 @@ export class Warnings {
     if (this.list.some((one) => this.isNew(one))) this.aging = setTimeout(() => turn.take(() => whenFree(this.draw)), AGING);
   }
 
+  /** Since when this page has a warning, by the server's clock; null: since before it was opened. */
+  since(one) {
+    const at = this.first.get(keyOf(one));
+    return at === -NEW ? null : clock.now() - (performance.now() - at);
+  }
+
   isNew(one) {
     return performance.now() - this.first.get(keyOf(one)) < NEW;
   }
 
-  /** The strip's items of a kind: one each, or one for all. */
-  itemsOf(kind) {
+  /** The strip's items of the flights whose first warning is of a kind: one each, or one for all. A flight is in one item alone. */
+  itemsOf(kind, mine) {
+    if (!mine.length) return [];
     const at = (time) => hm(time, this.day.date);
-    const { facts } = kindOf(kind);
-    const mine = this.list.filter((one) => one.kind === kind);
-    const fresh = mine.some((one) => this.isNew(one)) ? el('em', {}, 'new') : null;
+    const said = (one) => (one.kind === 'BLOCKED' ? '' : ` ${kindOf(one.kind).facts(one, at)}`);
+    const fresh = (ones) => (ones.some((one) => this.isNew(one)) ? el('em', {}, 'new') : null);
     const name = `w ${Object.hasOwn(KINDS, kind) ? kind : 'other'}`;
     const all = kind === 'BLOCKED' ? this.blocked() : 0;
     if (all <= mine.length && (mine.length === 1 || kind !== 'BLOCKED' && mine.length <= FEW)) {
-      return mine.map((one) => el('li', { class: name }, el('b', {}, kind), ' ', fresh?.cloneNode(true), ' ', link(one),
-        kind === 'BLOCKED' ? '' : ` ${facts(one, at)}`));
+      return mine.map(([one, ...more]) => el('li', { class: name }, el('b', {}, kind), ' ', fresh([one, ...more]), ' ', link(one), said(one),
+        ...more.flatMap((other) => [' ', el('b', {}, other.kind), said(other)])));
     }
     const rest = this.whole.has(kind) ? 0 : mine.length - MOST;
+    const named = ([one, ...more]) => (one.flight ? [link(one), ' ', more.length > 0 && el('small', {}, `${more.map((other) => other.kind).join(', ')} `)] : [`${said(one).trim()}, `]);
     return [el('li', { class: name }, el('b', {}, kind), ' ', el('b', { class: 'n' }, all > mine.length ? `${mine.length} of ${all}` : String(mine.length)),
-      ' ', fresh, ' ', ...(rest > 0 ? mine.slice(0, MOST) : mine).flatMap((one) => (one.flight ? [link(one), ' '] : [`${facts(one, at)}, `])),
+      ' ', fresh(mine.flat()), ' ', ...(rest > 0 ? mine.slice(0, MOST) : mine).flatMap(named),
       rest > 0 && this.more(kind, rest), all > mine.length && el('small', {}, 'with a TOBT or CTOT'))];
   }
 

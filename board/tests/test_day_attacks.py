@@ -218,31 +218,113 @@ def test_a_day_is_made_beside_the_loop():
     asyncio.run(talk())
 
 
-def test_a_clock_that_jumps_begins_no_day():
-    """The machine's clock goes a year on: no day begins by itself, until it is right again."""
-    at = datetime.datetime(2025, 3, 10, 12, tzinfo=datetime.timezone.utc)
-    times = [at + datetime.timedelta(seconds=seconds) for seconds in (0, 20, 320, 360 * 86_400, 360 * 86_400 + 20, 340, 330 + 301, 340)]
-    looks, said = [], []
+NOON = datetime.datetime(2025, 3, 10, 12, tzinfo=datetime.timezone.utc)
+
+
+def looked(seconds, day, ahead=0.0, happens=lambda number: None):
+    """At which of some looks at the clock, by seconds after noon, a day may begin, and what is said. `day`: the day at the start, and `happens`:
+    what happens to it before each look."""
+    times = [NOON + datetime.timedelta(seconds=one) for one in seconds]
+    left, looks, said = list(times), [], []
 
     class Board(changing.Changing):
         async def _look(self, at):
-            looks.append(times[0])
+            looks.append(int((left[0] - NOON).total_seconds()))
             return ""
 
     async def sleep(_):
-        times.pop(0)
-        if not times:
+        left.pop(0)
+        if not left:
             raise asyncio.CancelledError
+        happens(len(times) - len(left))
 
     async def talk():
-        board = Board(None, mock.Mock(), None, mock.Mock())
-        with mock.patch.object(changing, "datetime", mock.Mock(wraps=datetime.datetime, now=lambda _: times[0])), \
+        board = Board(mock.Mock(clock_ahead=ahead), day, None, mock.Mock())
+        with mock.patch.object(changing, "datetime", mock.Mock(wraps=datetime.datetime, now=lambda _: left[0])), \
                 mock.patch.object(changing.asyncio, "sleep", sleep), mock.patch.object(changing, "tell", said.append):
             await board.run(datetime.time(3))
     with pytest.raises(asyncio.CancelledError):
         asyncio.run(talk())
-    assert [int((look - at).total_seconds()) for look in looks] == [0, 20, 320, 340, 631, 340]
-    assert said == ["cdmboard: no day begins by itself: 2026-03-05T12:00Z is more than 5 minutes after the last look at the clock; a new start goes by it"]
+    return looks, said
+
+
+def day_with(clock="", at="", position=0):
+    """A day of 10 March: NOW, when its last record was taken, and the position of its change."""
+    return mock.Mock(date="2025-03-10", clock=clock, at=lambda _: at, position=7, change=Change(position, b""), records=[Record(position, "day-at", "ATC", "")])
+
+
+def test_a_clock_that_jumps_begins_no_day():
+    """The machine's clock goes a year on: no day begins by itself, until it is right again."""
+    looks, said = looked([0, 20, 320, 360 * 86_400, 360 * 86_400 + 20, 340, 330 + 301, 340], day_with())
+    assert looks == [0, 20, 320, 340, 631, 340]
+    assert said == ["cdmboard: no day begins by itself: this machine's clock is more than 5 minutes after 2025-03-10T12:05Z, when it was last looked at; "
+                    "a new start goes by it"]
+
+
+A_DAY = 86_400
+
+
+@pytest.mark.parametrize("known", [{"clock": "2025-03-10T12:00Z"}, {"at": "2025-03-10T12:00:00.000Z"}, {"clock": "2025-03-10T09:00Z", "at": "2025-03-10T12:00:00Z"},
+                                   {"clock": "2025-03-10T12:00Z", "at": "2025-03-10T09:00:00Z"}], ids=["NOW", "taken", "taken last", "NOW last"])
+def test_a_clock_that_is_wrong_at_the_start_begins_no_day(known):
+    """It is a day or a year after the last that the log knew of the time: no day begins by itself, which is said once, until it is right."""
+    assert looked([A_DAY], day_with(**known)) == ([A_DAY], [])
+    looks, said = looked([A_DAY + 1, 365 * A_DAY, 365 * A_DAY + 60, A_DAY, A_DAY + 20], day_with(**known))
+    assert looks == [A_DAY, A_DAY + 20]
+    assert said == ["cdmboard: no day begins by itself: this machine's clock is more than a day after 2025-03-10T12:00Z, the last that the log knew of the "
+                    "time; if it is right, begin the day (POST /v1/day)"]
+
+
+@pytest.mark.parametrize("at", ["", "2026-03-10T12:00:00.000Z", "whatever", "2025-03-10"])
+def test_a_clock_that_was_wrong_before_begins_no_day(at):
+    """What a record says of the time, that a clock a year on or a login has written, counts no further than the day's two days."""
+    assert looked([2.5 * A_DAY], day_with(at=at)) == ([2.5 * A_DAY], [])
+    assert looked([2.5 * A_DAY + 60, 365 * A_DAY], day_with(at=at))[0] == []
+
+
+@pytest.mark.parametrize("desk, begun, may", [("tower", "2025-03-13", True), ("tower", "2025-03-12", False), ("day-at", "2025-03-13", False)])
+def test_whoever_begins_a_day_knows_what_day_it_is(desk, begun, may):
+    """After a stop of days the tower begins the day by hand: if the clock is of this day, days begin by themselves again, without a new start.
+    That another server's clock has begun it says nothing of this one's."""
+    day = day_with("2025-03-10T12:00Z")
+
+    def happens(number):
+        if number == 2:
+            day.change, day.records, day.date = Change(9, b""), [Record(9, desk, "ATC", f"DAY,{begun}")], begun
+    seconds = [3 * A_DAY, 3 * A_DAY + 20, 3 * A_DAY + 40, 3 * A_DAY + 60, 5 * A_DAY]
+    assert looked(seconds, day, happens=happens)[0] == (seconds[2:4] if may else [])
+
+
+@pytest.mark.parametrize("ahead", [301.0, -301.0, 299.0, -299.0])
+def test_a_clock_that_is_not_the_database_s_begins_no_day(ahead):
+    looks, said = looked([0, 20], day_with(), ahead)
+    assert (looks, len(said)) == (([0, 20], 0) if abs(ahead) < 300 else ([], 1))
+
+
+@needs_postgres
+def test_the_database_s_clock_is_read(chance, cluster):
+    """Each second, and before the first record."""
+    async def talk():
+        log = postgres.PostgresLog(cluster.url(), f"{chance.randrange(1 << 62):x}")
+        with mock.patch.object(postgres.time, "time", lambda real=time.time: real() + 400):
+            await log.open(AIRPORT.encode(), "v")
+        try:
+            assert 399 < log.clock_ahead < 401
+            await asyncio.sleep(2 * FACTOR)
+            assert abs(log.clock_ahead) < 5
+        finally:
+            await log.close()
+    asyncio.run(talk())
+
+
+def test_a_server_whose_clock_is_a_year_on_begins_no_day(board):
+    """Its log is of a day a year ago, as it would be if the machine's clock were wrong."""
+    first = datetime.datetime.now(datetime.timezone.utc).date() - datetime.timedelta(days=365)
+    server = board(DESKS, ["--day-at", "01:00"], airport=AIRPORT.replace("2025-03-10", str(first)))
+    until(lambda: "cdmboard: no day begins by itself: this machine's clock is more than a day after" in server.told())
+    assert day_of(server) == str(first)
+    following = first + datetime.timedelta(days=1)
+    assert server.request("POST", f"/v1/day?even=yes&day={following}", "", "tower").status == 200 and day_of(server) == str(following)
 
 
 def test_a_change_of_which_nothing_is_known():
@@ -270,7 +352,7 @@ def test_a_change_that_is_sent_again(board):
     """Doubled by its client: a key isn't taken for what it doesn't do, and the file of the present day begins no other one."""
     server = begun(board(DESKS))
     for _ in range(2):
-        answer = server.request("POST", "/v1/day?even=yes", "", "tower", Idempotency_Key="k")
+        answer = server.request("POST", "/v1/day?even=yes&day=2025-03-11", "", "tower", Idempotency_Key="k")
         assert answer.status == 400 and "?day=" in json.loads(answer.body)["detail"]
     assert day_of(server) == "2025-03-10"
     # The file that is to begin the next day still has the DAY of the present one.
@@ -281,9 +363,21 @@ def test_a_change_that_is_sent_again(board):
         assert server.request("POST", path, NEXT, "tower").status == status, path
     assert day_of(server) == "2025-03-11" and server.metric("cdm_position", "ap") == 7
     # Nor does a request without a body, which came twice.
-    again = server.request("POST", "/v1/day?even=yes", "", "tower")
+    again = server.request("POST", "/v1/day", "", "tower")
     assert again.status == 409 and "?day=2025-03-12" in json.loads(again.body)["detail"] and day_of(server) == "2025-03-11"
     assert server.request("POST", "/v1/day?even=yes&day=2025-03-12", "", "tower").status == 200
+
+
+def test_a_day_is_begun_even_so_by_its_date(board):
+    """Sent twice, a request that names none would begin two days, of which the second one drops whatever is in its way."""
+    server = begun(board(DESKS))
+    for path, body in (("/v1/day?even=yes", ""), ("/v1/day?even=yes", NEXT)):
+        answer = server.request("POST", path, body, "tower")
+        assert answer.status == 400 and json.loads(answer.body)["detail"].endswith("?even=yes&day=2025-03-11"), path
+    assert day_of(server) == "2025-03-10"
+    for _ in range(2):
+        assert server.request("POST", "/v1/day?even=yes&day=2025-03-11", "", "tower").status == 200
+    assert day_of(server) == "2025-03-11"
 
 
 def test_a_day_that_ends_while_it_is_asked_about(board):
@@ -319,7 +413,7 @@ def test_a_record_that_comes_while_a_change_is_checked(board):
         answer = posted.result()
     assert answer.status == 409 and "UNKNOWN ATC,RWY,AB1,09" in json.loads(answer.body)["detail"]
     assert day_of(server) == "2025-03-10"
-    assert server.request("POST", "/v1/day?even=yes", other, "tower").status == 200 and day_of(server) == "2025-03-11"
+    assert server.request("POST", "/v1/day?even=yes&day=2025-03-11", other, "tower").status == 200 and day_of(server) == "2025-03-11"
 
 
 def test_a_crowd_of_readers_keeps_no_desk_waiting(board):

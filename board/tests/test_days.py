@@ -31,7 +31,8 @@ from board.words import Problem  # noqa: E402
 needs_postgres = pytest.mark.skipif(bool(clusters.missing()), reason=f"a log in PostgreSQL: {' and '.join(clusters.missing())} missing")
 DESKS = {"ap": 'role = "AP"', "ops": 'role = "AO"', "tower": 'role = "ATC"\nclock = true', "other": 'role = "ATC"'}
 NEXT = AIRPORT.replace("2025-03-10", "2025-03-11")
-EVEN = "/v1/day?even=yes"
+EVEN_SO = "/v1/day?even=yes&day="
+EVEN = f"{EVEN_SO}2025-03-11"
 
 
 def tells():
@@ -178,7 +179,7 @@ def test_flights_go_on_over_changes(board, chance):
         for desk in [*names] * 4:
             assert isinstance(server.post([line for _ in range(4) for line in talk.lines(chance, desk)], desk), list)
         before, told = flights(server), [line.split() for line in json.loads(server.get("/v1/day.json", "ap").body)["told"]]
-        change(server, f"{EVEN}&day={day_of(number)}")
+        change(server, f"{EVEN_SO}{day_of(number)}")
         after, talk.day = flights(server), talk.day + 1
         assert set(after) == {name for name, row in before.items() if row["status"] != "CANCELLED"}
         assert [words for words in told if words[0] in ("GONE", "STAY")] == [["GONE", str(len(before) - len(after))], ["STAY", str(len(after))]]
@@ -250,7 +251,7 @@ def change_somehow(servers, chance, day, talk=None):
     end = time.monotonic() + 60 * FACTOR
     while time.monotonic() < end:
         with contextlib.suppress(OSError, http.client.HTTPException):
-            answer = change(chance.choice(servers), f"{EVEN}&day={day}")
+            answer = change(chance.choice(servers), f"{EVEN_SO}{day}")
             if isinstance(answer, dict):
                 return answer["position"]
             assert answer.status in (409, 429, 503, 504), answer
@@ -406,7 +407,7 @@ def test_two_servers_change_at_once(board, chance, cluster):
     begun(servers[0])
     for day in range(11, 15):
         with concurrent.futures.ThreadPoolExecutor(4) as pool:
-            answers = list(pool.map(lambda number: change(servers[number % 2], f"{EVEN}&day=2025-03-{day}"), range(4)))
+            answers = list(pool.map(lambda number: change(servers[number % 2], f"{EVEN_SO}2025-03-{day}"), range(4)))
         assert all(isinstance(answer, dict) or answer.status == 409 for answer in answers), answers
         made = {answer["position"] for answer in answers if isinstance(answer, dict)}
         assert len(made) == 1, answers
@@ -533,7 +534,7 @@ def test_a_display_stays_connected(board):
     display = Display(server)
     until(lambda: [name for name, _ in display.events][:1] == ["from"])
     for day in (11, 12, 13):
-        position = change(server, f"{EVEN}&day=2025-03-{day}")["position"]
+        position = change(server, f"{EVEN_SO}2025-03-{day}")["position"]
         until(lambda: ("reset", position) in [(name, said.get("position")) for name, said in display.events])
         reply, = server.post([f"PRIO,AB1,{day - 8}"], "tower")
         until(lambda: ("reply", reply["position"]) in [(name, said.get("position")) for name, said in display.events])
@@ -664,7 +665,7 @@ def test_a_change_while_the_database_is_away(board, tmp_path):
         assert json.loads(server.get("/health").body)["position"] == 9
         database.start()
         until(lambda: "Cdm-Stale-Since" not in server.get("/v1/plan", "ap").headers, 30)
-        assert change(server, f"{EVEN}&day=2025-03-11")["position"] == 10
+        assert change(server, EVEN)["position"] == 10
 
 
 def test_a_log_of_before_goes_on(board):
@@ -745,7 +746,7 @@ def test_digests_go_on_over_days(board):
     """Each 1,000 positions, in each day; `verify` finds a reply that another program gives."""
     server = begun(board({**DESKS, **{f"ap-{number}": 'role = "AP"' for number in range(6)}}))
     for day in (11, 12):
-        change(server, f"{EVEN}&day=2025-03-{day}")
+        change(server, f"{EVEN_SO}2025-03-{day}")
         for number in range(6):
             assert len(server.post([f"GROUP,AB1,{'HM'[number % 2]}" for number in range(200)], f"ap-{number}")) == 200
         assert server.end() == 0

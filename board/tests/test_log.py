@@ -459,13 +459,13 @@ def test_a_digest_is_kept_once_and_of_a_record_that_is_there(log_at):
     one, other, lost = ("1" * 64, "2" * 64, "3" * 64)
 
     async def what(log):
-        await log.append(batch("A", "B"))
-        first, last = await log.rows(0, 10)
+        await log.append(batch(*(f"A{number}" for number in range(2000))))
+        first, last = (await log.rows(0, 2000))[999::1000]
         assert await log.digests() == {}
         assert await log.keep([(last._replace(line="C"), lost), (last._replace(at="later"), lost)]) == {} == await log.digests()
-        assert await log.keep([(last, one)]) == {2: one}
-        assert await log.keep([(first, other), (last, other)]) == {1: other, 2: one}
+        assert await log.keep([(last, one)]) == {2000: one}
+        assert await log.keep([(first, other), (last, other)]) == {1000: other, 2000: one}
         assert await log.keep([(last._replace(desk="gh"), lost)]) == {}
         return await log.digests()
-    assert talk(open_log, what) == {1: other, 2: one} == talk(open_log, lambda log: log.digests())
+    assert talk(open_log, what) == {1000: other, 2000: one} == talk(open_log, lambda log: log.digests())
     assert talk(open_log, lambda log: log.digests(), "other") == {}

@@ -139,6 +139,9 @@ def test_the_file_has_what_is_read(server):
             # One table has no list of what moves.
             is_none = (path, form) == ("/v1/compare/{name}", "text/csv")
             asked(server, "POST", path, 400 if is_none else 200, "", SHUT, Accept=form)
+    for body in (SHUT, "SCENARIO,SHUT\nFOO,1\n"):
+        for form in ("text/plain", "application/json"):
+            asked(server, "POST", "/v1/check", 200, "", body, Accept=form)
     for query in ("?minutes=30", "?minutes=no!"):
         asked(server, "GET", "/v1/next", 400 if "!" in query else 200, query)
     asked(server, "GET", "/v1/causes.json", 200, "?by=operator")
@@ -163,9 +166,9 @@ def test_the_file_has_records(server):
 def test_the_file_has_changes_of_day(server):
     """One that doesn't begin, and why; one that does; and what is asked of the day before."""
     wrong = "DAY,2025-03-17\nRUNWAY,27L,10,20\n"
-    for status, query, body, desk in ((409, "", "", "tower"), (409, "?day=2025-03-17", "", "tower"), (422, "?even=yes", wrong, "tower"),
+    for status, query, body, desk in ((409, "", "", "tower"), (409, "?day=2025-03-17", "", "tower"), (422, "?even=yes&day=2025-03-11", wrong, "tower"), (400, "?even=yes", "", "tower"),
                                       (403, "", "", "ap"), (401, "", "", "nobody"), (413, "", "A" * 65_537, "tower"),
-                                      (200, "?even=yes", "", "tower"), (200, "?day=2025-03-11", "", "tower")):
+                                      (200, "?even=yes&day=2025-03-11", "", "tower"), (200, "?day=2025-03-11", "", "tower")):
         asked(server, "POST", "/v1/day", status, query, body, desk)
     for path in (*PLAIN, "/v1/records", "/v1/journal.csv"):
         assert asked(server, "GET", path, 200, "?day=2025-03-10").body
@@ -218,10 +221,21 @@ def test_the_file_has_events(server):
 
 def test_each_operation_was_asked():
     """By the tests above."""
-    posted = {*PLAIN, "/v1/day", "/v1/what-if", "/v1/compare", "/v1/compare/{name}", "/v1/records", "/v1/session"}
+    posted = {*PLAIN, "/v1/day", "/v1/what-if", "/v1/check", "/v1/compare", "/v1/compare/{name}", "/v1/records", "/v1/session"}
     read = {*PLAIN, *OTHERS, "/v1/events"}
     assert {(path, method) for path, item in DOCUMENT["paths"].items() for method in METHODS if method in item} == {
         *((path, "post") for path in posted), *((path, "get") for path in read), ("/v1/session", "delete")}
+
+
+def test_each_status_of_records_says_what_to_do():
+    """The page's table of what a desk got has each status that records may get, once, and that of a proxy whose server is away, which may stand
+    for records that were taken."""
+    page = (ROOT / "docs" / "HTTP.md").read_text()
+    table = page[page.index("| the desk got |"):].partition("\n\n")[0]
+    rows = {row.split("|")[1]: row.split("|")[2] for row in table.splitlines()}
+    found = [status for got in rows for status in re.findall(r"\d{3}", got)]
+    assert sorted(found) == sorted([*DOCUMENT["paths"]["/v1/records"]["post"]["responses"], "502"])
+    assert [said for got, said in rows.items() if "502" in got] == [" may be in the log "]
 
 
 def application():

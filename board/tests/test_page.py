@@ -38,7 +38,7 @@ def test_the_runways(page):
 
 
 def test_the_warnings(page):
-    """Each kind but BLOCKED, in the program's order: A2 is overdue and missed its slot, A5 is at the edge of its window, A1 could have
+    """Each kind but BLOCKED, each flight once, with what is to be acted on first: A2 is overdue and missed its slot, A5 is at the edge of its window, A1 could have
     gone at 06:00, four are told ahead of the clock, three take off in a cell of two, and A4 in a closure."""
     at = lambda time: f"2025-03-10T{time}Z"
     names = [f"A{number}" for number in range(1, 8)]
@@ -48,8 +48,8 @@ def test_the_warnings(page):
                                 f"OFF,A7,{at('06:52')}", f"CLOSE,27L,{at('07:00')},{at('07:06')}", f"CLOCK,{at('06:40')}"]})
     shown.open()
     assert shown.text("#h-w") == "Warnings 10 7 flights" and shown.texts("#warnings li") == [
-        "OVERDUE A2 TTOT 06:20", "MISSED A2 CTOT 06:20", "EDGE A5 CTOT 07:06 TTOT 07:15", "PAST A1 TSAT 06:40", "AHEAD 4 A3 A4 A6 A7",
-        "FULL 27L 07:00 3/2", "SHUT A4 27L TTOT 07:05", "BLOCKED: none"]
+        "OVERDUE A2 TTOT 06:20 MISSED CTOT 06:20", "EDGE A5 CTOT 07:06 TTOT 07:15", "PAST A1 TSAT 06:40", "AHEAD A3 07:30", "AHEAD A6 06:51",
+        "AHEAD A7 06:52", "FULL 27L 07:00 3/2", "SHUT A4 27L TTOT 07:05 AHEAD 06:50", "BLOCKED: none"]
     # A new one says so for a minute, and is said in the live region at once.
     shown.server.post(f"OFF,A1,{at('06:19')}", Cdm_Role="ATC")
     shown.says("#warnings", "OVERDUE new A1 TTOT 06:34", seconds=10 + WAIT)
@@ -113,7 +113,7 @@ def test_a_filter_in_the_address(page):
     shown.type("#filter [name=op]", "DLH")
     shown.until("return location.search === '?op=DLH'")
     assert shown.flights("next") == ["DLH1", "DLH2"] and shown.flights("all") == ["DLH1", "DLH2"] and shown.flights("blocked") == []
-    assert shown.text("#filtered span") == "Filter: operator DLH. 2 of 7 flights; totals, warnings and runways show all."
+    assert shown.text("#filtered span") == "Filter: operator DLH. 2 of 7 flights: 2 placed, 0 late, 0 blocked, 5 minutes of delay, 5 at most. The line above and the runways show all."
     assert shown.texts("#warnings li")[0] == "BLOCKED 1 of 2 EZY7 with a TOBT or CTOT"
     first = shown.tab("?runway=09&status=planned")
     assert shown.flights("all") == ["RYR6", "AFR4"] and shown.flights("next") == ["RYR6"]
@@ -186,7 +186,8 @@ def test_a_form_of_the_desk_s_records(page):
     shown.until("return document.querySelector('#next tr[data-flight=DLH2]').innerText.includes('06:30')")
     record = shown.server.records()[-1]
     assert (record["role"], record["line"], record["reply"]) == ("GH", "TOBT,DLH2,2025-03-10T06:30Z", "ACCEPTED")
-    # The kinds' own forms and ranges, and a refusal in words.
+    # The kinds' own forms and ranges, and a refusal in words, of which its what-if says the same before.
+    shown.allowed.append("422 (Unprocessable Entity)")
     shown.choose("#p-flight form [name=kind]", "ICE")
     assert shown.js("return [...document.querySelector('#p-flight form .fields select').options].map((o) => o.value)") == ["NONE", "STAND", "REMOTE"]
     assert "0 with NONE, else 1 to 60" in shown.text("#p-flight form .fields")
@@ -246,11 +247,11 @@ def test_what_if(page):
     # A scenario that is refused, and a file that is wrong.
     shown.js("document.querySelector('#scenario').value = 'SCENARIO,BAD\\nTOBT,XY9,2025-03-10T06:30Z'")
     shown.click("#p-what-if form button")
-    shown.says("#wi-table", "BAD refused: update 1, UNKNOWN")
+    shown.says("#wi-table", "BAD refused at line 2: XY9 has no FLT that was accepted before this record")
     shown.allowed.append("422 (Unprocessable Entity)")
     shown.js("document.querySelector('#scenario').value = 'SCENARIO,BAD\\n<b>FOO</b>,1'")
     shown.click("#p-what-if form button")
-    shown.says("#wi-fault", "cdmseq: SCENARIOS record 2: KIND")
+    shown.says("#wi-fault", 'Line 2: field 1 "<b>FOO</b>" is none of ')
     shown.keys(Keys.ESCAPE)
     assert shown.js("return document.querySelector('.wi')") is None and shown.server.records() == before
 
@@ -264,10 +265,10 @@ def test_the_connection_is_lost_and_comes_back(page):
     shown.server.kill()
     shown.says("#conn", "CONNECTION LOST since ", seconds=2 * FACTOR)
     assert f"UTC: the connection broke. Shown: record {position}. Nothing can be sent" in shown.text("#conn")
-    assert shown.text(".now").startswith("LAST KNOWN UTC") and not shown.find("#p-flight form button").is_enabled()
+    assert shown.text(".now").startswith("LAST KNOWN UTC") and shown.find("#p-flight form button").get_attribute("aria-disabled") == "true"
     shown.server.start()
     shown.says("#conn", "Connected again at ")
-    assert shown.text(".now").startswith("NOW UTC") and shown.find("#p-flight form button").is_enabled()
+    assert shown.text(".now").startswith("NOW UTC") and shown.find("#p-flight form button").get_attribute("aria-disabled") == "false"
     shown.server.post("TOBT,DLH1,2025-03-10T06:20Z", Cdm_Role="AO")
     shown.until("return document.querySelector('#next tr[data-flight=DLH1]').innerText.includes('06:20')")
 

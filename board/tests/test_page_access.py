@@ -257,8 +257,8 @@ def test_nothing_moves_by_itself(page):
 
 
 # From two metres: rem at 1280 and on a wall.
-SIZES = {".now time": (4, 5.25), "header dd": (2.375, 3.25), "#next .big b": (1.625, 2.125), "#next th a": (1.3125, 1.625), ".band h3": (1.375, 1.375),
-         "#next": (1.0625, 1.25), "body": (1, 1)}
+SIZES = {".now time": (2.5, 2.5), "header dd": (1.75, 1.75), "#next .big b": (1.25, 1.625), "#next th a": (1, 1.25), ".band h3": (1.25, 1.25),
+         "#next": (1, 1.125), "body": (1, 1)}
 
 
 @pytest.mark.parametrize("width,root", [(1280, 16), (1920, 16), (3840, 32)])

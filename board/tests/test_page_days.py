@@ -1,5 +1,5 @@
 """The page over a change of day: the new date, without a lost connection, and no row that jumps."""
-import re
+import json
 import signal
 
 import browser
@@ -110,6 +110,15 @@ def signed_and_not(page, second):
     return signed, other
 
 
+def told_of(row):
+    """A row of the plan of the day before, as the page says it."""
+    hm = lambda time: "–" if time is None else time[11:16] if time.startswith("2025-03-10") else f"{time[8:10]} {time[11:16]}"
+    dash = lambda value: "–" if value is None else str(value)
+    words = {"OFFBLOCK": "off-block", "BLOCKED": f"blocked {row['rule']}"}
+    return [hm(row["tsat"]), row["flight"], words.get(row["status"], row["status"].lower()), dash(row["runway"]), dash(row["stand"]), hm(row["tobt"]),
+            dash(row["exot"]), hm(row["ctot"]), hm(row["ttot"]), dash(row["delay"])]
+
+
 def test_two_people_over_a_change(page, second):
     """One is signed in, with a form begun; one isn't. Neither loses the connection, no row moves or has other words but for its date, and
     both see what to know before, with the flight that is LEFT by name, and yesterday's plan as it ended."""
@@ -119,8 +128,8 @@ def test_two_people_over_a_change(page, second):
     signed.says("#p-flight form", "Kind")
     signed.choose("#p-flight form [name=kind]", "PRIO")
     signed.type("#p-flight form [name=priority]", "7")
-    old = server.get("/v1/plan").body.decode()
-    assert re.search(r"^LE1 .* 110002 ", old, re.M), old
+    old = json.loads(server.get("/v1/plan.json").body)
+    assert [row["ttot"] for row in old["flights"] if row["flight"] == "LE1"] == [AT("00:02")]
     for shown in both:
         shown.js(SEEN)
         shown.click("#date")
@@ -130,7 +139,7 @@ def test_two_people_over_a_change(page, second):
     assert before[0] == before[1] and len(before[0][0]) >= 5 and len(before[0][1]) == 10
     wait = server.request("POST", "/v1/day", "", "atc")
     assert wait.status == 409 and b"LEFT    LE1 09 AOBT 102350 TTOT 110002" in wait.body
-    assert server.request("POST", "/v1/day?even=yes", "", "atc").status == 200
+    assert server.request("POST", "/v1/day?even=yes&day=2025-03-11", "", "atc").status == 200
     for shown, (ahead, every) in zip(both, before, strict=True):
         shown.says("h1", "Tue 11 Mar 2025")
         for name in ("LE1", "GO1", "GO2"):
@@ -149,8 +158,11 @@ def test_two_people_over_a_change(page, second):
         shown.click("#date")
         shown.says("#day", "Plan of Mon 10 Mar 2025")
         shown.click("#day a")
-        shown.until("return document.querySelector('pre') !== null")
-        assert shown.js("return document.querySelector('pre').textContent") == old
+        shown.says("#day", f"Plan of Mon 10 Mar 2025, as it ended 13 flights: placed 10, late {old['late']}, blocked 0, delay {old['delay']} min.")
+        shown.until("return document.querySelectorAll('#day tbody tr').length === 13")
+        said = {row[1]: row for row in shown.js("return [...document.querySelectorAll('#day tbody tr')].map((row) => [...row.cells].map((cell) => cell.innerText))")}
+        assert said == {row["flight"]: told_of(row) for row in old["flights"]}
+        assert shown.js("return [location.pathname, document.activeElement.id]") == ["/", "h-past"]
     assert other.told() == []
 
 
@@ -162,6 +174,7 @@ def test_what_is_typed_over_a_change_of_day(page):
     shown.until("return document.querySelector('#p-flight form input[name=time]') !== null")
     shown.until("return document.querySelector('#f-records tr') !== null")
     shown.type("#p-flight form input[name=time]", "23:50")
+    shown.allowed.append("422 (Unprocessable Entity)")  # its effect, in a day that hasn't this date
     shown.says("#p-flight form .hint code", "TOBT,AB1,2025-03-10T23:50Z")
     shown.js("document.activeElement.blur()")
     left = shown.text("#desk-left")
@@ -171,6 +184,9 @@ def test_what_is_typed_over_a_change_of_day(page):
     shown.until("return document.querySelector('#f-records tr') === null")
     shown.until("return document.querySelector('#desk-left').innerText !== arguments[0]", left)
     assert shown.js("return document.querySelector('#p-flight form input[name=time]').value") == "23:50"
-    shown.js("document.querySelector('#p-flight form button:not([type])').click()")
+    press = "document.querySelector('#p-flight form button:not([type])').click()"
+    shown.js(press)
+    shown.says("#p-flight .reply", "Look again. 10 23:50 is 190 min before NOW, 03:00.")
+    shown.js(press)
     shown.says("#p-flight .reply", "Refused, RANGE.")
     assert b"TOBT,AB1,2025-03-10T23:50Z" in shown.server.get("/v1/records?desk=AO&day=2025-03-11").body

@@ -193,6 +193,7 @@ def test_who_may_read_without_a_token(page):
     shown.click('#all tr[data-flight="DLH2"] a')
     shown.says("#p-flight form", "Kind")
     assert shown.js("return [...document.querySelector('#p-flight form select').options].map((o) => o.value)") == ["TOBT", "CNL"]
+    shown.click("#show-all")
     shown.click('#all tr[data-flight="BAW3"] a')
     shown.says("#h-f", "BAW3")
     assert shown.js("return document.querySelector('#f-send').hidden") and not shown.find("#b-send").is_displayed()
@@ -234,7 +235,7 @@ def test_texts_that_try_to_be_markup(page):
     shown.open("?op=%3Cimg%20src%3Dx%20onerror%3Dwindow.hit%3D1%3E&flight=%3Cb%3E&runway=%22%3E%3Cb%3E#what-if")
     shown.js("document.querySelector('#scenario').value = 'SCENARIO,A\\n<img src=x onerror=window.hit=1>,1'")
     shown.click("#p-what-if form button")
-    shown.says("#wi-fault", "cdmseq: ")
+    shown.says("#wi-fault", "Line 2: ")
     assert shown.js("return window.hit ?? null") is None
     assert shown.js("return document.querySelectorAll('img, body script, iframe, object, main b b').length") == 0
 

@@ -352,7 +352,7 @@ def test_how_many_are_blocked(page):
 def test_several_operators(page):
     shown = page().open("?op=DLH,BAW")
     assert sorted(shown.flights("all")) == ["BAW3", "DLH1", "DLH2"]
-    assert shown.text("#filtered span") == "Filter: operator DLH or BAW. 3 of 7 flights; totals, warnings and runways show all."
+    assert shown.text("#filtered span") == "Filter: operator DLH or BAW. 3 of 7 flights: 3 placed, 0 late, 0 blocked, 5 minutes of delay, 5 at most. The line above and the runways show all."
     shown.type("#filter [name=op]", "ezy, klm")
     assert sorted(shown.flights("all")) == ["EZY7", "KLM5"]
 
@@ -397,8 +397,25 @@ def test_an_error_of_a_what_if_hides_the_comparison(page):
     shown.allowed.append("422 (Unprocessable Entity)")
     shown.js("document.querySelector('#scenario').value = 'SCENARIO,A\\nFOO,1'")
     shown.click("#p-what-if form button")
-    shown.says("#wi-fault", "SCENARIOS record 2: KIND")
+    shown.says("#wi-fault", "FOO")
     assert not shown.find("#wi-answer").is_displayed()
+
+
+def test_an_error_of_a_what_if_is_said_at_its_line(page):
+    """In the program's words, with that line marked; and of several scenarios that are compared beside the one that the day refuses."""
+    shown = page().open()
+    shown.allowed.append("422 (Unprocessable Entity)")
+    shown.click("#b-what-if")
+    shown.says("#scenario-h", "CLOSE,09,06:20,06:40")
+    shown.js("document.querySelector('#scenario').value = 'SCENARIO,A\\nTOBT,DLH1,06:20\\nCLOSE,09,06:20\\n'")
+    shown.click("#p-what-if form button")
+    shown.says("#wi-fault", "Line 3: CLOSE takes 4 fields (CLOSE, runway, from, to); this record has 3.")
+    assert "cdmseq" not in shown.text("#wi-fault")
+    assert shown.js("const box = document.querySelector('#scenario'); return box.value.slice(box.selectionStart, box.selectionEnd)") == "CLOSE,09,06:20"
+    shown.js("document.querySelector('#scenario').value = 'SCENARIO,A\\nTOBT,DLH1,06:20\\nSCENARIO,B\\nPRIO,DLH2,0\\nPRIO,XY9,0'")
+    shown.click("#p-what-if form button")
+    shown.says("#wi-table", "B refused at line 5: XY9 has no FLT that was accepted before this record")
+    assert shown.texts("#wi-table tr")[-1].startswith("difference") and not shown.find("#wi-fault").is_displayed()
 
 
 def test_a_runway_that_closes_again(page):
@@ -632,7 +649,7 @@ probe.style.color = `var(--${name})`;
 document.body.append(probe);
 const colour = getComputedStyle(probe).color;
 probe.remove();
-return [getComputedStyle(node).color === colour, getComputedStyle(node.parentNode).borderLeftColor === colour];"""
+return [getComputedStyle(node).color === colour];"""
 
 
 def test_a_day_without_records(page):
@@ -640,11 +657,15 @@ def test_a_day_without_records(page):
     shown = page(day={}).open()
     shown.says("#conn", "Connected There is no record yet.")
     assert shown.texts("header dd") == ["0"] * 5
-    for node, name in (("#n-late", "warn"), ("#n-blocked", "alarm")):
-        assert shown.js(COLOUR, node, name) == [False, False], name
+    ground = "return getComputedStyle(document.querySelector('#b-act')).backgroundColor"
+    calm = shown.js(ground)
+    assert shown.js(COLOUR, "#n-late", "warn")[0] is False and shown.text("#b-act") == "0 act now"
     fill(shown.server, {"AP": ["FLT,A1,5"]})
     shown.until("return document.querySelector('#n-blocked').textContent === '1'")
-    assert shown.js(COLOUR, "#n-blocked", "alarm") == [True, True] and shown.js(COLOUR, "#n-late", "warn") == [False, False]
+    assert shown.js(ground) == calm and shown.js(COLOUR, "#n-late", "warn")[0] is False
+    fill(shown.server, {"AO": ["TOBT,A1,2025-03-10T06:00Z"]})
+    shown.until("return document.querySelector('#n-act').textContent === '1'")
+    assert shown.js(ground) != calm
 
 
 def test_a_total_that_is_not_known_has_no_colour(page):
@@ -654,7 +675,7 @@ def test_a_total_that_is_not_known_has_no_colour(page):
     try:
         shown.open(ready=False)
         shown.until("return document.querySelector('#role').options.length > 1")
-        assert shown.text("#n-blocked") == "–" and shown.js(COLOUR, "#n-blocked", "alarm") == [False, False]
+        assert shown.text("#n-late") == "–" == shown.text("#n-act") and shown.js(COLOUR, "#n-late", "warn")[0] is False
     finally:
         shown.driver.execute_cdp_cmd("Page.removeScriptToEvaluateOnNewDocument", {"identifier": script["identifier"]})
 
@@ -677,7 +698,7 @@ def test_what_is_known_before_a_change_of_day(page, width):
     assert shown.js("const box = document.querySelector('#day'); return [box.scrollWidth <= box.clientWidth, document.activeElement === box]") == [True, True]
     answer = shown.server.request("POST", "/v1/day", "", Cdm_Role="ATC")
     assert answer.status == 409 and shown.find("#day").is_displayed()
-    answer = shown.server.request("POST", "/v1/day?even=yes", "", Cdm_Role="ATC")
+    answer = shown.server.request("POST", "/v1/day?even=yes&day=2025-03-11", "", Cdm_Role="ATC")
     assert answer.status == 200, answer
     shown.says("h1", "Tue 11 Mar 2025")
     assert not shown.find("#day").is_displayed()
@@ -750,10 +771,11 @@ def test_a_filter_that_shows_nothing_says_so(page):
 
 
 def test_warnings_of_one_flight(page):
-    """A2 is overdue and missed its window: two warnings, and one flight."""
+    """A2 is overdue and missed its window: two warnings, one flight, one place in the strip."""
     shown = page(day={"AP": ["FLT,A2,5"], "ATC": ["RWY,A2,27L"], "NM": [f"CTOT,A2,{at('06:20')}"]})
     fill(shown.server, {"ATC": [f"OFF,A2,{at('06:05')}", f"CLOCK,{at('06:40')}"]})
     shown.open()
-    assert shown.texts("#warnings li")[:2] == ["OVERDUE A2 TTOT 06:20", "MISSED A2 CTOT 06:20"] and shown.text("#h-w") == "Warnings 2 1 flight"
+    assert shown.texts("#warnings li") == ["OVERDUE A2 TTOT 06:20 MISSED CTOT 06:20", "BLOCKED, EDGE, PAST, AHEAD, FULL, SHUT: none"]
+    assert shown.text("#h-w") == "Warnings 2 1 flight"
     shown.server.post(f"AIR,A2,{at('06:21')}", Cdm_Role="ATC")
     shown.until("return document.querySelector('#h-w').innerText.trim() === 'Warnings 0'")

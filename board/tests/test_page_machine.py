@@ -21,11 +21,11 @@ FAULTS = [
     ("a sign-in during a read ends the page", "Alive", 37, [
         ("session.js", "  begin() {\n", "  begin() {\n    if (this.questions.isAsked('plan')) {\n      for (const ask of [...this.asks.values()]) this.abandon(ask);\n"
          "      this.questions.clear();\n      this.closeStream();\n      this.who = null;\n      return;\n    }\n")]),
-    ("a record without a reply gets a second key", "Said", 22, [
+    ("a record without a reply gets a second key", "Said", 165, [
         ("sending.js", "    if (!isAgain && isNothingTaken(answer)) return", "    if (isNothingTaken(answer)) this.unknown.delete(line);\n"
          "    if (isNothingTaken(answer)) return")]),
-    ("a CLOCK that came as a reset isn't counted", "Arrives", 9, [
-        ("reading.js", "    if (this.history.since >= position) this.endHistory();", "    if (since !== null || this.history.since >= position) this.endHistory();")]),
+    ("a CLOCK that came as a reset isn't counted", "Arrives", 21, [
+        ("reading.js", "    if (this.history.since >= this.history.until) this.endHistory();", "    if (!this.history.isFirst || this.history.since >= this.history.until) this.endHistory();")]),
     ("one answer that isn't understood ends all questions", "Alive", 40, [
         ("answers.js", "      isTaken = false;\n      fault =", "      if (ask.name !== 'who') throw new Error('not JSON');\n      isTaken = false;\n      fault =")]),
     ("what a box failed to show is never shown", "Arrives", 622, [
@@ -51,36 +51,47 @@ FAULTS = [
         ("reading.js", " || moment.position === need.position && !isSameMoment(moment, need)", "")]),
     ("what a log has lost since it was shown stays", "Arrives", 27473, [
         ("views.js", "      if (stream.lacks < MOST_AHEAD) return false;\n", "      if (stream.lacks) return false;\n")]),
-    ("a CLOCK in the place of a record that was lost isn't counted", "Arrives", 28174, [
-        ("reading.js", "Math.max(0, this.rows.position - RECENT) : null;", "this.rows.position : null;")]),
+    ("a record in the place of one that was lost isn't looked at", "Arrives", 21727, [
+        ("reading.js", "was ? was.position - RECENT :", "was ? was.position :")]),
+    ("a CLOCK that a box failed to show isn't counted", "Arrives", 1232822, [
+        ("reading.js", "was ? was.position - RECENT :", "was ? was.position - 1 :")]),
     ("totals that are newer than the rows are shown", "Shown", 21, [
         ("answers.js", "    if (ask.name === 'totals') this.holdTotals(", "    if (ask.name === 'totals') this.takeTotals(")]),
     ("old totals aren't said to be old", "Shown", 4, [
-        ("views.js", "const isOld = this.totals.position < this.rows.position;", "const isOld = false;")]),
+        ("views.js", "const isOld = isOlder(of, this.rows);", "const isOld = false;")]),
     ("a change of day keeps the old date", "Shown", 2, [
         ("day.js", "date: plan.day, now: plan.now", "date: this.date || plan.day, now: plan.now")]),
     ("a change of day keeps the rows that are gone", "Shown", 2, [
         ("day.js", "const rows = new Map(plan.flights.map((row) => [row.flight, row]));",
          "const rows = new Map([...this.rows.values(), ...plan.flights].map((row) => [row.flight, row]));")]),
-    ("what was sent in the day before is sent as another record", "Said", 1472, [
+    ("what was sent in the day before is sent as another record", "Said", 52, [
         ("reading.js", "    this.forgetOperators();\n    this.order(", "    this.forgetOperators();\n    this.sending.unknown.clear();\n    this.order(")]),
     ("a panel lists records of the day before", "Shown", 29, [
         ("reading.js", "    this.order({ do: 'show', what: 'past' });\n", "")]),
-    ("a panel lists records of the day before again, as they were asked for", "Shown", 52, [
+    ("a panel lists records of the day before again, as they were asked for", "Shown", 506, [
         ("answers.js", "ask.name === 'log' ? ask.path.endsWith(this.day.date) :", "ask.name === 'log' ||")]),
     ("the list of the log lacks the new day", "Shown", 29, [
         ("machine.js", " * LOG}&day=${this.day.date}` },", " * LOG}` },"),
         ("answers.js", "ask.name === 'log' ? ask.path.endsWith(this.day.date) :", "ask.name === 'log' ||")]),
     ("the operators are those of the day before", "Arrives", 2, [
         ("reading.js", "    this.forgetOperators();\n    this.order(", "    this.order(")]),
+    ("the operators of a past that is lost are taken, of the same position", "Arrives", 273516, [
+        ("answers.js", "    if (position === rows.position && !isSameMoment({ log, position, lastAt }, rows)) return !stale && this.isStranger();\n", "")]),
+    ("what was of a past that is lost stays behind a later plan", "Arrives", 21727, [
+        ("reading.js", "    if (list.some(isOther)) {\n", "    if (false) {\n")]),
     ("the operators of records that are lost stay", "Arrives", 700848, [
         ("views.js", "position > this.rows.position ? position : Infinity", "Infinity")]),
     ("the operators that came while the plan was read are dropped", "Arrives", 81, [
         ("reading.js", "    if (!this.operators || this.operatorsAt < Infinity) this.forgetOperators();", "    if (this.operators && this.operatorsAt < Infinity) this.forgetOperators();")]),
     ("the operators that a box failed to show are never shown", "Arrives", 2977, [
         ("machine.js", "      if (part === 'operators') this.operators = false;\n", "")]),
-    ("how many records are left is of the day before", "Arrives", 2, [
+    ("how many records are left is of the day before", "Arrives", 12, [
         ("reading.js", "    if (this.who?.kinds.length) this.questions.want('who', this.at + this.chance() * SOON);\n", "")]),
+    ("how many records are left is of a day that is lost", "Arrives", 1266969, [
+        ("session.js", "    return this.isWhoOfDay;\n", "    return true;\n"),
+        ("reading.js", "    else if (!this.isWhoOfDay) this.questions.want('who', this.at + this.chance() * SOON);\n", "")]),
+    ("how many records are left is of a day that ended before the first plan", "Arrives", 62, [
+        ("reading.js", "    else if (!this.isWhoOfDay) this.questions.want('who', this.at + this.chance() * SOON);\n", "")]),
     ("a question of who spoke before signs out who speaks now", "Alive", 6982, [
         ("machine.js", "    if (status === 401 && this.who) this.questions.wantNow('who', this.at);\n",
          "    if (status === 401) this.signedOut('a token of a desk is needed');\n")]),
@@ -131,10 +142,17 @@ import { Machine } from './board/page/machine.js';
 const machine = new Machine(() => 0.5);
 const asked = [];
 let at = 0;
-const give = (event) => { for (const order of machine.take({ at, now: at, ...event })) if (order.do === 'ask') asked.push({ ...order, at }); else if (order.do === 'show') shown.push(order); };
-const shown = [];
-const answer = (name, list, position) => give({ type: 'answer', id: asked.findLast((one) => one.name === name).id, status: 200, log: 'L', position, stale: null,
+const [shown, enabled] = [[], []];
+const give = (event) => {
+  for (const order of machine.take({ at, now: at, ...event })) {
+    if (order.do === 'ask') asked.push({ ...order, at });
+    else if (order.do === 'show') shown.push(order);
+    else if (order.do === 'enable') enabled.push(order.why || 'can');
+  }
+};
+const answerTo = (id, list, position, lastAt) => give({ type: 'answer', id, status: 200, log: 'L', position, lastAt, stale: null,
   retry: 0, detail: '', isOwn: true, text: list.map((one) => JSON.stringify(one)).join('\\n') });
+const answer = (name, ...words) => answerTo(asked.findLast((one) => one.name === name).id, ...words);
 const reply = (position) => `id: L-${position}\\nevent: reply\\ndata: ${JSON.stringify({ position, desk: 'AO', line: 'TOBT,A', at: String(position), reply: 'ACCEPTED', changes: [] })}\\n\\n`;
 give({ type: 'start' });
 answer('who', [{ desk: 'AO', role: 'AO', roles: [], kinds: ['TOBT'] }], NaN);
@@ -142,7 +160,18 @@ answer('kinds', [{}], NaN);
 const { number } = machine.stream;
 give({ type: 'opened', stream: number });
 give({ type: 'chunk', stream: number, text: 'id: L-1\\nevent: from\\ndata: {"position":1,"at":"1"}\\n\\n' });
-answer('plan', [{ day: '2025-03-10', now: '', flights: [] }], 1);
+const plan = [{ day: '2025-03-10', now: '', flights: [] }];
+answer('plan', plan, 1, '1');
+// For so many milliseconds all questions are answered, each by [list, position, when its record was taken].
+const pass = (milliseconds, answers = {}, usual = [[{}], 1, '1']) => {
+  for (const end = at + milliseconds; at < end; at += 100) {
+    give({ type: 'wake' });
+    for (const one of asked.filter((ask) => !ask.isDone)) {
+      one.isDone = true;
+      answerTo(one.id, ...answers[one.name] ?? usual);
+    }
+  }
+};
 """
 
 
@@ -192,6 +221,105 @@ def test_an_older_answer_is_dropped():
         round(6);
         round(8);
         console.log(...shown.filter((one) => one.name === 'next').map((one) => one.position));""") == ["7", "8"]
+
+
+TOTALS = "console.log(...shown.filter((one) => one.what === 'totals' && one.totals.delay).map((one) => `${one.totals.delay}${one.isOld ? ' old' : ''}`));"
+
+
+def test_totals_that_wait_are_of_the_past_of_the_rows():
+    """Totals of record 3 wait for it. A log that has lost it takes another one: they aren't that one's."""
+    assert driven("""
+        give({ type: 'chunk', stream: number, text: reply(2) });
+        pass(4000, { totals: [[{ delay: 7 }], 3, 'old'] }, [[{}], 2, '2']);
+        give({ type: 'chunk', stream: number, text: reply(3) });
+        pass(5000, { totals: [[{ delay: 8 }], 3, '3'] }, [[{}], 3, '3']);
+        """ + TOTALS) == ["8"]
+
+
+@pytest.mark.parametrize(("taken", "said"), [("old", ["7"]), ("other", ["8"])], ids=["the same", "another"])
+def test_totals_that_wait_for_a_refused_record(taken, said):
+    """Totals of record 3 wait. It is told that it was refused, so the rows are of it too; and so are the totals, but not where that is another
+    record in its place: then they are asked for again."""
+    assert driven(f"""
+        give({{ type: 'chunk', stream: number, text: reply(2) }});
+        const between = [{{ position: 2, at: '2', reply: 'ACCEPTED' }}, {{ position: 3, at: '{taken}', reply: 'REFUSED' }}];
+        pass(4000, {{ totals: [[{{ delay: 7 }}], 3, 'old'] }}, [[{{}}], 2, '2']);
+        pass(4000, {{ totals: [[{{ delay: 8 }}], 3, '{taken}'], between: [between, 3, '{taken}'] }}, [[{{}}], 2, '2']);
+        """ + TOTALS) == said
+
+
+@pytest.mark.parametrize(("taken", "plans"), [("old", "1"), ("other", "2")], ids=["the same", "another"])
+def test_what_is_ahead_of_the_events_is_of_their_past(taken, plans):
+    """What is next was answered of record 2, of which the events tell nothing. Where another record stands in its place, the plan is read anew."""
+    assert driven(f"""
+        pass(1500, {{ next: [[{{}}], 2, 'old'] }});
+        pass(12000, {{ plan: [plan, 1, '1'], ahead: [[{{ position: 2, at: '{taken}', reply: 'REFUSED' }}], 2, '{taken}'] }});
+        console.log(asked.filter((one) => one.name === 'plan').length);""") == [plans]
+
+
+def test_an_answer_of_another_past_is_not_shown():
+    """A server without its log still has another record 1 than the one of the rows."""
+    assert driven("""
+        shown.length = 0;
+        pass(5000, { next: [[{}], 1, 'old'] });
+        console.log(shown.filter((one) => one.name === 'next').length, shown.filter((one) => one.name === 'load').length > 0);""") == ["0", "true"]
+
+
+RESET = r"""
+const reset = (position, lastAt) => give({ type: 'chunk', stream: machine.stream.number,
+  text: `id: L-${position}\nevent: reset\ndata: ${JSON.stringify({ position, at: lastAt })}\n\n` });
+const read = (position, lastAt, history = []) => {
+  pass(4000, { plan: [plan, position, lastAt], history: [history, position, lastAt] }, [[{}], position, lastAt]);
+  console.log(asked.filter((one) => one.name === 'plan').length, shown.filter((one) => one.what === 'empty').length);
+};
+"""
+
+
+def test_a_reset_of_another_past_begins_anew():
+    """Another record stands in the place of the rows' last one: nothing stays that was of them."""
+    assert driven(RESET + "reset(1, 'other'); read(1, 'other');") == ["2", "1"]
+    assert driven(RESET + "reset(1, '1'); read(1, '1');") == ["2", "0"]
+
+
+def test_another_past_is_known_over_a_lost_connection():
+    """The plan is asked for again behind where the next events begin, and once."""
+    assert driven(RESET + """
+        reset(1, 'other');
+        give({ type: 'ended', stream: machine.stream.number, status: 0, detail: 'broke', retry: 0 });
+        for (; !machine.stream; at += 100) give({ type: 'wake' });
+        give({ type: 'opened', stream: machine.stream.number });
+        reset(3, '3');
+        read(3, '3');""") == ["3", "1"]
+
+
+def test_another_past_is_known_by_its_records():
+    """The plan is of a later record, and behind it one finds that another record stands where the rows' last one stood."""
+    found = "[{ position: 1, at: '%s', reply: 'ACCEPTED', line: '' }, { position: 3, at: '3', reply: 'ACCEPTED', line: '' }]"
+    assert driven(RESET + f"reset(3, '3'); read(3, '3', {found % 'other'});") == ["3", "1"]
+    assert driven(RESET + f"reset(3, '3'); read(3, '3', {found % '1'});") == ["2", "0"]
+
+
+@pytest.mark.parametrize(("of", "least"), [("{ log: 'L', day: '2025-03-10' }", 1), ("{ log: 'L', day: '2025-03-11' }", 3), ("{ log: 'M', day: '2025-03-10' }", 3)])
+def test_who_is_asked_until_it_is_of_the_day_that_is_shown(of, least):
+    told = driven(f"""
+        asked.length = 0;
+        give({{ type: 'tab' }});
+        pass(10000, {{ who: [[{{ desk: 'AO', role: 'AO', roles: [], kinds: ['TOBT'], ...{of} }}], NaN] }});
+        console.log(asked.filter((one) => one.name === 'who').length);""")
+    assert int(told[0]) == 1 if least == 1 else int(told[0]) >= least
+
+
+def test_why_nothing_can_be_sent():
+    """As the log goes away and comes back, and as the connection does."""
+    assert driven("""
+        enabled.length = 0;
+        for (const since of ['2025-03-10T05:00:00Z', undefined]) {
+          pass(10000);
+          give({ type: 'chunk', stream: number, text: ':\\n\\n' });
+          pass(10000, { health: [[{ stale_since: since }], NaN] });
+        }
+        give({ type: 'ended', stream: number, status: 0, detail: 'broke', retry: 0 });
+        console.log(...enabled);""") == ["away", "can", "lost"]
 
 
 def test_a_first_load_reads_the_plan_once():

@@ -4,7 +4,9 @@ import json
 import re
 import shutil
 import subprocess
+import sys
 
+import pytest
 from conftest import ROOT
 
 
@@ -13,8 +15,15 @@ REFERENCE = re.compile(r'(?:href|src)="(/page-([0-9a-f]{16})/[^"]+)"')
 
 def sent(path):
     """A file as a browser gets it: a module without the lines that are comments alone."""
-    lines = path.read_bytes().splitlines(keepends=True)
-    return b"".join(line for line in lines if path.suffix != ".js" or not line.lstrip(b" ").startswith(b"//"))
+    lines, kept, is_comment = path.read_bytes().splitlines(keepends=True), [], False
+    if path.suffix != ".js":
+        return b"".join(lines)
+    for line in lines:
+        is_comment = is_comment or line.lstrip(b" ").startswith((b"//", b"/**"))
+        if not is_comment:
+            kept.append(line)
+        is_comment = is_comment and not line.lstrip(b" ").startswith(b"//") and not line.rstrip().endswith(b"*/")
+    return b"".join(kept)
 
 
 def test_the_page_s_files_are_those_of_one_version(board, tmp_path):
@@ -61,3 +70,22 @@ def test_the_page_s_files_are_those_of_one_version(board, tmp_path):
     _, _, later = start()
     assert later != digest and server.get(f"/page-{digest}/main.js").status == 404
     assert server.get(f"/page-{later}/times.js").body == sent(page / "times.js")
+
+
+def test_a_face_where_it_is_installed(tmp_path):
+    """Its files are served only where Debian's package is, and the page names its sheet without asking for it."""
+    sys.path.insert(0, str(ROOT))
+    from board.files import FACES, Files
+    from board.words import Problem
+    bare = Files(face=tmp_path)
+    assert b'href="face.css"' in bare.index().body
+    with pytest.raises(Problem):
+        bare.get(bare.digest, "face.css")
+    for name in FACES.values():
+        (tmp_path / name).write_bytes(name.encode())
+    files = Files(face=tmp_path)
+    assert f'rel="alternate" href="/page-{files.digest}/face.css"'.encode() in files.index().body
+    sheet = files.get(files.digest, "face.css")
+    for own in re.findall(rb"url\(([^)]+)\)", sheet.body):
+        assert files.get(files.digest, own.decode()).body == FACES[own.decode()].encode()
+    assert files.get(files.digest, "face.otf").headers["Content-Type"].startswith("font/otf")

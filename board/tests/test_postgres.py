@@ -2,6 +2,7 @@
 import asyncio
 import concurrent.futures
 import contextlib
+import datetime
 import http.client
 import itertools
 import json
@@ -79,6 +80,41 @@ def test_the_servers_user_can_only_append_and_read(primary):
     assert url.startswith("postgresql://cdm@")
 
 
+WHAT_READS = {"export": (), "export --all": (), "export --raw": (), "export --airport": (), "verify": (), "audit": (), "backup": ("copy.db",)}
+
+
+def test_whoever_only_reads_has_a_login_that_writes_nothing(board, primary, tmp_path):
+    """With it each command that reads a log runs. It reads no secret, and calls no function of a server, nor can it keep a lock."""
+    server = board(log=primary.url())
+    server.post(["FLT,AB1,5", "FOO"], Cdm_Role="AP")
+    primary.sql("DROP ROLE IF EXISTS reports; CREATE ROLE reports LOGIN IN ROLE cdm_reader")
+    for command, more in WHAT_READS.items():
+        ended = cdmboard(*command.split(), primary.url("reports"), *(tmp_path / name for name in more))
+        assert (ended.returncode, ended.stderr) == (0, ""), (command, ended)
+    assert cdmboard("verify", tmp_path / "copy.db").stdout == "2 records, 1 accepted, 0 digests of replies\n"
+    for text in ("SELECT secret FROM cdm_log", "SELECT * FROM cdm_log", "SELECT * FROM cdm_session", "SELECT cdm_append('', '[]')", "SELECT cdm_keep('', '[]')",
+                 "SELECT cdm_note('', '[]')", "SELECT cdm_sign_out('', 'd', 1)", "SELECT cdm_hold('', '1s')", "SELECT FROM cdm_log FOR SHARE", "CREATE TABLE own (x integer)",
+                 "BEGIN; LOCK cdm_record IN EXCLUSIVE MODE", "INSERT INTO cdm_digest VALUES ('', 1000, '')", "DELETE FROM cdm_record", "SET ROLE cdm_server"):
+        with pytest.raises(RuntimeError, match="permission denied"):
+            primary.sql(text, who="reports")
+    assert cdmboard(server.airport, primary.url("reports")).returncode != 0
+    primary.sql("DROP OWNED BY reports; DROP ROLE reports")
+
+
+def test_no_login_keeps_a_digest_that_no_server_makes(primary):
+    """Each server that finds one ends. The database takes digests of whole thousands of records alone, and of records that are there."""
+    primary.sql("SELECT cdm_append('', '[]', 'id', 'x', 'v')", who="cdm")
+    lines = ", ".join(f'["AP", "A{number}"]' for number in range(1001))
+    primary.sql(f"""SELECT cdm_append('', '[{{"desk": "d", "most": 2000, "end": 2000, "at": "t", "closed": false, "records": [{lines}]}}]')""", who="cdm")
+
+    def keep(position, at="t"):
+        return primary.sql(f"""SELECT cdm_keep('', '[[{position}, "d", "AP", "A{position - 1}", "{at}", "{'0' * 64}"]]')""", who="cdm")
+    for position in (1, 999, 1001):
+        with pytest.raises(RuntimeError, match="cdm_digest_made"):
+            keep(position)
+    assert keep(2000) == keep(1000, "u") == "{}" and json.loads(keep(1000)) == {"1000": "0" * 64}
+
+
 def test_no_login_stops_a_board(primary):
     """Who may connect to the cluster gets neither into the database nor at the lock of a board; a secret is no two boards'."""
     take = """SELECT cdm_append('', '[{"desk": "d", "most": 9, "end": 9, "at": "t", "closed": false, "records": [["AP", "A"]]}]')"""
@@ -105,7 +141,7 @@ def test_init_by_an_owner_who_is_no_superuser():
     """As a managed database has one: it owns the database and may create roles. Run again it changes nothing, and keeps no right."""
     with clusters.clusters(settings=QUICK) as (primary,):
         primary.sql("DROP DATABASE cdm", "postgres")
-        primary.sql("DROP ROLE cdm; DROP ROLE cdm_server; DROP ROLE cdm_owner; CREATE ROLE manager LOGIN CREATEROLE", "postgres")
+        primary.sql("DROP ROLE cdm, cdm_server, cdm_reader, cdm_owner; CREATE ROLE manager LOGIN CREATEROLE", "postgres")
         primary.sql("CREATE DATABASE cdm OWNER manager", "postgres")
         for _ in range(2):
             ended = cdmboard("log", "init", primary.url("manager"))
@@ -372,22 +408,25 @@ def test_two_programs_of_the_same_rules_serve_one_board(board, primary, before):
 def test_a_change_of_day_beside_the_last_release(board, primary, before):
     """Its program carries nothing over, so its server begins no day, and says why; the day that another server begins is the same for both,
     and so it is after a start."""
-    old, new = board(log=primary.url(), start=False), board(log=primary.url(), start=False)
+    # Two days whose second one ended at the last midnight, so that the change is due.
+    today = datetime.datetime.now(datetime.timezone.utc).date()
+    first, second = (str(today - datetime.timedelta(days=days)) for days in (2, 1))
+    old, new = (board(log=primary.url(), start=False, airport=AIRPORT.replace("2025-03-10", first)) for _ in range(2))
     old.program(before)
     old.options += ["--day-at", "03:00"]
     old.start(), new.start()
     old.post(["FLT,AB1,5", "FLT,CD2,5"], Cdm_Role="AP")
-    old.post(["TOBT,AB1,2025-03-11T06:00Z", "CNL,CD2"], Cdm_Role="AO")
-    until(lambda: "2025-03-11 doesn't begin yet: this server's program can't carry a day over" in old.told())
-    for answer in (old.get("/v1/day.json"), old.request("POST", "/v1/day", "", Cdm_Role="ATC"),
-                   old.request("POST", "/v1/day?even=yes", "", Cdm_Role="ATC")):
+    old.post([f"TOBT,AB1,{second}T06:00Z", "CNL,CD2"], Cdm_Role="AO")
+    until(lambda: f"{second} doesn't begin yet: this server's program can't carry a day over" in old.told())
+    even_so = f"/v1/day?even=yes&day={second}"
+    for answer in (old.get("/v1/day.json"), old.request("POST", "/v1/day", "", Cdm_Role="ATC"), old.request("POST", even_so, "", Cdm_Role="ATC")):
         assert answer.status == 503 and "this server's program can't carry a day over" in json.loads(answer.body)["detail"]
     assert len(new.records()) == 4
-    assert json.loads(new.request("POST", "/v1/day?even=yes", "", Cdm_Role="ATC").body)["position"] == 5
+    assert json.loads(new.request("POST", even_so, "", Cdm_Role="ATC").body)["position"] == 5
     for _ in range(2):
         old.post(["FLT,EF3,5"], Cdm_Role="AP", key="k")
         plans = [json.loads(server.get("/v1/plan.json", Cdm_After="6").body) for server in (old, new)]
-        assert plans[0] == plans[1] and plans[0]["day"] == "2025-03-11" and [row["flight"] for row in plans[0]["flights"]] == ["AB1", "EF3"]
+        assert plans[0] == plans[1] and plans[0]["day"] == second and [row["flight"] for row in plans[0]["flights"]] == ["AB1", "EF3"]
         assert old.end() == 0
         old.start()
     # A server of that release itself would take both days for one. It serves a log of its own version alone.
@@ -603,7 +642,7 @@ def test_a_dump_in_a_new_database_is_served(board, primary):
     server = board(log=primary.url())
     server.post(["FLT,AB1,5", "FOO"], Cdm_Role="AP", key="k")
     before, log_id = server.records(), json.loads(server.get("/v1/who").body)["log"]
-    primary.sql(f"INSERT INTO cdm_digest VALUES ('', 2, '{'1' * 64}')")
+    primary.sql(f"INSERT INTO cdm_digest VALUES ('', 1000, '{'1' * 64}')")
     dump, at = primary.data.parent / "cdm.dump", ("-h", "127.0.0.1", "-p", primary.port, "-U", "postgres")
     clusters.run("pg_dump", *at, "-Fc", "-f", dump, "cdm")
     server.post(["FLT,AB2,5"], Cdm_Role="AP")
@@ -611,8 +650,9 @@ def test_a_dump_in_a_new_database_is_served(board, primary):
     other, own = (f"{primary.url(who).removesuffix('/cdm')}/restored" for who in ("postgres", "cdm"))
     assert cdmboard("log", "init", other).returncode == 0
     clusters.run("pg_restore", *at, "-d", "restored", "--data-only", "--single-transaction", dump)
-    assert primary.sql("SELECT position, digest FROM cdm_digest", "restored") == f"2|{'1' * 64}"
-    assert cdmboard(server.airport, own).returncode == 3, "no reply of before has this digest"
+    assert primary.sql("SELECT position, digest FROM cdm_digest", "restored") == f"1000|{'1' * 64}"
+    ended = cdmboard(server.airport, own)
+    assert ended.returncode == 3 and "there were 1000 records or more" in ended.stderr
     primary.sql("DELETE FROM cdm_digest", "restored")
     copy = board(log=own)
     assert copy.records() == [record | ({"changes": None} if "changes" in record else {}) for record in before]

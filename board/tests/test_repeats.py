@@ -105,10 +105,12 @@ def test_pages_repeat_what_is_there():
     ("README.md", "`cdm_feed::run_asked`, the call", "`cdm_feed::run`, the call",
      "README.md: the call behind `plan` isn't one that crates/cdm_main/src/main.rt makes"),
     ("docs/PROVED.md", "the clause `passed` says", "the clause `passed_on` says", "docs/PROVED.md: `passed_on`: no passed_on in the code"),
+    ("docs/DECISIONS.md", "**`judge` returns", "**`judge_of` returns", "docs/DECISIONS.md: `judge_of`: no judge_of in the code"),
+    ("docs/DECISIONS.md", "(`TAKING_LIMIT` of", "(`TAKING_BOUND` of", "docs/DECISIONS.md: `TAKING_BOUND`: no TAKING_BOUND in the code"),
 ])
 def test_what_is_otherwise_is_found(tmp_path, page, old, new, difference):
     """In a copy of the pages with one of these edits; the code is the repository's own."""
-    for name in ("crates", "crates.txt"):
+    for name in ("crates", "crates.txt", "board", "packaging"):
         (tmp_path / name).symlink_to(ROOT / name)
     for name in ("README.md", "CONTRIBUTING.md", "docs"):
         (shutil.copytree if (ROOT / name).is_dir() else shutil.copy)(ROOT / name, tmp_path / name)
@@ -244,6 +246,17 @@ def test_the_service_s_options_are_those_of_the_package():
     page, note = ((ROOT / name).read_text() for name in ("docs/RUN.md", "packaging/README.Debian"))
     found = re.search(r"echo '(OPTIONS=.*? --name (\S+) .*?)' \| sudo tee", page)
     assert found is not None and f"echo '{found[1]}' |" in note and f"server_name {found[2]};" in page
+
+
+def test_each_option_of_the_server_is_explained_to_who_runs_it():
+    """And each command."""
+    words = (ROOT / "board/__main__.py").read_text()
+    pages = "".join((ROOT / f"docs/{name}.md").read_text() for name in ("RUN", "POSTGRES"))
+    options = re.findall(r'add_argument\("(--[a-z-]+)"', words)
+    commands = set(re.findall(r'command\("(\w+)",', words)) - {"serve"}
+    assert len(options) > 10 and len(commands) == 7
+    assert [option for option in options if not re.search(rf"{option}\b(?!-)", pages)] == []
+    assert [name for name in sorted(commands) if not re.search(rf"\bcdmboard\"? {name}\b", pages)] == []
 
 
 def test_what_is_installed_is_named_as_it_is():

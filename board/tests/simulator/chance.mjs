@@ -4,12 +4,12 @@
 export class Chance {
   /** @param {number} seed */
   constructor(seed) {
-    this.state = seed >>> 0;
+    this.state = seed | 0;
   }
 
   /** From 0 to 1. */
   draw() {
-    this.state = (this.state + 0x6d2b79f5) >>> 0;
+    this.state = (this.state + 0x6d2b79f5) | 0;
     let mixed = Math.imul(this.state ^ (this.state >>> 15), this.state | 1);
     mixed ^= mixed + Math.imul(mixed ^ (mixed >>> 7), mixed | 61);
     return ((mixed ^ (mixed >>> 14)) >>> 0) / 4294967296;
@@ -40,8 +40,9 @@ export class Agenda {
     this.count = 0;
   }
 
-  get size() {
-    return this.heap.length;
+  /** When what is next is to happen. */
+  get next() {
+    return this.heap.length ? this.heap[0].at : Infinity;
   }
 
   put(at, what) {

@@ -95,7 +95,6 @@ export class Judge {
 
   check(at) {
     const { machine, world } = this;
-    this.seeDay();
     if (machine.state !== 'out' && !Number.isFinite(machine.wakeAt)) throw new Broken('Alive', `the state ${machine.state} waits for ever`);
     if (this.state !== machine.state) throw new Broken('Shown', `the state ${machine.state} isn't said`);
     if (this.state === 'out' || this.state === 'new') return;
@@ -107,14 +106,6 @@ export class Judge {
     if (!this.isDirty || world.faulty) return;
     this.isDirty = false;
     this.checkRows(isOld);
-  }
-
-  /** Which day the page knows, and what it knew of its desk before that one. */
-  seeDay() {
-    const { rows, day } = this.machine;
-    if (!rows || this.log === rows.log && this.known === day.date) return;
-    if (this.log) this.whoBefore = this.who;
-    Object.assign(this, { log: rows.log, known: day.date });
   }
 
   /** What a panel tells of a day is of the one that is shown. */
@@ -204,9 +195,10 @@ export class Judge {
     const { date } = world.log.states.at(-1);
     const [operators] = this.boxes.get('operators')?.list ?? [];
     if (operators?.date !== date) throw new Broken('Arrives', `the operators are of ${operators?.date}, the day is ${date}`);
-    const day = `${world.log.id} ${date}`;
-    const isAskedSince = this.who !== this.whoBefore && (!this.who?.isAfter || this.who.of === day);
-    if (this.who?.kinds.length && !isAskedSince) throw new Broken('Arrives', `how many records are left is of ${this.who.of}, the day is ${day}`);
+    const isThere = world.log.states.some(({ stamp }) => operators.of === `${world.log.id}/${stamp}`);
+    if (!isThere) throw new Broken('Arrives', `the operators are of ${operators.of}, which is lost`);
+    const left = `${this.who?.log} ${this.who?.day}`;
+    if (this.who?.kinds.length && left !== `${world.log.id} ${date}`) throw new Broken('Arrives', `how many records are left is of ${left}, the day is ${world.log.id} ${date}`);
     const listed = this.boxes.get('log')?.list.at(-1)?.position ?? 0;
     const last = world.log.records.findLast((record) => record.isAccepted)?.position ?? 0; // who else is refused is told to nobody
     if (machine.panel.open === 'send' && listed < last) throw new Broken('Arrives', `the last record that is listed is ${listed}, of the log ${last}`);

@@ -1,7 +1,7 @@
 // Drives the page's own machine through schedules drawn by a seed, against a model of servers, and holds it to its laws.
 //   node board/tests/simulator/page.mjs [--schedules N] [--seed N] [--page FOLDER] [--told] [--until LAW]
 // By --until the first schedule that breaks this law is the last one.
-// The last line says how many schedules were run and how many broke a law; of the first that did, its seed, the law and why.
+// The last line says how many schedules were run and how many broke a law; before it, of each that did, its seed, the law and why.
 import { resolve } from 'node:path';
 import { fileURLToPath, pathToFileURL } from 'node:url';
 import { Chance } from './chance.mjs';
@@ -13,6 +13,8 @@ const GIVEN_UP = 42000; // ms until whatever was lost before is given up
 const ARRIVES = 10000; // ms of quiet after which the day is shown
 const LOSSY = 4; // of so many schedules one has a log that loses records
 const LINES = ['TOBT,A', 'TOBT,A', 'TOBT,B'];
+const DRAWN = new Set(['replies', 'plan', 'answer']);
+const MOST_TOLD = 100; // schedules that broke a law
 const HERE = fileURLToPath(new URL('.', import.meta.url));
 
 /** One schedule. Raises Broken. */
@@ -25,7 +27,7 @@ class Schedule {
     this.judge = new Judge(this.world, this.machine);
     this.keys = 0;
     this.wakeAt = Infinity;
-    this.forms = new Map();
+    this.steps = 0;
   }
 
   run() {
@@ -53,20 +55,30 @@ class Schedule {
   }
 
   until(end) {
-    const { agenda } = this.world;
-    while (agenda.size && agenda.heap[0].at <= end) {
+    const { world, world: { agenda } } = this;
+    while (Math.min(agenda.next, this.wakeAt) <= end) {
+      if (this.wakeAt < agenda.next) {
+        world.at = this.wakeAt;
+        this.wakeAt = Infinity;
+        this.steps += 1;
+        this.give({ type: 'wake' });
+        continue;
+      }
       const { at, what } = agenda.take();
-      this.world.at = at;
+      world.at = at;
+      this.steps += 1;
       what();
     }
-    this.world.at = end;
+    world.at = end;
   }
 
   /** An event to the machine; its orders are carried out. */
   give(event) {
     const { world } = this;
-    if (this.isTold) console.log(Math.round(world.at), '>', JSON.stringify(event).slice(0, 300));
-    const orders = this.machine.take({ at: world.at, now: world.now, ...event });
+    if (this.isTold) console.log(Math.round(world.at), '>', JSON.stringify({ ...event, at: undefined, now: undefined }).slice(0, 300));
+    event.at = world.at;
+    event.now = world.now;
+    const orders = this.machine.take(event);
     const faults = [];
     for (const order of orders) {
       if (this.isTold) console.log(Math.round(world.at), '  <', JSON.stringify(order, (key, value) => (value instanceof Map ? [...value.keys()] : value)).slice(0, 300));
@@ -78,7 +90,7 @@ class Schedule {
 
   carryOut(order, faults) {
     const { world } = this;
-    const isShown = order.do === 'show' && ['replies', 'plan', 'answer'].includes(order.what);
+    const isShown = order.do === 'show' && DRAWN.has(order.what);
     if (isShown && !world.isQuiet && this.chance.is(0.01)) {
       faults.push(order.what === 'answer' ? order.name : 'rows');
       world.faulty = order.what !== 'answer' || world.faulty;
@@ -90,15 +102,7 @@ class Schedule {
     if (order.do === 'abandon') world.abandoned(order.id);
     if (order.do === 'open') world.open(order);
     if (order.do === 'close') world.closed(order.stream);
-    if (order.do === 'wait') this.wait(order.until);
-  }
-
-  wait(until) {
-    this.wakeAt = until;
-    if (!Number.isFinite(until)) return;
-    this.world.agenda.put(Math.max(until, this.world.at), () => {
-      if (this.wakeAt === until) this.give({ type: 'wake' });
-    });
+    if (order.do === 'wait') this.wakeAt = Math.max(order.until, world.at);
   }
 
   /** Somebody or something does something. */
@@ -151,7 +155,7 @@ export async function run({ folder, schedules, seed, until, isTold = false }) {
       const law = fault instanceof Broken ? fault.law : 'Alive';
       failed.push({ seed: seed + number, law, why: fault instanceof Broken ? fault.message : fault.stack });
     }
-    steps += schedule.world.agenda.count;
+    steps += schedule.steps;
     if (until && failed.at(-1)?.law === until) break;
   }
   return { failed, steps, seconds: process.cpuUsage(began).user / 1e6 };
@@ -161,7 +165,7 @@ const words = process.argv.slice(2);
 const said = (name, otherwise) => (words.includes(`--${name}`) ? words[words.indexOf(`--${name}`) + 1] : otherwise);
 const schedules = Number(said('schedules', 50000));
 const { failed, steps, seconds } = await run({ folder: said('page', resolve(HERE, '../../page')), schedules, seed: Number(said('seed', 1)), until: said('until'), isTold: words.includes('--told') });
-for (const { seed, law, why } of said('until') ? failed.slice(-1) : failed.slice(0, 5)) console.log(`seed ${seed} breaks ${law}: ${why}`);
+for (const { seed, law, why } of said('until') ? failed.slice(-1) : failed.slice(0, MOST_TOLD)) console.log(`seed ${seed} breaks ${law}: ${why}`);
 const laws = [...new Set(failed.map((one) => one.law))].map((law) => `${failed.filter((one) => one.law === law).length} ${law}`);
 console.log(`${schedules} schedules, ${steps} steps, ${seconds.toFixed(1)} s of a processor: ${failed.length} broke a law${laws.length ? ` (${laws.join(', ')})` : ''}`);
 process.exitCode = failed.length ? 1 : 0;

@@ -3,6 +3,8 @@
 export const FLIGHTS = ['AB1', 'AB2', 'AB3', 'AB4'];
 const KEPT = 12; // records of which a server still has what they changed
 const DESKS = ['ATC', 'AO'];
+/** What a view has, and whose answer that is. */
+const VIEWED = [['totals', '/v1/compare'], ['next', '/v1/next.json'], ['warnings', '/v1/warnings.json'], ['load', '/v1/load.json']];
 
 /** A log of records; what was lost of it is kept for the judge. */
 export class Log {
@@ -20,7 +22,8 @@ export class Log {
     const before = this.states.at(-1);
     if (record.isClock) record.line = `CLOCK,${nowOf({ clock: `${this.eras.length}.${position}` })}`;
     if (record.isChange) record.line = `DAY,${nextDay(before.date)}`;
-    this.records.push(Object.assign(record, { position }));
+    record.position = position;
+    this.records.push(record);
     this.states.push(record.isChange ? nextState(before, record, this.eras.length) : record.isAccepted ? stateOf(before, record, this.eras.length) : before);
     return record;
   }
@@ -51,14 +54,16 @@ function nextState(before, record, era) {
 
 const nextDay = (date) => new Date(Date.parse(date) + 86400000).toISOString().slice(0, 10);
 
-const rowOf = (log, name, stamp) => ({ flight: name, status: 'PLANNED', runway: '27L', stand: null, priority: 5, group: 'M', tobt: null, exot: 15, ctot: null,
-  tsat: `${log}/${stamp}`, ttot: null, delay: 0, rule: null });
+const rowOf = (log, name, stamp) => ({ flight: name, status: 'PLANNED', tsat: `${log}/${stamp}`, delay: 0, rule: null });
 
 /** The Rows of a day, as a plan has them. */
 export const rowsOf = (log, state) => state.stamps.flatMap((stamp, at) => (stamp === null ? [] : [rowOf(log, FLIGHTS[at], stamp)]));
 
 /** The totals of a day: their delay says which one. */
 export const totalsOf = (log, state) => ({ scenario: null, placed: state.last, late: 0, blocked: 0, delay: `${log}/${state.stamp}`, max: 0 });
+
+/** A moment of a clock as a word, the later one behind the earlier one. */
+export const wordOf = (at) => String(Math.floor(at));
 
 export const nowOf = (state) => `2025-03-10T${state.clock}`;
 
@@ -112,8 +117,13 @@ export class Server {
     return { position, desk, role: desk, line, at, reply: 'ACCEPTED', accepted: position, changes };
   }
 
+  /** The text of a reply; it is made once, with what the record changed and without. */
+  replyText(record, isWhole = this.isKept(record)) {
+    return record.texts[Number(isWhole)] ??= JSON.stringify(this.reply(record, isWhole));
+  }
+
   event(position, name, data) {
-    return `id: ${this.log.id}-${position}\nevent: ${name}\ndata: ${JSON.stringify(data)}\n\n`;
+    return `id: ${this.log.id}-${position}\nevent: ${name}\ndata: ${data}\n\n`;
   }
 
   /** When the record at a position was taken. */
@@ -122,7 +132,7 @@ export class Server {
   }
 
   momentEvent(name, position) {
-    return this.event(position, name, { position, at: this.lastAt(position) });
+    return this.event(position, name, `{"position":${position},"at":"${this.lastAt(position)}"}`);
   }
 
   /** The events behind a position, as a desk gets them. */
@@ -132,8 +142,8 @@ export class Server {
     for (let at = since; at < this.has; at += 1) {
       const record = this.records[at];
       if (record.isBig) text += this.momentEvent('reset', record.position);
-      else if (record.isAccepted) text += this.event(record.position, 'reply', this.reply(record, true));
-      else if (record.desk === desk) text += this.event(record.position, 'refused', this.reply(record));
+      else if (record.isAccepted) text += this.event(record.position, 'reply', this.replyText(record, true));
+      else if (record.desk === desk) text += this.event(record.position, 'refused', this.replyText(record));
     }
     return text;
   }
@@ -146,9 +156,8 @@ export class Server {
   }
 
   view(without) {
-    const view = { position: this.has, totals: totalsOf(this.log.id, this.state), next: this.told(), warnings: this.told(), load: this.told() };
-    for (const name of without) delete view[name];
-    return `event: view\ndata: ${JSON.stringify(view)}\n\n`;
+    const members = VIEWED.filter(([name]) => name !== without).map(([name, path]) => `,"${name}":${name === 'totals' ? this.text(path) : `[${this.text(path)}]`}`);
+    return `event: view\ndata: {"position":${this.has}${members.join('')}}\n\n`;
   }
 
   /** Each day's answer is made once. */
@@ -163,12 +172,7 @@ export class Server {
     return [{ of: `${this.log.id}/${state.stamp}`, date: state.date }];
   }
 
-  /** Of which day it tells: its log's, and the date. */
-  get day() {
-    return `${this.log.id} ${this.state.date}`;
-  }
-
-  /** The records behind a position, all of one day; null where that isn't of the log. */
+  /** The text of records behind a position, all of one day; null where that isn't of the log. */
   found(since, date, most) {
     const { records, states } = this;
     const first = date === undefined ? since : states.findIndex((state) => state.date === date) - 1;
@@ -176,31 +180,32 @@ export class Server {
     const list = records.slice(Math.max(first, since), Math.max(first, since) + most);
     const end = list.findIndex((record, at) => at > 0 && record.isChange);
     const found = date !== undefined ? list.filter((record) => states[record.position].date === date) : end < 0 ? list : list.slice(0, end);
-    return found.map((record) => ({ ...this.reply(record), date: states[record.position].date }));
+    return found.map((record) => `${this.replyText(record).slice(0, -1)},"date":"${states[record.position].date}"}`).join('\n');
   }
 
-  /** What it answers to a question about the day; of records so many at most. */
-  answer(path, most = Infinity) {
+  /** What it answers to a question about the day. */
+  answer(path) {
     if (path === '/v1/plan.json') {
       const { scenario, ...totals } = totalsOf(this.log.id, this.state);
       return [{ day: this.state.date, now: nowOf(this.state), flights: rowsOf(this.log.id, this.state), ...totals }];
     }
     if (path === '/v1/compare') return [totalsOf(this.log.id, this.state)];
-    const since = /^\/v1\/records\?since=(\d+)(?:&day=(.+))?$/.exec(path);
-    if (since) return this.found(Number(since[1]), since[2], most);
-    const date = /^\/v1\/records\?flight=.*&day=(.+)$/.exec(path);
-    const state = date && this.states.findLast((one) => one.date === date[1]);
-    return date && !state ? null : this.told(state ?? this.state);
+    const [, date] = path.split('&day=');
+    const state = date === undefined ? this.state : this.states.findLast((one) => one.date === date);
+    return state ? this.told(state) : null;
   }
 }
 
 /** Objects as an answer has them, one a line; null where there is none. */
 export const textOf = (list) => list && list.map((one) => JSON.stringify(one)).join('\n');
 
+/** What any record has. */
+const NEW = { position: 0, desk: '', line: '', key: null, at: '', isAccepted: false, isClock: false, isBig: false, isChange: false, isSure: true, log: null, gone: null, flights: null, texts: null };
+
 /** A change of day, drawn: which flights stay behind, and which others are another Row. */
 export function changeOf(chance, at) {
   const [gone, flights] = [0.4, 0.1].map((share) => FLIGHTS.map((name, flight) => flight).filter(() => chance.is(share)));
-  return { desk: 'day-at', line: '', key: null, at: new Date(at).toISOString(), isAccepted: true, isClock: false, isBig: false, isChange: true, gone, flights };
+  return { ...NEW, texts: [null, null], desk: 'day-at', at: wordOf(at), isAccepted: true, isChange: true, gone, flights };
 }
 
 /** A record of somebody, drawn. */
@@ -211,5 +216,5 @@ export function recordOf(chance, number, at, desk = chance.of(DESKS)) {
   const flights = isBig ? FLIGHTS.map((name, flight) => flight) : isClock || kind < 0.5 ? [chance.below(FLIGHTS.length)] : [];
   if (kind >= 0.5 && kind < 0.9) flights.push(chance.below(FLIGHTS.length));
   const isAccepted = kind < 0.9;
-  return { desk, line: `${isClock ? 'CLOCK' : 'TOBT'},${number}`, key: null, at: new Date(at).toISOString(), isAccepted, isClock: isClock && isAccepted, isBig: isBig && isAccepted, flights };
+  return { ...NEW, texts: [null, null], desk, line: `${isClock ? 'CLOCK' : 'TOBT'},${number}`, at: wordOf(at), isAccepted, isClock: isClock && isAccepted, isBig: isBig && isAccepted, flights };
 }

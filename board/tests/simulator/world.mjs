@@ -1,6 +1,6 @@
 // A model of the network between a page and its servers, and of whoever else speaks: what happens when is drawn by a seed.
 import { Agenda } from './chance.mjs';
-import { Log, Server, changeOf, recordOf, textOf } from './servers.mjs';
+import { Log, Server, changeOf, recordOf, textOf, wordOf } from './servers.mjs';
 
 const COMMENT = 15000; // ms between two comments of a stream
 const TOGETHER = 100; // ms: events are written together
@@ -16,7 +16,8 @@ const OWN = 'application/problem+json';
  */
 export class World {
   constructor(chance, give, isLossy = false) {
-    Object.assign(this, { chance, give, isLossy, agenda: new Agenda(), asks: new Map(), notBefore: new Map(), at: 0, isQuiet: false, streams: new Map(), isOpen: chance.is(0.4), records: 0, logs: [] });
+    Object.assign(this, { chance, give, isLossy, agenda: new Agenda(), asks: new Map(), notBefore: new Map(), at: 0, isQuiet: false, isAway: false, faulty: false });
+    Object.assign(this, { streams: new Map(), isOpen: chance.is(0.4), records: 0, logs: [] });
     this.hasViews = chance.is(0.6);
     this.anyone = chance.is(0.3);
     this.cookie = this.isOpen || chance.is(0.3) ? null : { desk: 'AO', isTaken: true };
@@ -39,11 +40,16 @@ export class World {
 
   draw(log, desk) {
     const record = recordOf(this.chance, this.records += 1, this.now, desk);
-    return Object.assign(record, { isSure: this.chance.is(this.isLossy ? 0.3 : 0.7), log });
+    record.isSure = this.chance.is(this.isLossy ? 0.3 : 0.7);
+    record.log = log;
+    return record;
   }
 
   drawChange(log) {
-    return Object.assign(changeOf(this.chance, this.now), { isSure: this.chance.is(0.7), log });
+    const record = changeOf(this.chance, this.now);
+    record.isSure = this.chance.is(0.7);
+    record.log = log;
+    return record;
   }
 
   get now() {
@@ -146,7 +152,7 @@ export class World {
   away(pause = this.chance.between(300, this.isLossy ? 1000 : 8000)) {
     if (this.isAway || this.servers.some((server) => server.staleSince !== null)) return;
     this.isAway = true;
-    for (const server of this.servers) server.staleSince = new Date(this.now).toISOString();
+    for (const server of this.servers) server.staleSince = wordOf(this.now);
     this.later(pause, () => {
       this.isAway = false;
       let sure = this.log.records.length;
@@ -201,7 +207,7 @@ export class World {
   }
 
   without() {
-    return this.chance.is(0.1) ? [this.chance.of(['totals', 'next', 'warnings', 'load'])] : [];
+    return this.chance.is(0.1) ? this.chance.of(['totals', 'next', 'warnings', 'load']) : '';
   }
 
   comment(one) {
@@ -226,10 +232,11 @@ export class World {
   deliver(one, event) {
     if (one.isSilent) return;
     one.last = Math.max(one.last, this.at + this.way());
+    event.stream = one.number;
     this.agenda.put(one.last, () => {
       if (one.isSilent || one.isClosed) return;
       one.heardAt = this.at;
-      this.give({ ...event, stream: one.number });
+      this.give(event);
     });
   }
 
@@ -286,7 +293,8 @@ export class World {
     if (one.isDead || !server.isUp) return;
     const since = one.starts === server.starts ? one.had : -1;
     if (since === server.has) return;
-    Object.assign(one, { had: server.has, starts: server.starts });
+    one.had = server.has;
+    one.starts = server.starts;
     this.write(one, server.events(since, this.desk(one)));
   }
 
@@ -375,7 +383,8 @@ export class World {
     if (!ask.isAnswered) answer.then?.();
     if (!ask.isAnswered && answer.retry && !BY_HAND.includes(ask.name)) this.notBefore.set(ask.name, this.at + answer.retry * 1000);
     ask.isAnswered = true;
-    this.give({ type: 'answer', id: ask.id, ...answer });
+    answer.id = ask.id;
+    this.give(answer);
   }
 
   answer(ask, cookie, server) {
@@ -386,21 +395,22 @@ export class World {
     if (denied) return failed(denied, 'a token of a desk is needed', OWN);
     if (path === '/v1/records' && method === 'POST') return this.take(ask, cookie, server);
     if (method === 'GET' && ask.after > server.has) return failed(503, 'this position isn’t here yet', OWN, 1);
-    if (path === '/v1/who') return this.found(server, [{ ...this.who(ask, cookie), of: server.day, isAfter: ask.after > 0 }], false);
+    if (path === '/v1/who') return this.found(server, [this.who(ask, cookie, server)], false);
     if (path === '/v1/kinds') return this.found(server, [{ kind: 'TOBT' }], false);
     if (path.startsWith('/v1/why/') && this.chance.is(0.05)) return failed(404, 'no flight', OWN);
-    const text = path.startsWith('/v1/records?since=') ? textOf(server.answer(path, ask.name === 'history' ? FOUND : Infinity)) : server.text(path);
+    const since = /^\/v1\/records\?since=(\d+)(?:&day=(.+))?$/.exec(path);
+    const text = since ? server.found(Number(since[1]), since[2], ask.name === 'history' ? FOUND : Infinity) : server.text(path);
     return text === null ? failed(404, 'the log has no such day', OWN) : this.found(server, text, true);
   }
 
   found(server, list, isOfDay) {
-    return { status: 200, text: typeof list === 'string' ? list : textOf(list), detail: '', retry: 0, isOwn: true, log: isOfDay ? server.log.id : '',
+    return { type: 'answer', id: 0, status: 200, text: typeof list === 'string' ? list : textOf(list), detail: '', retry: 0, isOwn: true, log: isOfDay ? server.log.id : '',
       position: isOfDay ? server.has : NaN, lastAt: isOfDay ? server.lastAt(server.has) : undefined, stale: isOfDay ? server.staleSince : undefined };
   }
 
-  who(ask, cookie) {
+  who(ask, cookie, server) {
     const desk = this.isOpen ? ask.role || null : cookie?.desk ?? null;
-    return { desk, role: desk ?? 'READ', kinds: desk ? ['TOBT'] : [], roles: this.isOpen ? ['AO', 'ATC'] : [], left: 1 };
+    return { desk, role: desk ?? 'READ', kinds: desk ? ['TOBT'] : [], roles: this.isOpen ? ['AO', 'ATC'] : [], left: 1, log: server.log.id, day: server.state.date };
   }
 
   session(ask) {
@@ -424,7 +434,7 @@ export class World {
       const isPast = record.position < server.first && !this.isQuiet && this.chance.is(0.2); // its day can't be read at present
       const isHere = server.has >= record.position && server.records[record.position - 1] === record && !isPast;
       if (!isHere && this.at < until && server.isUp) { this.later(50, wait); return; }
-      this.send(ask, isHere && server.isUp ? this.found(server, [server.reply(record)], false) : failed(504, 'no reply yet', OWN), fate ?? (this.isQuiet ? 1 : this.chance.draw()));
+      this.send(ask, isHere && server.isUp ? this.found(server, server.replyText(record), false) : failed(504, 'no reply yet', OWN), fate ?? (this.isQuiet ? 1 : this.chance.draw()));
     };
     wait();
     return null;
@@ -432,4 +442,5 @@ export class World {
 }
 
 /** An answer that is none. */
-const failed = (status, detail, type = '', retry = 0) => ({ status, text: '', log: '', position: NaN, stale: undefined, detail, retry, isOwn: type === OWN });
+const failed = (status, detail, type = '', retry = 0) => ({ type: 'answer', id: 0, status, text: '', detail, retry, isOwn: type === OWN, log: '', position: NaN, lastAt: undefined,
+  stale: undefined });

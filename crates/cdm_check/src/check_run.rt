@@ -20,6 +20,7 @@ use crate::paths::FilePaths;
 use crate::place::Cause;
 use crate::scenario_updates::refused_updates;
 use crate::scenario_words::scenario_fault;
+use crate::stands::stand_hints;
 use crate::walk::FeedWalk;
 use cdm_day::Airport;
 use cdm_files::{FileFault, Inputs, Judged, Lent, judge, read_airport, read_scenarios};
@@ -42,6 +43,8 @@ struct Told {
     standing: Option<String>,
     // The refused updates of scenarios.
     updates: Vec<String>,
+    // The flights whose stands have no taxi time.
+    stands: Vec<String>,
 }
 
 // One call drops it, in place of its fields one by one at each exit of each function that owns it.
@@ -53,6 +56,7 @@ impl Drop for Told {
             told: _,
             standing: _,
             updates: _,
+            stands: _,
         } = self;
     }
 }
@@ -154,6 +158,7 @@ fn one_line(
         told: 1,
         standing: None,
         updates: Vec::new(alloc),
+        stands: Vec::new(alloc),
     })
 }
 
@@ -168,6 +173,7 @@ fn no_lines(alloc: Global) -> Told
         told: 0,
         standing: None,
         updates: Vec::new(alloc),
+        stands: Vec::new(alloc),
     }
 }
 
@@ -280,12 +286,14 @@ fn told_of_judged(
     }
     let told = listed.len() + scenario.refused;
     let updates = refused_updates(alloc, judged, feed, &inputs.third)?;
+    let stands = stand_hints(alloc, judged, feed)?;
     Ok(Told {
         lines,
         refused: judged.refused.len() + scenario.refused,
         told,
         standing,
         updates,
+        stands,
     })
 }
 
@@ -395,7 +403,14 @@ pub fn check_of<R: Threads + Sync, G: Gate>(
         &[],
     )?;
     let standing = found.standing.as_deref();
-    let feed = feed_hints(alloc, format, paths.feed, &inputs.second, standing)?;
+    let feed = feed_hints(
+        alloc,
+        format,
+        paths.feed,
+        &inputs.second,
+        standing,
+        &found.stands,
+    )?;
     let scenarios = scenario_hints(
         alloc,
         format,

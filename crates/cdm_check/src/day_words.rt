@@ -397,8 +397,8 @@ fn exot_of(before: Before<'_>, flight: &KnownFlight, runway: RunwayName) -> Opti
     Some(taxi.saturating_add(flight.remote))
 }
 
-// The taxi time from a place to a runway, of the feed or else of the airport file.
-fn taxi_of(before: Before<'_>, place: Place, runway: RunwayName) -> Option<u16> {
+/// The taxi time from a place to a runway, of the feed or else of the airport file.
+pub(crate) fn taxi_of(before: Before<'_>, place: Place, runway: RunwayName) -> Option<u16> {
     if let Some(minutes) = before.known.taxi(&place, &runway) {
         return Some(minutes.get());
     }

@@ -42,13 +42,14 @@ pub(crate) fn hints_of(
     lines_of(alloc, format, path, &hints)
 }
 
-/// The hints on a feed, a line each. The first of them stands for all its records, where there is such a hint.
+/// The hints on a feed, a line each: one that stands for all its records and those on the whole file, or else the latter and further ones.
 pub(crate) fn feed_hints(
     alloc: Global,
     format: Format,
     path: &str,
     text: &[u8],
     standing: Option<&str>,
+    further: &[String],
 ) -> Result<Vec<u8>, AllocError>
     requires { length text.now ≤ input_limit }
     ensures { IfOk result (λ hints.
@@ -56,7 +57,7 @@ pub(crate) fn feed_hints(
 {
     match standing {
         Some(hint) => standing_hints(alloc, format, path, text, hint),
-        None => hints_of(alloc, format, path, FileKind::Feed, text, &[]),
+        None => hints_of(alloc, format, path, FileKind::Feed, text, further),
     }
 }
 
@@ -169,6 +170,9 @@ fn explanation(alloc: Global, file: FileKind, text: &[u8]) -> Result<Option<Stri
     if is_utf16(text) {
         return Ok(Some(String::from_str(alloc, "it is UTF-16; save it as UTF-8")?));
     }
+    if text.starts_with(b"\0\0") {
+        return Ok(Some(String::from_str(alloc, "it begins with NUL bytes; the file is damaged")?));
+    }
     let mut rows = Rows::new(alloc, text);
     if rows.read()? {
         explanation_by(alloc, file, &rows)
@@ -238,15 +242,28 @@ fn name_of(file: FileKind) -> &'static str {
     }
 }
 
-// Whether a text is UTF-16: it begins with a mark of it, or every other byte at its beginning is 0.
+// Whether a text is UTF-16: it begins with a mark of it, or every other byte at its beginning is 0, and no other.
 fn is_utf16(text: &[u8]) -> bool {
     match text {
         [0xFF, 0xFE, ..] | [0xFE, 0xFF, ..] => true,
-        [first, second, third, fourth, ..] => {
-            (*first == 0 && *third == 0) || (*second == 0 && *fourth == 0)
-        }
+        [first, second, third, fourth, ..] => is_wide(&[*first, *second, *third, *fourth]),
         _ => false,
     }
+}
+
+/// Whether every other byte of a text is 0, and no other, as in UTF-16.
+pub(crate) fn is_wide(text: &[u8]) -> bool {
+    has_zeros_at(text, 0) || has_zeros_at(text, 1)
+}
+
+// Whether the bytes at even places are those that are 0, if `first` is 0, or those at odd places, if it is 1.
+fn has_zeros_at(text: &[u8], first: usize) -> bool {
+    for (place, byte) in text.iter().enumerate() {
+        if (*byte == 0) != (place % 2 == first) {
+            return false;
+        }
+    }
+    true
 }
 
 // What stands between the fields of a first record that has no comma.

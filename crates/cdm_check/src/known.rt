@@ -123,6 +123,11 @@ impl Known {
         })
     }
 
+    /// What is known of each flight, by name.
+    pub fn flights(&self) -> &BTreeMap<FlightName, KnownFlight> {
+        &self.flights
+    }
+
     /// What is known of a flight.
     pub fn flight(&self, name: FlightName) -> Option<&KnownFlight> {
         self.flights.get(&name)

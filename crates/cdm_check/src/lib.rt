@@ -23,6 +23,7 @@ mod rows;
 mod scenario_updates;
 mod scenario_words;
 mod shown;
+mod stands;
 mod time_words;
 mod times;
 mod walk;

@@ -2,6 +2,7 @@
 
 use crate::fields::{FieldOf, faulty_field, field_at, kind_of};
 use crate::forms::Form;
+use crate::hints::is_wide;
 use crate::kinds::{FileKind, RecordKind, kinds_by_word};
 use crate::partners::{RoleList, partner_of, role_meant};
 use crate::shown::{Shown, where_spaces_are};
@@ -45,8 +46,12 @@ pub(crate) fn cause_in_record(
 // Why a row is no record of a file, whatever the file: other programs put it there.
 fn no_record(row: &ByteRecord) -> Option<&'static str> {
     let first = field_at(row, 0);
-    if first.contains(&0) || first.starts_with(b"\xFF\xFE") || first.starts_with(b"\xFE\xFF") {
+    let is_marked = first.starts_with(b"\xFF\xFE") || first.starts_with(b"\xFE\xFF");
+    if is_marked || (first.contains(&0) && is_wide(first)) {
         return Some("these bytes are UTF-16: save the file as UTF-8");
+    }
+    if first.contains(&0) {
+        return Some("NUL bytes are in field 1: the file is damaged");
     }
     if row.len() > 1 && is_blank(row) {
         return Some("all fields are empty: remove this line");

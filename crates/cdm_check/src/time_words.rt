@@ -1,6 +1,6 @@
 //! Which part of a day or a time is wrong, and the day or the time as it should be written.
 
-use crate::times::{DateText, after_midnight, bound_time, date_in, second_midnight};
+use crate::times::{DateText, WrittenTime, after_midnight, bound_time, date_in, second_midnight};
 use cdm_files::number_field;
 use cdm_kinds::Field;
 use cdm_time::{Day, TimeFault};
@@ -336,6 +336,9 @@ pub(crate) fn wrong_time(
     text: &[u8],
 ) -> Result<Option<String>, AllocError> {
     let text = text.trim_ascii();
+    if let Some(words) = of_report(alloc, day, field, text)? {
+        return Ok(Some(words));
+    }
     let Some(parts) = parts_of(text) else {
         return without_clock(alloc, day, text);
     };
@@ -380,12 +383,92 @@ fn mended(
 ) -> Result<String, AllocError> {
     let (hour, minute) = (parts.clock.hour, parts.clock.minute);
     let mended = format!(in alloc; "{date}T{hour:02}:{minute:02}Z")?;
-    if parts.is_local() || !is_time(day, field, mended.as_bytes()) {
-        let example = DateText(day);
-        format!(in alloc; "{wrong}: a time is written {example}T06:00Z")
-    } else {
-        format!(in alloc; "{wrong}: write {mended}")
+    if parts.is_local() {
+        return match in_utc(day, parts.zone, mended.as_bytes()) {
+            Some(time) => format!(in alloc; "{wrong}: write {time}"),
+            None => format!(in alloc; "{wrong}: convert it to UTC"),
+        };
     }
+    if is_time(day, field, mended.as_bytes()) {
+        return format!(in alloc; "{wrong}: write {mended}");
+    }
+    let example = DateText(day);
+    format!(in alloc; "{wrong}: a time is written {example}T06:00Z")
+}
+
+// The minutes by which a time zone differs from UTC, and whether it is ahead, if it is a sign and hours: +1, -0530 or +01:00.
+fn offset_of(zone: &[u8]) -> Option<(u16, bool)> {
+    let (digits, rest) = digits_of(behind(zone, b'+', b'-')?);
+    let (hours, minutes) = match (digits.len(), rest.is_empty()) {
+        (4, true) => cut_at(digits, 2),
+        (_, true) => (digits, b"00".as_slice()),
+        (_, false) => (digits, behind(rest, b':', b':')?),
+    };
+    let (hours, minutes) = (number_field(hours).ok()?, number_field(minutes).ok()?);
+    if hours > 14 || minutes > 59 {
+        return None;
+    }
+    Some((hours * 60 + minutes, zone.starts_with(b"+")))
+}
+
+// The time in UTC of one that is written as if it were UTC, if its time zone says by how much it differs and both are on the two days.
+fn in_utc(day: Day, zone: &[u8], written: &[u8]) -> Option<WrittenTime> {
+    let (offset, is_ahead) = offset_of(zone.trim_ascii())?;
+    let minute = day.minute_of(written).ok()?.get();
+    let minute = if is_ahead {
+        minute.checked_sub(offset)?
+    } else {
+        minute.checked_add(offset)?
+    };
+    if minute < 2880 {
+        bound_time(day, minute)
+    } else {
+        None
+    }
+}
+
+// What is wrong with a time as reports print it: day of the month, hour and minute. Nothing if the text isn't of six digits.
+fn of_report(
+    alloc: Global,
+    day: Day,
+    field: Field,
+    text: &[u8],
+) -> Result<Option<String>, AllocError> {
+    let (digits, rest) = digits_of(text);
+    if digits.len() != 6 || !rest.is_empty() {
+        return Ok(None);
+    }
+    let wrong = "only reports write times so";
+    for midnight in [bound_time(day, 0), second_midnight(day)] {
+        if let Some(written) = on_date(alloc, midnight, digits)? {
+            if is_time(day, field, written.as_bytes()) {
+                return Ok(Some(format!(in alloc; "{wrong}: write {written}")?));
+            }
+        }
+    }
+    let example = DateText(day);
+    Ok(Some(format!(in alloc; "{wrong}: a time is written {example}T06:00Z")?))
+}
+
+// The time of six digits on the date of a midnight, if it is that day of the month.
+fn on_date(
+    alloc: Global,
+    midnight: Option<WrittenTime>,
+    digits: &[u8],
+) -> Result<Option<String>, AllocError> {
+    let Some(midnight) = midnight else {
+        return Ok(None);
+    };
+    let date = date_in(midnight.bytes());
+    let (of_month, clock) = cut_at(digits, 2);
+    if !date.ends_with(of_month) {
+        return Ok(None);
+    }
+    let (hour, minute) = cut_at(clock, 2);
+    let date = str::from_utf8(date).unwrap_or_default();
+    let hour = str::from_utf8(hour).unwrap_or_default();
+    let minute = str::from_utf8(minute).unwrap_or_default();
+    Ok(Some(format!(in alloc; "{date}T{hour}:{minute}Z")?))
 }
 
 // What is wrong with a text that is a date alone.

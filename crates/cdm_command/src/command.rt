@@ -4,7 +4,9 @@ ghost use Rattle.cdm_command.specs.declared.command.CommandFault.TheVariants as 
 
 use crate::manual::{VERSION, manual};
 use crate::parsers::parser;
-use cdm_feed::{Ahead, CarryText, DayQuestion, DayText, GroupBy, Input, ShiftQuestion, Since};
+use cdm_feed::{
+    Ahead, CarryText, DayQuestion, DayText, GroupBy, Input, SheetQuestion, ShiftQuestion, Since,
+};
 use cdm_flight::{FlightName, RunwayName};
 use cdm_kinds::Format;
 use cdm_phase::Workers;
@@ -242,6 +244,11 @@ fn format_of(words: &ArgMatches<'_>) -> Format {
         Some("json") => Format::Json,
         _ => Format::Text,
     }
+}
+
+// Whether the output is rows of CSV.
+fn is_csv(words: &ArgMatches<'_>) -> bool {
+    words.get_str("format") == Some("csv")
 }
 
 // What one worker tells of a day, which these words ask for.
@@ -509,7 +516,12 @@ fn load_of<'a>(alloc: Global, load: &ArgMatches<'a>) -> Result<Option<Command<'a
         Some(word) => Some(runway_in(alloc, word)?),
         None => None,
     };
-    question_of(alloc, load, DayQuestion::View(Question::Load(runway)))
+    let question = if is_csv(load) {
+        DayQuestion::Sheet(SheetQuestion::Load(runway))
+    } else {
+        DayQuestion::View(Question::Load(runway))
+    };
+    question_of(alloc, load, question)
 }
 
 // The words of `next`, all of which the parser has seen to but the minutes and the scenario.
@@ -524,7 +536,16 @@ fn shift_of<'a>(
     words: &ArgMatches<'a>,
     question: ShiftQuestion,
 ) -> Result<Option<Command<'a>>, CommandFault> {
-    question_of(alloc, words, DayQuestion::Shift(question))
+    let asked = told_as(is_csv(words), question);
+    question_of(alloc, words, asked)
+}
+
+// What a shift asks, told as rows of CSV or otherwise.
+fn told_as(is_csv: bool, question: ShiftQuestion) -> DayQuestion {
+    match is_csv {
+        true => DayQuestion::Sheet(SheetQuestion::Shift(question)),
+        false => DayQuestion::Shift(question),
+    }
 }
 
 // How many minutes ahead is looked.

@@ -423,6 +423,11 @@ CAUSES
   answer for the day with all updates of that scenario. If one of them is
   refused, there is no answer, and the status is 3.
 
+  next, warnings, causes and load take --format csv as well: a row that names
+  the columns, then one row per start-up, warning, group or cell. The columns
+  are the members in JSON below, those of load runway, cell, from, placed, cap,
+  closed and flights. Times and values are written as those of plan.
+
 COMPARE
   compare ranks the base plan and the scenarios. For the three example files
   cdmseq compare airport.csv feed.csv what_if.csv SHUT prints:
@@ -510,7 +515,8 @@ PICTURE
   pattern show what it waits for. A flight off-block or airborne has a bar from
   its AOBT. Closed minutes are hatched. Blocked flights are listed below with
   their rules. In a scenario * marks the flights that change. Point at a flight
-  to see its line and its waiting times.
+  to see its line and its waiting times. Each scenario is drawn whole: with 64
+  scenarios of a full day the file has tens of megabytes.
 
 LIVE
   live runs two desks concurrently on one shared day: desk 1 sends FEED1, and
@@ -594,14 +600,15 @@ KINDS
   is of, the roles that may send it, and the field's name, form and range.
 
 THE BOARD
-  cdmboard is a second program: it serves one day of one airport over HTTP, to
-  browsers and to programs. It decides who may speak, and keeps every record in
-  a log; cdmseq decides everything else.
+  cdmboard is a second program: it serves one airport over HTTP, day after day,
+  to browsers and to programs. It decides who may speak, and keeps every record
+  of all days in a log; cdmseq decides everything else.
 
     cdmboard AIRPORT LOG [--desks FILE] [--listen HOST:PORT] [--name HOST]
              [--tls CERT KEY | --behind-proxy] [--board NAME] [--clock]
+             [--day-at HH:MM]
     cdmboard import AIRPORT LOG FEED
-    cdmboard export LOG [--all | --raw]
+    cdmboard export LOG [--all | --raw | --airport] [--day YYYY-MM-DD]
     cdmboard backup LOG FILE
     cdmboard verify LOG
     cdmboard audit LOG
@@ -617,9 +624,14 @@ THE BOARD
   --name   a further name of the server, as browsers call it
   --board  the name of the board in the log; every command with LOG takes it
   --clock  sends CLOCK each minute, by the machine's UTC time
+  --day-at begins the next day at this time, UTC, from 01:00 to 21:59. Flights
+           that aren't airborne go on, as with carry. Without it the tower's
+           desks begin the next day
   import   makes FEED the first records of a new log; all must be accepted
-  export   prints the accepted records as a feed; --all prints every record with
-           its desk, time and reply, --raw every record without asking cdmseq
+  export   prints the accepted records of the last day as a feed, or of --day;
+           --all prints every record of all days, or of --day, with its desk,
+           time and reply, --raw every record without asking cdmseq, --airport
+           the day's airport file
   backup   copies the log of one moment to a new file, also while it is served
   verify   has cdmseq reply to all records again, and compares the replies
   audit    prints who signed in and out, and from where each record came

@@ -14,7 +14,7 @@ use std::alloc::{AllocError, Global};
 /// How the output can be written.
 const FORMATS: &[&str] = &["text", "json"];
 
-/// How a plan and a comparison can be written.
+/// How a plan, a comparison and most answers can be written.
 const TABLE_FORMATS: &[&str] = &["text", "csv", "json"];
 
 /// What the causes of delays can be grouped by.
@@ -176,12 +176,17 @@ fn day_parser<'a>(
         ))
 }
 
-// The words of a question of a day or of a scenario over it, behind those that are the question's own.
-fn question_parser<'a>(parser: Parser<'a>, alloc: Global) -> Result<Parser<'a>, AllocError> {
+// The words of a question of a day or of a scenario over it, behind those that are the question's own, with the formats of its answer.
+fn question_parser<'a>(
+    parser: Parser<'a>,
+    alloc: Global,
+    formats: &'a [&'a str],
+    help: &'a str,
+) -> Result<Parser<'a>, AllocError> {
     parser
         .arg(scenarios_arg(alloc, OVER_THE_FEED))?
         .arg(scenario_arg(alloc))?
-        .arg(format_arg(alloc, FORMATS, TEXT_OR_JSON))?
+        .arg(format_arg(alloc, formats, help))?
         .arg(strict_arg(alloc))
 }
 
@@ -193,7 +198,7 @@ fn why_parser<'a>(alloc: Global) -> Result<Parser<'a>, AllocError> {
         "FLIGHT",
         "The flight that is asked for",
     ).allow_negative_numbers(true);
-    question_parser(parser.arg(flight)?, alloc)
+    question_parser(parser.arg(flight)?, alloc, FORMATS, TEXT_OR_JSON)
 }
 
 // The words that `load` takes.
@@ -202,7 +207,12 @@ fn load_parser<'a>(alloc: Global) -> Result<Parser<'a>, AllocError> {
     let runway = Arg::new(alloc, "RUNWAY")
         .allow_negative_numbers(true)
         .help("One runway alone");
-    question_parser(parser.arg(runway)?, alloc)
+    question_parser(
+        parser.arg(runway)?,
+        alloc,
+        TABLE_FORMATS,
+        "text, csv (a row per cell) or json",
+    )
 }
 
 // The words that `next` takes.
@@ -211,13 +221,23 @@ fn next_parser<'a>(alloc: Global) -> Result<Parser<'a>, AllocError> {
     let minutes = Arg::new(alloc, "MINUTES")
         .allow_negative_numbers(true)
         .help("How far ahead, 1 to 2880 minutes; 60 without it");
-    question_parser(parser.arg(minutes)?, alloc)
+    question_parser(
+        parser.arg(minutes)?,
+        alloc,
+        TABLE_FORMATS,
+        "text, csv (a row per start-up) or json",
+    )
 }
 
 // The words that `warnings` takes.
 fn warnings_parser<'a>(alloc: Global) -> Result<Parser<'a>, AllocError> {
     let parser = day_parser(alloc, "warnings", WARNINGS_ABOUT, WARNINGS_EXAMPLE)?;
-    question_parser(parser, alloc)
+    question_parser(
+        parser,
+        alloc,
+        TABLE_FORMATS,
+        "text, csv (a row per warning) or json",
+    )
 }
 
 // The words that `causes` takes.
@@ -229,7 +249,12 @@ fn causes_parser<'a>(alloc: Global) -> Result<Parser<'a>, AllocError> {
         .value_parser(GROUPS)
         .hide_possible_values(true)
         .help("runway or operator: a line for each of them");
-    question_parser(parser.arg(by)?, alloc)
+    question_parser(
+        parser.arg(by)?,
+        alloc,
+        TABLE_FORMATS,
+        "text, csv (a row per group) or json",
+    )
 }
 
 // The flight that a trace is of.

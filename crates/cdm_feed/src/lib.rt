@@ -17,7 +17,7 @@ pub use cdm_files::{
     read_scenarios, read_whole, records_are_read_back, refusals_of, role_of, updates_of, words_of,
     write_text,
 };
-pub use cdm_shift::{Ahead, DayQuestion, GroupBy, ShiftQuestion};
+pub use cdm_shift::{Ahead, DayQuestion, GroupBy, SheetQuestion, ShiftQuestion};
 pub use cdm_trace::Since;
 pub use counted::Counted;
 pub use laws::{one_text, one_text_each};

@@ -57,7 +57,8 @@ fn line_of<R: AllocGlobal + Files + io::Input + Threads + Sync>(
     }
 }
 
-// The line of a check of the airport file and the scenario file that names this record of the file of this path.
+// The line of a check of the airport file and the scenario file that names this record of the file of this path, behind the hint that
+// this is another file, if there is one.
 fn finding_in<R: AllocGlobal + Files + io::Input + Threads + Sync>(
     rt: &R,
     files: DayFiles<'_>,
@@ -75,9 +76,12 @@ fn finding_in<R: AllocGlobal + Files + io::Input + Threads + Sync>(
     let middle = format!(in alloc; ": record {number}: {word}: ")?;
     let found = text.lines().find(|line| line.starts_with(begin.as_str())
         && line.contains(middle.as_str()));
-    match found {
-        Some(line) => Ok(Some(String::from_str(alloc, line)?)),
-        None => Ok(None),
+    let hint = format!(in alloc; "{begin} this looks like ")?;
+    let hint = text.lines().find(|line| line.starts_with(hint.as_str()));
+    match (hint, found) {
+        (Some(hint), Some(line)) => Ok(Some(format!(in alloc; "{hint}\n{line}")?)),
+        (None, Some(line)) => Ok(Some(String::from_str(alloc, line)?)),
+        (_, None) => Ok(None),
     }
 }
 

@@ -1,4 +1,6 @@
 pub mod Stops
 pub mod LineLemmas
 pub mod WriteLemmas
-pub mod WholeLemmas
+pub mod CallLemmas
+pub mod RenameLemmas
+pub mod ReadLemmas

@@ -4,7 +4,7 @@ use Rattle.std.proofs.{Common.{Some, IfSome, refl, sym, ap, subst, arith, append
 use Rattle.std.proofs.lemmas.{Bool.Decides.leb_tells, List.{append-nil, length-append, length-take-le, take-append-le, take_all}}
 use Rattle.std.{proofs.KnownBytes.Consumes-trans, specs.Io.BufRead.{DropsThrough, drop_through}, specs.Io.KnownBytes.{Consumes, IsAtEnd}}
 use Rattle.std.specs.List.{AllByRecursion}
-use Rattle.cdm_port.specs.{Event.{Event, line_limit}, Event.Event.{Broken, End, Line}, Heard.{IsLine, first_line, heard_as, heard_in}}
+use Rattle.cdm_port.specs.{Event.{Event, line_limit}, Event.Event.{Broken, Line}, Heard.{IsLine, first_line, heard_as, heard_in}}
 use Rattle.cdm_port.specs.inner.Reading.{line_with}
 
 abbrev pub HasNoLf : List ℕ → Type 0

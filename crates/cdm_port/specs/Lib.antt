@@ -1,4 +1,5 @@
 pub mod Disk
+pub mod Calls
 pub mod Event
 pub mod Heard
 pub mod Stop

@@ -1,37 +1,16 @@
-//! Reading and writing, in the steps that a port tells.
-ghost use Rattle.std.specs.Prelude.{◌≡◌, ◌≤◌, ◌<◌, length, take, vec_len, IfOk, IfSome, IsErrOf, IsNone, OnOk, option_to_list};
+//! Reading the input and writing the output, in the steps that a port tells.
+ghost use Rattle.std.specs.Prelude.{◌≡◌, ◌≤◌, length, take, IfOk, IfSome, IsNone, OnOk, option_to_list};
 ghost use Rattle.std.specs.Io.BufRead.{DropsThrough};
 ghost use Rattle.std.specs.Io.KnownBytes.{Appends, Consumes, IsAtEnd};
-ghost use Rattle.cdm_port.specs.Event.{journal_limit};
 ghost use Rattle.cdm_port.specs.Heard.{IsHeard, event_of, heard_in};
 ghost use Rattle.cdm_port.specs.inner.Reading.{line_with};
-ghost use Rattle.cdm_port.specs.declared.fault.PortFault.TheVariants as fault;
 
-use crate::fault::{JOURNAL_LIMIT, PortFault};
-use crate::file::JournalFile;
+use crate::fault::PortFault;
 use crate::heard::{Heard, LINE_LIMIT};
 use crate::reason::Reason;
 use std::alloc::{AllocError, Global};
 use std::io;
 use std::io::{ErrorKind, Read, Write};
-
-/// All bytes that a journal's reader has left.
-///
-/// `JournalTooLong` where it has more than [`JOURNAL_LIMIT`], and else `CannotReadJournal` or `Memory`.
-pub(crate) fn read_whole<R: Read>(alloc: Global, reader: &mut R) -> Result<Vec<u8>, PortFault>
-    ensures whole { IfOk result (λ bytes. IfSome (R.remaining reader.old) (λ all. bytes.items ≡ all)) }
-    ensures limit { IfOk result (λ bytes. vec_len bytes ≤ journal_limit) }
-    ensures too_long { IsErrOf result fault.JournalTooLong → IfSome (R.remaining reader.old) (λ all. journal_limit < length all) }
-{
-    let mut bytes = Vec::new(alloc);
-    let mut most = reader.take(JOURNAL_LIMIT as u64 + 1);
-    match most.read_to_end(&mut bytes) {
-        Ok(_) if bytes.len() <= JOURNAL_LIMIT => Ok(bytes),
-        Ok(_) => Err(PortFault::JournalTooLong),
-        Err(error) if error.kind() == ErrorKind::OutOfMemory => Err(PortFault::Memory),
-        Err(error) => Err(PortFault::CannotReadJournal(Reason::of(&error))),
-    }
-}
 
 // The next byte of a reader, or none at its end. A read that a signal interrupts is made again.
 fn next_byte<R: Read>(reader: &mut R) -> io::Result<Option<u8>>
@@ -101,23 +80,4 @@ pub(crate) fn write_counted<W: Write>(writer: &mut W, bytes: &[u8]) -> (usize, R
         }
     }
     (count, Err(Reason::Told(ErrorKind::Interrupted)))
-}
-
-/// Writes bytes at a journal's end, and answers how many of them were written, and why not all.
-///
-/// `JournalChanged` where the journal isn't the file that was opened, as long as what was written, and then nothing is written; and
-/// `CannotWriteJournal`.
-pub(crate) fn append_counted<J: JournalFile>(
-    journal: &mut J,
-    bytes: &[u8],
-) -> (usize, Result<(), PortFault>)
-    ensures count { result.0 ≤ length bytes.now }
-    ensures all { OnOk result.1 (result.0 ≡ length bytes.now) }
-    ensures written { Appends (J.contents journal.old) (J.contents journal.new) (take result.0 bytes.now) }
-{
-    if !journal.is_own() {
-        return (0, Err(PortFault::JournalChanged));
-    }
-    let (count, written) = write_counted(journal, bytes);
-    (count, written.map_err(PortFault::CannotWriteJournal))
 }

@@ -7,6 +7,7 @@ mod fault;
 mod file;
 mod happening;
 mod heard;
+mod journal;
 mod lock;
 mod opened;
 mod port;

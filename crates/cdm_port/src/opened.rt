@@ -1,27 +1,17 @@
-//! The journal of a day in the file system, with its lock. What is done with it once it is open is told by the calls that its
-//! disk notes; how it is opened is to be read here.
-ghost use Rattle.std.specs.Prelude.{◌≡◌, ◌∷◌, ◌++◌, [], true, false, None, Some, Ok, IsErrAnd, IfErr, IfOk, IfSome, IsNone, OnErr, OnOk, string_bytes, take};
-ghost use Rattle.std.specs.Fd.{file_raw_fd};
-ghost use Rattle.std.specs.Io.{ReadsAtMost, WritesAtMost};
-ghost use Rattle.std.specs.Io.KnownBytes.{ReadConsumes, WriteAppends};
+//! The journal of a day in the file system, with its lock. What is done with it is told by the calls that its disk notes.
+ghost use Rattle.std.specs.Prelude.{◌≡◌, ◌++◌, [], true, false, Some, codes, string_bytes, IfErr, IfOk, IfSome, IsNone, OnErr, OnOk};
 ghost use Rattle.std.specs.IoError.{error_kind};
-ghost use Rattle.std.specs.declared.io.ErrorKind.TheVariants.{NotFound, Other};
-ghost use Rattle.cdm_port.specs.Disk.{Did};
-ghost use Rattle.cdm_port.specs.Opened.{IsRenamed, giving_up, grown, marking};
-ghost use Rattle.cdm_port.specs.declared.disk.FileCall.TheVariants as call;
+ghost use Rattle.cdm_port.specs.Calls.{IsRenameBegun, IsRenamed, giving_up};
+ghost use Rattle.cdm_port.specs.Opened.{IsOpened, finding, held_of, lock_of};
 
-use crate::disk::{Disk, Standing};
+use crate::disk::{Disk, OpenFile, Sight, Standing};
 use crate::file::JournalFile;
 use crate::lock::Lock;
 use crate::unopened::OpenFault;
 use std::alloc::Global;
-use std::fs::{File, Files, Metadata, OpenOptions};
-use std::io::{ErrorKind, Read, Write};
-use std::os::unix::fs::MetadataExt;
-use std::{fs, io};
-
-/// What of a file's mode says who may read and write it.
-const MODE_BITS: u32 = 0o7777;
+use std::fs::{File, Files};
+use std::io;
+use std::io::ErrorKind;
 
 /// The journal of a day in the file system, for this process alone: its file, if it is there, and its lock.
 #[derive(Drop)]
@@ -30,44 +20,36 @@ pub struct OpenJournal<'a, R> {
     lock: Lock,
     path: String,
     fresh: String,
-    file: Option<File>,
+    file: Option<OpenFile>,
     own: Option<Standing>,
     mode: Option<u32>,
 }
 
-// The journal's path, behind all links. A file that isn't there has the path that was given, unless that is a link or empty.
-fn real_path<R: Files>(files: &R, alloc: Global, path: &str) -> Result<String, OpenFault> {
-    match files.canonicalize(alloc, path) {
-        Ok(real) => Ok(real.into_string()),
-        Err(error) if error.kind() == ErrorKind::NotFound => match fs::symlink_metadata(
-            files, path,
-        ) {
-            Err(_) if path != "" => Ok(String::from_str(alloc, path)?),
-            _ => Err(OpenFault::Journal(ErrorKind::NotFound)),
+// Opens a journal's file, if it is there. One that is marked as served has to be.
+fn find<R: Files<File = File>>(
+    disk: &mut Disk<'_, R>,
+    path: &str,
+    is_marked: bool,
+) -> Result<Option<(OpenFile, Sight)>, OpenFault>
+    ensures found { IfOk result (λ found. disk.new.done.notes ≡ disk.old.done.notes ++ finding path.now found) }
+    ensures file { IfOk result (λ found. IfSome found (λ f. f.1.is_file ≡ true)) }
+    ensures missing { IfOk result (λ found. IsNone found → is_marked ≡ false) }
+{
+    if !disk.is_there(path)? {
+        return if is_marked {
+            Err(OpenFault::Missing)
+        } else {
+            Ok(None)
+        };
+    }
+    match disk.open(path) {
+        Ok(file) => match disk.see(&file) {
+            Ok(sight) if sight.is_file => Ok(Some((file, sight))),
+            Ok(_) => Err(OpenFault::NoFile),
+            Err(error) => Err(OpenFault::of_journal(&error)),
         },
         Err(error) => Err(OpenFault::of_journal(&error)),
     }
-}
-
-// Whether a regular file is at the path. What is no regular file is refused before it is opened.
-fn is_there<R: Files>(files: &R, path: &str) -> Result<bool, OpenFault> {
-    match fs::symlink_metadata(files, path) {
-        Ok(found) if found.is_file() => Ok(true),
-        Ok(found) if found.is_dir() => Err(OpenFault::Journal(ErrorKind::IsADirectory)),
-        Ok(_) => Err(OpenFault::NoFile),
-        Err(error) if error.kind() == ErrorKind::NotFound => Ok(false),
-        Err(error) => Err(OpenFault::of_journal(&error)),
-    }
-}
-
-// The file of a journal, for reading, where this process may write to it too.
-fn open_file<R: Files<File = File>>(files: &R, path: &str) -> io::Result<(File, Metadata)> {
-    let mut options = OpenOptions::new();
-    options.read(true);
-    options.append(true);
-    let file = options.open(files, path)?;
-    let found = file.metadata()?;
-    Ok((file, found))
 }
 
 impl<'a, R: Files<File = File>> OpenJournal<'a, R> {
@@ -76,55 +58,48 @@ impl<'a, R: Files<File = File>> OpenJournal<'a, R> {
     ///
     /// `InUse` where another process has the lock, `Missing` where the lock's file marks the journal as served and the journal isn't
     /// there, `NoFile` where it is no regular file, `Journal` and `Lock` where the system refuses to open them, and `Memory`.
-    pub fn open(files: &'a R, alloc: Global, path: &str) -> Result<OpenJournal<'a, R>, OpenFault> {
-        let path = real_path(files, alloc, path)?;
-        is_there(files, &path)?;
+    pub fn open(files: &'a R, alloc: Global, path: &str) -> Result<OpenJournal<'a, R>, OpenFault>
+        ensures opened { IfOk result IsOpened }
+        ensures missing { IfOk result (λ journal. IsNone journal.file → journal.lock.marked ≡ false) }
+        ensures fresh { IfOk result (λ journal. string_bytes journal.fresh ≡ string_bytes journal.path ++ codes ".lock.new") }
+        ensures lock { IfOk result (λ journal. string_bytes journal.lock.path ≡ string_bytes journal.path ++ codes ".lock") }
+    {
+        let mut disk = Disk::new(files);
+        let path = disk.resolve(alloc, path)?;
+        disk.is_there(&path)?;
         // Behind the lock nothing needs memory: where that runs out, the lock's file isn't made.
         let fresh = format!(in alloc; "{path}.lock.new")?;
-        let lock = Lock::take(files, alloc, &path)?;
-        let mut journal = OpenJournal {
-            disk: Disk::new(files),
-            lock,
-            path,
-            fresh,
-            file: None,
-            own: None,
-            mode: None,
-        };
-        match journal.find() {
-            Ok(()) => Ok(journal),
+        let lock = Lock::take(&mut disk, alloc, &path)?;
+        match find(&mut disk, &path, lock.is_marked()) {
+            Ok(Some((file, sight))) => Ok(OpenJournal {
+                disk,
+                lock,
+                path,
+                fresh,
+                file: Some(file),
+                own: Some(sight.standing),
+                mode: Some(sight.mode),
+            }),
+            Ok(None) => Ok(OpenJournal {
+                disk,
+                lock,
+                path,
+                fresh,
+                file: None,
+                own: None,
+                mode: None,
+            }),
             Err(fault) => {
-                journal.give_up();
+                lock.give_up(&mut disk);
                 Err(fault)
             }
-        }
-    }
-
-    // Opens the journal's file, if it is there.
-    fn find(&mut self) -> Result<(), OpenFault> {
-        if !is_there(self.disk.files, &self.path)? {
-            return if self.lock.is_marked() {
-                Err(OpenFault::Missing)
-            } else {
-                Ok(())
-            };
-        }
-        match open_file(self.disk.files, &self.path) {
-            Ok((file, found)) if found.is_file() => {
-                self.mode = Some(found.mode() & MODE_BITS);
-                self.file = Some(file);
-                self.own = Some(Standing::of(&found));
-                Ok(())
-            }
-            Ok(_) => Err(OpenFault::NoFile),
-            Err(error) => Err(OpenFault::of_journal(&error)),
         }
     }
 
     /// Removes the lock's file where this process has made it and the journal isn't marked: a start that was refused leaves
     /// everything as it was.
     pub fn give_up(&mut self)
-        ensures notes { self.new.disk.done.notes ≡ self.old.disk.done.notes ++ giving_up self.old.lock }
+        ensures notes { self.new.disk.done.notes ≡ self.old.disk.done.notes ++ giving_up (lock_of self.old.lock) }
         ensures same { self.new ≡ record self.old { disk = self.new.disk } }
         ensures fault { self.new.disk.fault ≡ self.old.disk.fault }
     {
@@ -134,8 +109,9 @@ impl<'a, R: Files<File = File>> OpenJournal<'a, R> {
     // Renames a new file of these bytes over the journal, where that is still the one that was opened. What an earlier
     // start has left beside it goes.
     fn put_fresh(&mut self, bytes: &[u8]) -> io::Result<()>
-        ensures ok { OnOk result (IsRenamed self.old self.new bytes.now) }
-        ensures err { OnErr result (self.new ≡ record self.old { disk = self.new.disk }) }
+        ensures ok { OnOk result (IsRenamed self.old.disk.done.notes self.new.disk.done.notes (held_of self.old) (held_of self.new) bytes.now) }
+        ensures err { OnErr result (IsRenameBegun self.old.disk.done.notes self.new.disk.done.notes (held_of self.old) bytes.now) }
+        ensures same { OnErr result (self.new ≡ record self.old { disk = self.new.disk }) }
         ensures fault { IfErr result (λ error. self.new.disk.fault ≡ Some (error_kind error)) }
     {
         self.disk.remove(&self.fresh)?;
@@ -148,112 +124,67 @@ impl<'a, R: Files<File = File>> OpenJournal<'a, R> {
         self.file = Some(file);
         self.own = Some(Standing {
             length: bytes.len() as u64,
-            ..made
+            ..made.standing
         });
         Ok(())
     }
 }
 
-impl<R> Read for OpenJournal<'_, R> {
-    fn read(&mut self, buf: &mut [u8]) -> io::Result<usize>
-        ensures bound { ReadsAtMost result buf.new }
-        ensures bytes { ReadConsumes None None result buf.new }
-        ensures same { self.new ≡ record self.old { disk = self.new.disk } }
+impl<R: Files<File = File>> JournalFile for OpenJournal<'_, R> {
+    ghost calls = { λ journal. journal.disk.done.notes };
 
-        // Bytes of the journal were read, if it is there.
-        ensures did { IfSome self.old.file (λ file. Did self.old.disk self.new.disk (λ n. (call.Read (file_raw_fd file), take n buf.new) ∷ []) result) }
-        ensures none { IsNone self.old.file → (result ≡ Ok 0) × (self.new ≡ self.old) }
-    {
+    ghost held = { held_of };
+
+    ghost kind = { λ journal. journal.disk.fault };
+
+    fn is_marked(&self) -> bool {
+        self.lock.is_marked()
+    }
+
+    fn is_own(&mut self) -> bool {
+        self.disk.stands(&self.path, self.own).is_ok()
+    }
+
+    fn read(&mut self, buf: &mut [u8]) -> io::Result<usize> {
         match &self.file {
             Some(file) => self.disk.read(file, buf),
             None => Ok(0),
         }
     }
-}
 
-impl<R> Write for OpenJournal<'_, R> {
-    fn write(&mut self, buf: &[u8]) -> io::Result<usize>
-        ensures bound { WritesAtMost result buf.now }
-        ensures bytes { WriteAppends None None result buf.now }
-        ensures same { self.new ≡ record self.old { disk = self.new.disk; own = self.new.own } }
-
-        // Bytes were written at the journal's end, if it is there, and it is known to be longer.
-        ensures did { IfSome self.old.file (λ file. Did self.old.disk self.new.disk (λ n. (call.Written (file_raw_fd file), take n buf.now) ∷ []) result) }
-        ensures own { IfOk result (λ n. self.new.own ≡ grown n self.old.own) }
-        ensures same_own { OnErr result (self.new.own ≡ self.old.own) }
-        ensures none { IsNone self.old.file → IsErrAnd result (λ error. error_kind error ≡ NotFound) × (self.new ≡ self.old) }
-    {
+    fn write(&mut self, bytes: &[u8]) -> io::Result<usize> {
         let Some(file) = &self.file else {
             return Err(ErrorKind::NotFound.into());
         };
-        let count = self.disk.write(file, buf)?;
+        let count = self.disk.write(file, bytes)?;
         if let Some(own) = &mut self.own {
             own.length = own.length.saturating_add(count as u64);
         }
         Ok(count)
     }
 
-    fn flush(&mut self) -> io::Result<()>
-        ensures { (result ≡ Ok tt) × (self.new ≡ self.old) }
-    {
-        Ok(())
-    }
-}
-
-impl<R: Files<File = File>> JournalFile for OpenJournal<'_, R> {
-    ghost on_disk = { λ _. None };
-
-    ghost marked = { λ journal. journal.lock.marked };
-
-    fn is_marked(&self) -> bool {
-        self.lock.is_marked()
-    }
-
-    fn is_own(&mut self) -> bool
-        ensures same { self.new ≡ record self.old { disk = self.new.disk } }
-
-        // It was looked for at its path.
-        ensures own { result ≡ true → self.new.disk.done.notes ≡ self.old.disk.done.notes ++ (call.Found self.old.own, string_bytes self.old.path) ∷ [] }
-        ensures other { result ≡ false → self.new.disk.fault ≡ Some Other }
-    {
-        self.disk.stands(&self.path, self.own).is_ok()
-    }
-
-    fn rename(&mut self, bytes: &[u8]) -> io::Result<()>
-        ensures ok { OnOk result (IsRenamed self.old self.new bytes.now) }
-        ensures err { OnErr result (self.new ≡ record self.old { disk = self.new.disk }) }
-        ensures fault { IfErr result (λ error. self.new.disk.fault ≡ Some (error_kind error)) }
-    {
-        let done = self.put_fresh(bytes);
-        if done.is_err() {
-            self.disk.clear(&self.fresh);
+    fn rename(&mut self, bytes: &[u8]) -> io::Result<()> {
+        match self.put_fresh(bytes) {
+            Ok(()) => Ok(()),
+            Err(error) => {
+                self.disk.clear(&self.fresh);
+                Err(error)
+            }
         }
-        done
     }
 
-    fn sync_name(&mut self) -> io::Result<()>
-        ensures same { self.new ≡ record self.old { disk = self.new.disk } }
-        ensures did { Did self.old.disk self.new.disk (λ _. (call.NameSynced, string_bytes self.old.path) ∷ []) result }
-    {
+    fn sync_name(&mut self) -> io::Result<()> {
         self.disk.sync_name(&self.path)
     }
 
-    fn sync(&mut self) -> io::Result<()>
-        ensures same { self.new ≡ record self.old { disk = self.new.disk } }
-        ensures did { IfSome self.old.file (λ file. Did self.old.disk self.new.disk (λ _. (call.Synced (file_raw_fd file), []) ∷ []) result) }
-        ensures none { IsNone self.old.file → IsErrAnd result (λ error. error_kind error ≡ NotFound) × (self.new ≡ self.old) }
-    {
+    fn sync(&mut self) -> io::Result<()> {
         match &self.file {
             Some(file) => self.disk.sync_data(file),
             None => Err(ErrorKind::NotFound.into()),
         }
     }
 
-    fn mark(&mut self) -> io::Result<()>
-        ensures same { self.new ≡ record self.old { disk = self.new.disk; lock = record self.old.lock { marked = true } } }
-        ensures ok { OnOk result (self.new.disk.done.notes ≡ self.old.disk.done.notes ++ marking self.old.lock) }
-        ensures err { IfErr result (λ error. self.new.disk.fault ≡ Some (error_kind error)) }
-    {
+    fn mark(&mut self) -> io::Result<()> {
         self.lock.mark(&mut self.disk)
     }
 }

@@ -1,7 +1,8 @@
 //! The file of a journal, an input and an output.
-ghost use Rattle.std.specs.Prelude.{◌≡◌, ◌≤◌, ◌⊎◌, ℕ, List, Bool, true, Option, None, Some, [], ◌∷◌, ◌++◌, map, IfOk, IfSome, OnErr, OnOk, vec_len};
+ghost use Rattle.std.specs.Prelude.{◌≡◌, ◌≤◌, ◌⊎◌, ℕ, List, Bool, true, false, Option, None, [], ◌∷◌, ◌++◌, is_ok, length, map, IfOk, IfSome, IsSome, OnErr, OnOk, vec_len};
 ghost use Rattle.std.specs.Io.BufRead.{DropsThrough};
 ghost use Rattle.std.specs.Io.KnownBytes.{Appends};
+ghost use Rattle.cdm_port.specs.Calls.{HasAppended, HasRead, HasReadAll, IsMarkBegun, IsRenamed, IsReplaceStopped, IsReplaced, IsSized, grown, looking, marking, syncing};
 ghost use Rattle.cdm_port.specs.Event.{Event, journal_limit};
 ghost use Rattle.cdm_port.specs.Event.Event.{Read, Renamed, Marked, LeftOut, Appended, Synced, Replied, Flushed};
 ghost use Rattle.cdm_port.specs.Fault.{fault_after};
@@ -10,11 +11,12 @@ ghost use Rattle.cdm_port.specs.Notes.{noted};
 ghost use Rattle.cdm_port.specs.Parts.{Parts};
 ghost use Rattle.cdm_port.specs.Stop.{Stops};
 
-use crate::calls::{append_counted, next_line, read_whole, write_counted};
+use crate::calls::{next_line, write_counted};
 use crate::fault::PortFault;
 use crate::file::JournalFile;
 use crate::happening::Happening;
 use crate::heard::Heard;
+use crate::journal::{append_counted, read_whole};
 use crate::port::Port;
 use crate::reason::Reason;
 use crate::torn::TornText;
@@ -23,10 +25,10 @@ use std::alloc::Global;
 use std::io::{Read, Write};
 use std::marker::Model;
 
-/// The input and the output of a served day, where a torn line is told, and the file of its journal. What is read of the
-/// input and of the journal, and what is written to the output and to the journal, is what is noted, at any reader and writer whose
-/// bytes clauses know, and so is what is renamed and synced. That the output is flushed where this is noted, that a torn line is told,
-/// and that nothing else notes, is to be read here.
+/// The input and the output of a served day, where a torn line is told, and the file of its journal. What is noted of the journal is
+/// what the system's calls on its files did, which are one list. What is read of the input and written to the output is what is noted,
+/// at any reader and writer whose bytes clauses know. That the output is flushed where this is noted, and that a torn line is told, is
+/// to be read here.
 #[derive(Drop)]
 pub struct Streams<I, O, E, J> {
     input: I,
@@ -49,7 +51,8 @@ impl<I, O, E, J: JournalFile> Streams<I, O, E, J> {
     pub fn new(input: I, output: O, errors: E, journal: J) -> Streams<I, O, E, J>
         ensures notes { result.notes ≡ [] }
         ensures unfailed { result.fault ≡ None }
-        ensures marked { result.marked ≡ J.marked journal }
+        ensures marked { result.marked ≡ (J.held journal).lock.marked }
+        ensures journal { result.journal ≡ journal }
     {
         let marked = journal.is_marked();
         Streams {
@@ -104,8 +107,10 @@ impl<I: Read, O: Write, E: Write, J: JournalFile> Port for Streams<I, O, E, J> {
         ensures fault { self.new.fault ≡ fault_after self.old.fault result }
         ensures mark { self.new.marked ≡ self.old.marked }
 
-        // All bytes of the file were read.
-        ensures whole { IfOk result (λ bytes. IfSome (J.remaining self.old.journal) (λ all. bytes.items ≡ all)) }
+        // All bytes of the file were read, and nothing else was done.
+        ensures whole { IfOk result (λ bytes. HasReadAll (J.held self.old.journal).file (J.calls self.old.journal) (J.calls self.new.journal) bytes.items) }
+        ensures part { OnErr result ((bytes : List ℕ) × HasRead (J.held self.old.journal).file (J.calls self.old.journal) (J.calls self.new.journal) bytes) }
+        ensures same { J.held self.new.journal ≡ J.held self.old.journal }
     {
         let bytes = read_whole(alloc, &mut self.journal);
         if let Ok(bytes) = &bytes {
@@ -120,9 +125,11 @@ impl<I: Read, O: Write, E: Write, J: JournalFile> Port for Streams<I, O, E, J> {
         ensures fault { self.new.fault ≡ fault_after self.old.fault result }
         ensures mark { self.new.marked ≡ self.old.marked }
 
-        // The file has these bytes, and they are on the disk.
-        ensures kept { OnOk result (IfSome (J.contents self.old.journal) (λ _. J.contents self.new.journal ≡ Some bytes.now)) }
-        ensures on_disk { OnOk result (J.on_disk self.new.journal ≡ J.contents self.new.journal) }
+        // A new file of these bytes was renamed over the journal, and its name put on the disk; at an error, only the first of this.
+        ensures replaced { OnOk result (IsReplaced (J.calls self.old.journal) (J.calls self.new.journal) (J.held self.old.journal)
+            (J.held self.new.journal) bytes.now) }
+        ensures stopped { OnErr result (IsReplaceStopped (J.calls self.old.journal) (J.calls self.new.journal) (J.held self.old.journal) bytes.now
+            ⊎ IsRenamed (J.calls self.old.journal) (J.calls self.new.journal) (J.held self.old.journal) (J.held self.new.journal) bytes.now) }
 
         // At an error that they are on the disk isn't noted.
         ensures unsynced { OnErr result ((map noted self.new.notes ≡ map noted self.old.notes)
@@ -151,8 +158,9 @@ impl<I: Read, O: Write, E: Write, J: JournalFile> Port for Streams<I, O, E, J> {
         ensures fault { self.new.fault ≡ fault_after self.old.fault result }
         ensures mark { OnOk result (self.new.marked ≡ true) }
 
-        // The file has the mark.
-        ensures kept { OnOk result (J.marked self.new.journal ≡ true) }
+        // The mark was written and put on the disk; at an error, only the first of this.
+        ensures kept { OnOk result (J.calls self.new.journal ≡ J.calls self.old.journal ++ marking (J.held self.old.journal).lock) }
+        ensures begun { OnErr result (IsMarkBegun (J.held self.old.journal).lock (J.calls self.old.journal) (J.calls self.new.journal)) }
     {
         if let Err(error) = self.journal.mark() {
             return self.answer(Err(PortFault::CannotWriteJournal(Reason::of(&error))));
@@ -166,6 +174,9 @@ impl<I: Read, O: Write, E: Write, J: JournalFile> Port for Streams<I, O, E, J> {
         ensures told { map noted self.new.notes ≡ map noted self.old.notes ++ LeftOut bytes.now ∷ [] }
         ensures fault { self.new.fault ≡ self.old.fault }
         ensures mark { self.new.marked ≡ self.old.marked }
+
+        // Nothing is done with the journal's file.
+        ensures apart { self.new.journal ≡ self.old.journal }
     {
         let text = TornText(bytes);
         let _ = writeln!(
@@ -185,6 +196,9 @@ impl<I: Read, O: Write, E: Write, J: JournalFile> Port for Streams<I, O, E, J> {
         // What the input said next was heard, to the end of its line.
         ensures line { IfOk result (λ heard. IfSome (I.remaining self.old.input) (λ bytes. event_of heard ≡ heard_in bytes)) }
         ensures rest { OnOk result (DropsThrough (I.remaining self.old.input) (I.remaining self.new.input) 10) }
+
+        // Nothing is done with the journal's file.
+        ensures apart { self.new.journal ≡ self.old.journal }
     {
         let heard = next_line(alloc, &mut self.input);
         match &heard {
@@ -202,9 +216,10 @@ impl<I: Read, O: Write, E: Write, J: JournalFile> Port for Streams<I, O, E, J> {
         ensures fault { self.new.fault ≡ fault_after self.old.fault result }
         ensures mark { self.new.marked ≡ self.old.marked }
 
-        // What is noted was written, and nothing else.
+        // The journal was looked for and found, and then what is noted was written, and nothing else.
         ensures written { (part : List ℕ) × (map noted self.new.notes ≡ map noted self.old.notes ++ Appended part ∷ [])
-            × Appends (J.contents self.old.journal) (J.contents self.new.journal) part }
+            × HasAppended (J.held self.old.journal) (J.calls self.old.journal) (J.calls self.new.journal) part (is_ok result)
+            × (IsSized (J.held self.old.journal).own → (J.held self.new.journal).own ≡ grown (length part) (J.held self.old.journal).own) }
     {
         let (count, written) = append_counted(&mut self.journal, bytes);
         self.history.note(&Happening::Appended, &bytes[..count]);
@@ -217,8 +232,14 @@ impl<I: Read, O: Write, E: Write, J: JournalFile> Port for Streams<I, O, E, J> {
         ensures fault { self.new.fault ≡ fault_after self.old.fault result }
         ensures mark { self.new.marked ≡ self.old.marked }
 
-        // All that was written to the file is on the disk.
-        ensures on_disk { OnOk result (J.on_disk self.new.journal ≡ J.contents self.new.journal) }
+        // What was written to the journal was put on the disk, and then the journal was looked for and found.
+        ensures synced { OnOk result (J.calls self.new.journal ≡ J.calls self.old.journal
+            ++ (syncing (J.held self.old.journal).file ++ looking (J.held self.old.journal) true)) }
+        ensures unsynced { OnErr result ((J.calls self.new.journal ≡ J.calls self.old.journal)
+            ⊎ (J.calls self.new.journal ≡ J.calls self.old.journal
+            ++ (syncing (J.held self.old.journal).file ++ looking (J.held self.old.journal) false))) }
+        ensures file { OnOk result (IsSome (J.held self.old.journal).file) }
+        ensures same { J.held self.new.journal ≡ J.held self.old.journal }
     {
         if let Err(error) = self.journal.sync() {
             return self.answer(Err(PortFault::CannotWriteJournal(Reason::of(&error))));
@@ -239,13 +260,24 @@ impl<I: Read, O: Write, E: Write, J: JournalFile> Port for Streams<I, O, E, J> {
         // What is noted was written, and nothing else.
         ensures written { (part : List ℕ) × (map noted self.new.notes ≡ map noted self.old.notes ++ Replied part ∷ [])
             × Appends (O.contents self.old.output) (O.contents self.new.output) part }
+
+        // Nothing is done with the journal's file.
+        ensures apart { self.new.journal ≡ self.old.journal }
     {
         let (count, written) = write_counted(&mut self.output, bytes);
         self.history.note(&Happening::Replied, &bytes[..count]);
         self.answer(written.map_err(PortFault::CannotWrite))
     }
 
-    fn flush(&mut self) -> Result<(), PortFault> {
+    fn flush(&mut self) -> Result<(), PortFault>
+        ensures ok { OnOk result (map noted self.new.notes ≡ map noted self.old.notes ++ Flushed ∷ []) }
+        ensures err { OnErr result (map noted self.new.notes ≡ map noted self.old.notes) }
+        ensures fault { self.new.fault ≡ fault_after self.old.fault result }
+        ensures mark { self.new.marked ≡ self.old.marked }
+
+        // Nothing is done with the journal's file.
+        ensures apart { self.new.journal ≡ self.old.journal }
+    {
         if let Err(error) = self.output.flush() {
             return self.answer(Err(PortFault::CannotWrite(Reason::of(&error))));
         }

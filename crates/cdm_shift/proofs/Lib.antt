@@ -1,5 +1,6 @@
 pub mod Columns
 pub mod ListLemmas
 pub mod OneAnswer
+pub mod SheetLemmas
 pub mod HeldLemmas
 pub mod CostLemmas

@@ -4,4 +4,5 @@ pub mod Warnings
 pub mod Costs
 pub mod Lines
 pub mod Objects
+pub mod Sheets
 pub mod Answers

@@ -1,11 +1,13 @@
 //! The answer to what a shift asks of a day.
 ghost use Rattle.std.specs.Prelude.{◌≡◌, IfErr, IfOk};
 ghost use Rattle.cdm_plan.specs.DayPlan.{IsDayPlan};
-ghost use Rattle.cdm_shift.specs.Answers.{IsDayAnswer, IsNotAnswered, IsShiftText, IsViewText};
+ghost use Rattle.cdm_shift.specs.Answers.{IsDayAnswer, IsNoSheet, IsNotAnswered, IsSheet, IsShiftSheet, IsShiftText, IsViewText};
 ghost use Rattle.cdm_view.specs.Questions.{IsUnanswered};
 
+use crate::load_sheet::load_sheet;
 use crate::objects::{causes_lines, next_lines, warning_lines};
-use crate::question::{DayQuestion, ShiftQuestion};
+use crate::question::{DayQuestion, SheetQuestion, ShiftQuestion};
+use crate::sheet::{causes_sheet, next_sheet, warnings_sheet};
 use crate::text::{causes_text, next_text, warnings_text};
 use cdm_day::{Airport, Records};
 use cdm_json::json_answer;
@@ -63,7 +65,49 @@ fn shift_text<R: Records>(
     }
 }
 
-/// The text that answers a question of a day, from what is known of it and its plan: lines, or JSON.
+// The rows that answer what a shift asks.
+fn shift_sheet<R: Records>(
+    alloc: Global,
+    day: Day,
+    records: &R,
+    plan: &Plan,
+    question: ShiftQuestion,
+) -> Result<Vec<u8>, AllocError>
+    requires day { day ≡ (R.day records.now).airport.day }
+    requires plan { IsDayPlan (R.day records.now) plan.now }
+    ensures { IfOk result (λ text. IsShiftSheet question (R.day records.now) plan.entry.now text.items) }
+{
+    let rows = Rows::of(alloc, records, plan)?;
+    let rows = rows.as_slice();
+    match question {
+        ShiftQuestion::Next(ahead) => next_sheet(alloc, day, records, plan, rows, ahead),
+        ShiftQuestion::Warnings => warnings_sheet(alloc, day, records, plan, rows),
+        ShiftQuestion::Causes(by) => causes_sheet(alloc, day, records, plan, by, rows),
+    }
+}
+
+// The rows that answer a question.
+fn sheet_answer<R: Records>(
+    alloc: Global,
+    airport: &Airport,
+    records: &R,
+    plan: &Plan,
+    question: SheetQuestion,
+) -> Result<Vec<u8>, ViewFault>
+    requires airport { airport.now ≡ (R.day records.now).airport }
+    requires plan { IsDayPlan (R.day records.now) plan.now }
+    ensures answer { IfOk result (λ text. IsSheet question (R.day records.now) plan.entry.now text.items) }
+    ensures fault { IfErr result (IsNoSheet question (R.day records.now)) }
+{
+    match question {
+        SheetQuestion::Load(runway) => load_sheet(alloc, airport, records, plan, runway),
+        SheetQuestion::Shift(question) => {
+            Ok(shift_sheet(alloc, *airport.day(), records, plan, question)?)
+        }
+    }
+}
+
+/// The text that answers a question of a day, from what is known of it and its plan: lines, JSON or CSV.
 ///
 /// `NoFlight` and `NoRunway` where what is asked for isn't known, and else only `Memory`.
 pub fn day_answer<R: Records>(
@@ -81,6 +125,7 @@ pub fn day_answer<R: Records>(
 {
     match question {
         DayQuestion::View(question) => view_answer(alloc, format, airport, records, plan, question),
+        DayQuestion::Sheet(question) => sheet_answer(alloc, airport, records, plan, question),
         DayQuestion::Shift(question) => {
             let text = shift_text(alloc, format, *airport.day(), records, plan, question)?;
             Ok(text)

@@ -1,5 +1,5 @@
 //! Laws of what a shift is told.
-ghost use Rattle.std.specs.Prelude.{◌≡◌, ℕ, ◌+◌, List, Some, length};
+ghost use Rattle.std.specs.Prelude.{◌≡◌, ℕ, ◌+◌, List, Some, length, map};
 ghost use Rattle.std.specs.List.{IsDistinct};
 ghost use Rattle.std.specs.Option.{IsSomeAnd};
 ghost use Rattle.cdm_flight.specs.Names.{same_name};
@@ -17,6 +17,11 @@ ghost use Rattle.cdm_view.specs.Why.{own_slot};
 ghost use Rattle.cdm_shift.specs.Answers.{IsDayAnswer};
 ghost use Rattle.cdm_shift.specs.Costs.{costs_of};
 ghost use Rattle.cdm_shift.specs.Held.{causes_of};
+ghost use Rattle.cdm_shift.specs.Objects.{costs_members, start_up_members, warning_members};
+ghost use Rattle.cdm_shift.specs.Sheets.{costs_columns, start_up_columns, warning_columns};
+ghost use Rattle.cdm_shift.specs.declared.costs.Costs.{Costs as TheCosts};
+ghost use Rattle.cdm_shift.specs.declared.start_ups.StartUp.{StartUp as AStartUp};
+ghost use Rattle.cdm_shift.specs.declared.warning.Warning.{Warning as AWarning};
 ghost use Rattle.cdm_shift.specs.declared.question.DayQuestion.{DayQuestion as AQuestion};
 
 use cdm_view::{
@@ -47,4 +52,12 @@ pub fn a_slot_is_held_its_delay()
 pub fn the_causes_add_up()
     ensures { (d : DayRecord) (plan : Plan) (rows : List ARow) → let c = costs_of d plan rows in
         c.ice + c.ctot + c.closure + c.spacing + c.rate + c.clock ≡ c.delay }
+{}
+
+/// The columns of CSV are the members of JSON, in their order.
+#[tactic(auto, unfolding(crate::specs::Objects::start_up_members, crate::specs::Objects::warning_members, crate::specs::Objects::costs_members, crate::specs::Sheets::start_up_columns, crate::specs::Sheets::warning_columns, crate::specs::Sheets::costs_columns))]
+pub fn columns_are_members()
+    ensures start_ups { (s : AStartUp) → map (λ m. m.0) (start_up_members s) ≡ start_up_columns }
+    ensures warnings { (w : AWarning) → map (λ m. m.0) (warning_members w) ≡ warning_columns }
+    ensures costs { (name : List ℕ) (c : TheCosts) → map (λ m. m.0) (costs_members name c) ≡ costs_columns }
 {}

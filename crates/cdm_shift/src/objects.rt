@@ -23,8 +23,8 @@ use cdm_view::Cause;
 use json::Writer;
 use std::alloc::{AllocError, Global};
 
-// A member: its name and its value.
-type Member<'a> = (&'static str, Value<'a>);
+/// A member: its name and its value.
+pub(crate) type Member<'a> = (&'static str, Value<'a>);
 
 // Writes members, one after another.
 fn push_members(
@@ -91,9 +91,9 @@ fn cause_value(cause: Option<Cause>) -> Value<'static>
     }
 }
 
-// The members of a start-up.
+/// The members of a start-up.
 #[tactic(auto, unfolding(crate::specs::Objects::start_up_members))]
-fn start_up_members(found: &StartUp) -> [Member<'_>; 9]
+pub(crate) fn start_up_members(found: &StartUp) -> [Member<'_>; 9]
     ensures { map (λ m. (m.0.now, value_of m.1)) result ≡ start_up_members found.now }
 {
     let StartUp { row, cause } = found;
@@ -236,9 +236,9 @@ fn cap_value(warning: &Warning) -> Value<'static>
     }
 }
 
-// The members of a warning.
+/// The members of a warning.
 #[tactic(auto, unfolding(crate::specs::Objects::warning_members))]
-fn warning_members(warning: &Warning) -> [Member<'_>; 9]
+pub(crate) fn warning_members(warning: &Warning) -> [Member<'_>; 9]
     ensures { map (λ m. (m.0.now, value_of m.1)) result ≡ warning_members warning.now }
 {
     [
@@ -281,9 +281,9 @@ fn objects_of(alloc: Global, day: Day, found: &[Warning]) -> Result<Vec<u8>, All
     Ok(text)
 }
 
-// The members of a group.
+/// The members of a group.
 #[tactic(auto, unfolding(crate::specs::Objects::costs_members))]
-fn costs_members<'a>(name: &'a str, costs: &Costs) -> [Member<'a>; 10]
+pub(crate) fn costs_members<'a>(name: &'a str, costs: &Costs) -> [Member<'a>; 10]
     ensures { map (λ m. (m.0.now, value_of m.1)) result ≡ costs_members name.now costs.now }
 {
     [

@@ -1,6 +1,7 @@
 //! What is asked of a day.
 ghost use Rattle.std.specs.Prelude.{◌≡◌, ◌≤◌, ◌&&◌, nat_le, Some, None, if◌then◌else◌};
 
+use cdm_flight::RunwayName;
 use cdm_time::HORIZON_MINUTES;
 use cdm_view::Question;
 use std::marker::Model;
@@ -73,6 +74,15 @@ pub enum ShiftQuestion {
     Causes(GroupBy),
 }
 
+/// What is told in rows of CSV.
+#[derive(Clone, Copy, PartialEq, Eq, Debug)]
+pub enum SheetQuestion {
+    /// How full the runways are: this one, or all.
+    Load(Option<RunwayName>),
+    /// What a shift asks of all flights.
+    Shift(ShiftQuestion),
+}
+
 /// What is asked of a day and its plan.
 #[derive(Clone, Copy, PartialEq, Eq, Debug)]
 pub enum DayQuestion {
@@ -80,4 +90,6 @@ pub enum DayQuestion {
     View(Question),
     /// What a shift asks of all flights.
     Shift(ShiftQuestion),
+    /// The same in rows of CSV, whatever the format.
+    Sheet(SheetQuestion),
 }

@@ -2,7 +2,8 @@
 use Rattle.cdm_table.proofs.Words.{◌≡◌, ◌∙◌, ◌++◌, ◌==◌, ◌||◌, ◌&&◌, ◌+◌, ℕ, Bool, true, false, List, [], ◌∷◌, Some, refl, ap, append_assoc}
 use Rattle.cdm_table.proofs.Words.{map, take, cons_option, list_all, list_any, nat_le, slice_get, and_parts, flat_map-append, map-append}
 use Rattle.cdm_table.proofs.Words.{default_writer, fields_text, is_blank, needs_byte, row_text, CalendarDate, is_letter_or_digit, take-next}
-use Rattle.cdm_table.{proofs.Words.{columns, field, Row}, specs.Rows.{csv_text, flight_row}}
+use Rattle.cdm_csv.specs.Rows.{csv_text}
+use Rattle.cdm_table.{proofs.Words.{columns, field, Row}, specs.Rows.flight_row}
 use Rattle.std.proofs.{Common.{sym, inl, inr, length}, lemmas.Bool.{cases_Bool, false≢true}, lemmas.Bool.Decides.Decides-eqb}
 use Rattle.std.proofs.lemmas.List.{append-nil}
 use Rattle.cdm_scenario.specs.Names.{is_scenario_name}

@@ -5,7 +5,8 @@ use Rattle.cdm_table.proofs.Words.{counts_of, Counts, DayRecord, flights_in, Are
 use Rattle.cdm_table.specs.Comparison.{AreRanked, IsComparison, IsComparisonCsv, IsRanking, IsSummary, IsToldIf, all_lines, blocked_in}
 use Rattle.cdm_table.specs.Comparison.{delay_in, heading, is_refused, line_cmp, line_columns, line_fields, line_text, lines_from}
 use Rattle.cdm_table.specs.{ComparisonJson.{AreChangeLinesIf, IsComparisonJson, summary_line}, Plans.{IsPlans, IsScenarioLine}}
-use Rattle.cdm_table.specs.{Rows.{AreFlightRows, AreScenarioRows, IsCsv, csv_text}, Tables.IsTable}
+use Rattle.cdm_csv.specs.Rows.{csv_text}
+use Rattle.cdm_table.specs.{Rows.{AreFlightRows, AreScenarioRows, IsCsv}, Tables.IsTable}
 use Rattle.cdm_table.specs.inner.OneTable.{one_change_lines, one_flight_rows, one_plan_line, one_scenario_line, one_scenario_rows}
 use Rattle.cdm_table.specs.{inner.OneTable.{one_summary, one_told}, declared.line.Line.Line, declared.line.Summary.Summary}
 use Rattle.cdm_table.specs.declared.{line.Summary.TheVariants.Planned, table.Table.Table}

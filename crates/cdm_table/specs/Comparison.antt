@@ -22,7 +22,7 @@ use Rattle.cdm_scenario.specs.Outcome.{IsOutcome}
 use Rattle.cdm_scenario.specs.Overlay.{with_updates}
 use Rattle.cdm_scenario.specs.Scenarios.{ScenarioRecord}
 use Rattle.cdm_scenario.specs.declared.outcome.Outcome.TheVariants.{Planned, Refused}
-use Rattle.cdm_table.specs.Rows.{csv_text}
+use Rattle.cdm_csv.specs.Rows.{csv_text}
 use Rattle.cdm_table.specs.declared.line.Line.{Line}
 use Rattle.cdm_table.specs.declared.line.Summary.{Summary}
 use Rattle.cdm_table.specs.declared.line.Summary.TheVariants as summary

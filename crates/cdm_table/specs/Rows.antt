@@ -1,8 +1,8 @@
 -- The rows of a day's flights as CSV.
-use Rattle.std.specs.Prelude.{◌≡◌, ℕ, List, [], ◌∷◌, ◌++◌, codes, flat_map, map, nat_eq, if◌then◌else◌}
+use Rattle.std.specs.Prelude.{◌≡◌, ℕ, List, [], ◌∷◌, ◌++◌, codes, map, nat_eq, if◌then◌else◌}
 use Rattle.std.specs.Cmp.Lexicographic.{pointwise}
 use Rattle.std.specs.List.{concat, AllZip}
-use Rattle.csv.specs.Writing.{default_writer, row_text}
+use Rattle.cdm_csv.specs.Rows.{csv_text}
 use Rattle.cdm_time.specs.declared.calendar.CalendarDate.{CalendarDate}
 use Rattle.cdm_flight.specs.Words.{text_of}
 use Rattle.cdm_flight.specs.declared.word.RefusalWord.{RefusalWord}
@@ -38,10 +38,6 @@ abbrev pub refused_row : List ℕ → RefusalWord → List (List ℕ)
 refused_row scenario word = scenario ∷ map (refused_field word) row.column_names
 
 -- Rows of a day.
-
--- rows as `csv` writes them
-abbrev pub csv_text : List (List (List ℕ)) → List ℕ
-csv_text rows = flat_map (row_text default_writer) rows
 
 -- flights' Rows under a scenario's name, or under none
 abbrev pub flights_text : CalendarDate → List ℕ → List Row → List ℕ

@@ -1,4 +1,3 @@
 pub mod OneTable
 pub mod OwnRows
-pub mod Writers
 pub mod Lines

@@ -3,14 +3,15 @@ ghost use Rattle.std.specs.Prelude.{◌≡◌, ◌++◌, ◌∷◌, [], All, IfO
 ghost use Rattle.cdm_phase.specs.declared.job.PhaseName.TheVariants.{Scenarios};
 ghost use Rattle.cdm_plan.specs.Sound.{IsSound};
 ghost use Rattle.csv.specs.Writing.{default_writer, row_text};
-ghost use Rattle.cdm_table.specs.Rows.{AreScenarioRows, IsCsv, column_names, csv_text, flight_row, flights_text, refused_row};
+ghost use Rattle.cdm_csv.specs.Rows.{csv_text};
+ghost use Rattle.cdm_table.specs.Rows.{AreScenarioRows, IsCsv, column_names, flight_row, flights_text, refused_row};
 ghost use Rattle.cdm_table.specs.inner.OwnRows.{IsOwnRow, csv_row, own_text};
 ghost use Rattle.cdm_table.specs.inner.OneTable.{one_scenario_rows};
 
 use crate::answers::push_all;
 use crate::own_row::{OwnRow, from_flight, text_of_same};
 use crate::row::{FlightWriter, column_names, refused_row};
-use crate::row_text::{Fields, RowWriter};
+use cdm_csv::{Fields, RowWriter};
 use cdm_day::{DayState, Records};
 use cdm_flight::{Listed, RefusalWord};
 use cdm_phase::{Gate, Job, PhaseName, run_phase};

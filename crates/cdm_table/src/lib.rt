@@ -15,7 +15,6 @@ mod own_row;
 mod plans;
 mod ranking;
 mod row;
-mod row_text;
 mod table;
 
 pub use line::{Line, Summary};

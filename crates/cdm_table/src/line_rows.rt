@@ -1,11 +1,11 @@
 //! The lines of a day and its scenarios as CSV.
 ghost use Rattle.std.specs.Prelude.{◌≡◌, ◌++◌, [], IfOk, OnOk, map, unwrap_or};
+ghost use Rattle.cdm_csv.specs.Rows.{csv_text};
 ghost use Rattle.cdm_table.specs.Comparison.{IsComparisonCsv, count_fields, line_columns, line_fields, no_counts};
-ghost use Rattle.cdm_table.specs.Rows.{csv_text};
 
 use crate::line::{Line, Summary};
 use crate::ranking::ranked_lines;
-use crate::row_text::{Fields, RowWriter};
+use cdm_csv::{Fields, RowWriter};
 use cdm_day::DayState;
 use cdm_phase::Gate;
 use cdm_plan::Runner;

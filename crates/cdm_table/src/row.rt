@@ -3,7 +3,7 @@ ghost use Rattle.std.specs.Prelude.{◌≡◌, ◌++◌, IfOk, OnOk};
 ghost use Rattle.csv.specs.Writing.{default_writer, row_text};
 ghost use Rattle.cdm_table.specs.Rows.{column_names, flight_row, refused_field, refused_row};
 
-use crate::row_text::{Fields, RowWriter};
+use cdm_csv::{Fields, RowWriter};
 use cdm_flight::RefusalWord;
 use cdm_row::Row;
 use cdm_scenario::ScenarioName;

@@ -6,7 +6,7 @@ mod memory;
 
 use crate::tests::asserts::assert_holds;
 use cdm_command::{Command, CommandFault, DayFiles, command_of};
-use cdm_feed::{Ahead, DayQuestion, DayText, GroupBy, ShiftQuestion, Since};
+use cdm_feed::{Ahead, DayQuestion, DayText, GroupBy, SheetQuestion, ShiftQuestion, Since};
 use cdm_flight::{FlightName, RunwayName};
 use cdm_kinds::Format;
 use cdm_phase::Workers;
@@ -93,7 +93,7 @@ fn questions_name_a_flight_or_a_runway(rt: HostRuntime) {
     let runway = RunwayName::new(b"27L").expect(&rt, "runway");
     let usual = Ahead::new(60).expect(&rt, "minutes");
     let longest = Ahead::new(2880).expect(&rt, "minutes");
-    let table: [(&[&str], DayQuestion); 8] = [
+    let table: [(&[&str], DayQuestion); 10] = [
         (
             &["why", "a.csv", "f.csv", "AB12345"],
             DayQuestion::View(Question::Why(flight)),
@@ -125,6 +125,14 @@ fn questions_name_a_flight_or_a_runway(rt: HostRuntime) {
         (
             &["causes", "a.csv", "f.csv", "--by", "operator"],
             DayQuestion::Shift(ShiftQuestion::Causes(GroupBy::Operator)),
+        ),
+        (
+            &["load", "a.csv", "f.csv", "27L", "--format", "csv"],
+            DayQuestion::Sheet(SheetQuestion::Load(Some(runway))),
+        ),
+        (
+            &["warnings", "--format", "csv", "a.csv", "f.csv"],
+            DayQuestion::Sheet(SheetQuestion::Shift(ShiftQuestion::Warnings)),
         ),
     ];
     for (words, question) in table {

@@ -23,5 +23,5 @@ returns-clause-text g c =
       of_scenarios = c.in_ok-scenarios.ensures;
       found = found;
       of_findings = c.in_ok-found.ensures.lines;
-      bytes = c.in_ok-text.ensures ∙ (λ i. concat (airport ∷ c.deref-5.ensures.value i ∷ c.deref-6.ensures.value i ∷ c.deref-7.ensures.value i ∷ (c.deref-8.ensures.value ∙ told) i ∷ []));
+      bytes = c.in_ok-text.ensures ∙ (λ i. concat (airport ∷ c.deref-6.ensures.value i ∷ c.deref-7.ensures.value i ∷ c.deref-8.ensures.value i ∷ (c.deref-9.ensures.value ∙ told) i ∷ []));
     }

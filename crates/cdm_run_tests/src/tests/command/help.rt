@@ -18,7 +18,8 @@ CTOT     it|CLOSURE  the|RATE     the|0  the complete|1  a file|2  usage error|3
 FEED1 and FEED2|DESK     the|MOVED    how|scenario,flight,status,|WAIT     for|RATE     the cell|RUNWAY   each|\
 picture draws|two runs may print different texts|\
 \nPLAN\n|\nNEXT\n|\nWARNINGS\n|\nCAUSES\n|\nCOMPARE\n|\nWHY\n|\nLOAD\n|\nTRACE\n|\nPICTURE\n|\nLIVE\n|\nSERVE\n|\nCARRY\n|\nCHECK\n|\
-\nKINDS\n|\nJSON\n|\nSTATUS\n|\nTHE BOARD\n|OVERDUE  off-block|--since  lists|--by operator";
+\nKINDS\n|\nJSON\n|\nSTATUS\n|\nTHE BOARD\n|OVERDUE  off-block|--since  lists|--by operator|take --format csv|\
+--day-at begins|--airport] [--day YYYY-MM-DD]";
 
 const ALL: &str = "Usage: cdmseq <COMMAND>";
 
