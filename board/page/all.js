@@ -118,7 +118,7 @@ export class All {
     return [...this.groups.values()].flatMap(({ list }) => list.items).map((item) => this.day.rows.get(item.name)).filter((row) => row && this.filter.takes(row));
   }
 
-  /** By TSAT; or the greatest delay first. */
+  /** By TSAT; or the longest delay first. */
   keyOf(row) {
     const key = `${row.tsat ?? '~'} ${row.flight}`;
     return this.sort === 'delay' ? `${String(LONGEST_DELAY - (row.delay ?? -1)).padStart(5, '0')} ${key}` : key;

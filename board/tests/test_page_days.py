@@ -188,5 +188,5 @@ def test_what_is_typed_over_a_change_of_day(page):
     shown.js(press)
     shown.says("#p-flight .reply", "Look again. 10 23:50 is 190 min before NOW, 03:00.")
     shown.js(press)
-    shown.says("#p-flight .reply", "Refused, RANGE.")
+    shown.says("#p-flight .reply", "Refused, RANGE")
     assert b"TOBT,AB1,2025-03-10T23:50Z" in shown.server.get("/v1/records?desk=AO&day=2025-03-11").body

@@ -86,7 +86,7 @@ def test_what_is_pressed_is_of_the_date_at_which_it_was_typed(page):
     actions(shown).release().perform()
     shown.says("#p-flight .reply", "Look again. 10 23:50 is 190 min before NOW, 03:00.")
     actions(shown).click(shown.find(BUTTON)).perform()
-    shown.says("#p-flight .reply", "Refused, RANGE.")
+    shown.says("#p-flight .reply", "Refused, RANGE")
 
 
 def test_a_press_that_is_taken_back(page):
@@ -130,7 +130,7 @@ def test_what_is_typed_stays_over_another_log(page):
     actions(shown).click(shown.find(BUTTON)).perform()
     shown.says("#p-flight .reply", "Look again. 10 06:30 is ")  # it is of the date at which it was typed
     actions(shown).click(shown.find(BUTTON)).perform()
-    shown.says("#p-flight .reply", "Refused, RANGE.")
+    shown.says("#p-flight .reply", "Refused, RANGE")
 
 
 def test_nothing_is_sent_while_the_log_is_away(page):
